@@ -1,0 +1,9 @@
+pub mod Laws
+pub mod Numbers
+pub mod Examples
+pub mod Refused
+pub mod Flaws
+pub mod TextParts
+pub mod BytesFit
+pub mod HeadText
+pub mod RecordFront
