@@ -1,0 +1,16 @@
+//! The layout of a device: its header, its blocks and their gates and bodies.
+#![tactic(auto)]
+
+mod body;
+mod gate;
+mod geometry;
+mod head;
+mod header;
+#[cfg(test)]
+mod tests;
+
+pub use body::{MAX_BODY_BYTES, read_body};
+pub use gate::{GATE_BYTES, SECTOR_BYTES, is_open, write_closed, write_open};
+pub use geometry::{BodyRefusal, Found, Gate, Geometry};
+pub use head::{BODY_HEAD_BYTES, write_head};
+pub use header::{capacity, read_header, write_header};
