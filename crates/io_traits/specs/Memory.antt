@@ -1,0 +1,31 @@
+-- What is seen of the forms in memory.
+use Rattle.std.specs.Prelude.{ℕ, ◌+◌, ◌-◌, ◌^◌, min, max, List, map}
+
+-- a counter of 64 bits after one more; at its last value it stands still
+abbrev pub one_more : ℕ → ℕ
+one_more count = max count (min (count + 1) (2 ^ 64 - 1))
+
+-- A source in memory: the bytes taken and left, the numbers of the calls that are to fail, how many calls were made and how many of them failed.
+pub record SourceState : Type 0 where
+  pub gone : List ℕ
+  pub left : List ℕ
+  pub fails : List ℕ
+  pub calls : ℕ
+  pub faults : ℕ
+
+-- A sink in memory: the bytes written, the numbers of the calls that are to fail, how many calls were made, how many of them failed, and how many of these failed for want of memory.
+pub record SinkState : Type 0 where
+  pub written : List ℕ
+  pub fails : List ℕ
+  pub calls : ℕ
+  pub faults : ℕ
+  pub starved : ℕ
+
+-- the bytes of a history
+abbrev pub bytes_of : List (ℕ × Unit {0}) → List ℕ
+bytes_of pairs = map (λ pair. pair.0) pairs
+
+-- What is seen of the standard input: the bytes taken, and how many reads failed.
+pub record InputState : Type 0 where
+  pub gone : List ℕ
+  pub faults : ℕ

@@ -1,0 +1,19 @@
+-- What a write does to the bytes of a sink.
+use Rattle.std.specs.Prelude.{◌≡◌, ℕ, ◌<◌, ◌≤◌, List, ◌++◌, length, take, Option, Some, None, Result, Ok, Err}
+use Rattle.fault_count.specs.Counts.{Rose}
+
+-- The bytes written of a sink that tells them grow by the piece; nothing is asked of one that doesn't tell.
+abbrev pub Extends : Option (List ℕ) → Option (List ℕ) → List ℕ → Type 0
+Extends None new piece = Unit {0}
+Extends (Some bytes) new piece = new ≡ Some (bytes ++ piece)
+
+-- A write takes the first n bytes of the piece. Where it takes none of some, that counts as a fault.
+pub record Writes (written written' : Option (List ℕ)) (faults faults' : ℕ) (piece : List ℕ) (n : ℕ) : Type 0 where
+  pub fits : n ≤ length piece
+  pub extends : Extends written written' (take n piece)
+  pub stuck : n ≡ 0 → 0 < length piece → Rose faults faults'
+
+-- A failed write takes nothing.
+abbrev pub WriteGives : {E : Type 0} → Option (List ℕ) → Option (List ℕ) → ℕ → ℕ → List ℕ → Result ℕ E → Type 0
+WriteGives written written' faults faults' piece (Ok n) = Writes written written' faults faults' piece n
+WriteGives written written' faults faults' piece (Err e) = written' ≡ written

@@ -1,0 +1,77 @@
+ghost use Rattle.std.specs.Prelude.{◌≡◌, ◌<◌, ◌≤◌, List, ℕ, length, Option, IfOk};
+ghost use Rattle.fault_count.specs.Counts.{IsCaused};
+ghost use Rattle.io_traits.specs.Source.{Reads};
+ghost use Rattle.io_traits.specs.Sink.{WriteGives};
+ghost use Rattle.io_traits.specs.Clock.{Ticks};
+
+use crate::NoMemory;
+use std::alloc::Global;
+
+/// A read failed.
+#[derive(Clone, Copy, Debug, PartialEq, Eq)]
+pub struct SourceFault;
+
+/// A write failed.
+#[derive(Clone, Copy, Debug, PartialEq, Eq)]
+pub struct SinkFault;
+
+/// What an object at the end of a link means. A source alone leaves the sink's half as it is here, and a sink the source's.
+pub trait Ends: Drop {
+    /// The bytes that a source has left, where it tells them.
+    ghost left: { Self → Option (List ℕ) };
+
+    /// The bytes that were taken from a source.
+    ghost taken: { Self → List ℕ };
+
+    /// How often a source failed.
+    ghost source_faults: { Self → ℕ };
+
+    /// The bytes that a sink took, where it tells them.
+    ghost written: { Self → Option (List ℕ) };
+
+    /// How often a sink failed.
+    ghost sink_faults: { Self → ℕ };
+}
+
+pub trait Source: Ends {
+    /// Takes some bytes. None is the end of the input.
+    fn read_some(&mut self, out: &mut [u8]) -> Result<usize, SourceFault>
+        requires { 0 < length out.old }
+        ensures bytes { Reads (Self.taken self.old) (Self.taken self.new) (Self.left self.old) (Self.left self.new) out.new result }
+        ensures cause { IsCaused (Self.source_faults self.old) (Self.source_faults self.new) result }
+        ensures sink { Self.written self.new ≡ Self.written self.old }
+        ensures sink_faults { Self.sink_faults self.new ≡ Self.sink_faults self.old };
+}
+
+pub trait Sink: Ends {
+    /// Writes some of the bytes.
+    fn write_some(&mut self, bytes: &[u8]) -> Result<usize, SinkFault>
+        ensures bytes { WriteGives (Self.written self.old) (Self.written self.new) (Self.sink_faults self.old) (Self.sink_faults self.new) bytes.now result }
+        ensures cause { IsCaused (Self.sink_faults self.old) (Self.sink_faults self.new) result }
+        ensures left { Self.left self.new ≡ Self.left self.old }
+        ensures taken { Self.taken self.new ≡ Self.taken self.old }
+        ensures source_faults { Self.source_faults self.new ≡ Self.source_faults self.old };
+
+    /// Hands on what was written.
+    fn flush(&mut self) -> Result<(), SinkFault>
+        ensures written { Self.written self.new ≡ Self.written self.old }
+        ensures cause { IsCaused (Self.sink_faults self.old) (Self.sink_faults self.new) result }
+        ensures left { Self.left self.new ≡ Self.left self.old }
+        ensures taken { Self.taken self.new ≡ Self.taken self.old }
+        ensures source_faults { Self.source_faults self.new ≡ Self.source_faults self.old };
+}
+
+pub trait Clock: Drop {
+    /// The times that it gives next, where it tells them. The last is repeated.
+    ghost times: { Self → Option (List ℕ) };
+
+    /// Milliseconds.
+    fn now_ms(&mut self) -> u64
+        ensures { Ticks (times self.old) result (times self.new) };
+
+    /// A clock that gives the same times.
+    fn fork(&self, alloc: Global) -> Result<Self, NoMemory>
+    where
+        Self: Sized,
+        ensures { IfOk result (λ clock. times clock ≡ times self.now) };
+}
