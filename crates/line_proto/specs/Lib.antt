@@ -1,0 +1,5 @@
+pub mod Lines
+pub mod Built
+pub mod Reading
+pub mod Stream
+pub mod Commands

@@ -1,0 +1,117 @@
+-- Crate line_proto. The text of commands and replies.
+use Rattle.std.specs.Prelude.{ℕ, ◌≤◌, List, [], ◌∷◌, ◌++◌, length, codes, decimal, Option, Some, None, Ok, ◌≡◌}
+use Rattle.std.specs.List.{join_with_byte}
+use Rattle.hex.specs.Hex.{decode_of, encode_lower}
+use Rattle.rec_format.specs.declared.version.Digest.{Digest}
+use Rattle.rec_format.specs.declared.entry.Counts.{Counts}
+use Rattle.line_proto.specs.declared.command.Command.{Command}
+use Rattle.line_proto.specs.declared.command.Command.TheVariants as command
+use Rattle.line_proto.specs.declared.reply.Reply.{Reply}
+use Rattle.line_proto.specs.declared.reply.Reply.TheVariants as reply
+use Rattle.line_proto.specs.declared.reply.LineFault.{LineFault}
+use Rattle.line_proto.specs.declared.reply.LineFault.TheVariants as why
+
+-- ---- the parts of a line
+
+-- decimal digits, and no zero in front of another digit
+abbrev pub IsNumber : List ℕ → ℕ → Type 0
+IsNumber text n = text ≡ decimal n
+
+-- 40 hex digits of either case
+pub record IsDigestText (text : List ℕ) (digest : Digest) : Type 0 where
+  pub size : length text ≡ 40
+  pub bytes : decode_of text ≡ Ok digest.0
+
+-- a dash for no bytes, or hex digits of either case
+abbrev pub IsDataText : List ℕ → List ℕ → Type 0
+IsDataText text [] = text ≡ codes "-"
+IsDataText text (b ∷ bytes) = decode_of text ≡ Ok (b ∷ bytes)
+
+abbrev pub IsExpectText : List ℕ → Option ℕ → Type 0
+IsExpectText text None = text ≡ codes "*"
+IsExpectText text (Some g) = IsNumber text g × (g ≤ 65535)
+
+-- words with one space between each two
+abbrev pub words_line : List (List ℕ) → List ℕ
+words_line words = join_with_byte 32 words
+
+-- a word and a digest
+pub record IsDigestLine (line word : List ℕ) (digest : Digest) : Type 0 where
+  pub text : List ℕ
+  pub is_digest : IsDigestText text digest
+  pub line_is : line ≡ words_line (word ∷ text ∷ [])
+
+pub record IsPutLine (line : List ℕ) (digest : Digest) (ttl : ℕ) (expect : Option ℕ) (payload : List ℕ) : Type 0 where
+  pub digest_text : List ℕ
+  pub expect_text : List ℕ
+  pub data_text : List ℕ
+  pub is_digest : IsDigestText digest_text digest
+  pub in_range : ttl ≤ 315360000
+  pub is_expect : IsExpectText expect_text expect
+  pub is_data : IsDataText data_text payload
+  pub line_is : line ≡ words_line (codes "put" ∷ digest_text ∷ decimal ttl ∷ expect_text ∷ data_text ∷ [])
+
+-- ---- commands
+
+abbrev pub line_limit : ℕ
+line_limit = 2200000
+
+-- the line, without its LF, spells the command
+abbrev pub Spells : List ℕ → Command → Type 0
+Spells line (command.Put digest ttl expect payload) = IsPutLine line digest ttl expect payload
+Spells line (command.Get digest) = IsDigestLine line (codes "get") digest
+Spells line (command.Meta digest) = IsDigestLine line (codes "meta") digest
+Spells line (command.Del digest) = IsDigestLine line (codes "del") digest
+Spells line (command.Bury digest) = IsDigestLine line (codes "bury") digest
+Spells line command.Flush = line ≡ codes "flush"
+Spells line command.Defrag = line ≡ codes "defrag"
+Spells line command.Expire = line ≡ codes "expire"
+Spells line command.Raid = line ≡ codes "raid"
+Spells line command.Stat = line ≡ codes "stat"
+Spells line command.Restart = line ≡ codes "restart"
+Spells line command.Quit = line ≡ codes "quit"
+
+pub record IsCommandLine (line : List ℕ) (c : Command) : Type 0 where
+  pub short : length line ≤ line_limit
+  pub spells : Spells line c
+
+-- ---- replies
+
+abbrev pub fault_words : LineFault → List (List ℕ)
+fault_words why.Line = codes "line" ∷ []
+fault_words why.Mode = codes "mode" ∷ []
+fault_words why.Big = codes "big" ∷ []
+fault_words (why.Gen g) = codes "gen" ∷ decimal g ∷ []
+fault_words why.Spent = codes "spent" ∷ []
+fault_words why.Load = codes "load" ∷ []
+fault_words why.Space = codes "space" ∷ []
+fault_words why.Memory = codes "memory" ∷ []
+fault_words why.Fault = codes "fault" ∷ []
+fault_words why.Damaged = codes "damaged" ∷ []
+
+abbrev pub data_text : List ℕ → List ℕ
+data_text [] = codes "-"
+data_text (b ∷ bytes) = encode_lower (b ∷ bytes)
+
+abbrev pub counts_words : Counts → List (List ℕ)
+counts_words c =
+    decimal c.records ∷ decimal c.tombstones ∷ decimal c.covered ∷ decimal c.free ∷ decimal c.pending ∷ decimal c.queued ∷ decimal c.held ∷ []
+
+abbrev pub reply_words : Reply → List (List ℕ)
+reply_words (reply.Done2 a b) = codes "ok" ∷ decimal a ∷ decimal b ∷ []
+reply_words (reply.Done1 n) = codes "ok" ∷ decimal n ∷ []
+reply_words (reply.Val stamp void payload) =
+    codes "val" ∷ decimal stamp.gen_ ∷ decimal stamp.lut ∷ decimal void ∷ data_text payload ∷ []
+reply_words (reply.MetaOf stamp void units) =
+    codes "meta" ∷ decimal stamp.gen_ ∷ decimal stamp.lut ∷ decimal void ∷ decimal units ∷ []
+reply_words reply.Nothing = codes "none" ∷ []
+reply_words reply.Gone = codes "gone" ∷ []
+reply_words (reply.StatOf counts) = codes "stat" ∷ counts_words counts
+reply_words reply.Bye = codes "bye" ∷ []
+reply_words (reply.Fail fault) = codes "err" ∷ fault_words fault
+reply_words reply.Halted = []
+
+-- the text of a reply, with its LF; one that ends a run without a word has none
+abbrev pub reply_text : Reply → List ℕ
+reply_text reply.Halted = []
+reply_text r = words_line (reply_words r) ++ 10 ∷ []

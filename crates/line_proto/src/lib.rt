@@ -1,0 +1,27 @@
+//! Lines: commands and replies as text, the lines of a stream, and what a session asks of a store.
+#![tactic(auto)]
+
+mod command;
+mod line_end;
+mod lines;
+mod open_line;
+mod parts;
+mod print;
+mod read;
+mod reply;
+mod store;
+
+pub use command::Command;
+pub use line_end::LineEnd;
+pub use lines::Lines;
+pub use print::print_reply;
+pub use read::read_command;
+pub use reply::{LineFault, Reply};
+use std::alloc::AllocError;
+pub use store::Store;
+
+/// There was no memory for it.
+pub type NoMemory = AllocError;
+
+#[cfg(test)]
+mod tests;

@@ -1,0 +1,89 @@
+// The parts of a text.
+ghost use Rattle.std.specs.Prelude.{◌≡◌, ◌≢◌, ◌↔◌, ◌<◌, ◌≤◌, ◌^◌, ◌++◌, List, ℕ, Option, Some, IfOk, MatchOption, option_map, decimal};
+ghost use Rattle.line_proto.specs.Lines.{IsDigestText, IsExpectText, IsDataText};
+ghost use Rattle.line_proto.specs.Reading.{IsCut};
+ghost use Rattle.rec_format.specs.declared.version.Digest.{Digest};
+
+use crate::NoMemory;
+use rec_format::{Bytes, Digest};
+use std::alloc::{AllocError, Global};
+
+/// What stands before the first such byte, and behind it.
+pub fn cut(text: &[u8], separator: u8) -> Option<(&[u8], &[u8])>
+    ensures { IsCut separator text.now (option_map (λ parts. (parts.0.now, parts.1.now)) result) }
+{
+    for (at, byte) in text.iter().enumerate() {
+        if *byte == separator {
+            return Some((&text[..at], &text[at + 1..]));
+        }
+    }
+    None
+}
+
+/// What stands behind the word.
+pub fn behind<'a>(line: &'a [u8], word: &[u8]) -> Option<&'a [u8]>
+    ensures { MatchOption result ((rest : List ℕ) → line.now ≢ word.now ++ rest) (λ rest. line.now ≡ word.now ++ rest.now) }
+{
+    line.strip_prefix(word)
+}
+
+/// The digest that 40 hex digits of either case spell.
+pub fn digest_of(text: &[u8]) -> Option<Digest>
+    ensures { (digest : Digest) → (result ≡ Some digest) ↔ IsDigestText text.now digest }
+{
+    let mut bytes = [0; 20];
+    match hex::decode_to_slice(text, &mut bytes) {
+        Ok(()) => Some(Digest(bytes)),
+        Err(_) => None,
+    }
+}
+
+// The number whose digits these are, and of other texts none or any.
+fn parsed(text: &[u8]) -> Option<u64>
+    ensures { (number : ℕ) → number < 2 ^ 64 → text.now ≡ decimal number → result ≡ Some number }
+{
+    let Ok(digits) = str::from_utf8(text) else {
+        return None;
+    };
+    digits.parse::<u64>().ok()
+}
+
+/// The number that decimal digits without a leading zero spell, where it isn't above the greatest.
+pub fn number_of(text: &[u8], greatest: u64) -> Option<u64>
+    ensures { (number : ℕ) → (result ≡ Some number) ↔ ((number ≤ greatest) × (text.now ≡ decimal number)) }
+{
+    let number = parsed(text)?;
+    let mut buffer = itoa::Buffer::new();
+    if number > greatest || buffer.format(number).as_bytes() != text {
+        return None;
+    }
+    Some(number)
+}
+
+/// The generation that a put expects, and none where it is a star.
+pub fn expect_of(text: &[u8]) -> Option<Option<u16>>
+    ensures { (expect : Option ℕ) → (result ≡ Some expect) ↔ IsExpectText text.now expect }
+{
+    if text == b"*".as_slice() {
+        return Some(None);
+    }
+    match number_of(text, 65_535) {
+        Some(number) => Some(Some(number as u16)),
+        None => None,
+    }
+}
+
+/// The bytes that hex digits of either case spell, and none for a dash.
+pub fn data_of(alloc: Global, text: &[u8]) -> Result<Option<Bytes>, NoMemory>
+    ensures { IfOk result (λ read. (bytes : List ℕ) → (read ≡ Some bytes) ↔ IsDataText text.now bytes) }
+{
+    if text == b"-".as_slice() {
+        return Ok(Some(Bytes::from_vec(Vec::new(alloc))));
+    }
+    match hex::decode(alloc, text) {
+        Ok(bytes) if bytes.is_empty() => Ok(None),
+        Ok(bytes) => Ok(Some(Bytes::from_vec(bytes))),
+        Err(hex::FromHexError::OutOfMemory) => Err(AllocError),
+        Err(_) => Ok(None),
+    }
+}

@@ -1,0 +1,104 @@
+// A line to a command.
+ghost use Rattle.std.specs.Prelude.{◌≡◌, ◌↔◌, List, ℕ, Option, Some, IfOk, IfSome, IsTrue, MatchOption};
+ghost use Rattle.line_proto.specs.Built.{IsBuilt, IsLine, IsInRange};
+ghost use Rattle.line_proto.specs.Reading.{IsFour, IsGetCommand, IsPutCommand};
+ghost use Rattle.line_proto.specs.declared.command.Command.{Command};
+
+use crate::parts::{behind, cut, data_of, digest_of, expect_of, number_of};
+use crate::{Command, NoMemory};
+use std::alloc::Global;
+
+// The most bytes of a line, its LF not counted.
+const LINE_LIMIT: usize = 2_200_000;
+
+// The longest time to live, in seconds.
+const LONGEST_TTL: u64 = 315_360_000;
+
+// Three words and what stands behind them.
+fn words_of(text: &[u8]) -> Option<(&[u8], &[u8], &[u8], &[u8])>
+    ensures { MatchOption result ((a b c d : List ℕ) → IsFour text.now a b c d → ⊥) (λ w. IsFour text.now w.0.now w.1.now w.2.now w.3.now) }
+{
+    let (digest, text) = cut(text, b' ')?;
+    let (ttl, text) = cut(text, b' ')?;
+    let (expect, data) = cut(text, b' ')?;
+    Some((digest, ttl, expect, data))
+}
+
+fn get_of(text: &[u8]) -> Option<Command>
+    ensures { (command : Command) → (result ≡ Some command) ↔ IsGetCommand text.now command }
+{
+    match digest_of(text) {
+        Some(digest) => Some(Command::Get(digest)),
+        None => None,
+    }
+}
+
+fn put_of(alloc: Global, text: &[u8]) -> Result<Option<Command>, NoMemory>
+    ensures { IfOk result (λ read. (command : Command) → (read ≡ Some command) ↔ IsPutCommand text.now command) }
+{
+    let Some((digest, ttl, expect, data)) = words_of(text) else {
+        return Ok(None);
+    };
+    let Some(digest) = digest_of(digest) else {
+        return Ok(None);
+    };
+    let Some(ttl) = number_of(ttl, LONGEST_TTL) else {
+        return Ok(None);
+    };
+    let Some(expect) = expect_of(expect) else {
+        return Ok(None);
+    };
+    let Some(payload) = data_of(alloc, data)? else {
+        return Ok(None);
+    };
+    let ttl = ttl as u32;
+    Ok(Some(Command::Put {
+        digest,
+        ttl,
+        expect,
+        payload,
+    }))
+}
+
+fn is_built(command: &Command) -> bool
+    ensures { IsTrue result ↔ IsBuilt command.now }
+{
+    match command {
+        Command::Put { ttl, expect, .. } => *ttl == 0 && expect.is_none(),
+        Command::Get(_) | Command::Quit => true,
+        _ => false,
+    }
+}
+
+// Of what was read, what is built so far.
+fn only_built(read: Option<Command>) -> Option<Command>
+    ensures { (command : Command) → (result ≡ Some command) ↔ ((read ≡ Some command) × IsBuilt command) }
+{
+    let command = read?;
+    if is_built(&command) {
+        Some(command)
+    } else {
+        None
+    }
+}
+
+/// The command that a line asks for, its LF not counted. It is none exactly where the line asks for no command that is
+/// built: it is outside the grammar, too long, or its command isn't built yet. The only error is want of memory.
+pub fn read_command(alloc: Global, line: &[u8]) -> Result<Option<Command>, NoMemory>
+    ensures exact { IfOk result (λ read. (command : Command) → (read ≡ Some command) ↔ IsLine line.now command) }
+    ensures in_range { IfOk result (λ read. IfSome read IsInRange) }
+{
+    if line.len() > LINE_LIMIT {
+        return Ok(None);
+    }
+    if line == b"quit".as_slice() {
+        return Ok(Some(Command::Quit));
+    }
+    if let Some(text) = behind(line, b"get ") {
+        return Ok(get_of(text));
+    }
+    if let Some(text) = behind(line, b"put ") {
+        return Ok(only_built(put_of(alloc, text)?));
+    }
+    Ok(None)
+}

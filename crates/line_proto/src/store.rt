@@ -1,0 +1,28 @@
+// What a session asks of a store.
+ghost use Rattle.std.specs.Prelude.{◌≢◌, ◌≤◌, ◌^◌, ℕ};
+ghost use Rattle.line_proto.specs.Built.{IsInRange};
+ghost use Rattle.line_proto.specs.declared.command.Command.{Command};
+ghost use Rattle.line_proto.specs.declared.reply.Reply.{Reply};
+
+use crate::{Command, Reply};
+use std::alloc::Global;
+
+/// What carries out commands, and is tended after each line.
+pub trait Store: Drop {
+    /// The store before a command, the command, its time in milliseconds, the reply, and the store after it.
+    ghost acts: { Self → Command → ℕ → Reply → Self → Type 0 };
+
+    /// The store before and after a tending.
+    ghost tends: { Self → Self → Type 0 };
+
+    /// Carries out a command at a time in milliseconds. Want of memory is a reply too.
+    fn act(&mut self, alloc: Global, command: &Command, now: u64) -> Reply
+        requires now { now ≤ 2 ^ 61 }
+        requires command { IsInRange command.now }
+        requires goes_on { command.now ≢ Command.Quit }
+        ensures { acts self.old command.now now result self.new };
+
+    /// Does what is due after a line, whatever its reply.
+    fn tend(&mut self, alloc: Global)
+        ensures { tends self.old self.new };
+}
