@@ -1,0 +1,81 @@
+-- The ends of a session.
+use Rattle.std.proofs.Common.{◌≡◌, ℕ, ◌+◌, ◌<◌, List, [], ◌∷◌, ◌++◌, length, map, Option, refl, sym, ◌∙◌, ap, subst, inr, arith}
+use Rattle.std.proofs.lemmas.List.{append-nil}
+use Rattle.line_proto.specs.declared.command.Command.{Command}
+use Rattle.line_proto.specs.declared.reply.Reply.{Reply}
+use Rattle.line_proto.specs.declared.line_end.LineEnd.{LineEnd}
+use Rattle.line_proto.specs.declared.line_end.LineEnd.TheVariants.{TooLong}
+use Rattle.line_proto.specs.Stream.{line_end, FallInto}
+use Rattle.line_proto.specs.Lines.{reply_text}
+use Rattle.io_traits.specs.Source.{IsAtEnd, Shortens}
+use Rattle.node_session.specs.declared.stop.Stop.{Stop}
+use Rattle.node_session.specs.declared.stop.Stop.TheVariants.{Quit as QuitStop, SinkFault as SinkStop, Memory as MemoryStop, Halted as HaltStop}
+use Rattle.node_session.specs.Run.{Times, Turn, Serves, StopsAt}
+use Rattle.node_session.specs.Session.{ServesAll, StopsAfter, EndsSo, ended_of}
+use Rattle.node_session.proofs.Running.{serves_on, serves_one}
+use Rattle.node_session.proofs.Sending.{shortens_on}
+
+empty_of : {X : Type 0} (xs : List X) → length xs ≡ 0 → xs ≡ []
+empty_of [] none = refl
+empty_of (x ∷ xs) none = absurd (omega arith)
+
+-- a piece of no bytes changes nothing
+pub takes_none : (taken taken' piece : List ℕ) → length piece ≡ 0 → taken' ≡ taken ++ piece → taken' ≡ taken
+takes_none taken taken' piece none is = is ∙ ap (λ (l : List ℕ). taken ++ l) (empty_of piece none) ∙ append-nil taken
+
+pub joins_none : (bytes piece : List ℕ) → length piece ≡ 0 → bytes ++ piece ≡ bytes
+joins_none bytes piece none = ap (λ (l : List ℕ). bytes ++ l) (empty_of piece none) ∙ append-nil bytes
+
+pub shortens_end : (first second third : Option (List ℕ)) (bytes piece : List ℕ) → length piece ≡ 0 → Shortens first second bytes → Shortens second third piece → Shortens first third bytes
+shortens_end first second third bytes piece none one two = subst (λ (l : List ℕ). Shortens first third l) (joins_none bytes piece none) (shortens_on first second third bytes piece one two)
+
+module _ {T : Type 0} (acts : T → Command → ℕ → Reply → T → Type 0) (tends : T → T → Type 0) where
+  pub finish_whole : (bytes : List ℕ) (left : Option (List ℕ)) (lines : List (List ℕ)) (rest : List ℕ) (n : ℕ) (old : T) (times : Times) (output : List ℕ) (new : T) (later : Times)
+      → FallInto bytes lines rest → length rest ≡ 0 → IsAtEnd left → n ≡ length lines → Serves acts tends (map line_end lines) old times output new later → ServesAll acts tends bytes left n old times output new later
+  finish_whole bytes left lines [] n old times output new later falls none ends counts serves = record {
+    lines = lines;
+    rest = [];
+    falls = falls;
+    at_end = ends;
+    counted = omega (arith, counts);
+    serves = subst (λ (l : List LineEnd). Serves acts tends l old times output new later) (sym (append-nil (map line_end lines))) serves;
+  }
+  finish_whole bytes left lines (byte ∷ rest) n old times output new later falls none ends counts serves = absurd (omega arith)
+
+  pub finish_rest : (bytes : List ℕ) (left : Option (List ℕ)) (lines : List (List ℕ)) (rest : List ℕ) (n : ℕ) (old : T) (times : Times) (output : List ℕ) (mid : T) (then : Times) (reply : Reply) (new : T) (later : Times)
+      → FallInto bytes lines rest → 0 < length rest → IsAtEnd left → n ≡ length lines + 1 → Serves acts tends (map line_end lines) old times output mid then → Turn acts tends TooLong mid then reply new later → ServesAll acts tends bytes left n old times (output ++ reply_text reply) new later
+  finish_rest bytes left lines [] n old times output mid then reply new later falls some ends counts serves turn = absurd (omega arith)
+  finish_rest bytes left lines (byte ∷ rest) n old times output mid then reply new later falls some ends counts serves turn = record {
+    lines = lines;
+    rest = byte ∷ rest;
+    falls = falls;
+    at_end = ends;
+    counted = counts;
+    serves = serves_on acts tends (map line_end lines) (TooLong ∷ []) old times output (reply_text reply) mid then new later serves (serves_one acts tends TooLong mid then reply new later turn);
+  }
+
+  pub stop_rest : (bytes : List ℕ) (left : Option (List ℕ)) (lines : List (List ℕ)) (rest : List ℕ) (n : ℕ) (old : T) (times : Times) (output : List ℕ) (mid : T) (then : Times) (sent : List ℕ) (new : T) (later : Times) (stop : Stop)
+      → FallInto bytes lines rest → 0 < length rest → IsAtEnd left → n ≡ length lines → Serves acts tends (map line_end lines) old times output mid then → StopsAt acts tends TooLong mid then sent new later stop → StopsAfter acts tends bytes left n old times (output ++ sent) new later stop
+  stop_rest bytes left lines rest n old times output mid then sent new later stop falls some ends counts serves stops = record {
+    lines = lines;
+    rest = rest;
+    whole = falls.whole;
+    each = falls.each;
+    counted = counts;
+    told = output;
+    mid = mid;
+    then = then;
+    serves = serves;
+    line = TooLong;
+    takes_up = record { how = inr (falls.open_line, some, ends, refl) };
+    sent = sent;
+    stops = stops;
+    all = refl;
+  }
+
+  -- a stop is the session's end
+  pub ends_of : (limit : ℕ) (bytes : List ℕ) (left : Option (List ℕ)) (n : ℕ) (old : T) (times : Times) (output : List ℕ) (new : T) (later : Times) (stop : Stop) → StopsAfter acts tends bytes left n old times output new later stop → EndsSo acts tends limit bytes left old times output new later (ended_of stop n)
+  ends_of limit bytes left n old times output new later QuitStop stops = (n, refl, stops)
+  ends_of limit bytes left n old times output new later SinkStop stops = (n, stops)
+  ends_of limit bytes left n old times output new later MemoryStop stops = inr (n, stops)
+  ends_of limit bytes left n old times output new later HaltStop stops = (n, stops)

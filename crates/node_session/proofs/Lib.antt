@@ -1,0 +1,5 @@
+pub mod Sending
+pub mod Running
+pub mod Stopping
+pub mod Taking
+pub mod Ending

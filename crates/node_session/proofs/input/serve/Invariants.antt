@@ -1,0 +1,28 @@
+use Rattle.std.proofs.Common.{◌≡◌, ◌≤◌, ◌-◌, ℕ, List, ◌++◌, length, map}
+use Rattle.io_traits.specs.Sink.{Extends}
+use Rattle.io_traits.specs.Source.{Shortens}
+use Rattle.line_proto.specs.Stream.{FallInto, StandsFor, line_end}
+use Rattle.node_session.specs.Run.{Serves}
+use Rattle.node_session.proofs.input.serve.Given as goal
+
+abbrev pub invariant-loop-taken : goal.invariant-loop-taken
+invariant-loop-taken g l = record {
+  bytes : List ℕ;
+  whole : List (List ℕ);
+  rest : List ℕ;
+  output : List ℕ;
+  takes : g.L.Ends.taken l.link ≡ g.L.Ends.taken l.fn.link ++ bytes;
+  shortens : Shortens (g.L.Ends.left l.fn.link) (g.L.Ends.left l.link) bytes;
+  falls : FallInto bytes whole rest;
+  serves : Serves g.T.Store.acts g.T.Store.tends (map line_end whole) l.fn.store (g.C.Clock.times l.fn.clock) output l.store (g.C.Clock.times l.clock);
+  extends : Extends (g.L.Ends.written l.fn.link) (g.L.Ends.written l.link) output;
+  stands : StandsFor l.lines rest;
+  counted : l.answered ≡ length whole;
+  size : l.taken ≡ length bytes;
+  within : l.taken ≤ l.limit;
+  source_later : g.L.Ends.source_faults l.fn.link ≤ g.L.Ends.source_faults l.link;
+  sink_later : g.L.Ends.sink_faults l.fn.link ≤ g.L.Ends.sink_faults l.link;
+}
+
+abbrev pub decreases-loop-taken : goal.decreases-loop-taken
+decreases-loop-taken g l = l.limit - l.taken

@@ -1,0 +1,134 @@
+// The loop over the input.
+ghost use Rattle.std.specs.Prelude.{◌≡◌, ◌+◌, ◌<◌, ◌≤◌, ◌^◌, ◌++◌, List, ℕ, [], length, Option, OnOk, IfOk, OnErr, IsErrOf};
+ghost use Rattle.fault_count.specs.Counts.{Rose};
+ghost use Rattle.io_traits.specs.Source.{Shortens, IsAtEnd};
+ghost use Rattle.line_proto.specs.Stream.{StandsFor};
+ghost use Rattle.node_session.specs.Session.{Ran, ended_of};
+
+use crate::ended::Ended;
+use crate::ready::serve_ready;
+use crate::stop::Stop;
+use crate::turn::turn;
+use io_traits::{Clock, Sink, Source};
+use line_proto::{LineEnd, Lines, Store};
+use std::alloc::Global;
+
+// How many bytes of the input are taken at once.
+const PIECE: usize = 65_536;
+
+/// Why no piece could be had.
+#[derive(Clone, Copy, Debug, PartialEq, Eq)]
+pub enum NoPiece {
+    SourceFault,
+    Memory,
+}
+
+// Takes the next piece of the input into the lines. None is the end.
+fn take_piece<L: Source>(link: &mut L, lines: &mut Lines, out: &mut [u8]) -> Result<usize, NoPiece>
+    requires { 0 < length out.old }
+    ensures piece { (piece : List ℕ) × (L.taken link.new ≡ L.taken link.old ++ piece) × Shortens (L.left link.old) (L.left link.new) piece
+        × (length piece ≤ length out.old)
+        × (IsErrOf result NoPiece.SourceFault → piece ≡ [])
+        × IfOk result (λ n. (n ≡ length piece) × (n ≡ 0 → IsAtEnd (L.left link.new))
+        × ((bytes : List ℕ) → StandsFor lines.old bytes → StandsFor lines.new (bytes ++ piece))) }
+    ensures cause { IsErrOf result NoPiece.SourceFault → Rose (L.source_faults link.old) (L.source_faults link.new) }
+    ensures later { L.source_faults link.old ≤ L.source_faults link.new }
+    ensures written { L.written link.new ≡ L.written link.old }
+    ensures sink_faults { L.sink_faults link.new ≡ L.sink_faults link.old }
+{
+    let Ok(count) = link.read_some(out) else {
+        return Err(NoPiece::SourceFault);
+    };
+    if lines.feed(&out[..count]).is_err() {
+        return Err(NoPiece::Memory);
+    }
+    Ok(count)
+}
+
+fn end_of(stop: Stop, answered: u64) -> Ended
+    requires { answered + 1 < 2 ^ 64 }
+    ensures { result ≡ ended_of stop answered }
+{
+    match stop {
+        Stop::Quit => Ended::Quit {
+            lines: answered + 1,
+        },
+        Stop::SinkFault => Ended::SinkFault,
+        Stop::Memory => Ended::Memory,
+        Stop::Halted => Ended::Halted,
+    }
+}
+
+// Carries out the lines of the link's source, which are taken through the buffer.
+fn serve<T: Store, L: Source + Sink, C: Clock>(
+    alloc: Global,
+    store: &mut T,
+    link: &mut L,
+    clock: &mut C,
+    limit: u64,
+    buffer: &mut [u8],
+) -> Ended
+    requires { 0 < length buffer.old }
+    ensures run { Ran T.acts T.tends limit (L.taken link.old) (L.taken link.new) (L.left link.old) (L.left link.new)
+        (L.written link.old) (L.written link.new) store.old store.new (C.times clock.old) (C.times clock.new) result }
+    ensures source_fault { result ≡ Ended.SourceFault → Rose (L.source_faults link.old) (L.source_faults link.new) }
+    ensures sink_fault { result ≡ Ended.SinkFault → Rose (L.sink_faults link.old) (L.sink_faults link.new) }
+    ensures source_later { L.source_faults link.old ≤ L.source_faults link.new }
+    ensures sink_later { L.sink_faults link.old ≤ L.sink_faults link.new }
+{
+    let mut lines = Lines::new(alloc);
+    let mut answered = 0;
+    let mut taken = 0;
+    while taken < limit {
+        let room = (limit - taken).min(buffer.len() as u64) as usize;
+        let count = match take_piece(link, &mut lines, &mut buffer[..room]) {
+            Ok(count) => count,
+            Err(NoPiece::SourceFault) => return Ended::SourceFault,
+            Err(NoPiece::Memory) => return Ended::Memory,
+        };
+        if count == 0 {
+            let rest = lines.rest();
+            if rest == 0 {
+                return Ended::Finish { lines: answered };
+            }
+            if let Err(stop) = turn(alloc, store, link, clock, &LineEnd::TooLong) {
+                return end_of(stop, answered);
+            }
+            return Ended::Finish {
+                lines: answered + 1,
+            };
+        }
+        taken += count as u64;
+        if let Err(stop) = serve_ready(alloc, store, link, clock, &mut lines, &mut answered) {
+            return end_of(stop, answered);
+        }
+    }
+    Ended::Long { taken }
+}
+
+/// Carries out the lines of the link's source until it ends, `quit` comes, the store halts, a fault or want of memory stops
+/// it, or `limit` bytes were taken. Each line is answered in order, the link is flushed after each reply, and the store is
+/// tended after each line but `quit` and one that it halted at, also where the reply could not be written.
+pub fn session<T: Store, L: Source + Sink, C: Clock>(
+    alloc: Global,
+    store: &mut T,
+    link: &mut L,
+    clock: &mut C,
+    limit: u64,
+) -> Ended
+    // The output follows from the bytes taken, through the store and the clock.
+    ensures run { Ran T.acts T.tends limit (L.taken link.old) (L.taken link.new) (L.left link.old) (L.left link.new)
+        (L.written link.old) (L.written link.new) store.old store.new (C.times clock.old) (C.times clock.new) result }
+
+    // It doesn't give up by itself.
+    ensures source_fault { result ≡ Ended.SourceFault → Rose (L.source_faults link.old) (L.source_faults link.new) }
+    ensures sink_fault { result ≡ Ended.SinkFault → Rose (L.sink_faults link.old) (L.sink_faults link.new) }
+
+    ensures source_later { L.source_faults link.old ≤ L.source_faults link.new }
+    ensures sink_later { L.sink_faults link.old ≤ L.sink_faults link.new }
+{
+    let Ok(mut buffer) = vec![in alloc; 0; PIECE] else {
+        return Ended::Memory;
+    };
+    serve(alloc, store, link, clock, limit, &mut buffer)
+}
