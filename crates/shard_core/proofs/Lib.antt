@@ -1,0 +1,12 @@
+pub mod IndexLemmas
+pub mod Room
+pub mod Bodies
+pub mod Steps
+pub mod Standing
+pub mod Plans
+pub mod Entering
+pub mod Puts
+pub mod Gets
+pub mod Starts
+pub mod Formats
+pub mod Publishing

@@ -1,0 +1,178 @@
+-- What a start reads of a device.
+use Rattle.std.proofs.Common.{◌≡◌, ◌≢◌, inl, inr, ℕ, ◌+◌, ◌-◌, ◌<◌, ◌≤◌, min, true, false, List, [], ◌∷◌, ◌++◌, length, take, drop, replicate, refl, sym, ◌∙◌, ap, subst, arith, append_assoc}
+use Rattle.std.specs.Prelude.{nat_le, ◌⊎◌}
+use Rattle.std.proofs.lemmas.Bool.{leb-true, leb-false, cases_lt, cases_eq}
+use Rattle.std.proofs.lemmas.List.{take_all, take-take, take-append-le, take_at, length-append, length-take, length-replicate, drop-replicate, replicate-append-replicate, append-nil}
+use Rattle.block_format.specs.declared.geometry.Geometry.{Geometry}
+use Rattle.block_format.specs.Layout.{IsGeometry, IsHeader, header_text, gate_sector, block_place, device_end}
+use Rattle.block_format.specs.Refusals.{first_bytes, IsAsked}
+use Rattle.shard_core.specs.declared.start.Asked.{Asked}
+use Rattle.shard_core.specs.declared.start.StartCause.{StartCause}
+use Rattle.shard_core.specs.declared.start.StartCause.TheVariants.{NotFormatted, OtherGeometry}
+use Rattle.std.proofs.Common.{suc, zero, add-one, zero-add}
+use Rattle.std.specs.List.{range_with_len, AllByRecursion}
+use Rattle.std.specs.Prelude.{filter}
+use Rattle.rec_format.specs.Versions.{IsVersion}
+use Rattle.rec_format.specs.Book.{refreshed, cold_book}
+use Rattle.block_format.specs.Recovery.{start_state}
+use Rattle.shard_core.specs.declared.index.Record.{Record}
+use Rattle.shard_core.specs.Index.{held, flag_of, high_of}
+use Rattle.shard_core.specs.View.{ShardView, setup_of, IsRising, IsSettings, IsWhole}
+use Rattle.shard_core.specs.Stands.{Agrees}
+use Rattle.shard_core.proofs.Steps.{filter_all}
+use Rattle.shard_core.specs.Starting.{IsRefused}
+
+-- ---- the first sector
+
+-- zeros stand for what is past the end, as far as they are looked at
+zeros_enough : (n m k : ℕ) (bytes : List ℕ) → n ≤ m → take n (bytes ++ replicate (m + k) 0) ≡ take n (bytes ++ replicate m 0)
+zeros_enough n m k bytes le =
+    ap (λ (l : List ℕ). take n (bytes ++ l)) (sym (replicate-append-replicate m k 0))
+    ∙ ap (take n) (sym (append_assoc bytes (replicate m 0) (replicate k 0)))
+    ∙ take-append-le n (bytes ++ replicate m 0) (replicate k 0) (omega (arith, length-append bytes (replicate m 0), length-replicate {A = ℕ} m 0))
+
+padded : (bytes : List ℕ) (count : ℕ) → count ≡ min (length bytes) 4096 → take count bytes ++ replicate (4096 - count) 0 ≡ take 4096 (bytes ++ replicate 4096 0)
+padded bytes count is = cases (cases_lt (length bytes) 4096)
+  where
+    cases : (length bytes < 4096) ⊎ (4096 ≤ length bytes) → take count bytes ++ replicate (4096 - count) 0 ≡ take 4096 (bytes ++ replicate 4096 0)
+    cases (inl short) =
+        let all : count ≡ length bytes = omega arith in
+        let long : length (bytes ++ replicate (4096 - length bytes) 0) ≡ 4096 = length-append bytes (replicate (4096 - length bytes) 0) ∙ ap (λ (k : ℕ). length bytes + k) (length-replicate {A = ℕ} (4096 - length bytes) 0) ∙ omega arith in
+        let zeros : (4096 - length bytes) + length bytes ≡ 4096 = omega arith in
+        ap (λ (k : ℕ). take k bytes ++ replicate (4096 - k) 0) all
+        ∙ ap (λ (l : List ℕ). l ++ replicate (4096 - length bytes) 0) (take_all (length bytes) bytes (omega arith))
+        ∙ sym (take_at (bytes ++ replicate (4096 - length bytes) 0) (replicate (length bytes) 0) 4096 long)
+        ∙ ap (take 4096) (append_assoc bytes (replicate (4096 - length bytes) 0) (replicate (length bytes) 0) ∙ ap (λ (l : List ℕ). bytes ++ l) (replicate-append-replicate (4096 - length bytes) (length bytes) 0 ∙ ap (λ (k : ℕ). replicate k 0) zeros))
+    cases (inr whole) =
+        let all : count ≡ 4096 = omega arith in
+        ap (λ (k : ℕ). take k bytes ++ replicate (4096 - k) 0) all ∙ append-nil (take 4096 bytes) ∙ sym (take-append-le 4096 bytes (replicate 4096 0) whole)
+
+-- what is read, behind which the zeros stay
+pub first_read : (bytes old read : List ℕ) (count n : ℕ) → n ≡ length (take count old) → old ≡ replicate 4096 0 → count ≡ min (length bytes) 4096 → read ≡ take n (drop 0 bytes)
+    → read ++ drop count old ≡ take 4096 (bytes ++ replicate 4096 0)
+first_read bytes old read count n counted zeros is given =
+    let long : n ≡ count = counted ∙ ap (λ (l : List ℕ). length (take count l)) zeros ∙ length-take count (replicate 4096 0) ∙ ap (min count) (length-replicate {A = ℕ} 4096 0) ∙ omega arith in
+    ap (λ (l : List ℕ). l ++ drop count old) (given ∙ ap (λ (k : ℕ). take k bytes) long)
+    ∙ ap (λ (l : List ℕ). take count bytes ++ drop count l) zeros ∙ ap (λ (l : List ℕ). take count bytes ++ l) (drop-replicate count 4096 0) ∙ padded bytes count is
+
+first_64 : (bytes sector : List ℕ) → sector ≡ take 4096 (bytes ++ replicate 4096 0) → take 64 sector ≡ first_bytes bytes
+first_64 bytes sector is = ap (take 64) is ∙ take-take 64 4096 (bytes ++ replicate 4096 0) (omega arith) ∙ zeros_enough 64 64 4032 bytes (omega arith)
+
+header_long : (g : Geometry) → length (header_text g) ≡ 4096
+header_long g = refl
+
+-- a device that is shorter than a sector has no header
+pub too_short : (asked : Asked) (bytes sector : List ℕ) (cause : StartCause) → sector ≡ take 4096 (bytes ++ replicate 4096 0) → nat_le 4096 (length bytes) ≡ false
+    → cause ≡ NotFormatted (take 64 sector) → IsRefused asked bytes cause
+too_short asked bytes sector cause is short made =
+    subst (IsRefused asked bytes) (sym made) ((λ g header. no_header g header), first_64 bytes sector is)
+  where
+    no_header : (g : Geometry) → IsHeader (take 4096 bytes) g → ⊥
+    no_header g header = clash (leb-false 4096 (length bytes) short) (sym (length-take 4096 bytes) ∙ ap length header.text ∙ header_long g)
+      where
+        clash : length bytes < 4096 → min 4096 (length bytes) ≡ 4096 → ⊥
+        clash lt e = omega arith
+
+pub whole_sector : (bytes sector : List ℕ) → sector ≡ take 4096 (bytes ++ replicate 4096 0) → nat_le 4096 (length bytes) ≡ true → sector ≡ take 4096 bytes
+whole_sector bytes sector is whole = is ∙ take-append-le 4096 bytes (replicate 4096 0) (leb-true 4096 (length bytes) whole)
+
+pub no_header_here : (asked : Asked) (bytes sector : List ℕ) (cause : StartCause) → sector ≡ take 4096 (bytes ++ replicate 4096 0) → nat_le 4096 (length bytes) ≡ true
+    → ((g : Geometry) → IsHeader sector g → ⊥) → cause ≡ NotFormatted (take 64 sector) → IsRefused asked bytes cause
+no_header_here asked bytes sector cause is whole none made =
+    subst (IsRefused asked bytes) (sym made) ((λ g header. none g (subst (λ (l : List ℕ). IsHeader l g) (sym (whole_sector bytes sector is whole)) header)), first_64 bytes sector is)
+
+-- ---- the shape
+
+pub other_device : (asked : Asked) (bytes sector : List ℕ) (g : Geometry) (size : ℕ) → sector ≡ take 4096 bytes → IsHeader sector g → size ≡ length bytes
+    → ((g.device ≡ asked.device) × (g.devices ≡ asked.devices) × (device_end g ≤ size) → ⊥) → IsRefused asked bytes (OtherGeometry g asked size)
+other_device asked bytes sector g size is header sized other =
+    (refl, (subst (λ (l : List ℕ). IsHeader l g) is header, refl, refl, sized, why))
+  where
+    why : (g.device ≢ asked.device) ⊎ (g.devices ≢ asked.devices) ⊎ (length bytes < device_end g)
+    why = first (cases_eq g.device asked.device)
+      where
+        third : g.device ≡ asked.device → g.devices ≡ asked.devices → (length bytes < device_end g) ⊎ (device_end g ≤ length bytes) → (g.device ≢ asked.device) ⊎ (g.devices ≢ asked.devices) ⊎ (length bytes < device_end g)
+        third a b (inl lt) = inr (inr lt)
+        third a b (inr le) = absurd (other (a, b, subst (λ (n : ℕ). device_end g ≤ n) (sym sized) le))
+
+        second : g.device ≡ asked.device → (g.devices ≡ asked.devices) ⊎ (g.devices ≢ asked.devices) → (g.device ≢ asked.device) ⊎ (g.devices ≢ asked.devices) ⊎ (length bytes < device_end g)
+        second a (inl b) = third a b (cases_lt (length bytes) (device_end g))
+        second a (inr b) = inr (inl b)
+
+        first : (g.device ≡ asked.device) ⊎ (g.device ≢ asked.device) → (g.device ≢ asked.device) ⊎ (g.devices ≢ asked.devices) ⊎ (length bytes < device_end g)
+        first (inl a) = second a (cases_eq g.devices asked.devices)
+        first (inr a) = inl a
+
+pub this_device : (asked : Asked) (bytes sector : List ℕ) (g : Geometry) (size : ℕ) → sector ≡ take 4096 bytes → IsHeader sector g → size ≡ length bytes
+    → (g.device ≡ asked.device) × (g.devices ≡ asked.devices) × (device_end g ≤ size) → IsAsked asked.device asked.devices bytes g
+this_device asked bytes sector g size is header sized same = record {
+  header = subst (λ (l : List ℕ). IsHeader l g) is header;
+  device_is = same.0;
+  devices_is = same.1;
+  size = subst (λ (n : ℕ). device_end g ≤ n) sized same.2;
+}
+
+-- ---- gates
+
+-- 16 bytes of a gate sector tell whether it is open
+pub same_gate : (g : Geometry) (block : ℕ) (bytes gate : List ℕ) (place : ℕ) → gate ≡ take 16 (drop place bytes) → place ≡ block_place g block → take 16 gate ≡ take 16 (gate_sector g block bytes)
+same_gate g block bytes gate place read is =
+    ap (take 16) (read ∙ ap (λ (p : ℕ). take 16 (drop p bytes)) is) ∙ take-take 16 16 (drop (block_place g block) bytes) (omega arith) ∙ sym (take-take 16 4096 (drop (block_place g block) bytes) (omega arith))
+
+-- ---- the first state
+
+range_more : (a n : ℕ) → range_with_len a (n + 1) ≡ range_with_len a n ++ (a + n) ∷ []
+range_more a n = rw add-one (more a n)
+  where
+    more : (b k : ℕ) → range_with_len b (suc k) ≡ range_with_len b k ++ (b + k) ∷ []
+    more b zero = ap (λ (x : ℕ). x ∷ []) (omega arith)
+    more b (suc k) = ap (λ (l : List ℕ). b ∷ l) (more (b + 1) k ∙ ap (λ (x : ℕ). range_with_len (b + 1) k ++ x ∷ []) (omega arith))
+
+pub blocks_more : (blocks new : List ℕ) (n : ℕ) → blocks ≡ range_with_len 0 n → new ≡ blocks ++ n ∷ [] → new ≡ range_with_len 0 (n + 1)
+blocks_more blocks new n are pushed = pushed ∙ ap (λ (l : List ℕ). l ++ n ∷ []) are ∙ sym (range_more 0 n ∙ ap (λ (x : ℕ). range_with_len 0 n ++ x ∷ []) (zero-add n))
+
+above : (b a n : ℕ) → b < a → AllByRecursion (λ m. b < m) (range_with_len a n)
+above b a zero lt = tt
+above b a (suc n) lt = (lt, above b (a + 1) n (omega arith))
+
+pub range_rises : (a n : ℕ) → IsRising (range_with_len a n)
+range_rises a zero = tt
+range_rises a (suc n) = (above a (a + 1) n (omega arith), range_rises (a + 1) n)
+
+pub range_below : (a n limit : ℕ) → a + n ≤ limit → AllByRecursion (λ b. b < limit) (range_with_len a n)
+range_below a zero limit le = tt
+range_below a (suc n) limit le = (omega arith, range_below (a + 1) n limit (omega arith))
+
+pub starts_empty : {D : Type 0} (shard : ShardView D) → shard.index ≡ [] → shard.free ≡ range_with_len 0 shard.geometry.blocks → shard.next_number ≡ 1 → Agrees shard (start_state (setup_of shard) [])
+unfolding start_state cold_book refreshed
+starts_empty shard index free next = record {
+  entries = λ digest. ap (held digest) (sym index);
+  covers = λ digest. ap (λ (l : List Record). flag_of (held digest l)) (sym index);
+  times = λ part. ap (high_of shard.geometry.devices shard.set.sprigs part) (sym index);
+  free = all_unused ∙ sym free;
+  next = sym next;
+  rest = record { sealed = tt; numbers = tt; apart = none_taken _ };
+}
+  where
+    kept : (blocks : List ℕ) → AllByRecursion (λ b. true ≡ true) blocks
+    kept [] = tt
+    kept (b ∷ blocks) = (refl, kept blocks)
+
+    all_unused : filter (λ b. true) (filter (λ b. true) (range_with_len 0 shard.geometry.blocks)) ≡ range_with_len 0 shard.geometry.blocks
+    all_unused = ap (filter (λ b. true)) (filter_all (λ b. true) (range_with_len 0 shard.geometry.blocks) (kept _)) ∙ filter_all (λ b. true) (range_with_len 0 shard.geometry.blocks) (kept _)
+
+    none_taken : (blocks : List ℕ) → AllByRecursion (λ c. false ≡ false) blocks
+    none_taken [] = tt
+    none_taken (b ∷ blocks) = (refl, none_taken blocks)
+
+pub whole_at_start : {D : Type 0} (extent : D → ℕ) (shard : ShardView D) → IsGeometry shard.geometry → IsSettings shard.set → device_end shard.geometry ≤ extent shard.disk
+    → shard.index ≡ [] → shard.free ≡ range_with_len 0 shard.geometry.blocks → shard.next_number ≡ 1 → IsWhole extent shard
+whole_at_start extent shard geometry settings room index free next = record {
+  geometry = geometry;
+  settings = settings;
+  room = room;
+  versions = subst (λ (l : List Record). AllByRecursion (λ r. IsVersion r.version) l) (sym index) tt;
+  rising = subst IsRising (sym free) (range_rises 0 shard.geometry.blocks);
+  blocks = subst (λ (l : List ℕ). AllByRecursion (λ b. b < shard.geometry.blocks) l) (sym free) (range_below 0 shard.geometry.blocks shard.geometry.blocks (omega arith));
+  number = (omega (arith, next), omega (arith, next));
+}

@@ -1,0 +1,6 @@
+pub mod Index
+pub mod View
+pub mod Stands
+pub mod Starting
+pub mod Calls
+pub mod Stored
