@@ -1,0 +1,4 @@
+pub mod Counts
+pub mod Flushing
+pub mod Commits
+pub mod Acting

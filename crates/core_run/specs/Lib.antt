@@ -1,0 +1,5 @@
+pub mod Notes
+pub mod Session
+pub mod Headline
+pub mod Meaning
+pub mod OneDevice

@@ -1,0 +1,66 @@
+-- Crate core_run. The texts of a command besides replies: the note on how it ended, and what is written of each device.
+-- What is written stands as a line, with an LF behind it; a note has none.
+use Rattle.std.specs.Prelude.{ℕ, List, [], ◌∷◌, ◌++◌, length, codes, decimal, ◌≡◌, MatchBool, MatchOption, slice_get}
+use Rattle.hex.specs.Hex.{encode_lower}
+use Rattle.rec_format.specs.Policy.{built}
+use Rattle.block_format.specs.Audit.{Verdict, all_sound, stray, twins, bare}
+use Rattle.block_format.specs.Refusals.{Refusal, not_formatted, other_shape, damaged_block, IsRefusedFor}
+use Rattle.line_proto.specs.Lines.{words_line}
+
+-- ---- notes
+
+abbrev pub fault_note : (device : ℕ) → List ℕ
+fault_note device = words_line (codes "device" ∷ decimal device ∷ codes "fault" ∷ [])
+
+abbrev pub short_note : (device size : ℕ) → List ℕ
+short_note device size = words_line (codes "device" ∷ decimal device ∷ codes "short:" ∷ decimal size ∷ [])
+
+abbrev pub refusal_note : (device : ℕ) → Refusal → List ℕ
+refusal_note device (not_formatted first) =
+    words_line (codes "device" ∷ decimal device ∷ codes "not" ∷ codes "formatted:" ∷ encode_lower first ∷ [])
+refusal_note device (other_shape kept asked asked_devices size) =
+    words_line (codes "device" ∷ decimal device ∷ codes "is" ∷ decimal kept.device ∷ codes "of" ∷ (decimal kept.devices ++ codes ",")
+    ∷ codes "asked" ∷ decimal asked ∷ codes "of" ∷ (decimal asked_devices ++ codes ",") ∷ codes "length" ∷ decimal size ∷ [])
+refusal_note device (damaged_block block place) =
+    words_line (codes "device" ∷ decimal device ∷ codes "block" ∷ decimal block ∷ codes "damaged" ∷ codes "at" ∷ decimal place ∷ [])
+
+-- until a note says why a device was refused
+abbrev pub refused_note : (device : ℕ) → List ℕ
+refused_note device = words_line (codes "device" ∷ decimal device ∷ codes "refused" ∷ [])
+
+-- The device was refused for what its disk reads, and the note says why.
+pub record IsRefusalNote (device devices : ℕ) (reads note : List ℕ) : Type 0 where
+  pub why : Refusal
+  pub is_refused : IsRefusedFor device devices reads why
+  pub text : note ≡ refusal_note device why
+
+-- the note of a run that ended with this status, over devices that read so in the end
+pub record IsNote (status noted : ℕ) (reads : List (List ℕ)) (note : List ℕ) : Type 0 where
+  pub none : status ≡ 0 → note ≡ []
+  pub words : status ≡ 2 → note ≡ codes "words refused"
+  pub disk : status ≡ 3 → note ≡ fault_note noted
+  pub source : status ≡ 4 → note ≡ codes "source fault"
+  pub sink : status ≡ 5 → note ≡ codes "sink fault"
+  pub memory : status ≡ 6 → note ≡ codes "no memory"
+  pub refused : status ≡ 7 → MatchBool built.reuses (MatchOption (slice_get reads noted) ⊥ (λ bytes. IsRefusalNote noted (length reads) bytes note)) (note ≡ refused_note noted)
+  pub door : status ≡ 8 → note ≡ codes "door fault"
+  pub long : status ≡ 10 → note ≡ codes "input too long"
+
+-- ---- what is written of devices
+
+abbrev pub formatted_text : (devices : ℕ) → List ℕ
+formatted_text devices = words_line (codes "formatted" ∷ decimal devices ∷ [])
+
+abbrev pub check_text : (device opened copies records tombstones : ℕ) → List ℕ
+check_text device opened copies records tombstones =
+    words_line (codes "device" ∷ decimal device ∷ codes "open" ∷ decimal opened ∷ codes "copies" ∷ decimal copies
+    ∷ codes "records" ∷ decimal records ∷ codes "tombstones" ∷ decimal tombstones ∷ [])
+
+abbrev pub verdict_words : Verdict → List (List ℕ)
+verdict_words all_sound = codes "sound" ∷ []
+verdict_words (stray digest) = codes "stray" ∷ encode_lower digest.0 ∷ []
+verdict_words (twins digest) = codes "twins" ∷ encode_lower digest.0 ∷ []
+verdict_words (bare digest) = codes "bare" ∷ encode_lower digest.0 ∷ []
+
+abbrev pub audit_text : (device : ℕ) → Verdict → List ℕ
+audit_text device v = words_line (codes "device" ∷ decimal device ∷ verdict_words v)

@@ -1,0 +1,105 @@
+// A node over one device.
+ghost use Rattle.std.specs.Prelude.{◌≡◌, ◌∷◌, [], vec_len, IfErr, MatchResult};
+ghost use Rattle.shard_core.specs.View.{IsSettings};
+ghost use Rattle.core_run.specs.OneDevice.{Started, NotStarted};
+
+use crate::replies::{read_reply, write_reply};
+use disk_model::Disk;
+use line_proto::{Command, Reply, Store};
+use shard_core::{Asked, Settings, Shard, StartCause, StartRefusal};
+use std::alloc::Global;
+use std::marker::Model;
+
+/// The devices of a node. At present it has one.
+#[derive(Drop)]
+pub struct Node<D: Disk> {
+    shard: Shard<D>,
+    // The emptied list of the disks, so that handing them back takes no memory.
+    spare: Vec<D>,
+}
+
+/// A device that a node can't be started with, and all of its disks, in order.
+pub struct NodeRefusal<D> {
+    pub device: u16,
+    pub cause: StartCause,
+    pub disks: Vec<D>,
+}
+
+impl<D: Disk> Model for Node<D> {
+    ghost use Rattle.std.specs.Prelude.{◌≡◌, ◌≤◌, vec_len, vec_capacity};
+    ghost use Rattle.shard_core.specs.View.{ShardView};
+
+    ghost Value = { ShardView D };
+
+    ghost view = { λ n. n.shard };
+
+    ghost invariant = { λ n. (vec_len n.spare ≡ 0) × (1 ≤ vec_capacity n.spare) × (n.shard.geometry.device ≡ 0) × (n.shard.geometry.devices ≡ 1) };
+}
+
+impl<D: Disk> Node<D> {
+    /// Starts each device. A refusal tells the first device that isn't taken into use and why, and hands the disks back.
+    pub fn start(alloc: Global, mut disks: Vec<D>, set: Settings) -> Result<Node<D>, NodeRefusal<D>>
+        requires disks { vec_len disks ≡ 1 }
+        requires set { IsSettings set }
+        ensures begun { (disk : D) → disks.items ≡ disk ∷ [] → MatchResult result (λ node. Started D.extent D.tells D.seen D.moment D.had D.left_since D.faults set disk node)
+            (λ refusal. (new : D) × (refusal.disks.items ≡ new ∷ []) × NotStarted D.extent D.tells D.seen D.moment D.had D.left_since D.faults refusal.cause disk new) }
+        ensures which { IfErr result (λ refusal. refusal.device ≡ 0) }
+    {
+        let Some(disk) = disks.pop() else {
+            unreachable!();
+        };
+        let asked = Asked {
+            device: 0,
+            devices: 1,
+        };
+        match Shard::start(alloc, disk, asked, set) {
+            Ok(shard) => Ok(Node {
+                shard,
+                spare: disks,
+            }),
+            Err(StartRefusal { disk, cause }) => {
+                disks.push_reserved(disk);
+                Err(NodeRefusal {
+                    device: 0,
+                    cause,
+                    disks,
+                })
+            }
+        }
+    }
+
+    /// Gives the disks back, in order.
+    pub fn stop(self) -> Vec<D>
+        ensures { result.items ≡ self.disk ∷ [] }
+    {
+        let Node { shard, mut spare } = self;
+        spare.push_reserved(shard.stop());
+        spare
+    }
+}
+
+impl<D: Disk> Store for Node<D> {
+    ghost use Rattle.core_run.specs.OneDevice.{ActsAlone, TendsAlone};
+
+    ghost acts = { ActsAlone D.faults };
+
+    ghost tends = { TendsAlone D.faults };
+
+    fn act(&mut self, alloc: Global, command: &Command, now: u64) -> Reply {
+        match command {
+            Command::Put {
+                digest,
+                ttl,
+                expect,
+                payload,
+            } => write_reply(
+                self.shard
+                    .put(alloc, digest, *ttl, payload.as_slice(), *expect, now),
+            ),
+            Command::Get(digest) => read_reply(self.shard.get(alloc, digest, now)),
+            _ => unreachable!(),
+        }
+    }
+
+    fn tend(&mut self, _alloc: Global) {}
+}

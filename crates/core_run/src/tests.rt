@@ -1,0 +1,82 @@
+use super::*;
+use block_format::Geometry;
+use disk_model::{Disk, MemDisk};
+use line_proto::{Command, Reply, Store};
+use rec_format::{Bytes, Digest, Stamp};
+use shard_core::{Settings, format_disk};
+use std::alloc::Global;
+use std::process::Abort;
+use std::test::Fail;
+
+const SHAPE: Geometry = Geometry {
+    block_size: 16_384,
+    blocks: 16,
+    device: 0,
+    devices: 1,
+};
+
+/// The bytes of a device of this shape.
+const DEVICE_BYTES: u64 = 266_240;
+
+const SET: Settings = Settings {
+    sprigs: 16,
+    lwm: 0,
+    pending: 64,
+    cache: 0,
+    commit: false,
+    raid_age: 0,
+};
+
+/// The bytes 0 to 19.
+const RISING: Digest = Digest([
+    0, 1, 2, 3, 4, 5, 6, 7, 8, 9, 10, 11, 12, 13, 14, 15, 16, 17, 18, 19,
+]);
+
+fn formatted(rt: &impl Abort, alloc: Global) -> Result<MemDisk, Fail> {
+    let mut disk = MemDisk::new(alloc, DEVICE_BYTES)?;
+    assert!(rt; disk.len() == DEVICE_BYTES);
+    format_disk(&mut disk, &SHAPE)?;
+    Ok(disk)
+}
+
+fn started(alloc: Global, disk: MemDisk) -> Result<Node<MemDisk>, Fail> {
+    match Node::start(alloc, vec![in alloc; disk]?, SET) {
+        Ok(node) => Ok(node),
+        Err(
+            NodeRefusal {
+                device: _,
+                cause: _,
+                disks: _,
+            },
+        ) => Err(Fail::new("it isn't taken into use")),
+    }
+}
+
+#[test]
+fn a_record_is_put_and_seen(rt: HostRuntime) -> Result<(), Fail> {
+    let alloc = rt.alloc();
+    let mut node = started(alloc, formatted(&rt, alloc)?)?;
+    let get = Command::Get(RISING);
+    assert!(rt; matches!(&node.act(alloc, &get, 1000), Reply::Nothing));
+    let put = Command::Put {
+        digest: RISING,
+        ttl: 0,
+        expect: None,
+        payload: Bytes::from_vec(b"hello".as_slice().to_vec(alloc)?),
+    };
+    assert!(rt; matches!(&node.act(alloc, &put, 1000), Reply::Done2 { a: 1, b: 1000 }));
+    node.tend(alloc);
+    let Reply::Val {
+        stamp,
+        void,
+        payload,
+    } = node.act(alloc, &get, 1000)
+    else {
+        return Err(Fail::new("it isn't seen"));
+    };
+    assert!(rt; stamp == (Stamp { lut: 1000, gen_: 1 }));
+    assert_eq!(rt; void, 0);
+    assert!(rt; payload.as_slice() == b"hello".as_slice());
+    assert_eq!(rt; node.stop().len(), 1);
+    Ok(())
+}
