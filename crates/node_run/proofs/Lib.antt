@@ -1,0 +1,10 @@
+pub mod States
+pub mod Lines
+pub mod Replies
+pub mod Turns
+pub mod Ends
+pub mod Whole
+pub mod Weaker
+pub mod Holds
+pub mod Refused
+pub mod Alone
