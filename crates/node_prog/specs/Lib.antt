@@ -1,0 +1,3 @@
+pub mod Asking
+pub mod Promises
+pub mod Concluding

@@ -1,0 +1,58 @@
+// A run: the device is started, the session served, and the disk handed back.
+ghost use Rattle.std.specs.Prelude.{◌≡◌, ◌∷◌, [], vec_len};
+ghost use Rattle.shard_core.specs.View.{IsSettings};
+ghost use Rattle.shard_core.specs.Starting.{OnlyRead};
+ghost use Rattle.node_prog.specs.Promises.{Runs};
+
+use crate::outcome::{Outcome, after_refusal, after_session};
+use core_run::{Node, NodeRefusal};
+use disk_model::Disk;
+use io_traits::{Clock, Sink, Source};
+use node_session::session;
+use shard_core::Settings;
+use std::alloc::Global;
+
+// The most bytes that a run takes from its source.
+const INPUT_LIMIT: u64 = 1 << 40;
+
+/// Starts the device, serves the source's lines to its end or to `quit`, and hands the disk back.
+pub fn run_with<D: Disk, L: Source + Sink, C: Clock>(
+    alloc: Global,
+    set: Settings,
+    disks: Vec<D>,
+    link: &mut L,
+    clock: &mut C,
+) -> Outcome<D>
+    requires disks { vec_len disks ≡ 1 }
+    requires set { IsSettings set }
+    ensures replies { (disk : D) → disks.items ≡ disk ∷ [] → (new : D) × (result.disks.items ≡ new ∷ [])
+        × Runs set (D.tells disk) (D.seen disk) (OnlyRead D.extent D.tells D.seen D.moment D.had D.left_since D.faults disk new) result.status result.note (C.times clock.old)
+        (record { taken = L.taken link.old; left = L.left link.old; written = L.written link.old; source = L.source_faults link.old; sink = L.sink_faults link.old; disk = D.faults disk })
+        (record { taken = L.taken link.new; left = L.left link.new; written = L.written link.new; source = L.source_faults link.new; sink = L.sink_faults link.new; disk = D.faults new }) }
+{
+    match Node::start(alloc, disks, set) {
+        Ok(mut node) => {
+            let ended = session(alloc, &mut node, link, clock, INPUT_LIMIT);
+            let (status, note) = after_session(ended);
+            Outcome {
+                status,
+                note,
+                disks: node.stop(),
+            }
+        }
+        Err(
+            NodeRefusal {
+                device: _,
+                cause,
+                disks,
+            },
+        ) => {
+            let (status, note) = after_refusal(&cause);
+            Outcome {
+                status,
+                note,
+                disks,
+            }
+        }
+    }
+}
