@@ -1,0 +1,6 @@
+pub mod Digests
+pub mod Lists
+pub mod Parted
+pub mod Order
+pub mod Found
+pub mod Laws

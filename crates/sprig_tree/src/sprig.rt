@@ -1,0 +1,167 @@
+// A sprig in one sorted row of entries, which is searched by halving.
+ghost use Rattle.std.specs.Prelude.{◌≡◌, ◌+◌, ◌-◌, ◌≤◌, ◌<◌, ◌^◌, [], length, max, Some, None, IsSome, IsOk, IfOk, IfErr, OnOk, OnErr, is_some, slice_get, if◌then◌else◌};
+ghost use Rattle.std.specs.Option.{option_copied};
+ghost use Rattle.sprig_tree.specs.Entries.{IsInDigestOrder, entry_of, entry_after, with_entry, with_replaced, without_digest};
+ghost use Rattle.sprig_tree.specs.Search.{IsPlaceOf, IsGapFor};
+
+use crate::NoMemory;
+use rec_format::{Digest, Entry};
+use std::alloc::Global;
+use std::marker::Model;
+
+/// The entries of one sprig and its high time, in milliseconds.
+#[derive(Drop)]
+pub struct Sprig {
+    row: Vec<Entry>,
+    high: u64,
+}
+
+impl Model for Sprig {
+    ghost use Rattle.std.specs.Prelude.{◌-◌, vec_len, vec_capacity};
+    ghost use Rattle.sprig_tree.specs.State.{SprigState};
+    ghost use Rattle.sprig_tree.specs.Entries.{IsInDigestOrder};
+
+    ghost Value = { SprigState };
+
+    ghost view = { λ s. record { entries = s.row.items; hw = s.high; spare = vec_capacity s.row - vec_len s.row } };
+
+    ghost invariant = { λ s. IsInDigestOrder s.row.items };
+}
+
+impl Sprig {
+    /// An empty sprig, which has given no time and has no room. It keeps the allocator.
+    pub fn new(alloc: Global) -> Sprig
+        ensures { result ≡ record { entries = []; hw = 0; spare = 0 } }
+    {
+        Sprig {
+            row: Vec::new(alloc),
+            high: 0,
+        }
+    }
+
+    /// Makes room for `n` entries more, or answers want of memory and leaves everything as it was.
+    pub fn reserve(&mut self, n: u32) -> Result<(), NoMemory>
+        ensures room { OnOk result (n ≤ self.new.spare) }
+        ensures grows { self.old.spare ≤ self.new.spare }
+        ensures entries { self.new.entries ≡ self.old.entries }
+        ensures high { self.new.hw ≡ self.old.hw }
+        ensures err { OnErr result (self.new ≡ self.old) }
+
+        // It can fail only where that room was missing.
+        ensures enough { n ≤ self.old.spare → IsOk result }
+    {
+        self.row.reserve(n as usize)
+    }
+
+    /// Puts an entry of a digest that has none into its place, in room that was reserved.
+    pub fn insert(&mut self, entry: Entry)
+        requires room { 1 ≤ self.old.spare }
+        requires absent { entry_of entry.digest self.old.entries ≡ None }
+        ensures { self.new ≡ record {
+          entries = with_entry entry self.old.entries;
+          hw = max self.old.hw entry.stamp.lut;
+          spare = self.old.spare - 1;
+        } }
+    {
+        let Err(at) = self.search(&entry.digest) else {
+            unreachable!()
+        };
+        self.row.insert(at, entry).unwrap();
+        self.high = self.high.max(entry.stamp.lut);
+    }
+
+    /// The entry of a digest.
+    pub fn find(&self, digest: &Digest) -> Option<Entry>
+        ensures value { result ≡ entry_of digest.now self.now.entries }
+        ensures sorted { IsInDigestOrder self.now.entries }
+    {
+        match self.search(digest) {
+            Ok(at) => Some(self.row[at]),
+            Err(_) => None,
+        }
+    }
+
+    /// Puts an entry in place of the one of its digest, which there must be.
+    pub fn replace(&mut self, entry: Entry)
+        requires { IsSome (entry_of entry.digest self.old.entries) }
+        ensures { self.new ≡ record self.old {
+          entries = with_replaced entry self.old.entries;
+          hw = max self.old.hw entry.stamp.lut;
+        } }
+    {
+        let Ok(at) = self.search(&entry.digest) else {
+            unreachable!()
+        };
+        self.row[at] = entry;
+        self.high = self.high.max(entry.stamp.lut);
+    }
+
+    /// Takes the entry of a digest out, where there is one. Its room is spare from then on, and the
+    /// high time stays.
+    pub fn remove(&mut self, digest: &Digest) -> Option<Entry>
+        ensures value { result ≡ entry_of digest.now self.old.entries }
+        ensures rest { self.new ≡ record self.old {
+          entries = without_digest digest.now self.old.entries;
+          spare = self.old.spare + (if is_some result then 1 else 0);
+        } }
+    {
+        match self.search(digest) {
+            Ok(at) => Some(self.row.remove(at)),
+            Err(_) => None,
+        }
+    }
+
+    /// The first entry after a digest, which need not have one itself; of no digest, the first of all.
+    pub fn next_after(&self, digest: Option<&Digest>) -> Option<Entry>
+        ensures value { result ≡ entry_after (option_copied digest.entry) self.now.entries }
+        ensures sorted { IsInDigestOrder self.now.entries }
+    {
+        let at = match digest {
+            Some(digest) => self.place_after(digest),
+            None => 0,
+        };
+        self.row.get(at).copied()
+    }
+
+    /// The number of entries.
+    pub fn len(&self) -> u64
+        ensures value { result ≡ length self.now.entries }
+        ensures sorted { IsInDigestOrder self.now.entries }
+    {
+        self.row.len() as u64
+    }
+
+    /// The high time.
+    pub fn hw(&self) -> u64
+        ensures { result ≡ self.now.hw }
+    {
+        self.high
+    }
+
+    /// Raises the high time to this one, if it is below it.
+    pub fn raise_hw(&mut self, time: u64)
+        ensures { self.new ≡ record self.old { hw = max self.old.hw time } }
+    {
+        self.high = self.high.max(time);
+    }
+
+    /// Where the entry of a digest is, or where it would go.
+    fn search(&self, digest: &Digest) -> Result<usize, usize>
+        ensures found { IfOk result (IsPlaceOf digest.now self.now.entries) }
+        ensures absent { IfErr result (IsGapFor digest.now self.now.entries) }
+        ensures sorted { IsInDigestOrder self.now.entries }
+        ensures small { length self.now.entries < 2 ^ 63 }
+    {
+        self.row.binary_search_by_key(digest, |entry| entry.digest)
+    }
+
+    /// Where the first entry after a digest is, or the end.
+    fn place_after(&self, digest: &Digest) -> usize
+        ensures { slice_get self.now.entries result ≡ entry_after (Some digest.now) self.now.entries }
+    {
+        match self.search(digest) {
+            Ok(at) => at + 1,
+            Err(at) => at,
+        }
+    }
+}
