@@ -1,0 +1,4 @@
+pub mod Pairs
+pub mod Lowered
+pub mod Released
+pub mod Laws

@@ -1,0 +1,15 @@
+//! Which copies of records are live in each block of a device, and how many units they take.
+//! Calls but `new` and `reserve` take no memory, and none but `new` is linear in the number of blocks.
+#![tactic(auto)]
+
+mod ledger;
+mod roll;
+#[cfg(test)]
+mod tests;
+
+pub use ledger::Ledger;
+pub use roll::LiveCopy;
+use std::alloc::AllocError;
+
+/// Want of memory.
+pub type NoMemory = AllocError;

@@ -1,0 +1,82 @@
+// The live copies of one block.
+ghost use Rattle.std.specs.Prelude.{◌≡◌, ◌+◌, ◌-◌, ◌≤◌, [], ◌∷◌, ◌++◌, sum_by, None, IsSomeAnd, IsOk, OnOk, OnErr};
+ghost use Rattle.unit_ledger.specs.Rolls.{empty_roll, copy_at, without_unit};
+
+use crate::NoMemory;
+use rec_format::Digest;
+use std::alloc::Global;
+use std::marker::Model;
+
+/// A live copy of a record: whose it is, the unit at which it begins in its block, and how many
+/// units it takes.
+#[derive(Clone, Copy, PartialEq, Eq)]
+pub struct LiveCopy {
+    pub digest: Digest,
+    pub unit: u32,
+    pub units: u32,
+}
+
+/// The live copies of one block, with the sum of their units.
+#[derive(Drop)]
+pub struct Roll {
+    row: Vec<LiveCopy>,
+    sum: u32,
+}
+
+impl Model for Roll {
+    ghost use Rattle.std.specs.Prelude.{◌≡◌, ◌-◌, sum_by, vec_len, vec_capacity};
+    ghost use Rattle.unit_ledger.specs.Rolls.{BlockRoll, HaveOwnUnits};
+
+    ghost Value = { BlockRoll };
+
+    ghost view = { λ r. record { copies = r.row.items; spare = vec_capacity r.row - vec_len r.row } };
+
+    ghost invariant = { λ r. (r.sum ≡ sum_by (λ c. c.units) r.row.items) × HaveOwnUnits r.row.items };
+}
+
+impl Roll {
+    pub fn new(alloc: Global) -> Roll
+        ensures { result ≡ empty_roll }
+    {
+        Roll {
+            row: Vec::new(alloc),
+            sum: 0,
+        }
+    }
+
+    pub fn reserve(&mut self) -> Result<(), NoMemory>
+        ensures room { OnOk result (1 ≤ self.new.spare) }
+        ensures more { self.old.spare ≤ self.new.spare }
+        ensures copies { self.new.copies ≡ self.old.copies }
+        ensures err { OnErr result (self.new ≡ self.old) }
+        ensures enough { 1 ≤ self.old.spare → IsOk result }
+    {
+        self.row.reserve(1)
+    }
+
+    pub fn add(&mut self, copy: LiveCopy)
+        requires room { 1 ≤ self.old.spare }
+        requires absent { copy_at copy.unit self.old.copies ≡ None }
+        requires fits { sum_by (λ c. c.units) self.old.copies + copy.units ≤ 65278 }
+        ensures { self.new ≡ record { copies = self.old.copies ++ copy ∷ []; spare = self.old.spare - 1 } }
+    {
+        self.sum += copy.units;
+        self.row.push_reserved(copy);
+    }
+
+    pub fn drop_live(&mut self, unit: u32, units: u32) -> u32
+        requires { IsSomeAnd (copy_at unit self.old.copies) (λ c. c.units ≡ units) }
+        ensures left { result ≡ sum_by (λ c. c.units) self.new.copies }
+        ensures rest { self.new ≡ record { copies = without_unit unit self.old.copies; spare = self.old.spare + 1 } }
+    {
+        self.sum -= units;
+        self.row.retain(|copy| copy.unit != unit);
+        self.sum
+    }
+
+    pub fn used(&self) -> u32
+        ensures { result ≡ sum_by (λ c. c.units) self.now.copies }
+    {
+        self.sum
+    }
+}
