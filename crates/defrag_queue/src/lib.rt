@@ -1,0 +1,14 @@
+//! The queue of a device's blocks that wait to be vacated: those of which so little is live that
+//! their records are written again elsewhere. Calls but `new` take no memory.
+#![tactic(auto)]
+
+mod links;
+mod queue;
+#[cfg(test)]
+mod tests;
+
+pub use queue::Queue;
+use std::alloc::AllocError;
+
+/// Want of memory.
+pub type NoMemory = AllocError;
