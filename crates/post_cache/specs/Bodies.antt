@@ -1,0 +1,40 @@
+-- The bodies of the blocks that were written last.
+use Rattle.std.specs.Prelude.{◌≡◌, ℕ, ◌≤◌, not, ◌==◌, nat_lt, if◌then◌else◌, List, [], ◌∷◌, ◌++◌, length, filter, find, drop, Option, None, option_map}
+
+-- a block, and the bytes of its body
+pub record KeptBody : Type 0 where
+  pub block : ℕ
+  pub body : List ℕ
+
+-- the bodies that are kept, oldest first, and how many may be
+pub record CacheState : Type 0 where
+  pub kept : List KeptBody
+  pub limit : ℕ
+
+-- what is kept of a block, and its body
+abbrev pub kept_at : ℕ → List KeptBody → Option KeptBody
+kept_at block kept = find (λ k. k.block == block) kept
+
+abbrev pub body_of : ℕ → List KeptBody → Option (List ℕ)
+body_of block kept = option_map (λ k. k.body) (kept_at block kept)
+
+abbrev pub without_block : ℕ → List KeptBody → List KeptBody
+without_block block kept = filter (λ k. not (k.block == block)) kept
+
+-- the oldest goes where there is one too many
+abbrev pub within_limit : ℕ → List KeptBody → List KeptBody
+within_limit limit kept = if nat_lt limit (length kept) then drop 1 kept else kept
+
+-- the new body stands last, and an older one of the same block is gone
+abbrev pub with_body : (limit block : ℕ) → List ℕ → List KeptBody → List KeptBody
+with_body limit block body kept = within_limit limit (without_block block kept ++ (record { block = block; body = body }) ∷ [])
+
+-- no block is kept twice
+abbrev pub HaveOwnBlocks : List KeptBody → Type 0
+HaveOwnBlocks [] = Unit {0}
+HaveOwnBlocks (k ∷ ks) = (kept_at k.block ks ≡ None) × HaveOwnBlocks ks
+
+-- what holds of each cache: no more bodies than may be, and each block at most once
+pub record IsCache (s : CacheState) : Type 0 where
+  pub few : length s.kept ≤ s.limit
+  pub own : HaveOwnBlocks s.kept

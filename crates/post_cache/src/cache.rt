@@ -1,0 +1,76 @@
+// The post-write queue as a row of bodies, oldest first.
+ghost use Rattle.std.specs.Prelude.{◌≡◌, [], IfOk, option_map};
+ghost use Rattle.post_cache.specs.Bodies.{body_of, without_block, with_body, IsCache};
+
+use crate::NoMemory;
+use std::alloc::Global;
+use std::marker::Model;
+
+// A block and its body.
+#[derive(Drop)]
+struct Slot {
+    block: u32,
+    body: Vec<u8>,
+}
+
+/// The bodies of the blocks that were written last, first in and first out.
+#[derive(Drop)]
+pub struct Cache {
+    slots: Vec<Slot>,
+    limit: u32,
+}
+
+impl Model for Cache {
+    ghost use Rattle.std.specs.Prelude.{◌<◌, vec_capacity};
+    ghost use Rattle.post_cache.specs.Bodies.{CacheState, IsCache};
+    ghost use Rattle.post_cache.specs.Slots.{bodies_in};
+
+    ghost Value = { CacheState };
+
+    ghost view = { λ c. record { kept = bodies_in c.slots.items; limit = c.limit } };
+
+    ghost invariant = { λ c. IsCache (record { kept = bodies_in c.slots.items; limit = c.limit }) × (c.limit < vec_capacity c.slots) };
+}
+
+impl Cache {
+    /// An empty cache with places for so many bodies, 0 for a cache that keeps none.
+    pub fn new(alloc: Global, blocks: u32) -> Result<Cache, NoMemory>
+        ensures { IfOk result (λ cache. cache ≡ record { kept = []; limit = blocks }) }
+    {
+        // A body is put in before the oldest goes, so there is one place more.
+        let slots = Vec::with_capacity(alloc, blocks as usize + 1)?;
+        Ok(Cache {
+            slots,
+            limit: blocks,
+        })
+    }
+
+    /// Keeps the body of a block in place of an older one of that block. Where there is then one too
+    /// many, the oldest goes.
+    pub fn keep(&mut self, block: u32, body: Vec<u8>)
+        ensures kept { self.new ≡ record { kept = with_body self.old.limit block body.items self.old.kept; limit = self.old.limit } }
+        ensures bounds { IsCache self.new }
+    {
+        self.forget(block);
+        self.slots.push_reserved(Slot { block, body });
+        if self.slots.len() > self.limit as usize {
+            self.slots.remove(0);
+        }
+    }
+
+    /// The body of a block, where it is kept.
+    pub fn peek(&self, block: u32) -> Option<&[u8]>
+        ensures { option_map (λ body. body.now) result ≡ body_of block self.now.kept }
+    {
+        let slot = self.slots.iter().find(|slot| slot.block == block)?;
+        Some(slot.body.as_slice())
+    }
+
+    /// Takes a block and its body out, where it is kept.
+    pub fn forget(&mut self, block: u32)
+        ensures kept { self.new ≡ record { kept = without_block block self.old.kept; limit = self.old.limit } }
+        ensures bounds { IsCache self.new }
+    {
+        self.slots.retain(|slot| slot.block != block);
+    }
+}

@@ -1,0 +1,13 @@
+//! The post-write queue: the bodies of the blocks that were written last, in memory, so that reads of
+//! them need no disk. Only `new` takes memory.
+#![tactic(auto)]
+
+mod cache;
+#[cfg(test)]
+mod tests;
+
+pub use cache::Cache;
+use std::alloc::AllocError;
+
+/// Want of memory.
+pub type NoMemory = AllocError;
