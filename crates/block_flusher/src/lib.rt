@@ -1,0 +1,12 @@
+//! The three writes that a block takes: its gate is closed, its body is written, and its gate is opened. Each is one write and one sync.
+#![tactic(auto)]
+
+mod body;
+mod gates;
+mod place;
+
+pub use body::write_body;
+pub use gates::{close_gate, open_gate};
+
+#[cfg(test)]
+mod tests;

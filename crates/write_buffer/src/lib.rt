@@ -1,0 +1,16 @@
+//! A write buffer: the body of one write block in memory, to which records are appended until it is sealed and
+//! flushed. All its memory is taken when it is made. At every time its bytes are a whole body, followed by zeros.
+#![tactic(auto)]
+
+mod buffer;
+mod parts;
+mod phase;
+#[cfg(test)]
+mod tests;
+
+pub use buffer::Buffer;
+pub use phase::Phase;
+use std::alloc::AllocError;
+
+/// Want of memory.
+pub type NoMemory = AllocError;
