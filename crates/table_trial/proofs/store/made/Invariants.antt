@@ -1,0 +1,4 @@
+use Rattle.table_trial.proofs.store.made.Given as goal
+
+abbrev pub ghost-new : goal.ghost-new
+ghost-new g a = g.opening

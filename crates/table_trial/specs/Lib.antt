@@ -1,0 +1,3 @@
+pub mod Piles
+pub mod Notes
+pub mod Laws
