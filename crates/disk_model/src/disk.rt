@@ -8,7 +8,8 @@ ghost use Rattle.fault_count.specs.Counts.{Counted, IsCaused};
 #[derive(Clone, Copy, Debug, PartialEq, Eq)]
 pub struct DiskFault;
 
-/// Storage of a fixed size. What was written may be lost or torn by a crash until a sync has gone well.
+/// Storage of a fixed size. What was written may be lost or torn by a crash until a sync has gone well. No call makes an honest disk
+/// of one that isn't, nor the other way round.
 pub trait Disk: Drop {
     /// The size in bytes.
     ghost extent: { Self → ℕ };
@@ -47,6 +48,7 @@ pub trait Disk: Drop {
         ensures bytes { tells self.old → tells self.new × (seen self.new ≡ seen self.old) }
         ensures images { Within (may_leave self.old) (left_since self.new (moment self.old)) }
         ensures honest { IsHonest tells seen may_leave self.old → IsHonest tells seen may_leave self.new }
+        ensures was_honest { IsHonest tells seen may_leave self.new → IsHonest tells seen may_leave self.old }
         ensures time { Advances (moment self.old) (had self.old) (had self.new) (left_since self.old) (left_since self.new) }
         ensures cause { IsCaused (faults self.old) (faults self.new) result }
         ensures count { Counted (calls self.old) (calls self.new) }
@@ -61,6 +63,7 @@ pub trait Disk: Drop {
         ensures more { Within (may_leave self.new) (may_leave self.old) }
         ensures loose { OnOk result (Loosens place (length bytes.now) (may_leave self.old) (may_leave self.new)) }
         ensures honest { IsHonest tells seen may_leave self.old → IsHonest tells seen may_leave self.new }
+        ensures was_honest { IsHonest tells seen may_leave self.new → IsHonest tells seen may_leave self.old }
         ensures time { Advances (moment self.old) (had self.old) (had self.new) (left_since self.old) (left_since self.new) }
         ensures cause { IsCaused (faults self.old) (faults self.new) result }
         ensures count { Counted (calls self.old) (calls self.new) }
@@ -73,6 +76,7 @@ pub trait Disk: Drop {
         ensures failed { tells self.old → OnErr result (Within (may_leave self.old) (left_since self.new (moment self.old))) }
         ensures images { IsHonest tells seen may_leave self.old → Within (may_leave self.old) (left_since self.new (moment self.old)) }
         ensures honest { IsHonest tells seen may_leave self.old → IsHonest tells seen may_leave self.new }
+        ensures was_honest { IsHonest tells seen may_leave self.new → IsHonest tells seen may_leave self.old }
         ensures time { Advances (moment self.old) (had self.old) (had self.new) (left_since self.old) (left_since self.new) }
         ensures cause { IsCaused (faults self.old) (faults self.new) result }
         ensures count { Counted (calls self.old) (calls self.new) }

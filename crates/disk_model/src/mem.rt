@@ -289,6 +289,7 @@ impl Disk for MemDisk {
         ensures bytes { ⟦<MemDisk as Disk>⟧.tells self.old → ⟦<MemDisk as Disk>⟧.tells self.new × (⟦<MemDisk as Disk>⟧.seen self.new ≡ ⟦<MemDisk as Disk>⟧.seen self.old) }
         ensures images { Within (⟦<MemDisk as Disk>⟧.may_leave self.old) (⟦<MemDisk as Disk>⟧.left_since self.new (⟦<MemDisk as Disk>⟧.moment self.old)) }
         ensures honest { IsHonest ⟦<MemDisk as Disk>⟧.tells ⟦<MemDisk as Disk>⟧.seen ⟦<MemDisk as Disk>⟧.may_leave self.old → IsHonest ⟦<MemDisk as Disk>⟧.tells ⟦<MemDisk as Disk>⟧.seen ⟦<MemDisk as Disk>⟧.may_leave self.new }
+        ensures was_honest { IsHonest ⟦<MemDisk as Disk>⟧.tells ⟦<MemDisk as Disk>⟧.seen ⟦<MemDisk as Disk>⟧.may_leave self.new → IsHonest ⟦<MemDisk as Disk>⟧.tells ⟦<MemDisk as Disk>⟧.seen ⟦<MemDisk as Disk>⟧.may_leave self.old }
         ensures time { Advances (⟦<MemDisk as Disk>⟧.moment self.old) (⟦<MemDisk as Disk>⟧.had self.old) (⟦<MemDisk as Disk>⟧.had self.new) (⟦<MemDisk as Disk>⟧.left_since self.old) (⟦<MemDisk as Disk>⟧.left_since self.new) }
         ensures cause { IsCaused (⟦<MemDisk as Disk>⟧.faults self.old) (⟦<MemDisk as Disk>⟧.faults self.new) result }
         ensures count { Counted (⟦<MemDisk as Disk>⟧.calls self.old) (⟦<MemDisk as Disk>⟧.calls self.new) }
@@ -322,6 +323,7 @@ impl Disk for MemDisk {
         ensures more { Within (⟦<MemDisk as Disk>⟧.may_leave self.new) (⟦<MemDisk as Disk>⟧.may_leave self.old) }
         ensures loose { OnOk result (Loosens place (length bytes.now) (⟦<MemDisk as Disk>⟧.may_leave self.old) (⟦<MemDisk as Disk>⟧.may_leave self.new)) }
         ensures honest { IsHonest ⟦<MemDisk as Disk>⟧.tells ⟦<MemDisk as Disk>⟧.seen ⟦<MemDisk as Disk>⟧.may_leave self.old → IsHonest ⟦<MemDisk as Disk>⟧.tells ⟦<MemDisk as Disk>⟧.seen ⟦<MemDisk as Disk>⟧.may_leave self.new }
+        ensures was_honest { IsHonest ⟦<MemDisk as Disk>⟧.tells ⟦<MemDisk as Disk>⟧.seen ⟦<MemDisk as Disk>⟧.may_leave self.new → IsHonest ⟦<MemDisk as Disk>⟧.tells ⟦<MemDisk as Disk>⟧.seen ⟦<MemDisk as Disk>⟧.may_leave self.old }
         ensures time { Advances (⟦<MemDisk as Disk>⟧.moment self.old) (⟦<MemDisk as Disk>⟧.had self.old) (⟦<MemDisk as Disk>⟧.had self.new) (⟦<MemDisk as Disk>⟧.left_since self.old) (⟦<MemDisk as Disk>⟧.left_since self.new) }
         ensures cause { IsCaused (⟦<MemDisk as Disk>⟧.faults self.old) (⟦<MemDisk as Disk>⟧.faults self.new) result }
         ensures count { Counted (⟦<MemDisk as Disk>⟧.calls self.old) (⟦<MemDisk as Disk>⟧.calls self.new) }
@@ -357,6 +359,7 @@ impl Disk for MemDisk {
         ensures failed { ⟦<MemDisk as Disk>⟧.tells self.old → OnErr result (Within (⟦<MemDisk as Disk>⟧.may_leave self.old) (⟦<MemDisk as Disk>⟧.left_since self.new (⟦<MemDisk as Disk>⟧.moment self.old))) }
         ensures images { IsHonest ⟦<MemDisk as Disk>⟧.tells ⟦<MemDisk as Disk>⟧.seen ⟦<MemDisk as Disk>⟧.may_leave self.old → Within (⟦<MemDisk as Disk>⟧.may_leave self.old) (⟦<MemDisk as Disk>⟧.left_since self.new (⟦<MemDisk as Disk>⟧.moment self.old)) }
         ensures honest { IsHonest ⟦<MemDisk as Disk>⟧.tells ⟦<MemDisk as Disk>⟧.seen ⟦<MemDisk as Disk>⟧.may_leave self.old → IsHonest ⟦<MemDisk as Disk>⟧.tells ⟦<MemDisk as Disk>⟧.seen ⟦<MemDisk as Disk>⟧.may_leave self.new }
+        ensures was_honest { IsHonest ⟦<MemDisk as Disk>⟧.tells ⟦<MemDisk as Disk>⟧.seen ⟦<MemDisk as Disk>⟧.may_leave self.new → IsHonest ⟦<MemDisk as Disk>⟧.tells ⟦<MemDisk as Disk>⟧.seen ⟦<MemDisk as Disk>⟧.may_leave self.old }
         ensures time { Advances (⟦<MemDisk as Disk>⟧.moment self.old) (⟦<MemDisk as Disk>⟧.had self.old) (⟦<MemDisk as Disk>⟧.had self.new) (⟦<MemDisk as Disk>⟧.left_since self.old) (⟦<MemDisk as Disk>⟧.left_since self.new) }
         ensures cause { IsCaused (⟦<MemDisk as Disk>⟧.faults self.old) (⟦<MemDisk as Disk>⟧.faults self.new) result }
         ensures count { Counted (⟦<MemDisk as Disk>⟧.calls self.old) (⟦<MemDisk as Disk>⟧.calls self.new) }

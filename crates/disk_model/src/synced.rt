@@ -14,6 +14,7 @@ pub fn write_synced<D: Disk>(disk: &mut D, place: u64, bytes: &[u8]) -> Result<(
     ensures bytes { D.tells disk.old → D.tells disk.new × Torn place (length bytes.now) (D.seen disk.old) (D.seen disk.new) }
     ensures images { IsHonest D.tells D.seen D.may_leave disk.old → TornFrom place (length bytes.now) (D.may_leave disk.old) (D.left_since disk.new (D.moment disk.old)) }
     ensures honest { IsHonest D.tells D.seen D.may_leave disk.old → IsHonest D.tells D.seen D.may_leave disk.new }
+    ensures was_honest { IsHonest D.tells D.seen D.may_leave disk.new → IsHonest D.tells D.seen D.may_leave disk.old }
     ensures time { Advances (D.moment disk.old) (D.had disk.old) (D.had disk.new) (D.left_since disk.old) (D.left_since disk.new) }
     ensures cause { IsCaused (D.faults disk.old) (D.faults disk.new) result }
     ensures count { Counted (D.calls disk.old) (D.calls disk.new) }
