@@ -6,9 +6,9 @@ ghost use Rattle.disk_model.specs.Disk.{IsOnly, IsHonest, TornFrom, Advances};
 ghost use Rattle.block_format.specs.Layout.{IsGeometry, device_end, block_place, body_bytes};
 ghost use Rattle.block_flusher.specs.Images.{IsShut, HasOneBody, OpensOverOneBody, ChangesNoOther};
 
-use crate::place::place_of;
+use crate::place::write_part;
 use block_format::{Geometry, SECTOR_BYTES};
-use disk_model::{Disk, DiskFault, write_synced};
+use disk_model::{Disk, DiskFault};
 
 /// Writes the body of a block whose gate is closed in every image, and syncs. After `Ok` each image has this body. At no moment
 /// does an image have the gate open, or any other byte changed. After a fault some of the body may be there.
@@ -32,11 +32,11 @@ pub fn write_body<D: Disk>(
     ensures shut { IsHonest D.tells D.seen D.may_leave disk.old → IsShut geometry.now block (D.left_since disk.new (D.moment disk.old)) }
     ensures kept { IsHonest D.tells D.seen D.may_leave disk.old → OpensOverOneBody geometry.now block (D.left_since disk.new (D.moment disk.old)) }
     ensures honest { IsHonest D.tells D.seen D.may_leave disk.old → IsHonest D.tells D.seen D.may_leave disk.new }
+    ensures was_honest { IsHonest D.tells D.seen D.may_leave disk.new → IsHonest D.tells D.seen D.may_leave disk.old }
     ensures time { Advances (D.moment disk.old) (D.had disk.old) (D.had disk.new) (D.left_since disk.old) (D.left_since disk.new) }
     ensures cause { IsCaused (D.faults disk.old) (D.faults disk.new) result }
     ensures count { Counted (D.calls disk.old) (D.calls disk.new) }
     ensures len { D.extent disk.new ≡ D.extent disk.old }
 {
-    let place = place_of(geometry, block) + SECTOR_BYTES as u64;
-    write_synced(disk, place, body)
+    write_part(disk, geometry, block, SECTOR_BYTES as u32, body)
 }

@@ -6,9 +6,9 @@ ghost use Rattle.disk_model.specs.Disk.{IsOnly, IsHonest, TornFrom, Advances};
 ghost use Rattle.block_format.specs.Layout.{IsGeometry, device_end, block_place, body_bytes, gate_sector, closed_sector, open_sector};
 ghost use Rattle.block_flusher.specs.Images.{IsShut, IsOpened, HasOneBody, IsBodyOf, OpensOverOneBody, OpensOverBodies, ChangesNoOther};
 
-use crate::place::place_of;
+use crate::place::write_part;
 use block_format::{Geometry, SECTOR_BYTES, write_closed, write_open};
-use disk_model::{Disk, DiskFault, write_synced};
+use disk_model::{Disk, DiskFault};
 
 /// Closes the gate of a block, and syncs. The block has one body in every image, in the body grammar, and keeps it at each
 /// moment. After `Ok` the gate is closed in every image; after a fault it may be open in some, and closed in others.
@@ -28,6 +28,7 @@ pub fn close_gate<D: Disk>(disk: &mut D, geometry: &Geometry, block: u32) -> Res
     ensures kept { IsHonest D.tells D.seen D.may_leave disk.old → OpensOverOneBody geometry.now block (D.left_since disk.new (D.moment disk.old)) }
     ensures readable { IsHonest D.tells D.seen D.may_leave disk.old → OpensOverBodies geometry.now block (D.left_since disk.new (D.moment disk.old)) }
     ensures honest { IsHonest D.tells D.seen D.may_leave disk.old → IsHonest D.tells D.seen D.may_leave disk.new }
+    ensures was_honest { IsHonest D.tells D.seen D.may_leave disk.new → IsHonest D.tells D.seen D.may_leave disk.old }
     ensures time { Advances (D.moment disk.old) (D.had disk.old) (D.had disk.new) (D.left_since disk.old) (D.left_since disk.new) }
     ensures cause { IsCaused (D.faults disk.old) (D.faults disk.new) result }
     ensures count { Counted (D.calls disk.old) (D.calls disk.new) }
@@ -35,7 +36,7 @@ pub fn close_gate<D: Disk>(disk: &mut D, geometry: &Geometry, block: u32) -> Res
 {
     let mut closed = [0; SECTOR_BYTES];
     write_closed(&mut closed);
-    write_synced(disk, place_of(geometry, block), &closed)
+    write_part(disk, geometry, block, 0, &closed)
 }
 
 /// Opens the gate of a block that has one body in every image, and syncs. The body stays that at each moment. After `Ok` the
@@ -54,6 +55,7 @@ pub fn open_gate<D: Disk>(disk: &mut D, geometry: &Geometry, block: u32) -> Resu
     ensures settled { IsHonest D.tells D.seen D.may_leave disk.old → HasOneBody geometry.now block (body_bytes geometry.now block (D.seen disk.old)) (D.left_since disk.new (D.moment disk.old)) }
     ensures kept { IsHonest D.tells D.seen D.may_leave disk.old → OpensOverOneBody geometry.now block (D.left_since disk.new (D.moment disk.old)) }
     ensures honest { IsHonest D.tells D.seen D.may_leave disk.old → IsHonest D.tells D.seen D.may_leave disk.new }
+    ensures was_honest { IsHonest D.tells D.seen D.may_leave disk.new → IsHonest D.tells D.seen D.may_leave disk.old }
     ensures time { Advances (D.moment disk.old) (D.had disk.old) (D.had disk.new) (D.left_since disk.old) (D.left_since disk.new) }
     ensures cause { IsCaused (D.faults disk.old) (D.faults disk.new) result }
     ensures count { Counted (D.calls disk.old) (D.calls disk.new) }
@@ -61,5 +63,5 @@ pub fn open_gate<D: Disk>(disk: &mut D, geometry: &Geometry, block: u32) -> Resu
 {
     let mut opened = [0; SECTOR_BYTES];
     write_open(&mut opened);
-    write_synced(disk, place_of(geometry, block), &opened)
+    write_part(disk, geometry, block, 0, &opened)
 }

@@ -7,6 +7,7 @@ mod place;
 
 pub use body::write_body;
 pub use gates::{close_gate, open_gate};
+pub use place::place_of;
 
 #[cfg(test)]
 mod tests;

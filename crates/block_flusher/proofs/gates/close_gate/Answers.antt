@@ -1,17 +1,15 @@
-use Rattle.std.proofs.Common.{arith}
-use Rattle.block_flusher.proofs.Steps.{size_bounds, stands, no_other, alone_shut}
+use Rattle.std.proofs.Common.{arith, add-zero}
+use Rattle.block_flusher.proofs.Steps.{size_bounds, images_at, stands, alone_shut}
 use Rattle.block_flusher.proofs.gates.close_gate.Goals as goal
 
-pub write_synced-requires : goal.write_synced-requires
-write_synced-requires g c = omega (arith, (size_bounds c.args.geometry.now c.requires.geometry).0, c.place_of.ensures.room, c.write_closed.array_long, c.requires.room)
+pub write_part-requires-clause-within : goal.write_part-requires-clause-within
+write_part-requires-clause-within g c = omega (arith, (size_bounds c.args.geometry.now c.requires.geometry).0, c.write_closed.array_long)
 
 pub returns-clause-gate : goal.returns-clause-gate
-returns-clause-gate g c = λ told. stands c.write_synced.result _ _ _ _ _ _ _ c.place_of.ensures.place c.write_closed.array_long c.write_closed.ensures (c.write_synced.ensures.written told)
+returns-clause-gate g c = λ told. stands c.write_part.result _ _ _ _ _ _ _ (add-zero _) c.write_closed.array_long c.write_closed.ensures (c.write_part.ensures.written told)
 
 pub returns-clause-shut : goal.returns-clause-shut
-returns-clause-shut g c = λ told. alone_shut c.args.geometry.now c.args.block c.write_synced.result _ _ (returns-clause-gate g c told) (c.write_synced.ensures.durable told)
+returns-clause-shut g c = λ told. alone_shut c.args.geometry.now c.args.block c.write_part.result _ _ (returns-clause-gate g c told) (c.write_part.ensures.durable told)
 
-pub returns-clause-others : goal.returns-clause-others
-returns-clause-others g c = λ honest.
-    no_other c.args.geometry.now c.args.block _ _ _ _ (omega (arith, c.place_of.ensures.place))
-    (omega (arith, (size_bounds c.args.geometry.now c.requires.geometry).0, c.place_of.ensures.place, c.write_closed.array_long)) (c.write_synced.ensures.images honest)
+pub returns-clause-images : goal.returns-clause-images
+returns-clause-images g c = λ honest. images_at _ _ _ _ _ _ (add-zero _) c.write_closed.array_long (c.write_part.ensures.images honest)
