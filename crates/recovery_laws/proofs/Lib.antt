@@ -1,0 +1,9 @@
+pub mod Images
+pub mod Surviving
+pub mod Growing
+pub mod Writing
+pub mod ColdOrder
+pub mod Cold
+pub mod ColdLogs
+pub mod ColdVersions
+pub mod ColdStart

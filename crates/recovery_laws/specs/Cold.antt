@@ -1,0 +1,24 @@
+-- Crate recovery_laws. What is found of a digest, copy by copy.
+use Rattle.std.specs.Prelude.{ℕ, max, ◌==◌, List, [], ◌∷◌, Option, Some, None, if◌then◌else◌}
+use Rattle.rec_format.specs.declared.version.Digest.{Digest}
+use Rattle.rec_format.specs.declared.version.Version.{Version}
+use Rattle.rec_format.specs.Places.{same_digest}
+use Rattle.rec_format.specs.Versions.{is_later}
+use Rattle.rec_format.specs.Book.{Setup}
+use Rattle.rec_format.specs.Device.{part_of}
+use Rattle.block_format.specs.Copies.{Copy}
+
+-- the later of two versions, of equal ones the first
+abbrev pub later_of : Option Version → Version → Version
+later_of None v = v
+later_of (Some found) v = if is_later v found then v else found
+
+-- what is found of a digest behind one copy more
+abbrev pub cold_after : Digest → Option Version → Copy → Option Version
+cold_after digest found c = if same_digest digest c.digest then Some (later_of found c.version) else found
+
+-- the greatest last update time of the copies of a part, 0 where there are none
+abbrev pub copies_high : Setup → (part : ℕ) → List Copy → ℕ
+copies_high setup part [] = 0
+copies_high setup part (c ∷ copies) =
+    if part_of setup c.digest == part then max c.version.stamp.lut (copies_high setup part copies) else copies_high setup part copies

@@ -1,0 +1,3 @@
+pub mod Orderly
+pub mod Cold
+pub mod Writes
