@@ -8,12 +8,19 @@ use Rattle.rec_format.specs.declared.version.Stamp.{Stamp}
 use Rattle.rec_format.specs.declared.version.Version.{Version}
 use Rattle.rec_format.specs.Versions.{IsVersion, stamp_after, first_stamp, new_stamp, top_number, a_put}
 use Rattle.rec_format.specs.Device.{stamp_of}
+use Rattle.disk_model.specs.Disk.{Images}
+use Rattle.block_format.specs.declared.geometry.Geometry.{Geometry}
+use Rattle.block_flusher.specs.Images.{IsShut}
 use Rattle.shard_core.specs.declared.put.Plan.{Plan}
 use Rattle.shard_core.specs.declared.index.Record.{Record}
 use Rattle.shard_core.specs.Index.{held, Holds}
 use Rattle.shard_core.specs.View.{ShardView, IsWhole, IsRising}
 use Rattle.shard_core.specs.Calls.{IsPlan}
 use Rattle.shard_core.proofs.IndexLemmas.{held_version, AllVersions}
+
+-- the gates of these blocks are closed in each image
+abbrev pub AllShut : Geometry → Images → List ℕ → Type 0
+AllShut g images blocks = AllByRecursion (λ b. IsShut g b images) blocks
 
 -- ---- stamps
 
@@ -76,9 +83,17 @@ module _ {D : Type 0} (shard : ShardView D) (digest : Digest) (units now : ℕ) 
   pub rest_is : shard.free ≡ plan.block ∷ drop 1 shard.free
   rest_is = is.block.1 ∙ ap (λ (l : List ℕ). plan.block ∷ l) (ap (drop 1) (sym is.block.1))
 
-  pub whole_after : {extent : D → ℕ} (index : List Record) (free : List ℕ) → IsWhole extent shard → Holds digest (a_put plan.stamp 0 plan.cover payload) shard.index index → free ≡ drop 1 shard.free
-      → IsWhole extent (record { disk = shard.disk; geometry = shard.geometry; set = shard.set; index = index; free = free; next_number = shard.next_number + 1 })
-  whole_after {extent} index free whole holds rest = record {
+  shut_rest : (images : Images) → AllShut shard.geometry images shard.free → AllShut shard.geometry images (plan.block ∷ drop 1 shard.free)
+  shut_rest images all = subst (λ (l : List ℕ). AllShut shard.geometry images l) rest_is all
+
+  -- its gate is closed
+  pub block_shut : (images : Images) → AllShut shard.geometry images shard.free → IsShut shard.geometry plan.block images
+  block_shut images all = (shut_rest images all).0
+
+  pub whole_after : {extent : D → ℕ} {tells : D → Type 0} {seen : D → List ℕ} {may_leave : D → Images} (index : List Record) (free : List ℕ) → IsWhole extent tells seen may_leave shard
+      → Holds digest (a_put plan.stamp 0 plan.cover payload) shard.index index → free ≡ drop 1 shard.free
+      → IsWhole extent tells seen may_leave (record { disk = shard.disk; geometry = shard.geometry; set = shard.set; index = index; free = free; next_number = shard.next_number + 1 })
+  whole_after {extent} {tells} {seen} {may_leave} index free whole holds rest = record {
     geometry = whole.geometry;
     settings = whole.settings;
     room = whole.room;
@@ -86,6 +101,7 @@ module _ {D : Type 0} (shard : ShardView D) (digest : Digest) (units now : ℕ) 
     rising = subst IsRising (sym rest) rising_rest.1;
     blocks = subst (λ (l : List ℕ). AllByRecursion (λ b. b < shard.geometry.blocks) l) (sym rest) blocks_rest.1;
     number = (omega arith, omega (arith, is.number));
+    shut = λ honest. subst (λ (l : List ℕ). AllShut shard.geometry (may_leave shard.disk) l) (sym rest) (shut_rest (may_leave shard.disk) (whole.shut honest)).1;
   }
     where
       rising_rest : IsRising (plan.block ∷ drop 1 shard.free)

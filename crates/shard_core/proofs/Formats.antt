@@ -10,7 +10,7 @@ use Rattle.block_format.specs.declared.geometry.Geometry.{Geometry}
 use Rattle.block_format.specs.Layout.{IsGeometry, IsClosed, gate_text, gate_sector, block_place, closed_sector, device_end, header_text}
 use Rattle.block_format.specs.Copies.{HasBodies}
 use Rattle.block_format.specs.Recovery.{IsFormatted}
-use Rattle.shard_core.specs.Starting.{AllClosed}
+use Rattle.shard_core.specs.Finding.{AllClosed}
 use Rattle.shard_core.proofs.Room.{size_bounds}
 
 zeros_differ : replicate 16 0 ≢ gate_text

@@ -10,3 +10,10 @@ pub mod Gets
 pub mod Starts
 pub mod Formats
 pub mod Publishing
+pub mod Reading
+pub mod Keeping
+pub mod Scans
+pub mod Beginning
+pub mod Crashing
+pub mod Following
+pub mod Safety

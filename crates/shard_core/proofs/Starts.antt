@@ -1,25 +1,17 @@
 -- What a start reads of a device.
-use Rattle.std.proofs.Common.{◌≡◌, ◌≢◌, inl, inr, ℕ, ◌+◌, ◌-◌, ◌<◌, ◌≤◌, min, true, false, List, [], ◌∷◌, ◌++◌, length, take, drop, replicate, refl, sym, ◌∙◌, ap, subst, arith, append_assoc}
+use Rattle.std.proofs.Common.{◌≡◌, ◌≢◌, inl, inr, ℕ, ◌+◌, ◌-◌, ◌<◌, ◌≤◌, min, true, false, List, ◌++◌, length, take, drop, replicate, refl, sym, ◌∙◌, ap, subst, arith, append_assoc}
 use Rattle.std.specs.Prelude.{nat_le, ◌⊎◌}
 use Rattle.std.proofs.lemmas.Bool.{leb-true, leb-false, cases_lt, cases_eq}
 use Rattle.std.proofs.lemmas.List.{take_all, take-take, take-append-le, take_at, length-append, length-take, length-replicate, drop-replicate, replicate-append-replicate, append-nil}
 use Rattle.block_format.specs.declared.geometry.Geometry.{Geometry}
-use Rattle.block_format.specs.Layout.{IsGeometry, IsHeader, header_text, gate_sector, block_place, device_end}
+use Rattle.block_format.specs.Layout.{IsHeader, header_text, device_end}
 use Rattle.block_format.specs.Refusals.{first_bytes, IsAsked}
 use Rattle.shard_core.specs.declared.start.Asked.{Asked}
 use Rattle.shard_core.specs.declared.start.StartCause.{StartCause}
 use Rattle.shard_core.specs.declared.start.StartCause.TheVariants.{NotFormatted, OtherGeometry}
-use Rattle.std.proofs.Common.{suc, zero, add-one, zero-add}
+use Rattle.std.proofs.Common.{suc, zero}
 use Rattle.std.specs.List.{range_with_len, AllByRecursion}
-use Rattle.std.specs.Prelude.{filter}
-use Rattle.rec_format.specs.Versions.{IsVersion}
-use Rattle.rec_format.specs.Book.{refreshed, cold_book}
-use Rattle.block_format.specs.Recovery.{start_state}
-use Rattle.shard_core.specs.declared.index.Record.{Record}
-use Rattle.shard_core.specs.Index.{held, flag_of, high_of}
-use Rattle.shard_core.specs.View.{ShardView, setup_of, IsRising, IsSettings, IsWhole}
-use Rattle.shard_core.specs.Stands.{Agrees}
-use Rattle.shard_core.proofs.Steps.{filter_all}
+use Rattle.shard_core.specs.View.{IsRising}
 use Rattle.shard_core.specs.Starting.{IsRefused}
 
 -- ---- the first sector
@@ -112,24 +104,7 @@ this_device asked bytes sector g size is header sized same = record {
   size = subst (λ (n : ℕ). device_end g ≤ n) sized same.2;
 }
 
--- ---- gates
-
--- 16 bytes of a gate sector tell whether it is open
-pub same_gate : (g : Geometry) (block : ℕ) (bytes gate : List ℕ) (place : ℕ) → gate ≡ take 16 (drop place bytes) → place ≡ block_place g block → take 16 gate ≡ take 16 (gate_sector g block bytes)
-same_gate g block bytes gate place read is =
-    ap (take 16) (read ∙ ap (λ (p : ℕ). take 16 (drop p bytes)) is) ∙ take-take 16 16 (drop (block_place g block) bytes) (omega arith) ∙ sym (take-take 16 4096 (drop (block_place g block) bytes) (omega arith))
-
 -- ---- the first state
-
-range_more : (a n : ℕ) → range_with_len a (n + 1) ≡ range_with_len a n ++ (a + n) ∷ []
-range_more a n = rw add-one (more a n)
-  where
-    more : (b k : ℕ) → range_with_len b (suc k) ≡ range_with_len b k ++ (b + k) ∷ []
-    more b zero = ap (λ (x : ℕ). x ∷ []) (omega arith)
-    more b (suc k) = ap (λ (l : List ℕ). b ∷ l) (more (b + 1) k ∙ ap (λ (x : ℕ). range_with_len (b + 1) k ++ x ∷ []) (omega arith))
-
-pub blocks_more : (blocks new : List ℕ) (n : ℕ) → blocks ≡ range_with_len 0 n → new ≡ blocks ++ n ∷ [] → new ≡ range_with_len 0 (n + 1)
-blocks_more blocks new n are pushed = pushed ∙ ap (λ (l : List ℕ). l ++ n ∷ []) are ∙ sym (range_more 0 n ∙ ap (λ (x : ℕ). range_with_len 0 n ++ x ∷ []) (zero-add n))
 
 above : (b a n : ℕ) → b < a → AllByRecursion (λ m. b < m) (range_with_len a n)
 above b a zero lt = tt
@@ -142,37 +117,3 @@ range_rises a (suc n) = (above a (a + 1) n (omega arith), range_rises (a + 1) n)
 pub range_below : (a n limit : ℕ) → a + n ≤ limit → AllByRecursion (λ b. b < limit) (range_with_len a n)
 range_below a zero limit le = tt
 range_below a (suc n) limit le = (omega arith, range_below (a + 1) n limit (omega arith))
-
-pub starts_empty : {D : Type 0} (shard : ShardView D) → shard.index ≡ [] → shard.free ≡ range_with_len 0 shard.geometry.blocks → shard.next_number ≡ 1 → Agrees shard (start_state (setup_of shard) [])
-unfolding start_state cold_book refreshed
-starts_empty shard index free next = record {
-  entries = λ digest. ap (held digest) (sym index);
-  covers = λ digest. ap (λ (l : List Record). flag_of (held digest l)) (sym index);
-  times = λ part. ap (high_of shard.geometry.devices shard.set.sprigs part) (sym index);
-  free = all_unused ∙ sym free;
-  next = sym next;
-  rest = record { sealed = tt; numbers = tt; apart = none_taken _ };
-}
-  where
-    kept : (blocks : List ℕ) → AllByRecursion (λ b. true ≡ true) blocks
-    kept [] = tt
-    kept (b ∷ blocks) = (refl, kept blocks)
-
-    all_unused : filter (λ b. true) (filter (λ b. true) (range_with_len 0 shard.geometry.blocks)) ≡ range_with_len 0 shard.geometry.blocks
-    all_unused = ap (filter (λ b. true)) (filter_all (λ b. true) (range_with_len 0 shard.geometry.blocks) (kept _)) ∙ filter_all (λ b. true) (range_with_len 0 shard.geometry.blocks) (kept _)
-
-    none_taken : (blocks : List ℕ) → AllByRecursion (λ c. false ≡ false) blocks
-    none_taken [] = tt
-    none_taken (b ∷ blocks) = (refl, none_taken blocks)
-
-pub whole_at_start : {D : Type 0} (extent : D → ℕ) (shard : ShardView D) → IsGeometry shard.geometry → IsSettings shard.set → device_end shard.geometry ≤ extent shard.disk
-    → shard.index ≡ [] → shard.free ≡ range_with_len 0 shard.geometry.blocks → shard.next_number ≡ 1 → IsWhole extent shard
-whole_at_start extent shard geometry settings room index free next = record {
-  geometry = geometry;
-  settings = settings;
-  room = room;
-  versions = subst (λ (l : List Record). AllByRecursion (λ r. IsVersion r.version) l) (sym index) tt;
-  rising = subst IsRising (sym free) (range_rises 0 shard.geometry.blocks);
-  blocks = subst (λ (l : List ℕ). AllByRecursion (λ b. b < shard.geometry.blocks) l) (sym free) (range_below 0 shard.geometry.blocks shard.geometry.blocks (omega arith));
-  number = (omega (arith, next), omega (arith, next));
-}

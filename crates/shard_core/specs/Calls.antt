@@ -13,7 +13,11 @@ use Rattle.shard_core.specs.declared.refusals.WriteRefusal.TheVariants as write
 use Rattle.shard_core.specs.declared.refusals.ReadRefusal.{ReadRefusal}
 use Rattle.shard_core.specs.declared.refusals.ReadRefusal.TheVariants as read
 use Rattle.shard_core.specs.View.{ShardView, setup_of, IsRising}
-use Rattle.shard_core.specs.Stands.{Agrees}
+use Rattle.shard_core.specs.Stands.{Agrees, IsSafe}
+use Rattle.disk_model.specs.Disk.{Images, IsHonest}
+use Rattle.disk_model.specs.Runs.{OneOf, Leaves}
+use Rattle.rec_format.specs.Steps.{states_through}
+use Rattle.block_format.specs.Recovery.{Survives}
 use Rattle.shard_core.specs.Index.{held, flag_of, high_of, Holds}
 use Rattle.shard_core.specs.declared.put.Plan.{Plan}
 
@@ -39,14 +43,19 @@ abbrev pub read_answer : Result (Option Version) ReadRefusal → Answer
 read_answer (Ok found) = found_version found
 read_answer (Err refusal) = refused (cause_of_read refusal)
 
--- From a state for which the shard stood, one event of this call with this answer may follow, and the shard stands for the state after it.
-pub record Makes {D : Type 0} (faults : D → ℕ) (call : Call) (answer : Answer) (old : ShardView D) (s : State) (new : ShardView D) : Type 0 where
+-- From a state for which the shard stood, one event of this call with this answer may follow, and the shard stands for the state
+-- after it. Over an honest disk that was safe it is safe then, and each image that a crash meanwhile might have left survives the
+-- state before, or one after some of the event's steps.
+pub record Makes {D : Type 0} (tells : D → Type 0) (seen : D → List ℕ) (may_leave : D → Images) (moment : D → ℕ) (had : D → ℕ → Type 0) (left_since : D → ℕ → Images) (faults : D → ℕ) (call : Call) (answer : Answer) (old : ShardView D) (s : State) (new : ShardView D) : Type 0 where
   pub event : Event
   pub is_call : event.call ≡ call
   pub is_answer : event.answer ≡ answer
   pub follows : (told : Bool) → Follows (setup_of old) told s (faults old.disk) event
   pub counted : event.faults_after ≡ faults new.disk
   pub stands : Agrees new (after_event (setup_of old) event s)
+  pub safe : IsHonest tells seen may_leave old.disk → IsSafe may_leave old s → IsSafe may_leave new (after_event (setup_of old) event s)
+  pub leaves : IsHonest tells seen may_leave old.disk → IsSafe may_leave old s
+      → Leaves moment had left_since (OneOf (Survives (setup_of old)) (states_through (setup_of old) event.steps s)) old.disk new.disk
 
 -- ---- what a put finds
 

@@ -2,5 +2,6 @@ pub mod Index
 pub mod View
 pub mod Stands
 pub mod Starting
+pub mod Finding
 pub mod Calls
 pub mod Stored

@@ -1,9 +1,12 @@
 -- Crate shard_core. For which states of the model a shard stands.
-use Rattle.std.specs.Prelude.{◌≡◌, ℕ, ◌<◌, false}
+use Rattle.std.specs.Prelude.{◌≡◌, ℕ, ◌<◌, false, List}
 use Rattle.std.specs.List.{AllByRecursion}
 use Rattle.rec_format.specs.declared.version.Digest.{Digest}
 use Rattle.rec_format.specs.Book.{Book, is_filling, has_buffer}
 use Rattle.rec_format.specs.Device.{State, entry, entry_is_covered, high_time}
+use Rattle.disk_model.specs.Disk.{Images}
+use Rattle.block_format.specs.Recovery.{Survives}
+use Rattle.recovery_laws.specs.Orderly.{IsOrderly}
 use Rattle.shard_core.specs.Index.{held, flag_of, high_of}
 use Rattle.shard_core.specs.View.{ShardView, setup_of}
 
@@ -22,3 +25,8 @@ pub record Agrees {D : Type 0} (shard : ShardView D) (s : State) : Type 0 where
   pub free : s.book.free ≡ shard.free
   pub next : s.book.next_number ≡ shard.next_number
   pub rest : IsAtRest s.book
+
+-- What stands over an honest disk besides: each image that a crash may leave survives the state.
+pub record IsSafe {D : Type 0} (may_leave : D → Images) (shard : ShardView D) (s : State) : Type 0 where
+  pub orderly : IsOrderly s
+  pub images : (c : List ℕ) → may_leave shard.disk c → Survives (setup_of shard) s c

@@ -1,44 +1,73 @@
 -- Crate shard_core. What a start finds, by the bytes that the device reads.
-use Rattle.std.specs.Prelude.{◌≡◌, ℕ, ◌<◌, ◌≤◌, List}
+use Rattle.std.specs.Prelude.{◌≡◌, ℕ, ◌+◌, ◌≤◌, ◌==◌, List, map, filter}
+use Rattle.std.specs.List.{range_with_len}
 use Rattle.fault_count.specs.Counts.{Rose}
-use Rattle.disk_model.specs.Disk.{Images, Advances}
+use Rattle.disk_model.specs.Disk.{Images, Within, IsHonest, Advances}
+use Rattle.rec_format.specs.declared.version.Digest.{Digest}
+use Rattle.rec_format.specs.Places.{device_number}
+use Rattle.rec_format.specs.Policy.{built, unused}
 use Rattle.block_format.specs.declared.geometry.Geometry.{Geometry}
-use Rattle.block_format.specs.Layout.{IsOpen, IsClosed, gate_sector}
-use Rattle.block_format.specs.Refusals.{IsRefusedFor, IsAsked, not_formatted, other_shape}
+use Rattle.block_format.specs.Layout.{Body}
+use Rattle.block_format.specs.Copies.{Copy, HasBodies, copies_of, cold}
+use Rattle.block_format.specs.Recovery.{IsSound, start_state, entries_state, greatest_number}
+use Rattle.block_format.specs.Refusals.{IsRefusedFor, IsAsked, not_formatted, other_shape, damaged_block}
+use Rattle.shard_core.specs.View.{ShardView, setup_of}
+use Rattle.shard_core.specs.Index.{held}
+use Rattle.shard_core.specs.Stands.{Agrees}
 use Rattle.shard_core.specs.declared.start.Asked.{Asked}
 use Rattle.shard_core.specs.declared.start.StartCause.{StartCause}
 use Rattle.shard_core.specs.declared.start.StartCause.TheVariants.{NotFormatted, OtherGeometry, DamagedBlock, Memory, Fault}
 
--- the gates of these first blocks are closed
-abbrev pub AllClosed : Geometry → List ℕ → ℕ → Type 0
-AllClosed g bytes count = (k : ℕ) → k < count → IsClosed (gate_sector g k bytes)
-
--- the lowest block with an open gate
-pub record IsFirstOpen (g : Geometry) (bytes : List ℕ) (block : ℕ) : Type 0 where
-  pub is_there : block < g.blocks
-  pub before : AllClosed g bytes block
-  pub here : IsOpen (gate_sector g block bytes)
-
--- Why these bytes are refused. Until the bodies of a device are read, one with an open gate is refused for its first open
--- block, at place 0. Want of memory and a fault don't rest on the bytes.
+-- Why these bytes are refused. Want of memory and a fault don't rest on the bytes.
 abbrev pub IsRefused : Asked → List ℕ → StartCause → Type 0
 IsRefused asked bytes (NotFormatted first) = IsRefusedFor asked.device asked.devices bytes (not_formatted first)
 IsRefused asked bytes (OtherGeometry kept named size) = (named ≡ asked) × IsRefusedFor asked.device asked.devices bytes (other_shape kept asked.device asked.devices size)
-IsRefused asked bytes (DamagedBlock block place) = (g : Geometry) × IsAsked asked.device asked.devices bytes g × IsFirstOpen g bytes block × (place ≡ 0)
+IsRefused asked bytes (DamagedBlock block place) = IsRefusedFor asked.device asked.devices bytes (damaged_block block place)
 IsRefused asked bytes Memory = Unit {0}
 IsRefused asked bytes Fault = Unit {0}
 
--- the device is of the shape that was asked for, and all of its gates are closed
-pub record Passes (asked : Asked) (bytes : List ℕ) (g : Geometry) : Type 0 where
+-- the device is of the shape that was asked for, and behind its open gates stand these bodies
+pub record Passes (asked : Asked) (bytes : List ℕ) (g : Geometry) (bodies : List Body) : Type 0 where
   pub is_asked : IsAsked asked.device asked.devices bytes g
-  pub closed : AllClosed g bytes g.blocks
+  pub blocks : HasBodies g bytes (range_with_len 0 g.blocks) bodies
 
--- Nothing was written: time goes on, the count of faults doesn't fall, and a disk that tells its bytes tells the same.
-pub record OnlyRead {D : Type 0} (extent : D → ℕ) (tells : D → Type 0) (seen : D → List ℕ) (moment : D → ℕ) (had : D → ℕ → Type 0) (left_since : D → ℕ → Images) (faults : D → ℕ) (old new : D) : Type 0 where
+-- the copies of digests that belong to the device; others are passed over
+abbrev pub own_copies : Geometry → List Copy → List Copy
+own_copies g copies = filter (λ c. device_number g.devices c.digest == g.device) copies
+
+-- What is there behind a start from these bytes, sound or not: the latest copy of each digest of the device; the blocks whose
+-- gate was closed are free. From a sound image the shard stands for the start state of that image.
+pub record Begins {D : Type 0} (asked : Asked) (bytes : List ℕ) (shard : ShardView D) : Type 0 where
+  pub bodies : List Body
+  pub passes : Passes asked bytes shard.geometry bodies
+  pub entries : (digest : Digest) → held digest shard.index ≡ cold digest (own_copies shard.geometry (copies_of bodies))
+  pub free : shard.free ≡ unused built (map (λ b. b.block) bodies) (range_with_len 0 shard.geometry.blocks)
+  pub next : shard.next_number ≡ greatest_number bodies + 1
+  pub sound : (all : List Body) → IsSound (setup_of shard) bytes all → Agrees shard (start_state (setup_of shard) all)
+
+-- Over any disk: these blocks were open and these entries were found, and the shard stands for a start from them.
+pub record StandsForEntries {D : Type 0} (shard : ShardView D) : Type 0 where
+  pub opened : List ℕ
+  pub found : List Copy
+  pub next : ℕ
+  pub agrees : Agrees shard (entries_state (setup_of shard) opened found next)
+
+-- The disk is the one from before at a later time: its moments go on, its count of faults doesn't fall, and its size stays.
+pub record IsLater {D : Type 0} (extent : D → ℕ) (moment : D → ℕ) (had : D → ℕ → Type 0) (left_since : D → ℕ → Images) (faults : D → ℕ) (old new : D) : Type 0 where
+  pub time : Advances (moment old) (had old) (had new) (left_since old) (left_since new)
+  pub count : faults old ≤ faults new
+  pub size : extent new ≡ extent old
+
+-- Nothing was written: time goes on, the count of faults doesn't fall, and a disk that tells its bytes tells the same. An honest
+-- disk stays honest, and a crash meanwhile may leave no image that it might not have left before.
+pub record OnlyRead {D : Type 0} (extent : D → ℕ) (tells : D → Type 0) (seen : D → List ℕ) (may_leave : D → Images) (moment : D → ℕ) (had : D → ℕ → Type 0) (left_since : D → ℕ → Images) (faults : D → ℕ) (old new : D) : Type 0 where
   pub time : Advances (moment old) (had old) (had new) (left_since old) (left_since new)
   pub later : faults old ≤ faults new
   pub size : extent new ≡ extent old
   pub bytes : tells old → tells new × (seen new ≡ seen old)
+  pub honest : IsHonest tells seen may_leave old → IsHonest tells seen may_leave new
+  pub was_honest : IsHonest tells seen may_leave new → IsHonest tells seen may_leave old
+  pub images : IsHonest tells seen may_leave old → Within (may_leave old) (left_since new (moment old))
 
 -- a fault is answered only where the count rose
 abbrev pub FaultRose : StartCause → (before after : ℕ) → Type 0

@@ -1,11 +1,13 @@
 -- Crate shard_core. What is seen of a shard: a device with its index.
 use Rattle.std.specs.Prelude.{◌≡◌, ℕ, ◌+◌, ◌<◌, ◌≤◌, List, [], ◌∷◌}
 use Rattle.std.specs.List.{AllByRecursion}
+use Rattle.disk_model.specs.Disk.{Images, IsHonest}
 use Rattle.rec_format.specs.Versions.{block_capacity, top_number, IsVersion}
 use Rattle.rec_format.specs.Policy.{built}
 use Rattle.rec_format.specs.Book.{Setup}
 use Rattle.block_format.specs.declared.geometry.Geometry.{Geometry}
 use Rattle.block_format.specs.Layout.{IsGeometry, device_end}
+use Rattle.block_flusher.specs.Images.{IsShut}
 use Rattle.shard_core.specs.declared.settings.Settings.{Settings}
 use Rattle.shard_core.specs.declared.index.Record.{Record}
 
@@ -50,8 +52,9 @@ IsRising [] = Unit {0}
 IsRising (n ∷ ns) = AllByRecursion (λ m. n < m) ns × IsRising ns
 
 -- What every shard keeps: its shape and settings are in range, the disk is long enough, the index has versions, the free blocks are blocks of the
--- device, each once and the lowest first, and the next number is at most one above the last.
-pub record IsWhole {D : Type 0} (extent : D → ℕ) (shard : ShardView D) : Type 0 where
+-- device, each once and the lowest first, and the next number is at most one above the last. Over an honest disk no crash leaves the
+-- gate of a free block open.
+pub record IsWhole {D : Type 0} (extent : D → ℕ) (tells : D → Type 0) (seen : D → List ℕ) (may_leave : D → Images) (shard : ShardView D) : Type 0 where
   pub geometry : IsGeometry shard.geometry
   pub settings : IsSettings shard.set
   pub room : device_end shard.geometry ≤ extent shard.disk
@@ -59,6 +62,7 @@ pub record IsWhole {D : Type 0} (extent : D → ℕ) (shard : ShardView D) : Typ
   pub rising : IsRising shard.free
   pub blocks : AllByRecursion (λ b. b < shard.geometry.blocks) shard.free
   pub number : (1 ≤ shard.next_number) × (shard.next_number ≤ top_number + 1)
+  pub shut : IsHonest tells seen may_leave shard.disk → AllByRecursion (λ b. IsShut shard.geometry b (may_leave shard.disk)) shard.free
 
 -- The shape and the settings stay.
 pub record SameShape {D : Type 0} (old new : ShardView D) : Type 0 where

@@ -4,9 +4,9 @@ ghost use Rattle.fault_count.specs.Counts.{Rose};
 ghost use Rattle.disk_model.specs.Disk.{IsOnly, IsHonest, Advances};
 ghost use Rattle.block_format.specs.Layout.{IsGeometry, device_end};
 ghost use Rattle.block_format.specs.Recovery.{IsFormatted};
-ghost use Rattle.shard_core.specs.Starting.{AllClosed};
+ghost use Rattle.shard_core.specs.Finding.{AllClosed};
 
-use crate::publish::place_of_block;
+use block_flusher::place_of;
 use block_format::{Geometry, SECTOR_BYTES, write_closed, write_header};
 use disk_model::{Disk, DiskFault, write_synced};
 
@@ -25,7 +25,7 @@ fn close_gates<D: Disk>(disk: &mut D, geometry: &Geometry) -> Result<(), DiskFau
     let mut gate = [0; SECTOR_BYTES];
     write_closed(&mut gate);
     for block in 0..geometry.blocks {
-        disk.write_at(place_of_block(geometry, block), &gate)?;
+        disk.write_at(place_of(geometry, block), &gate)?;
     }
     Ok(())
 }

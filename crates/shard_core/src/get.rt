@@ -26,7 +26,7 @@ impl<D: Disk> Shard<D> {
     ) -> Result<Option<Version>, ReadRefusal>
         requires named { device_number self.old.geometry.devices digest.now ≡ self.old.geometry.device }
         requires now { now ≤ 2 ^ 61 }
-        ensures makes { (s : State) → Agrees self.old s → Makes D.faults (get_call digest.now now) (read_answer result) self.old s self.new }
+        ensures makes { (s : State) → Agrees self.old s → Makes D.tells D.seen D.may_leave D.moment D.had D.left_since D.faults (get_call digest.now now) (read_answer result) self.old s self.new }
         ensures seen { IfOk result (λ version. version ≡ if_live now (held digest.now self.old.index)) }
         ensures memory { IfErr result (λ refusal. refusal ≡ ReadRefusal.Memory) }
         ensures same { self.new ≡ self.old }

@@ -8,6 +8,7 @@ mod index;
 mod publish;
 mod put;
 mod refusals;
+mod scan;
 mod settings;
 mod shard;
 mod start;

@@ -1,12 +1,14 @@
 // A put: what it finds, what it enters into the index, and the block that it writes.
 ghost use Rattle.std.specs.Prelude.{◌≡◌, ◌-◌, ◌≤◌, ◌^◌, ◌∷◌, ℕ, [], Some, None, length, MatchResult, IfOk, OnOk, OnErr};
-ghost use Rattle.disk_model.specs.Disk.{IsOnly, IsHonest, Advances};
+ghost use Rattle.disk_model.specs.Disk.{IsOnly, IsHonest};
 ghost use Rattle.rec_format.specs.Places.{device_number};
 ghost use Rattle.rec_format.specs.Versions.{units_for, block_capacity, a_put};
 ghost use Rattle.rec_format.specs.Device.{State};
 ghost use Rattle.rec_format.specs.Events.{put_call};
 ghost use Rattle.block_format.specs.Layout.{IsBody};
+ghost use Rattle.block_flusher.specs.Images.{IsShut};
 ghost use Rattle.shard_core.specs.View.{SameShape};
+ghost use Rattle.shard_core.specs.Starting.{IsLater};
 ghost use Rattle.shard_core.specs.Stands.{Agrees};
 ghost use Rattle.shard_core.specs.Index.{held};
 ghost use Rattle.shard_core.specs.Stored.{IsStored, StaysOutside};
@@ -76,6 +78,7 @@ impl<D: Disk> Shard<D> {
         ensures size { IfOk result (λ body. length body.items ≡ self.old.geometry.block_size - 4096) }
         ensures body { IfOk result (λ body. IsBody (block_capacity self.old.geometry.block_size) body.items
             (record { number = self.old.next_number; block = plan.block; records = (digest.now, a_put plan.stamp 0 plan.cover payload.now) ∷ [] })) }
+        ensures shut { IsHonest D.tells D.seen D.may_leave self.old.disk → OnOk result (IsShut self.old.geometry plan.block (D.may_leave self.old.disk)) }
         ensures err { OnErr result (self.new ≡ self.old) }
     {
         let version = new_put(alloc, plan.stamp, plan.cover, payload)?;
@@ -110,9 +113,9 @@ impl<D: Disk> Shard<D> {
         requires expect { expect ≡ None }
         requires size { length payload.now ≤ 2 ^ 31 }
         requires now { now ≤ 2 ^ 61 }
-        ensures makes { (s : State) → Agrees self.old s → Makes D.faults (put_call digest.now ttl expect payload.now now) (write_answer result) self.old s self.new }
+        ensures makes { (s : State) → Agrees self.old s → Makes D.tells D.seen D.may_leave D.moment D.had D.left_since D.faults (put_call digest.now ttl expect payload.now now) (write_answer result) self.old s self.new }
         ensures shape { SameShape self.old self.new }
-        ensures time { Advances (D.moment self.old.disk) (D.had self.old.disk) (D.had self.new.disk) (D.left_since self.old.disk) (D.left_since self.new.disk) }
+        ensures later { IsLater D.extent D.moment D.had D.left_since D.faults self.old.disk self.new.disk }
         ensures bytes { D.tells self.old.disk → D.tells self.new.disk × StaysOutside self.old.geometry self.old.free (D.seen self.old.disk) (D.seen self.new.disk) }
         ensures honest { IsHonest D.tells D.seen D.may_leave self.old.disk → IsHonest D.tells D.seen D.may_leave self.new.disk }
         ensures stored { D.tells self.old.disk → OnOk result (IsStored self.old.geometry digest.now (held digest.now self.new.index) (D.seen self.new.disk)) }

@@ -25,7 +25,7 @@ impl<D: Disk> Model for Shard<D> {
 
     ghost view = { λ s. record { disk = s.disk; geometry = s.geometry; set = s.set; index = s.index; free = s.free.items; next_number = s.next_number } };
 
-    ghost invariant = { λ s. IsWhole D.extent (record { disk = s.disk; geometry = s.geometry; set = s.set; index = s.index; free = s.free.items; next_number = s.next_number }) };
+    ghost invariant = { λ s. IsWhole D.extent D.tells D.seen D.may_leave (record { disk = s.disk; geometry = s.geometry; set = s.set; index = s.index; free = s.free.items; next_number = s.next_number }) };
 }
 
 impl<D: Disk> Shard<D> {

@@ -1,22 +1,20 @@
-// How a device is taken into use: its header, and its gates.
-ghost use Rattle.std.specs.Prelude.{◌≡◌, ◌≤◌, ◌<◌, ◌++◌, [], length, take, replicate, nat_le, IfOk, IfErr, OnErr, IsTrue, ◌↔◌, MatchResult, MatchOption};
-ghost use Rattle.std.specs.List.{range_with_len};
+// How a device is taken into use: its header, and what stands behind its gates.
+ghost use Rattle.std.specs.Prelude.{◌≡◌, ◌≤◌, ◌++◌, ℕ, List, length, take, replicate, nat_le, IfOk, IfErr, OnOk, OnErr, IsTrue, ◌↔◌, MatchResult};
 ghost use Rattle.fault_count.specs.Counts.{Rose};
-ghost use Rattle.block_format.specs.Layout.{IsGeometry, device_end};
+ghost use Rattle.disk_model.specs.Disk.{IsOnly, IsHonest};
+ghost use Rattle.block_format.specs.Layout.{IsGeometry, device_end, Body};
 ghost use Rattle.block_format.specs.Refusals.{IsAsked};
-ghost use Rattle.block_format.specs.Recovery.{start_state};
-ghost use Rattle.shard_core.specs.View.{IsSettings, setup_of};
-ghost use Rattle.shard_core.specs.Stands.{Agrees};
-ghost use Rattle.shard_core.specs.Starting.{Passes, IsRefused, AllClosed, IsFirstOpen, OnlyRead, FaultRose};
+ghost use Rattle.block_format.specs.Recovery.{start_state, IsSound};
+ghost use Rattle.shard_core.specs.View.{IsSettings, IsWhole, setup_of};
+ghost use Rattle.shard_core.specs.Stands.{IsSafe};
+ghost use Rattle.shard_core.specs.Starting.{Begins, StandsForEntries, IsRefused, OnlyRead, FaultRose};
+ghost use Rattle.shard_core.specs.Finding.{IsFinding, HoldsLatest, view_with};
 
-use crate::index::Index;
-use crate::publish::place_of_block;
+use crate::scan::{Finding, scan};
 use crate::{Settings, Shard};
-use block_format::{GATE_BYTES, Geometry, SECTOR_BYTES, is_open, read_header};
+use block_format::{Geometry, SECTOR_BYTES, read_header};
 use disk_model::{Disk, DiskFault};
-use rec_format::NoMemory;
 use std::alloc::Global;
-use std::collections::VecDeque;
 
 /// Which device of how many is started.
 #[derive(Clone, Copy, Debug, PartialEq, Eq)]
@@ -58,7 +56,7 @@ pub struct StartRefusal<D> {
 // The first sector, with zeros past the disk's end, and whether all of it is there.
 fn read_first<D: Disk>(disk: &mut D, out: &mut [u8; SECTOR_BYTES]) -> Result<bool, DiskFault>
     requires { out.old ≡ replicate 4096 0 }
-    ensures read { OnlyRead D.extent D.tells D.seen D.moment D.had D.left_since D.faults disk.old disk.new }
+    ensures read { OnlyRead D.extent D.tells D.seen D.may_leave D.moment D.had D.left_since D.faults disk.old disk.new }
     ensures bytes { D.tells disk.old → IfOk result (λ whole. out.new ≡ take 4096 (D.seen disk.old ++ replicate 4096 0)) }
     ensures whole { IfOk result (λ whole. whole ≡ nat_le 4096 (D.extent disk.old)) }
     ensures cause { OnErr result (Rose (D.faults disk.old) (D.faults disk.new)) }
@@ -70,7 +68,7 @@ fn read_first<D: Disk>(disk: &mut D, out: &mut [u8; SECTOR_BYTES]) -> Result<boo
 
 // The shape by the header, if it is of the device that was asked for and all of it is there.
 fn shape_of<D: Disk>(disk: &mut D, asked: Asked) -> Result<Geometry, StartCause>
-    ensures read { OnlyRead D.extent D.tells D.seen D.moment D.had D.left_since D.faults disk.old disk.new }
+    ensures read { OnlyRead D.extent D.tells D.seen D.may_leave D.moment D.had D.left_since D.faults disk.old disk.new }
     ensures shape { IfOk result (λ g. IsGeometry g × (g.device ≡ asked.device) × (g.devices ≡ asked.devices) × (device_end g ≤ D.extent disk.new)) }
     ensures bytes { D.tells disk.old → MatchResult result (λ g. IsAsked asked.device asked.devices (D.seen disk.old) g) (λ cause. IsRefused asked (D.seen disk.old) cause) }
     ensures cause { IfErr result (λ cause. FaultRose cause (D.faults disk.old) (D.faults disk.new)) }
@@ -114,69 +112,56 @@ fn end_of(geometry: &Geometry) -> u64
     SECTOR_BYTES as u64 + u64::from(geometry.blocks) * u64::from(geometry.block_size)
 }
 
-// The lowest block whose gate is open.
-fn first_open<D: Disk>(disk: &mut D, geometry: &Geometry) -> Result<Option<u32>, DiskFault>
-    requires geometry { IsGeometry geometry.now }
-    requires room { device_end geometry.now ≤ D.extent disk.old }
-    ensures read { OnlyRead D.extent D.tells D.seen D.moment D.had D.left_since D.faults disk.old disk.new }
-    ensures gates { D.tells disk.old → IfOk result (λ found. MatchOption found (AllClosed geometry.now (D.seen disk.old) geometry.now.blocks)
-        (λ block. IsFirstOpen geometry.now (D.seen disk.old) block)) }
-    ensures cause { OnErr result (Rose (D.faults disk.old) (D.faults disk.new)) }
-{
-    for block in 0..geometry.blocks {
-        let mut gate = [0; GATE_BYTES];
-        disk.read_at(place_of_block(geometry, block), &mut gate)?;
-        if is_open(&gate) {
-            return Ok(Some(block));
-        }
-    }
-    Ok(None)
-}
-
-// All blocks, the lowest first.
-fn all_blocks(alloc: Global, count: u32) -> Result<VecDeque<u32>, NoMemory>
-    ensures { IfOk result (λ blocks. blocks.items ≡ range_with_len 0 count) }
-{
-    let mut blocks = VecDeque::new(alloc);
-    for block in 0..count {
-        blocks.push_back(block)?;
-    }
-    Ok(blocks)
-}
-
-// What a device is taken into use with: its shape, and its free blocks, which are all of them.
+// What a device is taken into use with.
 fn examine<D: Disk>(
     alloc: Global,
     disk: &mut D,
     asked: Asked,
-) -> Result<(Geometry, VecDeque<u32>), StartCause>
-    ensures read { OnlyRead D.extent D.tells D.seen D.moment D.had D.left_since D.faults disk.old disk.new }
+) -> Result<(Geometry, Finding), StartCause>
+    ensures read { OnlyRead D.extent D.tells D.seen D.may_leave D.moment D.had D.left_since D.faults disk.old disk.new }
     ensures shape { IfOk result (λ found. IsGeometry found.0 × (found.0.device ≡ asked.device) × (found.0.devices ≡ asked.devices) × (device_end found.0 ≤ D.extent disk.new)) }
-    ensures free { IfOk result (λ found. found.1.items ≡ range_with_len 0 found.0.blocks) }
-    ensures bytes { D.tells disk.old → MatchResult result (λ found. Passes asked (D.seen disk.old) found.0) (λ cause. IsRefused asked (D.seen disk.old) cause) }
+    ensures found { IfOk result (λ found. (opened : List ℕ) × IsFinding found.0 found.0.blocks opened found.1
+        × (D.tells disk.old → IsAsked asked.device asked.devices (D.seen disk.old) found.0 × HoldsLatest found.0 (D.seen disk.old) found.0.blocks opened found.1)) }
+    ensures refused { D.tells disk.old → IfErr result (λ cause. IsRefused asked (D.seen disk.old) cause) }
+    ensures only { D.tells disk.old → OnOk result (IsOnly (D.seen disk.old) (D.may_leave disk.new)) }
     ensures cause { IfErr result (λ cause. FaultRose cause (D.faults disk.old) (D.faults disk.new)) }
 {
-    if disk.sync().is_err() {
+    let Ok(()) = disk.sync() else {
         return Err(StartCause::Fault);
-    }
+    };
     let geometry = match shape_of(disk, asked) {
         Ok(geometry) => geometry,
         Err(cause) => return Err(cause),
     };
-    match first_open(disk, &geometry) {
-        Err(_) => return Err(StartCause::Fault),
-        Ok(Some(block)) => return Err(StartCause::DamagedBlock { block, place: 0 }),
-        Ok(None) => {}
+    match scan(alloc, disk, &geometry) {
+        Ok(finding) => Ok((geometry, finding)),
+        Err(cause) => Err(cause),
     }
-    match all_blocks(alloc, geometry.blocks) {
-        Ok(free) => Ok((geometry, free)),
-        Err(_) => Err(StartCause::Memory),
+}
+
+// The shard that begins with what was found.
+fn begun<D: Disk>(disk: D, geometry: Geometry, set: Settings, finding: Finding) -> Shard<D>
+    requires { IsWhole D.extent D.tells D.seen D.may_leave (view_with disk geometry set finding) }
+    ensures { result ≡ view_with disk geometry set finding }
+{
+    let Finding {
+        index,
+        free,
+        greatest,
+    } = finding;
+    Shard {
+        disk,
+        geometry,
+        set,
+        index,
+        free,
+        next_number: greatest + 1,
     }
 }
 
 impl<D: Disk> Shard<D> {
-    /// Takes a device into use. It syncs first, and reads the header and then each gate; nothing is written. A refusal hands
-    /// the disk back.
+    /// Takes a device into use. It syncs first, and reads the header, then each gate, then the bodies behind the open ones; nothing
+    /// is written. Of each digest that belongs to the device its latest copy is kept. A refusal hands the disk back.
     pub fn start(
         alloc: Global,
         mut disk: D,
@@ -184,21 +169,17 @@ impl<D: Disk> Shard<D> {
         set: Settings,
     ) -> Result<Shard<D>, StartRefusal<D>>
         requires { IsSettings set }
-        ensures stands { IfOk result (λ shard. Agrees shard (start_state (setup_of shard) [])) }
+        ensures stands { IfOk result StandsForEntries }
+        ensures begins { D.tells disk → MatchResult result (λ shard. Begins asked (D.seen disk) shard) (λ refusal. IsRefused asked (D.seen disk) refusal.cause) }
+        ensures safe { IsHonest D.tells D.seen D.may_leave disk → IfOk result (λ shard. (bodies : List Body) → IsSound (setup_of shard) (D.seen disk) bodies
+            → IsSafe D.may_leave shard (start_state (setup_of shard) bodies)) }
+        ensures only { D.tells disk → IfOk result (λ shard. IsOnly (D.seen disk) (D.may_leave shard.disk)) }
         ensures shape { IfOk result (λ shard. (shard.set ≡ set) × (shard.geometry.device ≡ asked.device) × (shard.geometry.devices ≡ asked.devices)) }
-        ensures read { MatchResult result (λ shard. OnlyRead D.extent D.tells D.seen D.moment D.had D.left_since D.faults disk shard.disk) (λ refusal. OnlyRead D.extent D.tells D.seen D.moment D.had D.left_since D.faults disk refusal.disk) }
-        ensures bytes { D.tells disk → MatchResult result (λ shard. Passes asked (D.seen disk) shard.geometry) (λ refusal. IsRefused asked (D.seen disk) refusal.cause) }
+        ensures read { MatchResult result (λ shard. OnlyRead D.extent D.tells D.seen D.may_leave D.moment D.had D.left_since D.faults disk shard.disk) (λ refusal. OnlyRead D.extent D.tells D.seen D.may_leave D.moment D.had D.left_since D.faults disk refusal.disk) }
         ensures cause { IfErr result (λ refusal. FaultRose refusal.cause (D.faults disk) (D.faults refusal.disk)) }
     {
         match examine(alloc, &mut disk, asked) {
-            Ok((geometry, free)) => Ok(Shard {
-                disk,
-                geometry,
-                set,
-                index: Index::new(alloc),
-                free,
-                next_number: 1,
-            }),
+            Ok((geometry, finding)) => Ok(begun(disk, geometry, set, finding)),
             Err(cause) => Err(StartRefusal { disk, cause }),
         }
     }

@@ -1,8 +1,14 @@
 ghost use Rattle.std.specs.Prelude.{◌≤◌, ◌^◌, length};
 ghost use Rattle.block_format.specs.Layout.{IsGeometry};
 
+mod bad_images;
+mod crashes;
+mod every_fault;
+mod latest;
+mod written;
+
 use super::*;
-use block_format::{Geometry, SECTOR_BYTES, write_header};
+use block_format::{Geometry, SECTOR_BYTES};
 use disk_model::{Disk, DiskCall, MemDisk};
 use partition_map::device_of;
 use rec_format::{Digest, Stamp, Version};
@@ -19,6 +25,16 @@ const SHAPE: Geometry = Geometry {
 
 /// The bytes of a device of this shape.
 const DEVICE_BYTES: u64 = 266_240;
+
+/// As few blocks as a device may have, and the bytes of such a device.
+const SMALL: Geometry = Geometry {
+    block_size: 16_384,
+    blocks: 8,
+    device: 0,
+    devices: 1,
+};
+
+const SMALL_BYTES: u64 = 135_168;
 
 /// Where block 3 begins.
 const THIRD_GATE: u64 = 53_248;
@@ -55,8 +71,8 @@ fn numbered(byte: u8) -> Digest {
 fn formatted(rt: &impl Abort, alloc: Global, shape: &Geometry) -> Result<MemDisk, Fail>
     requires { IsGeometry shape.now }
 {
-    let mut disk = MemDisk::new(alloc, DEVICE_BYTES)?;
     let end = SECTOR_BYTES as u64 + u64::from(shape.blocks) * u64::from(shape.block_size);
+    let mut disk = MemDisk::new(alloc, end)?;
     assert!(rt; end <= disk.len());
     format_disk(&mut disk, shape)?;
     Ok(disk)
@@ -193,75 +209,13 @@ fn the_clock_goes_back(rt: HostRuntime) -> Result<(), Fail> {
     Ok(())
 }
 
-#[test]
-fn a_gate_is_not_written(rt: HostRuntime) -> Result<(), Fail> {
-    let alloc = rt.alloc();
-    let mut disk = formatted(&rt, alloc, &SHAPE)?;
-    disk.fail_after(DiskCall::Write, 1)?;
-    let mut shard = started(alloc, disk)?;
-    assert!(rt; put(&rt, alloc, &mut shard, &RISING, &[0xaa], 1000) == Err(WriteRefusal::Fault));
-    let found = get(&rt, alloc, &mut shard, &RISING)?;
-    assert!(rt; shows(&found, 1000, 1, &[0xaa]));
+fn format_again(rt: &impl Abort, disk: &mut MemDisk) -> Result<(), Fail> {
+    assert!(rt; disk.len() == DEVICE_BYTES);
+    format_disk(disk, &SHAPE)?;
     Ok(())
 }
 
-// A device of zeros, and a disk that ends where its header would.
-#[test]
-fn zeros_are_no_device(rt: HostRuntime) -> Result<(), Fail> {
-    let alloc = rt.alloc();
-    for size in [DEVICE_BYTES, 4096] {
-        let (_, cause) = refused(alloc, MemDisk::new(alloc, size)?, ALONE)?;
-        assert!(rt;
-            cause == StartCause::NotFormatted { first: [0; 64] },
-            "{size} bytes"
-        );
-    }
-    Ok(())
-}
-
-#[test]
-fn another_device_is_refused(rt: HostRuntime) -> Result<(), Fail> {
-    let alloc = rt.alloc();
-    let kept = Geometry {
-        block_size: 16_384,
-        blocks: 16,
-        device: 1,
-        devices: 2,
-    };
-    let asked = Asked {
-        device: 0,
-        devices: 2,
-    };
-    let (_, cause) = refused(alloc, formatted(&rt, alloc, &kept)?, asked)?;
-    let other = StartCause::OtherGeometry {
-        kept,
-        asked,
-        len: DEVICE_BYTES,
-    };
-    assert!(rt; cause == other);
-    Ok(())
-}
-
-// One byte is wanting.
-#[test]
-fn a_short_device_is_refused(rt: HostRuntime) -> Result<(), Fail> {
-    let alloc = rt.alloc();
-    let len = DEVICE_BYTES - 1;
-    let mut disk = MemDisk::new(alloc, len)?;
-    assert!(rt; disk.len() == len);
-    let mut header = [0; SECTOR_BYTES];
-    write_header(&SHAPE, &mut header);
-    disk.write_at(0, &header)?;
-    let (_, cause) = refused(alloc, disk, ALONE)?;
-    let short = StartCause::OtherGeometry {
-        kept: SHAPE,
-        asked: ALONE,
-        len,
-    };
-    assert!(rt; cause == short);
-    Ok(())
-}
-
+// Formatting closes the gate.
 #[test]
 fn an_open_gate_is_refused(rt: HostRuntime) -> Result<(), Fail> {
     let alloc = rt.alloc();
@@ -270,9 +224,7 @@ fn an_open_gate_is_refused(rt: HostRuntime) -> Result<(), Fail> {
     disk.write_at(THIRD_GATE, b"ASNODE-GATE-OPEN")?;
     let (mut disk, cause) = refused(alloc, disk, ALONE)?;
     assert!(rt; cause == StartCause::DamagedBlock { block: 3, place: 0 });
-    // Formatting closes it.
-    assert!(rt; disk.len() == DEVICE_BYTES);
-    format_disk(&mut disk, &SHAPE)?;
+    format_again(&rt, &mut disk)?;
     let _shard = started(alloc, disk)?;
     Ok(())
 }

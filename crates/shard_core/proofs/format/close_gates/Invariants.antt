@@ -1,6 +1,6 @@
 use Rattle.std.proofs.Common.{◌≡◌, ◌≤◌}
 use Rattle.disk_model.specs.Disk.{Advances, IsHonest}
-use Rattle.shard_core.specs.Starting.{AllClosed}
+use Rattle.shard_core.specs.Finding.{AllClosed}
 use Rattle.shard_core.proofs.format.close_gates.Given as goal
 
 abbrev pub invariant-loop-block : goal.invariant-loop-block

@@ -1,6 +1,6 @@
 use Rattle.std.proofs.Common.{◌≡◌, ◌≤◌, sym, ◌∙◌, subst, List, ℕ}
 use Rattle.block_format.specs.Layout.{device_end}
-use Rattle.shard_core.specs.Starting.{AllClosed}
+use Rattle.shard_core.specs.Finding.{AllClosed}
 use Rattle.shard_core.proofs.Formats.{formatted}
 use Rattle.shard_core.proofs.format.format_disk.Goals as goal
 
