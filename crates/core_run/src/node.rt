@@ -41,8 +41,8 @@ impl<D: Disk> Node<D> {
     pub fn start(alloc: Global, mut disks: Vec<D>, set: Settings) -> Result<Node<D>, NodeRefusal<D>>
         requires disks { vec_len disks ≡ 1 }
         requires set { IsSettings set }
-        ensures begun { (disk : D) → disks.items ≡ disk ∷ [] → MatchResult result (λ node. Started D.extent D.tells D.seen D.moment D.had D.left_since D.faults set disk node)
-            (λ refusal. (new : D) × (refusal.disks.items ≡ new ∷ []) × NotStarted D.extent D.tells D.seen D.moment D.had D.left_since D.faults refusal.cause disk new) }
+        ensures begun { (disk : D) → disks.items ≡ disk ∷ [] → MatchResult result (λ node. Started D.extent D.tells D.seen D.may_leave D.moment D.had D.left_since D.faults set disk node)
+            (λ refusal. (new : D) × (refusal.disks.items ≡ new ∷ []) × NotStarted D.extent D.tells D.seen D.may_leave D.moment D.had D.left_since D.faults refusal.cause disk new) }
         ensures which { IfErr result (λ refusal. refusal.device ≡ 0) }
     {
         let Some(disk) = disks.pop() else {
@@ -81,9 +81,9 @@ impl<D: Disk> Node<D> {
 impl<D: Disk> Store for Node<D> {
     ghost use Rattle.core_run.specs.OneDevice.{ActsAlone, TendsAlone};
 
-    ghost acts = { ActsAlone D.faults };
+    ghost acts = { ActsAlone D.extent D.tells D.seen D.may_leave D.moment D.had D.left_since D.faults };
 
-    ghost tends = { TendsAlone D.faults };
+    ghost tends = { TendsAlone D.extent D.tells D.seen D.may_leave D.moment D.had D.left_since D.faults };
 
     fn act(&mut self, alloc: Global, command: &Command, now: u64) -> Reply {
         match command {
