@@ -5,6 +5,7 @@ pub mod Turns
 pub mod Ends
 pub mod Whole
 pub mod Weaker
+pub mod Kept
 pub mod Holds
 pub mod Refused
 pub mod Alone

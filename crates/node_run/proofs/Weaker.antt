@@ -1,5 +1,5 @@
 -- A session over a store is one over each pair of weaker relations. So a store may say several things of its calls at once.
-use Rattle.std.proofs.Common.{ℕ, Bool, List, [], ◌∷◌, inl, inr}
+use Rattle.std.proofs.Common.{ℕ, List, [], ◌∷◌, inl, inr}
 use Rattle.std.specs.Prelude.{Option}
 use Rattle.line_proto.specs.declared.command.Command.{Command}
 use Rattle.line_proto.specs.declared.reply.Reply.{Reply}
@@ -9,9 +9,6 @@ use Rattle.node_session.specs.declared.stop.Stop.TheVariants.{Quit as QuitStop, 
 use Rattle.node_session.specs.declared.ended.Ended.{Ended}
 use Rattle.node_session.specs.declared.ended.Ended.TheVariants.{Finish, Quit, SourceFault, SinkFault, Memory, Halted, Long}
 use Rattle.node_session.specs.Run.{Times, Answers, Turn, Turns, TurnAny, Serves, StopsAt}
-use Rattle.disk_model.specs.Disk.{Images}
-use Rattle.line_proto.specs.Commands.{Node}
-use Rattle.core_run.specs.Meaning.{ActsBy, TendsBy, ActsTold, TendsTold}
 use Rattle.node_session.specs.Session.{ServesWhole, StopsAfter, EndsSo, Ran}
 
 module _ {T : Type 0} (acts weak : T → Command → ℕ → Reply → T → Type 0) (tends weakly : T → T → Type 0)
@@ -100,12 +97,3 @@ module _ {T : Type 0} (acts weak : T → Command → ℕ → Reply → T → Typ
     within = ran.within;
     ends = ends_more limit ran.bytes left' old times ran.output new later result ran.ends;
   }
-
-module _ {T : Type 0} (Stands : Bool → T → Node → Type 0) (moment : T → ℕ → ℕ) (had : T → ℕ → ℕ → Type 0) (since : Bool → T → ℕ → ℕ → Images) (Halts : T → (before after : Node) → Type 0) where
-  -- A session over a store that says both is one over each of the two.
-  abbrev pub ran_told : (told : Bool) (limit : ℕ) (taken taken' : List ℕ) (left left' : Option (List ℕ)) (written written' : Option (List ℕ)) (old new : T) (times later : Times) (result : Ended)
-      → Ran (ActsTold Stands moment had since Halts) (TendsTold Stands moment had since) limit taken taken' left left' written written' old new times later result
-      → Ran (ActsBy (Stands told) moment had (since told) Halts told) (TendsBy (Stands told) moment had (since told) told) limit taken taken' left left' written written' old new times later result
-  ran_told told limit taken taken' left left' written written' old new times later result ran =
-      ran_more (ActsTold Stands moment had since Halts) (ActsBy (Stands told) moment had (since told) Halts told) (TendsTold Stands moment had since) (TendsBy (Stands told) moment had (since told) told)
-      (λ o c now r n acts. acts told) (λ o n tends. tends told) limit taken taken' left left' written written' old new times later result ran
