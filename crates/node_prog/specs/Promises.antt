@@ -1,8 +1,13 @@
--- Crate node_prog. What a run over one device promises, whatever its disk does.
+-- Crate node_prog. What a run over one device promises.
 use Rattle.std.specs.Prelude.{◌≡◌, ◌⊎◌, ℕ, Bool, List, [], ◌∷◌, ◌++◌, codes, Option}
+use Rattle.disk_model.specs.Disk.{Images, IsOnly, IsHonest}
+use Rattle.rec_format.specs.declared.version.Digest.{Digest}
 use Rattle.rec_format.specs.Book.{Setup}
+use Rattle.rec_format.specs.Device.{entry}
 use Rattle.block_format.specs.declared.geometry.Geometry.{Geometry}
-use Rattle.block_format.specs.Recovery.{start_state}
+use Rattle.block_format.specs.Layout.{Body}
+use Rattle.block_format.specs.Copies.{Copy, copies_of, cold}
+use Rattle.block_format.specs.Recovery.{IsSound, entries_state}
 use Rattle.io_traits.specs.Sink.{Extends}
 use Rattle.io_traits.specs.Source.{Shortens}
 use Rattle.line_proto.specs.Commands.{Node}
@@ -10,14 +15,18 @@ use Rattle.shard_core.specs.declared.settings.Settings.{Settings}
 use Rattle.shard_core.specs.declared.start.StartCause.{StartCause}
 use Rattle.shard_core.specs.declared.start.StartCause.TheVariants as why
 use Rattle.shard_core.specs.View.{setup_for}
-use Rattle.shard_core.specs.Starting.{Passes, IsRefused, FaultRose}
+use Rattle.shard_core.specs.Starting.{IsLater, OnlyRead, Passes, own_copies, IsRefused, FaultRose}
 use Rattle.core_run.specs.OneDevice.{the_only}
 use Rattle.core_run.specs.Notes.{fault_note, refused_note}
-use Rattle.core_run.specs.Headline.{Outside, HoldsReplies}
+use Rattle.core_run.specs.Headline.{Outside, StartsFrom, HoldsReplies, HoldsThroughout}
 
--- the first node of a run: the device with this setup, as a start from no record leaves it
-abbrev pub StartsEmpty : Setup → Node → Type 0
-StartsEmpty setup node = (faults : ℕ) × (node ≡ (record { setup = setup; state = start_state setup []; faults = faults }) ∷ [])
+-- The first node of a run, over any disk: the device with this setup, as a start from the entries that were found leaves it. Where
+-- the disk tells its bytes, sound or not, the entry of each digest is its latest copy behind the open gates.
+abbrev pub StartsFound : Setup → Geometry → (tells : Type 0) → (reads : List ℕ) → Node → Type 0
+StartsFound setup g tells reads node = (opened : List ℕ) × (found : List Copy) × (next faults : ℕ)
+    × (node ≡ (record { setup = setup; state = entries_state setup opened found next; faults = faults }) ∷ [])
+    × (tells → (bodies : List Body) × Passes the_only reads g bodies
+    × ((digest : Digest) → entry (entries_state setup opened found next) digest ≡ cold digest (own_copies g (copies_of bodies))))
 
 -- What is seen of the link and of the disk's count of faults, before a run and after it.
 pub record Ends : Type 0 where
@@ -36,20 +45,45 @@ EndsRefused device (why.NotFormatted first) status note = (status ≡ 7) × (not
 EndsRefused device (why.OtherGeometry kept asked size) status note = (status ≡ 7) × (note ≡ refused_note device)
 EndsRefused device (why.DamagedBlock block place) status note = (status ≡ 7) × (note ≡ refused_note device)
 
+-- What is known of the disk that was handed in, and of the one handed back: whether it tells its bytes, what it reads, and whether it
+-- is honest; that the second is the first at a later time, and that nothing was written to it in between; and which images a crash
+-- may leave at entry, at exit, and since the entry.
+pub record DiskOf : Type 1 where
+  pub tells : Type 0
+  pub reads : List ℕ
+  pub honest : Type 0
+  pub same_later : Type 0
+  pub read_alone : Type 0
+  pub at_entry : Images
+  pub since : Images
+  pub now : Images
+
+abbrev pub disk_of : {D : Type 0} → (extent : D → ℕ) → (tells : D → Type 0) → (seen : D → List ℕ) → (may_leave : D → Images) → (moment : D → ℕ) → (had : D → ℕ → Type 0) → (left_since : D → ℕ → Images) → (faults : D → ℕ) → (old new : D) → DiskOf
+disk_of extent tells seen may_leave moment had left_since faults old new = record {
+  tells = tells old;
+  reads = seen old;
+  honest = IsHonest tells seen may_leave old;
+  same_later = IsLater extent moment had left_since faults old new;
+  read_alone = OnlyRead extent tells seen may_leave moment had left_since faults old new;
+  at_entry = may_leave old;
+  since = left_since new (moment old);
+  now = may_leave new;
+}
+
 -- The device wasn't taken into use. Nothing was taken and nothing written, the disk was read alone, and what a disk that tells
 -- its bytes reads is the cause.
-pub record NeverServed (tells : Type 0) (reads : List ℕ) (read_alone : Type 0) (status : ℕ) (note : List ℕ) (before after : Ends) : Type 0 where
+pub record NeverServed (d : DiskOf) (status : ℕ) (note : List ℕ) (before after : Ends) : Type 0 where
   pub cause : StartCause
   pub ends : EndsRefused 0 cause status note
-  pub bytes : tells → IsRefused the_only reads cause
+  pub bytes : d.tells → IsRefused the_only d.reads cause
   pub rose : FaultRose cause before.disk after.disk
   pub taken : after.taken ≡ before.taken
   pub written : after.written ≡ before.written
-  pub disk : read_alone
+  pub disk : d.read_alone
 
 -- what is known of a run from outside
-abbrev pub outside : (status : ℕ) → (note bytes output : List ℕ) → (ended : Bool) → (times : Option (List ℕ)) → (before after : Ends) → Outside
-outside status note bytes output ended times before after = record {
+abbrev pub outside : (status : ℕ) → (note bytes output : List ℕ) → (ended : Bool) → (times : Option (List ℕ)) → (before after : Ends) → (images : List (List ℕ)) → Outside
+outside status note bytes output ended times before after images = record {
   status = status;
   note = note;
   taken = bytes;
@@ -59,23 +93,34 @@ outside status note bytes output ended times before after = record {
   times = times;
   before = record { disks = before.disk ∷ []; source = before.source; sink = before.sink };
   after = record { disks = after.disk ∷ []; source = after.source; sink = after.sink };
-  images = [];
+  images = images;
   reads = [];
 }
 
--- The device was taken into use, and the bytes written are the front of the reply texts of a run over the bytes taken, from the
--- start of an empty device, whether or not its disk tells what it holds.
-pub record IsServed (set : Settings) (tells : Type 0) (reads : List ℕ) (status : ℕ) (note : List ℕ) (times : Option (List ℕ)) (before after : Ends) : Type 0 where
+-- The device was taken into use, and the bytes written are the front of the reply texts of a run over the bytes taken.
+-- Over any disk it is a run from the entries that the start found, which are those of its bytes where it tells them. Over one
+-- whose bytes are a sound image it is a run from the start state of that image. Over an honest disk whose one image is sound it keeps all promises: each image that a crash might have
+-- left since the entry survives some state of the run, each that one may leave now survives the last, and what was answered as done
+-- with commit on is flushed.
+pub record IsServed (set : Settings) (d : DiskOf) (status : ℕ) (note : List ℕ) (times : Option (List ℕ)) (before after : Ends) : Type 0 where
   pub geometry : Geometry
   pub place : (geometry.device ≡ 0) × (geometry.devices ≡ 1)
-  pub passes : tells → Passes the_only reads geometry
+  pub disk : d.same_later
+  pub passes : d.tells → (bodies : List Body) × Passes the_only d.reads geometry bodies
   pub bytes : List ℕ
   pub output : List ℕ
   pub takes : after.taken ≡ before.taken ++ bytes
   pub shortens : Shortens before.left after.left bytes
   pub extends : Extends before.written after.written output
-  pub replies : (told : Bool) → (ended : Bool) × HoldsReplies (StartsEmpty (setup_for geometry set)) told (setup_for geometry set ∷ []) (outside status note bytes output ended times before after) (λ device image. ⊥)
+  pub replies : (told : Bool) → (ended : Bool) × HoldsReplies (StartsFound (setup_for geometry set) geometry d.tells d.reads) told (setup_for geometry set ∷ [])
+      (outside status note bytes output ended times before after []) (λ device image. ⊥)
+  pub from_image : d.tells → (bodies : List Body) → IsSound (setup_for geometry set) d.reads bodies
+      → (told : Bool) → (ended : Bool) × HoldsReplies (StartsFrom (d.reads ∷ [])) told (setup_for geometry set ∷ [])
+      (outside status note bytes output ended times before after (d.reads ∷ [])) (λ device image. ⊥)
+  pub throughout : d.honest → IsOnly d.reads d.at_entry → (bodies : List Body) → IsSound (setup_for geometry set) d.reads bodies
+      → (ended : Bool) × HoldsThroughout (setup_for geometry set ∷ [])
+      (outside status note bytes output ended times before after (d.reads ∷ [])) (λ device. d.since) (λ device. d.now)
 
--- the promise of a run on replies
-abbrev pub Runs : Settings → (tells : Type 0) → (reads : List ℕ) → (read_alone : Type 0) → (status : ℕ) → (note : List ℕ) → Option (List ℕ) → (before after : Ends) → Type 0
-Runs set tells reads read_alone status note times before after = NeverServed tells reads read_alone status note before after ⊎ IsServed set tells reads status note times before after
+-- the promise of a run
+abbrev pub Runs : Settings → DiskOf → (status : ℕ) → (note : List ℕ) → Option (List ℕ) → (before after : Ends) → Type 0
+Runs set d status note times before after = NeverServed d status note before after ⊎ IsServed set d status note times before after

@@ -1,8 +1,7 @@
 // A run: the device is started, the session served, and the disk handed back.
 ghost use Rattle.std.specs.Prelude.{◌≡◌, ◌∷◌, [], vec_len};
 ghost use Rattle.shard_core.specs.View.{IsSettings};
-ghost use Rattle.shard_core.specs.Starting.{OnlyRead};
-ghost use Rattle.node_prog.specs.Promises.{Runs};
+ghost use Rattle.node_prog.specs.Promises.{Runs, disk_of};
 
 use crate::outcome::{Outcome, after_refusal, after_session};
 use core_run::{Node, NodeRefusal};
@@ -26,7 +25,7 @@ pub fn run_with<D: Disk, L: Source + Sink, C: Clock>(
     requires disks { vec_len disks ≡ 1 }
     requires set { IsSettings set }
     ensures replies { (disk : D) → disks.items ≡ disk ∷ [] → (new : D) × (result.disks.items ≡ new ∷ [])
-        × Runs set (D.tells disk) (D.seen disk) (OnlyRead D.extent D.tells D.seen D.moment D.had D.left_since D.faults disk new) result.status result.note (C.times clock.old)
+        × Runs set (disk_of D.extent D.tells D.seen D.may_leave D.moment D.had D.left_since D.faults disk new) result.status result.note (C.times clock.old)
         (record { taken = L.taken link.old; left = L.left link.old; written = L.written link.old; source = L.source_faults link.old; sink = L.sink_faults link.old; disk = D.faults disk })
         (record { taken = L.taken link.new; left = L.left link.new; written = L.written link.new; source = L.source_faults link.new; sink = L.sink_faults link.new; disk = D.faults new }) }
 {

@@ -1,9 +1,10 @@
 use super::*;
 use crate::memory::{formatted_disk, still_clock};
 use crate::outcome::Outcome;
-use disk_model::{DiskCall, MemDisk};
+use disk_model::{Disk, DiskCall, MemDisk};
 use io_traits::{TextSink, TextSource};
 use std::alloc::Global;
+use std::process::Abort;
 use std::test::Fail;
 
 const GET: &[u8] = b"get 000102030405060708090a0b0c0d0e0f10111213\n";
@@ -156,19 +157,134 @@ fn a_block_and_the_device_have_their_room(rt: HostRuntime) -> Result<(), Fail> {
     Ok(())
 }
 
+const PUT: &[u8] = b"put 000102030405060708090a0b0c0d0e0f10111213 0 * aa\n";
+
 #[test]
 fn faults_end_it_with_their_statuses(rt: HostRuntime) -> Result<(), Fail> {
     let alloc = rt.alloc();
+    let ending = serve_text(alloc, GET, &[0], &[])?;
+    assert!(rt; is_so(&ending, 4, "source fault", b""));
     let ending = serve_text(alloc, GET, &[1], &[])?;
     assert!(rt; is_so(&ending, 4, "source fault", b"none\n"));
     let ending = serve_text(alloc, GET, &[], &[0])?;
     assert!(rt; is_so(&ending, 5, "sink fault", b""));
-    let mut disk = formatted_disk(alloc)?;
-    disk.fail_after(DiskCall::Sync, 0)?;
-    let ending = serve_disk(alloc, &["run", "d0"], disk, GET, &[], &[])?;
-    assert!(rt; is_so(&ending, 3, "device 0 fault", b""));
+    let ending = serve_text(alloc, GET, &[], &[1])?;
+    assert!(rt; is_so(&ending, 5, "sink fault", b"none\n"));
     let disk = MemDisk::new(alloc, 266_240)?;
     let ending = serve_disk(alloc, &["run", "d0"], disk, GET, &[], &[])?;
     assert!(rt; is_so(&ending, 7, "device 0 refused", b""));
+    Ok(())
+}
+
+// The session over this disk, with the words `run d0`.
+fn serve_over(alloc: Global, disk: MemDisk, input: &[u8]) -> Result<Ending, Fail> {
+    serve_disk(alloc, &["run", "d0"], disk, input, &[], &[])
+}
+
+// The disk of a session that ended so.
+fn disk_of(
+    rt: &impl Abort,
+    mut ending: Ending,
+    status: u8,
+    note: &str,
+    text: &[u8],
+) -> Result<MemDisk, Fail> {
+    assert!(rt; is_so(&ending, status, note, text));
+    Ok(ending.outcome.disks.pop().ok_or("no disk")?)
+}
+
+// Each call of the disk that a start makes fails: nothing is taken or written, on the disk neither.
+#[test]
+fn the_disk_fails_at_the_start(rt: HostRuntime) -> Result<(), Fail> {
+    let alloc = rt.alloc();
+    for (kind, skip, synced) in [
+        (DiskCall::Sync, 0, 0),
+        (DiskCall::Read, 0, 1),
+        (DiskCall::Read, 16, 1),
+    ] {
+        let mut disk = formatted_disk(alloc)?;
+        let moments = disk.moments();
+        disk.fail_after(kind, skip)?;
+        let ending = serve_over(alloc, disk, PUT)?;
+        let disk = disk_of(&rt, ending, 3, "device 0 fault", b"")?;
+        assert!(rt; disk.moments().checked_sub(synced) == Some(moments));
+        let ending = serve_over(alloc, disk, GET)?;
+        assert!(rt; is_so(&ending, 0, "", b"none\n"));
+    }
+    Ok(())
+}
+
+// The second run finds what the first one put, however that ended, and goes on from there.
+#[test]
+fn the_next_run_finds_the_records(rt: HostRuntime) -> Result<(), Fail> {
+    let alloc = rt.alloc();
+    let ending = serve_text(alloc, PUT, &[1], &[])?;
+    let disk = disk_of(&rt, ending, 4, "source fault", b"ok 1 1000\n")?;
+    let mut input = GET.to_vec(alloc)?;
+    input.extend_from_slice(b"put 000102030405060708090A0B0C0D0E0F10111213 0 * -\n")?;
+    input.extend_from_slice(b"put ffffffffffffffffffffffffffffffffffffffff 0 * bbcc\nquit\n")?;
+    let text = b"val 1 1000 0 aa\nok 2 1000\nok 1 1000\nbye\n";
+    let disk = disk_of(&rt, serve_over(alloc, disk, &input)?, 0, "", text)?;
+    input.clear();
+    input.extend_from_slice(b"get ffffffffffffffffffffffffffffffffffffffff\n")?;
+    input.extend_from_slice(GET)?;
+    input.extend_from_slice(b"get 0000000000000000000000000000000000000000\n")?;
+    let text = b"val 1 1000 0 bbcc\nval 2 1000 0 -\nnone\n";
+    let ending = serve_over(alloc, disk, &input)?;
+    assert!(rt; is_so(&ending, 0, "", text));
+    Ok(())
+}
+
+// A put whose flush fails is seen in its session. The next one finds it only where its gate was written.
+#[test]
+fn a_put_fails_on_the_way(rt: HostRuntime) -> Result<(), Fail> {
+    let alloc = rt.alloc();
+    let found: &[u8] = b"val 1 1000 0 aa\n";
+    let none: &[u8] = b"none\n";
+    for (kind, skip, next) in [
+        (DiskCall::Write, 0, none),
+        (DiskCall::Write, 1, none),
+        (DiskCall::Sync, 1, none),
+        (DiskCall::Sync, 2, found),
+    ] {
+        let mut disk = formatted_disk(alloc)?;
+        disk.fail_after(kind, skip)?;
+        let mut input = PUT.to_vec(alloc)?;
+        input.extend_from_slice(GET)?;
+        let ending = serve_over(alloc, disk, &input)?;
+        let disk = disk_of(&rt, ending, 0, "", b"err fault\nval 1 1000 0 aa\n")?;
+        let ending = serve_over(alloc, disk, GET)?;
+        assert!(rt; is_so(&ending, 0, "", next), "{kind:?} {skip}");
+    }
+    Ok(())
+}
+
+// After a crash the next run finds none up to the write of the gate, from there to its sync none or the record, and then the record.
+#[test]
+fn a_crash_leaves_what_was_answered(rt: HostRuntime) -> Result<(), Fail> {
+    let alloc = rt.alloc();
+    let formatted = formatted_disk(alloc)?;
+    let mut moment = formatted.moments() - 1;
+    let ending = serve_over(alloc, formatted, PUT)?;
+    let disk = disk_of(&rt, ending, 0, "", b"ok 1 1000\n")?;
+    let found: &[u8] = b"val 1 1000 0 aa\n";
+    let none: &[u8] = b"none\n";
+    // The start's sync, the body, its sync, the gate and its sync.
+    for (without, with) in [
+        (none, none),
+        (none, none),
+        (none, none),
+        (none, none),
+        (none, found),
+        (found, found),
+    ] {
+        assert!(rt; moment < disk.moments());
+        let ending = serve_over(alloc, disk.image(moment, 0)?, GET)?;
+        assert!(rt; is_so(&ending, 0, "", without), "moment {moment}");
+        let ending = serve_over(alloc, disk.image(moment, 1)?, GET)?;
+        assert!(rt; is_so(&ending, 0, "", with), "moment {moment}");
+        moment += 1;
+    }
+    assert!(rt; moment == disk.moments());
     Ok(())
 }

@@ -5,16 +5,19 @@ use Rattle.node_prog.proofs.run.run_with.Goals as goal
 
 pub after_session-status-requires : goal.after_session-status-requires
 after_session-status-requires g c is =
+    let d = g.D.Disk in
     let one = only_one c.args.disks.items (sym c.args.disks.ok.0 ∙ c.requires.disks) in
-    goes_on g.D.Disk.extent g.D.Disk.tells g.D.Disk.seen g.D.Disk.moment g.D.Disk.had g.D.Disk.left_since g.D.Disk.faults _ _ _ _ _ _ c.args.set one.0 c.in-Ok.node c.session-ended.new.store _ _ c.session-ended.result
+    goes_on d.extent d.tells d.seen d.may_leave d.moment d.had d.left_since d.faults _ _ _ _ _ _ c.args.set one.0 c.in-Ok.node c.session-ended.new.store _ _ c.session-ended.result
     c.session-ended.ensures.run (c.in-Ok.ensures.begun one.0 one.1) is
 
 pub returns-in-Ok : goal.returns-in-Ok
 returns-in-Ok g c = record {
-  replies = λ disk items. (
-    c.session-ended.new.store.disk,
-    c.stop.ensures,
-    inr (is_served g.D.Disk.extent g.D.Disk.tells g.D.Disk.seen g.D.Disk.moment g.D.Disk.had g.D.Disk.left_since g.D.Disk.faults _ _ c.args.set disk c.in-Ok.node c.session-ended.new.store _ _ c.session-ended.result _ _
-        c.session-ended.ensures.run (c.in-Ok.ensures.begun disk items) c.session-ended.ensures.source_fault c.session-ended.ensures.sink_fault refl refl c.after_session-status.ensures.status c.after_session-status.ensures.note),
-  );
+  replies = λ disk items.
+      let d = g.D.Disk in
+      let law = g.met.D.Disk in (
+        c.session-ended.new.store.disk,
+        c.stop.ensures,
+        inr (is_served d.extent d.tells d.seen d.may_leave d.moment d.had d.left_since d.faults law.now_alone law.now_had law.now_since _ _ c.args.set disk c.in-Ok.node c.session-ended.new.store _ _ c.session-ended.result
+            c.session-ended.ensures.run (c.in-Ok.ensures.begun disk items) c.session-ended.ensures.source_fault c.session-ended.ensures.sink_fault refl refl _ _ c.after_session-status.ensures.status c.after_session-status.ensures.note),
+      );
 }
