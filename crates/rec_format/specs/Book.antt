@@ -5,7 +5,7 @@ use Rattle.std.specs.List.{list_any, range_with_len}
 use Rattle.rec_format.specs.declared.version.Digest.{Digest}
 use Rattle.rec_format.specs.Places.{same_digest}
 use Rattle.rec_format.specs.Histories.{Pending}
-use Rattle.rec_format.specs.Policy.{Policy, free_after, unused}
+use Rattle.rec_format.specs.Policy.{Policy, free_after, queue_after, unused}
 
 -- what stays the same through a run: the device's shape and place, the settings, and how blocks are used
 pub record Setup : Type 0 where
@@ -104,7 +104,7 @@ updated qualifies old all = filter qualifies old ++ filter (λ b. qualifies b &&
 unfoldable pub refreshed : Setup → Book → Book
 refreshed setup book = record book {
   free = free_after setup.policy (updated (may_be_free book) book.free (all_blocks setup)) (has_buffer book) book.free;
-  queue = updated (may_be_queued setup book) book.queue (all_blocks setup);
+  queue = queue_after setup.policy (updated (may_be_queued setup book) book.queue (all_blocks setup));
 }
 
 -- ---- live copies

@@ -7,7 +7,7 @@ use Rattle.rec_format.specs.declared.version.Stamp.{Stamp}
 use Rattle.rec_format.specs.declared.version.Version.{Version}
 use Rattle.rec_format.specs.Places.{same_digest}
 use Rattle.rec_format.specs.Versions.{units_for, version_units, void_time, is_tombstone, is_expired_put, a_put, a_tombstone, top_number}
-use Rattle.rec_format.specs.Policy.{reserve, is_overloaded, waits, flushed_from}
+use Rattle.rec_format.specs.Policy.{reserve, seals_low}
 use Rattle.rec_format.specs.Book.{Setup, Book, Buffer, Live, Stream, client, defrag, Phase, filling, sealed, opening, is_filling, filling_buffer, has_room, live_of, placing_number, holds_dead}
 use Rattle.rec_format.specs.Device.{State, Turn, mark_turn, scan_turn, apply_turn, drop_turn, finished, entry, entry_is_covered, entry_passes, seen, next_stamp_of, eligible_in, in_part}
 use Rattle.rec_format.specs.Steps.{Step, wrote, moved, removed, rid_of, uncovered, sealed_stream, gate_begun, flushed_buffer, closing_failed, raid_begun, raid_given_up, marked_part, scanned_block, compared_part, done_part, after_step, after_steps}
@@ -24,9 +24,9 @@ seal_all book =
     seal_if (is_some (filling_buffer client book.buffers)) client ++ seal_if (is_some (filling_buffer defrag book.buffers)) defrag
 
 -- where at most 6 blocks are free, seals each stream whose buffer holds a block without live units
-abbrev pub seal_low : Book → List Step
-seal_low book =
-    let low = nat_le (length book.free) 6 in
+abbrev pub seal_low : Setup → Book → List Step
+seal_low setup book =
+    let low = seals_low setup.policy (nat_le (length book.free) 6) in
     seal_if (low && holds_dead book (filling_buffer client book.buffers)) client
     ++ seal_if (low && holds_dead book (filling_buffer defrag book.buffers)) defrag
 
@@ -87,7 +87,7 @@ move_reserve = 0
 abbrev pub no_new_buffer : Setup → (kept : ℕ) → Book → Option Cause
 no_new_buffer setup kept book =
     if nat_lt top_number book.next_number then Some spent
-    else if is_overloaded setup.policy setup.pending_limit (length book.buffers) then Some (overload (length book.buffers))
+    else if nat_le setup.pending_limit (length book.buffers) then Some (overload (length book.buffers))
     else if nat_le (length book.free) (reserve setup.policy kept) then Some (no_space (length book.free))
     else None
 
@@ -101,11 +101,11 @@ no_write setup kept units (Some stamp) s = no_place setup client kept units s.bo
 
 -- the steps of a commit: the write's buffer is sealed, and all buffers up to it are flushed
 abbrev pub commit_seal : Setup → List Step
-commit_seal setup = if waits setup.policy setup.commit then sealed_stream client ∷ [] else []
+commit_seal setup = if setup.commit then sealed_stream client ∷ [] else []
 
 abbrev pub commit_flush : Setup → (number : ℕ) → State → List Step
 commit_flush setup number s =
-    if waits setup.policy setup.commit then flush_between (flushed_from setup.policy number) number s.book else []
+    if setup.commit then flush_between 0 number s.book else []
 
 -- A write that isn't refused for a reason of the state: it is made, and with commit on flushed; or a fault comes, in the
 -- commit, and the write stands, or in closing the gate of a new block, and it doesn't.
@@ -277,8 +277,8 @@ Allowed setup told s event (get_call digest now) =
     ((read : Option Version) × (event.answer ≡ found_version read) × (event.steps ≡ []) × Reads told (seen s now digest) read)
     ⊎ NoMemory event ⊎ WhereReads told event (seen s now digest)
 Allowed setup told s event flush_call = FlushEnds event (seal_all s.book) (flush_all (after_steps setup (seal_all s.book) s).book)
-Allowed setup told s event flush_sealed_call = FlushEnds event (seal_low s.book) (flush_all (after_steps setup (seal_low s.book) s).book)
-Allowed setup told s event flush_next_call = FlushEnds event (seal_low s.book) (flush_first (after_steps setup (seal_low s.book) s).book)
+Allowed setup told s event flush_sealed_call = FlushEnds event (seal_low setup s.book) (flush_all (after_steps setup (seal_low setup s.book) s).book)
+Allowed setup told s event flush_next_call = FlushEnds event (seal_low setup s.book) (flush_first (after_steps setup (seal_low setup s.book) s).book)
 Allowed setup told s event choose_call =
     Only event (block_chosen (queue_front s.book.queue)) ⊎ NoMemory event ⊎ WhereReads told event (queue_front s.book.queue)
 Allowed setup told s event (move_call digest block) =
