@@ -10,7 +10,7 @@ use Rattle.hex.specs.Hex.{is_hex_digit, decode_sized}
 use Rattle.hex.proofs.HexLemmas.{decode_of-ok, decode_sized-ok, decode_sized-twice}
 use Rattle.rec_format.specs.declared.version.Digest.{Digest}
 use Rattle.line_proto.specs.declared.command.Command.{Command}
-use Rattle.line_proto.specs.declared.command.Command.TheVariants.{Put, Get, Quit}
+use Rattle.line_proto.specs.declared.command.Command.TheVariants.{Put, Get, Flush, Quit}
 use Rattle.line_proto.specs.Lines.{line_limit, IsDigestText, IsExpectText, IsDataText}
 use Rattle.line_proto.specs.Built.{IsBuilt, IsLine, IsInRange}
 use Rattle.line_proto.specs.Reading.{IsWord, IsFour, IsPut, IsGetCommand, IsPutCommand}
@@ -179,6 +179,10 @@ line_of_get line text read fits is reads (Get digest) = (
       let get = other.spelled.spells in
       (reads (Get digest)).1 (subst (λ (l : List ℕ). IsDigestText l digest) (fourth 103 101 116 32 get.text text (sym get.line_is ∙ is)) get.is_digest),
 )
+line_of_get line text read fits is reads Flush = (
+  λ r. absurd ((reads Flush).0 r),
+  λ other. let wrong = heads 103 102 _ _ (sym is ∙ other.spelled.spells) in absurd (omega (arith, wrong)),
+)
 line_of_get line text read fits is reads Quit = (
   λ r. absurd ((reads Quit).0 r),
   λ other. let wrong = heads 103 113 _ _ (sym is ∙ other.spelled.spells) in absurd (omega (arith, wrong)),
@@ -226,6 +230,10 @@ line_of_put line text all read fits is reads filters (Get digest) = (
   λ r. absurd ((reads (Get digest)).0 ((filters (Get digest)).0 r).0),
   λ other. let wrong = heads 112 103 _ _ (sym is ∙ other.spelled.spells.line_is) in absurd (omega (arith, wrong)),
 )
+line_of_put line text all read fits is reads filters Flush = (
+  λ r. absurd ((reads Flush).0 ((filters Flush).0 r).0),
+  λ other. let wrong = heads 112 102 _ _ (sym is ∙ other.spelled.spells) in absurd (omega (arith, wrong)),
+)
 line_of_put line text all read fits is reads filters Quit = (
   λ r. absurd ((reads Quit).0 ((filters Quit).0 r).0),
   λ other. let wrong = heads 112 113 _ _ (sym is ∙ other.spelled.spells) in absurd (omega (arith, wrong)),
@@ -262,6 +270,7 @@ in_range line (Put digest ttl expect payload) is =
     shorter : (line a b c d : List ℕ) → line ≡ 112 ∷ 117 ∷ 116 ∷ 32 ∷ (a ++ 32 ∷ (b ++ 32 ∷ (c ++ 32 ∷ d))) → length d ≤ length line
     shorter line a b c d one = omega (arith, ap length one, length-append a (32 ∷ (b ++ 32 ∷ (c ++ 32 ∷ d))), length-append b (32 ∷ (c ++ 32 ∷ d)), length-append c (32 ∷ d))
 in_range line (Get digest) is = record { numbers = tt; built = tt }
+in_range line Flush is = record { numbers = tt; built = tt }
 in_range line Quit is = record { numbers = tt; built = tt }
 in_range line c is = absurd is.built
 

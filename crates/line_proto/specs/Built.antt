@@ -5,14 +5,14 @@ use Rattle.line_proto.specs.declared.command.Command.{Command}
 use Rattle.line_proto.specs.declared.command.Command.TheVariants as command
 use Rattle.line_proto.specs.Lines.{IsCommandLine}
 
--- a put that never expires and expects nothing, a get, and `quit`
+-- a put that never expires and expects nothing, a get, `flush` and `quit`
 abbrev pub IsBuilt : Command → Type 0
 IsBuilt (command.Put digest ttl expect payload) = (ttl ≡ 0) × (expect ≡ None)
 IsBuilt (command.Get digest) = Unit {0}
 IsBuilt (command.Meta digest) = ⊥
 IsBuilt (command.Del digest) = ⊥
 IsBuilt (command.Bury digest) = ⊥
-IsBuilt command.Flush = ⊥
+IsBuilt command.Flush = Unit {0}
 IsBuilt command.Defrag = ⊥
 IsBuilt command.Expire = ⊥
 IsBuilt command.Raid = ⊥

@@ -65,7 +65,7 @@ fn is_built(command: &Command) -> bool
 {
     match command {
         Command::Put { ttl, expect, .. } => *ttl == 0 && expect.is_none(),
-        Command::Get(_) | Command::Quit => true,
+        Command::Get(_) | Command::Flush | Command::Quit => true,
         _ => false,
     }
 }
@@ -93,6 +93,9 @@ pub fn read_command(alloc: Global, line: &[u8]) -> Result<Option<Command>, NoMem
     }
     if line == b"quit".as_slice() {
         return Ok(Some(Command::Quit));
+    }
+    if line == b"flush".as_slice() {
+        return Ok(Some(Command::Flush));
     }
     if let Some(text) = behind(line, b"get ") {
         return Ok(get_of(text));

@@ -51,6 +51,10 @@ fn commands_are_read(rt: HostRuntime) -> Result<(), Fail> {
         return Ok(());
     };
     assert_eq!(rt; digest.0[10], 10);
+    let Some(Command::Flush) = read_command(alloc, b"flush")? else {
+        assert!(rt; false);
+        return Ok(());
+    };
     let Some(Command::Quit) = read_command(alloc, b"quit")? else {
         assert!(rt; false);
         return Ok(());
@@ -66,6 +70,9 @@ fn other_lines_are_none(rt: HostRuntime) -> Result<(), Fail> {
         b"frob".as_slice(),
         b"quit ".as_slice(),
         b"QUIT".as_slice(),
+        b"flush ".as_slice(),
+        b"flushes".as_slice(),
+        b"Flush".as_slice(),
         b"get".as_slice(),
         b"get 00".as_slice(),
         b"get 000102030405060708090a0b0c0d0e0f1011121".as_slice(),
@@ -111,7 +118,7 @@ fn commands_that_are_not_built_are_none(rt: HostRuntime) -> Result<(), Fail> {
         assert!(rt; read_command(alloc, &line(alloc, word, b"")?)?.is_none());
     }
     for word in [
-        b"flush".as_slice(),
+        b"defrag".as_slice(),
         b"stat".as_slice(),
         b"restart".as_slice(),
     ] {
