@@ -129,6 +129,21 @@ impl Buffer {
         bytes
     }
 
+    /// The buffer's number.
+    pub fn number(&self) -> u64
+        ensures number { result ≡ self.now.number }
+        ensures range { result ≤ top_number }
+    {
+        self.number
+    }
+
+    /// The block whose body it is.
+    pub fn block(&self) -> u32
+        ensures { result ≡ self.now.block }
+    {
+        self.block
+    }
+
     /// How far the buffer has come.
     pub fn phase(&self) -> Phase
         ensures { result ≡ self.now.phase }
