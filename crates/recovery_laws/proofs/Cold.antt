@@ -11,20 +11,15 @@ use Rattle.rec_format.specs.Histories.{Item, write, dropped, rid, cleared, top_o
 use Rattle.block_format.specs.declared.geometry.Geometry.{Geometry}
 use Rattle.block_format.specs.Layout.{Body, body_bytes}
 use Rattle.block_format.specs.Readings.{AtMostOneBody}
-use Rattle.block_format.specs.Copies.{Copy, HasBodies, copies_named, later_copy, latest, version_of, cold}
-use Rattle.recovery_laws.specs.Cold.{later_of, cold_after}
+use Rattle.block_format.specs.Copies.{Copy, HasBodies, copies_named, later_copy, latest, cold_copy, version_of, cold}
+use Rattle.recovery_laws.specs.Cold.{later_of, cold_after, later_one, cold_copy_after}
 use Rattle.recovery_laws.specs.Orderly.{AreWrites}
 use Rattle.recovery_laws.proofs.ColdOrder.{later_trans, no_later_trans}
 
 -- ---- one copy more
 
--- the latest of some copies and of one behind them
-abbrev latest_after : Option Copy → Copy → Copy
-latest_after None c = c
-latest_after (Some d) c = cond (is_later c.version d.version) c d
-
 -- of three, whichever two are compared first
-later_of_three : (x d c : Copy) → later_copy x (Some (latest_after (Some d) c)) ≡ latest_after (Some (later_copy x (Some d))) c
+later_of_three : (x d c : Copy) → later_copy x (Some (later_one (Some d) c)) ≡ later_one (Some (later_copy x (Some d))) c
 later_of_three x d c = by (is_later c.version d.version) (is_later d.version x.version) refl refl
   where
     by : (p q : Bool) → is_later c.version d.version ≡ p → is_later d.version x.version ≡ q
@@ -36,30 +31,37 @@ later_of_three x d c = by (is_later c.version d.version) (is_later d.version x.v
     by false false first second =
         cond-false (is_later d.version x.version) d x second ∙ sym (cond-false (is_later c.version x.version) c x (no_later_trans c.version.stamp d.version.stamp x.version.stamp first second))
 
-later_of_two : (x : Copy) (found : Option Copy) (c : Copy) → later_copy x (Some (latest_after found c)) ≡ latest_after (Some (later_copy x found)) c
+later_of_two : (x : Copy) (found : Option Copy) (c : Copy) → later_copy x (Some (later_one found c)) ≡ later_one (Some (later_copy x found)) c
 later_of_two x None c = refl
 later_of_two x (Some d) c = later_of_three x d c
 
-latest_more : (copies : List Copy) (c : Copy) → latest (copies ++ c ∷ []) ≡ Some (latest_after (latest copies) c)
+latest_more : (copies : List Copy) (c : Copy) → latest (copies ++ c ∷ []) ≡ Some (later_one (latest copies) c)
 latest_more [] c = refl
 latest_more (x ∷ copies) c = ap (λ (o : Option Copy). Some (later_copy x o)) (latest_more copies c) ∙ ap Some (later_of_two x (latest copies) c)
 
-version_after : (found : Option Copy) (c : Copy) → (latest_after found c).version ≡ later_of (version_of found) c.version
-version_after None c = refl
-version_after (Some d) c = by (is_later c.version d.version)
+-- the copy that is found of a digest behind one copy more
+pub cold_copy_more : (digest : Digest) (copies : List Copy) (c : Copy) → cold_copy digest (copies ++ c ∷ []) ≡ cold_copy_after digest (cold_copy digest copies) c
+cold_copy_more digest copies c = ap latest (filter-append (λ (x : Copy). same_digest digest x.digest) copies (c ∷ [])) ∙ by (same_digest digest c.digest)
   where
-    by : (b : Bool) → (cond b c d).version ≡ cond b c.version d.version
-    by true = refl
-    by false = refl
+    by : (b : Bool) → latest (copies_named digest copies ++ cond b (c ∷ []) []) ≡ cond b (Some (later_one (cold_copy digest copies) c)) (cold_copy digest copies)
+    by true = latest_more (copies_named digest copies) c
+    by false = ap latest (append-nil (copies_named digest copies))
 
--- what is found of a digest behind one copy more
-pub cold_more : (digest : Digest) (copies : List Copy) (c : Copy) → cold digest (copies ++ c ∷ []) ≡ cold_after digest (cold digest copies) c
-cold_more digest copies c =
-    ap (λ (l : List Copy). version_of (latest l)) (filter-append (λ (x : Copy). same_digest digest x.digest) copies (c ∷ [])) ∙ by (same_digest digest c.digest)
+version_after : (digest : Digest) (found : Option Copy) (c : Copy) → version_of (cold_copy_after digest found c) ≡ cold_after digest (version_of found) c
+version_after digest found c = by (same_digest digest c.digest) found
   where
-    by : (b : Bool) → version_of (latest (copies_named digest copies ++ cond b (c ∷ []) [])) ≡ cond b (Some (later_of (cold digest copies) c.version)) (cold digest copies)
-    by true = ap version_of (latest_more (copies_named digest copies) c) ∙ ap Some (version_after (latest (copies_named digest copies)) c)
-    by false = ap (λ (l : List Copy). version_of (latest l)) (append-nil (copies_named digest copies))
+    later : (d : Copy) (b : Bool) → (cond b c d).version ≡ cond b c.version d.version
+    later d true = refl
+    later d false = refl
+
+    by : (b : Bool) (o : Option Copy) → version_of (cond b (Some (later_one o c)) o) ≡ cond b (Some (later_of (version_of o) c.version)) (version_of o)
+    by true None = refl
+    by true (Some d) = ap Some (later d (is_later c.version d.version))
+    by false o = refl
+
+-- and its version
+pub cold_more : (digest : Digest) (copies : List Copy) (c : Copy) → cold digest (copies ++ c ∷ []) ≡ cold_after digest (cold digest copies) c
+cold_more digest copies c = ap version_of (cold_copy_more digest copies c) ∙ version_after digest (cold_copy digest copies) c
 
 -- ---- one image
 

@@ -16,6 +16,7 @@ use Rattle.block_format.specs.Copies.{Copy}
 use Rattle.block_format.specs.Recovery.{with_copy, log_of}
 use Rattle.recovery_laws.specs.Cold.{copies_high}
 use Rattle.recovery_laws.proofs.ColdOrder.{later_than_behind, later_one_way}
+use Rattle.recovery_laws.proofs.Surviving.{all_map}
 
 -- ---- copies in the order of the log
 
@@ -139,11 +140,6 @@ history_from digest (c ∷ copies) = by (same_digest digest c.digest) (history_f
     by true rest = ap (λ (l : List Item). write c.version [] ∷ l) rest
     by false rest = rest
 
--- what follows from what holds of each
-pub all_map : {A : Type 0} (P Q : A → Type 0) → ((x : A) → P x → Q x) → (xs : List A) → AllByRecursion P xs → AllByRecursion Q xs
-all_map P Q f [] all = tt
-all_map P Q f (x ∷ xs) all = (f x all.0, all_map P Q f xs all.1)
-
 -- no copy is later than one before it
 abbrev AreInOrder : List Copy → Type 0
 AreInOrder [] = Unit {0}
@@ -168,7 +164,7 @@ order_inserted c (d ∷ copies) order = by (same_digest c.digest d.digest && sam
     by : (s l : Bool) → is_later c.version d.version ≡ l → AreInOrder (inserted c copies) → AreInOrder (cond s (d ∷ copies) (cond l (c ∷ d ∷ copies) (d ∷ inserted c copies)))
     by true l e rest = order
     by false true e rest =
-        ((later_one_way c.version.stamp d.version.stamp e, all_map (λ x. is_later x.version d.version ≡ false) (λ x. is_later x.version c.version ≡ false) (behind e) copies order.0), order)
+        ((later_one_way c.version.stamp d.version.stamp e, all_map (λ x. is_later x.version d.version ≡ false) (λ x. is_later x.version c.version ≡ false) copies (behind e) order.0), order)
     by false false e rest = (all_inserted (λ x. is_later x.version d.version ≡ false) c copies e order.0, rest)
 
 -- the sorted copies are in order
@@ -245,7 +241,7 @@ named_hit digest c (d ∷ copies) same order =
         ∙ cond-true (same_stamp c.version d.version) (d.version ∷ behind) (cond (is_later c.version d.version) (c.version ∷ d.version ∷ behind) (d.version ∷ with_version c.version behind)) both.1)
     by false true there e rest =
         cond-true (same_digest digest c.digest) (c.version ∷ here) here same
-        ∙ sym (in_front c.version here (all_named (λ w. is_later c.version w ≡ true) digest (d ∷ copies) (e, all_map (λ x. is_later x.version d.version ≡ false) (λ x. is_later c.version x.version ≡ true) (λ x no_later. later_than_behind c.version.stamp d.version.stamp x.version.stamp e no_later) copies order.0)))
+        ∙ sym (in_front c.version here (all_named (λ w. is_later c.version w ≡ true) digest (d ∷ copies) (e, all_map (λ x. is_later x.version d.version ≡ false) (λ x. is_later c.version x.version ≡ true) copies (λ x no_later. later_than_behind c.version.stamp d.version.stamp x.version.stamp e no_later) order.0)))
     by false false there e rest =
         ap (λ (l : List Version). cond (same_digest digest d.digest) (d.version ∷ l) l) rest ∙ passes (same_digest digest d.digest) refl there e
 

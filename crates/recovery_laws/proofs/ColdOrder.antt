@@ -17,10 +17,6 @@ later_one_way a b p = grind arith
 pub no_later_itself : (a b : Stamp) → a ≡ b → is_later_stamp a b ≡ false
 no_later_itself a b p = grind arith
 
--- of two stamps neither of which is later
-pub equal_stamps : (a b : Stamp) → is_later_stamp a b ≡ false → is_later_stamp b a ≡ false → a ≡ b
-equal_stamps a b p q = grind arith
-
 -- what is later than one is later than all that are no later than that one
 pub later_than_behind : (a b c : Stamp) → is_later_stamp a b ≡ true → is_later_stamp c b ≡ false → is_later_stamp a c ≡ true
 later_than_behind a b c p q = grind arith

@@ -1,5 +1,5 @@
 -- The state after a start: its entries, its times, its histories, and that its own image survives it.
-use Rattle.std.proofs.Common.{◌≡◌, inl, inr, ℕ, ◌+◌, List, [], ◌∷◌, ◌++◌, refl, sym, ◌∙◌, ap, subst}
+use Rattle.std.proofs.Common.{◌≡◌, inl, inr, ℕ, ◌+◌, List, [], ◌∷◌, refl, sym, ◌∙◌, ap, subst}
 use Rattle.std.specs.Prelude.{IsTrue, Contains}
 use Rattle.std.specs.List.{AllByRecursion, range_with_len}
 use Rattle.rec_format.specs.declared.version.Digest.{Digest}
@@ -16,8 +16,10 @@ use Rattle.block_format.specs.Copies.{Copy, HasBodies, copies_from, copies_of, c
 use Rattle.block_format.specs.Recovery.{NoTwins, IsSound, Survives, start_state}
 use Rattle.recovery_laws.specs.Cold.{copies_high}
 use Rattle.recovery_laws.specs.Orderly.{AreWrites, IsFalling, NumbersBelow, NoBareVersions, IsOrderlyHistory, IsOrderly}
-use Rattle.recovery_laws.proofs.ColdLogs.{as_writes, versions_of, all_map, log_history, log_times}
+use Rattle.recovery_laws.proofs.ColdLogs.{as_writes, versions_of, log_history, log_times}
 use Rattle.recovery_laws.proofs.ColdVersions.{first_of, first_is_cold, versions_falling, all_versions, each_contained, no_bare_versions}
+use Rattle.recovery_laws.proofs.Surviving.{all_map}
+use Rattle.recovery_laws.proofs.Opening.{all_joined}
 
 -- ---- histories of flushed writes
 
@@ -65,10 +67,6 @@ start_times setup bodies part = log_times setup part (copies_of bodies)
 
 -- ---- each copy of an image has a version that can be recorded
 
-all_append : {A : Type 0} (P : A → Type 0) (xs ys : List A) → AllByRecursion P xs → AllByRecursion P ys → AllByRecursion P (xs ++ ys)
-all_append P [] ys front rest = rest
-all_append P (x ∷ xs) ys front rest = (front.0, all_append P xs ys front.1 rest)
-
 abbrev AreRecorded : List (Digest × Version) → Type 0
 AreRecorded records = AllByRecursion (λ r. CanBeRecorded r.0 r.1) records
 
@@ -84,7 +82,7 @@ versions_of_image g image [] bodies none = subst (λ (l : List Body). AreVersion
 versions_of_image g image (block ∷ blocks) bodies (inl closed) = versions_of_image g image blocks bodies closed.1
 versions_of_image g image (block ∷ blocks) bodies (inr open_) =
     subst (λ (l : List Body). AreVersions (copies_of l)) (sym open_.5)
-    (all_append (λ c. IsVersion c.version) (copies_from open_.1.block 0 open_.1.records) (copies_of open_.2) (versions_from open_.1.block 0 open_.1.records open_.3.records)
+    (all_joined (λ c. IsVersion c.version) (copies_from open_.1.block 0 open_.1.records) (copies_of open_.2) (versions_from open_.1.block 0 open_.1.records open_.3.records)
     (versions_of_image g image blocks open_.2 open_.6))
 
 -- ---- a sound image
@@ -102,7 +100,7 @@ module _ (setup : Setup) (image : List ℕ) (bodies : List Body) (sound : IsSoun
         numbers = no_numbers (start_state setup bodies).book.next_number versions;
         covered = subst NoBareVersions (sym (all_writes versions)) (no_bare_versions digest copies sound.puts);
         versions = subst (AllByRecursion IsVersion) (sym (all_writes versions))
-            (all_versions IsVersion digest copies (all_map (λ c. IsVersion c.version) (λ c. IsTrue (same_digest digest c.digest) → IsVersion c.version) (λ c is _. is) copies
+            (all_versions IsVersion digest copies (all_map (λ c. IsVersion c.version) (λ c. IsTrue (same_digest digest c.digest) → IsVersion c.version) copies (λ c is _. is)
             (versions_of_image sound.shape image (range_with_len 0 sound.shape.blocks) bodies sound.readable.blocks)));
       }
 
@@ -128,6 +126,6 @@ module _ (setup : Setup) (image : List ℕ) (bodies : List Body) (sound : IsSoun
     bodies = bodies;
     sound = sound;
     written = all_map (λ c. Contains (versions_of c.digest copies) c.version) (λ c. Contains (writes_of (history (start_state setup bodies) c.digest)) c.version)
-        (λ c there. subst (λ (l : List Version). Contains l c.version) (sym (writes_at c.digest)) there) copies (each_contained copies sound.twins);
+        copies (λ c there. subst (λ (l : List Version). Contains l c.version) (sym (writes_at c.digest)) there) (each_contained copies sound.twins);
     kept = λ digest. (history (start_state setup bodies) digest, record { keeps = kept_at digest; shown = shown_at digest });
   }

@@ -13,7 +13,8 @@ use Rattle.block_format.specs.Copies.{Copy, copies_named, later_copy, latest, ve
 use Rattle.block_format.specs.Recovery.{same_name, NoTwins, NoBarePuts}
 use Rattle.recovery_laws.specs.Orderly.{IsFalling, NoBareVersions}
 use Rattle.recovery_laws.proofs.ColdOrder.{later_trans, later_one_way, no_later_itself}
-use Rattle.recovery_laws.proofs.ColdLogs.{same_stamp, with_version, versions_of, all_map}
+use Rattle.recovery_laws.proofs.ColdLogs.{same_stamp, with_version, versions_of}
+use Rattle.recovery_laws.proofs.Surviving.{all_map}
 
 -- ---- each version
 
@@ -49,7 +50,7 @@ falling_with v (w ∷ older) falling = by (same_stamp v w) (is_later v w) refl r
     by : (s l : Bool) → same_stamp v w ≡ s → is_later v w ≡ l → IsFalling (with_version v older) → IsFalling (cond s (w ∷ older) (cond l (v ∷ w ∷ older) (w ∷ with_version v older)))
     by true l stamp later rest = falling
     by false true stamp later rest =
-        ((later, all_map (λ x. is_later w x ≡ true) (λ x. is_later v x ≡ true) (λ x e. later_trans v.stamp w.stamp x.stamp later e) older falling.0), falling)
+        ((later, all_map (λ x. is_later w x ≡ true) (λ x. is_later v x ≡ true) older (λ x e. later_trans v.stamp w.stamp x.stamp later e) falling.0), falling)
     by false false stamp later rest = (all_with (λ x. is_later w x ≡ true) v older (earlier v.stamp w.stamp stamp later) falling.0, rest)
 
 pub versions_falling : (digest : Digest) (copies : List Copy) → IsFalling (versions_of digest copies)
@@ -133,7 +134,7 @@ newer_is digest c (Some d) same named = by (same_stamp c.version d.version) (is_
     by false false stamp later = sym (ap (λ (x : Copy). x.version) (cond-true (is_later d.version c.version) d c (earlier c.version.stamp d.version.stamp stamp later)))
 
 no_twins_rest : (c : Copy) (copies : List Copy) → NoTwins (c ∷ copies) → NoTwins copies
-no_twins_rest c copies twins = all_map (λ a. AllByRecursion (IsNoTwin a) (c ∷ copies)) (λ a. AllByRecursion (IsNoTwin a) copies) (λ a all. all.1) copies twins.1
+no_twins_rest c copies twins = all_map (λ a. AllByRecursion (IsNoTwin a) (c ∷ copies)) (λ a. AllByRecursion (IsNoTwin a) copies) copies (λ a all. all.1) twins.1
 
 -- the first of a digest's versions is what a cold start finds
 pub first_is_cold : (digest : Digest) (copies : List Copy) → NoTwins copies → first_of (versions_of digest copies) ≡ cold digest copies
@@ -184,7 +185,7 @@ each_is_one : (copies : List Copy) → NoTwins copies → AllByRecursion (λ c. 
 each_is_one [] twins = tt
 each_is_one (c ∷ copies) twins = (
   first (same_digest c.digest c.digest) (same_digest_refl c.digest),
-  all_map (λ d. IsOneOf d.version (versions_of d.digest copies)) (λ d. IsOneOf d.version (versions_of d.digest (c ∷ copies))) (λ d one. kept d one (same_digest d.digest c.digest)) copies
+  all_map (λ d. IsOneOf d.version (versions_of d.digest copies)) (λ d. IsOneOf d.version (versions_of d.digest (c ∷ copies))) copies (λ d one. kept d one (same_digest d.digest c.digest))
       (each_is_one copies (no_twins_rest c copies twins)),
 )
   where
@@ -192,7 +193,7 @@ each_is_one (c ∷ copies) twins = (
     here =
         one_more c.version (versions_of c.digest copies)
         (all_versions (λ w. c.version.stamp ≡ w.stamp → c.version ≡ w) c.digest copies
-        (all_map (IsNoTwin c) (λ d. IsTrue (same_digest c.digest d.digest) → c.version.stamp ≡ d.version.stamp → c.version ≡ d.version) (λ d twin. twin) copies twins.0.1))
+        (all_map (IsNoTwin c) (λ d. IsTrue (same_digest c.digest d.digest) → c.version.stamp ≡ d.version.stamp → c.version ≡ d.version) copies (λ d twin. twin) twins.0.1))
 
     first : (b : Bool) → b ≡ true → IsOneOf c.version (cond b (with_version c.version (versions_of c.digest copies)) (versions_of c.digest copies))
     first true e = here
@@ -206,7 +207,7 @@ each_is_one (c ∷ copies) twins = (
 -- the version of each copy is among those of its digest
 pub each_contained : (copies : List Copy) → NoTwins copies → AllByRecursion (λ c. Contains (versions_of c.digest copies) c.version) copies
 each_contained copies twins =
-    all_map (λ c. IsOneOf c.version (versions_of c.digest copies)) (λ c. Contains (versions_of c.digest copies) c.version) (λ c one. contains c.version (versions_of c.digest copies) one) copies
+    all_map (λ c. IsOneOf c.version (versions_of c.digest copies)) (λ c. Contains (versions_of c.digest copies) c.version) copies (λ c one. contains c.version (versions_of c.digest copies) one)
     (each_is_one copies twins)
 
 -- ---- cover flags
@@ -216,36 +217,37 @@ all_true true true a b c d e f h = h
 all_true true false a b c d e f h = absurd (false≢true f)
 all_true false t a b c d e f h = absurd (false≢true e)
 
+-- the rule of three copies
+abbrev pub IsCopyRule : (a t p : Copy) → Type 0
+IsCopyRule a t p =
+    IsTrue (same_name a t && same_name t p && is_tombstone t.version && is_put p.version && is_later t.version a.version && is_later p.version t.version) → p.version.cover ≡ true
+
 module _ (digest : Digest) (copies : List Copy) where
   abbrev versions : List Version
   versions = versions_of digest copies
 
-  -- the rule of three copies, and of three versions
-  abbrev IsCopyRule : (a t p : Copy) → Type 0
-  IsCopyRule a t p =
-      IsTrue (same_name a t && same_name t p && is_tombstone t.version && is_put p.version && is_later t.version a.version && is_later p.version t.version) → p.version.cover ≡ true
-
+  -- the rule of three versions
   abbrev IsRule : (a t p : Version) → Type 0
   IsRule a t p = IsTrue (is_tombstone t && is_put p && is_later t a && is_later p t) → p.cover ≡ true
 
   third : (a t : Copy) → IsTrue (same_digest digest a.digest) → IsTrue (same_digest digest t.digest) → AllByRecursion (IsCopyRule a t) copies → AllByRecursion (IsRule a.version t.version) versions
   third a t of_a of_t all =
       all_versions (IsRule a.version t.version) digest copies
-      (all_map (IsCopyRule a t) (λ p. IsTrue (same_digest digest p.digest) → IsRule a.version t.version p.version)
+      (all_map (IsCopyRule a t) (λ p. IsTrue (same_digest digest p.digest) → IsRule a.version t.version p.version) copies
       (λ p rule of_p h. rule (all_true (same_name a t) (same_name t p) (is_tombstone t.version) (is_put p.version) (is_later t.version a.version) (is_later p.version t.version)
-      (both_named digest a.digest t.digest of_a of_t) (both_named digest t.digest p.digest of_t of_p) h)) copies all)
+      (both_named digest a.digest t.digest of_a of_t) (both_named digest t.digest p.digest of_t of_p) h)) all)
 
   second : (a : Copy) → IsTrue (same_digest digest a.digest) → AllByRecursion (λ t. AllByRecursion (IsCopyRule a t) copies) copies
       → AllByRecursion (λ t. AllByRecursion (IsRule a.version t) versions) versions
   second a of_a all =
       all_versions (λ t. AllByRecursion (IsRule a.version t) versions) digest copies
-      (all_map (λ t. AllByRecursion (IsCopyRule a t) copies) (λ t. IsTrue (same_digest digest t.digest) → AllByRecursion (IsRule a.version t.version) versions)
-      (λ t rules of_t. third a t of_a of_t rules) copies all)
+      (all_map (λ t. AllByRecursion (IsCopyRule a t) copies) (λ t. IsTrue (same_digest digest t.digest) → AllByRecursion (IsRule a.version t.version) versions) copies
+      (λ t rules of_t. third a t of_a of_t rules) all)
 
   -- where no put of the copies is bare, none of the versions is
   pub no_bare_versions : NoBarePuts copies → NoBareVersions versions
   no_bare_versions all =
       all_versions (λ a. AllByRecursion (λ t. AllByRecursion (IsRule a t) versions) versions) digest copies
       (all_map (λ a. AllByRecursion (λ t. AllByRecursion (IsCopyRule a t) copies) copies)
-      (λ a. IsTrue (same_digest digest a.digest) → AllByRecursion (λ t. AllByRecursion (IsRule a.version t) versions) versions)
-      (λ a rules of_a. second a of_a rules) copies all)
+      (λ a. IsTrue (same_digest digest a.digest) → AllByRecursion (λ t. AllByRecursion (IsRule a.version t) versions) versions) copies
+      (λ a rules of_a. second a of_a rules) all)

@@ -1,21 +1,16 @@
 -- Histories that grow by one write stay orderly.
-use Rattle.std.proofs.Common.{◌≡◌, ◌⊎◌, inl, inr, ⊎_elim, ℕ, ◌+◌, ◌<◌, Bool, true, false, not, ◌&&◌, List, [], ◌∷◌, refl, sym, ◌∙◌, ap, subst, arith}
+use Rattle.std.proofs.Common.{◌≡◌, ◌⊎◌, inl, inr, ⊎_elim, ℕ, ◌+◌, ◌<◌, ◌≤◌, Bool, true, false, not, ◌&&◌, List, [], ◌∷◌, refl, sym, ◌∙◌, ap, arith}
 use Rattle.std.proofs.lemmas.Bool.{and_parts, and_from, both_ways}
 use Rattle.std.proofs.lemmas.List.Elements.{All-from_recursion, recursion_from_All, All-contains, All-weaker, All-contains_itself, Contains-append_left, Contains-append_cases, Contains-push, Contains-push_cases}
 use Rattle.std.specs.Prelude.{Contains, IsTrue}
 use Rattle.std.specs.List.{AllByRecursion}
-use Rattle.rec_format.specs.declared.version.Digest.{Digest}
 use Rattle.rec_format.specs.declared.version.Stamp.{Stamp}
 use Rattle.rec_format.specs.declared.version.Version.{Version}
-use Rattle.rec_format.specs.Places.{same_digest}
 use Rattle.rec_format.specs.Versions.{is_later, is_put, is_tombstone, IsVersion}
 use Rattle.rec_format.specs.Histories.{Item, write, dropped, rid, cleared, is_covered, writes_of}
-use Rattle.rec_format.specs.Book.{Setup}
-use Rattle.rec_format.specs.Device.{State, history}
-use Rattle.rec_format.proofs.Laws.{later_fact, same_digest_is}
-use Rattle.recovery_laws.specs.Orderly.{NumbersBelow, NoBareVersions, IsOrderlyHistory, IsOrderly}
-use Rattle.recovery_laws.specs.Writes.{MayFollow, WroteOne}
-use Rattle.recovery_laws.proofs.Surviving.{all_map, new_item, history_more, history_same}
+use Rattle.rec_format.proofs.Laws.{later_fact}
+use Rattle.recovery_laws.specs.Orderly.{NumbersBelow, NoBareVersions, IsOrderlyHistory}
+use Rattle.recovery_laws.proofs.Surviving.{all_map}
 
 -- ---- each element of a list
 
@@ -103,16 +98,16 @@ covered_after n (cleared ∷ items) a tomb h in_a in_tomb is_tomb before = absur
 
 -- ---- a history with one write more
 
-numbers_rise : (n : ℕ) (items : List Item) → NumbersBelow n items → NumbersBelow (n + 1) items
-numbers_rise n [] below = tt
-numbers_rise n (write v numbers ∷ items) below = (all_map (λ m. m < n) (λ m. m < n + 1) numbers (λ m lt. omega arith) below.0, numbers_rise n items below.1)
-numbers_rise n (dropped ∷ items) below = numbers_rise n items below
-numbers_rise n (rid ∷ items) below = numbers_rise n items below
-numbers_rise n (cleared ∷ items) below = numbers_rise n items below
+pub numbers_rise : (n m : ℕ) (items : List Item) → n ≤ m → NumbersBelow n items → NumbersBelow m items
+numbers_rise n m [] up below = tt
+numbers_rise n m (write v numbers ∷ items) up below = (all_map (λ k. k < n) (λ k. k < m) numbers (λ k lt. omega arith) below.0, numbers_rise n m items up below.1)
+numbers_rise n m (dropped ∷ items) up below = numbers_rise n m items up below
+numbers_rise n m (rid ∷ items) up below = numbers_rise n m items up below
+numbers_rise n m (cleared ∷ items) up below = numbers_rise n m items up below
 
 -- a history stays orderly where other digests are written
-history_rises : (n : ℕ) (items : List Item) → IsOrderlyHistory n items → IsOrderlyHistory (n + 1) items
-history_rises n items h = record { writes = h.writes; falling = h.falling; numbers = numbers_rise n items h.numbers; covered = h.covered; versions = h.versions }
+pub history_rises : (n m : ℕ) (items : List Item) → n ≤ m → IsOrderlyHistory n items → IsOrderlyHistory m items
+history_rises n m items up h = record { writes = h.writes; falling = h.falling; numbers = numbers_rise n m items up h.numbers; covered = h.covered; versions = h.versions }
 
 module _ (n : ℕ) (items : List Item) (v : Version) (h : IsOrderlyHistory n items) (version : IsVersion v) (put : is_put v ≡ true) (later : AllByRecursion (λ w. is_later v w ≡ true) (writes_of items)) (cover : v.cover ≡ is_covered items) where
   is_older : (w : Version) → Contains (writes_of items) w → is_later v w ≡ true
@@ -124,25 +119,11 @@ module _ (n : ℕ) (items : List Item) (v : Version) (h : IsOrderlyHistory n ite
   cover_of a tomb p (inr old) (inr t_old) (inl new) b = ap (λ (w : Version). w.cover) (sym new) ∙ cover ∙ covered_after n items a tomb h old t_old b.tombstone b.before
   cover_of a tomb p (inr old) (inr t_old) (inr p_old) b = bare_at (writes_of items) a tomb p h.covered old t_old p_old b
 
-  history_grows : IsOrderlyHistory (n + 1) (write v (n ∷ []) ∷ items)
+  pub history_grows : IsOrderlyHistory (n + 1) (write v (n ∷ []) ∷ items)
   history_grows = record {
     writes = h.writes;
     falling = (later, h.falling);
-    numbers = ((omega arith, tt), numbers_rise n items h.numbers);
+    numbers = ((omega arith, tt), numbers_rise n (n + 1) items (omega arith) h.numbers);
     covered = none_bare (v ∷ writes_of items) (λ a tomb p in_a in_tomb in_p b. cover_of a tomb p (cons_cases v (writes_of items) a in_a) (cons_cases v (writes_of items) tomb in_tomb) (cons_cases v (writes_of items) p in_p) b);
     versions = (version, h.versions);
   }
-
--- with one write more all histories are orderly
-pub orderly_after : (setup : Setup) (s t : State) (digest : Digest) (v : Version) → IsOrderly s → MayFollow setup s digest v → WroteOne s t digest v → IsOrderly t
-orderly_after setup s t digest v orderly may wrote e =
-    subst (λ (n : ℕ). IsOrderlyHistory n (history t e)) (sym wrote.next) (by (same_digest e digest) refl)
-  where
-    by : (b : Bool) → same_digest e digest ≡ b → IsOrderlyHistory (s.book.next_number + 1) (history t e)
-    by true same =
-        subst (λ (l : List Item). IsOrderlyHistory (s.book.next_number + 1) l) (sym (history_more s t digest v wrote e same))
-        (subst (λ (d : Digest). IsOrderlyHistory (s.book.next_number + 1) (new_item s v ∷ history s d)) (sym (same_digest_is e digest same))
-        (history_grows s.book.next_number (history s digest) v (orderly digest) may.version may.put may.later may.cover))
-    by false other =
-        subst (λ (l : List Item). IsOrderlyHistory (s.book.next_number + 1) l) (sym (history_same s t digest v wrote e other))
-        (history_rises s.book.next_number (history s e) (orderly e))

@@ -6,11 +6,10 @@ use Rattle.std.proofs.lemmas.Bool.{cases_eq}
 use Rattle.std.specs.List.{AllByRecursion, range_with_len}
 use Rattle.rec_format.specs.Versions.{block_capacity}
 use Rattle.rec_format.specs.Book.{Setup}
-use Rattle.rec_format.specs.Device.{State}
 use Rattle.block_format.specs.declared.geometry.Geometry.{Geometry}
 use Rattle.block_format.specs.Layout.{IsBlockSize, IsGeometry, IsOpen, IsClosed, gate_sector, body_bytes, device_end, Body, IsBody, IsHeader}
 use Rattle.block_format.specs.Copies.{HasBodies, IsReadable}
-use Rattle.block_format.specs.Recovery.{IsShapeOf, IsSound, Survives}
+use Rattle.block_format.specs.Recovery.{IsShapeOf}
 use Rattle.recovery_laws.specs.Writes.{DiffersIn}
 
 -- ---- the shape
@@ -187,25 +186,3 @@ module _ (g : Geometry) (block : ℕ) (old new : List ℕ) (differs : DiffersIn 
       in_back : (others : List Body) → HasBodies g old (block ∷ blocks_behind g block) others → HasBodies g new (blocks_behind g block) others
       in_back others (inl h) = bodies_alike g old new (blocks_behind g block) others alike_behind h.1
       in_back others (inr h) = absurd (closed h.0)
-
--- a sound image is read in the shape of its setup
-pub in_shape : (setup : Setup) (g : Geometry) (image : List ℕ) (bodies : List Body) → IsShapeOf setup g → IsGeometry g → (sound : IsSound setup image bodies) → IsReadable image g bodies
-in_shape setup g image bodies of_g is_g sound =
-    subst (λ (shape : Geometry). IsReadable image shape bodies) (one_shape setup sound.shape g sound.is_shape of_g sound.readable.header.geometry is_g) sound.readable
-
--- a change within a block whose gate is closed before and after shows nothing
-pub survives_elsewhere : (setup : Setup) (g : Geometry) (s : State) (block : ℕ) (old new : List ℕ) → IsShapeOf setup g → IsGeometry g → DiffersIn g block old new
-    → IsClosed (gate_sector g block old) → IsClosed (gate_sector g block new) → Survives setup s old → Survives setup s new
-survives_elsewhere setup g s block old new of_g is_g differs closed_old closed_new v = record {
-  bodies = v.bodies;
-  sound = record {
-    shape = g;
-    is_shape = of_g;
-    readable = readable_elsewhere g block old new differs v.bodies closed_old closed_new (in_shape setup g old v.bodies of_g is_g v.sound);
-    twins = v.sound.twins;
-    puts = v.sound.puts;
-    strays = v.sound.strays;
-  };
-  written = v.written;
-  kept = v.kept;
-}

@@ -17,6 +17,14 @@ later_of (Some found) v = if is_later v found then v else found
 abbrev pub cold_after : Digest → Option Version → Copy → Option Version
 cold_after digest found c = if same_digest digest c.digest then Some (later_of found c.version) else found
 
+-- the same of copies
+abbrev pub later_one : Option Copy → Copy → Copy
+later_one None c = c
+later_one (Some found) c = if is_later c.version found.version then c else found
+
+abbrev pub cold_copy_after : Digest → Option Copy → Copy → Option Copy
+cold_copy_after digest found c = if same_digest digest c.digest then Some (later_one found c) else found
+
 -- the greatest last update time of the copies of a part, 0 where there are none
 abbrev pub copies_high : Setup → (part : ℕ) → List Copy → ℕ
 copies_high setup part [] = 0
