@@ -1,0 +1,158 @@
+-- What each call of the disk makes of a shelf while its first buffer is flushed.
+use Rattle.std.proofs.Common.{◌≡◌, ℕ, ◌+◌, ◌-◌, Bool, true, false, List, [], ◌∷◌, map, take, refl, sym, ap, ◌∙◌, subst, arith}
+use Rattle.std.specs.Prelude.{◌↔◌, MatchBool, IsTrue}
+use Rattle.std.proofs.lemmas.List.{take-take}
+use Rattle.disk_model.specs.Bytes.{range}
+use Rattle.disk_model.specs.Disk.{Images, Within, TornFrom, IsHonest, Advances}
+use Rattle.rec_format.specs.Histories.{is_begun}
+use Rattle.rec_format.specs.Book.{Setup, Buffer, is_opening, pending_of}
+use Rattle.rec_format.specs.Book as book
+use Rattle.rec_format.specs.Device.{State}
+use Rattle.block_format.specs.declared.geometry.Geometry.{Geometry}
+use Rattle.block_format.specs.Layout.{IsOpen, IsBody, block_place, gate_sector, gate_text, body_bytes}
+use Rattle.block_flusher.specs.Images.{IsShut, HasOneBody}
+use Rattle.write_buffer.specs.declared.phase.Phase.{Phase}
+use Rattle.write_buffer.specs.declared.phase.Phase.TheVariants.{Filling, Sealed, BodyDone, GateBegun}
+use Rattle.write_buffer.specs.Phases.{later_phase}
+use Rattle.write_buffer.specs.Buffers.{BufferState, bytes_of, body_in, with_phase}
+use Rattle.recovery_laws.specs.Writes.{DiffersIn}
+use Rattle.recovery_laws.specs.Holding.{IsHeld}
+use Rattle.std.proofs.lemmas.Bool.{or_left, and_from, eq-eqb, false≢true}
+use Rattle.block_shelf.specs.View.{ShelfView, IsShelf, IsSetupOf, IsBufferOf, IsReady, is_filling, is_written}
+use Rattle.block_shelf.specs.Standing.{StandsFor, HasWritten, book_buffer, book_phase}
+use Rattle.block_shelf.specs.Calls.{Goes}
+use Rattle.block_shelf.specs.Flushes.{GateIs}
+use Rattle.block_shelf.proofs.FlushImages.{body_differs, gate_differs, begun_records, behind_held, opening_held}
+use Rattle.block_shelf.proofs.ReadOnly.{ready_within}
+use Rattle.block_shelf.proofs.FlushGoes.{ArePresent, now_left, goes_on}
+use Rattle.block_shelf.proofs.FlushShelf.{first_of, IsElsewhere, within_elsewhere, shelf_after, stands_after, placed_after}
+
+-- a buffer whose gate has begun is begun in the book
+pub begun_first : (s : State) (b : BufferState) (rest : List BufferState) → b.phase ≡ GateBegun → s.book.buffers ≡ map book_buffer (b ∷ rest) → is_begun (pending_of s.book) b.number ≡ true
+begun_first s b rest phase is =
+    subst (λ (l : List Buffer). is_begun (map (λ x. (x.number, is_opening x.phase)) l) b.number ≡ true) (sym is)
+    (or_left _ _ (and_from _ _ (eq-eqb b.number b.number refl) (ap (λ (p : Phase). is_opening (book_phase p)) phase)))
+
+pub written_is_sealed : (p : Phase) → is_written p ≡ true → is_filling p ≡ false
+written_is_sealed Filling is = absurd (false≢true is)
+written_is_sealed Sealed is = refl
+written_is_sealed BodyDone is = refl
+written_is_sealed GateBegun is = refl
+
+-- the phase behind the write of a body
+pub settled_phase : (b c : BufferState) → c ≡ with_phase (later_phase b.phase BodyDone) b → b.phase ≡ Sealed → c ≡ with_phase BodyDone b
+settled_phase b c set phase = set ∙ ap (λ (q : Phase). with_phase (later_phase q BodyDone) b) phase
+
+-- the gate that was read is that of each image
+pub gate_read : (g : Geometry) (block at place : ℕ) (is_open : Bool) (before bytes gate : List ℕ) (images : Images) → place ≡ block_place g at → at ≡ block → (IsTrue is_open ↔ IsOpen gate) → gate ≡ range place 16 bytes
+    → bytes ≡ before → ((c : List ℕ) → images c → c ≡ before) → GateIs is_open g block images
+gate_read g block at place is_open before bytes gate images starts is says read same only = by is_open says
+  where
+    front : take 16 gate ≡ take 16 (gate_sector g block bytes)
+    front = ap (λ (l : List ℕ). take 16 l) (read ∙ ap (λ (p : ℕ). range p 16 bytes) (starts ∙ ap (λ (k : ℕ). block_place g k) is)) ∙ take-take 16 16 _ (omega arith) ∙ sym (take-take 16 4096 _ (omega arith))
+
+    by : (r : Bool) → (IsTrue r ↔ IsOpen gate) → GateIs r g block images
+    by true open_ = λ c image. subst (λ (x : List ℕ). take 16 (gate_sector g block x) ≡ gate_text) (same ∙ sym (only c image)) (sym front ∙ open_.0 refl)
+    by false open_ = λ c image is. false≢true (open_.1 (front ∙ subst (λ (x : List ℕ). take 16 (gate_sector g block x) ≡ gate_text) (only c image ∙ sym same) is))
+
+-- what a call of the disk keeps
+pub record IsCall {D : Type 0} (extent : D → ℕ) (tells : D → Type 0) (seen : D → List ℕ) (may_leave : D → Images) (moment : D → ℕ) (had : D → ℕ → Type 0) (left_since : D → ℕ → Images) (old new : D) : Type 0 where
+  pub present : ArePresent may_leave moment had left_since new
+  pub time : Advances (moment old) (had old) (had new) (left_since old) (left_since new)
+  pub size : extent new ≡ extent old
+  pub was : IsHonest tells seen may_leave new → IsHonest tells seen may_leave old
+
+module _ {D : Type 0} (extent : D → ℕ) (tells : D → Type 0) (seen : D → List ℕ) (may_leave : D → Images) (moment : D → ℕ) (had : D → ℕ → Type 0) (left_since : D → ℕ → Images)
+    (old : ShelfView D) (d : D) (b : BufferState) (rest after : List BufferState) (p : Phase) (is : old.buffers ≡ b ∷ rest) (to : after ≡ with_phase p b ∷ rest) (shelf : IsShelf extent tells seen may_leave old)
+    (call : IsCall extent tells seen may_leave moment had left_since old.disk d) where
+  -- each image now is one since the call
+  pub since_call : (P : Images) → ((c : List ℕ) → left_since d (moment old.disk) c → P c) → (c : List ℕ) → may_leave d c → P c
+  since_call P each c image = each c (now_left tells seen may_leave moment had left_since old.disk d call.present call.time c image)
+
+  own : IsBufferOf old.geometry old.next_number b
+  own = first_of (IsBufferOf old.geometry old.next_number) old.buffers rest b is shelf.buffers
+
+  ready : IsHonest tells seen may_leave old.disk → IsReady old.geometry (may_leave old.disk) b
+  ready honest = first_of (IsReady old.geometry (may_leave old.disk)) old.buffers rest b is (shelf.ready honest)
+
+  abbrev IsAway : Type 0
+  IsAway = IsHonest tells seen may_leave old.disk → IsElsewhere old.geometry b.block (may_leave old.disk) (left_since d (moment old.disk))
+
+  -- a call that changes at most the first buffer's block
+  pub shelf_called : IsAway → is_filling p ≡ false → (IsHonest tells seen may_leave d → IsReady old.geometry (may_leave d) (with_phase p b)) → IsShelf extent tells seen may_leave (record old { disk = d; buffers = after })
+  shelf_called away sealed mine =
+      shelf_after extent tells seen may_leave old d b rest after is p to shelf call.size sealed call.was
+      (λ honest c image. since_call (λ x. (from : List ℕ) × may_leave old.disk from × DiffersIn old.geometry b.block from x) (away honest) c image) mine
+
+  pub goes_called : book_phase p ≡ book_phase b.phase → IsAway → (setup : Setup) (s : State) → StandsFor old s
+      → (IsHonest tells seen may_leave old.disk → ((c : List ℕ) → may_leave old.disk c → IsHeld setup s c) → (c : List ℕ) → left_since d (moment old.disk) c → IsHeld setup s c)
+      → Goes tells seen may_leave moment had left_since setup [] old s (record old { disk = d; buffers = after })
+  goes_called same away setup s st each =
+      goes_on tells seen may_leave moment had left_since setup old (record old { disk = d; buffers = after }) s
+      (stands_after extent tells seen may_leave old d b rest after is p to s s.book (st.buffers ∙ ap (λ (l : List BufferState). map book_buffer l) is ∙ phased) refl refl refl st)
+      (λ honest placed. placed_after extent tells seen may_leave old d b rest after is p to s s.book refl st
+      (λ c image. since_call (λ x. (from : List ℕ) × may_leave old.disk from × DiffersIn old.geometry b.block from x) (away honest) c image) placed)
+      call.present call.time each
+    where
+      phased : map book_buffer (b ∷ rest) ≡ map book_buffer (with_phase p b ∷ rest)
+      phased = ap (λ (q : book.Phase). (record (book_buffer b) { phase = q }) ∷ map book_buffer rest) (sym same)
+
+  -- ---- a read or a sync
+
+  abbrev IsWithin : Type 0
+  IsWithin = IsHonest tells seen may_leave old.disk → Within (may_leave old.disk) (left_since d (moment old.disk))
+
+  pub within_away : IsWithin → IsAway
+  within_away within honest = within_elsewhere old.geometry b.block (may_leave old.disk) (left_since d (moment old.disk)) (within honest)
+
+  pub ready_read : IsWithin → IsHonest tells seen may_leave d → IsReady old.geometry (may_leave d) b
+  ready_read within honest = ready_within old.geometry (may_leave old.disk) (may_leave d) b (since_call (may_leave old.disk) (within (call.was honest))) (ready (call.was honest))
+
+  pub goes_read : book_phase p ≡ book_phase b.phase → IsWithin → (setup : Setup) (s : State) → StandsFor old s → Goes tells seen may_leave moment had left_since setup [] old s (record old { disk = d; buffers = after })
+  goes_read same within setup s st = goes_called same (within_away within) setup s st (λ honest held c left. held c (within honest c left))
+
+  -- ---- the body is written, behind a closed gate
+
+  module _ (block : ℕ) (at : block ≡ b.block) where
+    abbrev BodyTorn : ℕ → Type 0
+    BodyTorn k = IsHonest tells seen may_leave old.disk → TornFrom (block_place old.geometry k + 4096) (old.geometry.block_size - 4096) (may_leave old.disk) (left_since d (moment old.disk))
+
+    pub body_away : BodyTorn block → IsAway
+    body_away torn honest c left = let t = subst BodyTorn at torn honest c left in (t.0, t.1, body_differs old.geometry b.block shelf.geometry t.0 c t.2)
+
+    pub goes_body : book_phase p ≡ book_phase b.phase → b.phase ≡ Sealed → BodyTorn block → (IsHonest tells seen may_leave old.disk → IsShut old.geometry block (left_since d (moment old.disk)))
+        → (setup : Setup) (s : State) → IsSetupOf setup old → StandsFor old s → Goes tells seen may_leave moment had left_since setup [] old s (record old { disk = d; buffers = after })
+    goes_body same phase torn shut setup s of_old st =
+        goes_called same (body_away torn) setup s st
+        (λ honest held c left. behind_held setup old.geometry s of_old.shape shelf.geometry b.block (may_leave old.disk) (left_since d (moment old.disk)) (subst BodyTorn at torn honest) (closed honest)
+        (subst (λ (k : ℕ). IsShut old.geometry k (left_since d (moment old.disk))) at (shut honest)) held c left)
+      where
+        closed : IsHonest tells seen may_leave old.disk → IsShut old.geometry b.block (may_leave old.disk)
+        closed honest = subst (λ (q : Phase). MatchBool (is_written q) (HasOneBody old.geometry b.block (bytes_of b) (may_leave old.disk)) (IsShut old.geometry b.block (may_leave old.disk))) phase (ready honest)
+
+    -- ---- the gate is written, over the body
+
+    abbrev GateTorn : ℕ → Type 0
+    GateTorn k = IsHonest tells seen may_leave old.disk → TornFrom (block_place old.geometry k) 4096 (may_leave old.disk) (left_since d (moment old.disk))
+
+    pub gate_away : GateTorn block → IsAway
+    gate_away torn honest c left = let t = subst GateTorn at torn honest c left in (t.0, t.1, gate_differs old.geometry b.block shelf.geometry t.0 c t.2)
+
+    -- each image of the call has the body that was read before
+    pub gate_body : b.phase ≡ GateBegun → (IsHonest tells seen may_leave old.disk → HasOneBody old.geometry block (body_bytes old.geometry block (seen old.disk)) (left_since d (moment old.disk)))
+        → IsHonest tells seen may_leave old.disk → HasOneBody old.geometry b.block (bytes_of b) (left_since d (moment old.disk))
+    gate_body phase one honest c left = subst (λ (k : ℕ). HasOneBody old.geometry k (body_bytes old.geometry k (seen old.disk)) (left_since d (moment old.disk))) at (one honest) c left ∙ body_read phase honest (seen old.disk) honest.image
+      where
+        body_read : b.phase ≡ GateBegun → IsHonest tells seen may_leave old.disk → HasOneBody old.geometry b.block (bytes_of b) (may_leave old.disk)
+        body_read phase honest = subst (λ (q : Phase). MatchBool (is_written q) (HasOneBody old.geometry b.block (bytes_of b) (may_leave old.disk)) (IsShut old.geometry b.block (may_leave old.disk))) phase (ready honest)
+
+    pub goes_gate : book_phase p ≡ book_phase b.phase → b.phase ≡ GateBegun → IsBody b.capacity (bytes_of b) (body_in b)
+        → (IsHonest tells seen may_leave old.disk → IsShut old.geometry b.block (may_leave old.disk)) → GateTorn block
+        → (IsHonest tells seen may_leave old.disk → HasOneBody old.geometry block (body_bytes old.geometry block (seen old.disk)) (left_since d (moment old.disk)))
+        → (setup : Setup) (s : State) → IsSetupOf setup old → StandsFor old s → Goes tells seen may_leave moment had left_since setup [] old s (record old { disk = d; buffers = after })
+    goes_gate same phase is_body closed torn one setup s of_old st =
+        goes_called same (gate_away torn) setup s st
+        (λ honest held c left. opening_held setup old.geometry s of_old.shape shelf.geometry b own.block (subst (λ (n : ℕ). IsBody n (bytes_of b) (body_in b)) own.capacity is_body)
+        (may_leave old.disk) (left_since d (moment old.disk)) (subst GateTorn at torn honest) (closed honest) (gate_body phase one honest)
+        (begun_records setup old.geometry s old.next_number b of_old.shape own (λ digest. first_of (HasWritten s digest) old.buffers rest b is (st.records digest))
+        (begun_first s b rest phase (st.buffers ∙ ap (λ (l : List BufferState). map book_buffer l) is))) held c left)

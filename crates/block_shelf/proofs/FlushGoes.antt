@@ -1,0 +1,92 @@
+-- How a shelf goes by no step, by one, and by several.
+use Rattle.std.proofs.Common.{◌≡◌, inl, inr, ℕ, List, [], ◌∷◌, ◌++◌, refl, sym, subst}
+use Rattle.disk_model.specs.Disk.{Images, IsHonest, Advances}
+use Rattle.disk_model.specs.Runs.{OneOf, leaves_then, leaves_more, leaves_none}
+use Rattle.rec_format.specs.Book.{Setup}
+use Rattle.rec_format.specs.Device.{State}
+use Rattle.rec_format.specs.Steps.{Step, after_step, after_steps, states_through}
+use Rattle.block_format.specs.Recovery.{Survives}
+use Rattle.recovery_laws.specs.Orderly.{IsOrderly}
+use Rattle.recovery_laws.specs.Holding.{IsHeld}
+use Rattle.recovery_laws.proofs.Held.{held_survives}
+use Rattle.write_buffer.specs.Buffers.{BufferState}
+use Rattle.block_shelf.specs.View.{ShelfView}
+use Rattle.block_shelf.specs.Standing.{StandsFor, IsPlaced, IsSafe}
+use Rattle.block_shelf.specs.Calls.{Goes}
+
+-- ---- states on the way
+
+after_joined : (setup : Setup) (xs ys : List Step) (s : State) → after_steps setup (xs ++ ys) s ≡ after_steps setup ys (after_steps setup xs s)
+after_joined setup [] ys s = refl
+after_joined setup (x ∷ xs) ys s = after_joined setup xs ys (after_step setup x s)
+
+at_start : (P : State → Images) (setup : Setup) (ys : List Step) (s : State) (c : List ℕ) → P s c → OneOf P (states_through setup ys s) c
+at_start P setup [] s c h = inl h
+at_start P setup (y ∷ ys) s c h = inl h
+
+through_front : (P : State → Images) (setup : Setup) (xs ys : List Step) (s : State) (c : List ℕ) → OneOf P (states_through setup xs s) c → OneOf P (states_through setup (xs ++ ys) s) c
+through_front P setup [] ys s c (inl h) = at_start P setup ys s c h
+through_front P setup [] ys s c (inr h) = absurd h
+through_front P setup (x ∷ xs) ys s c (inl h) = inl h
+through_front P setup (x ∷ xs) ys s c (inr h) = inr (through_front P setup xs ys (after_step setup x s) c h)
+
+through_back : (P : State → Images) (setup : Setup) (xs ys : List Step) (s : State) (c : List ℕ) → OneOf P (states_through setup ys (after_steps setup xs s)) c → OneOf P (states_through setup (xs ++ ys) s) c
+through_back P setup [] ys s c h = h
+through_back P setup (x ∷ xs) ys s c h = inr (through_back P setup xs ys (after_step setup x s) c h)
+
+survives : (setup : Setup) (s : State) (c : List ℕ) → IsOrderly s → IsHeld setup s c → Survives setup s c
+survives setup s c orderly held = held_survives setup s c held.0 orderly held.1
+
+-- ---- the disk's laws at a point
+
+pub record ArePresent {D : Type 0} (may_leave : D → Images) (moment : D → ℕ) (had : D → ℕ → Type 0) (left_since : D → ℕ → Images) (disk : D) : Type 0 where
+  pub now : had disk (moment disk)
+  pub alone : (c : List ℕ) → left_since disk (moment disk) c → may_leave disk c
+  pub since : (t : ℕ) (c : List ℕ) → had disk t → may_leave disk c → left_since disk t c
+
+module _ {D : Type 0} (tells : D → Type 0) (seen : D → List ℕ) (may_leave : D → Images) (moment : D → ℕ) (had : D → ℕ → Type 0) (left_since : D → ℕ → Images) where
+  -- what may be left now was left since
+  pub now_left : (old new : D) → ArePresent may_leave moment had left_since new → Advances (moment old) (had old) (had new) (left_since old) (left_since new)
+      → (c : List ℕ) → may_leave new c → left_since new (moment old) c
+  now_left old new present time c image = present.since (moment old) c (time.stays (moment old) time.started) image
+
+  pub time_still : (disk : D) → ArePresent may_leave moment had left_since disk → Advances (moment disk) (had disk) (had disk) (left_since disk) (left_since disk)
+  time_still disk present = (leaves_none moment had left_since (may_leave disk) (may_leave disk) disk present.now present.alone present.since (λ c image. image)).time
+
+  -- no step
+  pub goes_on : (setup : Setup) (old new : ShelfView D) (s : State) → StandsFor new s → (IsHonest tells seen may_leave old.disk → IsPlaced may_leave old s → IsPlaced may_leave new s)
+      → ArePresent may_leave moment had left_since new.disk → Advances (moment old.disk) (had old.disk) (had new.disk) (left_since old.disk) (left_since new.disk)
+      → (IsHonest tells seen may_leave old.disk → ((c : List ℕ) → may_leave old.disk c → IsHeld setup s c) → (c : List ℕ) → left_since new.disk (moment old.disk) c → IsHeld setup s c)
+      → Goes tells seen may_leave moment had left_since setup [] old s new
+  goes_on setup old new s stands placed present time each = record {
+    stands = stands;
+    placed = placed;
+    safe = λ honest safe. record { orderly = safe.orderly; images = λ c image. each honest safe.images c (now_left old.disk new.disk present time c image) };
+    leaves = λ honest safe. record { time = time; each = λ c left. inl (survives setup s c safe.orderly (each honest safe.images c left)) };
+  }
+
+  -- a step, and no call of the disk
+  pub goes_by : (setup : Setup) (step : Step) (old : ShelfView D) (after : List BufferState) (s : State) → StandsFor (record old { buffers = after }) (after_step setup step s)
+      → (IsHonest tells seen may_leave old.disk → IsPlaced may_leave old s → IsPlaced may_leave (record old { buffers = after }) (after_step setup step s))
+      → ArePresent may_leave moment had left_since old.disk → (IsOrderly s → IsOrderly (after_step setup step s))
+      → (IsHonest tells seen may_leave old.disk → (c : List ℕ) → may_leave old.disk c → IsHeld setup s c → IsHeld setup (after_step setup step s) c)
+      → Goes tells seen may_leave moment had left_since setup (step ∷ []) old s (record old { buffers = after })
+  goes_by setup step old after s stands placed present orderly each = record {
+    stands = stands;
+    placed = placed;
+    safe = λ honest safe. record { orderly = orderly safe.orderly; images = λ c image. each honest c image (safe.images c image) };
+    leaves = λ honest safe. record { time = time_still old.disk present; each = λ c left. inl (survives setup s c safe.orderly (safe.images c (present.alone c left))) };
+  }
+
+  -- some steps and then others
+  pub goes_then : (setup : Setup) (xs ys : List Step) (old mid new : ShelfView D) (s : State) → (IsHonest tells seen may_leave old.disk → IsHonest tells seen may_leave mid.disk)
+      → Goes tells seen may_leave moment had left_since setup xs old s mid → Goes tells seen may_leave moment had left_since setup ys mid (after_steps setup xs s) new
+      → Goes tells seen may_leave moment had left_since setup (xs ++ ys) old s new
+  goes_then setup xs ys old mid new s stays first then = record {
+    stands = subst (λ (t : State). StandsFor new t) (sym (after_joined setup xs ys s)) then.stands;
+    placed = λ honest placed. subst (λ (t : State). IsPlaced may_leave new t) (sym (after_joined setup xs ys s)) (then.placed (stays honest) (first.placed honest placed));
+    safe = λ honest safe. subst (λ (t : State). IsSafe setup may_leave new t) (sym (after_joined setup xs ys s)) (then.safe (stays honest) (first.safe honest safe));
+    leaves = λ honest safe. leaves_then moment had left_since
+        (leaves_more moment had left_since (λ c h. through_front (Survives setup) setup xs ys s c h) (first.leaves honest safe))
+        (leaves_more moment had left_since (λ c h. through_back (Survives setup) setup xs ys s c h) (then.leaves (stays honest) (first.safe honest safe)));
+  }

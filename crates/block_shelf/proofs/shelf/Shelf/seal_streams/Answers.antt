@@ -1,0 +1,44 @@
+use Rattle.std.proofs.Common.{◌≡◌, false, List, map, sym, ◌∙◌, ap, subst}
+use Rattle.std.proofs.lemmas.List.{with_items_is}
+use Rattle.std.specs.List.{AllByRecursion}
+use Rattle.std.specs.Vec.{with_items}
+use Rattle.write_buffer.specs.Buffers.{BufferState}
+use Rattle.rec_format.specs.Book.{Setup}
+use Rattle.rec_format.specs.Device.{State}
+use Rattle.rec_format.specs.Legal.{seal_all}
+use Rattle.block_shelf.specs.View.{ShelfView, IsShelf, IsSetupOf, is_filling}
+use Rattle.block_shelf.specs.Standing.{StandsFor}
+use Rattle.block_shelf.specs.Calls.{Goes}
+use Rattle.block_shelf.specs.Changes.{sealed_buffer}
+use Rattle.block_shelf.proofs.Sealing.{seals_each, sealed_shelf, each_unfilled}
+use Rattle.block_shelf.proofs.SealSteps.{goes_all}
+use Rattle.block_shelf.proofs.shelf.Shelf.seal_streams.Goals as goal
+
+pub invariant_of-self : goal.invariant_of-self
+invariant_of-self g c =
+    let d = g.D.Disk in
+    let same : (with_items c.self.inside.buffers c.seal_each.new.buffers).items ≡ map sealed_buffer c.self.inside.buffers.items =
+    with_items_is c.self.inside.buffers c.seal_each.new.buffers (c.seal_each.auto.buffers ∙ c.deref_mut.ensures.len) ∙ c.seal_each.ensures ∙ ap (map sealed_buffer) c.deref_mut.ensures.value in
+    subst (λ (bs : List BufferState). IsShelf {D = g.row.D.Denot} d.extent d.tells d.seen d.may_leave (record { disk = c.self.inside.disk; geometry = c.self.inside.geometry; limits = c.self.inside.limits; buffers = bs; free = c.self.inside.free.items; next_number = c.self.inside.next_number }))
+    (sym same) (sealed_shelf sealed_buffer seals_each d.extent d.tells d.seen d.may_leave _ c.self.invariant)
+
+pub returns-clause-sealed : goal.returns-clause-sealed
+returns-clause-sealed g c =
+    let d = g.D.Disk in
+    let law = g.met.D.Disk in
+    let same : (with_items c.self.inside.buffers c.seal_each.new.buffers).items ≡ map sealed_buffer c.self.inside.buffers.items =
+    with_items_is c.self.inside.buffers c.seal_each.new.buffers (c.seal_each.auto.buffers ∙ c.deref_mut.ensures.len) ∙ c.seal_each.ensures ∙ ap (map sealed_buffer) c.deref_mut.ensures.value in
+    subst (λ (bs : List BufferState). (setup : Setup) (s : State) → IsSetupOf setup c.args.self.now → StandsFor c.args.self.now s
+    → Goes d.tells d.seen d.may_leave d.moment d.had d.left_since setup (seal_all s.book) c.args.self.now s (record { disk = c.self.inside.disk; geometry = c.self.inside.geometry; limits = c.self.inside.limits; buffers = bs; free = c.self.inside.free.items; next_number = c.self.inside.next_number }))
+    (sym same)
+    (subst (λ (old : ShelfView g.row.D.Denot). (setup : Setup) (s : State) → IsSetupOf setup old → StandsFor old s
+    → Goes d.tells d.seen d.may_leave d.moment d.had d.left_since setup (seal_all s.book) old s (record { disk = c.self.inside.disk; geometry = c.self.inside.geometry; limits = c.self.inside.limits; buffers = map sealed_buffer c.self.inside.buffers.items; free = c.self.inside.free.items; next_number = c.self.inside.next_number }))
+    c.self.view_is
+    (λ setup s is stands. goes_all d.tells d.seen d.may_leave d.moment d.had d.left_since law.now_had law.now_alone law.now_since setup _ s stands))
+
+pub returns-clause-none_filling : goal.returns-clause-none_filling
+returns-clause-none_filling g c =
+    let same : (with_items c.self.inside.buffers c.seal_each.new.buffers).items ≡ map sealed_buffer c.self.inside.buffers.items =
+    with_items_is c.self.inside.buffers c.seal_each.new.buffers (c.seal_each.auto.buffers ∙ c.deref_mut.ensures.len) ∙ c.seal_each.ensures ∙ ap (map sealed_buffer) c.deref_mut.ensures.value in
+    subst (λ (bs : List BufferState). AllByRecursion (λ b. is_filling b.phase ≡ false) bs) (sym same)
+    (each_unfilled c.self.inside.buffers.items)

@@ -1,0 +1,33 @@
+-- Crate block_shelf. The first buffer of a shelf while it is flushed.
+use Rattle.std.specs.Prelude.{ℕ, Bool, List, [], ◌∷◌, MatchBool}
+use Rattle.disk_model.specs.Disk.{Images}
+use Rattle.rec_format.specs.Steps.{Step, gate_begun}
+use Rattle.block_format.specs.declared.geometry.Geometry.{Geometry}
+use Rattle.block_flusher.specs.Images.{IsShut, IsOpened}
+use Rattle.write_buffer.specs.declared.phase.Phase.{Phase}
+use Rattle.write_buffer.specs.declared.phase.Phase.TheVariants.{Filling, Sealed, BodyDone, GateBegun}
+use Rattle.write_buffer.specs.Buffers.{BufferState}
+
+-- there is a first buffer, of which this holds
+abbrev pub FirstIs : (BufferState → Type 0) → List BufferState → Type 0
+FirstIs P [] = ⊥
+FirstIs P (b ∷ bs) = P b
+
+abbrev pub with_first : (BufferState → BufferState) → List BufferState → List BufferState
+with_first change [] = []
+with_first change (b ∷ bs) = change b ∷ bs
+
+-- the block's gate is open in each image, or closed in each
+abbrev pub GateIs : Bool → Geometry → (block : ℕ) → Images → Type 0
+GateIs is_open g block images = MatchBool is_open (IsOpened g block images) (IsShut g block images)
+
+-- the step that begins the write of a gate, where it hasn't begun
+abbrev pub gate_steps : Phase → (number : ℕ) → List Step
+gate_steps Filling number = []
+gate_steps Sealed number = gate_begun number ∷ []
+gate_steps BodyDone number = gate_begun number ∷ []
+gate_steps GateBegun number = []
+
+abbrev pub first_gate_steps : List BufferState → List Step
+first_gate_steps [] = []
+first_gate_steps (b ∷ bs) = gate_steps b.phase b.number
