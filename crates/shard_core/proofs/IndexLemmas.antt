@@ -1,42 +1,41 @@
--- What an index shows, over lists of records.
-use Rattle.std.proofs.Common.{◌≡◌, ℕ, ◌+◌, ◌<◌, ◌≤◌, max, suc, zero, Bool, true, false, cond, List, [], ◌∷◌, ◌++◌, length, take, drop, get_or, set, refl, sym, ◌∙◌, ap, subst, arith}
-use Rattle.std.specs.Prelude.{Option, Some, None, IfSome, ◌==◌}
-use Rattle.std.proofs.lemmas.Bool.{cond-true, cond-false}
-use Rattle.std.proofs.lemmas.List.{set_at, take_more, drop_more, take-append-drop, length-take-le, take_all, get_or_at}
-use Rattle.std.specs.Prelude.{nat_eq}
+-- What an index shows, over lists of entries.
+use Rattle.std.proofs.Common.{◌≡◌, ◌≢◌, ◌⊎◌, inl, inr, ⊎_elim, ℕ, ◌+◌, ◌<◌, ◌≤◌, max, Bool, true, false, cond, List, [], ◌∷◌, ◌++◌, length, take, drop, get_or, set, refl, sym, ◌∙◌, ap, subst, arith, rules}
+use Rattle.std.specs.Prelude.{Option, Some, None, IfSome, Contains, nat_eq, ◌==◌}
+use Rattle.std.specs.List.{AllByRecursion}
 use Rattle.std.specs.Cmp.Lexicographic.{pointwise}
 use Rattle.std.specs.Ordering.{ord_max, nat_cmp}
-use Rattle.std.proofs.Common.{rules}
+use Rattle.std.proofs.lemmas.Bool.{cond-true, cond-false, eq-eqb, ne_eqb}
+use Rattle.std.proofs.lemmas.List.{set_at, take_more, drop_more, take-append-drop, length-take-le, get_or_at}
+use Rattle.std.proofs.lemmas.List.Elements.{Contains-append_cases, Contains-append_left, Contains-append_right}
 use lib.Pointwise.{bytes_decides}
 use Rattle.rec_format.specs.declared.version.Digest.{Digest}
-use Rattle.rec_format.specs.declared.version.Version.{Version}
-use Rattle.std.specs.List.{AllByRecursion}
+use Rattle.rec_format.specs.declared.entry.Entry.{Entry}
 use Rattle.rec_format.specs.Places.{same_digest, part_number_of}
-use Rattle.rec_format.specs.Versions.{IsVersion}
 use Rattle.rec_format.proofs.Laws.{same_digest_refl, same_digest_is}
-use Rattle.shard_core.specs.declared.index.Record.{Record}
+use Rattle.recovery_laws.proofs.Growing.{cons_cases, all_at, all_from}
+use Rattle.recovery_laws.proofs.Members.{first_there, rest_there}
 use Rattle.shard_core.specs.Index.{held, high_of, IsPlaceOf, Holds}
 
-abbrev pub or_else : Option Version → Option Version → Option Version
+abbrev or_else : Option Entry → Option Entry → Option Entry
 or_else None other = other
 or_else (Some v) other = Some v
 
-chosen : (b : Bool) (v : Version) (x y : Option Version) → or_else (cond b (Some v) x) y ≡ cond b (Some v) (or_else x y)
+chosen : (b : Bool) (v : Entry) (x y : Option Entry) → or_else (cond b (Some v) x) y ≡ cond b (Some v) (or_else x y)
 chosen true v x y = refl
 chosen false v x y = refl
 
 -- the first list shows what it has, the second the rest
-pub held-append : (d : Digest) (xs ys : List Record) → held d (xs ++ ys) ≡ or_else (held d xs) (held d ys)
+held-append : (d : Digest) (xs ys : List Entry) → held d (xs ++ ys) ≡ or_else (held d xs) (held d ys)
 held-append d [] ys = refl
 held-append d (r ∷ xs) ys =
-    ap (λ (o : Option Version). cond (same_digest d r.digest) (Some r.version) o) (held-append d xs ys)
-    ∙ sym (chosen (same_digest d r.digest) r.version (held d xs) (held d ys))
+    ap (λ (o : Option Entry). cond (same_digest d r.digest) (Some r) o) (held-append d xs ys)
+    ∙ sym (chosen (same_digest d r.digest) r (held d xs) (held d ys))
 
-pub held_miss : (d : Digest) (xs : List Record) (r : Record) → held d xs ≡ None → same_digest d r.digest ≡ false → held d (xs ++ r ∷ []) ≡ None
-held_miss d xs r none other = held-append d xs (r ∷ []) ∙ ap (λ (o : Option Version). or_else o (held d (r ∷ []))) none ∙ cond-false (same_digest d r.digest) (Some r.version) None other
+held_miss : (d : Digest) (xs : List Entry) (r : Entry) → held d xs ≡ None → same_digest d r.digest ≡ false → held d (xs ++ r ∷ []) ≡ None
+held_miss d xs r none other = held-append d xs (r ∷ []) ∙ ap (λ (o : Option Entry). or_else o (held d (r ∷ []))) none ∙ cond-false (same_digest d r.digest) (Some r) None other
 
-pub held_hit : (d : Digest) (xs ys : List Record) (r : Record) → held d xs ≡ None → same_digest d r.digest ≡ true → held d (xs ++ r ∷ ys) ≡ Some r.version
-held_hit d xs ys r none same = held-append d xs (r ∷ ys) ∙ ap (λ (o : Option Version). or_else o (held d (r ∷ ys))) none ∙ cond-true (same_digest d r.digest) (Some r.version) (held d ys) same
+held_hit : (d : Digest) (xs ys : List Entry) (r : Entry) → held d xs ≡ None → same_digest d r.digest ≡ true → held d (xs ++ r ∷ ys) ≡ Some r
+held_hit d xs ys r none same = held-append d xs (r ∷ ys) ∙ ap (λ (o : Option Entry). or_else o (held d (r ∷ ys))) none ∙ cond-true (same_digest d r.digest) (Some r) (held d ys) same
 
 -- two tests that follow from one another are one
 same_tests : (p q : Bool) → (p ≡ true → q ≡ true) → (q ≡ true → p ≡ true) → p ≡ q
@@ -45,41 +44,37 @@ same_tests false true f g = g refl
 same_tests false false f g = refl
 
 -- `==` on digests is the test of the definitions
-pub eq_is_same : (a b : Digest) → pointwise nat_eq a.0 b.0 ≡ same_digest b a
+eq_is_same : (a b : Digest) → pointwise nat_eq a.0 b.0 ≡ same_digest b a
 eq_is_same a b = same_tests (pointwise nat_eq a.0 b.0) (same_digest b a)
     (λ e. let bytes = (bytes_decides a.0 b.0).0 e in let same : a ≡ b = ap (λ (l : List ℕ). let d : Digest = record { 0 = l } in d) bytes in subst (λ (d : Digest). same_digest d a ≡ true) same (same_digest_refl a))
     (λ e. (bytes_decides a.0 b.0).1 (ap (λ (d : Digest). d.0) (sym (same_digest_is b a e))))
 
-module _ (d : Digest) (xs : List Record) (i : ℕ) (r : Record) (lt : i < length xs) (is : r ≡ get_or xs i r) (none : held d (take i xs) ≡ None) where
-  taken : take (i + 1) xs ≡ take i xs ++ r ∷ []
-  taken = take_more xs i r lt ∙ ap (λ (y : Record). take i xs ++ y ∷ []) (sym is)
+module _ (d : Digest) (xs : List Entry) (i : ℕ) (other : Entry) (lt : i < length xs) (none : held d (take i xs) ≡ None) where
+  abbrev here : Entry
+  here = get_or xs i other
 
-  -- the record at a place isn't the digest's: none of those up to it is
-  pub passes : (eq : Bool) → eq ≡ pointwise nat_eq r.digest.0 d.0 → eq ≡ false → held d (take (i + 1) xs) ≡ None
-  passes eq e other = ap (held d) taken ∙ held_miss d (take i xs) r none (sym (eq_is_same r.digest d) ∙ sym e ∙ other)
+  -- the entry at a place isn't the digest's: none of those up to it is
+  pub passes : (eq : Bool) → eq ≡ pointwise nat_eq here.digest.0 d.0 → eq ≡ false → held d (take (i + 1) xs) ≡ None
+  passes eq e differs = ap (held d) (take_more xs i other lt) ∙ held_miss d (take i xs) here none (sym (eq_is_same here.digest d) ∙ sym e ∙ differs)
 
-  same_here : (eq : Bool) → eq ≡ pointwise nat_eq r.digest.0 d.0 → eq ≡ true → same_digest d r.digest ≡ true
-  same_here eq e same = sym (eq_is_same r.digest d) ∙ sym e ∙ same
+  same_here : (eq : Bool) → eq ≡ pointwise nat_eq here.digest.0 d.0 → eq ≡ true → same_digest d here.digest ≡ true
+  same_here eq e same = sym (eq_is_same here.digest d) ∙ sym e ∙ same
 
-  parted : xs ≡ take i xs ++ r ∷ drop (i + 1) xs
-  parted = sym (take-append-drop i xs) ∙ ap (λ (l : List Record). take i xs ++ l) (drop_more xs i r lt ∙ ap (λ (y : Record). y ∷ drop (i + 1) xs) (sym is))
+  parted : xs ≡ take i xs ++ here ∷ drop (i + 1) xs
+  parted = sym (take-append-drop i xs) ∙ ap (λ (l : List Entry). take i xs ++ l) (drop_more xs i other lt)
 
   -- it is the digest's
-  pub stops : (eq : Bool) → eq ≡ pointwise nat_eq r.digest.0 d.0 → eq ≡ true → IsPlaceOf d xs i
-  stops eq e same = record { before = take i xs; here = r; after = drop (i + 1) xs; parts = parted; counted = length-take-le i xs (omega arith); none = none; same = same_here eq e same }
+  pub stops : (eq : Bool) → eq ≡ pointwise nat_eq here.digest.0 d.0 → eq ≡ true → IsPlaceOf d xs i
+  stops eq e same = record { before = take i xs; here = here; after = drop (i + 1) xs; parts = parted; counted = length-take-le i xs (omega arith); none = none; same = same_here eq e same }
 
-pub finds_none : (d : Digest) (xs : List Record) (i : ℕ) → length xs ≤ i → held d (take i xs) ≡ None → held d xs ≡ None
-finds_none d xs i le none = ap (held d) (sym (take_all i xs le)) ∙ none
-
--- at the place stands the digest's version
-pub finds : (d : Digest) (xs : List Record) (i : ℕ) (r : Record) → IsPlaceOf d xs i → r ≡ get_or xs i r → Some r.version ≡ held d xs
-finds d xs i r p is =
-    let here : get_or xs i r ≡ p.here = ap (λ (l : List Record). get_or l i r) p.parts ∙ get_or_at p.before p.here p.after r i p.counted in
-    ap (λ (x : Record). Some x.version) (is ∙ here) ∙ sym (ap (held d) p.parts ∙ held_hit d p.before p.after p.here p.none p.same)
+-- at the place stands the digest's entry
+pub finds : (d : Digest) (xs : List Entry) (i : ℕ) (other : Entry) → IsPlaceOf d xs i → Some (get_or xs i other) ≡ held d xs
+finds d xs i other p =
+    ap Some (ap (λ (l : List Entry). get_or l i other) p.parts ∙ get_or_at p.before p.here p.after other i p.counted) ∙ sym (ap (held d) p.parts ∙ held_hit d p.before p.after p.here p.none p.same)
 
 -- ---- the greatest time
 
-pub high-append : (devices sprigs part : ℕ) (xs ys : List Record) → high_of devices sprigs part (xs ++ ys) ≡ max (high_of devices sprigs part xs) (high_of devices sprigs part ys)
+high-append : (devices sprigs part : ℕ) (xs ys : List Entry) → high_of devices sprigs part (xs ++ ys) ≡ max (high_of devices sprigs part xs) (high_of devices sprigs part ys)
 high-append devices sprigs part [] ys = sym (max_zero (high_of devices sprigs part ys))
   where
     max_zero : (n : ℕ) → max 0 n ≡ n
@@ -87,107 +82,110 @@ high-append devices sprigs part [] ys = sym (max_zero (high_of devices sprigs pa
 high-append devices sprigs part (r ∷ xs) ys = joined (part_number_of devices sprigs r.digest == part) (high-append devices sprigs part xs ys)
   where
     joined : (b : Bool) → high_of devices sprigs part (xs ++ ys) ≡ max (high_of devices sprigs part xs) (high_of devices sprigs part ys)
-        → cond b (max r.version.stamp.lut (high_of devices sprigs part (xs ++ ys))) (high_of devices sprigs part (xs ++ ys))
-        ≡ max (cond b (max r.version.stamp.lut (high_of devices sprigs part xs)) (high_of devices sprigs part xs)) (high_of devices sprigs part ys)
-    joined true h = ap (max r.version.stamp.lut) h ∙ omega arith
+        → cond b (max r.stamp.lut (high_of devices sprigs part (xs ++ ys))) (high_of devices sprigs part (xs ++ ys))
+        ≡ max (cond b (max r.stamp.lut (high_of devices sprigs part xs)) (high_of devices sprigs part xs)) (high_of devices sprigs part ys)
+    joined true h = ap (max r.stamp.lut) h ∙ omega arith
     joined false h = h
 
--- ---- one version more
+-- ---- one entry more
 
-abbrev pub with_version : Digest → Version → Record
-with_version digest version = record { digest = digest; version = version }
+-- each entry is the new one, or was there before
+pub held_cases : (e : Entry) (old new : List Entry) → Holds e old new → (x : Entry) → Contains new x → (e ≡ x) ⊎ Contains old x
+held_cases e old new holds x there = cons_cases e old x (all_at (Contains (e ∷ old)) new x holds.each there)
 
-abbrev pub AllVersions : List Record → Type 0
-AllVersions records = AllByRecursion (λ r. IsVersion r.version) records
+-- what holds of the new entry and of all others holds of all
+pub all_held : (P : Entry → Type 0) (e : Entry) (old new : List Entry) → Holds e old new → P e → AllByRecursion P old → AllByRecursion P new
+all_held P e old new holds is all =
+    all_from P new (λ x there. ⊎_elim (λ (same : e ≡ x). subst P same is) (λ (before : Contains old x). all_at P old x all before) (held_cases e old new holds x there))
 
-versions-append : (xs ys : List Record) → AllVersions xs → AllVersions ys → AllVersions (xs ++ ys)
-versions-append [] ys p q = q
-versions-append (x ∷ xs) ys p q = (p.0, versions-append xs ys p.1 q)
-
-versions-set : (xs : List Record) (i : ℕ) (r : Record) → IsVersion r.version → AllVersions xs → AllVersions (set xs i r)
-versions-set [] i r v p = p
-versions-set (x ∷ xs) zero r v p = (v, p.1)
-versions-set (x ∷ xs) (suc i) r v p = (p.0, versions-set xs i r v p.1)
-
-none_some : (v : Version) → None ≡ Some v → ⊥
-none_some v e = cc
-
-either : (b : Bool) (w : Version) (rest : Option Version) (v : Version) → cond b (Some w) rest ≡ Some v → IsVersion w → (rest ≡ Some v → IsVersion v) → IsVersion v
-either true w rest v e is other = let same : w ≡ v = cc in subst IsVersion same is
-either false w rest v e is other = other e
-
--- what the index shows of a digest is a version
-pub held_version : (d : Digest) (xs : List Record) (v : Version) → AllVersions xs → held d xs ≡ Some v → IsVersion v
-held_version d [] v all is = absurd (none_some v is)
-held_version d (r ∷ xs) v all is = either (same_digest d r.digest) r.version (held d xs) v is all.0 (held_version d xs v all.1)
+first_or_rest : (e : Entry) (old : List Entry) (x : Entry) → (e ≡ x) ⊎ Contains old x → Contains (e ∷ old) x
+first_or_rest e old x (inl same) = subst (Contains (e ∷ old)) same (first_there e old)
+first_or_rest e old x (inr before) = rest_there e old x before
 
 -- at the end, where the digest had none
-pub holds_pushed : (digest : Digest) (version : Version) (xs : List Record) → held digest xs ≡ None → Holds digest version xs (xs ++ with_version digest version ∷ [])
-holds_pushed digest version xs none = record {
-  shown = λ d. held-append d xs (with_version digest version ∷ []) ∙ shows d (same_digest d digest) refl (held d xs) refl;
-  high = λ devices sprigs part. high-append devices sprigs part xs (with_version digest version ∷ []) ∙ highest (part_number_of devices sprigs digest == part) (high_of devices sprigs part xs);
-  versions = λ is all. versions-append xs (with_version digest version ∷ []) all (is, tt);
+pub holds_pushed : (e : Entry) (xs : List Entry) → held e.digest xs ≡ None → Holds e xs (xs ++ e ∷ [])
+holds_pushed e xs none = record {
+  shown = λ d. held-append d xs (e ∷ []) ∙ shows d (same_digest d e.digest) refl (held d xs) refl;
+  high = λ devices sprigs part. high-append devices sprigs part xs (e ∷ []) ∙ highest (part_number_of devices sprigs e.digest == part) (high_of devices sprigs part xs);
+  each = all_from (Contains (e ∷ xs)) (xs ++ e ∷ []) (λ x there. first_or_rest e xs x (ends x (Contains-append_cases xs (e ∷ []) x there)));
 }
   where
-    shows : (d : Digest) (b : Bool) → same_digest d digest ≡ b → (o : Option Version) → held d xs ≡ o → or_else o (cond b (Some version) None) ≡ cond b (Some version) o
-    shows d true same o is = let gone : o ≡ None = sym is ∙ ap (λ (e : Digest). held e xs) (same_digest_is d digest same) ∙ none in subst (λ (x : Option Version). or_else x (Some version) ≡ Some version) (sym gone) refl
+    shows : (d : Digest) (b : Bool) → same_digest d e.digest ≡ b → (o : Option Entry) → held d xs ≡ o → or_else o (cond b (Some e) None) ≡ cond b (Some e) o
+    shows d true same o is = let gone : o ≡ None = sym is ∙ ap (λ (f : Digest). held f xs) (same_digest_is d e.digest same) ∙ none in subst (λ (x : Option Entry). or_else x (Some e) ≡ Some e) (sym gone) refl
     shows d false same None is = refl
     shows d false same (Some v) is = refl
 
-    highest : (b : Bool) (n : ℕ) → max n (cond b (max version.stamp.lut 0) 0) ≡ cond b (max version.stamp.lut n) n
+    highest : (b : Bool) (n : ℕ) → max n (cond b (max e.stamp.lut 0) 0) ≡ cond b (max e.stamp.lut n) n
     highest true n = omega arith
     highest false n = omega arith
 
--- what the records behind the place show, and how high they are, stays
-module _ (digest : Digest) (version : Version) (before after : List Record) (here r : Record) (none : held digest before ≡ None) (same : same_digest digest here.digest ≡ true) (named : r.digest ≡ digest) (is : r.version ≡ version) where
-  shows_at : (d : Digest) (b : Bool) → same_digest d digest ≡ b → held d (before ++ r ∷ after) ≡ cond b (Some version) (held d (before ++ here ∷ after))
-  shows_at d true e =
-      let one = same_digest_is d digest e in
-      held_hit d before after r (ap (λ (x : Digest). held x before) one ∙ none) (ap (same_digest d) named ∙ e) ∙ ap Some is
-  shows_at d false e =
-      let hereis = same_digest_is digest here.digest same in
-      held-append d before (r ∷ after)
-      ∙ ap (or_else (held d before)) (cond-false (same_digest d r.digest) (Some r.version) (held d after) (ap (same_digest d) named ∙ e))
-      ∙ sym (ap (or_else (held d before)) (cond-false (same_digest d here.digest) (Some here.version) (held d after) (ap (same_digest d) (sym hereis) ∙ e)))
+    ends : (x : Entry) → Contains xs x ⊎ Contains (e ∷ []) x → (e ≡ x) ⊎ Contains xs x
+    ends x (inl before) = inr before
+    ends x (inr last) = ⊎_elim (λ (same : e ≡ x). inl same) (λ (none_there : Contains [] x). absurd (omega (arith, none_there.1))) (cons_cases e [] x last)
+
+-- what the entries behind the place show, and how high they are, stays
+module _ (before after : List Entry) (here e : Entry) (none : held e.digest before ≡ None) (same : same_digest e.digest here.digest ≡ true) where
+  shows_at : (d : Digest) (b : Bool) → same_digest d e.digest ≡ b → held d (before ++ e ∷ after) ≡ cond b (Some e) (held d (before ++ here ∷ after))
+  shows_at d true is =
+      let one = same_digest_is d e.digest is in
+      held_hit d before after e (ap (λ (x : Digest). held x before) one ∙ none) is
+  shows_at d false is =
+      let hereis = same_digest_is e.digest here.digest same in
+      held-append d before (e ∷ after)
+      ∙ ap (or_else (held d before)) (cond-false (same_digest d e.digest) (Some e) (held d after) is)
+      ∙ sym (ap (or_else (held d before)) (cond-false (same_digest d here.digest) (Some here) (held d after) (ap (same_digest d) (sym hereis) ∙ is)))
       ∙ sym (held-append d before (here ∷ after))
 
-  high_at : (later : here.version.stamp.lut ≤ version.stamp.lut) (devices sprigs part : ℕ) (b : Bool) → (part_number_of devices sprigs digest == part) ≡ b
-      → high_of devices sprigs part (before ++ r ∷ after) ≡ cond b (max version.stamp.lut (high_of devices sprigs part (before ++ here ∷ after))) (high_of devices sprigs part (before ++ here ∷ after))
-  high_at later devices sprigs part true e =
-      let hereis = same_digest_is digest here.digest same in
-      let first = high-append devices sprigs part before (r ∷ after) ∙ ap (max (high_of devices sprigs part before)) (cond-true (part_number_of devices sprigs r.digest == part) (max r.version.stamp.lut (high_of devices sprigs part after)) (high_of devices sprigs part after) (ap (λ (x : Digest). part_number_of devices sprigs x == part) named ∙ e) ∙ ap (λ (v : Version). max v.stamp.lut (high_of devices sprigs part after)) is) in
-      let second = high-append devices sprigs part before (here ∷ after) ∙ ap (max (high_of devices sprigs part before)) (cond-true (part_number_of devices sprigs here.digest == part) (max here.version.stamp.lut (high_of devices sprigs part after)) (high_of devices sprigs part after) (ap (λ (x : Digest). part_number_of devices sprigs x == part) (sym hereis) ∙ e)) in
-      first ∙ higher (high_of devices sprigs part before) (high_of devices sprigs part after) version.stamp.lut here.version.stamp.lut later ∙ ap (max version.stamp.lut) (sym second)
+  high_at : (later : here.stamp.lut ≤ e.stamp.lut) (devices sprigs part : ℕ) (b : Bool) → (part_number_of devices sprigs e.digest == part) ≡ b
+      → high_of devices sprigs part (before ++ e ∷ after) ≡ cond b (max e.stamp.lut (high_of devices sprigs part (before ++ here ∷ after))) (high_of devices sprigs part (before ++ here ∷ after))
+  high_at later devices sprigs part true is =
+      let hereis = same_digest_is e.digest here.digest same in
+      let first = high-append devices sprigs part before (e ∷ after) ∙ ap (max (high_of devices sprigs part before)) (cond-true (part_number_of devices sprigs e.digest == part) (max e.stamp.lut (high_of devices sprigs part after)) (high_of devices sprigs part after) is) in
+      let second = high-append devices sprigs part before (here ∷ after) ∙ ap (max (high_of devices sprigs part before)) (cond-true (part_number_of devices sprigs here.digest == part) (max here.stamp.lut (high_of devices sprigs part after)) (high_of devices sprigs part after) (ap (λ (x : Digest). part_number_of devices sprigs x == part) (sym hereis) ∙ is)) in
+      first ∙ higher (high_of devices sprigs part before) (high_of devices sprigs part after) e.stamp.lut here.stamp.lut later ∙ ap (max e.stamp.lut) (sym second)
     where
       higher : (a b n m : ℕ) → m ≤ n → max a (max n b) ≡ max n (max a (max m b))
       higher a b n m le = omega arith
-  high_at later devices sprigs part false e =
-      let hereis = same_digest_is digest here.digest same in
-      high-append devices sprigs part before (r ∷ after) ∙ ap (max (high_of devices sprigs part before)) (cond-false (part_number_of devices sprigs r.digest == part) (max r.version.stamp.lut (high_of devices sprigs part after)) (high_of devices sprigs part after) (ap (λ (x : Digest). part_number_of devices sprigs x == part) named ∙ e))
-      ∙ sym (high-append devices sprigs part before (here ∷ after) ∙ ap (max (high_of devices sprigs part before)) (cond-false (part_number_of devices sprigs here.digest == part) (max here.version.stamp.lut (high_of devices sprigs part after)) (high_of devices sprigs part after) (ap (λ (x : Digest). part_number_of devices sprigs x == part) (sym hereis) ∙ e)))
+  high_at later devices sprigs part false is =
+      let hereis = same_digest_is e.digest here.digest same in
+      high-append devices sprigs part before (e ∷ after) ∙ ap (max (high_of devices sprigs part before)) (cond-false (part_number_of devices sprigs e.digest == part) (max e.stamp.lut (high_of devices sprigs part after)) (high_of devices sprigs part after) is)
+      ∙ sym (high-append devices sprigs part before (here ∷ after) ∙ ap (max (high_of devices sprigs part before)) (cond-false (part_number_of devices sprigs here.digest == part) (max here.stamp.lut (high_of devices sprigs part after)) (high_of devices sprigs part after) (ap (λ (x : Digest). part_number_of devices sprigs x == part) (sym hereis) ∙ is)))
 
--- in the place of the digest's version, which is no later
-pub holds_set : (digest : Digest) (version : Version) (xs : List Record) (i : ℕ) → IsPlaceOf digest xs i → IfSome (held digest xs) (λ before. before.stamp.lut ≤ version.stamp.lut)
-    → (r : Record) → r.digest ≡ digest → r.version ≡ version → Holds digest version xs (set xs i r)
-holds_set digest version xs i p later r named is =
-    let there = ap (λ (l : List Record). set l i r) p.parts ∙ set_at p.before p.here p.after r i p.counted in
-    let had : IfSome (Some p.here.version) (λ before. before.stamp.lut ≤ version.stamp.lut) = subst (λ (o : Option Version). IfSome o (λ before. before.stamp.lut ≤ version.stamp.lut)) (ap (held digest) p.parts ∙ held_hit digest p.before p.after p.here p.none p.same) later in
+  each_at : (x : Entry) → Contains (before ++ e ∷ after) x → (e ≡ x) ⊎ Contains (before ++ here ∷ after) x
+  each_at x there =
+      ⊎_elim (λ (front : Contains before x). inr (Contains-append_left before (here ∷ after) x front))
+      (λ (back : Contains (e ∷ after) x). ⊎_elim (λ (is : e ≡ x). inl is) (λ (rest : Contains after x). inr (Contains-append_right before (here ∷ after) x (rest_there here after x rest))) (cons_cases e after x back))
+      (Contains-append_cases before (e ∷ after) x there)
+
+-- in the place of the digest's entry, which is no later
+pub holds_set : (e : Entry) (xs : List Entry) (i : ℕ) → IsPlaceOf e.digest xs i → IfSome (held e.digest xs) (λ before. before.stamp.lut ≤ e.stamp.lut) → Holds e xs (set xs i e)
+holds_set e xs i p later =
+    let there = ap (λ (l : List Entry). set l i e) p.parts ∙ set_at p.before p.here p.after e i p.counted in
+    let had : IfSome (Some p.here) (λ before. before.stamp.lut ≤ e.stamp.lut) = subst (λ (o : Option Entry). IfSome o (λ before. before.stamp.lut ≤ e.stamp.lut)) (ap (held e.digest) p.parts ∙ held_hit e.digest p.before p.after p.here p.none p.same) later in
     record {
-      shown = λ d. ap (held d) there ∙ shows_at digest version p.before p.after p.here r p.none p.same named is d (same_digest d digest) refl ∙ ap (λ (l : List Record). cond (same_digest d digest) (Some version) (held d l)) (sym p.parts);
-      high = λ devices sprigs part. ap (high_of devices sprigs part) there ∙ high_at digest version p.before p.after p.here r p.none p.same named is had devices sprigs part (part_number_of devices sprigs digest == part) refl
-          ∙ ap (λ (l : List Record). cond (part_number_of devices sprigs digest == part) (max version.stamp.lut (high_of devices sprigs part l)) (high_of devices sprigs part l)) (sym p.parts);
-      versions = λ is_version all. versions-set xs i r (subst IsVersion (sym is) is_version) all;
+      shown = λ d. ap (held d) there ∙ shows_at p.before p.after p.here e p.none p.same d (same_digest d e.digest) refl ∙ ap (λ (l : List Entry). cond (same_digest d e.digest) (Some e) (held d l)) (sym p.parts);
+      high = λ devices sprigs part. ap (high_of devices sprigs part) there ∙ high_at p.before p.after p.here e p.none p.same had devices sprigs part (part_number_of devices sprigs e.digest == part) refl
+          ∙ ap (λ (l : List Entry). cond (part_number_of devices sprigs e.digest == part) (max e.stamp.lut (high_of devices sprigs part l)) (high_of devices sprigs part l)) (sym p.parts);
+      each = all_from (Contains (e ∷ xs)) (set xs i e) (λ x in_new. first_or_rest e xs x (subst (λ (l : List Entry). (e ≡ x) ⊎ Contains l x) (sym p.parts)
+          (each_at p.before p.after p.here e p.none p.same x (subst (λ (l : List Entry). Contains l x) there in_new))));
     }
 
--- a record more, in a walk over them
-pub high_step : (devices sprigs part : ℕ) (xs : List Record) (i : ℕ) (r : Record) → i < length xs → r ≡ get_or xs i r → (high next : ℕ) → high ≡ high_of devices sprigs part (take i xs)
-    → (b : Bool) → (part_number_of devices sprigs r.digest == part) ≡ b → next ≡ cond b (max high r.version.stamp.lut) high → next ≡ high_of devices sprigs part (take (i + 1) xs)
-high_step devices sprigs part xs i r lt is high next so_far b test step =
-    step ∙ stepped b test ∙ sym (high-append devices sprigs part (take i xs) (r ∷ [])) ∙ ap (high_of devices sprigs part) (sym (take_more xs i r lt ∙ ap (λ (y : Record). take i xs ++ y ∷ []) (sym is)))
+-- an entry more, in a walk over them
+pub high_step : (devices sprigs part : ℕ) (xs : List Entry) (i : ℕ) (other : Entry) → i < length xs → (number : ℕ) → number ≡ part_number_of devices sprigs (get_or xs i other).digest → (high next : ℕ)
+    → high ≡ high_of devices sprigs part (take i xs) → ((number ≡ part) × (next ≡ max high (get_or xs i other).stamp.lut)) ⊎ ((number ≢ part) × (next ≡ high)) → next ≡ high_of devices sprigs part (take (i + 1) xs)
+high_step devices sprigs part xs i other lt number numbered high next so_far step =
+    stepped step ∙ sym (high-append devices sprigs part (take i xs) (here ∷ [])) ∙ ap (high_of devices sprigs part) (sym (take_more xs i other lt))
   where
-    stepped : (c : Bool) → (part_number_of devices sprigs r.digest == part) ≡ c → cond c (max high r.version.stamp.lut) high ≡ max (high_of devices sprigs part (take i xs)) (high_of devices sprigs part (r ∷ []))
-    stepped true e = ap (λ (n : ℕ). max n r.version.stamp.lut) so_far ∙ ap (max (high_of devices sprigs part (take i xs))) (sym (cond-true (part_number_of devices sprigs r.digest == part) (max r.version.stamp.lut 0) 0 e ∙ omega arith))
-    stepped false e = so_far ∙ omega arith ∙ ap (max (high_of devices sprigs part (take i xs))) (sym (cond-false (part_number_of devices sprigs r.digest == part) (max r.version.stamp.lut 0) 0 e))
+    here : Entry
+    here = get_or xs i other
+
+    stepped : ((number ≡ part) × (next ≡ max high here.stamp.lut)) ⊎ ((number ≢ part) × (next ≡ high)) → next ≡ max (high_of devices sprigs part (take i xs)) (high_of devices sprigs part (here ∷ []))
+    stepped (inl is) =
+        let test : (part_number_of devices sprigs here.digest == part) ≡ true = eq-eqb _ _ (sym numbered ∙ is.0) in
+        is.1 ∙ ap (λ (n : ℕ). max n here.stamp.lut) so_far ∙ ap (max (high_of devices sprigs part (take i xs))) (sym (cond-true (part_number_of devices sprigs here.digest == part) (max here.stamp.lut 0) 0 test ∙ omega arith))
+    stepped (inr is) =
+        let test : (part_number_of devices sprigs here.digest == part) ≡ false = ne_eqb _ _ (λ same. is.0 (numbered ∙ same)) in
+        is.1 ∙ so_far ∙ omega arith ∙ ap (max (high_of devices sprigs part (take i xs))) (sym (cond-false (part_number_of devices sprigs here.digest == part) (max here.stamp.lut 0) 0 test))
 
 pub ord_max_is : (a b : ℕ) → ord_max nat_cmp a b ≡ max a b
 ord_max_is a b = search rules

@@ -1,36 +1,32 @@
 -- What an index keeps of copies, one after another.
-use Rattle.std.proofs.Common.{◌≡◌, ℕ, ◌+◌, ◌≤◌, max, Bool, true, false, cond, List, [], ◌∷◌, ◌++◌, refl, sym, ◌∙◌, ap, subst, arith, inl, inr, append_assoc, length}
-use Rattle.std.specs.Prelude.{Option, Some, None, IfSome, Result, Ok, Err, OnOk, ◌*◌, drop, ◌==◌, filter}
-use Rattle.std.specs.List.{AllByRecursion}
+use Rattle.std.proofs.Common.{◌≡◌, inl, inr, ⊎_elim, ℕ, ◌+◌, ◌≤◌, max, Bool, true, false, cond, List, [], ◌∷◌, ◌++◌, refl, sym, ◌∙◌, ap, subst, arith, append_assoc}
+use Rattle.std.specs.Prelude.{Option, Some, None, Contains, map, option_map, ◌==◌}
 use Rattle.std.proofs.lemmas.Bool.{false≢true, cond-true, cond-false, eq-eqb, eqb-true, cases_lt}
-use Rattle.std.proofs.lemmas.List.{append-nil, drop-drop}
-use Rattle.std.proofs.Math.Seq.{drop-append_seam}
+use Rattle.std.proofs.lemmas.List.{append-nil}
+use Rattle.std.proofs.lemmas.List.Elements.{filter-append, Contains-append_left, Contains-append_right}
 use Rattle.rec_format.specs.declared.version.Digest.{Digest}
 use Rattle.rec_format.specs.declared.version.Stamp.{Stamp}
 use Rattle.rec_format.specs.declared.version.Version.{Version}
+use Rattle.rec_format.specs.declared.entry.Entry.{Entry}
 use Rattle.rec_format.specs.Places.{same_digest, device_number, part_number_of}
-use Rattle.rec_format.specs.Versions.{IsVersion, is_later, is_later_stamp, version_units}
+use Rattle.rec_format.specs.Versions.{is_later, is_later_stamp, version_units}
 use Rattle.rec_format.specs.Book.{Setup}
 use Rattle.rec_format.specs.Device.{part_of}
-use Rattle.rec_format.proofs.RecordFront.{length-text, only_one}
 use Rattle.rec_format.proofs.Laws.{same_digest_is, later_test}
 use Rattle.block_format.specs.declared.geometry.Geometry.{Geometry}
-use Rattle.rec_format.specs.declared.version.Head.{Head}
-use Rattle.rec_format.specs.RecordText.{BeginsWith, CanBeRecorded, record_text, head_of}
-use Rattle.block_format.specs.declared.geometry.Found.{Found}
-use Rattle.block_format.specs.Layout.{Body, IsBody, IsRecordAt, records_text}
-use Rattle.recovery_laws.proofs.ColdOrder.{later_one_way}
-use Rattle.block_format.proofs.BodyLaws.{begins_text}
+use Rattle.block_format.specs.Layout.{Body}
 use Rattle.block_format.specs.Readings.{found_from}
-use Rattle.block_format.specs.Copies.{Copy, cold, copies_from, copies_of}
-use Rattle.recovery_laws.specs.Cold.{later_of, copies_high}
-use Rattle.recovery_laws.proofs.Cold.{cold_more}
-use Rattle.shard_core.specs.declared.index.Record.{Record}
-use Rattle.shard_core.specs.Index.{held, high_of, Holds}
+use Rattle.block_format.specs.Copies.{Copy, copies_from, copies_of, cold_copy}
+use Rattle.recovery_laws.specs.Cold.{later_one, copies_high}
+use Rattle.recovery_laws.proofs.Cold.{cold_copy_more}
+use Rattle.recovery_laws.proofs.Growing.{all_at, all_from}
+use Rattle.recovery_laws.proofs.Members.{first_there}
+use Rattle.shard_core.specs.Index.{held, high_of, entry_for, Holds}
 use Rattle.shard_core.specs.Starting.{own_copies}
-use Rattle.shard_core.specs.Finding.{KeepsOne, KeepsAll, IsLatest, HasRecord, KeepsFound, KeepsEach, is_later_than}
+use Rattle.shard_core.specs.Finding.{KeepsOne, KeepsAll, IsLatest, is_later_than, later_entry, found_entry}
+use Rattle.shard_core.proofs.IndexLemmas.{held_cases}
 
--- ---- one copy
+-- ---- one entry
 
 -- a stamp that isn't later has no later time
 not_later : (a b : Stamp) → is_later_stamp a b ≡ false → a.lut ≤ b.lut
@@ -39,12 +35,9 @@ not_later a b is = elim (cases_lt b.lut a.lut) [
   | inr le ↦ le
 ]
 
-abbrev version_or : Version → Option Version → Version
-version_or other None = other
-version_or other (Some v) = v
-
-some_is : {v w : Version} → Some v ≡ Some w → v ≡ w
-some_is {v} {w} is = ap (version_or v) is
+abbrev entry_or : Entry → Option Entry → Entry
+entry_or other None = other
+entry_or other (Some e) = e
 
 max_left : (a b : ℕ) → a ≤ max a b
 max_left a b = omega arith
@@ -53,144 +46,84 @@ above : (c : Bool) (a b m : ℕ) → m ≤ b → m ≤ cond c (max a b) b
 above true a b m le = omega arith
 above false a b m le = le
 
--- a version that is held isn't later than the greatest time of its sprig
-pub held_high : (devices sprigs : ℕ) (d : Digest) (xs : List Record) (v : Version) → held d xs ≡ Some v → v.stamp.lut ≤ high_of devices sprigs (part_number_of devices sprigs d) xs
-held_high devices sprigs d [] v is = cc
-held_high devices sprigs d (r ∷ xs) v is = first (held_high devices sprigs d xs v) (same_digest d r.digest) refl is
+-- an entry that is held isn't later than the greatest time of its sprig
+held_high : (devices sprigs : ℕ) (d : Digest) (xs : List Entry) (e : Entry) → held d xs ≡ Some e → e.stamp.lut ≤ high_of devices sprigs (part_number_of devices sprigs d) xs
+held_high devices sprigs d [] e is = cc
+held_high devices sprigs d (x ∷ xs) e is = first (held_high devices sprigs d xs e) (same_digest d x.digest) refl is
   where
-    here : same_digest d r.digest ≡ true → r.version ≡ v → v.stamp.lut ≤ high_of devices sprigs (part_number_of devices sprigs d) (r ∷ xs)
-    here same e =
-        let test : (part_number_of devices sprigs r.digest == part_number_of devices sprigs d) ≡ true = eq-eqb _ _ (ap (part_number_of devices sprigs) (sym (same_digest_is d r.digest same))) in
-        subst (λ (n : ℕ). v.stamp.lut ≤ n) (sym (cond-true (part_number_of devices sprigs r.digest == part_number_of devices sprigs d) (max r.version.stamp.lut (high_of devices sprigs (part_number_of devices sprigs d) xs)) (high_of devices sprigs (part_number_of devices sprigs d) xs) test))
-        (subst (λ (w : Version). w.stamp.lut ≤ max r.version.stamp.lut (high_of devices sprigs (part_number_of devices sprigs d) xs)) e (max_left r.version.stamp.lut (high_of devices sprigs (part_number_of devices sprigs d) xs)))
+    here : same_digest d x.digest ≡ true → x ≡ e → e.stamp.lut ≤ high_of devices sprigs (part_number_of devices sprigs d) (x ∷ xs)
+    here same at =
+        let test : (part_number_of devices sprigs x.digest == part_number_of devices sprigs d) ≡ true = eq-eqb _ _ (ap (part_number_of devices sprigs) (sym (same_digest_is d x.digest same))) in
+        subst (λ (n : ℕ). e.stamp.lut ≤ n) (sym (cond-true (part_number_of devices sprigs x.digest == part_number_of devices sprigs d) (max x.stamp.lut (high_of devices sprigs (part_number_of devices sprigs d) xs)) (high_of devices sprigs (part_number_of devices sprigs d) xs) test))
+        (subst (λ (w : Entry). w.stamp.lut ≤ max x.stamp.lut (high_of devices sprigs (part_number_of devices sprigs d) xs)) at (max_left x.stamp.lut (high_of devices sprigs (part_number_of devices sprigs d) xs)))
 
-    first : (held d xs ≡ Some v → v.stamp.lut ≤ high_of devices sprigs (part_number_of devices sprigs d) xs) → (b : Bool) → same_digest d r.digest ≡ b → cond b (Some r.version) (held d xs) ≡ Some v → v.stamp.lut ≤ high_of devices sprigs (part_number_of devices sprigs d) (r ∷ xs)
-    first older true same e = here same (some_is e)
-    first older false other e = above (part_number_of devices sprigs r.digest == part_number_of devices sprigs d) r.version.stamp.lut (high_of devices sprigs (part_number_of devices sprigs d) xs) v.stamp.lut (older e)
+    first : (held d xs ≡ Some e → e.stamp.lut ≤ high_of devices sprigs (part_number_of devices sprigs d) xs) → (b : Bool) → same_digest d x.digest ≡ b → cond b (Some x) (held d xs) ≡ Some e → e.stamp.lut ≤ high_of devices sprigs (part_number_of devices sprigs d) (x ∷ xs)
+    first older true same at = here same (ap (entry_or x) at)
+    first older false other at = above (part_number_of devices sprigs x.digest == part_number_of devices sprigs d) x.stamp.lut (high_of devices sprigs (part_number_of devices sprigs d) xs) e.stamp.lut (older at)
 
-module _ (g : Geometry) (digest : Digest) (v : Version) (old : List Record) where
-  -- a copy of another device's digest
-  pub keeps_other : (device_number g.devices digest == g.device) ≡ false → KeepsOne g digest v old old
-  keeps_other other = record {
-    shown = λ d. sym (cond-false (device_number g.devices digest == g.device) (cond (same_digest d digest) (Some (later_of (held d old) v)) (held d old)) (held d old) other);
-    high = λ sprigs part. sym (cond-false (device_number g.devices digest == g.device) (cond (part_number_of g.devices sprigs digest == part) (max v.stamp.lut (high_of g.devices sprigs part old)) (high_of g.devices sprigs part old)) (high_of g.devices sprigs part old) other);
-    versions = λ all. all;
-  }
+-- what is held of the entry's digest isn't earlier: it stays
+stays : (o : Option Entry) (e : Entry) → is_later_than o e.stamp ≡ false → Some (later_entry o e) ≡ o
+stays None e is = absurd (false≢true (sym is))
+stays (Some w) e is = ap Some (cond-false (is_later_stamp e.stamp w.stamp) e w is)
+
+stays_below : (devices sprigs : ℕ) (e : Entry) (old : List Entry) (o : Option Entry) → held e.digest old ≡ o → is_later_than o e.stamp ≡ false → e.stamp.lut ≤ high_of devices sprigs (part_number_of devices sprigs e.digest) old
+stays_below devices sprigs e old None is earlier = absurd (false≢true (sym earlier))
+stays_below devices sprigs e old (Some w) is earlier = let kept = held_high devices sprigs e.digest old w is in let before = not_later e.stamp w.stamp earlier in omega (arith, kept, before)
+
+takes_over : (o : Option Entry) (e : Entry) → is_later_than o e.stamp ≡ true → later_entry o e ≡ e
+takes_over None e is = refl
+takes_over (Some w) e is = cond-true (is_later_stamp e.stamp w.stamp) e w is
+
+module _ (g : Geometry) (e : Entry) (old : List Entry) where
+  abbrev own : Bool
+  own = device_number g.devices e.digest == g.device
 
   -- one that isn't later than what is held
-  pub keeps_earlier : (device_number g.devices digest == g.device) ≡ true → (w : Version) → held digest old ≡ Some w → is_later v w ≡ false → KeepsOne g digest v old old
-  keeps_earlier own w is earlier = record {
-    shown = λ d. same_shown d (same_digest d digest) refl ∙ sym (cond-true (device_number g.devices digest == g.device) (cond (same_digest d digest) (Some (later_of (held d old) v)) (held d old)) (held d old) own);
-    high = λ sprigs part. same_high sprigs part (part_number_of g.devices sprigs digest == part) refl ∙ sym (cond-true (device_number g.devices digest == g.device) (cond (part_number_of g.devices sprigs digest == part) (max v.stamp.lut (high_of g.devices sprigs part old)) (high_of g.devices sprigs part old)) (high_of g.devices sprigs part old) own);
-    versions = λ all. all;
+  pub keeps_earlier : own ≡ true → is_later_than (held e.digest old) e.stamp ≡ false → KeepsOne g e old old
+  keeps_earlier mine earlier = record {
+    shown = λ d. same_shown d (same_digest d e.digest) refl ∙ sym (cond-true own (cond (same_digest d e.digest) (Some (later_entry (held d old) e)) (held d old)) (held d old) mine);
+    high = λ sprigs part. same_high sprigs part (part_number_of g.devices sprigs e.digest == part) refl ∙ sym (cond-true own (cond (part_number_of g.devices sprigs e.digest == part) (max e.stamp.lut (high_of g.devices sprigs part old)) (high_of g.devices sprigs part old)) (high_of g.devices sprigs part old) mine);
+    each = λ x there. inr there;
   }
     where
-      same_shown : (d : Digest) (b : Bool) → same_digest d digest ≡ b → held d old ≡ cond b (Some (later_of (held d old) v)) (held d old)
+      same_shown : (d : Digest) (b : Bool) → same_digest d e.digest ≡ b → held d old ≡ cond b (Some (later_entry (held d old) e)) (held d old)
       same_shown d false other = refl
       same_shown d true same =
-          let here : held d old ≡ Some w = ap (λ (e : Digest). held e old) (same_digest_is d digest same) ∙ is in
-          here ∙ sym (ap (λ (o : Option Version). Some (later_of o v)) here ∙ ap Some (cond-false (is_later v w) v w earlier))
+          let here : held d old ≡ held e.digest old = ap (λ (f : Digest). held f old) (same_digest_is d e.digest same) in
+          sym (ap (λ (o : Option Entry). Some (later_entry o e)) here ∙ stays (held e.digest old) e earlier ∙ sym here)
 
-      no_later : v.stamp.lut ≤ w.stamp.lut
-      no_later = not_later v.stamp w.stamp earlier
-
-      same_high : (sprigs part : ℕ) (b : Bool) → (part_number_of g.devices sprigs digest == part) ≡ b → high_of g.devices sprigs part old ≡ cond b (max v.stamp.lut (high_of g.devices sprigs part old)) (high_of g.devices sprigs part old)
+      same_high : (sprigs part : ℕ) (b : Bool) → (part_number_of g.devices sprigs e.digest == part) ≡ b → high_of g.devices sprigs part old ≡ cond b (max e.stamp.lut (high_of g.devices sprigs part old)) (high_of g.devices sprigs part old)
       same_high sprigs part false other = refl
       same_high sprigs part true same =
-          let held_is : w.stamp.lut ≤ high_of g.devices sprigs (part_number_of g.devices sprigs digest) old = held_high g.devices sprigs digest old w is in
-          let at : w.stamp.lut ≤ high_of g.devices sprigs part old = subst (λ (n : ℕ). w.stamp.lut ≤ high_of g.devices sprigs n old) (eqb-true _ _ same) held_is in
-          omega (arith, no_later, at)
+          let at : e.stamp.lut ≤ high_of g.devices sprigs part old = subst (λ (n : ℕ). e.stamp.lut ≤ high_of g.devices sprigs n old) (eqb-true _ _ same) (stays_below g.devices sprigs e old (held e.digest old) refl earlier) in
+          omega (arith, at)
 
   -- one that is put, since it is the first or later
-  pub keeps_put : (device_number g.devices digest == g.device) ≡ true → (new : List Record) → Holds digest v old new → IsVersion v → later_of (held digest old) v ≡ v → KeepsOne g digest v old new
-  keeps_put own new holds is later = record {
-    shown = λ d. holds.shown d ∙ put_shown d (same_digest d digest) refl ∙ sym (cond-true (device_number g.devices digest == g.device) (cond (same_digest d digest) (Some (later_of (held d old) v)) (held d old)) (held d old) own);
-    high = λ sprigs part. holds.high g.devices sprigs part ∙ sym (cond-true (device_number g.devices digest == g.device) (cond (part_number_of g.devices sprigs digest == part) (max v.stamp.lut (high_of g.devices sprigs part old)) (high_of g.devices sprigs part old)) (high_of g.devices sprigs part old) own);
-    versions = holds.versions is;
+  pub keeps_put : own ≡ true → is_later_than (held e.digest old) e.stamp ≡ true → (new : List Entry) → Holds e old new → KeepsOne g e old new
+  keeps_put mine later new holds = record {
+    shown = λ d. holds.shown d ∙ put_shown d (same_digest d e.digest) refl ∙ sym (cond-true own (cond (same_digest d e.digest) (Some (later_entry (held d old) e)) (held d old)) (held d old) mine);
+    high = λ sprigs part. holds.high g.devices sprigs part ∙ sym (cond-true own (cond (part_number_of g.devices sprigs e.digest == part) (max e.stamp.lut (high_of g.devices sprigs part old)) (high_of g.devices sprigs part old)) (high_of g.devices sprigs part old) mine);
+    each = λ x there. ⊎_elim (λ (same : e ≡ x). inl (sym same, eqb-true _ _ mine)) (λ (before : Contains old x). inr before) (held_cases e old new holds x there);
   }
     where
-      put_shown : (d : Digest) (b : Bool) → same_digest d digest ≡ b → cond b (Some v) (held d old) ≡ cond b (Some (later_of (held d old) v)) (held d old)
+      put_shown : (d : Digest) (b : Bool) → same_digest d e.digest ≡ b → cond b (Some e) (held d old) ≡ cond b (Some (later_entry (held d old) e)) (held d old)
       put_shown d false other = refl
-      put_shown d true same = ap Some (sym (ap (λ (e : Digest). later_of (held e old) v) (same_digest_is d digest same) ∙ later))
+      put_shown d true same = ap Some (sym (ap (λ (f : Digest). later_entry (held f old) e) (same_digest_is d e.digest same) ∙ takes_over (held e.digest old) e later))
 
--- ---- a record that stands in a body
+-- ---- several entries
 
-later_stamp : (a b : Version) → is_later a b ≡ is_later_stamp a.stamp b.stamp
-later_stamp a b = refl
+pub all_more : (g : Geometry) (es : List Entry) (e : Entry) (old mid new : List Entry) → KeepsAll g es old mid → KeepsOne g e mid new → KeepsAll g (es ++ e ∷ []) old new
+all_more g [] e old mid new same one = subst (λ (l : List Entry). KeepsAll g (e ∷ []) l new) same (new, one, refl)
+all_more g (x ∷ es) e old mid new all one = (all.0, all.1, all_more g es e all.0 mid new all.2 one)
 
-takes_over : (o : Option Version) (v : Version) → is_later_than o v.stamp ≡ true → later_of o v ≡ v
-takes_over None v is = refl
-takes_over (Some w) v is = cond-true (is_later v w) v w is
-
-module _ (g : Geometry) (body : List ℕ) (found : Found) (old : List Record) (has : HasRecord body found) where
-  abbrev here : List ℕ
-  here = drop (32 + 16 * found.unit) body
-
-  stamp_of_head : (v : Version) → found.head ≡ head_of found.head.digest v → found.head.stamp ≡ v.stamp
-  stamp_of_head v is = ap (λ (h : Head). h.stamp) is
-
-  pub passed_over : (device_number g.devices found.head.digest == g.device) ≡ false → KeepsFound g body found old old
-  passed_over other v at = keeps_other g found.head.digest v old other
-
-  module _ (own : (device_number g.devices found.head.digest == g.device) ≡ true) where
-    version_is : (v : Version) → IsRecordAt body (32 + 16 * found.unit) found.head.digest v → has.version ≡ v
-    version_is v at = (only_one here found.head.digest found.head.digest has.version v has.there at).1
-
-    pub stays_earlier : is_later_than (held found.head.digest old) found.head.stamp ≡ false → KeepsFound g body found old old
-    stays_earlier earlier v at = cases (held found.head.digest old) refl
-      where
-        stamp : found.head.stamp ≡ v.stamp
-        stamp = stamp_of_head has.version has.head ∙ ap (λ (w : Version). w.stamp) (version_is v at)
-
-        cases : (o : Option Version) → held found.head.digest old ≡ o → KeepsOne g found.head.digest v old old
-        cases None is = let e : true ≡ false = ap (λ (p : Option Version). is_later_than p found.head.stamp) (sym is) ∙ earlier in absurd (false≢true (sym e))
-        cases (Some w) is = keeps_earlier g found.head.digest v old own w is (ap (λ (x : Stamp). is_later_stamp x w.stamp) (sym stamp) ∙ ap (λ (p : Option Version). is_later_than p found.head.stamp) (sym is) ∙ earlier)
-
-    pub is_put_in : (digest : Digest) (version : Version) (new : List Record) → BeginsWith here digest version → is_later_than (held found.head.digest old) found.head.stamp ≡ true
-        → Holds digest version old new → KeepsFound g body found old new
-    is_put_in digest version new there later holds v at =
-        let same = only_one here digest found.head.digest version v there at in
-        let stamp : found.head.stamp ≡ v.stamp = stamp_of_head has.version has.head ∙ ap (λ (w : Version). w.stamp) (version_is v at) in
-        keeps_put g found.head.digest v old own new (subst (λ (d : Digest). Holds d v old new) same.0 (subst (λ (w : Version). Holds digest w old new) same.1 holds))
-        at.fields.version
-        (takes_over (held found.head.digest old) v (ap (is_later_than (held found.head.digest old)) (sym stamp) ∙ later))
-
-    pub kept_where_put : {E : Type 0} (digest : Digest) (version : Version) (r : Result (Unit {0}) E) (new : List Record) → BeginsWith here digest version → is_later_than (held found.head.digest old) found.head.stamp ≡ true
-        → OnOk r (Holds digest version old new) → OnOk r (KeepsFound g body found old new)
-    kept_where_put digest version (Ok done) new there later holds = is_put_in digest version new there later holds
-    kept_where_put digest version (Err why) new there later holds = tt
-
-    -- what it takes the place of is no later
-    pub no_later_before : (digest : Digest) (version : Version) → BeginsWith here digest version → is_later_than (held found.head.digest old) found.head.stamp ≡ true
-        → IfSome (held digest old) (λ before. before.stamp.lut ≤ version.stamp.lut)
-    no_later_before digest version there later =
-        let same = only_one here digest found.head.digest version has.version there has.there in
-        let stamp : found.head.stamp ≡ version.stamp = stamp_of_head has.version has.head ∙ ap (λ (w : Version). w.stamp) (sym same.1) in
-        subst (λ (d : Digest). IfSome (held d old) (λ before. before.stamp.lut ≤ version.stamp.lut)) (sym same.0) (cases (held found.head.digest old) (ap (is_later_than (held found.head.digest old)) (sym stamp) ∙ later))
-      where
-        cases : (o : Option Version) → is_later_than o version.stamp ≡ true → IfSome o (λ before. before.stamp.lut ≤ version.stamp.lut)
-        cases None is = tt
-        cases (Some w) is = not_later w.stamp version.stamp (later_one_way version.stamp w.stamp is)
-
--- ---- several copies
-
-pub all_more : (g : Geometry) (rs : List (Digest × Version)) (r : Digest × Version) (old mid new : List Record) → KeepsAll g rs old mid → KeepsOne g r.0 r.1 mid new → KeepsAll g (rs ++ r ∷ []) old new
-all_more g [] r old mid new same one = subst (λ (l : List Record). KeepsAll g (r ∷ []) l new) same (new, one, refl)
-all_more g (x ∷ rs) r old mid new all one = (all.0, all.1, all_more g rs r all.0 mid new all.2 one)
-
-pub all_versions : (g : Geometry) (rs : List (Digest × Version)) (old new : List Record) → KeepsAll g rs old new → AllByRecursion (λ r. IsVersion r.version) old → AllByRecursion (λ r. IsVersion r.version) new
-all_versions g [] old new same all = subst (λ (l : List Record). AllByRecursion (λ r. IsVersion r.version) l) (sym same) all
-all_versions g (x ∷ rs) old new keeps all = all_versions g rs keeps.0 new keeps.2 (keeps.1.versions all)
+-- the entries of what was found are those of the copies
+pub found_entries : (block unit : ℕ) (records : List (Digest × Version)) → map (found_entry block) (found_from unit records) ≡ map entry_for (copies_from block unit records)
+found_entries block unit [] = refl
+found_entries block unit (r ∷ records) =
+    let c : Copy = record { digest = r.0; version = r.1; block = block; unit = unit } in
+    ap (λ (l : List Entry). entry_for c ∷ l) (found_entries block (unit + version_units r.1) records)
 
 -- ---- the latest copies
-
-filter-append : {A : Type 0} (p : A → Bool) (xs ys : List A) → filter p (xs ++ ys) ≡ filter p xs ++ filter p ys
-filter-append p [] ys = refl
-filter-append {A} p (x ∷ xs) ys = ap (λ (l : List A). cond (p x) (x ∷ l) l) (filter-append p xs ys) ∙ sides (p x)
-  where
-    sides : (b : Bool) → cond b (x ∷ (filter p xs ++ filter p ys)) (filter p xs ++ filter p ys) ≡ cond b (x ∷ filter p xs) (filter p xs) ++ filter p ys
-    sides true = refl
-    sides false = refl
 
 high_more : (setup : Setup) (part : ℕ) (copies : List Copy) (c : Copy) → copies_high setup part (copies ++ c ∷ []) ≡ cond (part_of setup c.digest == part) (max c.version.stamp.lut (copies_high setup part copies)) (copies_high setup part copies)
 high_more setup part [] c = refl
@@ -202,23 +135,51 @@ high_more setup part (x ∷ copies) c =
         ≡ cond e (max c.version.stamp.lut (cond b (max x.version.stamp.lut (copies_high setup part copies)) (copies_high setup part copies))) (cond b (max x.version.stamp.lut (copies_high setup part copies)) (copies_high setup part copies))
     both true true = omega arith
     both true false = refl
-    both false e = refl
+    both false true = refl
+    both false false = refl
 
-module _ (g : Geometry) (copies : List Copy) (c : Copy) (old new : List Record) (latest : IsLatest g copies old) (keeps : KeepsOne g c.digest c.version old new) where
+-- the later of two copies has the later entry
+entry_after : (b : Bool) (o : Option Copy) (c : Copy) → cond b (Some (later_entry (option_map entry_for o) (entry_for c))) (option_map entry_for o) ≡ option_map entry_for (cond b (Some (later_one o c)) o)
+entry_after false o c = refl
+entry_after true None c = refl
+entry_after true (Some f) c = ap Some (chosen (is_later c.version f.version))
+  where
+    chosen : (t : Bool) → cond t (entry_for c) (entry_for f) ≡ entry_for (cond t c f)
+    chosen true = refl
+    chosen false = refl
+
+-- the entry of one of these copies
+abbrev pub IsOneOf : List Copy → Entry → Type 0
+IsOneOf copies e = (c : Copy) × Contains copies c × (e ≡ entry_for c)
+
+module _ (g : Geometry) (copies : List Copy) (c : Copy) (old new : List Entry) (latest : IsLatest g copies old) (keeps : KeepsOne g (entry_for c) old new) where
   own_more : own_copies g (copies ++ c ∷ []) ≡ own_copies g copies ++ cond (device_number g.devices c.digest == g.device) (c ∷ []) []
-  own_more = filter-append (λ x. device_number g.devices x.digest == g.device) copies (c ∷ [])
+  own_more = filter-append (λ (x : Copy). device_number g.devices x.digest == g.device) copies (c ∷ [])
 
-  pub latest_one : IsLatest g (copies ++ c ∷ []) new
+  own_last : device_number g.devices c.digest ≡ g.device → Contains (own_copies g (copies ++ c ∷ [])) c
+  own_last mine =
+      let kept = cond-true (device_number g.devices c.digest == g.device) (c ∷ []) [] (eq-eqb _ _ mine) in
+      subst (λ (l : List Copy). Contains l c) (sym (own_more ∙ ap (λ (l : List Copy). own_copies g copies ++ l) kept)) (Contains-append_right (own_copies g copies) (c ∷ []) c (first_there c []))
+
+  own_before : (x : Copy) → Contains (own_copies g copies) x → Contains (own_copies g (copies ++ c ∷ [])) x
+  own_before x there = subst (λ (l : List Copy). Contains l x) (sym own_more) (Contains-append_left (own_copies g copies) (cond (device_number g.devices c.digest == g.device) (c ∷ []) []) x there)
+
+  latest_one : IsLatest g (copies ++ c ∷ []) new
   latest_one = record {
-    shown = λ d. keeps.shown d ∙ shown_by d (device_number g.devices c.digest == g.device) ∙ ap (cold d) (sym own_more);
+    shown = λ d. keeps.shown d ∙ shown_by d (device_number g.devices c.digest == g.device) ∙ ap (λ (l : List Copy). option_map entry_for (cold_copy d l)) (sym own_more);
     high = λ setup part same. keeps.high setup.sprigs part ∙ high_by setup part same (device_number g.devices c.digest == g.device) ∙ ap (copies_high setup part) (sym own_more);
+    each = all_from (IsOneOf (own_copies g (copies ++ c ∷ []))) new (λ x there. ⊎_elim (λ (last : (x ≡ entry_for c) × (device_number g.devices c.digest ≡ g.device)). (c, own_last last.1, last.0)) (λ (before : Contains old x). of_before x (all_at (IsOneOf (own_copies g copies)) old x latest.each before)) (keeps.each x there));
   }
     where
-      shown_by : (d : Digest) (own : Bool) → cond own (cond (same_digest d c.digest) (Some (later_of (held d old) c.version)) (held d old)) (held d old) ≡ cold d (own_copies g copies ++ cond own (c ∷ []) [])
-      shown_by d false = latest.shown d ∙ ap (cold d) (sym (append-nil (own_copies g copies)))
+      of_before : (x : Entry) → IsOneOf (own_copies g copies) x → IsOneOf (own_copies g (copies ++ c ∷ [])) x
+      of_before x one = (one.0, own_before one.0 one.1, one.2)
+
+      shown_by : (d : Digest) (own : Bool) → cond own (cond (same_digest d c.digest) (Some (later_entry (held d old) (entry_for c))) (held d old)) (held d old) ≡ option_map entry_for (cold_copy d (own_copies g copies ++ cond own (c ∷ []) []))
+      shown_by d false = latest.shown d ∙ ap (λ (l : List Copy). option_map entry_for (cold_copy d l)) (sym (append-nil (own_copies g copies)))
       shown_by d true =
-          ap (λ (o : Option Version). cond (same_digest d c.digest) (Some (later_of o c.version)) o) (latest.shown d)
-          ∙ sym (cold_more d (own_copies g copies) c)
+          ap (λ (o : Option Entry). cond (same_digest d c.digest) (Some (later_entry o (entry_for c))) o) (latest.shown d)
+          ∙ entry_after (same_digest d c.digest) (cold_copy d (own_copies g copies)) c
+          ∙ ap (option_map entry_for) (sym (cold_copy_more d (own_copies g copies) c))
 
       high_by : (setup : Setup) (part : ℕ) → setup.devices ≡ g.devices → (own : Bool)
           → cond own (cond (part_number_of g.devices setup.sprigs c.digest == part) (max c.version.stamp.lut (high_of g.devices setup.sprigs part old)) (high_of g.devices setup.sprigs part old)) (high_of g.devices setup.sprigs part old)
@@ -229,59 +190,13 @@ module _ (g : Geometry) (copies : List Copy) (c : Copy) (old new : List Record) 
           ∙ ap (λ (n : ℕ). cond (part_number_of n setup.sprigs c.digest == part) (max c.version.stamp.lut (copies_high setup part (own_copies g copies))) (copies_high setup part (own_copies g copies))) (sym same)
           ∙ sym (high_more setup part (own_copies g copies) c)
 
-pub latest_all : (g : Geometry) (block unit : ℕ) (rs : List (Digest × Version)) (copies : List Copy) (old new : List Record) → IsLatest g copies old → KeepsAll g rs old new → IsLatest g (copies ++ copies_from block unit rs) new
-latest_all g block unit [] copies old new latest same =
-    subst (λ (l : List Copy). IsLatest g l new) (sym (append-nil copies)) (subst (λ (l : List Record). IsLatest g copies l) (sym same) latest)
-latest_all g block unit (r ∷ rs) copies old new latest keeps =
-    let c : Copy = record { digest = r.0; version = r.1; block = block; unit = unit } in
-    subst (λ (l : List Copy). IsLatest g l new) (append_assoc copies (c ∷ []) (copies_from block (unit + version_units r.1) rs))
-    (latest_all g block (unit + version_units r.1) rs (copies ++ c ∷ []) keeps.0 new (latest_one g copies c old keeps.0 latest keeps.1) keeps.2)
+pub latest_all : (g : Geometry) (more copies : List Copy) (old new : List Entry) → IsLatest g copies old → KeepsAll g (map entry_for more) old new → IsLatest g (copies ++ more) new
+latest_all g [] copies old new latest same =
+    subst (λ (l : List Copy). IsLatest g l new) (sym (append-nil copies)) (subst (λ (l : List Entry). IsLatest g copies l) (sym same) latest)
+latest_all g (c ∷ more) copies old new latest keeps =
+    subst (λ (l : List Copy). IsLatest g l new) (append_assoc copies (c ∷ []) more)
+    (latest_all g more (copies ++ c ∷ []) keeps.0 new (latest_one g copies c old keeps.0 latest keeps.1) keeps.2)
 
-copies_more : (bodies : List Body) (b : Body) → copies_of (bodies ++ b ∷ []) ≡ copies_of bodies ++ copies_from b.block 0 b.records
+pub copies_more : (bodies : List Body) (b : Body) → copies_of (bodies ++ b ∷ []) ≡ copies_of bodies ++ copies_from b.block 0 b.records
 copies_more [] b = append-nil (copies_from b.block 0 b.records)
 copies_more (x ∷ bodies) b = ap (λ (l : List Copy). copies_from x.block 0 x.records ++ l) (copies_more bodies b) ∙ sym (append_assoc (copies_from x.block 0 x.records) (copies_of bodies) (copies_from b.block 0 b.records))
-
-pub latest_body : (g : Geometry) (bodies : List Body) (b : Body) (old new : List Record) → IsLatest g (copies_of bodies) old → KeepsAll g b.records old new → IsLatest g (copies_of (bodies ++ b ∷ [])) new
-latest_body g bodies b old new latest keeps =
-    subst (λ (l : List Copy). IsLatest g l new) (sym (copies_more bodies b)) (latest_all g b.block 0 b.records (copies_of bodies) old new latest keeps)
-
--- ---- a body's records
-
-pub each_more : (g : Geometry) (body : List ℕ) (found : List Found) (f : Found) (old mid new : List Record) → KeepsEach g body found old mid → KeepsFound g body f mid new → KeepsEach g body (found ++ f ∷ []) old new
-each_more g body [] f old mid new same one = subst (λ (l : List Record). KeepsEach g body (f ∷ []) l new) same (new, one, refl)
-each_more g body (x ∷ found) f old mid new each one = (each.0, each.1, each_more g body found f each.0 mid new each.2 one)
-
--- each of these records stands behind the units of those before it
-abbrev pub AreAt : (body : List ℕ) → (unit : ℕ) → List (Digest × Version) → Type 0
-AreAt body unit [] = Unit {0}
-AreAt body unit (r ∷ rs) = IsRecordAt body (32 + 16 * unit) r.0 r.1 × AreAt body (unit + version_units r.1) rs
-
--- where each of these records stands in a body, each of the found ones is one of them
-pub all_of_each : (g : Geometry) (body : List ℕ) (unit : ℕ) (rs : List (Digest × Version)) (old new : List Record) → AreAt body unit rs → KeepsEach g body (found_from unit rs) old new → KeepsAll g rs old new
-all_of_each g body unit [] old new at same = same
-all_of_each g body unit (r ∷ rs) old new at each = (each.0, each.1 r.1 at.0, all_of_each g body (unit + version_units r.1) rs each.0 new at.1 each.2)
-
-pub has_each : (body : List ℕ) (unit : ℕ) (rs : List (Digest × Version)) → AreAt body unit rs → AllByRecursion (HasRecord body) (found_from unit rs)
-has_each body unit [] at = tt
-has_each body unit (r ∷ rs) at = (record { version = r.1; there = at.0; head = refl }, has_each body (unit + version_units r.1) rs at.1)
-
--- behind a text of a length stands what follows it
-behind_text : (n : ℕ) (xs ys : List ℕ) → length xs ≡ n → drop n (xs ++ ys) ≡ ys
-behind_text n xs ys long = ap (λ (k : ℕ). drop k (xs ++ ys)) (sym long) ∙ drop-append_seam xs ys
-
-at_front : (bytes : List ℕ) (unit : ℕ) (rs : List (Digest × Version)) (behind : List ℕ) → AllByRecursion (λ r. CanBeRecorded r.0 r.1) rs → drop (32 + 16 * unit) bytes ≡ records_text rs ++ behind → AreAt bytes unit rs
-at_front bytes unit [] behind ok is = tt
-at_front bytes unit (r ∷ rs) behind ok is =
-    let text : drop (32 + 16 * unit) bytes ≡ record_text r.0 r.1 ++ (records_text rs ++ behind) = is ∙ append_assoc (record_text r.0 r.1) (records_text rs) behind in
-    let next : drop (32 + 16 * (unit + version_units r.1)) bytes ≡ records_text rs ++ behind =
-    ap (λ (k : ℕ). drop k bytes) (further unit (version_units r.1))
-    ∙ sym (drop-drop (16 * version_units r.1) (32 + 16 * unit) bytes) ∙ ap (drop (16 * version_units r.1)) text
-    ∙ behind_text (16 * version_units r.1) (record_text r.0 r.1) (records_text rs ++ behind) (length-text r.0 r.1 ok.0) in
-    (subst (λ (l : List ℕ). BeginsWith l r.0 r.1) (sym text) (begins_text r.0 r.1 (records_text rs ++ behind) ok.0), at_front bytes (unit + version_units r.1) rs behind ok.1 next)
-  where
-    further : (u n : ℕ) → 32 + 16 * (u + n) ≡ (32 + 16 * u) + 16 * n
-    further u n = omega arith
-
--- each record of a body stands there
-pub are_at : (capacity : ℕ) (bytes : List ℕ) (b : Body) → IsBody capacity bytes b → AreAt bytes 0 b.records
-are_at capacity bytes b is = at_front bytes 0 b.records is.behind is.records (ap (drop 32) is.text)

@@ -1,275 +1,435 @@
 -- A put makes one event that may follow, and the shard stands for the state after it.
-use Rattle.std.proofs.Common.{◌≡◌, inl, inr, ⊎_elim, ℕ, ◌≤◌, Bool, false, List, [], ◌∷◌, ◌++◌, length, refl, sym, ◌∙◌, ap, subst}
-use Rattle.std.specs.Prelude.{◌⊎◌, Option, Some, None, nat_lt, nat_le, if◌then◌else◌}
+use Rattle.std.proofs.Common.{◌≡◌, inl, inr, ℕ, ◌+◌, ◌<◌, ◌≤◌, max, Bool, true, false, cond, List, [], ◌∷◌, ◌++◌, length, refl, sym, ◌∙◌, ap, subst, arith}
+use Rattle.std.specs.Prelude.{◌⊎◌, Option, Some, None, MatchOption, MatchResult, IfSome, Contains, map, Result, Ok, Err, option_map, nat_lt, nat_le, ◌==◌, if◌then◌else◌}
+use Rattle.std.specs.List.{AllByRecursion}
 use Rattle.std.proofs.Math.Nat.{le_refl}
-use Rattle.std.proofs.lemmas.Bool.{cond-false}
+use Rattle.std.proofs.lemmas.Bool.{false≢true, cond-true, le-ltb, lt-ltb, ltb-true, leb-true}
 use Rattle.fault_count.specs.Counts.{Rose}
 use Rattle.rec_format.specs.declared.version.Digest.{Digest}
 use Rattle.rec_format.specs.declared.version.Stamp.{Stamp}
 use Rattle.rec_format.specs.declared.version.Version.{Version}
-use Rattle.rec_format.specs.Places.{device_number}
-use Rattle.rec_format.specs.Versions.{a_put, units_for, version_units, new_stamp, top_number, IsVersion}
-use Rattle.rec_format.specs.Book.{Setup, client, has_room, fits_in, placing_number, sealed, opening}
-use Rattle.rec_format.specs.Device.{State, history, entry_is_covered, stamp_of, next_stamp_of, part_of, high_time}
-use Rattle.rec_format.specs.Steps.{Step, wrote, sealed_stream, gate_begun, flushed_buffer, after_steps}
-use Rattle.rec_format.specs.Events.{Event, Answer, put_call, stamp_given, refused, Cause, too_big, spent, no_space, no_memory, disk_fault}
-use Rattle.rec_format.specs.Legal.{Unless, WriteEnds, the_stamp, new_put, put_refusal, put_reserve, no_write, no_new_buffer, first_cause, commit_flush}
+use Rattle.rec_format.specs.declared.entry.Entry.{Entry}
+use Rattle.rec_format.specs.Places.{IsDigest, same_digest, device_number, part_number_of}
+use Rattle.rec_format.specs.Versions.{is_later, is_later_stamp, is_put, a_put, units_for, version_units, new_stamp, wanted_stamp, top_number, block_capacity, IsVersion}
+use Rattle.rec_format.specs.Histories.{Item, write, dropped, rid, cleared, top_of, is_covered, writes_of}
+use Rattle.rec_format.specs.Book.{Setup, Book, Buffer, Live, client, placing_number, live_of}
+use Rattle.rec_format.specs.Device.{State, history, entry, entry_is_covered, stamp_of, next_stamp_of, part_of, high_time}
+use Rattle.rec_format.specs.Steps.{Step, wrote, sealed_stream, after_step, after_steps}
+use Rattle.rec_format.specs.Events.{Event, Call, Answer, put_call, stamp_given, refused, Cause, too_big, spent, disk_fault}
+use Rattle.rec_format.specs.Legal.{Allowed, Unless, WriteEnds, NoMemory, the_stamp, new_put, put_refusal, put_reserve, no_write, no_place, first_cause, flush_between, flush_all, flush_count, StopsIn}
+use Rattle.rec_format.proofs.Laws.{wanted_later, later_than_all, same_digest_is, same_digest_refl}
 use Rattle.disk_model.specs.Disk.{Images, IsHonest}
-use Rattle.disk_model.specs.Runs.{OneOf, Leaves}
-use Rattle.block_format.specs.declared.geometry.Geometry.{Geometry}
+use Rattle.disk_model.specs.Runs.{OneOf, Leaves, leaves_none}
 use Rattle.block_format.specs.Recovery.{Survives}
-use Rattle.block_flusher.specs.Images.{IsShut, IsOpened}
-use Rattle.recovery_laws.specs.Writes.{MayFollow, WroteOne}
-use Rattle.recovery_laws.proofs.Growing.{orderly_after}
-use Rattle.recovery_laws.proofs.Surviving.{survives_pending}
-use Rattle.shard_core.specs.declared.settings.Settings.{Settings}
-use Rattle.shard_core.specs.declared.put.Plan.{Plan}
-use Rattle.shard_core.specs.declared.publish.Unpublished.{Unpublished}
-use Rattle.shard_core.specs.declared.publish.Unpublished.TheVariants.{Body, Gate}
-use Rattle.shard_core.specs.declared.index.Record.{Record}
-use Rattle.shard_core.specs.Index.{held, Holds}
-use Rattle.shard_core.specs.View.{ShardView, setup_of, setup_for, IsRising}
-use Rattle.shard_core.specs.Stands.{Agrees, IsSafe}
-use Rattle.shard_core.specs.Calls.{Makes, Entered, IsPlan, stamp_for, no_block, refusal_of}
-use Rattle.shard_core.proofs.Steps.{IsPut, own_buffer, no_filling, flush_is, after_seal, after_gate, after_flush}
-use Rattle.shard_core.proofs.Standing.{agrees_after, one_buffer, no_buffer}
-use Rattle.shard_core.proofs.Following.{may_follow, wrote_one, is_pending_after, well_begun, well_flushed}
-use Rattle.shard_core.proofs.Safety.{HasNow, none_left, IsWritten, PutsBlock, now_of, closed_survives, either_survives, all_survive, fault_survives}
+use Rattle.recovery_laws.specs.Orderly.{AreWrites, IsFalling, IsOrderly}
+use Rattle.recovery_laws.specs.Writes.{MayFollow}
+use Rattle.recovery_laws.proofs.Surviving.{all_map}
+use Rattle.recovery_laws.proofs.Growing.{all_at}
+use Rattle.recovery_laws.proofs.HeldWrites.{written_item, wrote_history}
+use Rattle.block_shelf.specs.declared.place.Class.TheVariants as class
+use Rattle.block_shelf.specs.declared.refusals.PutRefusal.{PutRefusal}
+use Rattle.block_shelf.specs.declared.refusals.PutRefusal.TheVariants as put
+use Rattle.block_shelf.specs.declared.place.Place.{Place}
+use Rattle.block_format.specs.declared.geometry.Geometry.{Geometry}
+use Rattle.write_buffer.specs.Buffers.{BufferState}
+use Rattle.block_shelf.specs.View.{ShelfView, IsShelf, IsBufferOf, IsSetupOf}
+use Rattle.block_shelf.specs.Standing.{book_buffer}
+use Rattle.block_shelf.specs.Standing as shelf
+use Rattle.block_shelf.specs.Calls.{Goes, Names, live_at, append_refusal, IsPutRefusal}
+use Rattle.shard_core.specs.declared.refusals.WriteRefusal.{WriteRefusal}
+use Rattle.shard_core.specs.declared.refusals.WriteRefusal.TheVariants as write_refusals
+use Rattle.shard_core.specs.Index.{held, stamp_held, flag_of, live_of_entry, high_of, Holds}
+use Rattle.shard_core.specs.View.{ShardView, IsWhole, IsEntryOf, SameShape, setup_of}
+use Rattle.shard_core.specs.Stands.{Lists, Agrees}
+use Rattle.shard_core.specs.Calls.{Makes, FlushesAll, cause_of_write, write_of, write_answer}
+use Rattle.shard_core.specs.Putting.{given_stamp, IsNewPut, IsUngiven, Wrote, IsUnwritten, Commits}
+use Rattle.shard_core.proofs.Going.{HasNow, goes_none, goes_then, safe_survives}
+use Rattle.shard_core.proofs.Making.{Stays, IsFlushing, flushes_flushing, steps_stay, lists_stay, setup_is, makes_by}
+use Rattle.shard_core.proofs.PlainState.{plain_state, plain_setup, plain_setup_of, plain_stands}
+use Rattle.shard_core.proofs.FlushSteps.{StandRight}
+use Rattle.shard_core.proofs.FlushLoop.{stand_right}
+use Rattle.shard_core.proofs.Getting.{held_is}
+use Rattle.shard_core.proofs.Placed.{copy_in, other_live, wrote_queue, wrote_filling, wrote_up_to}
 
-module _ {D : Type 0} (tells : D → Type 0) (seen : D → List ℕ) (may_leave : D → Images) (moment : D → ℕ) (had : D → ℕ → Type 0) (left_since : D → ℕ → Images) (faults : D → ℕ)
-    (old : ShardView D) (digest : Digest) (payload : List ℕ) (now : ℕ) (s : State) (agrees : Agrees old s) where
-  abbrev units : ℕ
-  units = units_for (length payload)
+-- ---- the index behind a write
+
+module _ (setup : Setup) (s : State) (digest : Digest) (v : Version) (old new : List Entry) (e : Entry) (lists : Lists setup old s) (holds : Holds e old new) (named : e.digest ≡ digest) (names : Names e v) (cover : e.cover ≡ v.cover)
+    (live : live_of digest (after_step setup (wrote digest v) s).book.live ≡ Some (live_of_entry e)) where
+  abbrev after : State
+  after = after_step setup (wrote digest v) s
+
+  shown_is : (d : Digest) → held d new ≡ cond (same_digest d digest) (Some e) (held d old)
+  shown_is d = holds.shown d ∙ ap (λ (x : Digest). cond (same_digest d x) (Some e) (held d old)) named
+
+  times_are : (part : ℕ) → high_time setup part after.log ≡ cond (part_of setup digest == part) (max v.stamp.lut (high_time setup part s.log)) (high_time setup part s.log)
+  unfolding after_step
+  times_are part = refl
+
+  pub lists_wrote : Lists setup new after
+  lists_wrote = record {
+    entries = λ d. entries_at d (same_digest d digest) refl;
+    covers = λ d. covers_at d (same_digest d digest) refl;
+    places = λ d. places_at d (same_digest d digest) refl;
+    times = λ part. times_are part
+        ∙ ap (λ (n : ℕ). cond (part_of setup digest == part) (max v.stamp.lut n) n) (lists.times part)
+        ∙ ap (λ (d : Digest). cond (part_of setup d == part) (max v.stamp.lut (high_of setup.devices setup.sprigs part old)) (high_of setup.devices setup.sprigs part old)) (sym named)
+        ∙ ap (λ (x : Stamp). cond (part_of setup e.digest == part) (max x.lut (high_of setup.devices setup.sprigs part old)) (high_of setup.devices setup.sprigs part old)) (sym names.stamp)
+        ∙ sym (holds.high setup.devices setup.sprigs part);
+  }
+    where
+      here : (d : Digest) (c : Bool) → same_digest d digest ≡ c → history after d ≡ cond c (written_item setup s v ∷ history s d) (history s d)
+      here d c is = wrote_history setup s digest v d ∙ ap (λ (b : Bool). cond b (written_item setup s v ∷ history s d) (history s d)) is
+
+      at : (d : Digest) (c : Bool) → same_digest d digest ≡ c → held d new ≡ cond c (Some e) (held d old)
+      at d c is = shown_is d ∙ ap (λ (b : Bool). cond b (Some e) (held d old)) is
+
+      entries_at : (d : Digest) (c : Bool) → same_digest d digest ≡ c → MatchOption (held d new) (entry after d ≡ None) (λ x. (w : Version) × (entry after d ≡ Some w) × Names x w)
+      entries_at d true is = subst (λ (o : Option Entry). MatchOption o (entry after d ≡ None) (λ x. (w : Version) × (entry after d ≡ Some w) × Names x w)) (sym (at d true is)) (v, ap top_of (here d true is), names)
+      entries_at d false is =
+          subst (λ (o : Option Entry). MatchOption o (entry after d ≡ None) (λ x. (w : Version) × (entry after d ≡ Some w) × Names x w)) (sym (at d false is))
+          (subst (λ (h : List Item). MatchOption (held d old) (top_of h ≡ None) (λ x. (w : Version) × (top_of h ≡ Some w) × Names x w)) (sym (here d false is)) (lists.entries d))
+
+      covers_at : (d : Digest) (c : Bool) → same_digest d digest ≡ c → entry_is_covered after d ≡ flag_of (held d new)
+      covers_at d true is = ap is_covered (here d true is) ∙ sym cover ∙ sym (ap flag_of (at d true is))
+      covers_at d false is = ap is_covered (here d false is) ∙ lists.covers d ∙ sym (ap flag_of (at d false is))
+
+      places_at : (d : Digest) (c : Bool) → same_digest d digest ≡ c → live_of d after.book.live ≡ option_map live_of_entry (held d new)
+      places_at d true is = ap (λ (x : Digest). live_of x after.book.live) (same_digest_is d digest is) ∙ live ∙ sym (ap (option_map live_of_entry) (at d true is))
+      places_at d false is = other_live setup s digest v d is ∙ lists.places d ∙ sym (ap (option_map live_of_entry) (at d false is))
+
+-- ---- the version
+
+-- a stamp that is given is the one that is wanted, and its time isn't past the last
+pub given_is : (b : Bool) (wanted stamp : Stamp) → cond b (Some wanted) None ≡ Some stamp → (b ≡ true) × (wanted ≡ stamp)
+given_is true wanted stamp e = (refl, cc)
+given_is false wanted stamp e = absurd (cc)
+
+-- what is later than a write is later than all behind it
+falls_behind : (v w : Version) (older : List Version) → is_later v w ≡ true → AllByRecursion (λ u. is_later w u ≡ true) older → AllByRecursion (λ u. is_later v u ≡ true) older
+falls_behind v w older e all = all_map (λ u. is_later w u ≡ true) (λ u. is_later v u ≡ true) older (λ u h. (later_than_all v.stamp w.stamp (write u [] ∷ []) e (h, tt)).0) all
+
+-- the stamp after an entry's is later than the whole history, which falls
+later_than_history : (items : List Item) (high now : ℕ) (v : Version) → new_stamp (stamp_of (top_of items)) high now ≡ Some v.stamp → AreWrites items → IsFalling (writes_of items)
+    → AllByRecursion (λ w. is_later v w ≡ true) (writes_of items)
+later_than_history [] high now v e all falls = tt
+later_than_history (write w numbers ∷ older) high now v e all falls =
+    let wanted = (given_is (nat_le (wanted_stamp (Some w.stamp) high now).lut top_number) (wanted_stamp (Some w.stamp) high now) v.stamp e).1 in
+    let after = (wanted_later (write w numbers ∷ []) w.stamp.lut now (tt, tt) (le_refl w.stamp.lut, tt)).0 in
+    let later : is_later v w ≡ true = subst (λ (s : Stamp). is_later_stamp s w.stamp ≡ true) wanted after in
+    (later, falls_behind v w (writes_of older) later falls.0)
+later_than_history (dropped ∷ older) high now v e all falls = absurd all
+later_than_history (rid ∷ older) high now v e all falls = absurd all
+later_than_history (cleared ∷ older) high now v e all falls = absurd all
+
+-- a stamp that may be given behind an entry
+record IsFine (o : Option Entry) (stamp : Stamp) : Type 0 where
+  time : (1 ≤ stamp.lut) × (stamp.lut ≤ top_number)
+  generation : (1 ≤ stamp.gen_) × (stamp.gen_ < 65536)
+  later : IfSome o (λ e. e.stamp.lut ≤ stamp.lut)
+
+fine : (o : Option Entry) (high now : ℕ) (stamp : Stamp) → IfSome o (λ e. 1 ≤ e.stamp.lut) → new_stamp (stamp_held o) high now ≡ Some stamp → IsFine o stamp
+fine None high now stamp timed e =
+    let given = given_is (nat_le (wanted_stamp None high now).lut top_number) (wanted_stamp None high now) stamp e in
+    let top : (wanted_stamp None high now).lut ≤ top_number = leb-true _ _ given.0 in
+    subst (IsFine None) given.1 (record { time = (omega arith, top); generation = (omega arith, omega arith); later = tt })
+fine (Some e) high now stamp timed is =
+    let given = given_is (nat_le (wanted_stamp (Some e.stamp) high now).lut top_number) (wanted_stamp (Some e.stamp) high now) stamp is in
+    let top : (wanted_stamp (Some e.stamp) high now).lut ≤ top_number = leb-true _ _ given.0 in
+    subst (IsFine (Some e)) given.1 (by (nat_lt e.stamp.gen_ 65535) (ltb-true e.stamp.gen_ 65535) top)
+  where
+    by : (c : Bool) → (c ≡ true → e.stamp.gen_ < 65535) → (let w : Stamp = cond c (record { lut = max now e.stamp.lut; gen_ = e.stamp.gen_ + 1 }) (record { lut = max now (e.stamp.lut + 1); gen_ = 1 }) in w.lut) ≤ top_number
+        → IsFine (Some e) (cond c (record { lut = max now e.stamp.lut; gen_ = e.stamp.gen_ + 1 }) (record { lut = max now (e.stamp.lut + 1); gen_ = 1 }))
+    by true small top = let lt : e.stamp.gen_ < 65535 = small refl in record { time = (omega arith, top); generation = (omega arith, omega arith); later = omega arith }
+    by false small top = record { time = (omega arith, top); generation = (omega arith, omega arith); later = omega arith }
+
+pub new_put_is : {D : Type 0} (shard : ShardView D) (digest : Digest) (payload : List ℕ) (now : ℕ) (stamp : Stamp) (cover : Bool) (v : Version) → AllByRecursion (IsEntryOf shard.shelf.geometry) shard.index
+    → units_for (length payload) ≤ block_capacity shard.shelf.geometry.block_size → given_stamp shard digest now ≡ Some stamp → cover ≡ flag_of (held digest shard.index) → v ≡ a_put stamp 0 cover payload
+    → IsNewPut shard digest payload now v
+new_put_is {D} shard digest payload now stamp cover v entries fits given flag is =
+    let f = fine (held digest shard.index) (high_of shard.shelf.geometry.devices shard.set.sprigs (part_number_of shard.shelf.geometry.devices shard.set.sprigs digest) shard.index) now stamp (timed (held digest shard.index) refl) given in
+    subst (IsNewPut shard digest payload now) (sym is) (record {
+      fits = fits;
+      stamp = given;
+      put = ap (λ (c : Bool). a_put stamp 0 c payload) flag;
+      version = record { tombstone = λ tomb. absurd (false≢true tomb); time = f.time; generation = f.generation; void = omega arith };
+      later = f.later;
+    })
+  where
+    timed : (o : Option Entry) → held digest shard.index ≡ o → IfSome o (λ e. 1 ≤ e.stamp.lut)
+    timed None same = tt
+    timed (Some e) same = (held_is digest (IsEntryOf shard.shelf.geometry) shard.index e entries same).holds.time
+
+-- ---- the copy
+
+abbrev pub copied : Digest → Version → Place → Entry
+copied digest v place = record { digest = digest; stamp = v.stamp; void = v.void; kind = v.kind; cover = v.cover; mark = 0; block = place.block; unit = place.unit; units = place.units }
+
+-- what the shelf says of a copy that was appended
+abbrev pub Appended : {D : Type 0} → (may_leave : D → Images) → Digest → Version → Result Place PutRefusal → (old new : ShelfView D) → Type 0
+Appended may_leave digest v result old new = (setup : Setup) (s : State) → IsSetupOf setup old → shelf.StandsFor old s → MatchResult result
+    (λ place. (append_refusal setup class.Put (version_units v) s.book ≡ None)
+    × (live_of digest (after_step setup (wrote digest v) s).book.live ≡ Some (live_at digest place))
+    × shelf.StandsFor new (after_step setup (wrote digest v) s)
+    × (shelf.IsPlaced may_leave old s → shelf.IsPlaced may_leave new (after_step setup (wrote digest v) s))
+    × (MayFollow setup s digest v → shelf.IsSafe setup may_leave old s → shelf.IsSafe setup may_leave new (after_step setup (wrote digest v) s)))
+    (λ refusal. IsPutRefusal refusal (append_refusal setup class.Put (version_units v) s.book))
+
+module _ {D : Type 0} (extent : D → ℕ) (tells : D → Type 0) (seen : D → List ℕ) (may_leave : D → Images) (digest : Digest) (v : Version) (place : Place) (old new : ShelfView D)
+    (kept : IsShelf extent tells seen may_leave old) (appended : Appended may_leave digest v (Ok place) old new) (units : place.units ≡ version_units v) (geometry : new.geometry ≡ old.geometry) where
+  -- the entry of it is one of the device
+  pub copied_is_entry : IsDigest digest → device_number old.geometry.devices digest ≡ old.geometry.device → IsVersion v → IsEntryOf new.geometry (copied digest v place)
+  copied_is_entry named own version =
+      let t : State = after_step (plain_setup old) (wrote digest v) (plain_state old) in
+      let all = appended (plain_setup old) (plain_state old) (plain_setup_of old) (plain_stands extent tells seen may_leave old kept) in
+      let item : history t digest ≡ written_item (plain_setup old) (plain_state old) v ∷ history (plain_state old) digest =
+      wrote_history (plain_setup old) (plain_state old) digest v digest ∙ cond-true (same_digest digest digest) _ _ (same_digest_refl digest) in
+      let live = all.2.live digest (live_at digest place) v all.1 (ap top_of item) in
+      record {
+        named = named;
+        own = subst (λ (g : Geometry). device_number g.devices digest ≡ g.device) (sym geometry) own;
+        time = version.time.0;
+        block = omega (arith, live.block);
+        within = live.within;
+        units = subst (λ (n : ℕ). 3 ≤ n) (sym units) (least_units (length v.payload));
+      }
+    where
+      least_units : (n : ℕ) → 3 ≤ units_for n
+      least_units n = omega arith
+
+  pub entries_stay : (before after : List Entry) → Holds (copied digest v place) before after → IsEntryOf new.geometry (copied digest v place) → AllByRecursion (IsEntryOf old.geometry) before → AllByRecursion (IsEntryOf new.geometry) after
+  entries_stay before after holds one all =
+      let both : AllByRecursion (IsEntryOf new.geometry) (copied digest v place ∷ before) = (one, subst (λ (g : Geometry). AllByRecursion (IsEntryOf g) before) (sym geometry) all) in
+      all_map (λ e. Contains (copied digest v place ∷ before) e) (IsEntryOf new.geometry) after (λ e there. all_at (IsEntryOf new.geometry) (copied digest v place ∷ before) e both there) holds.each
+
+  pub wrote_by : (shard : ShardView D) (s : State) (index : List Entry) → shard.shelf ≡ old → IsWhole shard → Agrees shard s → Holds (copied digest v place) shard.index index
+      → Wrote may_leave shard s digest v place.block (record { shelf = new; set = shard.set; index = index })
+  wrote_by shard s index same whole agrees holds =
+      let setup : Setup = setup_of shard in
+      let all = appended setup s (subst (IsSetupOf setup) same (setup_is shard whole)) (subst (λ (x : ShelfView D). shelf.StandsFor x s) same agrees.shelf) in
+      let filled = wrote_filling setup s digest v in
+      let lives : Some (copy_in digest (version_units v) filled.taker) ≡ Some (live_at digest place) = sym filled.live ∙ all.1 in
+      let book_right : StandRight s.book.buffers = subst StandRight (sym agrees.shelf.buffers) (subst (λ (x : ShelfView D). StandRight (map book_buffer x.buffers)) (sym same) (stand_right old.buffers kept.order)) in
+      record {
+        allowed = all.0;
+        lists = lists_wrote setup s digest v shard.index index (copied digest v place) agrees.index holds refl (record { kind = refl; stamp = refl; void = refl; units = units }) refl all.1;
+        stands = all.2;
+        placed = λ placed. all.3 (subst (λ (x : ShelfView D). shelf.IsPlaced may_leave x s) same placed);
+        safe = λ may safe. all.4 may (subst (λ (x : ShelfView D). shelf.IsSafe setup may_leave x s) same safe);
+        buffer = filled.buffer;
+        filling = filled.found;
+        there = filled.block ∙ live_block lives;
+        up_to = wrote_up_to setup s digest v book_right (subst (λ (n : ℕ). AllByRecursion (λ b. b.number < n) s.book.buffers) (sym agrees.shelf.next)
+            (subst (λ (bs : List Buffer). AllByRecursion (λ b. b.number < shard.shelf.next_number) bs) (sym agrees.shelf.buffers)
+            (subst (λ (x : ShelfView D). AllByRecursion (λ b. b.number < x.next_number) (map book_buffer x.buffers)) (sym same) (book_below old.buffers (all_map (IsBufferOf old.geometry old.next_number) (λ b. b.number < old.next_number) old.buffers (λ b h. h.number) kept.buffers)))));
+      }
+    where
+      live_block : {a b : Live} → Some a ≡ Some b → a.block ≡ b.block
+      live_block {a} {b} e = let one : a ≡ b = cc in ap (λ (l : Live). l.block) one
+
+      book_below : (bs : List BufferState) → AllByRecursion (λ b. b.number < old.next_number) bs → AllByRecursion (λ b. b.number < old.next_number) (map book_buffer bs)
+      book_below [] all = tt
+      book_below (b ∷ bs) all = (all.0, book_below bs all.1)
+
+module _ {D : Type 0} (old : ShardView D) (s : State) (digest : Digest) (payload : List ℕ) (now : ℕ) (agrees : Agrees old s) where
+  stamp_same : stamp_of (entry s digest) ≡ stamp_held (held digest old.index)
+  stamp_same = by (held digest old.index) (agrees.index.entries digest)
+    where
+      by : (o : Option Entry) → MatchOption o (entry s digest ≡ None) (λ e. (v : Version) × (entry s digest ≡ Some v) × Names e v) → stamp_of (entry s digest) ≡ stamp_held o
+      by None is = ap stamp_of is
+      by (Some e) is = ap stamp_of is.1 ∙ ap (λ (x : Stamp). Some x) (sym is.2.stamp)
+
+  stamps_same : next_stamp_of (setup_of old) s now digest ≡ given_stamp old digest now
+  stamps_same =
+      ap (λ (o : Option Stamp). new_stamp o (high_time (setup_of old) (part_of (setup_of old) digest) s.log) now) stamp_same
+      ∙ ap (λ (n : ℕ). new_stamp (stamp_held (held digest old.index)) n now) (agrees.index.times (part_of (setup_of old) digest))
 
   -- ---- what stands against it
 
-  stamps_same : next_stamp_of (setup_of old) s now digest ≡ stamp_for old digest now
-  stamps_same =
-      ap (λ (o : Option Version). new_stamp (stamp_of o) (high_time (setup_of old) (part_of (setup_of old) digest) s.log) now) (agrees.entries digest)
-      ∙ ap (λ (n : ℕ). new_stamp (stamp_of (held digest old.index)) n now) (agrees.times (part_of (setup_of old) digest))
+  abbrev refusal_of : Option Stamp → Option Cause
+  refusal_of o = first_cause (if nat_lt (setup_of old).capacity (units_for (length payload)) then Some (too_big (units_for (length payload)) (setup_of old).capacity) else None)
+      (no_write (setup_of old) put_reserve (units_for (length payload)) o s)
 
-  no_room : has_room (setup_of old) client units s.book ≡ false
-  no_room = ap (λ o. fits_in (setup_of old).capacity units o) (no_filling s.book.buffers agrees.rest.sealed)
+  refusal_is : put_refusal (setup_of old) s digest None payload now ≡ refusal_of (given_stamp old digest now)
+  refusal_is = ap refusal_of stamps_same
 
-  writes_same : (o : Option Stamp) → no_write (setup_of old) put_reserve units o s ≡ no_block old o
-  writes_same None = refl
-  writes_same (Some stamp) =
-      cond-false (has_room (setup_of old) client units s.book) None (no_new_buffer (setup_of old) put_reserve s.book) no_room
-      ∙ ap (λ (n : ℕ). if nat_lt top_number n then Some spent else if nat_le (length s.book.free) 0 then Some (no_space (length s.book.free)) else None) agrees.next
-      ∙ ap (λ (l : List ℕ). if nat_lt top_number old.next_number then Some spent else if nat_le (length l) 0 then Some (no_space (length l)) else None) agrees.free
+  pub refused_by : (refusal : WriteRefusal) → IsUngiven old digest payload now refusal → (refusal ≡ write_refusals.Memory) ⊎ (put_refusal (setup_of old) s digest None payload now ≡ Some (cause_of_write refusal))
+  refused_by (write_refusals.Big units capacity) is = inr (refusal_is
+      ∙ ap (λ (b : Bool). first_cause (cond b (Some (too_big (units_for (length payload)) (setup_of old).capacity)) None) (no_write (setup_of old) put_reserve (units_for (length payload)) (given_stamp old digest now) s))
+      (lt-ltb (setup_of old).capacity (units_for (length payload)) (subst (λ (n : ℕ). n < units_for (length payload)) is.1 (subst (λ (n : ℕ). capacity < n) is.0 is.2)))
+      ∙ ap (λ (n : ℕ). Some (too_big n (setup_of old).capacity)) (sym is.0) ∙ ap (λ (n : ℕ). Some (too_big units n)) (sym is.1))
+  refused_by (write_refusals.Gen seen) is = absurd is
+  refused_by write_refusals.Spent is = inr (refusal_is ∙ ap refusal_of is.1
+      ∙ ap (λ (b : Bool). first_cause (cond b (Some (too_big (units_for (length payload)) (setup_of old).capacity)) None) (Some spent)) (le-ltb (setup_of old).capacity (units_for (length payload)) is.0))
+  refused_by (write_refusals.Load pending) is = absurd is
+  refused_by (write_refusals.Space free) is = absurd is
+  refused_by write_refusals.Memory is = inl refl
+  refused_by write_refusals.Fault is = absurd is
 
-  refusals_same : put_refusal (setup_of old) s digest None payload now ≡ refusal_of old digest units now
-  refusals_same =
-      ap (λ (o : Option Cause). first_cause (if nat_lt (setup_of old).capacity units then Some (too_big units (setup_of old).capacity) else None) o)
-      (writes_same (next_stamp_of (setup_of old) s now digest) ∙ ap (no_block old) stamps_same)
+  module _ (v : Version) (is : IsNewPut old digest payload now v) where
+    units_same : version_units v ≡ units_for (length payload)
+    units_same = ap version_units is.put
 
-  abbrev event_of : Answer → List Step → ℕ → Event
-  event_of answer steps after = record { call = put_call digest 0 None payload now; answer = answer; steps = steps; faults_before = faults old.disk; faults_after = after }
+    -- as the shelf has it
+    pub refusal_same : put_refusal (setup_of old) s digest None payload now ≡ append_refusal (setup_of old) class.Put (version_units v) s.book
+    refusal_same = refusal_is ∙ ap refusal_of is.stamp
+        ∙ ap (λ (n : ℕ). first_cause (if nat_lt (setup_of old).capacity n then Some (too_big n (setup_of old).capacity) else None) (no_place (setup_of old) client put_reserve n s.book)) (sym units_same)
 
-  -- ---- the event
-
-  none_lost : HasNow may_leave moment had left_since old.disk → IsSafe may_leave old s → Leaves moment had left_since (OneOf (Survives (setup_of old)) (s ∷ [])) old.disk old.disk
-  none_lost has_now safe = none_left may_leave moment had left_since old.disk (OneOf (Survives (setup_of old)) (s ∷ [])) has_now (λ image here. inl (safe.images image here))
-
-  pub makes_refused : HasNow may_leave moment had left_since old.disk → (cause : Cause) → refusal_of old digest units now ≡ Some cause → Makes tells seen may_leave moment had left_since faults (put_call digest 0 None payload now) (refused cause) old s old
-  makes_refused has_now cause is = record {
-    event = event_of (refused cause) [] (faults old.disk);
-    is_call = refl;
-    is_answer = refl;
-    follows = λ told. record {
-      begins = refl;
-      counts = le_refl (faults old.disk);
-      allowed = inr (subst (λ (o : Option Cause). Unless (event_of (refused cause) [] (faults old.disk)) o (let w = new_put (setup_of old) s digest 0 payload now in WriteEnds (setup_of old) s (event_of (refused cause) [] (faults old.disk)) digest w (stamp_given w.stamp))) (sym (refusals_same ∙ is)) (refl, refl));
-    };
-    counted = refl;
-    stands = agrees;
-    safe = λ honest safe. safe;
-    leaves = λ honest safe. none_lost has_now safe;
-  }
-
-  pub makes_no_memory : HasNow may_leave moment had left_since old.disk → Makes tells seen may_leave moment had left_since faults (put_call digest 0 None payload now) (refused no_memory) old s old
-  makes_no_memory has_now = record {
-    event = event_of (refused no_memory) [] (faults old.disk);
-    is_call = refl;
-    is_answer = refl;
-    follows = λ told. record { begins = refl; counts = le_refl (faults old.disk); allowed = inl (refl, refl) };
-    counted = refl;
-    stands = agrees;
-    safe = λ honest safe. safe;
-    leaves = λ honest safe. none_lost has_now safe;
-  }
-
-  module _ (plan : Plan) (new : ShardView D) (is : IsPlan old digest units now plan) (entered : Entered digest (a_put plan.stamp 0 plan.cover payload) plan.block old new) (later : faults old.disk ≤ faults new.disk)
-      (body : List ℕ) (own : device_number old.geometry.devices digest ≡ old.geometry.device) (version : IsVersion (a_put plan.stamp 0 plan.cover payload))
-      (block : PutsBlock tells seen may_leave moment had left_since old.geometry plan.block old.next_number digest (a_put plan.stamp 0 plan.cover payload) body old.disk new.disk) where
-    abbrev v : Version
-    v = a_put plan.stamp 0 plan.cover payload
-
-    version_is : new_put (setup_of old) s digest 0 payload now ≡ v
+    pub version_is : new_put (setup_of old) s digest 0 payload now ≡ v
     version_is =
         ap (λ (o : Option Stamp). a_put (the_stamp o) 0 (entry_is_covered s digest) payload) (stamps_same ∙ is.stamp)
-        ∙ ap (λ (c : Bool). a_put plan.stamp 0 c payload) (agrees.covers digest ∙ sym is.cover)
+        ∙ ap (λ (c : Bool). a_put v.stamp 0 c payload) (agrees.index.covers digest) ∙ sym is.put
 
-    free_is : s.book.free ≡ plan.block ∷ new.free
-    free_is = agrees.free ∙ entered.free
-
-    rising : IsRising (plan.block ∷ new.free)
-    rising = subst IsRising entered.free is.rising
-
-    abbrev first : List Step
-    first = wrote digest v ∷ sealed_stream client ∷ []
-
-    abbrev rest : List Step
-    rest = gate_begun s.book.next_number ∷ flushed_buffer s.book.next_number ∷ []
-
-    rest_is : commit_flush (setup_of old) (placing_number (setup_of old) client (version_units v) s.book) (after_steps (setup_of old) first s) ≡ rest
-    rest_is = flush_is old.geometry old.set s digest v plan.block new.free agrees.rest free_is rising
-
-    -- ---- the states on the way
-
-    sealed_put : IsPut s digest v plan.block new.free (own_buffer s.book.next_number plan.block (version_units v) sealed ∷ []) (after_steps (setup_of old) first s)
-    sealed_put = after_seal old.geometry old.set s digest v plan.block new.free agrees.rest free_is rising
-
-    opened_put : IsPut s digest v plan.block new.free (own_buffer s.book.next_number plan.block (version_units v) opening ∷ []) (after_steps (setup_of old) (first ++ gate_begun s.book.next_number ∷ []) s)
-    opened_put = after_gate old.geometry old.set s digest v plan.block new.free agrees.rest free_is rising
-
-    flushed_put : IsPut s digest v plan.block new.free [] (after_steps (setup_of old) (first ++ rest) s)
-    flushed_put = after_flush old.geometry old.set s digest v plan.block new.free agrees.rest free_is rising
-
-    setup_same : setup_of old ≡ setup_of new
-    setup_same = ap (λ (g : Geometry). setup_for g old.set) (sym entered.geometry) ∙ ap (λ (set : Settings). setup_for new.geometry set) (sym entered.set)
-
-    module _ (honest : IsHonest tells seen may_leave old.disk) (safe : IsSafe may_leave old s) where
-      may : MayFollow (setup_of old) s digest v
-      may = may_follow old digest units now payload plan s agrees safe.orderly is own version
-
-      written : IsWritten old.geometry plan.block s.book.next_number digest v body (may_leave old.disk)
-      written = subst (λ (n : ℕ). IsWritten old.geometry plan.block n digest v body (may_leave old.disk)) (sym agrees.next) (block.written honest)
-
-      wrote_sealed : WroteOne s (after_steps (setup_of old) first s) digest v
-      wrote_sealed = wrote_one s _ digest v plan.block new.free _ sealed_put (le_refl s.book.next_number, tt)
-
-      wrote_opened : WroteOne s (after_steps (setup_of old) (first ++ gate_begun s.book.next_number ∷ []) s) digest v
-      wrote_opened = wrote_one s _ digest v plan.block new.free _ opened_put (le_refl s.book.next_number, tt)
-
-      wrote_flushed : WroteOne s (after_steps (setup_of old) (first ++ rest) s) digest v
-      wrote_flushed = wrote_one s _ digest v plan.block new.free _ flushed_put tt
-
-      -- each image of now survives a state
-      safe_after : (t : State) → WroteOne s t digest v → ((image : List ℕ) → may_leave new.disk image → Survives (setup_of old) t image) → IsSafe may_leave new t
-      safe_after t one images = record {
-        orderly = orderly_after (setup_of old) s t digest v safe.orderly may one;
-        images = λ image here. subst (λ (x : Setup). Survives x t image) setup_same (images image here);
-      }
-
-      -- while the gate is written
-      each_survives : (image : List ℕ) → left_since new.disk (moment old.disk) image → Survives (setup_of old) s image ⊎ Survives (setup_of old) (after_steps (setup_of old) (first ++ gate_begun s.book.next_number ∷ []) s) image
-      each_survives image left =
-          either_survives old.geometry old.set s plan.block digest v body (may_leave old.disk) written safe.images _ safe.orderly may wrote_opened
-          (well_begun s _ digest v plan.block new.free (history s digest) _ refl refl opened_put) image (block.images honest image left)
-
-      safe_written : IsOpened old.geometry plan.block (may_leave new.disk) → IsSafe may_leave new (after_steps (setup_of old) (first ++ rest) s)
-      safe_written opened = safe_after _ wrote_flushed (λ image here.
-          all_survive old.geometry old.set s plan.block digest v body (may_leave old.disk) written safe.images _ safe.orderly may wrote_flushed
-          (well_flushed s _ digest v plan.block new.free (history s digest) agrees.rest.numbers flushed_put) image
-          (now_of may_leave moment had left_since old.disk new.disk _ block.now block.time (block.images honest) image here) (opened image here))
-
-      -- where the body failed the gate is closed in each image
-      closed_each : IsShut old.geometry plan.block (left_since new.disk (moment old.disk)) → (image : List ℕ) → left_since new.disk (moment old.disk) image → Survives (setup_of old) s image
-      closed_each shut image left =
-          closed_survives old.geometry old.set s plan.block digest v body (may_leave old.disk) written safe.images image (block.images honest image left) (shut image left)
-
-      safe_sealed : IsShut old.geometry plan.block (left_since new.disk (moment old.disk)) → IsSafe may_leave new (after_steps (setup_of old) first s)
-      safe_sealed shut = safe_after _ wrote_sealed (now_of may_leave moment had left_since old.disk new.disk _ block.now block.time (λ image left.
-          survives_pending (setup_of old) s _ digest v image safe.orderly wrote_sealed (is_pending_after s _ digest v plan.block new.free (history s digest) _ refl sealed_put) (closed_each shut image left)))
-
-      safe_opened : IsSafe may_leave new (after_steps (setup_of old) (first ++ gate_begun s.book.next_number ∷ []) s)
-      safe_opened = safe_after _ wrote_opened (now_of may_leave moment had left_since old.disk new.disk _ block.now block.time (λ image left.
-          fault_survives old.geometry old.set s plan.block digest v body (may_leave old.disk) written safe.images _ safe.orderly may wrote_opened
-          (well_begun s _ digest v plan.block new.free (history s digest) _ refl refl opened_put) image
-          (is_pending_after s _ digest v plan.block new.free (history s digest) _ refl opened_put) (block.images honest image left)))
-
-    -- ---- what may follow, by what was written
-
-    allowed_by : (answer : Answer) (steps : List Step) → let event = event_of answer steps (faults new.disk) in WriteEnds (setup_of old) s event digest v (stamp_given plan.stamp)
-        → Unless event (put_refusal (setup_of old) s digest None payload now) (let w = new_put (setup_of old) s digest 0 payload now in WriteEnds (setup_of old) s event digest w (stamp_given w.stamp))
-    allowed_by answer steps ends =
-        let event = event_of answer steps (faults new.disk) in
-        subst (λ (o : Option Cause). Unless event o (let w = new_put (setup_of old) s digest 0 payload now in WriteEnds (setup_of old) s event digest w (stamp_given w.stamp))) (sym (refusals_same ∙ is.allowed))
-        (subst (λ (w : Version). WriteEnds (setup_of old) s event digest w (stamp_given w.stamp)) (sym version_is) ends)
-
-    pub makes_written : (IsHonest tells seen may_leave old.disk → IsOpened old.geometry plan.block (may_leave new.disk)) → Makes tells seen may_leave moment had left_since faults (put_call digest 0 None payload now) (stamp_given plan.stamp) old s new
-    makes_written opened = record {
-      event = event_of (stamp_given plan.stamp) (first ++ rest) (faults new.disk);
-      is_call = refl;
-      is_answer = refl;
-      follows = λ told. record {
-        begins = refl;
-        counts = later;
-        allowed = inr (allowed_by (stamp_given plan.stamp) (first ++ rest) (inl (refl, ap (λ (l : List Step). first ++ l) (sym rest_is))));
-      };
-      counted = refl;
-      stands = agrees_after old new s _ digest v plan.block [] agrees entered flushed_put (no_buffer s plan.block new.free agrees.rest free_is);
-      safe = λ honest safe. safe_written honest safe (opened honest);
-      leaves = λ honest safe. record {
-        time = block.time;
-        each = λ image left. ⊎_elim (λ before. inl before) (λ after. inr (inr (inr (inl after)))) (each_survives honest safe image left);
-      };
+    pub may_follow : device_number old.shelf.geometry.devices digest ≡ old.shelf.geometry.device → IsOrderly s → MayFollow (setup_of old) s digest v
+    may_follow own orderly = record {
+      own = own;
+      version = is.version;
+      put = ap is_put is.put;
+      later = later_than_history (history s digest) (high_time (setup_of old) (part_of (setup_of old) digest) s.log) now v (stamps_same ∙ is.stamp) (orderly digest).writes (orderly digest).falling;
+      cover = ap (λ (w : Version). w.cover) is.put ∙ sym (agrees.index.covers digest);
     }
 
-    -- how far the flush came
-    begun_of : Unpublished → List Step
-    begun_of Body = []
-    begun_of Gate = gate_begun s.book.next_number ∷ []
+unwritten_by : (why : PutRefusal) (cause : Option Cause) → IsPutRefusal why cause → (write_of why ≡ write_refusals.Memory) ⊎ (cause ≡ Some (cause_of_write (write_of why)))
+unwritten_by (put.Big units capacity) cause is = inr is
+unwritten_by put.Spent cause is = inr is
+unwritten_by (put.Load pending) cause is = inr is
+unwritten_by (put.Space free) cause is = inr is
+unwritten_by put.Memory cause is = inl refl
+unwritten_by put.Fault cause is = absurd is
 
-    pub makes_fault : (step : Unpublished) → Rose (faults old.disk) (faults new.disk)
-        → (IsHonest tells seen may_leave old.disk → step ≡ Body → IsShut old.geometry plan.block (left_since new.disk (moment old.disk))) → Makes tells seen may_leave moment had left_since faults (put_call digest 0 None payload now) (refused disk_fault) old s new
-    makes_fault Body rose shut = record {
-      event = event_of (refused disk_fault) first (faults new.disk);
-      is_call = refl;
-      is_answer = refl;
-      follows = λ told. record {
-        begins = refl;
-        counts = later;
-        allowed = inr (allowed_by (refused disk_fault) first (inr (refl, rose, inr ([], refl, (gate_begun s.book.next_number, flushed_buffer s.book.next_number ∷ [], rest_is)))));
-      };
-      counted = refl;
-      stands = agrees_after old new s _ digest v plan.block _ agrees entered sealed_put (one_buffer s plan.block new.free (version_units v) sealed agrees.rest free_is rising refl);
-      safe = λ honest safe. safe_sealed honest safe (shut honest refl);
-      leaves = λ honest safe. record { time = block.time; each = λ image left. inl (closed_each honest safe (shut honest refl) image left) };
+unwritten : (refusal : WriteRefusal) (cause : Option Cause) → IsUnwritten refusal cause → (refusal ≡ write_refusals.Memory) ⊎ (cause ≡ Some (cause_of_write refusal))
+unwritten refusal cause is = subst (λ (r : WriteRefusal). (r ≡ write_refusals.Memory) ⊎ (cause ≡ Some (cause_of_write r))) (sym is.1) (unwritten_by is.0 cause is.2)
+
+commits_flushing : (r : Result (Unit {0}) WriteRefusal) (book : Book) (steps : List Step) → Commits r (flush_all book) steps → AllByRecursion IsFlushing steps
+commits_flushing (Ok done) book steps is = flushes_flushing {E = WriteRefusal} (Ok (flush_count (flush_all book))) book steps (is, refl)
+commits_flushing (Err refusal) book steps is = flushes_flushing {E = WriteRefusal} (Err refusal) book steps is.1
+
+pub refused_write : {D : Type 0} (old : ShardView D) (s : State) (digest : Digest) (payload : List ℕ) (now : ℕ) → Agrees old s → (v : Version) → IsNewPut old digest payload now v → (refusal : WriteRefusal)
+    → IsUnwritten refusal (append_refusal (setup_of old) class.Put (version_units v) s.book) → (refusal ≡ write_refusals.Memory) ⊎ (put_refusal (setup_of old) s digest None payload now ≡ Some (cause_of_write refusal))
+refused_write old s digest payload now agrees v is refusal why =
+    subst (λ (cause : Option Cause). (refusal ≡ write_refusals.Memory) ⊎ (cause ≡ Some (cause_of_write refusal))) (sym (refusal_same old s digest payload now agrees v is))
+    (unwritten refusal (append_refusal (setup_of old) class.Put (version_units v) s.book) why)
+
+-- ---- the event
+
+module _ {D : Type 0} (tells : D → Type 0) (seen : D → List ℕ) (may_leave : D → Images) (moment : D → ℕ) (had : D → ℕ → Type 0) (left_since : D → ℕ → Images) (faults : D → ℕ)
+    (old : ShardView D) (s : State) (digest : Digest) (payload : List ℕ) (now : ℕ) (agrees : Agrees old s) (has_now : HasNow may_leave moment had left_since old.shelf.disk) where
+  abbrev call : Call
+  call = put_call digest 0 None payload now
+
+  abbrev MakesPut : Answer → ShardView D → Type 0
+  MakesPut answer new = Makes tells seen may_leave moment had left_since faults call answer old s new
+
+  abbrev refused_event : WriteRefusal → Event
+  refused_event refusal = record { call = call; answer = refused (cause_of_write refusal); steps = []; faults_before = faults old.shelf.disk; faults_after = faults old.shelf.disk }
+
+  pub makes_refused : (refusal : WriteRefusal) → (refusal ≡ write_refusals.Memory) ⊎ (put_refusal (setup_of old) s digest None payload now ≡ Some (cause_of_write refusal)) → MakesPut (write_answer (Err refusal)) old
+  makes_refused refusal why =
+      let may = λ (told : Bool). allowed told why in
+      makes_by tells seen may_leave moment had left_since faults old old s call (refused (cause_of_write refusal)) [] (record { geometry = refl; set = refl }) (le_refl (faults old.shelf.disk))
+      (goes_none tells seen may_leave moment had left_since (setup_of old) old.shelf s has_now agrees.shelf) (may false) (λ honest safe. may true) agrees.index agrees.queue
+    where
+      allowed : (told : Bool) → (refusal ≡ write_refusals.Memory) ⊎ (put_refusal (setup_of old) s digest None payload now ≡ Some (cause_of_write refusal)) → Allowed (setup_of old) told s (refused_event refusal) call
+      allowed told (inl memory) = inl (ap (λ (r : WriteRefusal). refused (cause_of_write r)) memory, refl)
+      allowed told (inr cause) = inr (subst (λ (o : Option Cause). Unless (refused_event refusal) o (let w = new_put (setup_of old) s digest 0 payload now in WriteEnds (setup_of old) s (refused_event refusal) digest w (stamp_given w.stamp))) (sym cause) (refl, refl))
+
+  module _ (v : Version) (is : IsNewPut old digest payload now v) (block : ℕ) (mid : ShardView D) (wrote_it : Wrote may_leave old s digest v block mid) (disk : mid.shelf.disk ≡ old.shelf.disk)
+      (own : device_number old.shelf.geometry.devices digest ≡ old.shelf.geometry.device) where
+    abbrev written_state : State
+    written_state = after_step (setup_of old) (wrote digest v) s
+
+    abbrev number : ℕ
+    number = placing_number (setup_of old) client (version_units v) s.book
+
+    goes_wrote : Goes tells seen may_leave moment had left_since (setup_of old) (wrote digest v ∷ []) old.shelf s mid.shelf
+    goes_wrote = record {
+      stands = wrote_it.stands;
+      placed = λ honest placed. wrote_it.placed placed;
+      safe = λ honest safe. wrote_it.safe (may_follow old s digest payload now agrees v is own safe.orderly) safe;
+      leaves = λ honest safe. subst (λ (d : D). Leaves moment had left_since (OneOf (Survives (setup_of old)) (s ∷ written_state ∷ [])) old.shelf.disk d) (sym disk)
+          (leaves_none moment had left_since (OneOf (Survives (setup_of old)) (s ∷ written_state ∷ [])) (may_leave old.shelf.disk) old.shelf.disk has_now.had_now has_now.alone has_now.since
+          (λ image here. inl (safe_survives (setup_of old) may_leave old.shelf s safe image here)));
     }
-    makes_fault Gate rose shut = record {
-      event = event_of (refused disk_fault) (first ++ gate_begun s.book.next_number ∷ []) (faults new.disk);
-      is_call = refl;
-      is_answer = refl;
-      follows = λ told. record {
-        begins = refl;
-        counts = later;
-        allowed = inr (allowed_by (refused disk_fault) (first ++ gate_begun s.book.next_number ∷ []) (inr (refl, rose, inr (gate_begun s.book.next_number ∷ [], refl, (flushed_buffer s.book.next_number, [], rest_is)))));
-      };
-      counted = refl;
-      stands = agrees_after old new s _ digest v plan.block _ agrees entered opened_put (one_buffer s plan.block new.free (version_units v) opening agrees.rest free_is rising refl);
-      safe = λ honest safe. safe_opened honest safe;
-      leaves = λ honest safe. record {
-        time = block.time;
-        each = λ image left. ⊎_elim (λ before. inl before) (λ after. inr (inr (inr (inl after)))) (each_survives honest safe image left);
-      };
-    }
 
--- a put that never expires and expects nothing
-pub as_called : {D : Type 0} (tells : D → Type 0) (seen : D → List ℕ) (may_leave : D → Images) (moment : D → ℕ) (had : D → ℕ → Type 0) (left_since : D → ℕ → Images) (faults : D → ℕ) (old new : ShardView D) (digest : Digest) (payload : List ℕ) (now : ℕ) (s : State) (answer : Answer) (ttl : ℕ) (expect : Option ℕ) → ttl ≡ 0 → expect ≡ None
-    → Makes tells seen may_leave moment had left_since faults (put_call digest 0 None payload now) answer old s new → Makes tells seen may_leave moment had left_since faults (put_call digest ttl expect payload now) answer old s new
-as_called tells seen may_leave moment had left_since faults old new digest payload now s answer ttl expect t e makes =
-    subst (λ (x : Option ℕ). Makes tells seen may_leave moment had left_since faults (put_call digest ttl x payload now) answer old s new) (sym e)
-    (subst (λ (n : ℕ). Makes tells seen may_leave moment had left_since faults (put_call digest n None payload now) answer old s new) (sym t) makes)
+    -- what may follow, by how the write ends
+    allowed_by : (told : Bool) (event : Event) → WriteEnds (setup_of old) s event digest v (stamp_given v.stamp) → NoMemory event ⊎ Unless event (put_refusal (setup_of old) s digest None payload now)
+        (let w = new_put (setup_of old) s digest 0 payload now in WriteEnds (setup_of old) s event digest w (stamp_given w.stamp))
+    allowed_by told event ends =
+        inr (subst (λ (o : Option Cause). Unless event o (let w = new_put (setup_of old) s digest 0 payload now in WriteEnds (setup_of old) s event digest w (stamp_given w.stamp)))
+        (sym (refusal_same old s digest payload now agrees v is ∙ wrote_it.allowed))
+        (subst (λ (w : Version). WriteEnds (setup_of old) s event digest w (stamp_given w.stamp)) (sym (version_is old s digest payload now agrees v is)) ends))
 
--- the disk of a shard has no part in what was entered
-pub entered_over : {D : Type 0} (digest : Digest) (version : Version) (block : ℕ) (old mid new : ShardView D) → Entered digest version block old mid
-    → new.geometry ≡ mid.geometry → new.set ≡ mid.set → new.index ≡ mid.index → new.free ≡ mid.free → new.next_number ≡ mid.next_number → Entered digest version block old new
-entered_over digest version block old mid new entered g t i f n = record {
-  geometry = g ∙ entered.geometry;
-  set = t ∙ entered.set;
-  index = subst (λ (l : List Record). Holds digest version old.index l) (sym i) entered.index;
-  free = entered.free ∙ ap (λ (l : List ℕ). block ∷ l) (sym f);
-  next = n ∙ entered.next;
-}
+    -- the steps with commit on or off
+    abbrev first_if : Bool → List Step
+    first_if on = wrote digest v ∷ (if on then sealed_stream client ∷ [] else [])
+
+    abbrev rest_if : Bool → List Step
+    rest_if on = if on then flush_between 0 number (after_steps (setup_of old) (first_if on) s).book else []
+
+    pub makes_waiting : old.set.commit ≡ false → SameShape old mid → MakesPut (write_answer (Ok v.stamp)) mid
+    makes_waiting off shape =
+        let event : Event = record { call = call; answer = stamp_given v.stamp; steps = wrote digest v ∷ []; faults_before = faults old.shelf.disk; faults_after = faults mid.shelf.disk } in
+        let steps : wrote digest v ∷ [] ≡ first_if (setup_of old).commit ++ rest_if (setup_of old).commit = ap (λ (on : Bool). first_if on ++ rest_if on) (sym off) in
+        let may = λ (told : Bool). allowed_by told event (inl (refl, steps)) in
+        makes_by tells seen may_leave moment had left_since faults old mid s call (stamp_given v.stamp) (wrote digest v ∷ []) shape (subst (λ (d : D). faults old.shelf.disk ≤ faults d) (sym disk) (le_refl (faults old.shelf.disk)))
+        goes_wrote (may false) (λ honest safe. may true) wrote_it.lists (wrote_queue (setup_of old) s digest v refl)
+
+    module _ (on : old.set.commit ≡ true) (new : ShardView D) (shape : SameShape old new) (index : new.index ≡ mid.index) (up : faults old.shelf.disk ≤ faults new.shelf.disk) (r : Result (Unit {0}) WriteRefusal) (steps : List Step)
+        (commits : Commits r (flush_all (after_step (setup_of old) (sealed_stream client) written_state).book) steps)
+        (goes : Goes tells seen may_leave moment had left_since (setup_of old) (sealed_stream client ∷ steps) mid.shelf written_state new.shelf) where
+      abbrev all_steps : List Step
+      all_steps = wrote digest v ∷ sealed_stream client ∷ steps
+
+      goes_all : Goes tells seen may_leave moment had left_since (setup_of old) all_steps old.shelf s new.shelf
+      goes_all = goes_then tells seen may_leave moment had left_since (setup_of old) (wrote digest v ∷ []) (sealed_stream client ∷ steps) old.shelf mid.shelf new.shelf s
+          (λ honest. subst (λ (d : D). IsHonest tells seen may_leave d) (sym disk) honest) goes_wrote goes
+
+      stays : Stays written_state (after_steps (setup_of old) (sealed_stream client ∷ steps) written_state)
+      stays = steps_stay (setup_of old) refl (sealed_stream client ∷ steps) written_state (tt, commits_flushing r (after_step (setup_of old) (sealed_stream client) written_state).book steps commits)
+
+      lists : Lists (setup_of old) new.index (after_steps (setup_of old) all_steps s)
+      lists = subst (λ (entries : List Entry). Lists (setup_of old) entries (after_steps (setup_of old) all_steps s)) (sym index)
+          (lists_stay (setup_of old) mid.index written_state (after_steps (setup_of old) (sealed_stream client ∷ steps) written_state) stays wrote_it.lists)
+
+      whole : flush_all (after_step (setup_of old) (sealed_stream client) written_state).book ≡ rest_if true
+      whole = sym wrote_it.up_to
+
+      firsts : first_if true ≡ first_if (setup_of old).commit
+      firsts = ap first_if (sym on)
+
+      rests : rest_if true ≡ rest_if (setup_of old).commit
+      rests = ap rest_if (sym on)
+
+      abbrev event_of : Answer → Event
+      event_of answer = record { call = call; answer = answer; steps = all_steps; faults_before = faults old.shelf.disk; faults_after = faults new.shelf.disk }
+
+      pub makes_ended : (answer : Answer) → WriteEnds (setup_of old) s (event_of answer) digest v (stamp_given v.stamp) → MakesPut answer new
+      makes_ended answer ends =
+          let may = λ (told : Bool). allowed_by told (event_of answer) ends in
+          makes_by tells seen may_leave moment had left_since faults old new s call answer all_steps shape up goes_all (may false) (λ honest safe. may true) lists
+          (stays.queue (wrote_queue (setup_of old) s digest v refl))
+
+      pub ends_done : steps ≡ flush_all (after_step (setup_of old) (sealed_stream client) written_state).book → MakesPut (write_answer (Ok v.stamp)) new
+      ends_done done = makes_ended (stamp_given v.stamp) (inl (
+        refl,
+        ap (λ (x : List Step). wrote digest v ∷ sealed_stream client ∷ x) (done ∙ whole) ∙ ap (λ (b : Bool). first_if b ++ rest_if b) (sym on),
+      ))
+
+      pub ends_faulted : StopsIn (flush_all (after_step (setup_of old) (sealed_stream client) written_state).book) steps → Rose (faults old.shelf.disk) (faults new.shelf.disk) → MakesPut (write_answer (Err write_refusals.Fault)) new
+      ends_faulted stops rose = makes_ended (refused disk_fault) (inr (
+        refl,
+        rose,
+        inr (
+          steps,
+          ap (λ (b : List Step). b ++ steps) firsts,
+          subst (λ (x : List Step). StopsIn x steps) (whole ∙ rests) stops,
+        ),
+      ))
+
+-- a commit as the flush in it ends
+abbrev pub committed : {E : Type 0} → Result ℕ E → Result (Unit {0}) WriteRefusal
+committed (Ok n) = Ok tt
+committed (Err e) = Err write_refusals.Fault
+
+pub commits_from : {E : Type 0} (r : Result ℕ E) (whole steps : List Step) → FlushesAll r whole steps → Commits (committed r) whole steps
+commits_from (Ok n) whole steps is = is.0
+commits_from (Err e) whole steps is = (refl, is)

@@ -3,7 +3,7 @@ use Rattle.std.proofs.Common.{◌≡◌, ℕ, List, ◌∙◌, sym, subst, inl, 
 use Rattle.std.proofs.Math.Nat.{le_trans}
 use Rattle.disk_model.specs.Disk.{Images, Within, IsHonest, IsOnly}
 use Rattle.disk_model.specs.Runs.{advances_on}
-use Rattle.shard_core.specs.Starting.{OnlyRead}
+use Rattle.block_shelf.specs.Disks.{OnlyRead}
 
 module _ {D : Type 0} (extent : D → ℕ) (tells : D → Type 0) (seen : D → List ℕ) (may_leave : D → Images) (moment : D → ℕ) (had : D → ℕ → Type 0) (left_since : D → ℕ → Images) (faults : D → ℕ)
     (alone : (disk : D) (c : List ℕ) → left_since disk (moment disk) c → may_leave disk c) (had_now : (disk : D) → had disk (moment disk)) (since : (disk : D) (t : ℕ) (c : List ℕ) → had disk t → may_leave disk c → left_since disk t c) where

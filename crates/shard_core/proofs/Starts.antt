@@ -9,9 +9,6 @@ use Rattle.block_format.specs.Refusals.{first_bytes, IsAsked}
 use Rattle.shard_core.specs.declared.start.Asked.{Asked}
 use Rattle.shard_core.specs.declared.start.StartCause.{StartCause}
 use Rattle.shard_core.specs.declared.start.StartCause.TheVariants.{NotFormatted, OtherGeometry}
-use Rattle.std.proofs.Common.{suc, zero}
-use Rattle.std.specs.List.{range_with_len, AllByRecursion}
-use Rattle.shard_core.specs.View.{IsRising}
 use Rattle.shard_core.specs.Starting.{IsRefused}
 
 -- ---- the first sector
@@ -103,17 +100,3 @@ this_device asked bytes sector g size is header sized same = record {
   devices_is = same.1;
   size = subst (λ (n : ℕ). device_end g ≤ n) sized same.2;
 }
-
--- ---- the first state
-
-above : (b a n : ℕ) → b < a → AllByRecursion (λ m. b < m) (range_with_len a n)
-above b a zero lt = tt
-above b a (suc n) lt = (lt, above b (a + 1) n (omega arith))
-
-pub range_rises : (a n : ℕ) → IsRising (range_with_len a n)
-range_rises a zero = tt
-range_rises a (suc n) = (above a (a + 1) n (omega arith), range_rises (a + 1) n)
-
-pub range_below : (a n limit : ℕ) → a + n ≤ limit → AllByRecursion (λ b. b < limit) (range_with_len a n)
-range_below a zero limit le = tt
-range_below a (suc n) limit le = (omega arith, range_below (a + 1) n limit (omega arith))

@@ -1,25 +1,23 @@
 -- Crate shard_core. What the calls of a shard answer, as the definitions see it.
-use Rattle.std.specs.Prelude.{◌≡◌, ℕ, ◌+◌, ◌<◌, ◌≤◌, Bool, nat_lt, nat_le, List, ◌∷◌, length, Option, Result, Ok, Err, Some, None, if◌then◌else◌}
-use Rattle.rec_format.specs.declared.version.Digest.{Digest}
+use Rattle.std.specs.Prelude.{◌≡◌, ℕ, true, false, List, Option, Result, Ok, Err}
 use Rattle.rec_format.specs.declared.version.Stamp.{Stamp}
 use Rattle.rec_format.specs.declared.version.Version.{Version}
-use Rattle.rec_format.specs.Places.{part_number_of}
-use Rattle.rec_format.specs.Versions.{new_stamp, block_capacity, top_number}
-use Rattle.rec_format.specs.Device.{State, stamp_of}
-use Rattle.rec_format.specs.Events.{Event, Call, Answer, stamp_given, found_version, refused, Cause, too_big, wrong_generation, spent, overload, no_space, damaged, no_memory, disk_fault, after_event}
-use Rattle.rec_format.specs.Legal.{Follows, first_cause}
-use Rattle.shard_core.specs.declared.refusals.WriteRefusal.{WriteRefusal}
-use Rattle.shard_core.specs.declared.refusals.WriteRefusal.TheVariants as write
-use Rattle.shard_core.specs.declared.refusals.ReadRefusal.{ReadRefusal}
-use Rattle.shard_core.specs.declared.refusals.ReadRefusal.TheVariants as read
-use Rattle.shard_core.specs.View.{ShardView, setup_of, IsRising}
-use Rattle.shard_core.specs.Stands.{Agrees, IsSafe}
+use Rattle.rec_format.specs.Device.{State}
+use Rattle.rec_format.specs.Steps.{Step, states_through}
+use Rattle.rec_format.specs.Events.{Event, Call, Answer, stamp_given, found_version, counted, refused, Cause, too_big, wrong_generation, spent, overload, no_space, damaged, no_memory, disk_fault, after_event}
+use Rattle.rec_format.specs.Legal.{Follows, flush_count, StopsIn}
 use Rattle.disk_model.specs.Disk.{Images, IsHonest}
 use Rattle.disk_model.specs.Runs.{OneOf, Leaves}
-use Rattle.rec_format.specs.Steps.{states_through}
 use Rattle.block_format.specs.Recovery.{Survives}
-use Rattle.shard_core.specs.Index.{held, flag_of, high_of, Holds}
-use Rattle.shard_core.specs.declared.put.Plan.{Plan}
+use Rattle.block_shelf.specs.declared.refusals.PutRefusal.{PutRefusal}
+use Rattle.block_shelf.specs.declared.refusals.PutRefusal.TheVariants as put
+use Rattle.block_shelf.specs.declared.refusals.ReadRefusal.{ReadRefusal}
+use Rattle.block_shelf.specs.declared.refusals.ReadRefusal.TheVariants as read
+use Rattle.block_shelf.specs.Standing.{IsPlaced}
+use Rattle.shard_core.specs.declared.refusals.WriteRefusal.{WriteRefusal}
+use Rattle.shard_core.specs.declared.refusals.WriteRefusal.TheVariants as write
+use Rattle.shard_core.specs.View.{ShardView, setup_of}
+use Rattle.shard_core.specs.Stands.{Agrees, IsSafe}
 
 abbrev pub cause_of_write : WriteRefusal → Cause
 cause_of_write (write.Big units capacity) = too_big units capacity
@@ -29,6 +27,15 @@ cause_of_write (write.Load pending) = overload pending
 cause_of_write (write.Space free) = no_space free
 cause_of_write write.Memory = no_memory
 cause_of_write write.Fault = disk_fault
+
+-- what a refusal of the shelf is to a write
+abbrev pub write_of : PutRefusal → WriteRefusal
+write_of (put.Big units capacity) = write.Big units capacity
+write_of put.Spent = write.Spent
+write_of (put.Load pending) = write.Load pending
+write_of (put.Space free) = write.Space free
+write_of put.Memory = write.Memory
+write_of put.Fault = write.Fault
 
 abbrev pub write_answer : Result Stamp WriteRefusal → Answer
 write_answer (Ok stamp) = stamp_given stamp
@@ -43,56 +50,31 @@ abbrev pub read_answer : Result (Option Version) ReadRefusal → Answer
 read_answer (Ok found) = found_version found
 read_answer (Err refusal) = refused (cause_of_read refusal)
 
+abbrev pub flush_answer : {E : Type 0} → Result ℕ E → Answer
+flush_answer (Ok flushed) = counted flushed
+flush_answer (Err fault) = refused disk_fault
+
 -- From a state for which the shard stood, one event of this call with this answer may follow, and the shard stands for the state
--- after it. Over an honest disk that was safe it is safe then, and each image that a crash meanwhile might have left survives the
--- state before, or one after some of the event's steps.
+-- after it. Over an honest disk that was safe the event may follow as one over a disk that tells what it holds, the shard is safe
+-- then, and each image that a crash meanwhile might have left survives the state before, or one after some of the event's steps.
 pub record Makes {D : Type 0} (tells : D → Type 0) (seen : D → List ℕ) (may_leave : D → Images) (moment : D → ℕ) (had : D → ℕ → Type 0) (left_since : D → ℕ → Images) (faults : D → ℕ) (call : Call) (answer : Answer) (old : ShardView D) (s : State) (new : ShardView D) : Type 0 where
   pub event : Event
   pub is_call : event.call ≡ call
   pub is_answer : event.answer ≡ answer
-  pub follows : (told : Bool) → Follows (setup_of old) told s (faults old.disk) event
-  pub counted : event.faults_after ≡ faults new.disk
+  pub follows : Follows (setup_of old) false s (faults old.shelf.disk) event
+  pub told : IsHonest tells seen may_leave old.shelf.disk → IsSafe may_leave old s → Follows (setup_of old) true s (faults old.shelf.disk) event
+  pub counted : event.faults_after ≡ faults new.shelf.disk
   pub stands : Agrees new (after_event (setup_of old) event s)
-  pub safe : IsHonest tells seen may_leave old.disk → IsSafe may_leave old s → IsSafe may_leave new (after_event (setup_of old) event s)
-  pub leaves : IsHonest tells seen may_leave old.disk → IsSafe may_leave old s
-      → Leaves moment had left_since (OneOf (Survives (setup_of old)) (states_through (setup_of old) event.steps s)) old.disk new.disk
+  pub placed : IsHonest tells seen may_leave old.shelf.disk → IsPlaced may_leave old.shelf s → IsPlaced may_leave new.shelf (after_event (setup_of old) event s)
+  pub safe : IsHonest tells seen may_leave old.shelf.disk → IsSafe may_leave old s → IsSafe may_leave new (after_event (setup_of old) event s)
+  pub leaves : IsHonest tells seen may_leave old.shelf.disk → IsSafe may_leave old s
+      → Leaves moment had left_since (OneOf (Survives (setup_of old)) (states_through (setup_of old) event.steps s)) old.shelf.disk new.shelf.disk
 
--- ---- what a put finds
+-- so it does, whatever the answer
+abbrev pub MakesAny : {D : Type 0} → (tells : D → Type 0) → (seen : D → List ℕ) → (may_leave : D → Images) → (moment : D → ℕ) → (had : D → ℕ → Type 0) → (left_since : D → ℕ → Images) → (faults : D → ℕ) → Call → (old : ShardView D) → State → (new : ShardView D) → Type 0
+MakesAny tells seen may_leave moment had left_since faults call old s new = (answer : Answer) × Makes tells seen may_leave moment had left_since faults call answer old s new
 
--- the stamp that a new version of the digest gets, none where the times are used up
-abbrev pub stamp_for : {D : Type 0} → ShardView D → Digest → (now : ℕ) → Option Stamp
-stamp_for shard digest now =
-    new_stamp (stamp_of (held digest shard.index)) (high_of shard.geometry.devices shard.set.sprigs (part_number_of shard.geometry.devices shard.set.sprigs digest) shard.index) now
-
--- why no block can be taken
-abbrev pub no_block : {D : Type 0} → ShardView D → Option Stamp → Option Cause
-no_block shard None = Some spent
-no_block shard (Some stamp) =
-    if nat_lt top_number shard.next_number then Some spent
-    else if nat_le (length shard.free) 0 then Some (no_space (length shard.free))
-    else None
-
--- why a version of so many units isn't written
-abbrev pub refusal_of : {D : Type 0} → ShardView D → Digest → (units now : ℕ) → Option Cause
-refusal_of shard digest units now =
-    first_cause (if nat_lt (block_capacity shard.geometry.block_size) units then Some (too_big units (block_capacity shard.geometry.block_size)) else None)
-    (no_block shard (stamp_for shard digest now))
-
--- A put may be made, with this stamp and cover flag, in this block; or there is the first cause against it.
-pub record IsPlan {D : Type 0} (shard : ShardView D) (digest : Digest) (units now : ℕ) (plan : Plan) : Type 0 where
-  pub allowed : refusal_of shard digest units now ≡ None
-  pub fits : units ≤ block_capacity shard.geometry.block_size
-  pub stamp : stamp_for shard digest now ≡ Some plan.stamp
-  pub cover : plan.cover ≡ flag_of (held digest shard.index)
-  pub number : shard.next_number ≤ top_number
-  pub block : (rest : List ℕ) × (shard.free ≡ plan.block ∷ rest)
-  pub rising : IsRising shard.free
-  pub within : plan.block < shard.geometry.blocks
-
--- the shard after a put has its version in the index, and its block no longer free
-pub record Entered {D : Type 0} (digest : Digest) (version : Version) (block : ℕ) (old new : ShardView D) : Type 0 where
-  pub geometry : new.geometry ≡ old.geometry
-  pub set : new.set ≡ old.set
-  pub index : Holds digest version old.index new.index
-  pub free : old.free ≡ block ∷ new.free
-  pub next : new.next_number ≡ old.next_number + 1
+-- The steps of flushing all sealed buffers, and how many those are; or, where the disk failed, some of the steps.
+abbrev pub FlushesAll : {E : Type 0} → Result ℕ E → (whole steps : List Step) → Type 0
+FlushesAll (Ok count) whole steps = (steps ≡ whole) × (count ≡ flush_count whole)
+FlushesAll (Err fault) whole steps = StopsIn whole steps

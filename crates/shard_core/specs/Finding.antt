@@ -1,107 +1,133 @@
 -- Crate shard_core. What a scan of the first blocks of a device finds.
-use Rattle.std.specs.Prelude.{◌≡◌, ℕ, ◌+◌, ◌*◌, ◌<◌, ◌≤◌, max, ◌==◌, Bool, true, List, [], ◌∷◌, ◌++◌, map, Option, Some, None, MatchBool, slice_get, if◌then◌else◌}
-use Rattle.std.specs.List.{AllByRecursion, range_with_len}
+use Rattle.std.specs.Prelude.{◌≡◌, ◌⊎◌, ℕ, ◌+◌, ◌<◌, ◌≤◌, max, ◌==◌, Bool, true, false, List, [], ◌∷◌, map, Option, Some, None, Contains, slice_get, take, option_map, if◌then◌else◌}
+use Rattle.std.specs.List.{AllByRecursion}
 use Rattle.rec_format.specs.declared.version.Digest.{Digest}
 use Rattle.rec_format.specs.declared.version.Stamp.{Stamp}
-use Rattle.rec_format.specs.declared.version.Version.{Version}
-use Rattle.rec_format.specs.Places.{same_digest, device_number, part_number_of}
-use Rattle.rec_format.specs.Versions.{IsVersion, is_later_stamp, top_number, block_capacity}
-use Rattle.rec_format.specs.RecordText.{head_of}
-use Rattle.rec_format.specs.Policy.{built, unused}
+use Rattle.rec_format.specs.declared.entry.Entry.{Entry}
+use Rattle.rec_format.specs.Places.{IsDigest, same_digest, device_number, part_number_of}
+use Rattle.rec_format.specs.Versions.{is_later_stamp, version_units, top_number, block_capacity}
 use Rattle.rec_format.specs.Book.{Setup}
 use Rattle.block_format.specs.declared.geometry.Geometry.{Geometry}
+use Rattle.block_format.specs.declared.geometry.Gate.{Gate}
+use Rattle.block_format.specs.declared.geometry.Gate.TheVariants.{Shut, Set, Unsure}
 use Rattle.block_format.specs.declared.geometry.Found.{Found}
-use Rattle.block_format.specs.Layout.{IsOpen, IsClosed, gate_sector, body_bytes, Body, IsBody, IsRecordAt, IsFaultAt}
-use Rattle.block_format.specs.Copies.{Copy, HasBodies, copies_of, cold}
+use Rattle.block_format.specs.Layout.{IsOpen, IsClosed, gate_sector, body_bytes, Body, IsBody, IsFaultAt}
+use Rattle.block_format.specs.Copies.{Copy, copies_from, copies_of, cold_copy}
 use Rattle.block_format.specs.Recovery.{greatest_number}
 use Rattle.block_format.specs.Refusals.{IsDamagedAt}
-use Rattle.recovery_laws.specs.Cold.{later_of, copies_high}
-use Rattle.shard_core.specs.declared.index.Record.{Record}
+use Rattle.recovery_laws.specs.Cold.{copies_high}
+use Rattle.block_shelf.specs.View.{shut_blocks}
 use Rattle.shard_core.specs.declared.scan.Finding.{Finding}
 use Rattle.shard_core.specs.declared.start.StartCause.{StartCause}
 use Rattle.shard_core.specs.declared.start.StartCause.TheVariants.{NotFormatted, OtherGeometry, DamagedBlock, Memory, Fault}
 use Rattle.shard_core.specs.declared.settings.Settings.{Settings}
-use Rattle.shard_core.specs.View.{ShardView}
-use Rattle.shard_core.specs.Index.{held, high_of}
+use Rattle.shard_core.specs.View.{ShardView, limits_of}
+use Rattle.shard_core.specs.Index.{held, high_of, entry_for}
 use Rattle.shard_core.specs.Starting.{own_copies}
+
+-- ---- gates
 
 -- the gates of these first blocks are closed
 abbrev pub AllClosed : Geometry → List ℕ → ℕ → Type 0
 AllClosed g bytes count = (k : ℕ) → k < count → IsClosed (gate_sector g k bytes)
 
--- of each block it is told whether its gate is open
-abbrev pub AreGates : Geometry → List ℕ → List Bool → Type 0
-AreGates g bytes gates = (k : ℕ) (is_open : Bool) → slice_get gates k ≡ Some is_open → MatchBool is_open (IsOpen (gate_sector g k bytes)) (IsClosed (gate_sector g k bytes))
+abbrev pub is_set : Gate → Bool
+is_set Shut = false
+is_set Set = true
+is_set Unsure = false
 
--- ---- copy by copy
+-- it is known whether the gate is open
+abbrev pub IsSure : Gate → Type 0
+IsSure Shut = Unit {0}
+IsSure Set = Unit {0}
+IsSure Unsure = ⊥
 
--- An index with one copy more: it takes the place of what was found of its digest, where it is later; copies of digests of other
--- devices are passed over.
-pub record KeepsOne (g : Geometry) (digest : Digest) (v : Version) (old new : List Record) : Type 0 where
-  pub shown : (d : Digest) → held d new
-      ≡ (if device_number g.devices digest == g.device then (if same_digest d digest then Some (later_of (held d old) v) else held d old) else held d old)
-  pub high : (sprigs part : ℕ) → high_of g.devices sprigs part new
-      ≡ (if device_number g.devices digest == g.device then (if part_number_of g.devices sprigs digest == part then max v.stamp.lut (high_of g.devices sprigs part old) else high_of g.devices sprigs part old) else high_of g.devices sprigs part old)
-  pub versions : AllByRecursion (λ r. IsVersion r.version) old → AllByRecursion (λ r. IsVersion r.version) new
+-- what is told of a gate stands in its sector
+abbrev pub TellsSector : Gate → List ℕ → Type 0
+TellsSector Shut sector = IsClosed sector
+TellsSector Set sector = IsOpen sector
+TellsSector Unsure sector = ⊥
 
-abbrev pub KeepsAll : Geometry → List (Digest × Version) → (old new : List Record) → Type 0
-KeepsAll g [] old new = new ≡ old
-KeepsAll g (r ∷ records) old new = (mid : List Record) × KeepsOne g r.0 r.1 old mid × KeepsAll g records mid new
+-- so it is told of each block
+abbrev pub AreGates : Geometry → List ℕ → List Gate → Type 0
+AreGates g bytes gates = (k : ℕ) (gate : Gate) → slice_get gates k ≡ Some gate → TellsSector gate (gate_sector g k bytes)
 
--- a record of this head stands at its unit of a body
-pub record HasRecord (body : List ℕ) (found : Found) : Type 0 where
-  pub version : Version
-  pub there : IsRecordAt body (32 + 16 * found.unit) found.head.digest version
-  pub head : found.head ≡ head_of found.head.digest version
+-- the blocks whose gate is open, the lowest first
+abbrev pub set_blocks : (block : ℕ) → List Gate → List ℕ
+set_blocks block [] = []
+set_blocks block (Shut ∷ gates) = set_blocks (block + 1) gates
+set_blocks block (Set ∷ gates) = block ∷ set_blocks (block + 1) gates
+set_blocks block (Unsure ∷ gates) = set_blocks (block + 1) gates
+
+-- ---- entry by entry
 
 -- a stamp is later than that of what was found, or nothing was found
-abbrev pub is_later_than : Option Version → Stamp → Bool
+abbrev pub is_later_than : Option Entry → Stamp → Bool
 is_later_than None stamp = true
 is_later_than (Some found) stamp = is_later_stamp stamp found.stamp
 
--- the record that stands there is kept; so is each of some records, in order
-abbrev pub KeepsFound : Geometry → (body : List ℕ) → Found → (old new : List Record) → Type 0
-KeepsFound g body found old new = (v : Version) → IsRecordAt body (32 + 16 * found.unit) found.head.digest v → KeepsOne g found.head.digest v old new
+-- the later of two entries, of equal ones the first
+abbrev pub later_entry : Option Entry → Entry → Entry
+later_entry None e = e
+later_entry (Some found) e = if is_later_stamp e.stamp found.stamp then e else found
 
-abbrev pub KeepsEach : Geometry → (body : List ℕ) → List Found → (old new : List Record) → Type 0
-KeepsEach g body [] old new = new ≡ old
-KeepsEach g body (f ∷ found) old new = (mid : List Record) × KeepsFound g body f old mid × KeepsEach g body found mid new
+-- the entry of a record that was found in a block
+abbrev pub found_entry : (block : ℕ) → Found → Entry
+found_entry block found = record {
+  digest = found.head.digest;
+  stamp = found.head.stamp;
+  void = found.head.void;
+  kind = found.head.kind;
+  cover = found.head.cover;
+  mark = 0;
+  block = block;
+  unit = found.unit;
+  units = found.units;
+}
 
--- of each digest of the device the index has the latest of these copies, and of each sprig the greatest time among them
-pub record IsLatest (g : Geometry) (copies : List Copy) (records : List Record) : Type 0 where
-  pub shown : (d : Digest) → held d records ≡ cold d (own_copies g copies)
-  pub high : (setup : Setup) (part : ℕ) → setup.devices ≡ g.devices → high_of g.devices setup.sprigs part records ≡ copies_high setup part (own_copies g copies)
+-- An index with one copy more: its entry takes the place of what was found of its digest, where it is later; digests of other
+-- devices are passed over.
+pub record KeepsOne (g : Geometry) (e : Entry) (old new : List Entry) : Type 0 where
+  pub shown : (d : Digest) → held d new
+      ≡ (if device_number g.devices e.digest == g.device then (if same_digest d e.digest then Some (later_entry (held d old) e) else held d old) else held d old)
+  pub high : (sprigs part : ℕ) → high_of g.devices sprigs part new
+      ≡ (if device_number g.devices e.digest == g.device then (if part_number_of g.devices sprigs e.digest == part then max e.stamp.lut (high_of g.devices sprigs part old) else high_of g.devices sprigs part old) else high_of g.devices sprigs part old)
+  pub each : (x : Entry) → Contains new x → ((x ≡ e) × (device_number g.devices e.digest ≡ g.device)) ⊎ Contains old x
+
+abbrev pub KeepsAll : Geometry → List Entry → (old new : List Entry) → Type 0
+KeepsAll g [] old new = new ≡ old
+KeepsAll g (e ∷ entries) old new = (mid : List Entry) × KeepsOne g e old mid × KeepsAll g entries mid new
+
+-- Of each digest of the device the index has the entry of the latest of these copies, of each sprig the greatest time among them,
+-- and nothing else.
+pub record IsLatest (g : Geometry) (copies : List Copy) (entries : List Entry) : Type 0 where
+  pub shown : (d : Digest) → held d entries ≡ option_map entry_for (cold_copy d (own_copies g copies))
+  pub high : (setup : Setup) (part : ℕ) → setup.devices ≡ g.devices → high_of g.devices setup.sprigs part entries ≡ copies_high setup part (own_copies g copies)
+  pub each : AllByRecursion (λ e. (c : Copy) × Contains (own_copies g copies) c × (e ≡ entry_for c)) entries
 
 -- ---- block by block
 
--- over any disk: these of the first blocks were open, and the others are free
-pub record IsFinding (g : Geometry) (count : ℕ) (opened : List ℕ) (finding : Finding) : Type 0 where
-  pub versions : AllByRecursion (λ r. IsVersion r.version) finding.index
-  pub greatest : finding.greatest ≤ top_number
-  pub within : AllByRecursion (λ b. b < count) opened
-  pub free : finding.free.items ≡ unused built opened (range_with_len 0 count)
+-- a copy of a digest, which has a time, within a block whose gate is open
+pub record LiesBehind (g : Geometry) (gates : List Gate) (c : Copy) : Type 0 where
+  pub named : IsDigest c.digest
+  pub time : 1 ≤ c.version.stamp.lut
+  pub gate : slice_get gates c.block ≡ Some Set
+  pub within : c.unit + version_units c.version ≤ block_capacity g.block_size
 
--- behind the open gates of the first blocks stand bodies, and what they have was found
-pub record HoldsLatest (g : Geometry) (bytes : List ℕ) (count : ℕ) (opened : List ℕ) (finding : Finding) : Type 0 where
-  pub bodies : List Body
-  pub blocks : HasBodies g bytes (range_with_len 0 count) bodies
-  pub latest : IsLatest g (copies_of bodies) finding.index
-  pub opened_are : opened ≡ map (λ b. b.block) bodies
-  pub greatest_is : finding.greatest ≡ greatest_number bodies
-
--- a closed block is free, and nothing else changes
-pub record TakesClosed (block : ℕ) (old new : Finding) : Type 0 where
-  pub index : new.index ≡ old.index
-  pub free : new.free.items ≡ old.free.items ++ block ∷ []
-  pub greatest : new.greatest ≡ old.greatest
+-- Over any disk: behind the open ones of the first gates were these bodies, and what they have was found.
+pub record IsFinding (g : Geometry) (gates : List Gate) (count : ℕ) (bodies : List Body) (finding : Finding) : Type 0 where
+  pub latest : IsLatest g (copies_of bodies) finding.index.entries
+  pub lie : AllByRecursion (LiesBehind g gates) (copies_of bodies)
+  pub opened : map (λ b. b.block) bodies ≡ set_blocks 0 (take count gates)
+  pub number : finding.greatest ≡ greatest_number bodies
+  pub top : finding.greatest ≤ top_number
 
 -- these bytes begin with a body of the block, and its records are kept
 pub record TakesBody (g : Geometry) (block : ℕ) (bytes : List ℕ) (old new : Finding) : Type 0 where
   pub body : Body
   pub is_body : IsBody (block_capacity g.block_size) bytes body
   pub block_is : body.block ≡ block
-  pub index : KeepsAll g body.records old.index new.index
-  pub free : new.free.items ≡ old.free.items
+  pub index : KeepsAll g (map entry_for (copies_from block 0 body.records)) old.index.entries new.index.entries
   pub greatest : new.greatest ≡ max old.greatest body.number
 
 -- a block can't be taken: for want of memory, a fault, or since it has no body
@@ -121,12 +147,16 @@ IsStopped g bytes Memory = Unit {0}
 IsStopped g bytes Fault = Unit {0}
 
 -- a shard that begins with what was found
-abbrev pub view_with : {D : Type 0} → D → Geometry → Settings → Finding → ShardView D
-view_with disk geometry set finding = record {
-  disk = disk;
-  geometry = geometry;
+abbrev pub view_with : {D : Type 0} → D → Geometry → List Gate → Settings → Finding → ShardView D
+view_with disk geometry gates set finding = record {
+  shelf = record {
+    disk = disk;
+    geometry = geometry;
+    limits = limits_of set;
+    buffers = [];
+    free = shut_blocks 0 gates;
+    next_number = finding.greatest + 1;
+  };
   set = set;
-  index = finding.index;
-  free = finding.free.items;
-  next_number = finding.greatest + 1;
+  index = finding.index.entries;
 }

@@ -1,42 +1,74 @@
--- Crate shard_core. The primary index of a device: one record for each digest that has an entry.
-use Rattle.std.specs.Prelude.{◌≡◌, ℕ, max, ◌==◌, Bool, true, false, List, [], ◌∷◌, ◌++◌, length, Option, Some, None, if◌then◌else◌}
-use Rattle.rec_format.specs.declared.version.Digest.{Digest}
-use Rattle.rec_format.specs.declared.version.Version.{Version}
+-- Crate shard_core. The primary index of a device: one entry for each digest that has one.
+use Rattle.std.specs.Prelude.{◌≡◌, ℕ, max, ◌==◌, Bool, true, false, List, [], ◌∷◌, ◌++◌, length, Option, Some, None, Contains, if◌then◌else◌}
 use Rattle.std.specs.List.{AllByRecursion}
+use Rattle.rec_format.specs.declared.version.Digest.{Digest}
+use Rattle.rec_format.specs.declared.version.Stamp.{Stamp}
+use Rattle.rec_format.specs.declared.version.Version.{Version}
+use Rattle.rec_format.specs.declared.entry.Entry.{Entry}
 use Rattle.rec_format.specs.Places.{same_digest, part_number_of}
-use Rattle.rec_format.specs.Versions.{IsVersion}
-use Rattle.shard_core.specs.declared.index.Record.{Record}
+use Rattle.rec_format.specs.Versions.{version_units}
+use Rattle.rec_format.specs.Book.{Live}
+use Rattle.block_format.specs.Copies.{Copy}
 
--- the version of a digest, if it has an entry
-abbrev pub held : Digest → List Record → Option Version
+-- the entries, and for how many more there is room
+pub record IndexView : Type 0 where
+  pub entries : List Entry
+  pub spare : ℕ
+
+-- the entry of a digest
+abbrev pub held : Digest → List Entry → Option Entry
 held digest [] = None
-held digest (r ∷ records) = if same_digest digest r.digest then Some r.version else held digest records
+held digest (e ∷ entries) = if same_digest digest e.digest then Some e else held digest entries
 
--- its cover flag
-abbrev pub flag_of : Option Version → Bool
+-- its stamp, its cover flag, and where its copy lies
+abbrev pub stamp_held : Option Entry → Option Stamp
+stamp_held None = None
+stamp_held (Some e) = Some e.stamp
+
+abbrev pub flag_of : Option Entry → Bool
 flag_of None = false
-flag_of (Some v) = v.cover
+flag_of (Some e) = e.cover
 
--- the greatest last update time of the records of a sprig, 0 where it has none
-abbrev pub high_of : (devices sprigs part : ℕ) → List Record → ℕ
+abbrev pub live_of_entry : Entry → Live
+live_of_entry e = record { digest = e.digest; block = e.block; unit = e.unit; units = e.units }
+
+-- the greatest last update time of the entries of a sprig, 0 where it has none
+abbrev pub high_of : (devices sprigs part : ℕ) → List Entry → ℕ
 high_of devices sprigs part [] = 0
-high_of devices sprigs part (r ∷ records) =
-    if part_number_of devices sprigs r.digest == part then max r.version.stamp.lut (high_of devices sprigs part records)
-    else high_of devices sprigs part records
+high_of devices sprigs part (e ∷ entries) =
+    if part_number_of devices sprigs e.digest == part then max e.stamp.lut (high_of devices sprigs part entries)
+    else high_of devices sprigs part entries
 
--- the first record of a digest stands at this place
-pub record IsPlaceOf (digest : Digest) (records : List Record) (at : ℕ) : Type 0 where
-  pub before : List Record
-  pub here : Record
-  pub after : List Record
-  pub parts : records ≡ before ++ here ∷ after
+-- the entry of a version whose copy lies there; it isn't marked
+abbrev pub entry_at : Digest → Version → (block unit : ℕ) → Entry
+entry_at digest v block unit = record {
+  digest = digest;
+  stamp = v.stamp;
+  void = v.void;
+  kind = v.kind;
+  cover = v.cover;
+  mark = 0;
+  block = block;
+  unit = unit;
+  units = version_units v;
+}
+
+abbrev pub entry_for : Copy → Entry
+entry_for c = entry_at c.digest c.version c.block c.unit
+
+-- the first entry of a digest stands at this place
+pub record IsPlaceOf (digest : Digest) (entries : List Entry) (at : ℕ) : Type 0 where
+  pub before : List Entry
+  pub here : Entry
+  pub after : List Entry
+  pub parts : entries ≡ before ++ here ∷ after
   pub counted : length before ≡ at
   pub none : held digest before ≡ None
   pub same : same_digest digest here.digest ≡ true
 
--- One version more: it takes the place of the digest's version before, and every other stays.
-pub record Holds (digest : Digest) (version : Version) (old new : List Record) : Type 0 where
-  pub shown : (d : Digest) → held d new ≡ (if same_digest d digest then Some version else held d old)
+-- One entry more: it takes the place of the digest's entry before, and every other stays.
+pub record Holds (e : Entry) (old new : List Entry) : Type 0 where
+  pub shown : (d : Digest) → held d new ≡ (if same_digest d e.digest then Some e else held d old)
   pub high : (devices sprigs part : ℕ) → high_of devices sprigs part new
-      ≡ (if part_number_of devices sprigs digest == part then max version.stamp.lut (high_of devices sprigs part old) else high_of devices sprigs part old)
-  pub versions : IsVersion version → AllByRecursion (λ r. IsVersion r.version) old → AllByRecursion (λ r. IsVersion r.version) new
+      ≡ (if part_number_of devices sprigs e.digest == part then max e.stamp.lut (high_of devices sprigs part old) else high_of devices sprigs part old)
+  pub each : AllByRecursion (λ x. Contains (e ∷ old) x) new

@@ -4,4 +4,4 @@ pub mod Stands
 pub mod Starting
 pub mod Finding
 pub mod Calls
-pub mod Stored
+pub mod Putting

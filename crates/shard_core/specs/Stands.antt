@@ -1,32 +1,31 @@
 -- Crate shard_core. For which states of the model a shard stands.
-use Rattle.std.specs.Prelude.{◌≡◌, ℕ, ◌<◌, false, List}
-use Rattle.std.specs.List.{AllByRecursion}
+use Rattle.std.specs.Prelude.{◌≡◌, ℕ, List, [], Some, None, option_map, MatchOption}
 use Rattle.rec_format.specs.declared.version.Digest.{Digest}
-use Rattle.rec_format.specs.Book.{Book, is_filling, has_buffer}
+use Rattle.rec_format.specs.declared.version.Version.{Version}
+use Rattle.rec_format.specs.declared.entry.Entry.{Entry}
+use Rattle.rec_format.specs.Book.{Setup, live_of}
 use Rattle.rec_format.specs.Device.{State, entry, entry_is_covered, high_time}
 use Rattle.disk_model.specs.Disk.{Images}
-use Rattle.block_format.specs.Recovery.{Survives}
-use Rattle.recovery_laws.specs.Orderly.{IsOrderly}
-use Rattle.shard_core.specs.Index.{held, flag_of, high_of}
+use Rattle.block_shelf.specs.Standing as shelf
+use Rattle.block_shelf.specs.Calls.{Names}
+use Rattle.shard_core.specs.Index.{held, flag_of, live_of_entry, high_of}
 use Rattle.shard_core.specs.View.{ShardView, setup_of}
 
--- No buffer takes records, each has a number below the next, and none stands in a free block.
-pub record IsAtRest (book : Book) : Type 0 where
-  pub sealed : AllByRecursion (λ b. is_filling b.phase ≡ false) book.buffers
-  pub numbers : AllByRecursion (λ b. b.number < book.next_number) book.buffers
-  pub apart : AllByRecursion (λ b. has_buffer book b ≡ false) book.free
+-- The index has the state's entries, with their cover flags and the places of their copies, and the sprigs' high times are its own.
+pub record Lists (setup : Setup) (index : List Entry) (s : State) : Type 0 where
+  pub entries : (digest : Digest) → MatchOption (held digest index) (entry s digest ≡ None) (λ e. (v : Version) × (entry s digest ≡ Some v) × Names e v)
+  pub covers : (digest : Digest) → entry_is_covered s digest ≡ flag_of (held digest index)
+  pub places : (digest : Digest) → live_of digest s.book.live ≡ option_map live_of_entry (held digest index)
+  pub times : (part : ℕ) → high_time setup part s.log ≡ high_of setup.devices setup.sprigs part index
 
--- The records are the state's entries with their cover flags, the sprigs' high times are its own, and so are the free blocks
--- and the next number. This holds over every disk.
+-- This holds over every disk. As long as no block is used twice, none is queued.
 pub record Agrees {D : Type 0} (shard : ShardView D) (s : State) : Type 0 where
-  pub entries : (digest : Digest) → entry s digest ≡ held digest shard.index
-  pub covers : (digest : Digest) → entry_is_covered s digest ≡ flag_of (held digest shard.index)
-  pub times : (part : ℕ) → high_time (setup_of shard) part s.log ≡ high_of (setup_of shard).devices (setup_of shard).sprigs part shard.index
-  pub free : s.book.free ≡ shard.free
-  pub next : s.book.next_number ≡ shard.next_number
-  pub rest : IsAtRest s.book
+  pub index : Lists (setup_of shard) shard.index s
+  pub shelf : shelf.StandsFor shard.shelf s
+  pub queue : s.book.queue ≡ []
 
--- What stands over an honest disk besides: each image that a crash may leave survives the state.
+-- What stands over an honest disk whose image was sound besides: each live copy is where the state says, and each image that a
+-- crash may leave has what is flushed, and nothing whose flush hasn't begun.
 pub record IsSafe {D : Type 0} (may_leave : D → Images) (shard : ShardView D) (s : State) : Type 0 where
-  pub orderly : IsOrderly s
-  pub images : (c : List ℕ) → may_leave shard.disk c → Survives (setup_of shard) s c
+  pub placed : shelf.IsPlaced may_leave shard.shelf s
+  pub safe : shelf.IsSafe (setup_of shard) may_leave shard.shelf s

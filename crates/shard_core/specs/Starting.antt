@@ -1,18 +1,19 @@
 -- Crate shard_core. What a start finds, by the bytes that the device reads.
-use Rattle.std.specs.Prelude.{◌≡◌, ℕ, ◌+◌, ◌≤◌, ◌==◌, List, map, filter}
+use Rattle.std.specs.Prelude.{◌≡◌, ℕ, ◌+◌, ◌==◌, List, map, filter, option_map}
 use Rattle.std.specs.List.{range_with_len}
 use Rattle.fault_count.specs.Counts.{Rose}
-use Rattle.disk_model.specs.Disk.{Images, Within, IsHonest, Advances}
+use Rattle.disk_model.specs.Disk.{Images}
 use Rattle.rec_format.specs.declared.version.Digest.{Digest}
 use Rattle.rec_format.specs.Places.{device_number}
 use Rattle.rec_format.specs.Policy.{built, unused}
 use Rattle.block_format.specs.declared.geometry.Geometry.{Geometry}
 use Rattle.block_format.specs.Layout.{Body}
-use Rattle.block_format.specs.Copies.{Copy, HasBodies, copies_of, cold}
+use Rattle.block_format.specs.Copies.{Copy, HasBodies, copies_of, cold_copy}
 use Rattle.block_format.specs.Recovery.{IsSound, start_state, entries_state, greatest_number}
 use Rattle.block_format.specs.Refusals.{IsRefusedFor, IsAsked, not_formatted, other_shape, damaged_block}
 use Rattle.shard_core.specs.View.{ShardView, setup_of}
-use Rattle.shard_core.specs.Index.{held}
+use Rattle.block_shelf.specs.Standing.{IsPlaced}
+use Rattle.shard_core.specs.Index.{held, entry_for}
 use Rattle.shard_core.specs.Stands.{Agrees}
 use Rattle.shard_core.specs.declared.start.Asked.{Asked}
 use Rattle.shard_core.specs.declared.start.StartCause.{StartCause}
@@ -35,39 +36,24 @@ pub record Passes (asked : Asked) (bytes : List ℕ) (g : Geometry) (bodies : Li
 abbrev pub own_copies : Geometry → List Copy → List Copy
 own_copies g copies = filter (λ c. device_number g.devices c.digest == g.device) copies
 
--- What is there behind a start from these bytes, sound or not: the latest copy of each digest of the device; the blocks whose
--- gate was closed are free. From a sound image the shard stands for the start state of that image.
+-- What is there behind a start from these bytes, sound or not: the latest copy of each digest of the device and where it lies; the
+-- blocks whose gate was closed are free. From a sound image the shard stands for the start state of that image.
 pub record Begins {D : Type 0} (asked : Asked) (bytes : List ℕ) (shard : ShardView D) : Type 0 where
   pub bodies : List Body
-  pub passes : Passes asked bytes shard.geometry bodies
-  pub entries : (digest : Digest) → held digest shard.index ≡ cold digest (own_copies shard.geometry (copies_of bodies))
-  pub free : shard.free ≡ unused built (map (λ b. b.block) bodies) (range_with_len 0 shard.geometry.blocks)
-  pub next : shard.next_number ≡ greatest_number bodies + 1
+  pub passes : Passes asked bytes shard.shelf.geometry bodies
+  pub entries : (digest : Digest) → held digest shard.index ≡ option_map entry_for (cold_copy digest (own_copies shard.shelf.geometry (copies_of bodies)))
+  pub free : shard.shelf.free ≡ unused built (map (λ b. b.block) bodies) (range_with_len 0 shard.shelf.geometry.blocks)
+  pub next : shard.shelf.next_number ≡ greatest_number bodies + 1
   pub sound : (all : List Body) → IsSound (setup_of shard) bytes all → Agrees shard (start_state (setup_of shard) all)
 
--- Over any disk: these blocks were open and these entries were found, and the shard stands for a start from them.
-pub record StandsForEntries {D : Type 0} (shard : ShardView D) : Type 0 where
+-- Over any disk: these blocks were open and these entries were found, and the shard stands for a start from them. Over an honest
+-- one their copies are where they were found.
+pub record StandsForEntries {D : Type 0} (may_leave : D → Images) (Honest : Type 0) (shard : ShardView D) : Type 0 where
   pub opened : List ℕ
   pub found : List Copy
   pub next : ℕ
   pub agrees : Agrees shard (entries_state (setup_of shard) opened found next)
-
--- The disk is the one from before at a later time: its moments go on, its count of faults doesn't fall, and its size stays.
-pub record IsLater {D : Type 0} (extent : D → ℕ) (moment : D → ℕ) (had : D → ℕ → Type 0) (left_since : D → ℕ → Images) (faults : D → ℕ) (old new : D) : Type 0 where
-  pub time : Advances (moment old) (had old) (had new) (left_since old) (left_since new)
-  pub count : faults old ≤ faults new
-  pub size : extent new ≡ extent old
-
--- Nothing was written: time goes on, the count of faults doesn't fall, and a disk that tells its bytes tells the same. An honest
--- disk stays honest, and a crash meanwhile may leave no image that it might not have left before.
-pub record OnlyRead {D : Type 0} (extent : D → ℕ) (tells : D → Type 0) (seen : D → List ℕ) (may_leave : D → Images) (moment : D → ℕ) (had : D → ℕ → Type 0) (left_since : D → ℕ → Images) (faults : D → ℕ) (old new : D) : Type 0 where
-  pub time : Advances (moment old) (had old) (had new) (left_since old) (left_since new)
-  pub later : faults old ≤ faults new
-  pub size : extent new ≡ extent old
-  pub bytes : tells old → tells new × (seen new ≡ seen old)
-  pub honest : IsHonest tells seen may_leave old → IsHonest tells seen may_leave new
-  pub was_honest : IsHonest tells seen may_leave new → IsHonest tells seen may_leave old
-  pub images : IsHonest tells seen may_leave old → Within (may_leave old) (left_since new (moment old))
+  pub placed : Honest → IsPlaced may_leave shard.shelf (entries_state (setup_of shard) opened found next)
 
 -- a fault is answered only where the count rose
 abbrev pub FaultRose : StartCause → (before after : ℕ) → Type 0

@@ -1,24 +1,20 @@
--- Crate shard_core. What is seen of a shard: a device with its index.
-use Rattle.std.specs.Prelude.{◌≡◌, ℕ, ◌+◌, ◌<◌, ◌≤◌, List, [], ◌∷◌}
+-- Crate shard_core. What is seen of a shard: the shelf of a device, with its settings and its index.
+use Rattle.std.specs.Prelude.{◌≡◌, ◌+◌, ◌≤◌, List}
 use Rattle.std.specs.List.{AllByRecursion}
-use Rattle.disk_model.specs.Disk.{Images, IsHonest}
-use Rattle.rec_format.specs.Versions.{block_capacity, top_number, IsVersion}
+use Rattle.rec_format.specs.declared.entry.Entry.{Entry}
+use Rattle.rec_format.specs.Places.{IsDigest, device_number}
+use Rattle.rec_format.specs.Versions.{block_capacity}
 use Rattle.rec_format.specs.Policy.{built}
 use Rattle.rec_format.specs.Book.{Setup}
 use Rattle.block_format.specs.declared.geometry.Geometry.{Geometry}
-use Rattle.block_format.specs.Layout.{IsGeometry, device_end}
-use Rattle.block_flusher.specs.Images.{IsShut}
+use Rattle.block_shelf.specs.declared.place.ShelfLimits.{ShelfLimits}
+use Rattle.block_shelf.specs.View.{ShelfView}
 use Rattle.shard_core.specs.declared.settings.Settings.{Settings}
-use Rattle.shard_core.specs.declared.index.Record.{Record}
 
--- the disk, its shape, the settings, the records, the free blocks in order, and the number of the next write buffer
 pub record ShardView (D : Type 0) : Type 0 where
-  pub disk : D
-  pub geometry : Geometry
+  pub shelf : ShelfView D
   pub set : Settings
-  pub index : List Record
-  pub free : List ℕ
-  pub next_number : ℕ
+  pub index : List Entry
 
 -- settings within their ranges
 pub record IsSettings (set : Settings) : Type 0 where
@@ -27,6 +23,10 @@ pub record IsSettings (set : Settings) : Type 0 where
   pub pending : (4 ≤ set.pending) × (set.pending ≤ 64)
   pub cache : set.cache ≤ 64
   pub raid_age : set.raid_age ≤ 315360000
+
+-- the limits of a shelf that is run with these settings
+abbrev pub limits_of : Settings → ShelfLimits
+limits_of set = record { sprigs = set.sprigs; lwm = set.lwm; pending = set.pending; cache = set.cache }
 
 -- a device of this shape with these settings, as the definitions see it
 abbrev pub setup_for : Geometry → Settings → Setup
@@ -44,27 +44,24 @@ setup_for g set = record {
 }
 
 abbrev pub setup_of : {D : Type 0} → ShardView D → Setup
-setup_of shard = setup_for shard.geometry shard.set
+setup_of shard = setup_for shard.shelf.geometry shard.set
 
--- each number is greater than those before it
-abbrev pub IsRising : List ℕ → Type 0
-IsRising [] = Unit {0}
-IsRising (n ∷ ns) = AllByRecursion (λ m. n < m) ns × IsRising ns
+-- an entry of a digest of the device, which has a time, and whose copy lies within one of its blocks
+pub record IsEntryOf (g : Geometry) (e : Entry) : Type 0 where
+  pub named : IsDigest e.digest
+  pub own : device_number g.devices e.digest ≡ g.device
+  pub time : 1 ≤ e.stamp.lut
+  pub block : e.block + 1 ≤ g.blocks
+  pub within : e.unit + e.units ≤ block_capacity g.block_size
+  pub units : 3 ≤ e.units
 
--- What every shard keeps: its shape and settings are in range, the disk is long enough, the index has versions, the free blocks are blocks of the
--- device, each once and the lowest first, and the next number is at most one above the last. Over an honest disk no crash leaves the
--- gate of a free block open.
-pub record IsWhole {D : Type 0} (extent : D → ℕ) (tells : D → Type 0) (seen : D → List ℕ) (may_leave : D → Images) (shard : ShardView D) : Type 0 where
-  pub geometry : IsGeometry shard.geometry
+-- What every shard keeps: its settings are in range, the shelf is run with them, and the index has entries of its device.
+pub record IsWhole {D : Type 0} (shard : ShardView D) : Type 0 where
   pub settings : IsSettings shard.set
-  pub room : device_end shard.geometry ≤ extent shard.disk
-  pub versions : AllByRecursion (λ r. IsVersion r.version) shard.index
-  pub rising : IsRising shard.free
-  pub blocks : AllByRecursion (λ b. b < shard.geometry.blocks) shard.free
-  pub number : (1 ≤ shard.next_number) × (shard.next_number ≤ top_number + 1)
-  pub shut : IsHonest tells seen may_leave shard.disk → AllByRecursion (λ b. IsShut shard.geometry b (may_leave shard.disk)) shard.free
+  pub limits : shard.shelf.limits ≡ limits_of shard.set
+  pub entries : AllByRecursion (IsEntryOf shard.shelf.geometry) shard.index
 
 -- The shape and the settings stay.
 pub record SameShape {D : Type 0} (old new : ShardView D) : Type 0 where
-  pub geometry : new.geometry ≡ old.geometry
+  pub geometry : new.shelf.geometry ≡ old.shelf.geometry
   pub set : new.set ≡ old.set

@@ -1,11 +1,10 @@
-//! One device of a node: its disk, the primary index over it, and the calls that read and write records.
+//! One device of a node: its shelf of write blocks, the primary index over it, and the calls that read and write records.
 #![tactic(auto)]
 
-mod body;
+mod flush;
 mod format;
 mod get;
 mod index;
-mod publish;
 mod put;
 mod refusals;
 mod scan;
@@ -15,9 +14,9 @@ mod start;
 #[cfg(test)]
 mod tests;
 
+pub use block_shelf::ReadRefusal;
 pub use format::format_disk;
-pub use index::Record;
-pub use refusals::{ReadRefusal, WriteRefusal};
+pub use refusals::WriteRefusal;
 pub use settings::Settings;
 pub use shard::Shard;
 pub use start::{Asked, StartCause, StartRefusal};

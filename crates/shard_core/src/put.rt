@@ -1,104 +1,39 @@
-// A put: what it finds, what it enters into the index, and the block that it writes.
-ghost use Rattle.std.specs.Prelude.{◌≡◌, ◌-◌, ◌≤◌, ◌^◌, ◌∷◌, ℕ, [], Some, None, length, MatchResult, IfOk, OnOk, OnErr};
-ghost use Rattle.disk_model.specs.Disk.{IsOnly, IsHonest};
-ghost use Rattle.rec_format.specs.Places.{device_number};
-ghost use Rattle.rec_format.specs.Versions.{units_for, block_capacity, a_put};
+// A put: what it finds, the copy that it appends, the entry of it, and with commit on the flush.
+ghost use Rattle.std.specs.Prelude.{◌≡◌, ◌≤◌, ◌^◌, ◌∷◌, false, None, Some, List, length, IfOk, IfSome, MatchResult, OnErr};
+ghost use Rattle.fault_count.specs.Counts.{Rose};
+ghost use Rattle.disk_model.specs.Disk.{IsHonest};
+ghost use Rattle.rec_format.specs.Places.{IsDigest, device_number};
+ghost use Rattle.rec_format.specs.Versions.{IsVersion, version_units, a_put};
+ghost use Rattle.rec_format.specs.Book.{Buffer, client, filling_buffer};
 ghost use Rattle.rec_format.specs.Device.{State};
+ghost use Rattle.rec_format.specs.Steps.{Step, sealed_stream, after_step};
 ghost use Rattle.rec_format.specs.Events.{put_call};
-ghost use Rattle.block_format.specs.Layout.{IsBody};
-ghost use Rattle.block_flusher.specs.Images.{IsShut};
-ghost use Rattle.shard_core.specs.View.{SameShape};
-ghost use Rattle.shard_core.specs.Starting.{IsLater};
+ghost use Rattle.rec_format.specs.Legal.{flush_all};
+ghost use Rattle.block_shelf.specs.Disks.{IsLater};
+ghost use Rattle.block_shelf.specs.Standing.{StandsFor};
+ghost use Rattle.block_shelf.specs.Calls.{Goes, append_refusal};
+ghost use Rattle.shard_core.specs.Index.{held, flag_of};
+ghost use Rattle.shard_core.specs.View.{SameShape, setup_of};
 ghost use Rattle.shard_core.specs.Stands.{Agrees};
-ghost use Rattle.shard_core.specs.Index.{held};
-ghost use Rattle.shard_core.specs.Stored.{IsStored, StaysOutside};
-ghost use Rattle.shard_core.specs.Calls.{Makes, Entered, write_answer, cause_of_write, refusal_of, IsPlan};
+ghost use Rattle.shard_core.specs.Calls.{Makes, write_answer};
+ghost use Rattle.shard_core.specs.Putting.{given_stamp, IsNewPut, IsUngiven, Wrote, IsUnwritten, Commits};
 
-use crate::body::{body_of, new_put};
-use crate::publish::publish;
+use crate::flush::flush_sealed;
+use crate::index::place_of_entry;
+use crate::refusals::write_refusal;
 use crate::{Shard, WriteRefusal};
 use block_format::capacity;
+use block_shelf::{Class, Place};
 use disk_model::Disk;
-use rec_format::{Digest, NoMemory, Stamp, next_stamp, units_of};
+use rec_format::{
+    Bytes, Digest, Entry, Kind, NoMemory, Spent, Stamp, Version, next_stamp, units_of,
+};
 use std::alloc::Global;
 
-const LAST_NUMBER: u64 = 1 << 62;
-
-/// How a put is made: its stamp and its cover flag, and the block that it takes.
-#[derive(Clone, Copy, PartialEq, Eq)]
-pub struct Plan {
-    pub stamp: Stamp,
-    pub cover: bool,
-    pub block: u32,
-}
-
 impl<D: Disk> Shard<D> {
-    // The first cause against a put, in the order of the refusals, or how it is made.
-    fn plan(&self, digest: &Digest, units: u32, now: u64) -> Result<Plan, WriteRefusal>
-        ensures { MatchResult result (λ plan. IsPlan self.now digest.now units now plan)
-            (λ refusal. refusal_of self.now digest.now units now ≡ Some (cause_of_write refusal)) }
-    {
-        let capacity = capacity(self.geometry.block_size);
-        if units > capacity {
-            return Err(WriteRefusal::Big { units, capacity });
-        }
-        let (prior, cover) = self.index.prior(digest);
-        let high = self
-            .index
-            .high_time(digest, self.set.sprigs, self.geometry.devices);
-        let Ok(stamp) = next_stamp(prior, high, now) else {
-            return Err(WriteRefusal::Spent);
-        };
-        if self.next_number > LAST_NUMBER {
-            return Err(WriteRefusal::Spent);
-        }
-        match self.free.front() {
-            Some(block) => Ok(Plan {
-                stamp,
-                cover,
-                block: *block,
-            }),
-            None => Err(WriteRefusal::Space { free: 0 }),
-        }
-    }
-
-    // Enters the version into the index, and takes its block and its number; answers the body that is to be written.
-    // For want of memory nothing changes.
-    fn enter(
-        &mut self,
-        alloc: Global,
-        digest: &Digest,
-        payload: &[u8],
-        plan: Plan,
-    ) -> Result<Vec<u8>, NoMemory>
-        requires size { length payload.now ≤ 2 ^ 31 }
-        requires plan { (now : ℕ) × IsPlan self.old digest.now (units_for (length payload.now)) now plan }
-        ensures entered { OnOk result (Entered digest.now (a_put plan.stamp 0 plan.cover payload.now) plan.block self.old self.new) }
-        ensures disk { self.new.disk ≡ self.old.disk }
-        ensures size { IfOk result (λ body. length body.items ≡ self.old.geometry.block_size - 4096) }
-        ensures body { IfOk result (λ body. IsBody (block_capacity self.old.geometry.block_size) body.items
-            (record { number = self.old.next_number; block = plan.block; records = (digest.now, a_put plan.stamp 0 plan.cover payload.now) ∷ [] })) }
-        ensures shut { IsHonest D.tells D.seen D.may_leave self.old.disk → OnOk result (IsShut self.old.geometry plan.block (D.may_leave self.old.disk)) }
-        ensures err { OnErr result (self.new ≡ self.old) }
-    {
-        let version = new_put(alloc, plan.stamp, plan.cover, payload)?;
-        let body = body_of(
-            alloc,
-            &self.geometry,
-            plan.block,
-            self.next_number,
-            digest,
-            &version,
-        )?;
-        self.index.put(*digest, version)?;
-        self.free.pop_front();
-        self.next_number += 1;
-        Ok(body)
-    }
-
-    /// Writes a version of a record, which never expires, and answers its stamp. It is on the disk when this answers `Ok`, and
-    /// no crash loses it. After a fault it stands all the same, pending; after any other refusal all is as before. On the disk
-    /// only blocks that were free change, whatever is answered.
+    /// Writes a version of a record, which never expires, and answers its stamp. It goes to a write buffer, and doesn't wait for the
+    /// disk; with commit on it is flushed first, with all that was sealed before it. After a fault of that flush it stands all the
+    /// same, pending; after any other refusal all is as before.
     pub fn put(
         &mut self,
         alloc: Global,
@@ -108,29 +43,152 @@ impl<D: Disk> Shard<D> {
         expect: Option<u16>,
         now: u64,
     ) -> Result<Stamp, WriteRefusal>
-        requires named { device_number self.old.geometry.devices digest.now ≡ self.old.geometry.device }
+        requires named { device_number self.old.shelf.geometry.devices digest.now ≡ self.old.shelf.geometry.device }
         requires ttl { ttl ≡ 0 }
         requires expect { expect ≡ None }
         requires size { length payload.now ≤ 2 ^ 31 }
         requires now { now ≤ 2 ^ 61 }
         ensures makes { (s : State) → Agrees self.old s → Makes D.tells D.seen D.may_leave D.moment D.had D.left_since D.faults (put_call digest.now ttl expect payload.now now) (write_answer result) self.old s self.new }
+        ensures waits { self.old.set.commit ≡ false → self.new.shelf.disk ≡ self.old.shelf.disk }
+        ensures refused { OnErr result (self.old.set.commit ≡ false → self.new ≡ self.old) }
+        ensures later { IsLater D.extent D.moment D.had D.left_since D.faults self.old.shelf.disk self.new.shelf.disk }
+        ensures honest { IsHonest D.tells D.seen D.may_leave self.old.shelf.disk → IsHonest D.tells D.seen D.may_leave self.new.shelf.disk }
         ensures shape { SameShape self.old self.new }
-        ensures later { IsLater D.extent D.moment D.had D.left_since D.faults self.old.disk self.new.disk }
-        ensures bytes { D.tells self.old.disk → D.tells self.new.disk × StaysOutside self.old.geometry self.old.free (D.seen self.old.disk) (D.seen self.new.disk) }
-        ensures honest { IsHonest D.tells D.seen D.may_leave self.old.disk → IsHonest D.tells D.seen D.may_leave self.new.disk }
-        ensures stored { D.tells self.old.disk → OnOk result (IsStored self.old.geometry digest.now (held digest.now self.new.index) (D.seen self.new.disk)) }
-        ensures durable { D.tells self.old.disk → OnOk result (IsOnly (D.seen self.new.disk) (D.may_leave self.new.disk)) }
     {
-        let plan = match self.plan(digest, units_of(payload.len() as u32), now) {
-            Ok(plan) => plan,
-            Err(refusal) => return Err(refusal),
+        let version = self.version_for(alloc, digest, payload, now)?;
+        let stamp = version.stamp;
+        let block = self.write(alloc, digest, &version)?;
+        if !self.set.commit {
+            return Ok(stamp);
+        }
+        self.commit(block)?;
+        Ok(stamp)
+    }
+
+    // The version that a put writes.
+    fn version_for(
+        &self,
+        alloc: Global,
+        digest: &Digest,
+        payload: &[u8],
+        now: u64,
+    ) -> Result<Version, WriteRefusal>
+        requires { length payload.now ≤ 2 ^ 31 }
+        ensures { MatchResult result (IsNewPut self.now digest.now payload.now now) (IsUngiven self.now digest.now payload.now now) }
+    {
+        let units = units_of(payload.len() as u32);
+        let capacity = capacity(self.shelf.geometry().block_size);
+        if units > capacity {
+            return Err(WriteRefusal::Big { units, capacity });
+        }
+        let Ok((stamp, cover)) = self.stamp_for(digest, now) else {
+            return Err(WriteRefusal::Spent);
         };
-        let Ok(body) = self.enter(alloc, digest, payload, plan) else {
+        let Ok(version) = new_put(alloc, stamp, cover, payload) else {
             return Err(WriteRefusal::Memory);
         };
-        match publish(&mut self.disk, &self.geometry, plan.block, &body) {
-            Ok(()) => Ok(plan.stamp),
+        Ok(version)
+    }
+
+    // The stamp and the cover flag of a new version.
+    fn stamp_for(&self, digest: &Digest, now: u64) -> Result<(Stamp, bool), Spent>
+        ensures { MatchResult result (λ given. (given_stamp self.now digest.now now ≡ Some given.0) × (given.1 ≡ flag_of (held digest.now self.now.index))) (λ spent. given_stamp self.now digest.now now ≡ None) }
+    {
+        self.shelf.kept();
+        let (prior, cover) = self.index.prior(digest);
+        let devices = self.shelf.geometry().devices;
+        let high = self.index.high_time(digest, self.set.sprigs, devices);
+        match next_stamp(prior, high, now) {
+            Ok(stamp) => Ok((stamp, cover)),
+            Err(spent) => Err(spent),
+        }
+    }
+
+    // Appends a copy of the version, and enters it into the index; answers its block. After a refusal all is as before.
+    fn write(
+        &mut self,
+        alloc: Global,
+        digest: &Digest,
+        version: &Version,
+    ) -> Result<u32, WriteRefusal>
+        requires named { device_number self.old.shelf.geometry.devices digest.now ≡ self.old.shelf.geometry.device }
+        requires version { IsVersion version.now }
+        requires size { length version.now.payload ≤ 2 ^ 31 }
+        requires later { IfSome (held digest.now self.old.index) (λ before. before.stamp.lut ≤ version.now.stamp.lut) }
+        ensures wrote { (s : State) → Agrees self.old s → MatchResult result (λ block. Wrote D.may_leave self.old s digest.now version.now block self.new)
+            (λ refusal. IsUnwritten refusal (append_refusal (setup_of self.old) Class.Put (version_units version.now) s.book)) }
+        ensures refused { OnErr result (self.new ≡ self.old) }
+        ensures disk { self.new.shelf.disk ≡ self.old.shelf.disk }
+        ensures shape { SameShape self.old self.new }
+    {
+        self.shelf.kept();
+        let Ok(()) = self.index.reserve() else {
+            return Err(WriteRefusal::Memory);
+        };
+        let prior = self.place_of(digest);
+        match self.shelf.append(alloc, digest, version, prior, Class::Put) {
+            Ok(place) => {
+                self.index.put(entry_at(digest, version, place));
+                Ok(place.block)
+            }
+            Err(refusal) => Err(write_refusal(refusal)),
+        }
+    }
+
+    // Where the digest's copy lies, if it has an entry.
+    fn place_of(&self, digest: &Digest) -> Option<Place> {
+        let entry = self.index.find(digest)?;
+        Some(place_of_entry(&entry))
+    }
+
+    // Seals the buffer of a block that was just written to, and flushes all that is sealed.
+    fn commit(&mut self, block: u32) -> Result<(), WriteRefusal>
+        ensures committed { (s : State) (b : Buffer) → StandsFor self.old.shelf s → filling_buffer client s.book.buffers ≡ Some b → b.block ≡ block
+            → (steps : List Step) × Commits result (flush_all (after_step (setup_of self.old) (sealed_stream client) s).book) steps
+            × Goes D.tells D.seen D.may_leave D.moment D.had D.left_since (setup_of self.old) (sealed_stream client ∷ steps) self.old.shelf s self.new.shelf }
+        ensures index { self.new.index ≡ self.old.index }
+        ensures cause { OnErr result (Rose (D.faults self.old.shelf.disk) (D.faults self.new.shelf.disk)) }
+        ensures later { IsLater D.extent D.moment D.had D.left_since D.faults self.old.shelf.disk self.new.shelf.disk }
+        ensures honest { IsHonest D.tells D.seen D.may_leave self.old.shelf.disk → IsHonest D.tells D.seen D.may_leave self.new.shelf.disk }
+        ensures shape { SameShape self.old self.new }
+    {
+        self.shelf.seal_for(block);
+        match flush_sealed(&mut self.shelf) {
+            Ok(_) => Ok(()),
             Err(_) => Err(WriteRefusal::Fault),
         }
+    }
+}
+
+// A put that never expires.
+fn new_put(alloc: Global, stamp: Stamp, cover: bool, payload: &[u8]) -> Result<Version, NoMemory>
+    ensures { IfOk result (λ version. version ≡ a_put stamp 0 cover payload.now) }
+{
+    Ok(Version {
+        kind: Kind::Put,
+        stamp,
+        void: 0,
+        cover,
+        payload: Bytes::from_vec(payload.to_vec(alloc)?),
+    })
+}
+
+// The entry of a version whose copy lies there. It isn't marked. A byte of the digest is read, so that it is known to have 20.
+fn entry_at(digest: &Digest, version: &Version, place: Place) -> Entry
+    ensures named { IsDigest digest.now }
+    ensures entry { result ≡ record { digest = digest.now; stamp = version.now.stamp; void = version.now.void; kind = version.now.kind; cover = version.now.cover; mark = 0; block = place.block; unit = place.unit; units = place.units } }
+{
+    let bytes: &[u8] = &digest.0;
+    let _first = bytes[0];
+    Entry {
+        digest: *digest,
+        stamp: version.stamp,
+        void: version.void,
+        kind: version.kind,
+        cover: version.cover,
+        mark: 0,
+        block: place.block,
+        unit: place.unit,
+        units: place.units,
     }
 }

@@ -1,4 +1,7 @@
-use rec_format::Head;
+ghost use Rattle.std.specs.Prelude.{◌≡◌};
+ghost use Rattle.shard_core.specs.Calls.{write_of};
+
+use block_shelf::PutRefusal;
 
 /// Why a write isn't made.
 #[derive(Clone, Copy, Debug, PartialEq, Eq)]
@@ -19,13 +22,16 @@ pub enum WriteRefusal {
     Fault,
 }
 
-/// Why a record can't be read.
-#[derive(Clone, Copy, PartialEq, Eq)]
-pub enum ReadRefusal {
-    /// What was read isn't the header of the record that the index keeps.
-    Damaged { kept: Head, read: [u8; 48] },
-    /// There was no memory for it.
-    Memory,
-    /// The disk failed.
-    Fault,
+/// What a refusal of the shelf is to a write.
+pub(crate) fn write_refusal(refusal: PutRefusal) -> WriteRefusal
+    ensures { result ≡ write_of refusal }
+{
+    match refusal {
+        PutRefusal::Big { units, capacity } => WriteRefusal::Big { units, capacity },
+        PutRefusal::Spent => WriteRefusal::Spent,
+        PutRefusal::Load { pending } => WriteRefusal::Load { pending },
+        PutRefusal::Space { free } => WriteRefusal::Space { free },
+        PutRefusal::Memory => WriteRefusal::Memory,
+        PutRefusal::Fault => WriteRefusal::Fault,
+    }
 }

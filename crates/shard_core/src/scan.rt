@@ -1,31 +1,30 @@
 // What stands behind the gates of a device: the latest copy of each of its digests, and the blocks that are closed.
-ghost use Rattle.std.specs.Prelude.{◌≡◌, ◌+◌, ◌-◌, ◌*◌, ◌<◌, ◌≤◌, ℕ, List, length, MatchBool, IfOk, IfErr, OnOk, MatchResult, Some, slice_get};
-ghost use Rattle.std.specs.List.{AllByRecursion};
+ghost use Rattle.std.specs.Prelude.{◌≡◌, ◌+◌, ◌-◌, ◌*◌, ◌<◌, ◌≤◌, ℕ, List, length, map, option_map, IfOk, IfErr, OnOk, MatchResult, Some, slice_get, take};
+ghost use Rattle.std.specs.List.{AllByRecursion, range_with_len};
 ghost use Rattle.rec_format.specs.Versions.{is_later_stamp};
-ghost use Rattle.block_format.specs.Layout.{IsGeometry, device_end, body_bytes, IsRecordAt};
+ghost use Rattle.block_format.specs.Layout.{IsGeometry, device_end, body_bytes, Body};
 ghost use Rattle.block_format.specs.Readings.{IsReading};
-ghost use Rattle.shard_core.specs.Starting.{OnlyRead, FaultRose};
+ghost use Rattle.block_format.specs.Copies.{HasBodies};
+ghost use Rattle.block_shelf.specs.Disks.{OnlyRead};
+ghost use Rattle.shard_core.specs.Starting.{FaultRose};
 ghost use Rattle.shard_core.specs.Index.{held};
-ghost use Rattle.shard_core.specs.Finding.{AreGates, is_later_than, KeepsFound, KeepsEach, HasRecord, IsFinding, HoldsLatest, TakesBody, TakesClosed, StopsOn, IsStopped};
+ghost use Rattle.shard_core.specs.Finding.{is_set, IsSure, TellsSector, AreGates, is_later_than, found_entry, KeepsOne, KeepsAll, IsFinding, TakesBody, StopsOn, IsStopped};
 
 use crate::StartCause;
 use crate::index::Index;
 use block_flusher::place_of;
 use block_format::{
-    BODY_HEAD_BYTES, BodyRefusal, Found, GATE_BYTES, Geometry, SECTOR_BYTES, is_open, read_body,
+    BodyRefusal, Found, GATE_BYTES, Gate, Geometry, SECTOR_BYTES, is_open, read_body,
 };
 use disk_model::Disk;
 use partition_map::device_of;
-use rec_format::{Digest, Head, NoMemory, ParseRefusal, Stamp, UNIT_BYTES, Version, parse};
-use std::alloc::{AllocError, Global};
-use std::collections::VecDeque;
+use rec_format::{Entry, Head, NoMemory, Stamp};
+use std::alloc::Global;
 
-/// What was found in the blocks so far: the latest copy of each digest of the device, the closed blocks, and the greatest number
-/// of a buffer.
+/// What was found in the blocks so far: the latest copy of each digest of the device, and the greatest number of a buffer.
 #[derive(Drop)]
 pub struct Finding {
     pub index: Index,
-    pub free: VecDeque<u32>,
     pub greatest: u64,
 }
 
@@ -38,7 +37,7 @@ fn is_later(stamp: Stamp, than: Stamp) -> bool
 
 // A record with this head is the first of its digest, or later than what was found of it.
 fn supersedes(index: &Index, head: &Head) -> bool
-    ensures { result ≡ is_later_than (held head.now.digest index.now) head.now.stamp }
+    ensures { result ≡ is_later_than (held head.now.digest index.now.entries) head.now.stamp }
 {
     match index.find(&head.digest) {
         Some(found) => is_later(head.stamp, found.stamp),
@@ -46,31 +45,10 @@ fn supersedes(index: &Index, head: &Head) -> bool
     }
 }
 
-// The record that stands at its unit of a body.
-fn record_at(alloc: Global, body: &[u8], found: &Found) -> Result<(Digest, Version), NoMemory>
-    requires { HasRecord body.now found.now }
-    ensures { IfOk result (λ r. IsRecordAt body.now (32 + 16 * found.now.unit) r.0 r.1) }
-{
-    let place = BODY_HEAD_BYTES + UNIT_BYTES * found.unit as usize;
-    let rest = &body[place..];
-    match parse(alloc, rest) {
-        Ok((digest, version, _)) => Ok((digest, version)),
-        Err(ParseRefusal::Memory) => Err(AllocError),
-        Err(ParseRefusal::Bad(_)) => unreachable!(),
-    }
-}
-
 // The record takes the place of what was found of its digest, where it is later. For want of memory nothing changes.
-fn keep(
-    alloc: Global,
-    index: &mut Index,
-    geometry: &Geometry,
-    body: &[u8],
-    found: &Found,
-) -> Result<(), NoMemory>
-    requires geometry { IsGeometry geometry.now }
-    requires there { HasRecord body.now found.now }
-    ensures { OnOk result (KeepsFound geometry.now body.now found.now index.old index.new) }
+fn keep(index: &mut Index, geometry: &Geometry, block: u32, found: &Found) -> Result<(), NoMemory>
+    requires { IsGeometry geometry.now }
+    ensures { OnOk result (KeepsOne geometry.now (found_entry block found.now) index.old.entries index.new.entries) }
 {
     if device_of(&found.head.digest, geometry.devices) != geometry.device {
         return Ok(());
@@ -78,26 +56,54 @@ fn keep(
     if !supersedes(index, &found.head) {
         return Ok(());
     }
-    let (digest, version) = record_at(alloc, body, found)?;
-    index.put(digest, version)
+    index.reserve()?;
+    index.put(entry_of(block, found));
+    Ok(())
+}
+
+// The entry of a record that was found in a block. It isn't marked.
+fn entry_of(block: u32, found: &Found) -> Entry
+    ensures { result ≡ found_entry block found.now }
+{
+    Entry {
+        digest: found.head.digest,
+        stamp: found.head.stamp,
+        void: found.head.void,
+        kind: found.head.kind,
+        cover: found.head.cover,
+        mark: 0,
+        block,
+        unit: found.unit,
+        units: found.units,
+    }
 }
 
 // So does each record of a body.
 fn keep_all(
-    alloc: Global,
     index: &mut Index,
     geometry: &Geometry,
-    body: &[u8],
+    block: u32,
     found: &[Found],
 ) -> Result<(), NoMemory>
-    requires geometry { IsGeometry geometry.now }
-    requires there { AllByRecursion (HasRecord body.now) found.now }
-    ensures { OnOk result (KeepsEach geometry.now body.now found.now index.old index.new) }
+    requires { IsGeometry geometry.now }
+    ensures { OnOk result (KeepsAll geometry.now (map (found_entry block) found.now) index.old.entries index.new.entries) }
 {
     for record in found {
-        keep(alloc, index, geometry, body, record)?;
+        keep(index, geometry, block, record)?;
     }
     Ok(())
+}
+
+// What the first bytes of a gate tell of it, where the only image of the disk is what it reads.
+fn gate_of(bytes: &[u8; GATE_BYTES]) -> Gate
+    ensures sure { IsSure result }
+    ensures told { (sector : List ℕ) → take 16 bytes.now ≡ take 16 sector → TellsSector result sector }
+{
+    if is_open(bytes) {
+        Gate::Set
+    } else {
+        Gate::Shut
+    }
 }
 
 // Which gates are open, block by block.
@@ -105,11 +111,12 @@ fn read_gates<D: Disk>(
     alloc: Global,
     disk: &mut D,
     geometry: &Geometry,
-) -> Result<Vec<bool>, StartCause>
+) -> Result<Vec<Gate>, StartCause>
     requires geometry { IsGeometry geometry.now }
     requires room { device_end geometry.now ≤ D.extent disk.old }
     ensures read { OnlyRead D.extent D.tells D.seen D.may_leave D.moment D.had D.left_since D.faults disk.old disk.new }
     ensures all { IfOk result (λ gates. length gates.items ≡ geometry.now.blocks) }
+    ensures sure { IfOk result (λ gates. AllByRecursion IsSure gates.items) }
     ensures gates { D.tells disk.old → IfOk result (λ gates. AreGates geometry.now (D.seen disk.old) gates.items) }
     ensures stopped { IfErr result (λ cause. IsStopped geometry.now (D.seen disk.old) cause) }
     ensures cause { IfErr result (λ cause. FaultRose cause (D.faults disk.old) (D.faults disk.new)) }
@@ -120,7 +127,7 @@ fn read_gates<D: Disk>(
         let Ok(()) = disk.read_at(place_of(geometry, block), &mut gate) else {
             return Err(StartCause::Fault);
         };
-        let Ok(()) = gates.push(is_open(&gate)) else {
+        let Ok(()) = gates.push(gate_of(&gate)) else {
             return Err(StartCause::Memory);
         };
     }
@@ -179,48 +186,19 @@ fn take_open<D: Disk>(
         Ok(read) => read,
         Err(cause) => return Err(cause),
     };
-    let Ok(()) = keep_all(alloc, &mut finding.index, geometry, body, &found) else {
+    let Ok(()) = keep_all(&mut finding.index, geometry, block, &found) else {
         return Err(StartCause::Memory);
     };
     finding.greatest = finding.greatest.max(number);
     Ok(())
 }
 
-// Takes the next block: a closed one is free.
-fn take_block<D: Disk>(
-    alloc: Global,
-    disk: &mut D,
-    geometry: &Geometry,
-    block: u32,
-    opened: bool,
-    body: &mut [u8],
-    finding: &mut Finding,
-) -> Result<(), StartCause>
-    requires geometry { IsGeometry geometry.now }
-    requires block { block < geometry.now.blocks }
-    requires room { device_end geometry.now ≤ D.extent disk.old }
-    requires size { length body.old ≡ geometry.now.block_size - 4096 }
-    ensures read { OnlyRead D.extent D.tells D.seen D.may_leave D.moment D.had D.left_since D.faults disk.old disk.new }
-    ensures size { length body.new ≡ geometry.now.block_size - 4096 }
-    ensures taken { OnOk result (MatchBool opened (TakesBody geometry.now block body.new finding.old finding.new) (TakesClosed block finding.old finding.new)) }
-    ensures bytes { D.tells disk.old → MatchResult result (λ done. MatchBool opened (body.new ≡ body_bytes geometry.now block (D.seen disk.old)) (Unit {0}))
-        (λ cause. MatchBool opened (StopsOn geometry.now (D.seen disk.old) block cause) (cause ≡ StartCause.Memory)) }
-    ensures cause { IfErr result (λ cause. FaultRose cause (D.faults disk.old) (D.faults disk.new)) }
-{
-    if opened {
-        return take_open(alloc, disk, geometry, block, body, finding);
-    }
-    match finding.free.push_back(block) {
-        Ok(()) => Ok(()),
-        Err(_) => Err(StartCause::Memory),
-    }
-}
-
-fn is_opened(gates: &[bool], block: u32) -> bool
+// Whether the block has an open gate.
+fn is_opened(gates: &[Gate], block: u32) -> bool
     requires { block < length gates.now }
-    ensures { slice_get gates.now block ≡ Some result }
+    ensures { option_map is_set (slice_get gates.now block) ≡ Some result }
 {
-    gates[block as usize]
+    gates[block as usize] == Gate::Set
 }
 
 // Takes all blocks, the lowest first.
@@ -228,7 +206,7 @@ fn take_blocks<D: Disk>(
     alloc: Global,
     disk: &mut D,
     geometry: &Geometry,
-    gates: &[bool],
+    gates: &[Gate],
     body: &mut [u8],
 ) -> Result<Finding, StartCause>
     requires geometry { IsGeometry geometry.now }
@@ -236,19 +214,20 @@ fn take_blocks<D: Disk>(
     requires size { length body.old ≡ geometry.now.block_size - 4096 }
     requires count { length gates.now ≡ geometry.now.blocks }
     ensures read { OnlyRead D.extent D.tells D.seen D.may_leave D.moment D.had D.left_since D.faults disk.old disk.new }
-    ensures found { IfOk result (λ finding. (opened : List ℕ) × IsFinding geometry.now geometry.now.blocks opened finding
-        × (D.tells disk.old → AreGates geometry.now (D.seen disk.old) gates.now → HoldsLatest geometry.now (D.seen disk.old) geometry.now.blocks opened finding)) }
+    ensures found { IfOk result (λ finding. (bodies : List Body) × IsFinding geometry.now gates.now geometry.now.blocks bodies finding
+        × (D.tells disk.old → AreGates geometry.now (D.seen disk.old) gates.now → HasBodies geometry.now (D.seen disk.old) (range_with_len 0 geometry.now.blocks) bodies)) }
     ensures stopped { D.tells disk.old → AreGates geometry.now (D.seen disk.old) gates.now → IfErr result (λ cause. IsStopped geometry.now (D.seen disk.old) cause) }
     ensures cause { IfErr result (λ cause. FaultRose cause (D.faults disk.old) (D.faults disk.new)) }
 {
     let mut finding = Finding {
         index: Index::new(alloc),
-        free: VecDeque::new(alloc),
         greatest: 0,
     };
     for block in 0..geometry.blocks {
-        let opened = is_opened(gates, block);
-        match take_block(alloc, disk, geometry, block, opened, body, &mut finding) {
+        if !is_opened(gates, block) {
+            continue;
+        }
+        match take_open(alloc, disk, geometry, block, body, &mut finding) {
             Ok(()) => {}
             Err(cause) => return Err(cause),
         }
@@ -261,12 +240,15 @@ pub fn scan<D: Disk>(
     alloc: Global,
     disk: &mut D,
     geometry: &Geometry,
-) -> Result<Finding, StartCause>
+) -> Result<(Vec<Gate>, Finding), StartCause>
     requires geometry { IsGeometry geometry.now }
     requires room { device_end geometry.now ≤ D.extent disk.old }
     ensures read { OnlyRead D.extent D.tells D.seen D.may_leave D.moment D.had D.left_since D.faults disk.old disk.new }
-    ensures found { IfOk result (λ finding. (opened : List ℕ) × IsFinding geometry.now geometry.now.blocks opened finding
-        × (D.tells disk.old → HoldsLatest geometry.now (D.seen disk.old) geometry.now.blocks opened finding)) }
+    ensures all { IfOk result (λ r. length r.0.items ≡ geometry.now.blocks) }
+    ensures sure { IfOk result (λ r. AllByRecursion IsSure r.0.items) }
+    ensures gates { D.tells disk.old → IfOk result (λ r. AreGates geometry.now (D.seen disk.old) r.0.items) }
+    ensures found { IfOk result (λ r. (bodies : List Body) × IsFinding geometry.now r.0.items geometry.now.blocks bodies r.1
+        × (D.tells disk.old → HasBodies geometry.now (D.seen disk.old) (range_with_len 0 geometry.now.blocks) bodies)) }
     ensures stopped { D.tells disk.old → IfErr result (λ cause. IsStopped geometry.now (D.seen disk.old) cause) }
     ensures cause { IfErr result (λ cause. FaultRose cause (D.faults disk.old) (D.faults disk.new)) }
 {
@@ -278,7 +260,7 @@ pub fn scan<D: Disk>(
         return Err(StartCause::Memory);
     };
     match take_blocks(alloc, disk, geometry, &gates, &mut body) {
-        Ok(finding) => Ok(finding),
+        Ok(finding) => Ok((gates, finding)),
         Err(cause) => Err(cause),
     }
 }

@@ -1,18 +1,25 @@
 // How a device is taken into use: its header, and what stands behind its gates.
-ghost use Rattle.std.specs.Prelude.{◌≡◌, ◌≤◌, ◌++◌, ℕ, List, length, take, replicate, nat_le, IfOk, IfErr, OnOk, OnErr, IsTrue, ◌↔◌, MatchResult};
+ghost use Rattle.std.specs.Prelude.{◌≡◌, ◌+◌, ◌≤◌, ◌++◌, ℕ, List, length, take, replicate, nat_le, slice_get, Some, IfOk, IfErr, OnOk, OnErr, IsTrue, ◌↔◌, MatchResult};
+ghost use Rattle.std.specs.List.{AllByRecursion, range_with_len};
 ghost use Rattle.fault_count.specs.Counts.{Rose};
 ghost use Rattle.disk_model.specs.Disk.{IsOnly, IsHonest};
+ghost use Rattle.rec_format.specs.Versions.{top_number};
+ghost use Rattle.block_format.specs.declared.geometry.Gate.TheVariants.{Shut};
 ghost use Rattle.block_format.specs.Layout.{IsGeometry, device_end, Body};
+ghost use Rattle.block_format.specs.Copies.{HasBodies};
 ghost use Rattle.block_format.specs.Refusals.{IsAsked};
 ghost use Rattle.block_format.specs.Recovery.{start_state, IsSound};
-ghost use Rattle.shard_core.specs.View.{IsSettings, IsWhole, setup_of};
+ghost use Rattle.block_flusher.specs.Images.{IsShut};
+ghost use Rattle.block_shelf.specs.Disks.{OnlyRead};
+ghost use Rattle.shard_core.specs.View.{IsSettings, IsEntryOf, setup_of};
 ghost use Rattle.shard_core.specs.Stands.{IsSafe};
-ghost use Rattle.shard_core.specs.Starting.{Begins, StandsForEntries, IsRefused, OnlyRead, FaultRose};
-ghost use Rattle.shard_core.specs.Finding.{IsFinding, HoldsLatest, view_with};
+ghost use Rattle.shard_core.specs.Starting.{Begins, StandsForEntries, IsRefused, FaultRose};
+ghost use Rattle.shard_core.specs.Finding.{IsSure, AreGates, IsFinding, view_with};
 
 use crate::scan::{Finding, scan};
 use crate::{Settings, Shard};
-use block_format::{Geometry, SECTOR_BYTES, read_header};
+use block_format::{Gate, Geometry, SECTOR_BYTES, read_header};
+use block_shelf::{Shelf, ShelfLimits};
 use disk_model::{Disk, DiskFault};
 use std::alloc::Global;
 
@@ -117,11 +124,15 @@ fn examine<D: Disk>(
     alloc: Global,
     disk: &mut D,
     asked: Asked,
-) -> Result<(Geometry, Finding), StartCause>
+) -> Result<(Geometry, Vec<Gate>, Finding), StartCause>
     ensures read { OnlyRead D.extent D.tells D.seen D.may_leave D.moment D.had D.left_since D.faults disk.old disk.new }
     ensures shape { IfOk result (λ found. IsGeometry found.0 × (found.0.device ≡ asked.device) × (found.0.devices ≡ asked.devices) × (device_end found.0 ≤ D.extent disk.new)) }
-    ensures found { IfOk result (λ found. (opened : List ℕ) × IsFinding found.0 found.0.blocks opened found.1
-        × (D.tells disk.old → IsAsked asked.device asked.devices (D.seen disk.old) found.0 × HoldsLatest found.0 (D.seen disk.old) found.0.blocks opened found.1)) }
+    ensures all { IfOk result (λ found. length found.1.items ≡ found.0.blocks) }
+    ensures sure { IfOk result (λ found. AllByRecursion IsSure found.1.items) }
+    ensures asked { D.tells disk.old → IfOk result (λ found. IsAsked asked.device asked.devices (D.seen disk.old) found.0) }
+    ensures gates { D.tells disk.old → IfOk result (λ found. AreGates found.0 (D.seen disk.old) found.1.items) }
+    ensures found { IfOk result (λ found. (bodies : List Body) × IsFinding found.0 found.1.items found.0.blocks bodies found.2
+        × (D.tells disk.old → HasBodies found.0 (D.seen disk.old) (range_with_len 0 found.0.blocks) bodies)) }
     ensures refused { D.tells disk.old → IfErr result (λ cause. IsRefused asked (D.seen disk.old) cause) }
     ensures only { D.tells disk.old → OnOk result (IsOnly (D.seen disk.old) (D.may_leave disk.new)) }
     ensures cause { IfErr result (λ cause. FaultRose cause (D.faults disk.old) (D.faults disk.new)) }
@@ -134,28 +145,48 @@ fn examine<D: Disk>(
         Err(cause) => return Err(cause),
     };
     match scan(alloc, disk, &geometry) {
-        Ok(finding) => Ok((geometry, finding)),
+        Ok((gates, finding)) => Ok((geometry, gates, finding)),
         Err(cause) => Err(cause),
     }
 }
 
 // The shard that begins with what was found.
-fn begun<D: Disk>(disk: D, geometry: Geometry, set: Settings, finding: Finding) -> Shard<D>
-    requires { IsWhole D.extent D.tells D.seen D.may_leave (view_with disk geometry set finding) }
-    ensures { result ≡ view_with disk geometry set finding }
+fn begun<D: Disk>(
+    alloc: Global,
+    disk: D,
+    geometry: Geometry,
+    gates: Vec<Gate>,
+    set: Settings,
+    finding: Finding,
+) -> Result<Shard<D>, StartRefusal<D>>
+    requires geometry { IsGeometry geometry }
+    requires room { device_end geometry ≤ D.extent disk }
+    requires settings { IsSettings set }
+    requires number { finding.greatest ≤ top_number }
+    requires count { length gates.items ≡ geometry.blocks }
+    requires shut { IsHonest D.tells D.seen D.may_leave disk → (k : ℕ) → slice_get gates.items k ≡ Some Shut → IsShut geometry k (D.may_leave disk) }
+    requires entries { AllByRecursion (IsEntryOf geometry) finding.index.entries }
+    ensures { MatchResult result (λ shard. shard ≡ view_with disk geometry gates.items set finding) (λ refusal. (refusal.disk ≡ disk) × (refusal.cause ≡ StartCause.Memory)) }
 {
-    let Finding {
-        index,
-        free,
-        greatest,
-    } = finding;
-    Shard {
-        disk,
-        geometry,
-        set,
-        index,
-        free,
-        next_number: greatest + 1,
+    let Finding { index, greatest } = finding;
+    let Ok(live) = index.live(alloc) else {
+        return Err(StartRefusal {
+            disk,
+            cause: StartCause::Memory,
+        });
+    };
+    let limits = ShelfLimits {
+        sprigs: set.sprigs,
+        lwm: set.lwm,
+        pending: set.pending,
+        cache: set.cache,
+    };
+    match Shelf::new(alloc, disk, geometry, gates, greatest + 1, &live, limits) {
+        Ok(shelf) => Ok(Shard { shelf, set, index }),
+        Err((disk, _)) => Err(StartRefusal {
+            disk,
+            cause: StartCause::Memory,
+        }),
     }
 }
 
@@ -169,17 +200,17 @@ impl<D: Disk> Shard<D> {
         set: Settings,
     ) -> Result<Shard<D>, StartRefusal<D>>
         requires { IsSettings set }
-        ensures stands { IfOk result StandsForEntries }
+        ensures stands { IfOk result (StandsForEntries D.may_leave (IsHonest D.tells D.seen D.may_leave disk)) }
         ensures begins { D.tells disk → MatchResult result (λ shard. Begins asked (D.seen disk) shard) (λ refusal. IsRefused asked (D.seen disk) refusal.cause) }
         ensures safe { IsHonest D.tells D.seen D.may_leave disk → IfOk result (λ shard. (bodies : List Body) → IsSound (setup_of shard) (D.seen disk) bodies
             → IsSafe D.may_leave shard (start_state (setup_of shard) bodies)) }
-        ensures only { D.tells disk → IfOk result (λ shard. IsOnly (D.seen disk) (D.may_leave shard.disk)) }
-        ensures shape { IfOk result (λ shard. (shard.set ≡ set) × (shard.geometry.device ≡ asked.device) × (shard.geometry.devices ≡ asked.devices)) }
-        ensures read { MatchResult result (λ shard. OnlyRead D.extent D.tells D.seen D.may_leave D.moment D.had D.left_since D.faults disk shard.disk) (λ refusal. OnlyRead D.extent D.tells D.seen D.may_leave D.moment D.had D.left_since D.faults disk refusal.disk) }
+        ensures only { D.tells disk → IfOk result (λ shard. IsOnly (D.seen disk) (D.may_leave shard.shelf.disk)) }
+        ensures shape { IfOk result (λ shard. (shard.set ≡ set) × (shard.shelf.geometry.device ≡ asked.device) × (shard.shelf.geometry.devices ≡ asked.devices)) }
+        ensures read { MatchResult result (λ shard. OnlyRead D.extent D.tells D.seen D.may_leave D.moment D.had D.left_since D.faults disk shard.shelf.disk) (λ refusal. OnlyRead D.extent D.tells D.seen D.may_leave D.moment D.had D.left_since D.faults disk refusal.disk) }
         ensures cause { IfErr result (λ refusal. FaultRose refusal.cause (D.faults disk) (D.faults refusal.disk)) }
     {
         match examine(alloc, &mut disk, asked) {
-            Ok((geometry, finding)) => Ok(begun(disk, geometry, set, finding)),
+            Ok((geometry, gates, finding)) => begun(alloc, disk, geometry, gates, set, finding),
             Err(cause) => Err(StartRefusal { disk, cause }),
         }
     }

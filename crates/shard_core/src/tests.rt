@@ -1,11 +1,5 @@
-ghost use Rattle.std.specs.Prelude.{◌≤◌, ◌^◌, length};
-ghost use Rattle.block_format.specs.Layout.{IsGeometry};
-
-mod bad_images;
-mod crashes;
-mod every_fault;
-mod latest;
-mod written;
+ghost use Rattle.std.specs.Prelude.{◌≡◌};
+ghost use Rattle.rec_format.specs.Places.{device_number};
 
 use super::*;
 use block_format::{Geometry, SECTOR_BYTES};
@@ -16,28 +10,15 @@ use std::alloc::Global;
 use std::process::Abort;
 use std::test::Fail;
 
-const SHAPE: Geometry = Geometry {
-    block_size: 16_384,
-    blocks: 16,
-    device: 0,
-    devices: 1,
-};
-
-/// The bytes of a device of this shape.
-const DEVICE_BYTES: u64 = 266_240;
-
 /// As few blocks as a device may have, and the bytes of such a device.
-const SMALL: Geometry = Geometry {
+const SHAPE: Geometry = Geometry {
     block_size: 16_384,
     blocks: 8,
     device: 0,
     devices: 1,
 };
 
-const SMALL_BYTES: u64 = 135_168;
-
-/// Where block 3 begins.
-const THIRD_GATE: u64 = 53_248;
+const DEVICE_BYTES: u64 = 135_168;
 
 const ALONE: Asked = Asked {
     device: 0,
@@ -47,34 +28,15 @@ const ALONE: Asked = Asked {
 const SET: Settings = Settings {
     sprigs: 16,
     lwm: 0,
-    pending: 64,
+    pending: 4,
     cache: 0,
     commit: false,
     raid_age: 0,
 };
 
-/// The bytes 0 to 19, and 20 times the greatest byte.
-const RISING: Digest = Digest([
-    0, 1, 2, 3, 4, 5, 6, 7, 8, 9, 10, 11, 12, 13, 14, 15, 16, 17, 18, 19,
-]);
-
-const ONES: Digest = Digest([255; 20]);
-
-/// A byte and 19 zeros.
-fn numbered(byte: u8) -> Digest {
-    let mut bytes = [0; 20];
-    bytes[0] = byte;
-    Digest(bytes)
-}
-
-/// A formatted disk.
-fn formatted(rt: &impl Abort, alloc: Global, shape: &Geometry) -> Result<MemDisk, Fail>
-    requires { IsGeometry shape.now }
-{
-    let end = SECTOR_BYTES as u64 + u64::from(shape.blocks) * u64::from(shape.block_size);
-    let mut disk = MemDisk::new(alloc, end)?;
-    assert!(rt; end <= disk.len());
-    format_disk(&mut disk, shape)?;
+fn formatted(rt: &impl Abort, mut disk: MemDisk) -> Result<MemDisk, Fail> {
+    assert!(rt; disk.len() == DEVICE_BYTES);
+    format_disk(&mut disk, &SHAPE)?;
     Ok(disk)
 }
 
@@ -86,157 +48,150 @@ fn started(alloc: Global, disk: MemDisk) -> Result<Shard<MemDisk>, Fail> {
 }
 
 /// Why the disk isn't taken into use, and the disk.
-fn refused(alloc: Global, disk: MemDisk, asked: Asked) -> Result<(MemDisk, StartCause), Fail> {
-    match Shard::start(alloc, disk, asked, SET) {
+fn refused(alloc: Global, disk: MemDisk) -> Result<(MemDisk, StartCause), Fail> {
+    match Shard::start(alloc, disk, ALONE, SET) {
         Ok(_) => Err(Fail::new("it is taken into use")),
         Err(StartRefusal { disk, cause }) => Ok((disk, cause)),
     }
+}
+
+/// The digest belongs to the device.
+fn assert_own(rt: &impl Abort, shard: &Shard<MemDisk>, digest: &Digest)
+    ensures { device_number shard.now.shelf.geometry.devices digest.now ≡ shard.now.shelf.geometry.device }
+{
+    let shape = shard.shelf.geometry();
+    assert!(rt; 1 <= shape.devices && shape.devices <= 16);
+    assert!(rt; device_of(digest, shape.devices) == shape.device);
 }
 
 fn put(
     rt: &impl Abort,
     alloc: Global,
     shard: &mut Shard<MemDisk>,
-    digest: &Digest,
+    byte: u8,
     payload: &[u8],
     now: u64,
-) -> Result<Stamp, WriteRefusal>
-    requires size { length payload.now ≤ 2 ^ 31 }
-    requires now { now ≤ 2 ^ 61 }
-{
-    assert!(rt; 1 <= shard.geometry.devices && shard.geometry.devices <= 16);
-    assert!(rt; device_of(digest, shard.geometry.devices) == shard.geometry.device);
-    shard.put(alloc, digest, 0, payload, None, now)
+) -> Result<Stamp, WriteRefusal> {
+    let digest = Digest([byte; 20]);
+    assert_own(rt, shard, &digest);
+    assert!(rt; payload.len() <= 20_000 && now <= 2000);
+    shard.put(alloc, &digest, 0, payload, None, now)
 }
 
 fn get(
     rt: &impl Abort,
     alloc: Global,
     shard: &mut Shard<MemDisk>,
-    digest: &Digest,
+    byte: u8,
 ) -> Result<Option<Version>, Fail> {
-    assert!(rt; 1 <= shard.geometry.devices && shard.geometry.devices <= 16);
-    assert!(rt; device_of(digest, shard.geometry.devices) == shard.geometry.device);
-    match shard.get(alloc, digest, 1000) {
+    let digest = Digest([byte; 20]);
+    assert_own(rt, shard, &digest);
+    match shard.get(alloc, &digest, 1000) {
         Ok(found) => Ok(found),
         Err(_) => Err(Fail::new("it isn't read")),
     }
 }
 
-/// The record is seen, with this stamp and payload and no void time.
-fn shows(found: &Option<Version>, lut: u64, gen_: u16, payload: &[u8]) -> bool {
-    match found {
-        Some(version) => {
-            version.stamp == (Stamp { lut, gen_ })
-                && version.void == 0
-                && version.payload.as_slice() == payload
-        }
-        None => false,
-    }
-}
-
-#[test]
-fn a_record_is_put_and_seen(rt: HostRuntime) -> Result<(), Fail> {
-    let alloc = rt.alloc();
-    let mut shard = started(alloc, formatted(&rt, alloc, &SHAPE)?)?;
-    assert!(rt; get(&rt, alloc, &mut shard, &RISING)?.is_none());
-    assert!(rt;
-        put(&rt, alloc, &mut shard, &RISING, b"hello", 1000) == Ok(Stamp { lut: 1000, gen_: 1 })
-    );
-    let found = get(&rt, alloc, &mut shard, &RISING)?;
-    assert!(rt; shows(&found, 1000, 1, b"hello"));
-    assert!(rt; get(&rt, alloc, &mut shard, &ONES)?.is_none());
+/// Asserts that the record is seen, with this stamp and payload and no void time.
+fn assert_shown(
+    rt: &impl Abort,
+    alloc: Global,
+    shard: &mut Shard<MemDisk>,
+    byte: u8,
+    stamp: Stamp,
+    payload: &[u8],
+) -> Result<(), Fail> {
+    let Some(version) = get(rt, alloc, shard, byte)? else {
+        return Err(Fail::new("it isn't there"));
+    };
+    assert!(rt; version.stamp == stamp && version.void == 0);
+    assert!(rt; version.payload.as_slice() == payload, "record {byte}");
     Ok(())
 }
 
-// A payload may be empty, and it may fill a block but not pass it.
+/// The stamp of a put at time 1000, in this generation.
+fn stamp(gen_: u16) -> Stamp {
+    Stamp { lut: 1000, gen_ }
+}
+
+// From its write buffer, from the disk, and behind the next start. A buffer that isn't flushed is lost.
 #[test]
-fn a_payload_fills_a_block(rt: HostRuntime) -> Result<(), Fail> {
+fn a_record_is_put_and_seen(rt: HostRuntime) -> Result<(), Fail> {
     let alloc = rt.alloc();
-    let mut shard = started(alloc, formatted(&rt, alloc, &SHAPE)?)?;
-    assert!(rt;
-        put(&rt, alloc, &mut shard, &RISING, b"", 1000) == Ok(Stamp { lut: 1000, gen_: 1 })
-    );
-    let found = get(&rt, alloc, &mut shard, &RISING)?;
-    assert!(rt; shows(&found, 1000, 1, b""));
+    let mut shard = started(alloc, formatted(&rt, MemDisk::new(alloc, DEVICE_BYTES)?)?)?;
+    assert!(rt; get(&rt, alloc, &mut shard, 1)?.is_none());
+    assert!(rt; put(&rt, alloc, &mut shard, 1, b"hello", 1000) == Ok(stamp(1)));
+    assert_shown(&rt, alloc, &mut shard, 1, stamp(1), b"hello")?;
+    shard.tend();
+    assert!(rt; shard.flush() == Ok(1));
+    assert!(rt; shard.flush() == Ok(0));
+    assert_shown(&rt, alloc, &mut shard, 1, stamp(1), b"hello")?;
+    assert!(rt; put(&rt, alloc, &mut shard, 1, b"", 1000) == Ok(stamp(2)));
+    assert_shown(&rt, alloc, &mut shard, 1, stamp(2), b"")?;
+    let mut shard = started(alloc, shard.stop())?;
+    assert_shown(&rt, alloc, &mut shard, 1, stamp(1), b"hello")?;
+    assert!(rt; get(&rt, alloc, &mut shard, 2)?.is_none());
+    Ok(())
+}
+
+// Each of eight records takes a block. A record that is too big is so whatever waits, and what waits goes before what is free.
+#[test]
+fn a_put_is_refused(rt: HostRuntime) -> Result<(), Fail> {
+    let alloc = rt.alloc();
+    let mut shard = started(alloc, formatted(&rt, MemDisk::new(alloc, DEVICE_BYTES)?)?)?;
     let payload = [7; 12_209];
+    for byte in 0..8 {
+        if byte == 4 {
+            assert!(rt; shard.flush() == Ok(4));
+        }
+        let answer = put(&rt, alloc, &mut shard, byte, &payload[..12_208], 1000);
+        assert!(rt; answer == Ok(stamp(1)), "record {byte}");
+    }
     let big = WriteRefusal::Big {
         units: 767,
         capacity: 766,
     };
-    assert!(rt; put(&rt, alloc, &mut shard, &ONES, &payload, 1000) == Err(big));
-    assert!(rt; get(&rt, alloc, &mut shard, &ONES)?.is_none());
-    assert!(rt;
-        put(&rt, alloc, &mut shard, &ONES, &payload[..12_208], 1000)
-            == Ok(Stamp { lut: 1000, gen_: 1 })
-    );
-    let found = get(&rt, alloc, &mut shard, &ONES)?;
-    assert!(rt; shows(&found, 1000, 1, &payload[..12_208]));
-    Ok(())
-}
-
-// Sixteen records take sixteen blocks.
-#[test]
-fn no_block_is_left(rt: HostRuntime) -> Result<(), Fail> {
-    let alloc = rt.alloc();
-    let mut shard = started(alloc, formatted(&rt, alloc, &SHAPE)?)?;
-    for byte in 0..16 {
-        let answer = put(&rt, alloc, &mut shard, &numbered(byte), &[byte], 1000);
-        assert!(rt; answer == Ok(Stamp { lut: 1000, gen_: 1 }), "record {byte}");
+    assert!(rt; put(&rt, alloc, &mut shard, 8, &payload, 1000) == Err(big));
+    let load = WriteRefusal::Load { pending: 4 };
+    assert!(rt; put(&rt, alloc, &mut shard, 8, b"", 1000) == Err(load));
+    shard.tend();
+    let space = WriteRefusal::Space { free: 0 };
+    assert!(rt; put(&rt, alloc, &mut shard, 8, b"", 1000) == Err(space));
+    assert!(rt; put(&rt, alloc, &mut shard, 8, &payload, 1000) == Err(big));
+    assert!(rt; get(&rt, alloc, &mut shard, 8)?.is_none());
+    for byte in 0..8 {
+        assert_shown(&rt, alloc, &mut shard, byte, stamp(1), &payload[..12_208])?;
     }
-    let full = WriteRefusal::Space { free: 0 };
-    assert!(rt; put(&rt, alloc, &mut shard, &numbered(16), b"x", 1000) == Err(full));
-    assert!(rt; get(&rt, alloc, &mut shard, &numbered(16))?.is_none());
-    for byte in 0..16 {
-        let found = get(&rt, alloc, &mut shard, &numbered(byte))?;
-        assert!(rt; shows(&found, 1000, 1, &[byte]), "record {byte}");
-    }
+    assert!(rt; shard.flush() == Ok(1));
     Ok(())
 }
 
 #[test]
 fn the_clock_goes_back(rt: HostRuntime) -> Result<(), Fail> {
     let alloc = rt.alloc();
-    let mut shard = started(alloc, formatted(&rt, alloc, &SHAPE)?)?;
-    assert!(rt;
-        put(&rt, alloc, &mut shard, &RISING, &[0xaa], 2000) == Ok(Stamp { lut: 2000, gen_: 1 })
-    );
-    assert!(rt;
-        put(&rt, alloc, &mut shard, &RISING, &[0xbb], 1000) == Ok(Stamp { lut: 2000, gen_: 2 })
-    );
-    let found = get(&rt, alloc, &mut shard, &RISING)?;
-    assert!(rt; shows(&found, 2000, 2, &[0xbb]));
+    let mut shard = started(alloc, formatted(&rt, MemDisk::new(alloc, DEVICE_BYTES)?)?)?;
+    for (now, payload, gen_) in [(2000, 0xaa, 1), (1000, 0xbb, 2)] {
+        let wanted = Stamp { lut: 2000, gen_ };
+        assert!(rt; put(&rt, alloc, &mut shard, 1, &[payload], now) == Ok(wanted));
+        assert_shown(&rt, alloc, &mut shard, 1, wanted, &[payload])?;
+    }
     Ok(())
 }
 
-fn format_again(rt: &impl Abort, disk: &mut MemDisk) -> Result<(), Fail> {
-    assert!(rt; disk.len() == DEVICE_BYTES);
-    format_disk(disk, &SHAPE)?;
-    Ok(())
-}
-
-// Formatting closes the gate.
-#[test]
-fn an_open_gate_is_refused(rt: HostRuntime) -> Result<(), Fail> {
-    let alloc = rt.alloc();
-    let mut disk = formatted(&rt, alloc, &SHAPE)?;
-    assert!(rt; disk.len() == DEVICE_BYTES);
-    disk.write_at(THIRD_GATE, b"ASNODE-GATE-OPEN")?;
-    let (mut disk, cause) = refused(alloc, disk, ALONE)?;
-    assert!(rt; cause == StartCause::DamagedBlock { block: 3, place: 0 });
-    format_again(&rt, &mut disk)?;
-    let _shard = started(alloc, disk)?;
-    Ok(())
-}
-
-// The disk comes back, and is taken into use the next time.
+// The disk comes back, and is taken into use the next time. Formatting closes the gate of a block.
 #[test]
 fn a_start_fails(rt: HostRuntime) -> Result<(), Fail> {
     let alloc = rt.alloc();
-    let mut disk = formatted(&rt, alloc, &SHAPE)?;
+    let mut disk = formatted(&rt, MemDisk::new(alloc, DEVICE_BYTES)?)?;
     disk.fail_after(DiskCall::Sync, 0)?;
-    let (disk, cause) = refused(alloc, disk, ALONE)?;
+    let (disk, cause) = refused(alloc, disk)?;
     assert!(rt; cause == StartCause::Fault);
-    let _disk = started(alloc, disk)?.stop();
+    let mut disk = started(alloc, disk)?.stop();
+    assert!(rt; disk.len() == DEVICE_BYTES);
+    // Where block 3 begins.
+    disk.write_at(53_248, b"ASNODE-GATE-OPEN")?;
+    let (disk, cause) = refused(alloc, disk)?;
+    assert!(rt; cause == StartCause::DamagedBlock { block: 3, place: 0 });
+    let _shard = started(alloc, formatted(&rt, disk)?)?;
     Ok(())
 }

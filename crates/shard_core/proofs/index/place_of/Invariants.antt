@@ -4,4 +4,4 @@ use Rattle.shard_core.specs.Index.{held}
 use Rattle.shard_core.proofs.index.place_of.Given as goal
 
 abbrev pub invariant-loop-at : goal.invariant-loop-at
-invariant-loop-at l = held l.digest (take l.at l.records) ≡ None
+invariant-loop-at l = held l.digest (take l.at l.entries) ≡ None

@@ -1,15 +1,17 @@
-use Rattle.std.proofs.Common.{sym, ◌∙◌, eq-eqb}
-use Rattle.shard_core.proofs.Keeping.{stays_earlier, no_later_before, kept_where_put}
+use Rattle.std.proofs.Common.{sym, ◌∙◌, subst, eq-eqb, List}
+use Rattle.rec_format.specs.declared.entry.Entry.{Entry}
+use Rattle.shard_core.specs.Index.{Holds}
+use Rattle.shard_core.specs.Finding.{found_entry}
+use Rattle.shard_core.proofs.Keeping.{keeps_earlier, keeps_put}
 use Rattle.shard_core.proofs.scan.keep.Goals as goal
 
 pub returns-then-not-supersedes : goal.returns-then-not-supersedes
 returns-then-not-supersedes c =
-    stays_earlier c.args.geometry.now c.args.body.now c.args.found.now c.args.index.now c.requires.there (eq-eqb _ _ (sym c.device_of.ensures.value ∙ c.if-device_of-geometry.false)) (sym c.if-not-supersedes.ensures)
-
-pub put-requires : goal.put-requires
-put-requires c =
-    no_later_before c.args.geometry.now c.args.body.now c.args.found.now c.args.index.now c.requires.there (eq-eqb _ _ (sym c.device_of.ensures.value ∙ c.if-device_of-geometry.false)) c.in_ok-digest.digest c.in_ok-digest.version c.in_ok-digest.ensures (sym c.if-not-supersedes.ensures)
+    keeps_earlier c.args.geometry.now (found_entry c.args.block c.args.found.now) c.args.index.now.entries (eq-eqb _ _ (sym c.device_of.ensures.value ∙ c.if-device_of-geometry.false)) (sym c.supersedes.ensures ∙ c.if-not-supersedes.true)
 
 pub returns : goal.returns
 returns c =
-    kept_where_put c.args.geometry.now c.args.body.now c.args.found.now c.args.index.now c.requires.there (eq-eqb _ _ (sym c.device_of.ensures.value ∙ c.if-device_of-geometry.false)) c.in_ok-digest.digest c.in_ok-digest.version c.put.result c.put.new.self c.in_ok-digest.ensures (sym c.if-not-supersedes.ensures) c.put.ensures.ok
+    let e = found_entry c.args.block c.args.found.now in
+    let old = c.args.index.now.entries in
+    let holds = subst (λ (l : List Entry). Holds e l c.put.new.self.entries) c.reserve.ensures.entries (subst (λ (x : Entry). Holds x c.reserve.new.self.entries c.put.new.self.entries) c.entry_of.ensures c.put.ensures) in
+    keeps_put c.args.geometry.now e old (eq-eqb _ _ (sym c.device_of.ensures.value ∙ c.if-device_of-geometry.false)) (sym c.supersedes.ensures ∙ c.if-not-supersedes.false) c.put.new.self.entries holds

@@ -1,20 +1,22 @@
-use Rattle.std.proofs.Common.{◌≡◌, refl, sym, ◌∙◌, ap, subst, List, [], ◌∷◌, ◌++◌, set}
+use Rattle.std.proofs.Common.{◌≡◌, sym, ◌∙◌, ap, subst, List, [], ◌∷◌, ◌++◌, set}
 use Rattle.std.specs.Prelude.{None}
-use Rattle.shard_core.specs.declared.index.Record.{Record}
-use Rattle.shard_core.specs.Index.{IsPlaceOf, Holds, held}
-use Rattle.shard_core.proofs.IndexLemmas.{holds_pushed, holds_set, with_version}
+use Rattle.rec_format.specs.declared.entry.Entry.{Entry}
+use Rattle.shard_core.specs.Index.{IndexView, IsPlaceOf, Holds, held}
+use Rattle.shard_core.proofs.IndexLemmas.{holds_pushed, holds_set}
 use Rattle.shard_core.proofs.index.Index.put.Goals as goal
 
-pub returns-in-Some-clause-ok : goal.returns-in-Some-clause-ok
-returns-in-Some-clause-ok c =
-    let there = c.deref.ensures.value ∙ c.self.view_is in
-    let placed = subst (λ (l : List Record). IsPlaceOf c.args.digest l c.in-Some.at) there c.in-Some.ensures in
-    subst (λ (l : List Record). Holds c.args.digest c.args.version c.args.self.now (set l c.in-Some.at (with_version c.args.digest c.args.version))) (sym c.self.view_is)
-    (holds_set c.args.digest c.args.version c.args.self.now c.in-Some.at placed c.requires (with_version c.args.digest c.args.version) refl refl)
+pub returns-in-Some : goal.returns-in-Some
+returns-in-Some c =
+    let before = ap (λ (v : IndexView). v.entries) c.self.view_is in
+    let there = c.deref.ensures.value ∙ before in
+    let placed = subst (λ (l : List Entry). IsPlaceOf c.args.entry.digest l c.in-Some.at) there c.in-Some.ensures in
+    subst (λ (l : List Entry). Holds c.args.entry c.args.self.now.entries (set l c.in-Some.at c.args.entry)) (sym before)
+    (holds_set c.args.entry c.args.self.now.entries c.in-Some.at placed c.requires.later)
 
-pub returns-in_ok-push-in-None-clause-ok : goal.returns-in_ok-push-in-None-clause-ok
-returns-in_ok-push-in-None-clause-ok c =
-    let there = c.deref.ensures.value ∙ c.self.view_is in
-    let none = subst (λ (l : List Record). held c.args.digest l ≡ None) there c.in-None.ensures in
-    let pushed = c.in_ok-push-in-None.ensures.items ∙ ap (λ (l : List Record). l ++ with_version c.args.digest c.args.version ∷ []) c.self.view_is in
-    subst (λ (l : List Record). Holds c.args.digest c.args.version c.args.self.now l) (sym pushed) (holds_pushed c.args.digest c.args.version c.args.self.now none)
+pub returns-in-None : goal.returns-in-None
+returns-in-None c =
+    let before = ap (λ (v : IndexView). v.entries) c.self.view_is in
+    let there = c.deref.ensures.value ∙ before in
+    let none = subst (λ (l : List Entry). held c.args.entry.digest l ≡ None) there c.in-None.ensures in
+    let pushed = c.push_reserved.ensures.items ∙ ap (λ (l : List Entry). l ++ c.args.entry ∷ []) before in
+    subst (λ (l : List Entry). Holds c.args.entry c.args.self.now.entries l) (sym pushed) (holds_pushed c.args.entry c.args.self.now.entries none)

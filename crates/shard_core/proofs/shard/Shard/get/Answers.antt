@@ -1,12 +1,108 @@
-use Rattle.shard_core.proofs.Gets.{makes_found, makes_unread}
+use Rattle.std.proofs.Common.{◌≡◌, sym, refl, ap, ◌∙◌, subst, arith}
+use Rattle.std.specs.Prelude.{Option, Some, None, Result, Ok, IfErr, Contains}
+use Rattle.std.specs.Option.{option_copied}
+use Rattle.rec_format.specs.declared.version.Digest.{Digest}
+use Rattle.rec_format.specs.declared.version.Version.{Version}
+use Rattle.rec_format.specs.declared.entry.Entry.{Entry}
+use Rattle.rec_format.specs.Device.{State}
+use Rattle.rec_format.specs.Events.{get_call}
+use Rattle.disk_model.specs.Disk.{IsHonest}
+use Rattle.expiry_rule.specs.Seen.{seen_entry}
+use Rattle.write_buffer.specs.Buffers.{BufferState}
+use Rattle.block_shelf.specs.declared.place.Place.{Place}
+use Rattle.block_shelf.specs.declared.refusals.ReadRefusal.{ReadRefusal}
+use Rattle.block_shelf.specs.declared.refusals.ReadRefusal.TheVariants as read
+use Rattle.block_shelf.specs.View.{ShelfView}
+use Rattle.block_shelf.specs.Standing.{IsPlaced}
+use Rattle.block_shelf.specs.Calls.{IsUndamaged}
+use Rattle.shard_core.specs.Index.{held}
+use Rattle.shard_core.specs.View.{ShardView, IsEntryOf, setup_of}
+use Rattle.shard_core.specs.Stands.{Agrees}
+use Rattle.shard_core.specs.Calls.{Makes, read_answer}
+use Rattle.shard_core.proofs.Getting.{held_is, seen_some, seen_held, live_is, shown, shown_err, makes_unseen, makes_read}
+use Rattle.shard_core.proofs.shard.Shard.get.Goals.{in-Ok, in-Err}
 use Rattle.shard_core.proofs.shard.Shard.get.Goals as goal
 
-pub returns-in-Ok-clause-makes : goal.returns-in-Ok-clause-makes
-returns-in-Ok-clause-makes g c = λ s agrees.
-    makes_found g.D.Disk.tells g.D.Disk.seen g.D.Disk.may_leave g.D.Disk.moment g.D.Disk.had g.D.Disk.left_since g.D.Disk.faults c.args.self.now
-    (record { had_now = g.met.D.Disk.now_had c.args.self.now.disk; alone = g.met.D.Disk.now_alone c.args.self.now.disk; since = g.met.D.Disk.now_since c.args.self.now.disk }) c.args.digest.now c.args.now s agrees c.in-Ok.found c.in-Ok.ensures
+pub returns-in_default-clause-makes : goal.returns-in_default-clause-makes
+returns-in_default-clause-makes g c =
+    let old : ShardView g.row.D.Denot = record { shelf = c.self.inside.shelf; set = c.self.inside.set; index = c.self.inside.index.entries } in
+    subst (λ (v : ShardView g.row.D.Denot). (s : State) → Agrees v s → Makes g.D.Disk.tells g.D.Disk.seen g.D.Disk.may_leave g.D.Disk.moment g.D.Disk.had g.D.Disk.left_since g.D.Disk.faults (get_call c.args.digest.now c.args.now) (read_answer (Ok None)) v s v) c.self.view_is
+    (λ s agrees. makes_unseen g.D.Disk.extent g.D.Disk.tells g.D.Disk.seen g.D.Disk.may_leave g.D.Disk.moment g.D.Disk.had g.D.Disk.left_since g.D.Disk.faults old old s c.args.digest.now c.args.now agrees
+    (record { had_now = g.met.D.Disk.now_had old.shelf.disk; alone = g.met.D.Disk.now_alone old.shelf.disk; since = g.met.D.Disk.now_since old.shelf.disk })
+    (ap (seen_entry c.args.now) (sym (c.as_ref.ensures.value ∙ c.find-found.ensures)) ∙ sym c.seen.ensures ∙ ap option_copied c.in_default.is))
 
-pub returns-in-Err-clause-makes : goal.returns-in-Err-clause-makes
-returns-in-Err-clause-makes g c = λ s agrees.
-    makes_unread g.D.Disk.tells g.D.Disk.seen g.D.Disk.may_leave g.D.Disk.moment g.D.Disk.had g.D.Disk.left_since g.D.Disk.faults c.args.self.now
-    (record { had_now = g.met.D.Disk.now_had c.args.self.now.disk; alone = g.met.D.Disk.now_alone c.args.self.now.disk; since = g.met.D.Disk.now_since c.args.self.now.disk }) c.args.digest.now c.args.now s agrees
+pub read-requires-clause-block : goal.read-requires-clause-block
+read-requires-clause-block g c =
+    let e : Entry = c.in-Some.entry.now in
+    let seen : seen_entry c.args.now (held c.args.digest.now c.self.inside.index.entries) ≡ Some e = ap (seen_entry c.args.now) (sym (c.as_ref.ensures.value ∙ c.find-found.ensures)) ∙ sym c.seen.ensures ∙ ap option_copied c.in-Some.is in
+    let here = held_is c.args.digest.now (IsEntryOf c.self.inside.shelf.geometry) c.self.inside.index.entries e c.self.invariant.entries (seen_held c.args.now (held c.args.digest.now c.self.inside.index.entries) e seen) in
+    omega (arith, here.holds.block, ap (λ (p : Place). p.block) c.place_of_entry.ensures)
+
+pub read-requires-clause-within : goal.read-requires-clause-within
+read-requires-clause-within g c =
+    let e : Entry = c.in-Some.entry.now in
+    let seen : seen_entry c.args.now (held c.args.digest.now c.self.inside.index.entries) ≡ Some e = ap (seen_entry c.args.now) (sym (c.as_ref.ensures.value ∙ c.find-found.ensures)) ∙ sym c.seen.ensures ∙ ap option_copied c.in-Some.is in
+    let here = held_is c.args.digest.now (IsEntryOf c.self.inside.shelf.geometry) c.self.inside.index.entries e c.self.invariant.entries (seen_held c.args.now (held c.args.digest.now c.self.inside.index.entries) e seen) in
+    omega (arith, here.holds.within, ap (λ (p : Place). p.unit) c.place_of_entry.ensures, ap (λ (p : Place). p.units) c.place_of_entry.ensures)
+
+pub read-requires-clause-units : goal.read-requires-clause-units
+read-requires-clause-units g c =
+    let e : Entry = c.in-Some.entry.now in
+    let seen : seen_entry c.args.now (held c.args.digest.now c.self.inside.index.entries) ≡ Some e = ap (seen_entry c.args.now) (sym (c.as_ref.ensures.value ∙ c.find-found.ensures)) ∙ sym c.seen.ensures ∙ ap option_copied c.in-Some.is in
+    let here = held_is c.args.digest.now (IsEntryOf c.self.inside.shelf.geometry) c.self.inside.index.entries e c.self.invariant.entries (seen_held c.args.now (held c.args.digest.now c.self.inside.index.entries) e seen) in
+    (sym (ap (λ (p : Place). p.units) c.place_of_entry.ensures), omega (arith, here.holds.units, ap (λ (p : Place). p.units) c.place_of_entry.ensures))
+
+pub returns-clause-makes : goal.returns-clause-makes
+returns-clause-makes g c =
+    let old : ShardView g.row.D.Denot = record { shelf = c.self.inside.shelf; set = c.self.inside.set; index = c.self.inside.index.entries } in
+    let new : ShardView g.row.D.Denot = record { shelf = c.read.new.self; set = c.self.inside.set; index = c.self.inside.index.entries } in
+    let e : Entry = c.in-Some.entry.now in
+    let digest : Digest = c.args.digest.now in
+    let answered : c.match-read.result ≡ shown c.read.result = elim c.match-read.branch [ in-Ok w ↦ w.result-is ∙ sym (ap shown w.in-Ok.is) | in-Err w ↦ w.result-is ∙ sym (ap shown w.in-Err.is) ] in
+    let seen : seen_entry c.args.now (held digest old.index) ≡ Some e = ap (seen_entry c.args.now) (sym (c.as_ref.ensures.value ∙ c.find-found.ensures)) ∙ sym c.seen.ensures ∙ ap option_copied c.in-Some.is in
+    let here = held_is digest (IsEntryOf old.shelf.geometry) old.index e c.self.invariant.entries (seen_held c.args.now (held digest old.index) e seen) in
+    subst (λ (v : ShardView g.row.D.Denot). (s : State) → Agrees v s → Makes g.D.Disk.tells g.D.Disk.seen g.D.Disk.may_leave g.D.Disk.moment g.D.Disk.had g.D.Disk.left_since g.D.Disk.faults (get_call digest c.args.now) (read_answer c.match-read.result) v s new) c.self.view_is
+    (subst (λ (r : Result (Option Version) ReadRefusal). (s : State) → Agrees old s → Makes g.D.Disk.tells g.D.Disk.seen g.D.Disk.may_leave g.D.Disk.moment g.D.Disk.had g.D.Disk.left_since g.D.Disk.faults (get_call digest c.args.now) (read_answer r) old s new) (sym answered)
+    (λ s agrees.
+    let is = seen_some (setup_of old) s c.args.now digest old.index agrees.index e seen in
+    let live = live_is (setup_of old) s c.args.now digest old.index e c.place_of_entry.result agrees.index is here.same c.place_of_entry.ensures in
+    makes_read g.D.Disk.extent g.D.Disk.tells g.D.Disk.seen g.D.Disk.may_leave g.D.Disk.moment g.D.Disk.had g.D.Disk.left_since g.D.Disk.faults old new s digest c.args.now agrees e is c.read.result
+    (record { geometry = c.read.ensures.same.geometry; set = refl }) c.read.ensures.same refl c.read.ensures.disk
+    (record { had_now = g.met.D.Disk.now_had new.shelf.disk; alone = g.met.D.Disk.now_alone new.shelf.disk; since = g.met.D.Disk.now_since new.shelf.disk })
+    c.read.ensures.names c.read.ensures.cause (λ honest placed. c.read.ensures.written honest s is.version agrees.shelf placed live.live live.entry_is is.names)))
+
+pub returns-clause-buffered : goal.returns-clause-buffered
+returns-clause-buffered g c =
+    let old : ShardView g.row.D.Denot = record { shelf = c.self.inside.shelf; set = c.self.inside.set; index = c.self.inside.index.entries } in
+    let new : ShardView g.row.D.Denot = record { shelf = c.read.new.self; set = c.self.inside.set; index = c.self.inside.index.entries } in
+    let e : Entry = c.in-Some.entry.now in
+    let digest : Digest = c.args.digest.now in
+    let answered : c.match-read.result ≡ shown c.read.result = elim c.match-read.branch [ in-Ok w ↦ w.result-is ∙ sym (ap shown w.in-Ok.is) | in-Err w ↦ w.result-is ∙ sym (ap shown w.in-Err.is) ] in
+    let seen : seen_entry c.args.now (held digest old.index) ≡ Some e = ap (seen_entry c.args.now) (sym (c.as_ref.ensures.value ∙ c.find-found.ensures)) ∙ sym c.seen.ensures ∙ ap option_copied c.in-Some.is in
+    let here = held_is digest (IsEntryOf old.shelf.geometry) old.index e c.self.invariant.entries (seen_held c.args.now (held digest old.index) e seen) in
+    subst (λ (v : ShardView g.row.D.Denot). (s : State) → Agrees v s → (x : Entry) (b : BufferState) → held digest v.index ≡ Some x → Contains v.shelf.buffers b → b.block ≡ x.block
+    → (new ≡ v) × IfErr c.match-read.result (λ refusal. refusal ≡ read.Memory)) c.self.view_is
+    (λ s agrees x b is there at.
+    let seen_is = seen_some (setup_of old) s c.args.now digest old.index agrees.index e seen in
+    let live = live_is (setup_of old) s c.args.now digest old.index e c.place_of_entry.result agrees.index seen_is here.same c.place_of_entry.ensures in
+    let one : Some x ≡ Some e = sym is ∙ seen_is.held_is in
+    let same : x ≡ e = cc in
+    let got = c.read.ensures.buffered s seen_is.version b agrees.shelf live.live live.entry_is seen_is.names there (at ∙ ap (λ (y : Entry). y.block) same ∙ sym (ap (λ (p : Place). p.block) c.place_of_entry.ensures)) in (
+      ap (λ (sh : ShelfView g.row.D.Denot). let y : ShardView g.row.D.Denot = record { shelf = sh; set = old.set; index = old.index } in y) got.0,
+      subst (λ (r : Result (Option Version) ReadRefusal). IfErr r (λ refusal. refusal ≡ read.Memory)) (sym answered) (shown_err (λ v. v ≡ seen_is.version) (λ refusal. refusal ≡ read.Memory) c.read.result got.1),
+    ))
+
+pub returns-clause-undamaged : goal.returns-clause-undamaged
+returns-clause-undamaged g c =
+    let old : ShardView g.row.D.Denot = record { shelf = c.self.inside.shelf; set = c.self.inside.set; index = c.self.inside.index.entries } in
+    let e : Entry = c.in-Some.entry.now in
+    let digest : Digest = c.args.digest.now in
+    let answered : c.match-read.result ≡ shown c.read.result = elim c.match-read.branch [ in-Ok w ↦ w.result-is ∙ sym (ap shown w.in-Ok.is) | in-Err w ↦ w.result-is ∙ sym (ap shown w.in-Err.is) ] in
+    let seen : seen_entry c.args.now (held digest old.index) ≡ Some e = ap (seen_entry c.args.now) (sym (c.as_ref.ensures.value ∙ c.find-found.ensures)) ∙ sym c.seen.ensures ∙ ap option_copied c.in-Some.is in
+    let here = held_is digest (IsEntryOf old.shelf.geometry) old.index e c.self.invariant.entries (seen_held c.args.now (held digest old.index) e seen) in
+    subst (λ (v : ShardView g.row.D.Denot). IsHonest g.D.Disk.tells g.D.Disk.seen g.D.Disk.may_leave v.shelf.disk → (s : State) → Agrees v s → IsPlaced g.D.Disk.may_leave v.shelf s → IfErr c.match-read.result IsUndamaged) c.self.view_is
+    (λ honest s agrees placed.
+    let is = seen_some (setup_of old) s c.args.now digest old.index agrees.index e seen in
+    let live = live_is (setup_of old) s c.args.now digest old.index e c.place_of_entry.result agrees.index is here.same c.place_of_entry.ensures in
+    subst (λ (r : Result (Option Version) ReadRefusal). IfErr r IsUndamaged) (sym answered)
+    (shown_err (λ v. v ≡ is.version) IsUndamaged c.read.result (c.read.ensures.written honest s is.version agrees.shelf placed live.live live.entry_is is.names)))

@@ -1,0 +1,38 @@
+use Rattle.std.proofs.Common.{◌≡◌, List, [], ◌∷◌, sym, ap, ◌∙◌, subst}
+use Rattle.std.specs.Prelude.{Some, Result}
+use Rattle.rec_format.specs.Book.{Buffer, client, filling_buffer}
+use Rattle.rec_format.specs.Device.{State}
+use Rattle.rec_format.specs.Steps.{Step, sealed_stream, after_step}
+use Rattle.rec_format.specs.Legal.{flush_all}
+use Rattle.disk_model.specs.Disk.{IsHonest}
+use Rattle.block_shelf.specs.View.{ShelfView}
+use Rattle.block_shelf.specs.Standing.{StandsFor}
+use Rattle.block_shelf.specs.Calls.{Goes}
+use Rattle.shard_core.specs.declared.refusals.WriteRefusal.{WriteRefusal}
+use Rattle.shard_core.specs.View.{ShardView, setup_of}
+use Rattle.shard_core.specs.Putting.{Commits}
+use Rattle.shard_core.proofs.Going.{goes_then}
+use Rattle.shard_core.proofs.FlushLoop.{setup_stays}
+use Rattle.shard_core.proofs.Making.{setup_is}
+use Rattle.shard_core.proofs.Puts.{committed, commits_from}
+use Rattle.shard_core.proofs.shard.Shard.commit.Goals.{in-Ok, in-Err}
+use Rattle.shard_core.proofs.shard.Shard.commit.Goals as goal
+
+pub returns-clause-committed : goal.returns-clause-committed
+returns-clause-committed g c =
+    let old : ShardView g.row.D.Denot = record { shelf = c.self.inside.shelf; set = c.self.inside.set; index = c.self.inside.index.entries } in
+    let mid : ShelfView g.row.D.Denot = c.seal_for.new.self in
+    let new : ShelfView g.row.D.Denot = c.flush_sealed.new.shelf in
+    let answered : c.match-flush_sealed.result ≡ committed c.flush_sealed.result = elim c.match-flush_sealed.branch [ in-Ok w ↦ w.result-is ∙ sym (ap committed w.in-Ok.is) | in-Err w ↦ w.result-is ∙ sym (ap committed w.in-Err.is) ] in
+    subst (λ (v : ShardView g.row.D.Denot). (s : State) (b : Buffer) → StandsFor v.shelf s → filling_buffer client s.book.buffers ≡ Some b → b.block ≡ c.args.block
+    → (steps : List Step) × Commits c.match-flush_sealed.result (flush_all (after_step (setup_of v) (sealed_stream client) s).book) steps
+    × Goes g.D.Disk.tells g.D.Disk.seen g.D.Disk.may_leave g.D.Disk.moment g.D.Disk.had g.D.Disk.left_since (setup_of v) (sealed_stream client ∷ steps) v.shelf s new) c.self.view_is
+    (λ s b stands found at.
+    let is = setup_is old c.self.invariant in
+    let first = c.seal_for.ensures.sealed (setup_of old) s b is stands found at in
+    let then = c.flush_sealed.ensures.flushed (setup_of old) (after_step (setup_of old) (sealed_stream client) s) (setup_stays (setup_of old) old.shelf mid c.seal_for.ensures.shape is) first.stands in (
+      then.0,
+      subst (λ (r : Result (Unit {0}) WriteRefusal). Commits r (flush_all (after_step (setup_of old) (sealed_stream client) s).book) then.0) (sym answered) (commits_from c.flush_sealed.result _ then.0 then.1),
+      goes_then g.D.Disk.tells g.D.Disk.seen g.D.Disk.may_leave g.D.Disk.moment g.D.Disk.had g.D.Disk.left_since (setup_of old) (sealed_stream client ∷ []) then.0 old.shelf mid new s
+          (λ honest. subst (λ (d : g.row.D.Denot). IsHonest g.D.Disk.tells g.D.Disk.seen g.D.Disk.may_leave d) (sym c.seal_for.ensures.disk) honest) first then.2,
+    ))

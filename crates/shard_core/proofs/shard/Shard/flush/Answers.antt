@@ -1,0 +1,35 @@
+use Rattle.std.proofs.Common.{◌≤◌, sym, refl, ◌∙◌, subst}
+use Rattle.std.specs.Prelude.{OnErr}
+use Rattle.fault_count.specs.Counts.{Rose}
+use Rattle.rec_format.specs.Device.{State}
+use Rattle.rec_format.specs.Steps.{after_steps}
+use Rattle.rec_format.specs.Events.{flush_call}
+use Rattle.rec_format.specs.Legal.{seal_all}
+use Rattle.disk_model.specs.Disk.{IsHonest}
+use Rattle.block_shelf.specs.View.{ShelfView}
+use Rattle.shard_core.specs.View.{ShardView, setup_of}
+use Rattle.shard_core.specs.Stands.{Agrees}
+use Rattle.shard_core.specs.Calls.{Makes, flush_answer}
+use Rattle.shard_core.proofs.Going.{goes_then}
+use Rattle.shard_core.proofs.FlushLoop.{setup_stays}
+use Rattle.shard_core.proofs.Making.{setup_is, seal_all_flushing, makes_flush}
+use Rattle.shard_core.proofs.shard.Shard.flush.Goals as goal
+
+pub returns-clause-makes : goal.returns-clause-makes
+returns-clause-makes g c =
+    let old : ShardView g.row.D.Denot = record { shelf = c.self.inside.shelf; set = c.self.inside.set; index = c.self.inside.index.entries } in
+    let new : ShardView g.row.D.Denot = record { shelf = c.flush_sealed.new.shelf; set = c.self.inside.set; index = c.self.inside.index.entries } in
+    let mid : ShelfView g.row.D.Denot = c.seal_streams.new.self in
+    subst (λ (v : ShardView g.row.D.Denot). (s : State) → Agrees v s → Makes g.D.Disk.tells g.D.Disk.seen g.D.Disk.may_leave g.D.Disk.moment g.D.Disk.had g.D.Disk.left_since g.D.Disk.faults flush_call (flush_answer c.flush_sealed.result) v s new) c.self.view_is
+    (λ s agrees.
+    let is = setup_is old c.self.invariant in
+    let first = c.seal_streams.ensures.sealed (setup_of old) s is agrees.shelf in
+    let then = c.flush_sealed.ensures.flushed (setup_of old) (after_steps (setup_of old) (seal_all s.book) s) (setup_stays (setup_of old) old.shelf mid c.seal_streams.ensures.shape is) first.stands in
+    makes_flush g.D.Disk.tells g.D.Disk.seen g.D.Disk.may_leave g.D.Disk.moment g.D.Disk.had g.D.Disk.left_since g.D.Disk.faults old new s agrees
+    (record { geometry = c.flush_sealed.ensures.shape.geometry ∙ c.seal_streams.ensures.shape.geometry; set = refl }) refl
+    (subst (λ (d : g.row.D.Denot). g.D.Disk.faults d ≤ g.D.Disk.faults new.shelf.disk) c.seal_streams.ensures.disk c.flush_sealed.ensures.later.count)
+    c.flush_sealed.result flush_call (seal_all s.book) then.0 (seal_all_flushing s.book) then.1
+    (subst (λ (d : g.row.D.Denot). OnErr c.flush_sealed.result (Rose (g.D.Disk.faults d) (g.D.Disk.faults new.shelf.disk))) c.seal_streams.ensures.disk c.flush_sealed.ensures.cause)
+    (λ event told ends. ends)
+    (goes_then g.D.Disk.tells g.D.Disk.seen g.D.Disk.may_leave g.D.Disk.moment g.D.Disk.had g.D.Disk.left_since (setup_of old) (seal_all s.book) then.0 old.shelf mid new.shelf s
+    (λ honest. subst (λ (d : g.row.D.Denot). IsHonest g.D.Disk.tells g.D.Disk.seen g.D.Disk.may_leave d) (sym c.seal_streams.ensures.disk) honest) first then.2))

@@ -1,0 +1,72 @@
+-- Crate shard_core. What a put finds and leaves on the way.
+use Rattle.std.specs.Prelude.{◌≡◌, ◌<◌, ◌≤◌, ℕ, List, length, Option, Some, None, IfSome, Result, Ok, Err}
+use Rattle.rec_format.specs.declared.version.Digest.{Digest}
+use Rattle.rec_format.specs.declared.version.Stamp.{Stamp}
+use Rattle.rec_format.specs.declared.version.Version.{Version}
+use Rattle.rec_format.specs.Places.{part_number_of}
+use Rattle.rec_format.specs.Versions.{IsVersion, a_put, new_stamp, units_for, version_units, block_capacity}
+use Rattle.rec_format.specs.Book.{Buffer, client, filling_buffer, placing_number}
+use Rattle.rec_format.specs.Device.{State}
+use Rattle.rec_format.specs.Steps.{Step, wrote, sealed_stream, after_step}
+use Rattle.rec_format.specs.Events.{Cause}
+use Rattle.rec_format.specs.Legal.{flush_between, flush_all, StopsIn}
+use Rattle.disk_model.specs.Disk.{Images}
+use Rattle.recovery_laws.specs.Writes.{MayFollow}
+use Rattle.block_shelf.specs.declared.place.Class.TheVariants as class
+use Rattle.block_shelf.specs.declared.refusals.PutRefusal.{PutRefusal}
+use Rattle.block_shelf.specs.Standing as shelf
+use Rattle.block_shelf.specs.Calls.{append_refusal, IsPutRefusal}
+use Rattle.shard_core.specs.declared.refusals.WriteRefusal.{WriteRefusal}
+use Rattle.shard_core.specs.declared.refusals.WriteRefusal.TheVariants as write
+use Rattle.shard_core.specs.Index.{held, stamp_held, flag_of, high_of}
+use Rattle.shard_core.specs.View.{ShardView, setup_of}
+use Rattle.shard_core.specs.Stands.{Lists}
+use Rattle.shard_core.specs.Calls.{write_of}
+
+-- the stamp that a new version of a digest gets, none where the times are used up
+abbrev pub given_stamp : {D : Type 0} → ShardView D → Digest → (now : ℕ) → Option Stamp
+given_stamp shard digest now =
+    new_stamp (stamp_held (held digest shard.index))
+    (high_of shard.shelf.geometry.devices shard.set.sprigs (part_number_of shard.shelf.geometry.devices shard.set.sprigs digest) shard.index) now
+
+-- the version that a put writes: with that stamp, the cover flag of the entry, and no end
+pub record IsNewPut {D : Type 0} (shard : ShardView D) (digest : Digest) (payload : List ℕ) (now : ℕ) (v : Version) : Type 0 where
+  pub fits : units_for (length payload) ≤ block_capacity shard.shelf.geometry.block_size
+  pub stamp : given_stamp shard digest now ≡ Some v.stamp
+  pub put : v ≡ a_put v.stamp 0 (flag_of (held digest shard.index)) payload
+  pub version : IsVersion v
+  pub later : IfSome (held digest shard.index) (λ before. before.stamp.lut ≤ v.stamp.lut)
+
+-- why there is none
+abbrev pub IsUngiven : {D : Type 0} → ShardView D → Digest → (payload : List ℕ) → (now : ℕ) → WriteRefusal → Type 0
+IsUngiven shard digest payload now (write.Big units capacity) =
+    (units ≡ units_for (length payload)) × (capacity ≡ block_capacity shard.shelf.geometry.block_size) × (capacity < units)
+IsUngiven shard digest payload now (write.Gen seen) = ⊥
+IsUngiven shard digest payload now write.Spent = (units_for (length payload) ≤ block_capacity shard.shelf.geometry.block_size) × (given_stamp shard digest now ≡ None)
+IsUngiven shard digest payload now (write.Load pending) = ⊥
+IsUngiven shard digest payload now (write.Space free) = ⊥
+IsUngiven shard digest payload now write.Memory = Unit {0}
+IsUngiven shard digest payload now write.Fault = ⊥
+
+-- A version was written, and its buffer, which is filled now, has this block: the index and the shelf stand for the state after
+-- it, and where the buffer is sealed next, the buffers up to it are all that there are.
+pub record Wrote {D : Type 0} (may_leave : D → Images) (old : ShardView D) (s : State) (digest : Digest) (v : Version) (block : ℕ) (new : ShardView D) : Type 0 where
+  pub allowed : append_refusal (setup_of old) class.Put (version_units v) s.book ≡ None
+  pub lists : Lists (setup_of old) new.index (after_step (setup_of old) (wrote digest v) s)
+  pub stands : shelf.StandsFor new.shelf (after_step (setup_of old) (wrote digest v) s)
+  pub placed : shelf.IsPlaced may_leave old.shelf s → shelf.IsPlaced may_leave new.shelf (after_step (setup_of old) (wrote digest v) s)
+  pub safe : MayFollow (setup_of old) s digest v → shelf.IsSafe (setup_of old) may_leave old.shelf s → shelf.IsSafe (setup_of old) may_leave new.shelf (after_step (setup_of old) (wrote digest v) s)
+  pub buffer : Buffer
+  pub filling : filling_buffer client (after_step (setup_of old) (wrote digest v) s).book.buffers ≡ Some buffer
+  pub there : buffer.block ≡ block
+  pub up_to : let sealed = after_step (setup_of old) (sealed_stream client) (after_step (setup_of old) (wrote digest v) s) in
+      flush_between 0 (placing_number (setup_of old) client (version_units v) s.book) sealed.book ≡ flush_all sealed.book
+
+-- the shelf refused it for this cause
+abbrev pub IsUnwritten : WriteRefusal → Option Cause → Type 0
+IsUnwritten refusal cause = (why : PutRefusal) × (refusal ≡ write_of why) × IsPutRefusal why cause
+
+-- all of these steps were made; or, where the disk failed, some
+abbrev pub Commits : Result (Unit {0}) WriteRefusal → (whole steps : List Step) → Type 0
+Commits (Ok done) whole steps = steps ≡ whole
+Commits (Err refusal) whole steps = (refusal ≡ write.Fault) × StopsIn whole steps

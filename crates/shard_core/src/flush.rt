@@ -1,0 +1,68 @@
+// How what waits in write buffers comes to the disk.
+ghost use Rattle.std.specs.Prelude.{◌≡◌, ◌≢◌, false, [], List, OnOk, OnErr};
+ghost use Rattle.std.specs.List.{AllByRecursion};
+ghost use Rattle.fault_count.specs.Counts.{Rose};
+ghost use Rattle.disk_model.specs.Disk.{IsHonest};
+ghost use Rattle.rec_format.specs.Book.{Setup};
+ghost use Rattle.rec_format.specs.Device.{State};
+ghost use Rattle.rec_format.specs.Steps.{Step};
+ghost use Rattle.rec_format.specs.Events.{flush_call, flush_sealed_call};
+ghost use Rattle.rec_format.specs.Legal.{flush_all};
+ghost use Rattle.block_shelf.specs.Disks.{IsLater};
+ghost use Rattle.block_shelf.specs.View.{IsSetupOf, is_filling};
+ghost use Rattle.block_shelf.specs.View as shelf_view;
+ghost use Rattle.block_shelf.specs.Standing.{StandsFor};
+ghost use Rattle.block_shelf.specs.Calls.{Goes};
+ghost use Rattle.shard_core.specs.View.{SameShape};
+ghost use Rattle.shard_core.specs.Stands.{Agrees};
+ghost use Rattle.shard_core.specs.Calls.{Makes, MakesAny, flush_answer, FlushesAll};
+
+use crate::Shard;
+use block_shelf::Shelf;
+use disk_model::{Disk, DiskFault};
+
+/// Flushes the sealed buffers in rising number, up to the first fault, and answers how many it flushed.
+pub(crate) fn flush_sealed<D: Disk>(shelf: &mut Shelf<D>) -> Result<u64, DiskFault>
+    ensures flushed { (setup : Setup) (s : State) → IsSetupOf setup shelf.old → StandsFor shelf.old s
+        → (steps : List Step) × FlushesAll result (flush_all s.book) steps × Goes D.tells D.seen D.may_leave D.moment D.had D.left_since setup steps shelf.old s shelf.new }
+    ensures quiet { AllByRecursion (λ b. is_filling b.phase ≡ false) shelf.old.buffers → OnOk result (shelf.new.buffers ≡ []) }
+    ensures left { OnErr result (shelf.new.buffers ≢ []) }
+    ensures cause { OnErr result (Rose (D.faults shelf.old.disk) (D.faults shelf.new.disk)) }
+    ensures later { IsLater D.extent D.moment D.had D.left_since D.faults shelf.old.disk shelf.new.disk }
+    ensures honest { IsHonest D.tells D.seen D.may_leave shelf.old.disk → IsHonest D.tells D.seen D.may_leave shelf.new.disk }
+    ensures shape { shelf_view.SameShape shelf.old shelf.new }
+{
+    let mut count = 0;
+    shelf.kept();
+    while let Some(_) = shelf.flush_step()? {
+        count += 1;
+        shelf.kept();
+    }
+    Ok(count)
+}
+
+impl<D: Disk> Shard<D> {
+    /// Seals the buffer that is being filled, and flushes all that is sealed in rising number; answers how many buffers it flushed.
+    /// After a fault those that were flushed stay so. It takes no memory. After `Ok` nothing is pending.
+    pub fn flush(&mut self) -> Result<u64, DiskFault>
+        ensures makes { (s : State) → Agrees self.old s → Makes D.tells D.seen D.may_leave D.moment D.had D.left_since D.faults flush_call (flush_answer result) self.old s self.new }
+        ensures quiet { OnOk result (self.new.shelf.buffers ≡ []) }
+        ensures left { OnErr result (self.new.shelf.buffers ≢ []) }
+        ensures later { IsLater D.extent D.moment D.had D.left_since D.faults self.old.shelf.disk self.new.shelf.disk }
+        ensures honest { IsHonest D.tells D.seen D.may_leave self.old.shelf.disk → IsHonest D.tells D.seen D.may_leave self.new.shelf.disk }
+        ensures shape { SameShape self.old self.new }
+    {
+        self.shelf.seal_streams();
+        flush_sealed(&mut self.shelf)
+    }
+
+    /// Flushes what is sealed, as far as the disk goes. It answers nothing, and takes no memory.
+    pub fn tend(&mut self)
+        ensures makes { (s : State) → Agrees self.old s → MakesAny D.tells D.seen D.may_leave D.moment D.had D.left_since D.faults flush_sealed_call self.old s self.new }
+        ensures later { IsLater D.extent D.moment D.had D.left_since D.faults self.old.shelf.disk self.new.shelf.disk }
+        ensures honest { IsHonest D.tells D.seen D.may_leave self.old.shelf.disk → IsHonest D.tells D.seen D.may_leave self.new.shelf.disk }
+        ensures shape { SameShape self.old self.new }
+    {
+        let _ = flush_sealed(&mut self.shelf);
+    }
+}

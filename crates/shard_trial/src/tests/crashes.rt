@@ -1,0 +1,198 @@
+// What a start finds of a run that a crash ended, whichever call of the disk failed before.
+use super::*;
+
+/// The records that are put, and two of their digests. A flush comes after three of them, of which the last takes the place of the
+/// first, then one after the fourth, and one more.
+fn records() -> [Stored; 4] {
+    [
+        put_of(RISING, 1000, 1, b"one"),
+        put_of(ONES, 1000, 1, b"two"),
+        put_of(RISING, 1000, 2, b"three"),
+        put_of(ONES, 1000, 2, b"four"),
+    ]
+}
+
+/// How many records are put before each flush.
+const FLUSHES: [usize; 3] = [3, 4, 4];
+
+type Answers = [Result<u64, DiskFault>; 3];
+
+/// How far a run has come.
+#[derive(Drop)]
+struct Reached {
+    disk: MemDisk,
+    /// How many records were put, and how many of them before the last flush that went well.
+    put: usize,
+    flushed: usize,
+    answers: Answers,
+}
+
+/// Each digest shows the last of the first so many records that is its own.
+fn holds(lone: &mut Lone, count: usize) -> Result<bool, Fail> {
+    for digest in [RISING, ONES] {
+        let mut last = put_of(digest, 1000, 1, b"");
+        let mut seen = false;
+        for record in records().into_iter().take(count) {
+            if record.digest == digest {
+                last = record;
+                seen = true;
+            }
+        }
+        if !lone.finds(&last, seen)? {
+            return Ok(false);
+        }
+    }
+    Ok(true)
+}
+
+/// A run up to a number of flushes, over a new device of which a call fails where one is named. What was put is read all along.
+fn run(
+    rt: &impl Abort,
+    alloc: Global,
+    fault: Option<(DiskCall, u64)>,
+    flushes: usize,
+) -> Result<Reached, Fail> {
+    let mut disk = device_with(rt, alloc, &[])?;
+    if let Some((kind, skip)) = fault {
+        disk.fail_after(kind, skip)?;
+    }
+    let mut lone = started(alloc, disk)?;
+    let (mut put, mut flushed) = (0, 0);
+    let mut answers = [Err(DiskFault); 3];
+    for (number, most) in FLUSHES.into_iter().take(flushes).enumerate() {
+        for record in records().into_iter().take(most).skip(put) {
+            let answer = lone.put(rt, &record.digest, record.payload);
+            assert!(rt; answer == Ok(record.stamp));
+        }
+        put = most;
+        assert!(rt; holds(&mut lone, put)?, "{put} records");
+        let answer = lone.flush();
+        if answer.is_ok() {
+            flushed = put;
+        }
+        answers[number] = answer;
+        assert!(rt; holds(&mut lone, put)?, "{put} records");
+    }
+    Ok(Reached {
+        disk: lone.stop(),
+        put,
+        flushed,
+        answers,
+    })
+}
+
+/// Asserts that a start from this image finds so many of the records that were put, at least and at most.
+fn assert_left(
+    rt: &impl Abort,
+    alloc: Global,
+    disk: &MemDisk,
+    (moment, pick): (u64, u64),
+    (least, most): (usize, usize),
+) -> Result<(), Fail> {
+    assert!(rt; moment < disk.moments());
+    let mut lone = started(alloc, disk.image(moment, pick)?)?;
+    for count in least..most.saturating_add(1) {
+        if holds(&mut lone, count)? {
+            return Ok(());
+        }
+    }
+    assert!(rt; false, "{least} to {most} at moment {moment}, pick {pick}");
+    Ok(())
+}
+
+/// Asserts that each image of each moment of a run has what was flushed by then, and no more than was put. Answers how many images
+/// those are, and what the flushes answered. Two writes that no sync came between are the same, so an image has all or none.
+fn assert_left_throughout(
+    rt: &impl Abort,
+    alloc: Global,
+    fault: (DiskCall, u64),
+) -> Result<(u64, Answers), Fail> {
+    let mut reached = run(rt, alloc, Some(fault), 0)?;
+    let mut begun = reached.disk.moments() - 1;
+    let mut images: u64 = 0;
+    for flushes in 0..4 {
+        let next = run(rt, alloc, Some(fault), flushes)?;
+        let end = next.disk.moments();
+        for moment in begun..end {
+            // The last moment of a flush that went well has what it flushed.
+            let least = if moment == end - 1 {
+                next.flushed
+            } else {
+                reached.flushed
+            };
+            for pick in [0, u64::MAX] {
+                assert_left(rt, alloc, &next.disk, (moment, pick), (least, next.put))?;
+                images = images.saturating_add(1);
+            }
+        }
+        begun = end;
+        reached = next;
+    }
+    Ok((images, reached.answers))
+}
+
+/// What the flushes answer where one of the first one's calls fails, where one of the second one's does, and where none does.
+const FIRST: Answers = [Err(DiskFault), Ok(2), Ok(0)];
+
+const SECOND: Answers = [Ok(1), Err(DiskFault), Ok(1)];
+
+const NONE: Answers = [Ok(1), Ok(1), Ok(0)];
+
+/// Asserts so where one call of a kind fails, each in turn. Without a fault a run has 9 moments, and where a body's call fails one more,
+/// since the body is written again. `gate` is how many it has where the call of a gate fails.
+fn assert_left_by_each(
+    rt: &impl Abort,
+    alloc: Global,
+    (kind, before): (DiskCall, u64),
+    gate: u64,
+) -> Result<(), Fail> {
+    assert!(rt; before <= 1 && gate <= 11);
+    for (skip, wanted, moments) in [
+        (0, FIRST, 10),
+        (1, FIRST, gate),
+        (2, SECOND, 10),
+        (3, SECOND, gate),
+        (4, NONE, 9),
+    ] {
+        let (images, answers) = assert_left_throughout(rt, alloc, (kind, before + skip))?;
+        assert!(rt; images == 2 * moments, "{images} images, {kind:?} {skip}");
+        assert!(rt; answers == wanted, "{kind:?} {skip}");
+    }
+    Ok(())
+}
+
+// The next try of a gate whose write failed syncs, sees it closed, and writes it: two moments more.
+#[test]
+fn what_is_flushed_stays_where_a_write_fails(rt: HostRuntime) -> Result<(), Fail> {
+    assert_left_by_each(&rt, rt.alloc(), (DiskCall::Write, 0), 11)
+}
+
+// The first sync is that of the start. The next try of a gate whose sync failed syncs, and sees it open.
+#[test]
+fn what_is_flushed_stays_where_a_sync_fails(rt: HostRuntime) -> Result<(), Fail> {
+    assert_left_by_each(&rt, rt.alloc(), (DiskCall::Sync, 1), 9)
+}
+
+// A start makes one moment, and a flush four: the body, its sync, the gate, and its sync. From its gate on a buffer may be there, and
+// from that one's sync on it is.
+#[test]
+fn a_buffer_is_there_from_its_gate_on(rt: HostRuntime) -> Result<(), Fail> {
+    let alloc = rt.alloc();
+    let first = run(&rt, alloc, None, 0)?.disk.moments() - 1;
+    assert!(rt; first < 100);
+    let disk = run(&rt, alloc, None, 2)?.disk;
+    assert!(rt; disk.moments() == first + 9);
+    for (step, without, with) in [
+        (2, 0, 0),
+        (3, 0, 3),
+        (4, 3, 3),
+        (6, 3, 3),
+        (7, 3, 4),
+        (8, 4, 4),
+    ] {
+        for (pick, count) in [(0, without), (1, with)] {
+            assert_left(&rt, alloc, &disk, (first + step, pick), (count, count))?;
+        }
+    }
+    Ok(())
+}

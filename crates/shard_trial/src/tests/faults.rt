@@ -1,0 +1,135 @@
+// Calls of a disk that fail or lie.
+use super::*;
+use rec_format::Head;
+
+/// A small device without records, of which the calls of a kind with these numbers fail.
+fn failing(
+    rt: &impl Abort,
+    alloc: Global,
+    kind: DiskCall,
+    numbers: &[u64],
+) -> Result<MemDisk, Fail> {
+    let mut disk = device_with(rt, alloc, &[])?;
+    for number in numbers {
+        disk.fail_after(kind, *number)?;
+    }
+    Ok(disk)
+}
+
+// A start reads the header, the 8 gates, and the bodies behind the two that are open. Each of these reads fails in turn, and then that
+// of a record.
+#[test]
+fn each_read_fails(rt: HostRuntime) -> Result<(), Fail> {
+    let alloc = rt.alloc();
+    let low = put_of(RISING, 500, 4, b"low");
+    let high = put_of(ONES, 600, 5, b"high");
+    for skip in 0..12 {
+        let mut disk = device_with(&rt, alloc, &[(1, 2, &[low]), (2, 7, &[high])])?;
+        disk.fail_after(DiskCall::Read, skip)?;
+        if skip < 11 {
+            let (back, cause) = refused(alloc, disk, ALONE)?;
+            assert!(rt; cause == StartCause::Fault, "read {skip}");
+            disk = back;
+        }
+        let mut lone = started(alloc, disk)?;
+        if skip == 11 {
+            assert!(rt; matches!(&lone.get(&ONES), Err(ReadRefusal::Fault)));
+        }
+        assert!(rt;
+            lone.finds(&low, true)? && lone.finds(&high, true)?,
+            "read {skip}"
+        );
+    }
+    Ok(())
+}
+
+// A start over no record makes 9 reads, and the next three fail. A record that waits in its buffer is read without the disk.
+#[test]
+fn a_buffer_is_read_without_the_disk(rt: HostRuntime) -> Result<(), Fail> {
+    let alloc = rt.alloc();
+    let hello = put_of(RISING, 1000, 1, b"hello");
+    let mut lone = started(alloc, failing(&rt, alloc, DiskCall::Read, &[9, 10, 11])?)?;
+    assert!(rt; lone.put(&rt, &RISING, b"hello") == Ok(stamp(1)));
+    assert!(rt; lone.finds(&hello, true)?);
+    assert!(rt; lone.flush() == Ok(1));
+    for _ in 0..3 {
+        assert!(rt; matches!(&lone.get(&RISING), Err(ReadRefusal::Fault)));
+    }
+    assert!(rt; lone.finds(&hello, true)?);
+    Ok(())
+}
+
+// The read of a record has its first byte wrong, and the next one hasn't.
+#[test]
+fn a_read_lies(rt: HostRuntime) -> Result<(), Fail> {
+    let alloc = rt.alloc();
+    let mut disk = device_with(&rt, alloc, &[])?;
+    disk.lie_after(9);
+    let mut lone = started(alloc, disk)?;
+    assert!(rt; lone.put(&rt, &RISING, b"hello") == Ok(stamp(1)));
+    assert!(rt; lone.flush() == Ok(1));
+    let Err(ReadRefusal::Damaged { kept, read }) = lone.get(&RISING) else {
+        return Err(Fail::new("it isn't damaged"));
+    };
+    // Of the payload the units are kept.
+    let wanted = Head {
+        digest: RISING,
+        kind: Kind::Put,
+        stamp: stamp(1),
+        void: 0,
+        cover: false,
+        length: 16,
+    };
+    assert!(rt; kept == wanted && read[0] == 0xad && &read[1..] == &HELLO[1..48]);
+    assert!(rt; lone.finds(&put_of(RISING, 1000, 1, b"hello"), true)?);
+    Ok(())
+}
+
+/// A payload with which a record takes 700 units.
+static LARGE: [u8; 11_152] = [7; 11_152];
+
+// Each record takes a block, and four wait at most. The first three writes fail, and with each of them a try to flush.
+#[test]
+fn too_many_buffers_wait(rt: HostRuntime) -> Result<(), Fail> {
+    let alloc = rt.alloc();
+    let mut lone = started(alloc, failing(&rt, alloc, DiskCall::Write, &[0, 1, 2])?)?;
+    for byte in 0..4 {
+        assert!(rt; lone.put(&rt, &numbered(byte), &LARGE) == Ok(stamp(1)));
+    }
+    for _ in 0..3 {
+        lone.tend();
+        let load = Err(WriteRefusal::Load { pending: 4 });
+        assert!(rt; lone.put(&rt, &numbered(4), &LARGE) == load);
+    }
+    lone.tend();
+    assert!(rt; lone.put(&rt, &numbered(4), &LARGE) == Ok(stamp(1)));
+    assert!(rt; lone.flush() == Ok(2));
+    let mut lone = started(alloc, lone.stop())?;
+    for byte in 0..5 {
+        assert!(rt;
+            lone.finds(&put_of(numbered(byte), 1000, 1, &LARGE), true)?,
+            "record {byte}"
+        );
+    }
+    Ok(())
+}
+
+// With commit on a put that goes well is in each image of now. Where the write of its gate fails it waits, and the next flush has it.
+#[test]
+fn a_put_is_committed(rt: HostRuntime) -> Result<(), Fail> {
+    let alloc = rt.alloc();
+    let hello = put_of(RISING, 1000, 1, b"hello");
+    for (failed, answer, flushed) in [(9, Ok(stamp(1)), 0), (1, Err(WriteRefusal::Fault), 1)] {
+        let disk = failing(&rt, alloc, DiskCall::Write, &[failed])?;
+        let mut lone = Lone::start(alloc, disk, true)?;
+        assert!(rt; lone.put(&rt, &RISING, b"hello") == answer);
+        assert!(rt; lone.finds(&hello, true)?);
+        assert!(rt; lone.flush() == Ok(flushed));
+        let disk = lone.stop();
+        for pick in [0, u64::MAX] {
+            let image = disk.image(disk.moments() - 1, pick)?;
+            assert!(rt; started(alloc, image)?.finds(&hello, true)?, "pick {pick}");
+        }
+    }
+    Ok(())
+}

@@ -1,0 +1,102 @@
+// A device without others, and the calls of its shard.
+ghost use Rattle.std.specs.Prelude.{◌≡◌};
+ghost use Rattle.shard_core.specs.View.{IsSettings};
+
+use super::written::Stored;
+use disk_model::{DiskFault, MemDisk};
+use rec_format::{Digest, Stamp, Version};
+use shard_core::{Asked, ReadRefusal, Settings, Shard, StartCause, StartRefusal, WriteRefusal};
+use std::alloc::Global;
+use std::process::Abort;
+use std::test::Fail;
+
+pub const ALONE: Asked = Asked {
+    device: 0,
+    devices: 1,
+};
+
+/// A shard of a device without others: each digest belongs to it. The time is 1000.
+#[derive(Drop)]
+pub struct Lone {
+    alloc: Global,
+    shard: Shard<MemDisk>,
+    ghost alone: { (shard.shelf.geometry.device ≡ 0) × (shard.shelf.geometry.devices ≡ 1) },
+}
+
+/// At most four write buffers wait.
+fn settings(commit: bool) -> Settings
+    ensures { IsSettings result }
+{
+    Settings {
+        sprigs: 16,
+        lwm: 0,
+        pending: 4,
+        cache: 0,
+        commit,
+        raid_age: 0,
+    }
+}
+
+/// Why the disk isn't taken into use, and the disk.
+pub fn refused(alloc: Global, disk: MemDisk, asked: Asked) -> Result<(MemDisk, StartCause), Fail> {
+    match Shard::start(alloc, disk, asked, settings(false)) {
+        Ok(_) => Err(Fail::new("it is taken into use")),
+        Err(StartRefusal { disk, cause }) => Ok((disk, cause)),
+    }
+}
+
+/// It is taken into use with commit off.
+pub fn started(alloc: Global, disk: MemDisk) -> Result<Lone, Fail> {
+    Lone::start(alloc, disk, false)
+}
+
+impl Lone {
+    pub fn start(alloc: Global, disk: MemDisk, commit: bool) -> Result<Lone, Fail> {
+        match Shard::start(alloc, disk, ALONE, settings(commit)) {
+            Ok(shard) => Ok(Lone { alloc, shard }),
+            Err(StartRefusal { disk: _, cause: _ }) => Err(Fail::new("it isn't taken into use")),
+        }
+    }
+
+    pub fn put(
+        &mut self,
+        rt: &impl Abort,
+        digest: &Digest,
+        payload: &[u8],
+    ) -> Result<Stamp, WriteRefusal> {
+        assert!(rt; payload.len() <= 20_000);
+        self.shard.put(self.alloc, digest, 0, payload, None, 1000)
+    }
+
+    pub fn get(&mut self, digest: &Digest) -> Result<Option<Version>, ReadRefusal> {
+        self.shard.get(self.alloc, digest, 1000)
+    }
+
+    /// The record is seen, with each of its fields; or, where it isn't to be seen, nothing of its digest.
+    pub fn finds(&mut self, record: &Stored, seen: bool) -> Result<bool, Fail> {
+        match self.get(&record.digest) {
+            Ok(Some(version)) => Ok(
+                seen && version.kind == record.kind
+                    && version.stamp == record.stamp
+                    && version.void == record.void
+                    && version.cover == record.cover
+                    && version.payload.as_slice() == record.payload,
+            ),
+            Ok(None) => Ok(!seen),
+            Err(_) => Err(Fail::new("it isn't read")),
+        }
+    }
+
+    pub fn flush(&mut self) -> Result<u64, DiskFault> {
+        self.shard.flush()
+    }
+
+    pub fn tend(&mut self) {
+        self.shard.tend();
+    }
+
+    pub fn stop(self) -> MemDisk {
+        let Lone { shard, .. } = self;
+        shard.stop()
+    }
+}
