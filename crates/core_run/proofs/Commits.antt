@@ -3,13 +3,11 @@ use Rattle.std.proofs.Common.{◌≡◌, ℕ, zero, suc, Bool, true, false, cond
 use Rattle.std.specs.Prelude.{Option, Some, None, MatchOption, IsTrue, ◌==◌, slice_get}
 use Rattle.std.specs.List.{AllByRecursion}
 use Rattle.std.proofs.lemmas.List.{append-nil}
-use Rattle.std.proofs.lemmas.Bool.{or_right, eqb-true}
+use Rattle.std.proofs.lemmas.Bool.{eqb-true}
 use Rattle.rec_format.specs.declared.version.Digest.{Digest}
 use Rattle.rec_format.specs.declared.version.Version.{Version}
-use Rattle.rec_format.specs.Book.{Setup}
 use Rattle.rec_format.specs.Device.{seen}
 use Rattle.rec_format.specs.Steps.{Step}
-use Rattle.rec_format.specs.Policy.{waits}
 use Rattle.rec_format.specs.Events.{Cause, Answer, stamp_given, refused, Event, put_call, get_call, after_event}
 use Rattle.rec_format.specs.Legal.{Follows, Allowed, Unless, WriteEnds, WhereReads, put_refusal, new_put}
 use Rattle.line_proto.specs.declared.command.Command.{Command}
@@ -20,6 +18,7 @@ use Rattle.line_proto.specs.Commands.{Slot, Node, NodeEvent, at_place, slot_afte
 use Rattle.core_run.specs.Session.{ImagesLeft, Served, ServesAll, AnswersLine, node_or, node_at_reply, node_after_line, steps_on, WritesFlushed, flushed_if_wrote}
 use Rattle.core_run.specs.Headline.{On, is_failed, CommitsAt, CommitsAll}
 use Rattle.core_run.proofs.Flushing.{write_commits}
+use Rattle.core_run.proofs.Unwritten.{WritesNone, none_flushed, all_flushes, flushes_write_nothing}
 
 -- ---- one event
 
@@ -29,11 +28,8 @@ Commits slot event = IsTrue slot.setup.commit → is_failed (answer_reply event.
 not_failed : (event : Event) (cause : Cause) → event.answer ≡ refused cause → is_failed (answer_reply event.answer) ≡ false → ⊥
 not_failed event cause is none = let e : true ≡ false = sym (ap (λ (a : Answer). is_failed (answer_reply a)) is) ∙ none in cc
 
-waits_for : (setup : Setup) → IsTrue setup.commit → waits setup.policy setup.commit ≡ true
-waits_for setup commit = or_right setup.policy.alone setup.commit commit
-
 write_ends : (slot : Slot) (event : Event) (digest : Digest) (v : Version) (ok : Answer) → WriteEnds slot.setup slot.state event digest v ok → Commits slot event
-write_ends slot event digest v ok (inl done) commit none = write_commits slot.setup slot.state digest v event.steps (waits_for slot.setup commit) done.1
+write_ends slot event digest v ok (inl done) commit none = write_commits slot.setup slot.state digest v event.steps commit done.1
 write_ends slot event digest v ok (inr fault) commit none = absurd (not_failed event _ fault.0 none)
 
 unless_ends : (slot : Slot) (event : Event) (digest : Digest) (v : Version) (ok : Answer) (cause : Option Cause)
@@ -97,6 +93,15 @@ follows_more (Some slot) P Q more h = more slot h
 
 -- ---- one line, and all
 
+-- where nothing is written
+unwritten : (failed : Bool) (node new : Node) (work : List NodeEvent) (device : ℕ) → AllByRecursion WritesNone (steps_on device work) → Waited failed node new (steps_on device work) device
+unwritten failed node new work device none = of (slice_get node device) (slice_get new device)
+  where
+    of : (o new : Option Slot) → MatchOption o (Unit {0}) (λ slot. IsTrue slot.setup.commit → failed ≡ false → WritesFlushed new (steps_on device work))
+    of None new = tt
+    of (Some slot) None = λ commit done. tt
+    of (Some slot) (Some after) = λ commit done. none_flushed after.state (steps_on device work) none
+
 one_event : (told : Bool) (node : Node) (n : ℕ) (event : Event) (work : List NodeEvent) (r : Reply) → work ≡ on_device n event ∷ [] → r ≡ answer_reply event.answer
     → ((slot : Slot) → Follows slot.setup told slot.state slot.faults event → Commits slot event) → IsLegalOn told node work → (device : ℕ)
     → Waited (is_failed r) node (node_after work node) (steps_on device work) device
@@ -118,7 +123,8 @@ does_commit told node command.Quit now work r built does legal device = no_work 
 does_commit told node (command.Meta digest) now work r built does legal device = absurd built
 does_commit told node (command.Del digest) now work r built does legal device = absurd built
 does_commit told node (command.Bury digest) now work r built does legal device = absurd built
-does_commit told node command.Flush now work r built does legal device = absurd built
+does_commit told node command.Flush now work r built does legal device = unwritten (is_failed r) node (node_after work node) work device
+    (flushes_write_nothing told node work (all_flushes 0 node 0 0 work does.0 does.1) legal device)
 does_commit told node command.Defrag now work r built does legal device = absurd built
 does_commit told node command.Expire now work r built does legal device = absurd built
 does_commit told node command.Raid now work r built does legal device = absurd built

@@ -6,7 +6,6 @@ use Rattle.std.proofs.lemmas.Bool.{and_parts, and_from, or_cases, or_left, or_ri
 use Rattle.rec_format.specs.declared.version.Digest.{Digest}
 use Rattle.rec_format.specs.declared.version.Version.{Version}
 use Rattle.rec_format.specs.Versions.{version_units}
-use Rattle.rec_format.specs.Policy.{waits, flushed_from}
 use Rattle.rec_format.specs.Histories.{Item, write, is_pending}
 use Rattle.rec_format.specs.Book.{Setup, Book, Buffer, Phase, Stream, client, filling, sealed, opening, is_filling, is_opening, same_stream, filling_buffer, fits_in, has_room, sealed_if, seal_stream, first_block, with_new_buffer, with_room, used_more, put_in, placed, refreshed, number_or, placing_number, with_seal, opened_if, with_flushed}
 use Rattle.rec_format.specs.Device.{State, history_of}
@@ -62,7 +61,7 @@ filter_gone n (b ∷ bs) = kept (b.number == n) refl (filter_gone n bs)
 
 -- ---- the steps of a flush
 
-abbrev FlushStep : Step → Type 0
+abbrev pub FlushStep : Step → Type 0
 FlushStep (gate_begun m) = Unit {0}
 FlushStep (flushed_buffer m) = Unit {0}
 FlushStep _ = ⊥
@@ -109,7 +108,7 @@ flush_steps number block stream used filling = tt
 flush_steps number block stream used sealed = (tt, (tt, tt))
 flush_steps number block stream used opening = (tt, tt)
 
-all_flush_steps : (bs : List Buffer) → AllByRecursion FlushStep (flat_map flush_of bs)
+pub all_flush_steps : (bs : List Buffer) → AllByRecursion FlushStep (flat_map flush_of bs)
 all_flush_steps [] = tt
 all_flush_steps (b ∷ bs) = all_append FlushStep (flush_of b) (flat_map flush_of bs) (flush_steps b.number b.block b.stream b.used b.phase) (all_flush_steps bs)
 
@@ -230,36 +229,31 @@ only_flushes s (step ∷ steps) all = (one step all.0, only_flushes s steps all.
     one (flushed_buffer m) is = tt
     one step is = absurd is
 
-up_to : (alone : Bool) (n : ℕ) → cond alone n 0 ≤ n
-up_to true n = omega arith
-up_to false n = omega arith
-
 -- the write is made, its buffer sealed, and these are flushed
-waited : (setup : Setup) (s : State) (digest : Digest) (v : Version) (first n : ℕ) → first ≤ n → n ≡ placing_number setup client (version_units v) s.book
-    → (rest : List Step) → rest ≡ flush_between first n (with_seal client (wrote_state setup digest v s).book)
+waited : (setup : Setup) (s : State) (digest : Digest) (v : Version) (n : ℕ) → n ≡ placing_number setup client (version_units v) s.book
+    → (rest : List Step) → rest ≡ flush_between 0 n (with_seal client (wrote_state setup digest v s).book)
     → AllByRecursion (flushed_if_wrote (after_steps setup ((wrote digest v ∷ sealed_stream client ∷ []) ++ rest) s)) ((wrote digest v ∷ sealed_stream client ∷ []) ++ rest)
 unfolding after_step
-waited setup s digest v first n up is rest flushed =
+waited setup s digest v n is rest flushed =
     let sealed_state : State = after_step setup (sealed_stream client) (after_step setup (wrote digest v) s) in
     let end : State = after_steps setup rest sealed_state in
-    let all : AllByRecursion FlushStep rest = subst (λ (steps : List Step). AllByRecursion FlushStep steps) (sym flushed) (all_flush_steps (filter (in_range first n) sealed_state.book.buffers)) in
+    let all : AllByRecursion FlushStep rest = subst (λ (steps : List Step). AllByRecursion FlushStep steps) (sym flushed) (all_flush_steps (filter (in_range 0 n) sealed_state.book.buffers)) in
     let ready : list_any (is_ready n) sealed_state.book.buffers ≡ true =
     subst (λ (m : ℕ). list_any (is_ready m) sealed_state.book.buffers ≡ true) (sym is) (placed_ready setup digest (version_units v) s.book) in
-    let has : list_any (flushes n) rest ≡ true = subst (λ (steps : List Step). list_any (flushes n) steps ≡ true) (sym flushed) (between_flushes first n sealed_state.book.buffers up ready) in
+    let has : list_any (flushes n) rest ≡ true = subst (λ (steps : List Step). list_any (flushes n) steps ≡ true) (sym flushed) (between_flushes 0 n sealed_state.book.buffers (omega arith) ready) in
     let item : history_of digest end.log ≡ write v (n ∷ []) ∷ history_of digest s.log =
     ap (history_of digest) (steps_log setup rest sealed_state all) ∙ history_hit digest (write v (placing_number setup client (version_units v) s.book ∷ [])) s.log
     ∙ ap (λ (m : ℕ). write v (m ∷ []) ∷ history_of digest s.log) (sym is) in
     (top_flushed end digest v n (history_of digest s.log) item (steps_gone setup rest sealed_state n all has), (tt, only_flushes end rest all))
 
 -- a write with the steps of its commit
-pub write_commits : (setup : Setup) (s : State) (digest : Digest) (v : Version) (steps : List Step) → waits setup.policy setup.commit ≡ true
+pub write_commits : (setup : Setup) (s : State) (digest : Digest) (v : Version) (steps : List Step) → setup.commit ≡ true
     → steps ≡ (wrote digest v ∷ commit_seal setup) ++ commit_flush setup (placing_number setup client (version_units v) s.book) (after_steps setup (wrote digest v ∷ commit_seal setup) s)
     → AllByRecursion (flushed_if_wrote (after_steps setup steps s)) steps
 unfolding after_step
-write_commits setup s digest v steps waiting is =
+write_commits setup s digest v steps commit is =
     let n : ℕ = placing_number setup client (version_units v) s.book in
-    let first : ℕ = flushed_from setup.policy n in
     let whole : (wrote digest v ∷ commit_seal setup) ++ commit_flush setup n (after_steps setup (wrote digest v ∷ commit_seal setup) s)
-    ≡ (wrote digest v ∷ sealed_stream client ∷ []) ++ flush_between first n (with_seal client (wrote_state setup digest v s).book) = rw waiting refl in
+    ≡ (wrote digest v ∷ sealed_stream client ∷ []) ++ flush_between 0 n (with_seal client (wrote_state setup digest v s).book) = rw commit refl in
     subst (λ (xs : List Step). AllByRecursion (flushed_if_wrote (after_steps setup xs s)) xs) (sym (is ∙ whole))
-    (waited setup s digest v first n (up_to setup.policy.alone n) refl (flush_between first n (with_seal client (wrote_state setup digest v s).book)) refl)
+    (waited setup s digest v n refl (flush_between 0 n (with_seal client (wrote_state setup digest v s).book)) refl)

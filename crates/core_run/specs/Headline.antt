@@ -1,6 +1,6 @@
 -- Crate core_run. What a run promises: what is written is the replies of a chain, each image that a crash might have left
 -- is one that the chain allows, with commit on what was answered as done is on the device, and each status has its cause.
-use Rattle.std.specs.Prelude.{length, ℕ, ◌^◌, ◌<◌, ◌≤◌, Bool, true, false, ◌||◌, ◌==◌, List, [], ◌∷◌, ◌++◌, map, flat_map, Option, Some, None, ◌≡◌, ◌≢◌, ◌⊎◌, MatchOption, IfSome, slice_get, IsTrue, MatchBool}
+use Rattle.std.specs.Prelude.{length, ℕ, ◌^◌, ◌<◌, ◌≤◌, Bool, true, false, ◌||◌, ◌==◌, List, [], ◌∷◌, ◌++◌, map, flat_map, Option, Some, None, ◌≡◌, ◌≢◌, ◌⊎◌, MatchOption, IfSome, slice_get, IsTrue}
 use Rattle.std.specs.List.{AllByRecursion, list_any}
 use Rattle.fault_count.specs.Counts.{Rose}
 use Rattle.disk_model.specs.Runs.{OneOf}
@@ -58,10 +58,10 @@ pub record TakesLines (taken : List ℕ) (ended : Bool) (served : List Served) (
 
 -- ---- the promises of a run
 
--- no buffer of the device is pending; where no write waits for a later flush, what a fault left pending stays so
+-- no buffer of the device is pending
 abbrev pub IsQuiet : Option Slot → Type 0
 IsQuiet None = Unit {0}
-IsQuiet (Some slot) = MatchBool slot.setup.policy.alone (Unit {0}) (slot.state.book.buffers ≡ [])
+IsQuiet (Some slot) = slot.state.book.buffers ≡ []
 
 abbrev pub AllQuiet : Node → Type 0
 AllQuiet node = AllByRecursion (λ slot. IsQuiet (Some slot)) node

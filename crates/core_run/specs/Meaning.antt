@@ -52,13 +52,6 @@ pub record TendsFrom {T : Type 0} (Stands : T → Node → Type 0) (moment : T �
 abbrev pub TendsBy : {T : Type 0} → (Stands : T → Node → Type 0) → (moment : T → ℕ → ℕ) → (had : T → ℕ → ℕ → Type 0) → (since : T → ℕ → ℕ → Images) → (told : Bool) → T → T → Type 0
 TendsBy Stands moment had since told old new = (node : Node) → Stands old node → TendsFrom Stands moment had since told old node new
 
--- what a store says of its calls over every disk, and what it says over disks that tell what they hold
-abbrev pub ActsTold : {T : Type 0} → (Stands : Bool → T → Node → Type 0) → (moment : T → ℕ → ℕ) → (had : T → ℕ → ℕ → Type 0) → (since : Bool → T → ℕ → ℕ → Images) → (Halts : T → (before after : Node) → Type 0) → T → Command → ℕ → Reply → T → Type 0
-ActsTold Stands moment had since Halts old c now r new = (told : Bool) → ActsBy (Stands told) moment had (since told) Halts told old c now r new
-
-abbrev pub TendsTold : {T : Type 0} → (Stands : Bool → T → Node → Type 0) → (moment : T → ℕ → ℕ) → (had : T → ℕ → ℕ → Type 0) → (since : Bool → T → ℕ → ℕ → Images) → T → T → Type 0
-TendsTold Stands moment had since old new = (told : Bool) → TendsBy (Stands told) moment had (since told) told old new
-
 -- Where the store stands for a state, and nothing is done, each image of now survives it.
 abbrev pub Rests : {T : Type 0} → (Stands : T → Node → Type 0) → (moment : T → ℕ → ℕ) → (had : T → ℕ → ℕ → Type 0) → (since : T → ℕ → ℕ → Images) → Type 0
 Rests {T} Stands moment had since = (store : T) (node : Node) → Stands store node → LeavesEach moment had since node (λ device. states_while device [] node) store store

@@ -116,9 +116,9 @@ abbrev pub ServesAll : ImagesLeft → (told : Bool) → Node → List Served →
 ServesAll left told node [] = Unit {0}
 ServesAll left told node (served ∷ lines) = Serves left told node served × ServesAll left told (node_after_line served node) lines
 
--- a device is sealed and flushed, up to its first fault; where no write waits for a later flush, nothing is done
+-- a device is sealed and flushed, up to its first fault
 abbrev pub Closes : Slot → List Event → Type 0
-Closes slot events = MatchBool slot.setup.policy.alone (events ≡ []) ((event : Event) × (events ≡ event ∷ []) × (event.call ≡ flush_call))
+Closes slot events = (event : Event) × (events ≡ event ∷ []) × (event.call ≡ flush_call)
 
 abbrev pub ClosesEach : (device : ℕ) → Node → List NodeEvent → Type 0
 ClosesEach device [] events = events ≡ []

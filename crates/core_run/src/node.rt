@@ -1,10 +1,10 @@
 // A node over one device.
 ghost use Rattle.std.specs.Prelude.{◌≡◌, ◌∷◌, [], vec_len, IfErr, MatchResult};
 ghost use Rattle.shard_core.specs.View.{IsSettings};
-ghost use Rattle.core_run.specs.OneDevice.{Started, NotStarted};
+ghost use Rattle.core_run.specs.OneDevice.{Started, NotStarted, ClosesAlone};
 
-use crate::replies::{read_reply, write_reply};
-use disk_model::Disk;
+use crate::replies::{flush_reply, read_reply, write_reply};
+use disk_model::{Disk, DiskFault};
 use line_proto::{Command, Reply, Store};
 use shard_core::{Asked, Settings, Shard, StartCause, StartRefusal};
 use std::alloc::Global;
@@ -33,7 +33,7 @@ impl<D: Disk> Model for Node<D> {
 
     ghost view = { λ n. n.shard };
 
-    ghost invariant = { λ n. (vec_len n.spare ≡ 0) × (1 ≤ vec_capacity n.spare) × (n.shard.geometry.device ≡ 0) × (n.shard.geometry.devices ≡ 1) };
+    ghost invariant = { λ n. (vec_len n.spare ≡ 0) × (1 ≤ vec_capacity n.spare) × (n.shard.shelf.geometry.device ≡ 0) × (n.shard.shelf.geometry.devices ≡ 1) };
 }
 
 impl<D: Disk> Node<D> {
@@ -68,9 +68,18 @@ impl<D: Disk> Node<D> {
         }
     }
 
+    /// Flushes all that a device has pending, for the end of a run; answers how many buffers it flushed. At present there is device 0.
+    pub fn flush_device(&mut self, device: u16) -> Result<u64, DiskFault>
+        requires { device ≡ 0 }
+        ensures { ClosesAlone D.extent D.tells D.seen D.may_leave D.moment D.had D.left_since D.faults result self.old self.new }
+    {
+        prove!(device == 0);
+        self.shard.flush()
+    }
+
     /// Gives the disks back, in order.
     pub fn stop(self) -> Vec<D>
-        ensures { result.items ≡ self.disk ∷ [] }
+        ensures { result.items ≡ self.shelf.disk ∷ [] }
     {
         let Node { shard, mut spare } = self;
         spare.push_reserved(shard.stop());
@@ -97,9 +106,12 @@ impl<D: Disk> Store for Node<D> {
                     .put(alloc, digest, *ttl, payload.as_slice(), *expect, now),
             ),
             Command::Get(digest) => read_reply(self.shard.get(alloc, digest, now)),
+            Command::Flush => flush_reply(self.shard.flush()),
             _ => unreachable!(),
         }
     }
 
-    fn tend(&mut self, _alloc: Global) {}
+    fn tend(&mut self, _alloc: Global) {
+        self.shard.tend();
+    }
 }

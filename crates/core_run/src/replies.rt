@@ -1,8 +1,10 @@
 // The replies to what a device answers.
 ghost use Rattle.std.specs.Prelude.{◌≡◌};
-ghost use Rattle.line_proto.specs.Commands.{answer_reply};
+ghost use Rattle.line_proto.specs.Commands.{answer_reply, one_sum};
 ghost use Rattle.shard_core.specs.Calls.{write_answer, read_answer};
+ghost use Rattle.core_run.specs.OneDevice.{flush_outcome};
 
+use disk_model::DiskFault;
 use line_proto::{LineFault, Reply};
 use rec_format::{Stamp, Version};
 use shard_core::{ReadRefusal, WriteRefusal};
@@ -38,5 +40,14 @@ pub fn read_reply(found: Result<Option<Version>, ReadRefusal>) -> Reply
         Err(ReadRefusal::Damaged { .. }) => Reply::Fail(LineFault::Damaged),
         Err(ReadRefusal::Memory) => Reply::Fail(LineFault::Memory),
         Err(ReadRefusal::Fault) => Reply::Fail(LineFault::Fault),
+    }
+}
+
+pub fn flush_reply(flushed: Result<u64, DiskFault>) -> Reply
+    ensures { result ≡ one_sum (flush_outcome flushed) }
+{
+    match flushed {
+        Ok(n) => Reply::Done1 { n },
+        Err(_) => Reply::Fail(LineFault::Fault),
     }
 }

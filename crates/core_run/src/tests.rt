@@ -1,3 +1,7 @@
+ghost use Rattle.std.specs.Prelude.{◌≤◌, ◌≢◌, IfOk};
+ghost use Rattle.line_proto.specs.Built.{IsInRange};
+ghost use Rattle.line_proto.specs.declared.command.Command.{Command};
+
 use super::*;
 use block_format::Geometry;
 use disk_model::{Disk, MemDisk};
@@ -77,6 +81,51 @@ fn a_record_is_put_and_seen(rt: HostRuntime) -> Result<(), Fail> {
     assert!(rt; stamp == (Stamp { lut: 1000, gen_: 1 }));
     assert_eq!(rt; void, 0);
     assert!(rt; payload.as_slice() == b"hello".as_slice());
+    assert_eq!(rt; node.stop().len(), 1);
+    Ok(())
+}
+
+/// A put of so many bytes.
+fn put_of(alloc: Global, digest: Digest, bytes: usize) -> Result<Command, Fail>
+    requires { bytes ≤ 12208 }
+    ensures { IfOk result (λ c. IsInRange c × (c ≢ Command.Quit)) }
+{
+    Ok(Command::Put {
+        digest,
+        ttl: 0,
+        expect: None,
+        payload: Bytes::from_vec(vec![in alloc; 0xaa; bytes]?),
+    })
+}
+
+/// Of two records that don't share a block tending flushes the first, whose buffer is sealed, and `flush` the second.
+#[test]
+fn what_is_sealed_is_flushed(rt: HostRuntime) -> Result<(), Fail> {
+    let alloc = rt.alloc();
+    let mut node = started(alloc, formatted(&rt, alloc)?)?;
+    let mut first = RISING;
+    first.0[0] = 1;
+    for digest in [first, RISING] {
+        let put = put_of(alloc, digest, 11_152)?;
+        assert!(rt; matches!(&node.act(alloc, &put, 1000), Reply::Done2 { a: 1, b: 1000 }));
+        node.tend(alloc);
+    }
+    assert!(rt;
+        matches!(
+            &node.act(alloc, &Command::Flush, 1000),
+            Reply::Done1 { n: 1 }
+        )
+    );
+    assert!(rt;
+        matches!(
+            &node.act(alloc, &Command::Flush, 1000),
+            Reply::Done1 { n: 0 }
+        )
+    );
+    let put = put_of(alloc, first, 1)?;
+    assert!(rt; matches!(&node.act(alloc, &put, 1000), Reply::Done2 { a: 2, b: 1000 }));
+    assert!(rt; matches!(&node.flush_device(0), Ok(1)));
+    assert!(rt; matches!(&node.flush_device(0), Ok(0)));
     assert_eq!(rt; node.stop().len(), 1);
     Ok(())
 }

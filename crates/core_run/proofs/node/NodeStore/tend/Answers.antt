@@ -1,8 +1,11 @@
-use Rattle.core_run.proofs.Acting.{tends_none}
+use Rattle.std.proofs.Common.{subst}
+use Rattle.shard_core.specs.View.{ShardView}
+use Rattle.core_run.specs.OneDevice.{TendsAlone}
+use Rattle.core_run.proofs.Acting.{tends}
 use Rattle.core_run.proofs.node.NodeStore.tend.Goals as goal
 
 pub returns : goal.returns
 returns g c =
     let d = g.D.Disk in
-    let law = g.met.D.Disk in
-    tends_none d.extent d.tells d.seen d.may_leave d.moment d.had d.left_since d.faults law.now_alone law.now_had law.now_since c.args.self.now
+    subst (λ (old : ShardView g.row.D.Denot). TendsAlone d.extent d.tells d.seen d.may_leave d.moment d.had d.left_since d.faults old c.tend.new.self) c.self.view_is
+    (tends d.extent d.tells d.seen d.may_leave d.moment d.had d.left_since d.faults c.self.inside.shard c.tend.new.self c.tend.ensures.shape c.tend.ensures.later c.tend.ensures.honest c.tend.ensures.makes)
