@@ -8,4 +8,4 @@ pub mod Weaker
 pub mod Kept
 pub mod Holds
 pub mod Refused
-pub mod Alone
+pub mod Closed
