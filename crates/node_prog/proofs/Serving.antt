@@ -1,6 +1,6 @@
--- A session over a started device is a run, with its promises.
-use Rattle.std.proofs.Common.{◌≡◌, ◌≢◌, ℕ, zero, suc, ◌≤◌, Bool, true, List, [], ◌∷◌, refl, inl, subst, sym, ap, ◌∙◌}
-use Rattle.std.specs.Prelude.{Option, ◌^◌}
+-- A session over a started device, and the closing flush behind it, are a run, with its promises.
+use Rattle.std.proofs.Common.{◌≡◌, ◌≢◌, ℕ, zero, suc, ◌<◌, ◌≤◌, Bool, true, false, List, [], ◌∷◌, refl, inl, subst, sym, ap, ◌∙◌, arith}
+use Rattle.std.specs.Prelude.{Option, Result, ◌^◌}
 use Rattle.fault_count.specs.Counts.{Rose}
 use Rattle.disk_model.specs.Disk.{Images, IsOnly, IsHonest}
 use Rattle.rec_format.specs.Device.{State}
@@ -13,25 +13,31 @@ use Rattle.node_session.specs.declared.ended.Ended.{Ended}
 use Rattle.node_session.specs.declared.ended.Ended.TheVariants.{SourceFault, SinkFault, Halted}
 use Rattle.node_session.specs.Run.{Times}
 use Rattle.node_session.specs.Session.{Ran}
+use Rattle.block_shelf.specs.Disks.{IsLater}
 use Rattle.shard_core.specs.declared.settings.Settings.{Settings}
 use Rattle.shard_core.specs.View.{ShardView, setup_of}
 use Rattle.shard_core.specs.Stands.{Agrees}
-use Rattle.shard_core.specs.Starting.{IsLater}
 use Rattle.core_run.specs.Session.{last_node, states_while}
-use Rattle.core_run.specs.Headline.{Outside, StartsFrom, HoldsReplies, HoldsThroughout, counts_of, AllQuiet, input_limit}
+use Rattle.core_run.specs.Headline.{Outside, StartsFrom, HoldsReplies, HoldsThroughout, counts_of, input_limit}
 use Rattle.core_run.specs.Meaning.{ActsBy, TendsBy, Rests, Enters, SurvivesOne}
-use Rattle.core_run.specs.OneDevice.{StandsAlone, StandsSafely, moment_of, HadOf, ImagesOf, ActsAlone, TendsAlone, no_moment, AnyMoment, NoImages, NeverHalts, Started}
-use Rattle.core_run.proofs.Later.{later_none, later_then, later_read}
+use Rattle.core_run.specs.OneDevice.{StandsAlone, StandsSafely, moment_of, HadOf, ImagesOf, ActsAlone, TendsAlone, ClosesAlone, ClosedSo, no_moment, AnyMoment, NoImages, NeverHalts, Started}
+use Rattle.shard_core.proofs.Going.{safe_survives}
+use Rattle.shard_core.proofs.Later.{later_none, later_then}
+use Rattle.core_run.proofs.Later.{later_read}
 use Rattle.core_run.proofs.Acting.{slot_of, nothing_left, rests_safely}
+use Rattle.core_run.proofs.Found.{found_entries}
 use Rattle.node_run.specs.Whole.{RunsWhole, Frames, Concludes}
 use Rattle.node_run.proofs.Weaker.{ran_more}
 use Rattle.node_run.proofs.Kept.{ran_keeps}
-use Rattle.node_run.proofs.Whole.{ran_whole}
-use Rattle.node_run.proofs.Alone.{AllAlone, close_alone, never_halts, alone_quiet}
+use Rattle.node_run.proofs.Closed.{closed_run, never_halts, says_last}
 use Rattle.node_run.proofs.Holds.{run_replies, run_holds}
 use Rattle.node_prog.specs.Concluding.{ended_status, ended_note}
 use Rattle.node_prog.specs.Promises.{Ends, StartsFound, IsServed, disk_of, outside}
-use Rattle.node_prog.proofs.Ending.{note_of, no_disk, status_of}
+use Rattle.node_prog.proofs.Ending.{note_of, rose_of, status_of}
+
+-- a count that was lower before has risen too
+rose_before : (a b c : ℕ) → a ≤ b → Rose b c → Rose a c
+rose_before a b c up rose = λ below. let higher : b < c = rose below in omega arith
 
 module _ {D : Type 0} (extent : D → ℕ) (tells : D → Type 0) (seen : D → List ℕ) (may_leave : D → Images) (moment : D → ℕ) (had : D → ℕ → Type 0) (left_since : D → ℕ → Images) (faults : D → ℕ) where
   abbrev first_of : ShardView D → State → Node
@@ -41,10 +47,7 @@ module _ {D : Type 0} (extent : D → ℕ) (tells : D → Type 0) (seen : D → 
   abbrev IsOne : ShardView D → Node → Type 0
   IsOne store node = (s : State) × (node ≡ first_of store s)
 
-  all_alone : (store : ShardView D) (node : Node) → IsOne store node → AllAlone node
-  all_alone store node one = subst AllAlone (sym one.1) (refl, tt)
-
-  counted : (store : ShardView D) (node : Node) → IsOne store node → counts_of node ≡ faults store.disk ∷ []
+  counted : (store : ShardView D) (node : Node) → IsOne store node → counts_of node ≡ faults store.shelf.disk ∷ []
   counted store node one = ap counts_of one.1
 
   any_is_one : (store : ShardView D) (node : Node) → StandsAlone faults store node → IsOne store node
@@ -63,81 +66,91 @@ module _ {D : Type 0} (extent : D → ℕ) (tells : D → Type 0) (seen : D → 
   Tends old new = TendsAlone extent tells seen may_leave moment had left_since faults old new
 
   abbrev LaterDisk : ShardView D → ShardView D → Type 0
-  LaterDisk old new = IsLater extent moment had left_since faults old.disk new.disk
+  LaterDisk old new = IsLater extent moment had left_since faults old.shelf.disk new.shelf.disk
 
   -- a session over a device that was taken into use
   module _ (taken taken' : List ℕ) (left left' : Option (List ℕ)) (written written' : Option (List ℕ)) (set : Settings) (disk : D) (old new : ShardView D) (times later : Times) (result : Ended)
       (ran : Ran Acts Tends (2 ^ 40) taken taken' left left' written written' old new times later result)
       (started : Started extent tells seen may_leave moment had left_since faults set disk old) where
-    -- over any disk, from each state for which the started shard stands
-    abbrev AnyRun : (told : Bool) → State → Type 0
-    AnyRun told s = RunsWhole (StandsAlone faults) no_moment AnyMoment NoImages NeverHalts told AllQuiet input_limit ran.bytes ran.output left' times (first_of old s) old new new result
-
-    any_run : (told : Bool) (s : State) → Agrees old s → AnyRun told s
-    any_run told s agrees =
-        ran_whole (StandsAlone faults) no_moment AnyMoment NoImages NeverHalts told AllQuiet rests_any _ _ _ _ _ _ _ old new new times later (first_of old s) result
-        (ran_more Acts (ActsBy (StandsAlone faults) no_moment AnyMoment NoImages NeverHalts told) Tends (TendsBy (StandsAlone faults) no_moment AnyMoment NoImages told)
-        (λ o c now r n acts. acts.1 told) (λ o n tends. tends.1 told) _ _ _ _ _ _ _ old new times later result ran)
-        (record { state = s; is_one = refl; agrees = agrees })
-        (close_alone (StandsAlone faults) no_moment AnyMoment NoImages told rests_any (λ store node stands. all_alone store node (any_is_one store node stands)) new result)
+    abbrev ran_any : Ran (ActsBy (StandsAlone faults) no_moment AnyMoment NoImages NeverHalts false) (TendsBy (StandsAlone faults) no_moment AnyMoment NoImages false) (2 ^ 40) taken taken' left left' written written' old new times later result
+    ran_any = ran_more Acts (ActsBy (StandsAlone faults) no_moment AnyMoment NoImages NeverHalts false) Tends (TendsBy (StandsAlone faults) no_moment AnyMoment NoImages false)
+        (λ o c now r n acts. acts.1) (λ o n tends. tends.1) _ _ _ _ _ _ _ old new times later result ran
 
     pub goes_on : result ≢ Halted
-    goes_on is =
+    goes_on =
         let s : State = entries_state (setup_of old) started.stands.opened started.stands.found started.stands.next in
-        never_halts (StandsAlone faults) no_moment AnyMoment NoImages true AllQuiet input_limit ran.bytes ran.output left' times (first_of old s) old new new
-        (subst (λ (r : Ended). RunsWhole (StandsAlone faults) no_moment AnyMoment NoImages NeverHalts true AllQuiet input_limit ran.bytes ran.output left' times (first_of old s) old new new r) is
-        (any_run true s started.stands.agrees))
+        never_halts (StandsAlone faults) no_moment AnyMoment NoImages NeverHalts false (λ store before after h. h) rests_any _ _ _ _ _ _ _ old new times later (first_of old s) result ran_any
+        (record { state = s; is_one = refl; agrees = started.stands.agrees })
 
-    pub disk_later : ((store : D) → IsLater extent moment had left_since faults store store) → IsLater extent moment had left_since faults disk new.disk
-    disk_later none =
-        later_then extent moment had left_since faults disk old.disk new.disk (later_read extent tells seen may_leave moment had left_since faults disk old.disk started.read)
-        (ran_keeps Acts Tends LaterDisk (λ store. none store.disk) (λ o m n. later_then extent moment had left_since faults o.disk m.disk n.disk) (λ o c now r n acts. acts.0) (λ o n tends. tends.0)
+    session_later : ((store : D) → IsLater extent moment had left_since faults store store) → IsLater extent moment had left_since faults disk new.shelf.disk
+    session_later none =
+        later_then extent may_leave moment had left_since faults disk old.shelf.disk new.shelf.disk (later_read extent tells seen may_leave moment had left_since faults disk old.shelf.disk started.read)
+        (ran_keeps Acts Tends LaterDisk (λ store. none store.shelf.disk) (λ o m n. later_then extent may_leave moment had left_since faults o.shelf.disk m.shelf.disk n.shelf.disk) (λ o c now r n acts. acts.0) (λ o n tends. tends.0)
         _ _ _ _ _ _ _ old new times later result ran)
 
   -- under the status and the note that it ends with
+  -- under the status and the note that it ends with
   module _ (now_alone : (store : D) (c : List ℕ) → left_since store (moment store) c → may_leave store c) (now_had : (store : D) → had store (moment store))
       (now_since : (store : D) (t : ℕ) (c : List ℕ) → had store t → may_leave store c → left_since store t c)
-      (before after : Ends) (set : Settings) (disk : D) (old new : ShardView D) (times later : Times) (result : Ended)
+      {E : Type 0} (before after : Ends) (set : Settings) (disk : D) (old new end : ShardView D) (times later : Times) (result : Ended) (closed : Result ℕ E)
       (ran : Ran Acts Tends (2 ^ 40) before.taken after.taken before.left after.left before.written after.written old new times later result)
       (started : Started extent tells seen may_leave moment had left_since faults set disk old)
+      (closes : ClosesAlone extent tells seen may_leave moment had left_since faults closed new end)
       (source : result ≡ SourceFault → Rose before.source after.source) (sink : result ≡ SinkFault → Rose before.sink after.sink)
-      (at_first : before.disk ≡ faults disk) (at_last : after.disk ≡ faults new.disk) where
+      (at_first : before.disk ≡ faults disk) (at_last : after.disk ≡ faults end.shelf.disk) where
     goes : result ≢ Halted
     goes = goes_on before.taken after.taken before.left after.left before.written after.written set disk old new times later result ran started
 
-    abbrev OutsideOf : (ended : Bool) → (images : List (List ℕ)) → Outside
-    OutsideOf ended images = outside (ended_status result) (ended_note result) ran.bytes ran.output ended times before after images
+    up_to_closing : IsLater extent moment had left_since faults disk new.shelf.disk
+    up_to_closing = session_later before.taken after.taken before.left after.left before.written after.written set disk old new times later result ran started
+        (λ store. later_none extent may_leave moment had left_since faults store (record { had_now = now_had store; alone = now_alone store; since = now_since store }))
 
-    frames : (Starts : Node → Type 0) (ended : Bool) (images : List (List ℕ)) (s : State) (last : Node) → Starts (first_of old s) → IsOne new last
+    -- what the closing says of the last state
+    abbrev Says : Node → Type 0
+    Says = ClosedSo closed (faults new.shelf.disk) (faults end.shelf.disk)
+
+    abbrev OutsideOf : (ended : Bool) → (images : List (List ℕ)) → Outside
+    OutsideOf ended images = outside (ended_status result closed) (ended_note result closed) ran.bytes ran.output ended times before after images
+
+    rose : (last : Node) → Says last → ended_status result closed ≡ 3 → Rose before.disk after.disk
+    rose last says is =
+        subst (λ (n : ℕ). Rose n after.disk) (sym at_first) (subst (λ (n : ℕ). Rose (faults disk) n) (sym at_last)
+        (rose_before (faults disk) (faults new.shelf.disk) (faults end.shelf.disk) up_to_closing.count (rose_of result closed goes (faults new.shelf.disk) (faults end.shelf.disk) last says is)))
+
+    frames : (Starts : Node → Type 0) (ended : Bool) (images : List (List ℕ)) (s : State) (last : Node) → Starts (first_of old s) → IsOne end last → Says last
         → Frames Starts (setup_of old ∷ []) (OutsideOf ended images) 0 (first_of old s) last
-    frames Starts ended images s last starts one = record {
+    frames Starts ended images s last starts one says = record {
       set = refl;
       numbered = (started.device_is, started.devices_is, tt);
       starts = starts;
-      counts_first = (subst (λ (n : ℕ). n ≤ faults old.disk) (sym at_first) started.read.later, refl);
-      counts_last = counted new last one ∙ ap (λ (n : ℕ). n ∷ []) (sym at_last);
-      note = note_of result goes;
-      disk = λ is. absurd (no_disk result goes is);
+      counts_first = (subst (λ (n : ℕ). n ≤ faults old.shelf.disk) (sym at_first) started.read.later, refl);
+      counts_last = counted end last one ∙ ap (λ (n : ℕ). n ∷ []) (sym at_last);
+      note = note_of result closed goes;
+      disk = rose last says;
     }
 
-    concludes : (ended : Bool) (images : List (List ℕ)) (last : Node) → IsOne new last → Concludes (λ a b. ⊥) (OutsideOf ended images) 0 last result
-    concludes ended images last one = record {
-      status = status_of result goes last (alone_quiet last (all_alone new last one));
-      restart = λ is. absurd (no_disk result goes is);
+    concludes : (ended : Bool) (images : List (List ℕ)) (last : Node) → Says last → Concludes (λ a b. ⊥) (OutsideOf ended images) 0 last result
+    concludes ended images last says = record {
+      status = status_of result closed goes (faults new.shelf.disk) (faults end.shelf.disk) last says;
+      restart = λ is a b halts. absurd halts;
       source = source;
       sink = sink;
     }
 
     -- the promises on replies, over any disk
-    replies_from : (Starts : Node → Type 0) (images : List (List ℕ)) (told : Bool) (s : State) → Agrees old s → Starts (first_of old s)
-        → (ended : Bool) × HoldsReplies Starts told (setup_of old ∷ []) (OutsideOf ended images) (λ device image. ⊥)
-    replies_from Starts images told s agrees starts =
-        let w = any_run before.taken after.taken before.left after.left before.written after.written set disk old new times later result ran started told s agrees in
-        let last : Node = last_node (first_of old s) w.lifted.served w.closing in (
+    replies_from : (Starts : Node → Type 0) (images : List (List ℕ)) (s : State) → Agrees old s → Starts (first_of old s)
+        → (ended : Bool) × HoldsReplies Starts false (setup_of old ∷ []) (OutsideOf ended images) (λ device image. ⊥)
+    replies_from Starts images s agrees starts =
+        let w : RunsWhole (StandsAlone faults) no_moment AnyMoment NoImages NeverHalts false Says input_limit ran.bytes ran.output after.left times (first_of old s) old new end result =
+        closed_run (StandsAlone faults) no_moment AnyMoment NoImages NeverHalts false Says (λ store a b h. h) rests_any _ _ _ _ _ _ _ old new end times later (first_of old s) result
+        (ran_any before.taken after.taken before.left after.left before.written after.written set disk old new times later result ran started)
+        (record { state = s; is_one = refl; agrees = agrees }) closes.1 in
+        let last : Node = last_node (first_of old s) w.lifted.served w.closing in
+        let says : Says last = says_last Says last result goes w.says in (
           w.lifted.ended,
-          run_replies (StandsAlone faults) no_moment AnyMoment NoImages NeverHalts told AllQuiet Starts (setup_of old ∷ []) (OutsideOf w.lifted.ended images) 0
-              (λ device. 0) (λ device t. Unit {0}) (λ device t image. ⊥) (first_of old s) old new new result w refl
-              (frames Starts w.lifted.ended images s last starts (any_is_one new last w.stands)) (concludes w.lifted.ended images last (any_is_one new last w.stands))
+          run_replies (StandsAlone faults) no_moment AnyMoment NoImages NeverHalts false Says Starts (setup_of old ∷ []) (OutsideOf w.lifted.ended images) 0
+              (λ device. 0) (λ device t. Unit {0}) (λ device t image. ⊥) (first_of old s) old new end result w refl
+              (frames Starts w.lifted.ended images s last starts (any_is_one end last w.stands) says) (concludes w.lifted.ended images last says)
               (λ (device : ℕ). (nothing_left old old (first_of old s) (λ n. []) device).time),
         )
 
@@ -161,65 +174,69 @@ module _ {D : Type 0} (extent : D → ℕ) (tells : D → Type 0) (seen : D → 
       }
 
       rests_safe : Rests (StandsSafely tells seen may_leave faults) (moment_of moment) (HadOf had) (ImagesOf left_since)
-      rests_safe = rests_safely extent tells seen may_leave moment had left_since faults now_alone now_had now_since
+      rests_safe = rests_safely tells seen may_leave moment had left_since faults now_alone now_had now_since
 
-      abbrev SafeRun : Type 0
-      SafeRun = RunsWhole (StandsSafely tells seen may_leave faults) (moment_of moment) (HadOf had) (ImagesOf left_since) NeverHalts true AllQuiet input_limit ran.bytes ran.output after.left times (first_of old Start) old new new result
-
-      safe_run : SafeRun
+      safe_run : RunsWhole (StandsSafely tells seen may_leave faults) (moment_of moment) (HadOf had) (ImagesOf left_since) NeverHalts true Says input_limit ran.bytes ran.output after.left times (first_of old Start) old new end result
       safe_run =
-          ran_whole (StandsSafely tells seen may_leave faults) (moment_of moment) (HadOf had) (ImagesOf left_since) NeverHalts true AllQuiet rests_safe _ _ _ _ _ _ _ old new new times later (first_of old Start) result
+          closed_run (StandsSafely tells seen may_leave faults) (moment_of moment) (HadOf had) (ImagesOf left_since) NeverHalts true Says (λ store a b h. h) rests_safe _ _ _ _ _ _ _ old new end times later (first_of old Start) result
           (ran_more Acts (ActsBy (StandsSafely tells seen may_leave faults) (moment_of moment) (HadOf had) (ImagesOf left_since) NeverHalts true)
           Tends (TendsBy (StandsSafely tells seen may_leave faults) (moment_of moment) (HadOf had) (ImagesOf left_since) true)
           (λ o c now r n acts. acts.2) (λ o n tends. tends.2) _ _ _ _ _ _ _ old new times later result ran)
-          stands
-          (close_alone (StandsSafely tells seen may_leave faults) (moment_of moment) (HadOf had) (ImagesOf left_since) true rests_safe (λ store node stands. all_alone store node (safe_is_one store node stands)) new result)
+          stands closes.2
 
       -- what was read at the start may be left by the started disk, so it survives the start state; and no other image was left meanwhile
       enters : Enters (moment_of moment) (HadOf had) (ImagesOf left_since) (λ device. moment disk) (λ device. had disk) (λ device. left_since disk) (first_of old Start) old
       enters = record { time = λ device. started.read.time; each = each }
         where
-          each : (device : ℕ) (image : List ℕ) → left_since old.disk (moment disk) image → SurvivesOne device (first_of old Start) (states_while device [] (first_of old Start)) image
-          each zero image left = inl ((started.safe honest bodies sound).images image (subst (λ (bytes : List ℕ). may_leave old.disk bytes) (sym (only.alone image (started.read.images honest image left))) (started.only honest.told).holds))
+          each : (device : ℕ) (image : List ℕ) → left_since old.shelf.disk (moment disk) image → SurvivesOne device (first_of old Start) (states_while device [] (first_of old Start)) image
+          each zero image left = inl (safe_survives (setup_of old) may_leave old.shelf Start (started.safe honest bodies sound).safe image
+              (subst (λ (bytes : List ℕ). may_leave old.shelf.disk bytes) (sym (only.alone image (started.read.images honest image left))) (started.only honest.told).holds))
           each (suc n) image left = tt
 
-      holds : (ended : Bool) × HoldsThroughout (setup_of old ∷ []) (OutsideOf ended (seen disk ∷ [])) (λ device. left_since new.disk (moment disk)) (λ device. may_leave new.disk)
+      holds : (ended : Bool) × HoldsThroughout (setup_of old ∷ []) (OutsideOf ended (seen disk ∷ [])) (λ device. left_since end.shelf.disk (moment disk)) (λ device. may_leave end.shelf.disk)
       holds =
-          let w : SafeRun = safe_run in
-          let last : Node = last_node (first_of old Start) w.lifted.served w.closing in (
+          let w = safe_run in
+          let last : Node = last_node (first_of old Start) w.lifted.served w.closing in
+          let says : Says last = says_last Says last result goes w.says in (
             w.lifted.ended,
-            run_holds (StandsSafely tells seen may_leave faults) (moment_of moment) (HadOf had) (ImagesOf left_since) NeverHalts AllQuiet rests_safe (setup_of old ∷ []) (OutsideOf w.lifted.ended (seen disk ∷ [])) 0
-                (λ device. moment disk) (λ device. had disk) (λ device. left_since disk) (λ device. may_leave new.disk) (first_of old Start) old new new result w refl
-                (frames (StartsFrom (seen disk ∷ [])) w.lifted.ended (seen disk ∷ []) Start last (from_it bodies sound) (safe_is_one new last w.stands))
-                (concludes w.lifted.ended (seen disk ∷ []) last (safe_is_one new last w.stands)) enters
-                (λ device image left. now_since new.disk (moment new.disk) image (now_had new.disk) left),
+            run_holds (StandsSafely tells seen may_leave faults) (moment_of moment) (HadOf had) (ImagesOf left_since) NeverHalts Says rests_safe (setup_of old ∷ []) (OutsideOf w.lifted.ended (seen disk ∷ [])) 0
+                (λ device. moment disk) (λ device. had disk) (λ device. left_since disk) (λ device. may_leave end.shelf.disk) (first_of old Start) old new end result w refl
+                (frames (StartsFrom (seen disk ∷ [])) w.lifted.ended (seen disk ∷ []) Start last (from_it bodies sound) (safe_is_one end last w.stands) says)
+                (concludes w.lifted.ended (seen disk ∷ []) last says) enters
+                (λ device image left. now_since end.shelf.disk (moment end.shelf.disk) image (now_had end.shelf.disk) left),
           )
 
     -- ---- all together
 
-    serving : IsServed old.set (disk_of extent tells seen may_leave moment had left_since faults disk new.disk) (ended_status result) (ended_note result) times before after
+    serving : IsServed old.set (disk_of extent tells seen may_leave moment had left_since faults disk end.shelf.disk) (ended_status result closed) (ended_note result closed) times before after
     serving = record {
-      geometry = old.geometry;
+      geometry = old.shelf.geometry;
       place = (started.device_is, started.devices_is);
-      disk = disk_later before.taken after.taken before.left after.left before.written after.written set disk old new times later result ran started
-          (later_none extent may_leave moment had left_since faults now_alone now_had now_since);
+      disk = later_then extent may_leave moment had left_since faults disk new.shelf.disk end.shelf.disk up_to_closing closes.0;
       passes = λ told. let begins = started.begins told in (begins.bodies, begins.passes);
       bytes = ran.bytes;
       output = ran.output;
       takes = ran.takes;
       shortens = ran.shortens;
       extends = ran.extends;
-      replies = λ told. let found = started.stands in
-          replies_from (StartsFound (setup_of old) old.geometry (tells disk) (seen disk)) [] told (entries_state (setup_of old) found.opened found.found found.next) found.agrees
-          (found.opened, found.found, found.next, faults old.disk, refl, λ is. let begins = started.begins is in (begins.bodies, begins.passes, λ digest. found.agrees.entries digest ∙ begins.entries digest));
-      from_image = λ tells_it bodies sound told.
-          replies_from (StartsFrom (seen disk ∷ [])) (seen disk ∷ []) told (start_state (setup_of old) bodies) ((started.begins tells_it).sound bodies sound) (from_it bodies sound);
+      replies = let found = started.stands in
+          replies_from (StartsFound (setup_of old) old.shelf.geometry (tells disk) (seen disk)) [] (entries_state (setup_of old) found.opened found.found found.next) found.agrees (
+            found.opened,
+            found.found,
+            found.next,
+            faults old.shelf.disk,
+            refl,
+            λ told. let begins = started.begins told in
+                (begins.bodies, begins.passes, found_entries extent tells seen may_leave moment had left_since faults set disk old started told),
+          );
+      from_image = λ told bodies sound.
+          replies_from (StartsFrom (seen disk ∷ [])) (seen disk ∷ []) (start_state (setup_of old) bodies) ((started.begins told).sound bodies sound) (from_it bodies sound);
       throughout = holds;
     }
 
-    pub is_served : (status : ℕ) (note : List ℕ) → status ≡ ended_status result → note ≡ ended_note result
-        → IsServed set (disk_of extent tells seen may_leave moment had left_since faults disk new.disk) status note times before after
+    pub is_served : (status : ℕ) (note : List ℕ) → status ≡ ended_status result closed → note ≡ ended_note result closed
+        → IsServed set (disk_of extent tells seen may_leave moment had left_since faults disk end.shelf.disk) status note times before after
     is_served status note status_is note_is =
-        subst (λ (s : Settings). IsServed s (disk_of extent tells seen may_leave moment had left_since faults disk new.disk) status note times before after) started.set_is
-        (subst (λ (n : ℕ). IsServed old.set (disk_of extent tells seen may_leave moment had left_since faults disk new.disk) n note times before after) (sym status_is)
-        (subst (λ (text : List ℕ). IsServed old.set (disk_of extent tells seen may_leave moment had left_since faults disk new.disk) (ended_status result) text times before after) (sym note_is) serving))
+        subst (λ (s : Settings). IsServed s (disk_of extent tells seen may_leave moment had left_since faults disk end.shelf.disk) status note times before after) started.set_is
+        (subst (λ (n : ℕ). IsServed old.set (disk_of extent tells seen may_leave moment had left_since faults disk end.shelf.disk) n note times before after) (sym status_is)
+        (subst (λ (text : List ℕ). IsServed old.set (disk_of extent tells seen may_leave moment had left_since faults disk end.shelf.disk) (ended_status result closed) text times before after) (sym note_is) serving))

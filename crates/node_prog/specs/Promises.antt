@@ -1,5 +1,5 @@
 -- Crate node_prog. What a run over one device promises.
-use Rattle.std.specs.Prelude.{◌≡◌, ◌⊎◌, ℕ, Bool, List, [], ◌∷◌, ◌++◌, codes, Option}
+use Rattle.std.specs.Prelude.{◌≡◌, ◌⊎◌, ℕ, Bool, false, List, [], ◌∷◌, ◌++◌, codes, Option}
 use Rattle.disk_model.specs.Disk.{Images, IsOnly, IsHonest}
 use Rattle.rec_format.specs.declared.version.Digest.{Digest}
 use Rattle.rec_format.specs.Book.{Setup}
@@ -15,7 +15,8 @@ use Rattle.shard_core.specs.declared.settings.Settings.{Settings}
 use Rattle.shard_core.specs.declared.start.StartCause.{StartCause}
 use Rattle.shard_core.specs.declared.start.StartCause.TheVariants as why
 use Rattle.shard_core.specs.View.{setup_for}
-use Rattle.shard_core.specs.Starting.{IsLater, OnlyRead, Passes, own_copies, IsRefused, FaultRose}
+use Rattle.block_shelf.specs.Disks.{IsLater, OnlyRead}
+use Rattle.shard_core.specs.Starting.{Passes, own_copies, IsRefused, FaultRose}
 use Rattle.core_run.specs.OneDevice.{the_only}
 use Rattle.core_run.specs.Notes.{fault_note, refused_note}
 use Rattle.core_run.specs.Headline.{Outside, StartsFrom, HoldsReplies, HoldsThroughout}
@@ -98,10 +99,11 @@ outside status note bytes output ended times before after images = record {
 }
 
 -- The device was taken into use, and the bytes written are the front of the reply texts of a run over the bytes taken.
--- Over any disk it is a run from the entries that the start found, which are those of its bytes where it tells them. Over one
--- whose bytes are a sound image it is a run from the start state of that image. Over an honest disk whose one image is sound it keeps all promises: each image that a crash might have
--- left since the entry survives some state of the run, each that one may leave now survives the last, and what was answered as done
--- with commit on is flushed.
+-- Over any disk it is a run from the entries that the start found, which are those of its bytes where it tells them; over one
+-- whose bytes are a sound image it is a run from the start state of that image. In both a get is answered by what was read, or by
+-- `err damaged`, since the disk isn't known to be honest. Over an honest disk whose one image is sound the run keeps all promises:
+-- no read finds damage, each image that a crash might have left since the entry survives some state of the run, each that one may
+-- leave now survives the last, and what was answered as done with commit on is flushed.
 pub record IsServed (set : Settings) (d : DiskOf) (status : ℕ) (note : List ℕ) (times : Option (List ℕ)) (before after : Ends) : Type 0 where
   pub geometry : Geometry
   pub place : (geometry.device ≡ 0) × (geometry.devices ≡ 1)
@@ -112,10 +114,10 @@ pub record IsServed (set : Settings) (d : DiskOf) (status : ℕ) (note : List �
   pub takes : after.taken ≡ before.taken ++ bytes
   pub shortens : Shortens before.left after.left bytes
   pub extends : Extends before.written after.written output
-  pub replies : (told : Bool) → (ended : Bool) × HoldsReplies (StartsFound (setup_for geometry set) geometry d.tells d.reads) told (setup_for geometry set ∷ [])
+  pub replies : (ended : Bool) × HoldsReplies (StartsFound (setup_for geometry set) geometry d.tells d.reads) false (setup_for geometry set ∷ [])
       (outside status note bytes output ended times before after []) (λ device image. ⊥)
   pub from_image : d.tells → (bodies : List Body) → IsSound (setup_for geometry set) d.reads bodies
-      → (told : Bool) → (ended : Bool) × HoldsReplies (StartsFrom (d.reads ∷ [])) told (setup_for geometry set ∷ [])
+      → (ended : Bool) × HoldsReplies (StartsFrom (d.reads ∷ [])) false (setup_for geometry set ∷ [])
       (outside status note bytes output ended times before after (d.reads ∷ [])) (λ device image. ⊥)
   pub throughout : d.honest → IsOnly d.reads d.at_entry → (bodies : List Body) → IsSound (setup_for geometry set) d.reads bodies
       → (ended : Bool) × HoldsThroughout (setup_for geometry set ∷ [])

@@ -1,4 +1,4 @@
-// A run: the device is started, the session served, and the disk handed back.
+// A run: the device is started, the session served, the device closed behind it, and the disk handed back.
 ghost use Rattle.std.specs.Prelude.{◌≡◌, ◌∷◌, [], vec_len};
 ghost use Rattle.shard_core.specs.View.{IsSettings};
 ghost use Rattle.node_prog.specs.Promises.{Runs, disk_of};
@@ -14,7 +14,8 @@ use std::alloc::Global;
 // The most bytes that a run takes from its source.
 const INPUT_LIMIT: u64 = 1 << 40;
 
-/// Starts the device, serves the source's lines to its end or to `quit`, and hands the disk back.
+/// Starts the device, serves the source's lines to its end or to `quit`, flushes what is pending however the session ended, and hands
+/// the disk back.
 pub fn run_with<D: Disk, L: Source + Sink, C: Clock>(
     alloc: Global,
     set: Settings,
@@ -32,7 +33,8 @@ pub fn run_with<D: Disk, L: Source + Sink, C: Clock>(
     match Node::start(alloc, disks, set) {
         Ok(mut node) => {
             let ended = session(alloc, &mut node, link, clock, INPUT_LIMIT);
-            let (status, note) = after_session(ended);
+            let closed = node.flush_device(0);
+            let (status, note) = after_session(ended, closed);
             Outcome {
                 status,
                 note,

@@ -1,13 +1,25 @@
+ghost use Rattle.shard_core.specs.View.{IsSettings};
+
 use super::*;
 use crate::memory::{formatted_disk, still_clock};
 use crate::outcome::Outcome;
+use crate::run::run_with;
+use crate::words::run_settings;
 use disk_model::{Disk, DiskCall, MemDisk};
 use io_traits::{TextSink, TextSource};
+use shard_core::Settings;
 use std::alloc::Global;
 use std::process::Abort;
 use std::test::Fail;
 
 const GET: &[u8] = b"get 000102030405060708090a0b0c0d0e0f10111213\n";
+
+const PUT: &[u8] = b"put 000102030405060708090a0b0c0d0e0f10111213 0 * aa\n";
+
+const FLUSH: &[u8] = b"flush\n";
+
+// What `GET` answers behind `PUT`.
+const SEEN: &[u8] = b"val 1 1000 0 aa\n";
 
 // How the program ended over one disk, and what it wrote.
 #[derive(Drop)]
@@ -125,11 +137,11 @@ fn each_line_has_its_reply(rt: HostRuntime) -> Result<(), Fail> {
     Ok(())
 }
 
-// A put of so many bytes under forty digits f.
-fn put_line(alloc: Global, bytes: usize) -> Result<Vec<u8>, Fail> {
-    let mut line = b"put ffffffffffffffffffffffffffffffffffffffff 0 * "
-        .as_slice()
-        .to_vec(alloc)?;
+// A put of so many bytes under these forty digits.
+fn put_line(alloc: Global, digest: &[u8], bytes: usize) -> Result<Vec<u8>, Fail> {
+    let mut line = b"put ".as_slice().to_vec(alloc)?;
+    line.extend_from_slice(digest)?;
+    line.extend_from_slice(b" 0 * ")?;
     for _ in 0..bytes {
         line.extend_from_slice(b"aa")?;
     }
@@ -137,27 +149,35 @@ fn put_line(alloc: Global, bytes: usize) -> Result<Vec<u8>, Fail> {
     Ok(line)
 }
 
+const ALL_F: &[u8] = b"ffffffffffffffffffffffffffffffffffffffff";
+
+// Each of the 16 blocks is filled by one record.
 #[test]
 fn a_block_and_the_device_have_their_room(rt: HostRuntime) -> Result<(), Fail> {
     let alloc = rt.alloc();
-    let mut input = put_line(alloc, 12_209)?;
-    input.extend_from_slice(&put_line(alloc, 12_208)?)?;
-    let mut text = b"err big\nok 1 1000\n".as_slice().to_vec(alloc)?;
-    for _ in 0..15 {
-        input.extend_from_slice(&put_line(alloc, 1)?)?;
+    let mut input = put_line(alloc, ALL_F, 12_209)?;
+    let whole = put_line(alloc, ALL_F, 12_208)?;
+    for _ in 0..17 {
+        input.extend_from_slice(&whole)?;
     }
-    text.extend_from_slice(b"ok 2 1000\nok 3 1000\nok 4 1000\nok 5 1000\nok 6 1000\n")?;
-    text.extend_from_slice(b"ok 7 1000\nok 8 1000\nok 9 1000\nok 10 1000\nok 11 1000\n")?;
-    text.extend_from_slice(b"ok 12 1000\nok 13 1000\nok 14 1000\nok 15 1000\nok 16 1000\n")?;
-    input.extend_from_slice(&put_line(alloc, 2)?)?;
+    input.extend_from_slice(&put_line(alloc, ALL_F, 1)?)?;
     input.extend_from_slice(b"get ffffffffffffffffffffffffffffffffffffffff\n")?;
-    text.extend_from_slice(b"err space\nval 16 1000 0 aa\n")?;
+    let mut text = b"err big\nok 1 1000\nok 2 1000\nok 3 1000\nok 4 1000\nok 5 1000\n"
+        .as_slice()
+        .to_vec(alloc)?;
+    text.extend_from_slice(
+        b"ok 6 1000\nok 7 1000\nok 8 1000\nok 9 1000\nok 10 1000\nok 11 1000\n",
+    )?;
+    text.extend_from_slice(b"ok 12 1000\nok 13 1000\nok 14 1000\nok 15 1000\nok 16 1000\n")?;
+    text.extend_from_slice(b"err space\nerr space\nval 16 1000 0 ")?;
+    for _ in 0..12_208 {
+        text.extend_from_slice(b"aa")?;
+    }
+    text.push(b'\n')?;
     let ending = serve_text(alloc, &input, &[], &[])?;
     assert!(rt; is_so(&ending, 0, "", &text));
     Ok(())
 }
-
-const PUT: &[u8] = b"put 000102030405060708090a0b0c0d0e0f10111213 0 * aa\n";
 
 #[test]
 fn faults_end_it_with_their_statuses(rt: HostRuntime) -> Result<(), Fail> {
@@ -235,39 +255,42 @@ fn the_next_run_finds_the_records(rt: HostRuntime) -> Result<(), Fail> {
     Ok(())
 }
 
-// A put whose flush fails is seen in its session. The next one finds it only where its gate was written.
+// Each of the four calls that a flush makes fails. What was put is seen all the same, the tending behind it flushes it, and the next
+// run finds it.
 #[test]
-fn a_put_fails_on_the_way(rt: HostRuntime) -> Result<(), Fail> {
+fn a_flush_fails_on_the_way(rt: HostRuntime) -> Result<(), Fail> {
     let alloc = rt.alloc();
-    let found: &[u8] = b"val 1 1000 0 aa\n";
-    let none: &[u8] = b"none\n";
-    for (kind, skip, next) in [
-        (DiskCall::Write, 0, none),
-        (DiskCall::Write, 1, none),
-        (DiskCall::Sync, 1, none),
-        (DiskCall::Sync, 2, found),
+    let mut input = PUT.to_vec(alloc)?;
+    input.extend_from_slice(FLUSH)?;
+    input.extend_from_slice(GET)?;
+    input.extend_from_slice(FLUSH)?;
+    for (kind, skip) in [
+        (DiskCall::Write, 0),
+        (DiskCall::Write, 1),
+        (DiskCall::Sync, 1),
+        (DiskCall::Sync, 2),
     ] {
         let mut disk = formatted_disk(alloc)?;
         disk.fail_after(kind, skip)?;
-        let mut input = PUT.to_vec(alloc)?;
-        input.extend_from_slice(GET)?;
         let ending = serve_over(alloc, disk, &input)?;
-        let disk = disk_of(&rt, ending, 0, "", b"err fault\nval 1 1000 0 aa\n")?;
+        let text = b"ok 1 1000\nerr fault\nval 1 1000 0 aa\nok 0\n";
+        let disk = disk_of(&rt, ending, 0, "", text)?;
         let ending = serve_over(alloc, disk, GET)?;
-        assert!(rt; is_so(&ending, 0, "", next), "{kind:?} {skip}");
+        assert!(rt; is_so(&ending, 0, "", SEEN), "{kind:?} {skip}");
     }
     Ok(())
 }
 
 // After a crash the next run finds none up to the write of the gate, from there to its sync none or the record, and then the record.
 #[test]
-fn a_crash_leaves_what_was_answered(rt: HostRuntime) -> Result<(), Fail> {
+fn a_crash_leaves_what_was_flushed(rt: HostRuntime) -> Result<(), Fail> {
     let alloc = rt.alloc();
     let formatted = formatted_disk(alloc)?;
     let mut moment = formatted.moments() - 1;
-    let ending = serve_over(alloc, formatted, PUT)?;
-    let disk = disk_of(&rt, ending, 0, "", b"ok 1 1000\n")?;
-    let found: &[u8] = b"val 1 1000 0 aa\n";
+    let mut input = PUT.to_vec(alloc)?;
+    input.extend_from_slice(FLUSH)?;
+    let ending = serve_over(alloc, formatted, &input)?;
+    let disk = disk_of(&rt, ending, 0, "", b"ok 1 1000\nok 1\n")?;
     let none: &[u8] = b"none\n";
     // The start's sync, the body, its sync, the gate and its sync.
     for (without, with) in [
@@ -275,8 +298,8 @@ fn a_crash_leaves_what_was_answered(rt: HostRuntime) -> Result<(), Fail> {
         (none, none),
         (none, none),
         (none, none),
-        (none, found),
-        (found, found),
+        (none, SEEN),
+        (SEEN, SEEN),
     ] {
         assert!(rt; moment < disk.moments());
         let ending = serve_over(alloc, disk.image(moment, 0)?, GET)?;
@@ -286,5 +309,106 @@ fn a_crash_leaves_what_was_answered(rt: HostRuntime) -> Result<(), Fail> {
         moment += 1;
     }
     assert!(rt; moment == disk.moments());
+    Ok(())
+}
+
+// A run with these settings over this disk.
+fn run_over(alloc: Global, set: Settings, disk: MemDisk, input: &[u8]) -> Result<Ending, Fail>
+    requires { IsSettings set }
+{
+    let mut link = Both {
+        source: TextSource::new(input.to_vec(alloc)?, Vec::new(alloc)),
+        sink: TextSink::new(alloc, Vec::new(alloc)),
+    };
+    let mut clock = still_clock(alloc)?;
+    let disks = vec![in alloc; disk]?;
+    let outcome = run_with(alloc, set, disks, &mut link, &mut clock);
+    let text = link.sink.written().to_vec(alloc)?;
+    Ok(Ending { outcome, text })
+}
+
+// Records of 700 units, each in a block of its own, with at most 4 buffers that wait: while the disk fails the fifth has no place.
+// The tending behind it flushes three.
+#[test]
+fn as_many_wait_as_may(rt: HostRuntime) -> Result<(), Fail> {
+    let alloc = rt.alloc();
+    let mut input: Vec<u8> = Vec::new(alloc);
+    for digit in [b'1', b'2', b'3', b'4', b'5', b'5'] {
+        let mut digest = vec![in alloc; b'0'; 40]?;
+        digest[1] = digit;
+        input.extend_from_slice(&put_line(alloc, &digest, 11_152)?)?;
+    }
+    let mut disk = formatted_disk(alloc)?;
+    for skip in 0..3 {
+        disk.fail_after(DiskCall::Write, skip)?;
+    }
+    let set = Settings {
+        pending: 4,
+        ..run_settings()
+    };
+    let ending = run_over(alloc, set, disk, &input)?;
+    let text = b"ok 1 1000\nok 1 1000\nok 1 1000\nok 1 1000\nerr load\nok 1 1000\n";
+    assert!(rt; is_so(&ending, 0, "", text));
+    Ok(())
+}
+
+// The read of the first get is the one behind the 17 of the start, and it lies.
+#[test]
+fn a_lying_read_is_told_as_damaged(rt: HostRuntime) -> Result<(), Fail> {
+    let alloc = rt.alloc();
+    let mut input = PUT.to_vec(alloc)?;
+    input.extend_from_slice(FLUSH)?;
+    input.extend_from_slice(GET)?;
+    input.extend_from_slice(GET)?;
+    let mut disk = formatted_disk(alloc)?;
+    disk.lie_after(17);
+    let ending = serve_over(alloc, disk, &input)?;
+    assert!(rt;
+        is_so(
+            &ending,
+            0,
+            "",
+            b"ok 1 1000\nok 1\nerr damaged\nval 1 1000 0 aa\n"
+        )
+    );
+    Ok(())
+}
+
+// With commit on a put is flushed before it is answered: nothing is left to write behind it.
+#[test]
+fn a_commit_waits_for_the_disk(rt: HostRuntime) -> Result<(), Fail> {
+    let alloc = rt.alloc();
+    let set = Settings {
+        commit: true,
+        ..run_settings()
+    };
+    let mut input = PUT.to_vec(alloc)?;
+    input.extend_from_slice(GET)?;
+    for (skip, text) in [
+        (2, b"ok 1 1000\nval 1 1000 0 aa\n".as_slice()),
+        (1, b"err fault\nval 1 1000 0 aa\n".as_slice()),
+    ] {
+        let mut disk = formatted_disk(alloc)?;
+        disk.fail_after(DiskCall::Write, skip)?;
+        let ending = run_over(alloc, set, disk, &input)?;
+        let disk = disk_of(&rt, ending, 0, "", text)?;
+        let ending = serve_over(alloc, disk, GET)?;
+        assert!(rt; is_so(&ending, 0, "", SEEN));
+    }
+    Ok(())
+}
+
+// Every write of the closing flush fails: what was put is lost, which the status tells.
+#[test]
+fn the_closing_flush_fails(rt: HostRuntime) -> Result<(), Fail> {
+    let alloc = rt.alloc();
+    let mut disk = formatted_disk(alloc)?;
+    for skip in 0..4 {
+        disk.fail_after(DiskCall::Write, skip)?;
+    }
+    let ending = serve_over(alloc, disk, PUT)?;
+    let disk = disk_of(&rt, ending, 3, "device 0 fault", b"ok 1 1000\n")?;
+    let ending = serve_over(alloc, disk, GET)?;
+    assert!(rt; is_so(&ending, 0, "", b"none\n"));
     Ok(())
 }

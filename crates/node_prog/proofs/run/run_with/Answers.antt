@@ -15,9 +15,10 @@ returns-in-Ok g c = record {
   replies = λ disk items.
       let d = g.D.Disk in
       let law = g.met.D.Disk in (
-        c.session-ended.new.store.disk,
+        c.flush_device-closed.new.self.shelf.disk,
         c.stop.ensures,
-        inr (is_served d.extent d.tells d.seen d.may_leave d.moment d.had d.left_since d.faults law.now_alone law.now_had law.now_since _ _ c.args.set disk c.in-Ok.node c.session-ended.new.store _ _ c.session-ended.result
-            c.session-ended.ensures.run (c.in-Ok.ensures.begun disk items) c.session-ended.ensures.source_fault c.session-ended.ensures.sink_fault refl refl _ _ c.after_session-status.ensures.status c.after_session-status.ensures.note),
+        inr (is_served d.extent d.tells d.seen d.may_leave d.moment d.had d.left_since d.faults law.now_alone law.now_had law.now_since _ _ c.args.set disk c.in-Ok.node c.session-ended.new.store c.flush_device-closed.new.self _ _
+            c.session-ended.result c.flush_device-closed.result c.session-ended.ensures.run (c.in-Ok.ensures.begun disk items) c.flush_device-closed.ensures
+            c.session-ended.ensures.source_fault c.session-ended.ensures.sink_fault refl refl _ _ c.after_session-status.ensures.status c.after_session-status.ensures.note),
       );
 }
