@@ -1,6 +1,10 @@
 // A node over one device.
 ghost use Rattle.std.specs.Prelude.{◌≡◌, ◌∷◌, [], vec_len, IfErr, MatchResult};
 ghost use Rattle.shard_core.specs.View.{IsSettings};
+ghost use Rattle.rec_format.specs.Device.{State};
+ghost use Rattle.rec_format.specs.Events.{flush_call};
+ghost use Rattle.shard_core.specs.Stands.{Agrees};
+ghost use Rattle.shard_core.specs.Calls.{Makes, flush_answer};
 ghost use Rattle.core_run.specs.OneDevice.{Started, NotStarted, ClosesAlone};
 
 use crate::replies::{flush_reply, read_reply, write_reply};
@@ -71,7 +75,8 @@ impl<D: Disk> Node<D> {
     /// Flushes all that a device has pending, for the end of a run; answers how many buffers it flushed. At present there is device 0.
     pub fn flush_device(&mut self, device: u16) -> Result<u64, DiskFault>
         requires { device ≡ 0 }
-        ensures { ClosesAlone D.extent D.tells D.seen D.may_leave D.moment D.had D.left_since D.faults result self.old self.new }
+        ensures closes { ClosesAlone D.extent D.tells D.seen D.may_leave D.moment D.had D.left_since D.faults result self.old self.new }
+        ensures answer { (s : State) → Agrees self.old s → Makes D.tells D.seen D.may_leave D.moment D.had D.left_since D.faults flush_call (flush_answer result) self.old s self.new }
     {
         prove!(device == 0);
         self.shard.flush()

@@ -18,7 +18,7 @@ returns-in-Ok g c = record {
         c.flush_device-closed.new.self.shelf.disk,
         c.stop.ensures,
         inr (is_served d.extent d.tells d.seen d.may_leave d.moment d.had d.left_since d.faults law.now_alone law.now_had law.now_since _ _ c.args.set disk c.in-Ok.node c.session-ended.new.store c.flush_device-closed.new.self _ _
-            c.session-ended.result c.flush_device-closed.result c.session-ended.ensures.run (c.in-Ok.ensures.begun disk items) c.flush_device-closed.ensures
+            c.session-ended.result c.flush_device-closed.result c.session-ended.ensures.run (c.in-Ok.ensures.begun disk items) c.flush_device-closed.ensures.closes
             c.session-ended.ensures.source_fault c.session-ended.ensures.sink_fault refl refl _ _ c.after_session-status.ensures.status c.after_session-status.ensures.note),
       );
 }
