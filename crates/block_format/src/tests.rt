@@ -70,17 +70,21 @@ fn opens_by_the_first_sixteen_bytes(rt: HostRuntime) {
     assert!(rt; gate[16] == 0 && gate[4095] == 0);
 }
 
+/// The body of buffer 1 in block 0, with one record and zeros behind it.
+fn small_body() -> [u8; 160] {
+    let mut body = [0; 160];
+    body[..32].copy_from_slice(&HEAD);
+    body[32..96].copy_from_slice(&HELLO);
+    body
+}
+
 #[test]
-fn reads_a_body_up_to_its_first_fault(rt: HostRuntime) -> Result<(), Fail> {
-    let alloc = rt.alloc();
+fn reads_a_body(rt: HostRuntime) -> Result<(), Fail> {
     let mut head = [9; BODY_HEAD_BYTES];
     write_head(1, 1, 4, 0, &mut head);
     assert!(rt; head == HEAD);
 
-    let mut body = [0; 160];
-    body[..32].copy_from_slice(&HEAD);
-    body[32..96].copy_from_slice(&HELLO);
-    let Ok((number, found)) = read_body(alloc, &body, 0) else {
+    let Ok((number, found)) = read_body(rt.alloc(), &small_body(), 0) else {
         return Err(Fail::new("no body"));
     };
     let hello = Found {
@@ -99,20 +103,28 @@ fn reads_a_body_up_to_its_first_fault(rt: HostRuntime) -> Result<(), Fail> {
     };
     assert!(rt; number == 1 && found.len() == 1);
     assert!(rt; found[0] == hello);
-
-    // Another block, a record that isn't there, records past their units, and a sum that isn't the head's.
-    assert!(rt; refusal(alloc, &body, 1) == Some(BodyRefusal::Bad { place: 0 }));
-    body[32] = 0;
-    assert!(rt; refusal(alloc, &body, 0) == Some(BodyRefusal::Bad { place: 32 }));
-    body[32] = 0x52;
-    body[16..20].fill(255);
-    assert!(rt; refusal(alloc, &body, 0) == Some(BodyRefusal::Bad { place: 96 }));
-    body[16..20].copy_from_slice(&HEAD[16..20]);
-    body[20] = 8;
-    assert!(rt; refusal(alloc, &body, 0) == Some(BodyRefusal::Bad { place: 96 }));
-    body[20] = 9;
-    assert!(rt; refusal(alloc, &body, 0) == Some(BodyRefusal::Bad { place: 0 }));
     Ok(())
+}
+
+// Four bytes that are written over, the block that is asked for, and the place that is told: another block, a record that isn't there,
+// records past their units, and sums that aren't the head's.
+#[test]
+fn reads_a_body_up_to_its_first_fault(rt: HostRuntime) {
+    for (at, bytes, block, place) in [
+        (0, *b"ASNB", 1, 0),
+        (32, *b"\0EC1", 0, 32),
+        (16, [255; 4], 0, 96),
+        (20, [8, 0, 0, 0], 0, 96),
+        (20, [9, 0, 0, 0], 0, 0),
+    ] {
+        let mut body = small_body();
+        body[at..at + 4].copy_from_slice(&bytes);
+        let bad = Some(BodyRefusal::Bad { place });
+        assert!(rt;
+            refusal(rt.alloc(), &body, block) == bad,
+            "{bytes:?} at {at}"
+        );
+    }
 }
 
 /// Why a body is refused, if it is.

@@ -90,45 +90,47 @@ fn words_are_accepted_or_refused(rt: HostRuntime) -> Result<(), Fail> {
     Ok(())
 }
 
+/// Lines, and what each is answered behind those before it.
+const LINES: [(&[u8], &[u8]); 12] = [
+    (b"frob\n", b"err line\n"),
+    (b"\n", b"err line\n"),
+    (b"get 00\n", b"err line\n"),
+    (
+        b"put 00102030405060708090a0b0c0d0e0f10111213 0 * aa\n",
+        b"err line\n",
+    ),
+    (
+        b"put 000102030405060708090a0b0c0d0e0f10111213 0 * aaa\n",
+        b"err line\n",
+    ),
+    (
+        b"put 000102030405060708090a0b0c0d0e0f10111213 01 * aa\n",
+        b"err line\n",
+    ),
+    (GET, b"none\n"),
+    (
+        b"put 000102030405060708090a0b0c0d0e0f10111213 0 * -\n",
+        b"ok 1 1000\n",
+    ),
+    (GET, b"val 1 1000 0 -\n"),
+    (
+        b"put 000102030405060708090A0B0C0D0E0F10111213 0 * 68656C6C6F\n",
+        b"ok 2 1000\n",
+    ),
+    (GET, b"val 2 1000 0 68656c6c6f\n"),
+    (
+        b"get 000102030405060708090a0b0c0d0e0f10111213",
+        b"err line\n",
+    ),
+];
+
 #[test]
 fn each_line_has_its_reply(rt: HostRuntime) -> Result<(), Fail> {
     let alloc = rt.alloc();
-    let lines: [(&[u8], &[u8]); 12] = [
-        (b"frob\n", b"err line\n"),
-        (b"\n", b"err line\n"),
-        (b"get 00\n", b"err line\n"),
-        (
-            b"put 00102030405060708090a0b0c0d0e0f10111213 0 * aa\n",
-            b"err line\n",
-        ),
-        (
-            b"put 000102030405060708090a0b0c0d0e0f10111213 0 * aaa\n",
-            b"err line\n",
-        ),
-        (
-            b"put 000102030405060708090a0b0c0d0e0f10111213 01 * aa\n",
-            b"err line\n",
-        ),
-        (GET, b"none\n"),
-        (
-            b"put 000102030405060708090a0b0c0d0e0f10111213 0 * -\n",
-            b"ok 1 1000\n",
-        ),
-        (GET, b"val 1 1000 0 -\n"),
-        (
-            b"put 000102030405060708090A0B0C0D0E0F10111213 0 * 68656C6C6F\n",
-            b"ok 2 1000\n",
-        ),
-        (GET, b"val 2 1000 0 68656c6c6f\n"),
-        (
-            b"get 000102030405060708090a0b0c0d0e0f10111213",
-            b"err line\n",
-        ),
-    ];
     let mut input = vec![in alloc; b'a'; 2_200_001]?;
     input.push(b'\n')?;
     let mut text = b"err line\n".as_slice().to_vec(alloc)?;
-    for (line, reply) in lines {
+    for (line, reply) in LINES {
         input.extend_from_slice(line)?;
         text.extend_from_slice(reply)?;
     }
