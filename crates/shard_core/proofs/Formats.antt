@@ -5,12 +5,13 @@ use Rattle.std.proofs.Math.Nat.{mul-le-mul_right}
 use Rattle.std.proofs.lemmas.List.{take-replicate}
 use Rattle.std.specs.List.{range_with_len}
 use Rattle.disk_model.specs.Bytes.{Apart, Torn}
-use Rattle.disk_model.specs.Disk.{Written}
+use Rattle.disk_model.specs.Disk.{Written, Images, Within, TornFrom, IsOnly, Advances}
+use Rattle.disk_model.specs.Runs.{Leaves, leaves_then, leaves_more, leaves_now}
 use Rattle.block_format.specs.declared.geometry.Geometry.{Geometry}
 use Rattle.block_format.specs.Layout.{IsGeometry, IsClosed, gate_text, gate_sector, block_place, closed_sector, device_end, header_text}
 use Rattle.block_format.specs.Copies.{HasBodies}
 use Rattle.block_format.specs.Recovery.{IsFormatted}
-use Rattle.shard_core.specs.Finding.{AllClosed}
+use Rattle.shard_core.specs.Finding.{AllClosed, HasHeaderOf, IsHalfFormatted}
 use Rattle.shard_core.proofs.Room.{size_bounds}
 
 zeros_differ : replicate 16 0 ≢ gate_text
@@ -48,3 +49,41 @@ pub formatted : {T E : Type 0} (g : Geometry) (r : Result T E) (old new header :
     → OnOk r (Written 0 header old new) → device_end g ≤ length new → OnOk r (IsFormatted g new)
 formatted g (Ok x) old new header is closed text write size = is_formatted g old new is closed (subst (λ (l : List ℕ). Written 0 l old new) text write) size
 formatted g (Err e) old new header is closed text write size = tt
+
+-- ---- formatting, as a crash may show it
+
+module _ {D : Type 0} (moment : D → ℕ) (had : D → ℕ → Type 0) (left_since : D → ℕ → Images) where
+  -- a call that brings up no image
+  pub leaves_same : (P may_leave : Images) (old mid new : D) → ((t : ℕ) (c : List ℕ) → had mid t → may_leave c → left_since mid t c)
+      → Leaves moment had left_since P old mid → Advances (moment mid) (had mid) (had new) (left_since mid) (left_since new) → Within may_leave (left_since new (moment mid))
+      → Leaves moment had left_since P old new
+  leaves_same P may_leave old mid new since run time images =
+      leaves_then moment had left_since run (record { time = time; each = λ c left. leaves_now moment had left_since may_leave since run c (images c left) })
+
+  -- a write behind the header
+  pub header_stays : (before may_leave : Images) (old mid new : D) (place n : ℕ) → 4096 ≤ place → ((t : ℕ) (c : List ℕ) → had mid t → may_leave c → left_since mid t c)
+      → Leaves moment had left_since (HasHeaderOf before) old mid → Advances (moment mid) (had mid) (had new) (left_since mid) (left_since new) → TornFrom place n may_leave (left_since new (moment mid))
+      → Leaves moment had left_since (HasHeaderOf before) old new
+  header_stays before may_leave old mid new place n behind since run time images =
+      leaves_then moment had left_since run (record {
+        time = time;
+        each = λ c left.
+            let from = images c left in
+            let has = leaves_now moment had left_since may_leave since run from.0 from.1 in
+            (has.0, has.1, from.2.apart 0 4096 (inl behind) ∙ has.2);
+      })
+
+  -- the header's own write, over closed gates
+  pub header_comes : (g : Geometry) (before may_leave : Images) (bytes : List ℕ) (old mid new : D) (n : ℕ) → n ≡ 4096 → AllClosed g bytes g.blocks → IsOnly bytes may_leave
+      → Leaves moment had left_since (HasHeaderOf before) old mid → Advances (moment mid) (had mid) (had new) (left_since mid) (left_since new) → TornFrom 0 n may_leave (left_since new (moment mid))
+      → Leaves moment had left_since (IsHalfFormatted g before) old new
+  header_comes g before may_leave bytes old mid new n size closed only run time images =
+      leaves_then moment had left_since (leaves_more moment had left_since (λ c has. inl has) run) (record {
+        time = time;
+        each = λ c left.
+            let from = images c left in
+            inr (λ k lt. stays_closed g from.0 c 0 k (subst (λ (m : ℕ). Torn 0 m from.0 c) size from.2) (inr (gate_behind g k)) (subst (λ (l : List ℕ). IsClosed (gate_sector g k l)) (sym (only.alone from.0 from.1)) (closed k lt)));
+      })
+    where
+      gate_behind : (g : Geometry) (k : ℕ) → 0 + 4096 ≤ block_place g k
+      gate_behind g k = omega arith

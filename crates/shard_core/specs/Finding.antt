@@ -7,6 +7,8 @@ use Rattle.rec_format.specs.declared.entry.Entry.{Entry}
 use Rattle.rec_format.specs.Places.{IsDigest, same_digest, device_number, part_number_of}
 use Rattle.rec_format.specs.Versions.{is_later_stamp, version_units, top_number, block_capacity}
 use Rattle.rec_format.specs.Book.{Setup}
+use Rattle.disk_model.specs.Bytes.{range}
+use Rattle.disk_model.specs.Disk.{Images}
 use Rattle.block_format.specs.declared.geometry.Geometry.{Geometry}
 use Rattle.block_format.specs.declared.geometry.Gate.{Gate}
 use Rattle.block_format.specs.declared.geometry.Gate.TheVariants.{Shut, Set, Unsure}
@@ -30,6 +32,14 @@ use Rattle.shard_core.specs.Starting.{own_copies}
 -- the gates of these first blocks are closed
 abbrev pub AllClosed : Geometry → List ℕ → ℕ → Type 0
 AllClosed g bytes count = (k : ℕ) → k < count → IsClosed (gate_sector g k bytes)
+
+-- the image begins as one of those before did
+abbrev pub HasHeaderOf : (before : Images) → Images
+HasHeaderOf before image = (old : List ℕ) × before old × (range 0 4096 image ≡ range 0 4096 old)
+
+-- So it does, or all its gates are closed: no header comes up before an open gate from before is gone.
+abbrev pub IsHalfFormatted : Geometry → (before : Images) → Images
+IsHalfFormatted g before image = HasHeaderOf before image ⊎ AllClosed g image g.blocks
 
 abbrev pub is_set : Gate → Bool
 is_set Shut = false

@@ -2,9 +2,10 @@
 ghost use Rattle.std.specs.Prelude.{◌≡◌, ◌≤◌, ◌^◌, OnOk, OnErr};
 ghost use Rattle.fault_count.specs.Counts.{Rose};
 ghost use Rattle.disk_model.specs.Disk.{IsOnly, IsHonest, Advances};
+ghost use Rattle.disk_model.specs.Runs.{Leaves};
 ghost use Rattle.block_format.specs.Layout.{IsGeometry, device_end};
 ghost use Rattle.block_format.specs.Recovery.{IsFormatted};
-ghost use Rattle.shard_core.specs.Finding.{AllClosed};
+ghost use Rattle.shard_core.specs.Finding.{AllClosed, HasHeaderOf, IsHalfFormatted};
 
 use block_flusher::place_of;
 use block_format::{Geometry, SECTOR_BYTES, write_closed, write_header};
@@ -17,7 +18,7 @@ fn close_gates<D: Disk>(disk: &mut D, geometry: &Geometry) -> Result<(), DiskFau
     ensures closed { D.tells disk.old → OnOk result (AllClosed geometry.now (D.seen disk.new) geometry.now.blocks) }
     ensures told { D.tells disk.old → D.tells disk.new }
     ensures honest { IsHonest D.tells D.seen D.may_leave disk.old → IsHonest D.tells D.seen D.may_leave disk.new }
-    ensures time { Advances (D.moment disk.old) (D.had disk.old) (D.had disk.new) (D.left_since disk.old) (D.left_since disk.new) }
+    ensures header { Leaves D.moment D.had D.left_since (HasHeaderOf (D.may_leave disk.old)) disk.old disk.new }
     ensures later { D.faults disk.old ≤ D.faults disk.new }
     ensures cause { OnErr result (Rose (D.faults disk.old) (D.faults disk.new)) }
     ensures len { D.extent disk.new ≡ D.extent disk.old }
@@ -31,7 +32,8 @@ fn close_gates<D: Disk>(disk: &mut D, geometry: &Geometry) -> Result<(), DiskFau
 }
 
 /// Makes a disk a device of this shape: it closes the gate of each block, syncs, writes the header, and syncs. After `Ok` a
-/// crash leaves just that. After a fault the disk may hold some of it; format it again. It takes no memory.
+/// crash leaves just that. At no moment does a crash leave a header that wasn't there before together with an open gate. After a
+/// fault the disk may hold some of it; format it again. It takes no memory.
 pub fn format_disk<D: Disk>(disk: &mut D, geometry: &Geometry) -> Result<(), DiskFault>
     requires geometry { IsGeometry geometry.now }
     requires room { device_end geometry.now ≤ D.extent disk.old }
@@ -40,6 +42,7 @@ pub fn format_disk<D: Disk>(disk: &mut D, geometry: &Geometry) -> Result<(), Dis
     ensures told { D.tells disk.old → D.tells disk.new }
     ensures honest { IsHonest D.tells D.seen D.may_leave disk.old → IsHonest D.tells D.seen D.may_leave disk.new }
     ensures time { Advances (D.moment disk.old) (D.had disk.old) (D.had disk.new) (D.left_since disk.old) (D.left_since disk.new) }
+    ensures ordered { IsHonest D.tells D.seen D.may_leave disk.old → Leaves D.moment D.had D.left_since (IsHalfFormatted geometry.now (D.may_leave disk.old)) disk.old disk.new }
     ensures later { D.faults disk.old ≤ D.faults disk.new }
     ensures cause { OnErr result (Rose (D.faults disk.old) (D.faults disk.new)) }
     ensures len { D.extent disk.new ≡ D.extent disk.old }

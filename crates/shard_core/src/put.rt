@@ -1,5 +1,5 @@
 // A put: what it finds, the copy that it appends, the entry of it, and with commit on the flush.
-ghost use Rattle.std.specs.Prelude.{◌≡◌, ◌≤◌, ◌^◌, ◌∷◌, false, None, Some, List, length, IfOk, IfSome, MatchResult, OnErr};
+ghost use Rattle.std.specs.Prelude.{◌≡◌, ◌⊎◌, ◌≤◌, ◌^◌, ◌∷◌, true, false, None, Some, List, length, IfOk, IfErr, IfSome, MatchResult, OnErr};
 ghost use Rattle.fault_count.specs.Counts.{Rose};
 ghost use Rattle.disk_model.specs.Disk.{IsHonest};
 ghost use Rattle.rec_format.specs.Places.{IsDigest, device_number};
@@ -50,7 +50,9 @@ impl<D: Disk> Shard<D> {
         requires now { now ≤ 2 ^ 61 }
         ensures makes { (s : State) → Agrees self.old s → Makes D.tells D.seen D.may_leave D.moment D.had D.left_since D.faults (put_call digest.now ttl expect payload.now now) (write_answer result) self.old s self.new }
         ensures waits { self.old.set.commit ≡ false → self.new.shelf.disk ≡ self.old.shelf.disk }
-        ensures refused { OnErr result (self.old.set.commit ≡ false → self.new ≡ self.old) }
+
+        // A refusal leaves all as it was, but where commit is on and the flush failed.
+        ensures refused { IfErr result (λ refusal. ((refusal ≡ WriteRefusal.Fault) × (self.old.set.commit ≡ true)) ⊎ (self.new ≡ self.old)) }
         ensures later { IsLater D.extent D.moment D.had D.left_since D.faults self.old.shelf.disk self.new.shelf.disk }
         ensures honest { IsHonest D.tells D.seen D.may_leave self.old.shelf.disk → IsHonest D.tells D.seen D.may_leave self.new.shelf.disk }
         ensures shape { SameShape self.old self.new }
@@ -147,6 +149,7 @@ impl<D: Disk> Shard<D> {
             → (steps : List Step) × Commits result (flush_all (after_step (setup_of self.old) (sealed_stream client) s).book) steps
             × Goes D.tells D.seen D.may_leave D.moment D.had D.left_since (setup_of self.old) (sealed_stream client ∷ steps) self.old.shelf s self.new.shelf }
         ensures index { self.new.index ≡ self.old.index }
+        ensures fault { IfErr result (λ refusal. refusal ≡ WriteRefusal.Fault) }
         ensures cause { OnErr result (Rose (D.faults self.old.shelf.disk) (D.faults self.new.shelf.disk)) }
         ensures later { IsLater D.extent D.moment D.had D.left_since D.faults self.old.shelf.disk self.new.shelf.disk }
         ensures honest { IsHonest D.tells D.seen D.may_leave self.old.shelf.disk → IsHonest D.tells D.seen D.may_leave self.new.shelf.disk }

@@ -1,7 +1,7 @@
 use Rattle.std.proofs.Common.{ℕ, inl, arith, rules, below_more}
 use Rattle.block_format.specs.Layout.{IsClosed, gate_sector}
 use Rattle.shard_core.proofs.Room.{size_bounds}
-use Rattle.shard_core.proofs.Formats.{closes, gate_written, stays_closed, gates_apart}
+use Rattle.shard_core.proofs.Formats.{closes, gate_written, stays_closed, gates_apart, header_stays}
 use Rattle.shard_core.proofs.format.close_gates.Goals as goal
 
 pub write_at-requires : goal.write_at-requires
@@ -17,7 +17,11 @@ loop-block-preserved g c = record {
       (closes c.args.geometry.now c.loop-block.block _ write.there);
   told = λ told. (c.write_at.ensures.bytes (c.loop-block.invariant.told told)).0;
   honest = λ honest. c.write_at.ensures.honest (c.loop-block.invariant.honest honest);
-  time = search rules;
+  header = header_stays g.D.Disk.moment g.D.Disk.had g.D.Disk.left_since (g.D.Disk.may_leave c.args.disk.now) _ c.args.disk.now _ _ _ _ (omega (arith, c.place_of.ensures.place)) (g.met.D.Disk.now_since _) c.loop-block.invariant.header c.write_at.ensures.time c.write_at.ensures.images;
   later = search rules;
   size = search rules;
 }
+
+pub returns-in_err-write_at-clause-header : goal.returns-in_err-write_at-clause-header
+returns-in_err-write_at-clause-header g c =
+    header_stays g.D.Disk.moment g.D.Disk.had g.D.Disk.left_since (g.D.Disk.may_leave c.args.disk.now) _ c.args.disk.now _ _ _ _ (omega (arith, c.place_of.ensures.place)) (g.met.D.Disk.now_since _) c.loop-block.invariant.header c.write_at.ensures.time c.write_at.ensures.images
