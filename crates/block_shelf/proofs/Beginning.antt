@@ -5,7 +5,7 @@ use Rattle.std.specs.List.{AllByRecursion}
 use Rattle.disk_model.specs.Disk.{Images, IsHonest}
 use Rattle.rec_format.specs.Versions.{block_capacity, top_number}
 use Rattle.rec_format.specs.Book.{first_block}
-use Rattle.recovery_laws.proofs.Surviving.{all_map}
+use Rattle.recovery_laws.proofs.Each.{all_map}
 use Rattle.recovery_laws.proofs.Opening.{all_joined}
 use Rattle.write_buffer.specs.Buffers.{BufferState, empty_buffer}
 use Rattle.block_flusher.specs.Images.{IsShut}

@@ -6,7 +6,7 @@ use Rattle.std.proofs.lemmas.Map.Steps.{length-le_from_distinct_below}
 use Rattle.std.specs.Prelude.{◌==◌, filter}
 use Rattle.std.specs.List.{AllByRecursion, list_any, IsDistinct}
 use Rattle.write_buffer.specs.Buffers.{BufferState}
-use Rattle.recovery_laws.proofs.Surviving.{all_map}
+use Rattle.recovery_laws.proofs.Each.{all_map}
 use Rattle.recovery_laws.proofs.Opening.{all_parted}
 use Rattle.recovery_laws.proofs.Pending.{any_map}
 use Rattle.recovery_laws.proofs.Placing.{any_none}

@@ -26,7 +26,7 @@ use Rattle.write_buffer.proofs.Sizes.{sized}
 use Rattle.recovery_laws.specs.Writes.{DiffersIn}
 use Rattle.recovery_laws.specs.Holding.{versions_to, begun_versions, versions_in, IsHeld}
 use Rattle.recovery_laws.proofs.Growing.{all_at, all_from}
-use Rattle.recovery_laws.proofs.Surviving.{all_map}
+use Rattle.recovery_laws.proofs.Each.{all_map}
 use Rattle.recovery_laws.proofs.Members.{map_there, map_from, filter_there, filter_from}
 use Rattle.recovery_laws.proofs.Opening.{held_in_shape, elsewhere_held, opened_held}
 use Rattle.recovery_laws.proofs.Flushing.{begun_versions_to, flushed_held}

@@ -16,9 +16,9 @@ use Rattle.block_format.specs.Layout.{IsGeometry, IsBody, IsRecordAt, body_bytes
 use Rattle.block_flusher.specs.Images.{HasOneBody, IsOpened}
 use Rattle.write_buffer.specs.Buffers.{BufferState, bytes_of, body_in}
 use Rattle.recovery_laws.specs.Orderly.{NumbersBelow}
-use Rattle.recovery_laws.proofs.Surviving.{all_map}
+use Rattle.recovery_laws.proofs.Each.{all_map}
 use Rattle.recovery_laws.proofs.Placing.{less_apart}
-use Rattle.recovery_laws.proofs.Counting.{flushed_orderly}
+use Rattle.recovery_laws.proofs.Orderly.{flushed_orderly}
 use Rattle.block_shelf.specs.View.{ShelfView, IsSetupOf, AreApart}
 use Rattle.block_shelf.specs.Standing.{StandsFor, IsPlaced, IsLive, StandsBehind, HasWritten, book_buffer}
 use Rattle.block_shelf.specs.Calls.{Goes}

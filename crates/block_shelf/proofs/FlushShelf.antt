@@ -15,7 +15,7 @@ use Rattle.write_buffer.specs.declared.phase.Phase.{Phase}
 use Rattle.write_buffer.specs.Buffers.{BufferState, bytes_of, with_phase}
 use Rattle.recovery_laws.specs.Writes.{DiffersIn}
 use Rattle.recovery_laws.specs.Orderly.{NumbersBelow}
-use Rattle.recovery_laws.proofs.Surviving.{all_map}
+use Rattle.recovery_laws.proofs.Each.{all_map}
 use Rattle.recovery_laws.proofs.Opening.{all_parted}
 use Rattle.block_shelf.specs.View.{ShelfView, IsShelf, IsBufferOf, IsReady, StandInOrder, AreApart, is_filling, is_written}
 use Rattle.block_shelf.specs.Standing.{StandsFor, IsPlaced, IsLive, StandsBehind, HasWritten, book_buffer}

@@ -8,7 +8,7 @@ use Rattle.rec_format.specs.declared.version.Version.{Version}
 use Rattle.rec_format.specs.Versions.{version_units}
 use Rattle.rec_format.specs.Book.{Setup, client, filling_buffer, fits_in, has_room, with_new_buffer, number_or}
 use Rattle.rec_format.specs.Device.{State}
-use Rattle.recovery_laws.proofs.Surviving.{all_map}
+use Rattle.recovery_laws.proofs.Each.{all_map}
 use Rattle.recovery_laws.proofs.Opening.{all_parted}
 use Rattle.recovery_laws.proofs.Placing.{less_apart}
 use Rattle.write_buffer.specs.Buffers.{used_units}

@@ -1,6 +1,6 @@
 -- A shelf whose disk was only read stays one.
 use Rattle.std.proofs.Common.{◌≡◌, ℕ, ◌≤◌, List, Bool, true, false, MatchBool, sym, ◌∙◌, subst}
-use Rattle.recovery_laws.proofs.Surviving.{all_map}
+use Rattle.recovery_laws.proofs.Each.{all_map}
 use Rattle.disk_model.specs.Bytes.{range}
 use Rattle.disk_model.specs.Disk.{Images, Within, IsHonest, Advances}
 use Rattle.block_format.specs.declared.geometry.Geometry.{Geometry}

@@ -13,7 +13,7 @@ use Rattle.rec_format.specs.Book.{Setup, client, placing_number}
 use Rattle.rec_format.specs.Device.{State, history}
 use Rattle.rec_format.specs.Steps.{wrote, after_step}
 use Rattle.recovery_laws.specs.Holding.{versions_to}
-use Rattle.recovery_laws.proofs.Surviving.{all_map}
+use Rattle.recovery_laws.proofs.Each.{all_map}
 use Rattle.recovery_laws.proofs.Members.{first_there, rest_there}
 use Rattle.recovery_laws.proofs.Opening.{all_joined}
 use Rattle.recovery_laws.proofs.VersionsTo.{wrote_versions}

@@ -9,7 +9,7 @@ use Rattle.rec_format.specs.Steps.{sealed_stream, after_step, states_through}
 use Rattle.rec_format.specs.Legal.{seal_if, seal_all}
 use Rattle.block_format.specs.Recovery.{Survives}
 use Rattle.recovery_laws.proofs.HeldSteps.{sealed_held}
-use Rattle.recovery_laws.proofs.Counting.{sealed_orderly}
+use Rattle.recovery_laws.proofs.Orderly.{sealed_orderly}
 use Rattle.recovery_laws.proofs.Held.{held_survives}
 use Rattle.write_buffer.specs.Buffers.{BufferState}
 use Rattle.block_shelf.specs.View.{ShelfView, StandInOrder}

@@ -9,7 +9,7 @@ use Rattle.block_format.specs.declared.geometry.Gate.{Gate}
 use Rattle.block_format.specs.declared.geometry.Gate.TheVariants.{Shut, Set, Unsure}
 use Rattle.block_format.specs.Layout.{IsGeometry, device_end}
 use Rattle.block_flusher.specs.Images.{IsShut}
-use Rattle.recovery_laws.proofs.Surviving.{all_map}
+use Rattle.recovery_laws.proofs.Each.{all_map}
 use Rattle.block_shelf.specs.declared.place.ShelfLimits.{ShelfLimits}
 use Rattle.block_shelf.specs.View.{IsShelf, AreLimits, AreApart, shut_blocks}
 

@@ -17,11 +17,11 @@ use Rattle.rec_format.proofs.Numbers.{next_number_rises}
 use Rattle.recovery_laws.specs.Orderly.{NumbersBelow}
 use Rattle.recovery_laws.specs.Writes.{MayFollow}
 use Rattle.recovery_laws.specs.Holding.{IsCounted}
-use Rattle.recovery_laws.proofs.Surviving.{all_map}
+use Rattle.recovery_laws.proofs.Each.{all_map}
 use Rattle.recovery_laws.proofs.Growing.{numbers_rise}
 use Rattle.recovery_laws.proofs.Opening.{all_joined, all_parted}
 use Rattle.recovery_laws.proofs.HeldWrites.{written_item, wrote_history, wrote_case, wrote_held}
-use Rattle.recovery_laws.proofs.Counting.{placing_below, wrote_orderly}
+use Rattle.recovery_laws.proofs.Orderly.{placing_below, wrote_orderly}
 use Rattle.write_buffer.specs.Buffers.{BufferState, used_units, with_record}
 use Rattle.block_format.specs.Layout.{IsRecordAt, body_bytes}
 use Rattle.block_shelf.specs.View.{ShelfView, IsShelf, IsBufferOf, AreApart}

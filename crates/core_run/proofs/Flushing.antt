@@ -1,19 +1,20 @@
 -- A write that waits for its flush is flushed when it is answered as done.
 use Rattle.std.proofs.Common.{◌≡◌, ℕ, ◌+◌, ◌≤◌, Bool, true, false, not, cond, ◌&&◌, ◌||◌, List, [], ◌∷◌, ◌++◌, map, refl, sym, ap, ◌∙◌, subst, arith, inl, inr}
-use Rattle.std.specs.Prelude.{Option, Some, None, ◌==◌, nat_le, filter, flat_map}
+use Rattle.std.specs.Prelude.{Option, Some, ◌==◌, nat_le, filter, flat_map}
 use Rattle.std.specs.List.{AllByRecursion, list_any}
 use Rattle.std.proofs.lemmas.Bool.{and_parts, and_from, or_cases, or_left, or_right, false≢true, eqb-true, eq-eqb, le-leb}
 use Rattle.rec_format.specs.declared.version.Digest.{Digest}
 use Rattle.rec_format.specs.declared.version.Version.{Version}
 use Rattle.rec_format.specs.Versions.{version_units}
 use Rattle.rec_format.specs.Histories.{Item, write, is_pending}
-use Rattle.rec_format.specs.Book.{Setup, Book, Buffer, Phase, Stream, client, filling, sealed, opening, is_filling, is_opening, same_stream, filling_buffer, fits_in, has_room, sealed_if, seal_stream, first_block, with_new_buffer, with_room, used_more, put_in, placed, refreshed, number_or, placing_number, with_seal, opened_if, with_flushed}
+use Rattle.rec_format.specs.Book.{Setup, Book, Buffer, Phase, Stream, client, filling, sealed, opening, is_filling, is_opening, same_stream, filling_buffer, sealed_if, seal_stream, with_room, used_more, put_in, placed, refreshed, placing_number, with_seal, opened_if, with_flushed}
 use Rattle.rec_format.specs.Device.{State, history_of}
 use Rattle.rec_format.specs.Steps.{Step, wrote, sealed_stream, gate_begun, flushed_buffer, wrote_state, after_step, after_steps}
 use Rattle.rec_format.specs.Legal.{flush_of, flush_between, commit_seal, commit_flush}
 use Rattle.std.proofs.lemmas.List.Folds.{list_any-append}
 use Rattle.line_proto.proofs.Falling.{all_append}
 use Rattle.rec_format.proofs.Laws.{history_hit}
+use Rattle.recovery_laws.proofs.Placing.{room_of}
 use Rattle.core_run.specs.Session.{top_is_flushed, flushed_if_wrote}
 
 -- ---- buffers of a number
@@ -170,38 +171,6 @@ sealed_ready m units (x ∷ xs) b found = at_head (takes_records x) refl found (
         or_left _ _ (subst (λ (y : Buffer). is_ready y.number (sealed_if (same_stream client (used_more m units x).stream) (used_more m units x)) ≡ true) same (sealed_here m units x takes))
     at_head false takes is rest = or_right _ _ (rest is)
 
--- where a new buffer begins no other of its stream takes records
-new_found : (xs : List Buffer) (new : Buffer) → takes_records new ≡ true → filling_buffer client (seal_stream client xs ++ new ∷ []) ≡ Some new
-new_found [] new takes = rw takes refl
-new_found (x ∷ xs) new takes = at_head (same_stream client x.stream) (is_filling x.phase) refl refl (new_found xs new takes)
-  where
-    at_head : (c p : Bool) → same_stream client x.stream ≡ c → is_filling x.phase ≡ p
-        → filling_buffer client (seal_stream client xs ++ new ∷ []) ≡ Some new → filling_buffer client (seal_stream client (x ∷ xs) ++ new ∷ []) ≡ Some new
-    at_head true true mine fills rest = rw (mine, fills, mine) rest
-    at_head true false mine fills rest = rw (mine, fills, mine, fills) rest
-    at_head false p mine fills rest = rw (mine, mine) rest
-
-record Room (units : ℕ) (book ready : Book) (number : ℕ) : Type 0 where
-  buffer : Buffer
-  found : filling_buffer client ready.buffers ≡ Some buffer
-  same : buffer.number ≡ number
-
-room_of : (setup : Setup) (units : ℕ) (book : Book) → Room units book (with_room setup client units book) (placing_number setup client units book)
-room_of setup units book = by_room (has_room setup client units book) (some_room setup.capacity units (filling_buffer client book.buffers))
-  where
-    some_room : (capacity units : ℕ) (o : Option Buffer) → fits_in capacity units o ≡ true → (b : Buffer) × (o ≡ Some b)
-    some_room capacity units None fits = absurd (false≢true fits)
-    some_room capacity units (Some b) fits = (b, refl)
-
-    by_room : (c : Bool) → (c ≡ true → (b : Buffer) × (filling_buffer client book.buffers ≡ Some b))
-        → Room units book (cond c book (with_new_buffer client book)) (cond c (number_or book.next_number (filling_buffer client book.buffers)) book.next_number)
-    by_room true some = let b = some refl in record { buffer = b.0; found = b.1; same = sym (ap (λ (o : Option Buffer). number_or book.next_number o) b.1) }
-    by_room false some = record {
-      buffer = record { number = book.next_number; block = first_block book.free; stream = client; used = 0; phase = filling };
-      found = new_found book.buffers (record { number = book.next_number; block = first_block book.free; stream = client; used = 0; phase = filling }) refl;
-      same = refl;
-    }
-
 placed_buffers : (setup : Setup) (digest : Digest) (units : ℕ) (book : Book) (b : Buffer) → filling_buffer client (with_room setup client units book).buffers ≡ Some b
     → (placed setup client digest units book).buffers ≡ map (used_more b.number units) (with_room setup client units book).buffers
 unfolding placed refreshed
@@ -210,7 +179,7 @@ placed_buffers setup digest units book b found = ap (λ (o : Option Buffer). (pu
 placed_ready : (setup : Setup) (digest : Digest) (units : ℕ) (book : Book)
     → list_any (is_ready (placing_number setup client units book)) (seal_stream client (placed setup client digest units book).buffers) ≡ true
 placed_ready setup digest units book =
-    let room = room_of setup units book in
+    let room = room_of setup client units book in
     subst (λ (n : ℕ). list_any (is_ready n) (seal_stream client (placed setup client digest units book).buffers) ≡ true) room.same
     (subst (λ (bs : List Buffer). list_any (is_ready room.buffer.number) (seal_stream client bs) ≡ true) (sym (placed_buffers setup digest units book room.buffer room.found))
     (sealed_ready room.buffer.number units (with_room setup client units book).buffers room.buffer room.found))

@@ -7,5 +7,4 @@ pub mod Whole
 pub mod Weaker
 pub mod Kept
 pub mod Holds
-pub mod Refused
 pub mod Closed

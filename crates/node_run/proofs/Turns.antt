@@ -4,7 +4,7 @@ use Rattle.std.specs.Prelude.{Option, Some, None, ◌⊎◌, MatchBool}
 use Rattle.std.specs.List.{AllByRecursion}
 use Rattle.std.proofs.lemmas.List.{map-append}
 use Rattle.disk_model.specs.Disk.{Images, Advances}
-use Rattle.disk_model.specs.Runs.{OneOf, one_of_front, one_of_back, Leaves, leaves_then, leaves_more}
+use Rattle.disk_model.specs.Runs.{OneOf, one_of_front, one_of_back, leaves_then, leaves_more}
 use Rattle.rec_format.specs.Device.{State}
 use Rattle.rec_format.specs.Versions.{bounded_time}
 use Rattle.rec_format.specs.declared.version.Version.{Version}
@@ -148,9 +148,6 @@ goes_tends : (r : Reply) (Then Else : Type 0) → goes_on r ≡ true → Then �
 goes_tends r Then Else goes h = rw goes h
 
 module _ {T : Type 0} (Stands : T → Node → Type 0) (moment : T → ℕ → ℕ) (had : T → ℕ → ℕ → Type 0) (since : T → ℕ → ℕ → Images) (Halts : T → (before after : Node) → Type 0) (told : Bool) where
-  abbrev Left : (device : ℕ) → Images → T → T → Type 0
-  Left device P old new = Leaves (λ t. moment t device) (λ t. had t device) (λ t. since t device) P old new
-
   -- the images of the first part are among those of the whole, and so are those of the second
   first_images : (old mid new : T) → ((device : ℕ) → Advances (moment old device) (had old device) (had mid device) (since old device) (since mid device))
       → ((device : ℕ) → Advances (moment mid device) (had mid device) (had new device) (since mid device) (since new device))

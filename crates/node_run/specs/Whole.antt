@@ -1,6 +1,6 @@
 -- Crate node_run. A whole run over a store: its session, the closing of each device behind it, the status that it ends with, and
 -- what is known of it besides.
-use Rattle.std.specs.Prelude.{◌≡◌, ◌⊎◌, ℕ, ◌≤◌, Bool, false, List, [], Option, length, map, slice_get}
+use Rattle.std.specs.Prelude.{◌≡◌, ◌⊎◌, ℕ, ◌≤◌, Bool, List, Option, length, map, slice_get}
 use Rattle.fault_count.specs.Counts.{Rose}
 use Rattle.disk_model.specs.Disk.{Images}
 use Rattle.rec_format.specs.Book.{Setup}
@@ -74,10 +74,3 @@ pub record Concludes (Halts : (before after : Node) → Type 0) (o : Outside) (n
   pub restart : o.status ≡ 3 → (before after : Node) → Halts before after → RoseOn noted (counts_of before) (counts_of after)
   pub source : result ≡ SourceFault → Rose o.before.source o.after.source
   pub sink : result ≡ SinkFault → Rose o.before.sink o.after.sink
-
--- Nothing was taken and written, for a disk's fault, want of memory or a refused device at the start.
-pub record NeverBegan (o : Outside) : Type 0 where
-  pub status : (o.status ≡ 3) ⊎ (o.status ≡ 6) ⊎ (o.status ≡ 7)
-  pub taken : o.taken ≡ []
-  pub written : o.written ≡ []
-  pub ended : o.ended ≡ false

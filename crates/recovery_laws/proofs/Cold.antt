@@ -11,8 +11,8 @@ use Rattle.rec_format.specs.Histories.{Item, write, dropped, rid, cleared, top_o
 use Rattle.block_format.specs.declared.geometry.Geometry.{Geometry}
 use Rattle.block_format.specs.Layout.{Body, body_bytes}
 use Rattle.block_format.specs.Readings.{AtMostOneBody}
-use Rattle.block_format.specs.Copies.{Copy, HasBodies, copies_named, later_copy, latest, cold_copy, version_of, cold}
-use Rattle.recovery_laws.specs.Cold.{later_of, cold_after, later_one, cold_copy_after}
+use Rattle.block_format.specs.Copies.{Copy, HasBodies, copies_named, later_copy, latest, cold_copy}
+use Rattle.recovery_laws.specs.Cold.{later_one, cold_copy_after}
 use Rattle.recovery_laws.specs.Orderly.{AreWrites}
 use Rattle.recovery_laws.proofs.ColdOrder.{later_trans, no_later_trans}
 
@@ -46,22 +46,6 @@ cold_copy_more digest copies c = ap latest (filter-append (λ (x : Copy). same_d
     by : (b : Bool) → latest (copies_named digest copies ++ cond b (c ∷ []) []) ≡ cond b (Some (later_one (cold_copy digest copies) c)) (cold_copy digest copies)
     by true = latest_more (copies_named digest copies) c
     by false = ap latest (append-nil (copies_named digest copies))
-
-version_after : (digest : Digest) (found : Option Copy) (c : Copy) → version_of (cold_copy_after digest found c) ≡ cold_after digest (version_of found) c
-version_after digest found c = by (same_digest digest c.digest) found
-  where
-    later : (d : Copy) (b : Bool) → (cond b c d).version ≡ cond b c.version d.version
-    later d true = refl
-    later d false = refl
-
-    by : (b : Bool) (o : Option Copy) → version_of (cond b (Some (later_one o c)) o) ≡ cond b (Some (later_of (version_of o) c.version)) (version_of o)
-    by true None = refl
-    by true (Some d) = ap Some (later d (is_later c.version d.version))
-    by false o = refl
-
--- and its version
-pub cold_more : (digest : Digest) (copies : List Copy) (c : Copy) → cold digest (copies ++ c ∷ []) ≡ cold_after digest (cold digest copies) c
-cold_more digest copies c = ap version_of (cold_copy_more digest copies c) ∙ version_after digest (cold_copy digest copies) c
 
 -- ---- one image
 

@@ -16,7 +16,7 @@ use Rattle.block_format.specs.Copies.{Copy}
 use Rattle.block_format.specs.Recovery.{with_copy, log_of}
 use Rattle.recovery_laws.specs.Cold.{copies_high}
 use Rattle.recovery_laws.proofs.ColdOrder.{later_than_behind, later_one_way}
-use Rattle.recovery_laws.proofs.Surviving.{all_map}
+use Rattle.recovery_laws.proofs.Each.{all_map}
 
 -- ---- copies in the order of the log
 

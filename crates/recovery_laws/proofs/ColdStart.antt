@@ -1,24 +1,24 @@
--- The state after a start: its entries, its times, its histories, and that its own image survives it.
+-- The state after a start: its entries, its times, its histories.
 use Rattle.std.proofs.Common.{◌≡◌, inl, inr, ℕ, ◌+◌, List, [], ◌∷◌, refl, sym, ◌∙◌, ap, subst}
-use Rattle.std.specs.Prelude.{IsTrue, Contains}
+use Rattle.std.specs.Prelude.{IsTrue}
 use Rattle.std.specs.List.{AllByRecursion, range_with_len}
 use Rattle.rec_format.specs.declared.version.Digest.{Digest}
 use Rattle.rec_format.specs.declared.version.Version.{Version}
 use Rattle.rec_format.specs.Places.{same_digest}
 use Rattle.rec_format.specs.Versions.{IsVersion, version_units}
 use Rattle.rec_format.specs.RecordText.{CanBeRecorded}
-use Rattle.rec_format.specs.Histories.{Item, Pending, Keeps, top_of, last_write, writes_of}
-use Rattle.rec_format.specs.Book.{Setup, pending_of}
+use Rattle.rec_format.specs.Histories.{top_of, writes_of}
+use Rattle.rec_format.specs.Book.{Setup}
 use Rattle.rec_format.specs.Device.{history, entry, high_time}
 use Rattle.block_format.specs.declared.geometry.Geometry.{Geometry}
 use Rattle.block_format.specs.Layout.{Body}
 use Rattle.block_format.specs.Copies.{Copy, HasBodies, copies_from, copies_of, cold}
-use Rattle.block_format.specs.Recovery.{NoTwins, IsSound, Survives, start_state}
+use Rattle.block_format.specs.Recovery.{NoTwins, IsSound, start_state}
 use Rattle.recovery_laws.specs.Cold.{copies_high}
 use Rattle.recovery_laws.specs.Orderly.{AreWrites, IsFalling, NumbersBelow, NoBareVersions, IsOrderlyHistory, IsOrderly}
 use Rattle.recovery_laws.proofs.ColdLogs.{as_writes, versions_of, log_history, log_times}
-use Rattle.recovery_laws.proofs.ColdVersions.{first_of, first_is_cold, versions_falling, all_versions, each_contained, no_bare_versions}
-use Rattle.recovery_laws.proofs.Surviving.{all_map}
+use Rattle.recovery_laws.proofs.ColdVersions.{first_of, first_is_cold, versions_falling, all_versions, no_bare_versions}
+use Rattle.recovery_laws.proofs.Each.{all_map}
 use Rattle.recovery_laws.proofs.Opening.{all_joined}
 
 -- ---- histories of flushed writes
@@ -26,10 +26,6 @@ use Rattle.recovery_laws.proofs.Opening.{all_joined}
 top_of_writes : (versions : List Version) → top_of (as_writes versions) ≡ first_of versions
 top_of_writes [] = refl
 top_of_writes (v ∷ versions) = refl
-
-last_of_writes : (versions : List Version) → last_write (as_writes versions) ≡ first_of versions
-last_of_writes [] = refl
-last_of_writes (v ∷ versions) = refl
 
 all_writes : (versions : List Version) → writes_of (as_writes versions) ≡ versions
 all_writes [] = refl
@@ -42,11 +38,6 @@ are_writes (v ∷ versions) = are_writes versions
 no_numbers : (limit : ℕ) (versions : List Version) → NumbersBelow limit (as_writes versions)
 no_numbers limit [] = tt
 no_numbers limit (v ∷ versions) = (tt, no_numbers limit versions)
-
--- such a history is kept whole
-keeps_whole : (pending : Pending) (versions : List Version) → Keeps pending (as_writes versions) (as_writes versions)
-keeps_whole pending [] = record { lost = []; parts = refl; end = refl; durable = λ h. refl; tombstones = refl }
-keeps_whole pending (v ∷ versions) = record { lost = []; parts = refl; end = refl; durable = λ h. refl; tombstones = refl }
 
 -- ---- the state after a start
 
@@ -107,25 +98,3 @@ module _ (setup : Setup) (image : List ℕ) (bodies : List Body) (sound : IsSoun
   -- the histories are orderly
   pub start_orderly : IsOrderly (start_state setup bodies)
   start_orderly digest = subst (IsOrderlyHistory (start_state setup bodies).book.next_number) (sym (start_history setup bodies digest)) (orderly_history digest)
-
-  writes_at : (digest : Digest) → writes_of (history (start_state setup bodies) digest) ≡ versions_of digest copies
-  writes_at digest = ap writes_of (start_history setup bodies digest) ∙ all_writes (versions_of digest copies)
-
-  kept_at : (digest : Digest) → Keeps (pending_of (start_state setup bodies).book) (history (start_state setup bodies) digest) (history (start_state setup bodies) digest)
-  kept_at digest =
-      subst (λ (l : List Item). Keeps (pending_of (start_state setup bodies).book) l l) (sym (start_history setup bodies digest))
-      (keeps_whole (pending_of (start_state setup bodies).book) (versions_of digest copies))
-
-  shown_at : (digest : Digest) → cold digest copies ≡ last_write (history (start_state setup bodies) digest)
-  shown_at digest =
-      sym (ap last_write (start_history setup bodies digest) ∙ last_of_writes (versions_of digest copies) ∙ first_is_cold digest copies sound.twins)
-
-  -- the image is one that a crash may leave: each digest keeps its whole history
-  pub start_survives : Survives setup (start_state setup bodies) image
-  start_survives = record {
-    bodies = bodies;
-    sound = sound;
-    written = all_map (λ c. Contains (versions_of c.digest copies) c.version) (λ c. Contains (writes_of (history (start_state setup bodies) c.digest)) c.version)
-        copies (λ c there. subst (λ (l : List Version). Contains l c.version) (sym (writes_at c.digest)) there) (each_contained copies sound.twins);
-    kept = λ digest. (history (start_state setup bodies) digest, record { keeps = kept_at digest; shown = shown_at digest });
-  }

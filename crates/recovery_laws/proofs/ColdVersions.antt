@@ -14,7 +14,7 @@ use Rattle.block_format.specs.Recovery.{same_name, NoTwins, NoBarePuts}
 use Rattle.recovery_laws.specs.Orderly.{IsFalling, NoBareVersions}
 use Rattle.recovery_laws.proofs.ColdOrder.{later_trans, later_one_way, no_later_itself}
 use Rattle.recovery_laws.proofs.ColdLogs.{same_stamp, with_version, versions_of}
-use Rattle.recovery_laws.proofs.Surviving.{all_map}
+use Rattle.recovery_laws.proofs.Each.{all_map}
 
 -- ---- each version
 

@@ -11,7 +11,7 @@ use Rattle.rec_format.specs.Device.{State, history}
 use Rattle.rec_format.specs.Steps.{gate_begun, flushed_buffer, after_step}
 use Rattle.block_format.specs.Layout.{Body}
 use Rattle.recovery_laws.specs.Holding.{versions_to, begun_versions, flushed_versions, versions_in, Holds}
-use Rattle.recovery_laws.proofs.Surviving.{all_map}
+use Rattle.recovery_laws.proofs.Each.{all_map}
 use Rattle.recovery_laws.proofs.Pending.{any_more, begun_at, apart_pending, apart_begun, none_pending}
 use Rattle.recovery_laws.proofs.Members.{first_there, rest_there}
 use Rattle.recovery_laws.proofs.Stages.{stage_from, IsFurther, begun_further}
@@ -114,10 +114,6 @@ module _ (setup : Setup) (number : ℕ) (book : Book) where
 
   flushed_only : (m : ℕ) → is_pending (pending_of (with_flushed setup number book)) m ≡ false → (is_pending (pending_of book) m ≡ false) ⊎ (m ≡ number)
   flushed_only m left = ⊎_elim (λ e. inr e) (λ apart. inl (sym (apart_pending setup number book m apart) ∙ left)) (cases_eq m number)
-
-pub flushed_history : (setup : Setup) (number : ℕ) (s : State) (e : Digest) → history (after_step setup (flushed_buffer number) s) e ≡ history s e
-unfolding after_step
-flushed_history setup number s e = refl
 
 -- the image has all that went to the buffer
 pub flushed_held : (setup : Setup) (s : State) (number : ℕ) (image : List ℕ) (bodies : List Body) → Holds setup s image bodies

@@ -10,7 +10,7 @@ use Rattle.rec_format.specs.Versions.{is_later, is_put, is_tombstone, IsVersion}
 use Rattle.rec_format.specs.Histories.{Item, write, dropped, rid, cleared, is_covered, writes_of}
 use Rattle.rec_format.proofs.Laws.{later_fact}
 use Rattle.recovery_laws.specs.Orderly.{NumbersBelow, NoBareVersions, IsOrderlyHistory}
-use Rattle.recovery_laws.proofs.Surviving.{all_map}
+use Rattle.recovery_laws.proofs.Each.{all_map}
 
 -- ---- each element of a list
 

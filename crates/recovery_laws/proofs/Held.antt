@@ -18,7 +18,7 @@ use Rattle.block_format.specs.Recovery.{Survives, KeepsShown}
 use Rattle.recovery_laws.specs.Orderly.{AreWrites, IsFalling, IsOrderly}
 use Rattle.recovery_laws.specs.Holding.{begun_versions, flushed_versions, versions_in, Holds}
 use Rattle.recovery_laws.proofs.ColdOrder.{later_one_way, no_later_itself, no_later_trans}
-use Rattle.recovery_laws.proofs.Surviving.{all_map}
+use Rattle.recovery_laws.proofs.Each.{all_map}
 use Rattle.recovery_laws.proofs.Growing.{all_at, cons_cases}
 use Rattle.recovery_laws.proofs.Writing.{AreWritten, written_twins, written_puts}
 use Rattle.recovery_laws.proofs.Members.{first_there, rest_there, map_from, filter_from}

@@ -12,7 +12,7 @@ use Rattle.block_format.specs.Layout.{Body}
 use Rattle.block_format.specs.Copies.{Copy, copies_of, copies_named}
 use Rattle.block_format.specs.Recovery.{IsSound, start_state}
 use Rattle.recovery_laws.specs.Holding.{begun_versions, flushed_versions, versions_in, Holds}
-use Rattle.recovery_laws.proofs.Surviving.{all_map}
+use Rattle.recovery_laws.proofs.Each.{all_map}
 use Rattle.recovery_laws.proofs.Growing.{all_from}
 use Rattle.recovery_laws.proofs.ColdLogs.{as_writes, versions_of}
 use Rattle.recovery_laws.proofs.ColdVersions.{all_versions, each_contained}

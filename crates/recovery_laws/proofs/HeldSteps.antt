@@ -1,5 +1,5 @@
 -- What an image has of the histories of a device it has after the steps of a flush.
-use Rattle.std.proofs.Common.{◌≡◌, ℕ, List, refl, sym, ◌∙◌, subst, inl}
+use Rattle.std.proofs.Common.{◌≡◌, ℕ, List, sym, ◌∙◌, subst, inl}
 use Rattle.std.specs.Prelude.{Contains}
 use Rattle.std.specs.List.{AllByRecursion}
 use Rattle.rec_format.specs.declared.version.Digest.{Digest}
@@ -11,7 +11,7 @@ use Rattle.rec_format.specs.Steps.{sealed_stream, gate_begun, after_step}
 use Rattle.block_format.specs.Layout.{Body}
 use Rattle.block_format.specs.Copies.{copies_of}
 use Rattle.recovery_laws.specs.Holding.{begun_versions, flushed_versions, versions_in, Holds}
-use Rattle.recovery_laws.proofs.Surviving.{all_map}
+use Rattle.recovery_laws.proofs.Each.{all_map}
 use Rattle.recovery_laws.proofs.Pending.{seal_shown, begun_pending, begun_stays}
 use Rattle.recovery_laws.proofs.Stages.{IsFurther, begun_further, flushed_alike}
 
@@ -34,10 +34,6 @@ pub sealed_pending : (setup : Setup) (stream : Stream) (s : State) → pending_o
 unfolding after_step
 sealed_pending setup stream s = seal_shown stream s.book.buffers
 
-pub sealed_history : (setup : Setup) (stream : Stream) (s : State) (e : Digest) → history (after_step setup (sealed_stream stream) s) e ≡ history s e
-unfolding after_step
-sealed_history setup stream s e = refl
-
 pub sealed_held : (setup : Setup) (stream : Stream) (s : State) (image : List ℕ) (bodies : List Body) → Holds setup s image bodies → Holds setup (after_step setup (sealed_stream stream) s) image bodies
 unfolding after_step
 sealed_held setup stream s image bodies holds =
@@ -49,10 +45,6 @@ sealed_held setup stream s image bodies holds =
 
 begun_is_further : (number : ℕ) (book : Book) → IsFurther (pending_of book) (pending_of (with_gate_begun number book))
 begun_is_further number book = record { pending = λ m is. sym (begun_pending number book m) ∙ is; begun = λ m is. inl (begun_stays number book m is) }
-
-pub begun_history : (setup : Setup) (number : ℕ) (s : State) (e : Digest) → history (after_step setup (gate_begun number) s) e ≡ history s e
-unfolding after_step
-begun_history setup number s e = refl
 
 pub begun_held : (setup : Setup) (number : ℕ) (s : State) (image : List ℕ) (bodies : List Body) → Holds setup s image bodies → Holds setup (after_step setup (gate_begun number) s) image bodies
 unfolding after_step

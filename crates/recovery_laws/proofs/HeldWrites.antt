@@ -15,7 +15,7 @@ use Rattle.block_format.specs.Layout.{Body}
 use Rattle.recovery_laws.specs.Orderly.{NumbersBelow, IsOrderly}
 use Rattle.recovery_laws.specs.Holding.{begun_versions, flushed_versions, versions_in, Holds, IsCounted}
 use Rattle.recovery_laws.specs.Awaited.{IsAwaited}
-use Rattle.recovery_laws.proofs.Surviving.{SameBelow, any_same, flushed_same}
+use Rattle.recovery_laws.proofs.Each.{SameBelow, any_same, flushed_same}
 use Rattle.recovery_laws.proofs.Members.{rest_there}
 use Rattle.recovery_laws.proofs.HeldSteps.{held_after}
 use Rattle.recovery_laws.proofs.Placing.{wrote_pending}

@@ -1,5 +1,5 @@
 pub mod Images
-pub mod Surviving
+pub mod Each
 pub mod Growing
 pub mod Writing
 pub mod ColdOrder
@@ -20,5 +20,5 @@ pub mod Opening
 pub mod Flushing
 pub mod Placing
 pub mod HeldWrites
-pub mod Counting
+pub mod Orderly
 pub mod VersionsTo

@@ -12,7 +12,7 @@ use Rattle.block_format.specs.Layout.{IsOpen, gate_sector, body_bytes, Body, IsB
 use Rattle.block_format.specs.Copies.{Copy, HasBodies, IsReadable, copies_from, copies_of, copies_named}
 use Rattle.block_format.proofs.BodyLaws.{one_body}
 use Rattle.recovery_laws.specs.Holding.{versions_in}
-use Rattle.recovery_laws.proofs.Surviving.{all_map}
+use Rattle.recovery_laws.proofs.Each.{all_map}
 use Rattle.recovery_laws.proofs.Growing.{cons_cases}
 use Rattle.recovery_laws.proofs.Members.{first_there, rest_there, map_there, filter_there, flat_map_there, range_there}
 

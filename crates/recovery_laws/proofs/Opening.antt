@@ -17,7 +17,7 @@ use Rattle.block_format.specs.Recovery.{IsShapeOf, NoStrays}
 use Rattle.recovery_laws.specs.Writes.{DiffersIn}
 use Rattle.recovery_laws.specs.Holding.{begun_versions, flushed_versions, versions_in, Holds, IsHeld}
 use Rattle.recovery_laws.proofs.Images.{one_shape, readable_elsewhere, Opened, readable_opened}
-use Rattle.recovery_laws.proofs.Surviving.{all_map}
+use Rattle.recovery_laws.proofs.Each.{all_map}
 use Rattle.recovery_laws.proofs.Writing.{copies_joined}
 
 -- such an image is read in the shape of its setup

@@ -10,12 +10,12 @@ use Rattle.rec_format.specs.declared.version.Digest.{Digest}
 use Rattle.rec_format.specs.declared.version.Version.{Version}
 use Rattle.rec_format.specs.Versions.{version_units}
 use Rattle.rec_format.specs.Histories.{Pending, is_pending, is_begun}
-use Rattle.rec_format.specs.Book.{Setup, Buffer, Book, Phase, Stream, client, filling, sealed, opening, is_filling, is_opening, same_stream, seal_stream, first_block, filling_buffer, fits_in, has_room, with_new_buffer, with_room, put_in, placed, number_or, placing_number, refreshed, pending_of}
+use Rattle.rec_format.specs.Book.{Setup, Buffer, Book, Phase, Stream, client, defrag, filling, sealed, opening, is_filling, is_opening, same_stream, seal_stream, first_block, filling_buffer, fits_in, has_room, with_new_buffer, with_room, put_in, placed, number_or, placing_number, refreshed, pending_of}
 use Rattle.rec_format.specs.Device.{State}
 use Rattle.rec_format.specs.Steps.{wrote, after_step}
 use Rattle.recovery_laws.specs.Holding.{AreRising, IsCounted}
 use Rattle.recovery_laws.specs.Awaited.{IsAwaited}
-use Rattle.recovery_laws.proofs.Surviving.{all_map}
+use Rattle.recovery_laws.proofs.Each.{all_map}
 use Rattle.recovery_laws.proofs.Pending.{shown, any_map, seal_shown, use_shown}
 
 -- what is found passes the test, and what holds of each element holds of it
@@ -76,6 +76,44 @@ filling_alone stream (x ∷ buffers) b rising found = by (same_stream stream x.s
 pub some_room : (capacity units : ℕ) (o : Option Buffer) → fits_in capacity units o ≡ true → (b : Buffer) × (o ≡ Some b)
 some_room capacity units None fits = absurd (false≢true fits)
 some_room capacity units (Some b) fits = (b, refl)
+
+-- ---- the buffer that a placing finds
+
+-- where a new buffer begins no other of its stream takes records
+new_found : (stream : Stream) (buffers : List Buffer) (new : Buffer) → (same_stream stream new.stream && is_filling new.phase) ≡ true → filling_buffer stream (seal_stream stream buffers ++ new ∷ []) ≡ Some new
+new_found stream [] new is = rw is refl
+new_found stream (x ∷ buffers) new is = at_head (same_stream stream x.stream) (is_filling x.phase) refl refl (new_found stream buffers new is)
+  where
+    at_head : (c p : Bool) → same_stream stream x.stream ≡ c → is_filling x.phase ≡ p
+        → filling_buffer stream (seal_stream stream buffers ++ new ∷ []) ≡ Some new → filling_buffer stream (seal_stream stream (x ∷ buffers) ++ new ∷ []) ≡ Some new
+    at_head true true mine fills rest = rw (mine, fills, mine) rest
+    at_head true false mine fills rest = rw (mine, fills, mine, fills) rest
+    at_head false p mine fills rest = rw (mine, mine) rest
+
+takes_own : (stream : Stream) → (same_stream stream stream && true) ≡ true
+takes_own client = refl
+takes_own defrag = refl
+
+-- a buffer of the stream takes records, and has this number
+pub record Room (stream : Stream) (ready : Book) (number : ℕ) : Type 0 where
+  pub buffer : Buffer
+  pub found : filling_buffer stream ready.buffers ≡ Some buffer
+  pub same : buffer.number ≡ number
+
+pub room_of : (setup : Setup) (stream : Stream) (units : ℕ) (book : Book) → Room stream (with_room setup stream units book) (placing_number setup stream units book)
+room_of setup stream units book = by (has_room setup stream units book) (some_room setup.capacity units (filling_buffer stream book.buffers))
+  where
+    new : Buffer
+    new = record { number = book.next_number; block = first_block book.free; stream = stream; used = 0; phase = filling }
+
+    by : (c : Bool) → (c ≡ true → (b : Buffer) × (filling_buffer stream book.buffers ≡ Some b))
+        → Room stream (cond c book (with_new_buffer stream book)) (cond c (number_or book.next_number (filling_buffer stream book.buffers)) book.next_number)
+    by true some = let b = some refl in record { buffer = b.0; found = b.1; same = sym (ap (λ (o : Option Buffer). number_or book.next_number o) b.1) }
+    by false some = record {
+      buffer = new;
+      found = new_found stream book.buffers new (takes_own stream);
+      same = refl;
+    }
 
 -- ---- a buffer more
 

@@ -13,7 +13,7 @@ use Rattle.rec_format.specs.Device.{State, history}
 use Rattle.rec_format.specs.Steps.{wrote, after_step}
 use Rattle.recovery_laws.specs.Orderly.{NumbersBelow}
 use Rattle.recovery_laws.specs.Holding.{versions_to}
-use Rattle.recovery_laws.proofs.Surviving.{all_map}
+use Rattle.recovery_laws.proofs.Each.{all_map}
 use Rattle.recovery_laws.proofs.Placing.{any_none, less_apart}
 use Rattle.recovery_laws.proofs.HeldWrites.{written_item, wrote_history}
 

@@ -32,7 +32,7 @@ use Rattle.recovery_laws.proofs.HeldStart.{start_held}
 use Rattle.recovery_laws.proofs.Images.{one_shape}
 use Rattle.recovery_laws.proofs.Members.{filter_from}
 use Rattle.recovery_laws.proofs.StartLive.{start_live, entries_live}
-use Rattle.recovery_laws.proofs.Surviving.{all_map}
+use Rattle.recovery_laws.proofs.Each.{all_map}
 use Rattle.shard_core.specs.declared.settings.Settings.{Settings}
 use Rattle.shard_core.specs.declared.start.Asked.{Asked}
 use Rattle.shard_core.specs.declared.scan.Finding.{Finding}

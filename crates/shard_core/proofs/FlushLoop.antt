@@ -13,7 +13,7 @@ use Rattle.rec_format.specs.Steps.{Step, after_steps}
 use Rattle.rec_format.specs.Legal.{flush_all, flush_first, flush_count, StopsIn}
 use Rattle.disk_model.specs.Disk.{Images, IsHonest}
 use Rattle.block_format.specs.Recovery.{IsShapeOf}
-use Rattle.recovery_laws.proofs.Surviving.{all_map}
+use Rattle.recovery_laws.proofs.Each.{all_map}
 use Rattle.write_buffer.specs.declared.phase.Phase.{Phase}
 use Rattle.write_buffer.specs.declared.phase.Phase.TheVariants.{Filling, Sealed, BodyDone, GateBegun}
 use Rattle.write_buffer.specs.Buffers.{BufferState}

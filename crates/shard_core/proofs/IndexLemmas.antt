@@ -1,7 +1,6 @@
 -- What an index shows, over lists of entries.
 use Rattle.std.proofs.Common.{◌≡◌, ◌≢◌, ◌⊎◌, inl, inr, ⊎_elim, ℕ, ◌+◌, ◌<◌, ◌≤◌, max, Bool, true, false, cond, List, [], ◌∷◌, ◌++◌, length, take, drop, get_or, set, refl, sym, ◌∙◌, ap, subst, arith, rules}
 use Rattle.std.specs.Prelude.{Option, Some, None, IfSome, Contains, nat_eq, ◌==◌}
-use Rattle.std.specs.List.{AllByRecursion}
 use Rattle.std.specs.Cmp.Lexicographic.{pointwise}
 use Rattle.std.specs.Ordering.{ord_max, nat_cmp}
 use Rattle.std.proofs.lemmas.Bool.{cond-true, cond-false, eq-eqb, ne_eqb}
@@ -92,11 +91,6 @@ high-append devices sprigs part (r ∷ xs) ys = joined (part_number_of devices s
 -- each entry is the new one, or was there before
 pub held_cases : (e : Entry) (old new : List Entry) → Holds e old new → (x : Entry) → Contains new x → (e ≡ x) ⊎ Contains old x
 held_cases e old new holds x there = cons_cases e old x (all_at (Contains (e ∷ old)) new x holds.each there)
-
--- what holds of the new entry and of all others holds of all
-pub all_held : (P : Entry → Type 0) (e : Entry) (old new : List Entry) → Holds e old new → P e → AllByRecursion P old → AllByRecursion P new
-all_held P e old new holds is all =
-    all_from P new (λ x there. ⊎_elim (λ (same : e ≡ x). subst P same is) (λ (before : Contains old x). all_at P old x all before) (held_cases e old new holds x there))
 
 first_or_rest : (e : Entry) (old : List Entry) (x : Entry) → (e ≡ x) ⊎ Contains old x → Contains (e ∷ old) x
 first_or_rest e old x (inl same) = subst (Contains (e ∷ old)) same (first_there e old)

@@ -1,5 +1,5 @@
 -- What a write makes of the book: the buffer that takes it, the live copies, and the buffers up to it.
-use Rattle.std.proofs.Common.{◌≡◌, ℕ, ◌+◌, ◌<◌, ◌≤◌, Bool, true, false, not, cond, ◌&&◌, List, [], ◌∷◌, ◌++◌, map, refl, sym, ap, ◌∙◌, subst, arith}
+use Rattle.std.proofs.Common.{◌≡◌, ℕ, ◌+◌, ◌<◌, ◌≤◌, Bool, true, false, not, cond, ◌&&◌, List, [], ◌∷◌, map, refl, sym, ap, ◌∙◌, subst, arith}
 use Rattle.std.specs.Prelude.{Option, Some, ◌==◌, nat_le, filter, flat_map}
 use Rattle.std.specs.List.{AllByRecursion}
 use Rattle.std.proofs.Math.Nat.{le_refl}
@@ -9,14 +9,14 @@ use Rattle.rec_format.specs.declared.version.Version.{Version}
 use Rattle.rec_format.specs.Places.{same_digest}
 use Rattle.rec_format.specs.Versions.{version_units}
 use Rattle.rec_format.specs.Policy.{built}
-use Rattle.rec_format.specs.Book.{Setup, Book, Buffer, Live, client, filling, sealed, is_filling, same_stream, filling_buffer, has_room, sealed_if, seal_stream, first_block, with_new_buffer, with_room, used_more, put_in, placed, refreshed, number_or, placing_number, live_of, without_live}
+use Rattle.rec_format.specs.Book.{Setup, Book, Buffer, Live, client, sealed, is_filling, same_stream, filling_buffer, has_room, sealed_if, seal_stream, with_new_buffer, with_room, used_more, put_in, placed, refreshed, number_or, placing_number, live_of, without_live}
 use Rattle.rec_format.specs.Device.{State}
 use Rattle.rec_format.specs.Steps.{wrote, sealed_stream, after_step}
 use Rattle.rec_format.specs.Legal.{flush_of, flush_between, flush_all}
 use Rattle.rec_format.proofs.Laws.{same_digest_refl, same_digest_is}
-use Rattle.recovery_laws.proofs.Surviving.{all_map}
+use Rattle.recovery_laws.proofs.Each.{all_map}
 use Rattle.recovery_laws.proofs.Opening.{all_joined}
-use Rattle.recovery_laws.proofs.Placing.{found_is, some_room}
+use Rattle.recovery_laws.proofs.Placing.{found_is, some_room, Room, room_of}
 use Rattle.shard_core.proofs.FlushSteps.{StandRight}
 use Rattle.shard_core.proofs.Making.{refreshed_queue}
 
@@ -24,34 +24,6 @@ use Rattle.shard_core.proofs.Making.{refreshed_queue}
 
 abbrev takes : Buffer → Bool
 takes b = same_stream client b.stream && is_filling b.phase
-
--- where a new buffer begins no other of its stream takes records
-new_found : (xs : List Buffer) (new : Buffer) → takes new ≡ true → filling_buffer client (seal_stream client xs ++ new ∷ []) ≡ Some new
-new_found [] new is = rw is refl
-new_found (x ∷ xs) new is = at_head (same_stream client x.stream) (is_filling x.phase) refl refl (new_found xs new is)
-  where
-    at_head : (c p : Bool) → same_stream client x.stream ≡ c → is_filling x.phase ≡ p
-        → filling_buffer client (seal_stream client xs ++ new ∷ []) ≡ Some new → filling_buffer client (seal_stream client (x ∷ xs) ++ new ∷ []) ≡ Some new
-    at_head true true mine fills rest = rw (mine, fills, mine) rest
-    at_head true false mine fills rest = rw (mine, fills, mine, fills) rest
-    at_head false p mine fills rest = rw (mine, mine) rest
-
-pub record Room (ready : Book) (number : ℕ) : Type 0 where
-  pub buffer : Buffer
-  pub found : filling_buffer client ready.buffers ≡ Some buffer
-  pub same : buffer.number ≡ number
-
-pub room_of : (setup : Setup) (units : ℕ) (book : Book) → Room (with_room setup client units book) (placing_number setup client units book)
-room_of setup units book = by (has_room setup client units book) (some_room setup.capacity units (filling_buffer client book.buffers))
-  where
-    by : (c : Bool) → (c ≡ true → (b : Buffer) × (filling_buffer client book.buffers ≡ Some b))
-        → Room (cond c book (with_new_buffer client book)) (cond c (number_or book.next_number (filling_buffer client book.buffers)) book.next_number)
-    by true some = let b = some refl in record { buffer = b.0; found = b.1; same = sym (ap (λ (o : Option Buffer). number_or book.next_number o) b.1) }
-    by false some = record {
-      buffer = record { number = book.next_number; block = first_block book.free; stream = client; used = 0; phase = filling };
-      found = new_found book.buffers (record { number = book.next_number; block = first_block book.free; stream = client; used = 0; phase = filling }) refl;
-      same = refl;
-    }
 
 -- it still takes records, in the same block
 used_takes : (n units : ℕ) (b : Buffer) → takes (used_more n units b) ≡ takes b
@@ -91,19 +63,12 @@ room_live setup units book = by (has_room setup client units book)
     by true = refl
     by false = refl
 
-room_queue : (setup : Setup) (units : ℕ) (book : Book) → (with_room setup client units book).queue ≡ book.queue
-room_queue setup units book = by (has_room setup client units book)
-  where
-    by : (c : Bool) → (let b : Book = cond c book (with_new_buffer client book) in b.queue) ≡ book.queue
-    by true = refl
-    by false = refl
-
 module _ (setup : Setup) (digest : Digest) (units : ℕ) (book : Book) where
   abbrev ready : Book
   ready = with_room setup client units book
 
-  abbrev room : Room ready (placing_number setup client units book)
-  room = room_of setup units book
+  abbrev room : Room client ready (placing_number setup client units book)
+  room = room_of setup client units book
 
   put_is : placed setup client digest units book ≡ put_in setup digest units ready (Some room.buffer)
   unfolding placed
@@ -207,7 +172,7 @@ module _ (setup : Setup) (s : State) (digest : Digest) (v : Version) where
   after = after_step setup (wrote digest v) s
 
   abbrev own_taker : Buffer
-  own_taker = (room_of setup (version_units v) s.book).buffer
+  own_taker = (room_of setup client (version_units v) s.book).buffer
 
   book_is : after.book ≡ placed setup client digest (version_units v) s.book
   unfolding after_step

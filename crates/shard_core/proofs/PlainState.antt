@@ -15,7 +15,7 @@ use Rattle.rec_format.specs.Device.{State, Log, history_of, no_raid}
 use Rattle.disk_model.specs.Disk.{Images}
 use Rattle.recovery_laws.specs.Orderly.{NumbersBelow}
 use Rattle.recovery_laws.specs.Holding.{versions_to}
-use Rattle.recovery_laws.proofs.Surviving.{all_map}
+use Rattle.recovery_laws.proofs.Each.{all_map}
 use Rattle.recovery_laws.proofs.Growing.{all_from}
 use Rattle.write_buffer.specs.Buffers.{BufferState}
 use Rattle.block_shelf.specs.View.{ShelfView, IsShelf, IsBufferOf, StandInOrder, IsSetupOf, is_filling}

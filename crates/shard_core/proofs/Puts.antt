@@ -23,7 +23,7 @@ use Rattle.disk_model.specs.Runs.{OneOf, Leaves, leaves_none}
 use Rattle.block_format.specs.Recovery.{Survives}
 use Rattle.recovery_laws.specs.Orderly.{AreWrites, IsFalling, IsOrderly}
 use Rattle.recovery_laws.specs.Writes.{MayFollow}
-use Rattle.recovery_laws.proofs.Surviving.{all_map}
+use Rattle.recovery_laws.proofs.Each.{all_map}
 use Rattle.recovery_laws.proofs.Growing.{all_at}
 use Rattle.recovery_laws.proofs.HeldWrites.{written_item, wrote_history}
 use Rattle.block_shelf.specs.declared.place.Class.TheVariants as class

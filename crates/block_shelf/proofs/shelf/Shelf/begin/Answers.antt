@@ -4,7 +4,7 @@ use Rattle.std.specs.Vec.{with_items}
 use Rattle.write_buffer.specs.Buffers.{BufferState, empty_buffer}
 use Rattle.rec_format.specs.Versions.{block_capacity}
 use Rattle.rec_format.specs.Book.{first_block}
-use Rattle.recovery_laws.proofs.Surviving.{all_map}
+use Rattle.recovery_laws.proofs.Each.{all_map}
 use Rattle.block_shelf.specs.View.{IsShelf, IsBufferOf}
 use Rattle.block_shelf.specs.Changes.{sealed_buffer}
 use Rattle.block_shelf.proofs.Blocks.{at_most}

@@ -6,7 +6,7 @@ use Rattle.rec_format.specs.Device.{State}
 use Rattle.block_flusher.specs.Images.{IsShut, HasOneBody}
 use Rattle.write_buffer.specs.declared.phase.Phase.TheVariants.{GateBegun}
 use Rattle.write_buffer.specs.Buffers.{with_phase, bytes_of}
-use Rattle.recovery_laws.proofs.Surviving.{all_map}
+use Rattle.recovery_laws.proofs.Each.{all_map}
 use Rattle.block_shelf.specs.View.{ShelfView, IsSetupOf, IsReady, StandInOrder, is_filling, is_written}
 use Rattle.block_shelf.specs.Standing.{StandsFor}
 use Rattle.block_shelf.specs.Calls.{Goes}

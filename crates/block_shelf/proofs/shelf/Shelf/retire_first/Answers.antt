@@ -11,7 +11,7 @@ use Rattle.block_flusher.specs.Images.{IsShut, IsOpened, HasOneBody}
 use Rattle.write_buffer.specs.declared.phase.Phase.{Phase}
 use Rattle.write_buffer.specs.declared.phase.Phase.TheVariants.{GateBegun}
 use Rattle.write_buffer.specs.Buffers.{BufferState, bytes_of, body_in}
-use Rattle.recovery_laws.proofs.Surviving.{all_map}
+use Rattle.recovery_laws.proofs.Each.{all_map}
 use Rattle.block_shelf.specs.View.{ShelfView, IsSetupOf, IsBufferOf, IsReady, StandInOrder, AreApart, is_filling, is_written}
 use Rattle.block_shelf.specs.Standing.{StandsFor}
 use Rattle.block_shelf.specs.Calls.{Goes}
