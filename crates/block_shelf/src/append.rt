@@ -7,7 +7,7 @@ ghost use Rattle.rec_format.specs.Device.{State};
 ghost use Rattle.rec_format.specs.Steps.{wrote, after_step};
 ghost use Rattle.recovery_laws.specs.Writes.{MayFollow};
 ghost use Rattle.write_buffer.specs.Buffers.{BufferState, used_units};
-ghost use Rattle.block_shelf.specs.View.{IsSetupOf, SameShape};
+ghost use Rattle.block_shelf.specs.View.{IsShelf, IsSetupOf, SameShape};
 ghost use Rattle.block_shelf.specs.Standing.{StandsFor, IsPlaced, IsSafe};
 ghost use Rattle.block_shelf.specs.Calls.{append_refusal, IsPutRefusal, live_at};
 ghost use Rattle.block_shelf.specs.Changes.{HasRoom, begin_refusal, with_begun, with_written};
@@ -45,6 +45,7 @@ impl<D: Disk> Shelf<D> {
             × (MayFollow setup s digest.now version.now → IsSafe setup D.may_leave self.old s → IsSafe setup D.may_leave self.new (after_step setup (wrote digest.now version.now) s)))
             (λ refusal. IsPutRefusal refusal (append_refusal setup class (version_units version.now) s.book)) }
         ensures units { IfOk result (λ place. place.units ≡ version_units version.now) }
+        ensures whole { IsShelf D.extent D.tells D.seen D.may_leave self.old }
         ensures disk { self.new.disk ≡ self.old.disk }
         ensures shape { SameShape self.old self.new }
         ensures refused { OnErr result (self.new ≡ self.old) }

@@ -11,7 +11,7 @@ ghost use Rattle.block_flusher.specs.Images.{IsShut, IsOpened};
 ghost use Rattle.write_buffer.specs.declared.phase.Phase.TheVariants.{Sealed, GateBegun};
 ghost use Rattle.write_buffer.specs.Buffers.{with_phase};
 ghost use Rattle.block_shelf.specs.Disks.{IsLater};
-ghost use Rattle.block_shelf.specs.View.{SameShape, SameBuffers, IsSetupOf, is_filling, is_written};
+ghost use Rattle.block_shelf.specs.View.{IsShelf, SameShape, SameBuffers, IsSetupOf, is_filling, is_written};
 ghost use Rattle.block_shelf.specs.Standing.{StandsFor, book_buffer};
 ghost use Rattle.block_shelf.specs.Calls.{FlushMakes, Goes};
 ghost use Rattle.block_shelf.specs.Flushes.{FirstIs, with_first, GateIs, first_gate_steps};
@@ -32,6 +32,7 @@ impl<D: Disk> Shelf<D> {
         ensures fewer { IfOk result (λ number. MatchOption number (self.new ≡ self.old) (λ n. length self.old.buffers ≡ length self.new.buffers + 1)) }
         ensures none { result ≡ Ok None → AllByRecursion (λ b. is_filling b.phase ≡ true) self.old.buffers }
         ensures left { OnErr result (self.new.buffers ≢ []) }
+        ensures whole { IsShelf D.extent D.tells D.seen D.may_leave self.old }
         ensures cause { OnErr result (Rose (D.faults self.old.disk) (D.faults self.new.disk)) }
         ensures later { IsLater D.extent D.moment D.had D.left_since D.faults self.old.disk self.new.disk }
         ensures honest { IsHonest D.tells D.seen D.may_leave self.old.disk → IsHonest D.tells D.seen D.may_leave self.new.disk }
@@ -52,6 +53,7 @@ impl<D: Disk> Shelf<D> {
     fn first_is_sealed(&self) -> bool
         ensures first { MatchBool result (FirstIs (λ b. is_filling b.phase ≡ false) self.now.buffers) (first_sealed (map book_buffer self.now.buffers) ≡ []) }
         ensures none { result ≡ false → AllByRecursion (λ b. is_filling b.phase ≡ true) self.now.buffers }
+        ensures whole { IsShelf D.extent D.tells D.seen D.may_leave self.now }
     {
         match self.buffers.first() {
             Some(buffer) => match buffer.phase() {

@@ -5,7 +5,7 @@ ghost use Rattle.rec_format.specs.Versions.{top_number};
 ghost use Rattle.block_format.specs.Layout.{IsGeometry, device_end};
 ghost use Rattle.block_format.specs.declared.geometry.Gate.TheVariants.{Shut};
 ghost use Rattle.block_flusher.specs.Images.{IsShut};
-ghost use Rattle.block_shelf.specs.View.{AreLimits, shut_blocks};
+ghost use Rattle.block_shelf.specs.View.{IsShelf, AreLimits, shut_blocks};
 
 use crate::{NoMemory, Place, ShelfLimits};
 use block_format::{Gate, Geometry};
@@ -105,7 +105,8 @@ impl<D: Disk> Shelf<D> {
 
     /// The device's shape.
     pub fn geometry(&self) -> Geometry
-        ensures { result ≡ self.now.geometry }
+        ensures shape { result ≡ self.now.geometry }
+        ensures whole { IsShelf D.extent D.tells D.seen D.may_leave self.now }
     {
         self.geometry
     }

@@ -1,11 +1,12 @@
 -- A flush of all sealed buffers, one after another: what each step adds, and how it ends.
-use Rattle.std.proofs.Common.{◌≡◌, ℕ, ◌+◌, ◌<◌, ◌≤◌, true, false, List, [], ◌∷◌, ◌++◌, map, length, refl, sym, ◌∙◌, ap, subst, arith, append_assoc}
-use Rattle.std.specs.Prelude.{Option, Some, None, Result, Ok, Err, IfOk, OnErr, MatchOption}
+use Rattle.std.proofs.Common.{inl, inr, ◌≡◌, ℕ, ◌+◌, ◌<◌, ◌≤◌, true, false, List, [], ◌∷◌, ◌++◌, map, length, refl, sym, ◌∙◌, ap, subst, arith, append_assoc}
+use Rattle.std.specs.Prelude.{◌⊎◌, Option, Some, None, Result, Ok, Err, IfOk, OnErr, MatchOption}
 use Rattle.std.specs.List.{AllByRecursion}
 use Rattle.std.proofs.lemmas.Bool.{false≢true}
 use Rattle.std.proofs.lemmas.List.{append-nil}
 use Rattle.std.specs.Result.{IsErr}
 use Rattle.fault_count.specs.Counts.{Rose}
+use Rattle.rec_format.specs.Versions.{top_number}
 use Rattle.rec_format.specs.Book as book
 use Rattle.rec_format.specs.Book.{Setup, Buffer}
 use Rattle.rec_format.specs.Device.{State}
@@ -50,11 +51,17 @@ buffers_fit (b ∷ bs) low next order above below le =
     let rest : b.number + 1 + length bs ≤ next = buffers_fit bs (b.number + 1) next order.1 (all_map (λ c. (b.number < c.number) × (is_filling b.phase ≡ false)) (λ c. b.number + 1 ≤ c.number) bs (λ c h. omega (arith, h.0)) order.0) below.1 (omega (arith, below.0)) in
     omega (arith, rest, above.0)
 
-pub few_buffers : {D : Type 0} (extent : D → ℕ) (tells : D → Type 0) (seen : D → List ℕ) (may_leave : D → Images) (shelf : ShelfView D) → IsShelf extent tells seen may_leave shelf → length shelf.buffers ≤ shelf.next_number
+few_buffers : {D : Type 0} (extent : D → ℕ) (tells : D → Type 0) (seen : D → List ℕ) (may_leave : D → Images) (shelf : ShelfView D) → IsShelf extent tells seen may_leave shelf → length shelf.buffers ≤ shelf.next_number
 few_buffers extent tells seen may_leave shelf kept =
     let fit : 0 + length shelf.buffers ≤ shelf.next_number = buffers_fit shelf.buffers 0 shelf.next_number kept.order (all_map (IsBufferOf shelf.geometry shelf.next_number) (λ b. 0 ≤ b.number) shelf.buffers (λ b h. omega arith) kept.buffers)
     (all_map (IsBufferOf shelf.geometry shelf.next_number) (λ b. b.number < shelf.next_number) shelf.buffers (λ b h. h.number) kept.buffers) (omega arith) in
     omega arith
+
+-- with those that were flushed before they are as many as numbers at most, also before the first
+pub fits_before : {D : Type 0} (extent : D → ℕ) (tells : D → Type 0) (seen : D → List ℕ) (may_leave : D → Images) (count : ℕ) (shelf : ShelfView D) → IsShelf extent tells seen may_leave shelf
+    → (count ≡ 0) ⊎ (count + length shelf.buffers ≤ top_number + 1) → count + length shelf.buffers ≤ top_number + 1
+fits_before extent tells seen may_leave count shelf kept (inl none) = omega (arith, none, few_buffers extent tells seen may_leave shelf kept, kept.number.1)
+fits_before extent tells seen may_leave count shelf kept (inr few) = few
 
 -- ---- the loop
 

@@ -33,10 +33,8 @@ pub(crate) fn flush_sealed<D: Disk>(shelf: &mut Shelf<D>) -> Result<u64, DiskFau
     ensures shape { shelf_view.SameShape shelf.old shelf.new }
 {
     let mut count = 0;
-    shelf.kept();
     while let Some(_) = shelf.flush_step()? {
         count += 1;
-        shelf.kept();
     }
     Ok(count)
 }

@@ -96,9 +96,8 @@ impl<D: Disk> Shard<D> {
     fn stamp_for(&self, digest: &Digest, now: u64) -> Result<(Stamp, bool), Spent>
         ensures { MatchResult result (λ given. (given_stamp self.now digest.now now ≡ Some given.0) × (given.1 ≡ flag_of (held digest.now self.now.index))) (λ spent. given_stamp self.now digest.now now ≡ None) }
     {
-        self.shelf.kept();
-        let (prior, cover) = self.index.prior(digest);
         let devices = self.shelf.geometry().devices;
+        let (prior, cover) = self.index.prior(digest);
         let high = self.index.high_time(digest, self.set.sprigs, devices);
         match next_stamp(prior, high, now) {
             Ok(stamp) => Ok((stamp, cover)),
@@ -123,7 +122,6 @@ impl<D: Disk> Shard<D> {
         ensures disk { self.new.shelf.disk ≡ self.old.shelf.disk }
         ensures shape { SameShape self.old self.new }
     {
-        self.shelf.kept();
         let Ok(()) = self.index.reserve() else {
             return Err(WriteRefusal::Memory);
         };

@@ -1,4 +1,4 @@
-use Rattle.std.proofs.Common.{◌≡◌, ℕ, ◌+◌, length, refl, ◌∙◌, ap, subst, arith}
+use Rattle.std.proofs.Common.{inl, inr, ◌≡◌, ℕ, ◌+◌, length, refl, ◌∙◌, ap, subst, arith}
 use Rattle.std.specs.Prelude.{Option, Some, None, Result, Ok, Err, OnErr}
 use Rattle.fault_count.specs.Counts.{Rose}
 use Rattle.rec_format.specs.Legal.{flush_all}
@@ -6,7 +6,7 @@ use Rattle.disk_model.specs.declared.disk.DiskFault.{DiskFault}
 use Rattle.block_shelf.specs.View.{ShelfView}
 use Rattle.shard_core.proofs.Going.{HasNow, goes_none}
 use Rattle.shard_core.proofs.Later.{later_none, later_then, shape_then}
-use Rattle.shard_core.proofs.FlushLoop.{Stepped, Fewer, few_buffers, setup_stays, went_on, went_all, went_stopped, quiet_on, none_left, where_err, on_err, rose_since}
+use Rattle.shard_core.proofs.FlushLoop.{Stepped, Fewer, fits_before, setup_stays, went_on, went_all, went_stopped, quiet_on, none_left, where_err, on_err, rose_since}
 use Rattle.shard_core.proofs.flush.flush_sealed.Goals as goal
 
 pub loop-count-init : goal.loop-count-init
@@ -14,8 +14,7 @@ loop-count-init g c =
     let old : ShelfView g.row.D.Denot = c.args.shelf.now in
     let now : HasNow g.D.Disk.may_leave g.D.Disk.moment g.D.Disk.had g.D.Disk.left_since old.disk = record { had_now = g.met.D.Disk.now_had old.disk; alone = g.met.D.Disk.now_alone old.disk; since = g.met.D.Disk.now_since old.disk } in
     record {
-      kept = c.kept.ensures;
-      few = omega (arith, few_buffers g.D.Disk.extent g.D.Disk.tells g.D.Disk.seen g.D.Disk.may_leave old c.kept.ensures, c.kept.ensures.number.1);
+      few = inl refl;
       went = λ setup s is stands. record {
         steps = _;
         left = refl;
@@ -36,7 +35,7 @@ returns-in_err-flush_step-clause-flushed g c = λ setup s is stands.
     let stepped : Stepped g.D.Disk.extent g.D.Disk.tells g.D.Disk.seen g.D.Disk.may_leave g.D.Disk.moment g.D.Disk.had g.D.Disk.left_since (Err c.in_err-flush_step.field-0.0) mid new =
     subst (λ (r : Result (Option ℕ) DiskFault). Stepped g.D.Disk.extent g.D.Disk.tells g.D.Disk.seen g.D.Disk.may_leave g.D.Disk.moment g.D.Disk.had g.D.Disk.left_since r mid new) c.in_err-flush_step.was c.flush_step.ensures.flushed in
     let ends = went_stopped g.D.Disk.extent g.D.Disk.tells g.D.Disk.seen g.D.Disk.may_leave g.D.Disk.moment g.D.Disk.had g.D.Disk.left_since setup c.loop-count.count old mid new s
-    (setup_stays setup old mid c.loop-count.invariant.shape is) (c.loop-count.invariant.went setup s is stands) c.loop-count.invariant.kept c.loop-count.invariant.honest c.in_err-flush_step.field-0.0 stepped in
+    (setup_stays setup old mid c.loop-count.invariant.shape is) (c.loop-count.invariant.went setup s is stands) c.flush_step.ensures.whole c.loop-count.invariant.honest c.in_err-flush_step.field-0.0 stepped in
     (ends.0, where_err c.from_residual.result (flush_all s.book) ends.0 c.from_residual.ensures.0 ends.1, ends.2)
 
 pub overflow_add-count : goal.overflow_add-count
@@ -45,7 +44,8 @@ overflow_add-count g c =
     let new : ShelfView g.row.D.Denot = c.flush_step.new.self in
     let is_some : c.flush_step.result ≡ Ok (Some c.in-Some.field-0) = c.in_ok-flush_step.was ∙ ap (λ (o : Option ℕ). Ok o) c.in-Some.is in
     let fewer : length mid.buffers ≡ length new.buffers + 1 = subst (λ (r : Result (Option ℕ) DiskFault). Fewer r mid new) is_some c.flush_step.ensures.fewer in
-    omega (arith, fewer, c.loop-count.invariant.few)
+    let few = fits_before g.D.Disk.extent g.D.Disk.tells g.D.Disk.seen g.D.Disk.may_leave c.loop-count.count mid c.flush_step.ensures.whole c.loop-count.invariant.few in
+    omega (arith, fewer, few)
 
 pub loop-count-smaller : goal.loop-count-smaller
 loop-count-smaller g c =
@@ -64,12 +64,12 @@ loop-count-preserved g c =
     let stepped : Stepped g.D.Disk.extent g.D.Disk.tells g.D.Disk.seen g.D.Disk.may_leave g.D.Disk.moment g.D.Disk.had g.D.Disk.left_since {E = DiskFault} (Ok (Some c.in-Some.field-0)) mid new =
     subst (λ (r : Result (Option ℕ) DiskFault). Stepped g.D.Disk.extent g.D.Disk.tells g.D.Disk.seen g.D.Disk.may_leave g.D.Disk.moment g.D.Disk.had g.D.Disk.left_since r mid new) is_some c.flush_step.ensures.flushed in
     let fewer : length mid.buffers ≡ length new.buffers + 1 = subst (λ (r : Result (Option ℕ) DiskFault). Fewer r mid new) is_some c.flush_step.ensures.fewer in
+    let few = fits_before g.D.Disk.extent g.D.Disk.tells g.D.Disk.seen g.D.Disk.may_leave c.loop-count.count mid c.flush_step.ensures.whole c.loop-count.invariant.few in
     record {
-      kept = c.kept-in-Some.ensures;
-      few = omega (arith, fewer, c.loop-count.invariant.few);
+      few = inr (omega (arith, fewer, few));
       went = λ setup s is stands. went_on g.D.Disk.extent g.D.Disk.tells g.D.Disk.seen g.D.Disk.may_leave g.D.Disk.moment g.D.Disk.had g.D.Disk.left_since setup c.loop-count.count old mid new s
-          (setup_stays setup old mid c.loop-count.invariant.shape is) (c.loop-count.invariant.went setup s is stands) c.loop-count.invariant.kept c.loop-count.invariant.honest DiskFault c.in-Some.field-0 stepped;
-      quiet = λ quiet. quiet_on g.D.Disk.extent g.D.Disk.tells g.D.Disk.seen g.D.Disk.may_leave g.D.Disk.moment g.D.Disk.had g.D.Disk.left_since mid new c.loop-count.invariant.kept (c.loop-count.invariant.quiet quiet) DiskFault c.in-Some.field-0 stepped;
+          (setup_stays setup old mid c.loop-count.invariant.shape is) (c.loop-count.invariant.went setup s is stands) c.flush_step.ensures.whole c.loop-count.invariant.honest DiskFault c.in-Some.field-0 stepped;
+      quiet = λ quiet. quiet_on g.D.Disk.extent g.D.Disk.tells g.D.Disk.seen g.D.Disk.may_leave g.D.Disk.moment g.D.Disk.had g.D.Disk.left_since mid new c.flush_step.ensures.whole (c.loop-count.invariant.quiet quiet) DiskFault c.in-Some.field-0 stepped;
       later = later_then g.D.Disk.extent g.D.Disk.may_leave g.D.Disk.moment g.D.Disk.had g.D.Disk.left_since g.D.Disk.faults old.disk mid.disk new.disk c.loop-count.invariant.later c.flush_step.ensures.later;
       honest = λ honest. c.flush_step.ensures.honest (c.loop-count.invariant.honest honest);
       shape = shape_then old mid new c.loop-count.invariant.shape c.flush_step.ensures.shape;
@@ -103,7 +103,7 @@ returns-clause-flushed g c = λ setup s is stands.
     let stepped : Stepped g.D.Disk.extent g.D.Disk.tells g.D.Disk.seen g.D.Disk.may_leave g.D.Disk.moment g.D.Disk.had g.D.Disk.left_since {E = DiskFault} (Ok None) mid new =
     subst (λ (r : Result (Option ℕ) DiskFault). Stepped g.D.Disk.extent g.D.Disk.tells g.D.Disk.seen g.D.Disk.may_leave g.D.Disk.moment g.D.Disk.had g.D.Disk.left_since r mid new) is_none c.flush_step.ensures.flushed in
     went_all g.D.Disk.extent g.D.Disk.tells g.D.Disk.seen g.D.Disk.may_leave g.D.Disk.moment g.D.Disk.had g.D.Disk.left_since setup c.loop-count.count old mid new s
-    (setup_stays setup old mid c.loop-count.invariant.shape is) (c.loop-count.invariant.went setup s is stands) c.loop-count.invariant.kept c.loop-count.invariant.honest DiskFault stepped
+    (setup_stays setup old mid c.loop-count.invariant.shape is) (c.loop-count.invariant.went setup s is stands) c.flush_step.ensures.whole c.loop-count.invariant.honest DiskFault stepped
 
 pub returns-clause-quiet : goal.returns-clause-quiet
 returns-clause-quiet g c = λ quiet.

@@ -1,18 +1,18 @@
-use Rattle.std.proofs.Common.{◌+◌, ◌≤◌, length}
+use Rattle.std.proofs.Common.{◌≡◌, ◌+◌, ◌≤◌, length}
+use Rattle.std.specs.Prelude.{◌⊎◌}
 use Rattle.rec_format.specs.Versions.{top_number}
 use Rattle.rec_format.specs.Book.{Setup}
 use Rattle.rec_format.specs.Device.{State}
 use Rattle.disk_model.specs.Disk.{IsHonest}
 use Rattle.block_shelf.specs.Disks.{IsLater}
-use Rattle.block_shelf.specs.View.{IsShelf, IsSetupOf, SameShape}
+use Rattle.block_shelf.specs.View.{IsSetupOf, SameShape}
 use Rattle.block_shelf.specs.Standing.{StandsFor}
 use Rattle.shard_core.proofs.FlushLoop.{Went, IsQuiet}
 use Rattle.shard_core.proofs.flush.flush_sealed.Given as goal
 
 abbrev pub invariant-loop-count : goal.invariant-loop-count
 invariant-loop-count g l = record {
-  kept : IsShelf g.D.Disk.extent g.D.Disk.tells g.D.Disk.seen g.D.Disk.may_leave l.shelf;
-  few : l.count + length l.shelf.buffers ≤ top_number + 1;
+  few : (l.count ≡ 0) ⊎ (l.count + length l.shelf.buffers ≤ top_number + 1);
   went : (setup : Setup) (s : State) → IsSetupOf setup l.fn.shelf → StandsFor l.fn.shelf s
       → Went g.D.Disk.extent g.D.Disk.tells g.D.Disk.seen g.D.Disk.may_leave g.D.Disk.moment g.D.Disk.had g.D.Disk.left_since setup l.count l.fn.shelf s l.shelf;
   quiet : IsQuiet l.fn.shelf → IsQuiet l.shelf;
