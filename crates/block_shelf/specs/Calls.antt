@@ -1,10 +1,10 @@
 -- Crate block_shelf. What the calls of a shelf answer, as the definitions see it.
-use Rattle.std.specs.Prelude.{◌≡◌, ℕ, ◌+◌, ◌-◌, ◌*◌, nat_lt, List, [], ◌∷◌, ◌++◌, Option, Result, Ok, Err, Some, None, if◌then◌else◌, take, drop}
+use Rattle.std.specs.Prelude.{◌≡◌, ℕ, ◌+◌, ◌-◌, ◌*◌, ◌<◌, ◌≤◌, nat_lt, List, [], ◌∷◌, ◌++◌, Option, Result, Ok, Err, Some, None, if◌then◌else◌, take, drop}
 use Rattle.rec_format.specs.declared.version.Digest.{Digest}
 use Rattle.rec_format.specs.declared.version.Head.{Head}
 use Rattle.rec_format.specs.declared.version.Version.{Version}
 use Rattle.rec_format.specs.declared.entry.Entry.{Entry}
-use Rattle.rec_format.specs.Versions.{version_units, units_for}
+use Rattle.rec_format.specs.Versions.{version_units, units_for, block_capacity}
 use Rattle.rec_format.specs.RecordText.{CanBeHead, head_text}
 use Rattle.rec_format.specs.Book.{Setup, Book, Live, client}
 use Rattle.rec_format.specs.Device.{State}
@@ -31,6 +31,10 @@ use Rattle.block_shelf.specs.Standing.{StandsFor, IsSafe, IsPlaced}
 
 abbrev pub live_at : Digest → Place → Live
 live_at digest place = record { digest = digest; block = place.block; unit = place.unit; units = place.units }
+
+-- so many units in a block of the device
+abbrev pub IsPlaceFor : Geometry → (units : ℕ) → Place → Type 0
+IsPlaceFor g units place = (place.units ≡ units) × (place.block < g.blocks) × (place.unit + place.units ≤ block_capacity g.block_size)
 
 -- how many free blocks have to stay where a copy of this class takes one
 abbrev pub kept_free : Class → ℕ

@@ -1,5 +1,5 @@
 -- Crate block_shelf. The first buffer of a shelf while it is flushed.
-use Rattle.std.specs.Prelude.{ℕ, Bool, List, [], ◌∷◌, MatchBool}
+use Rattle.std.specs.Prelude.{◌≡◌, ℕ, ◌+◌, Bool, List, [], ◌∷◌, length, drop, MatchBool}
 use Rattle.disk_model.specs.Disk.{Images}
 use Rattle.rec_format.specs.Steps.{Step, gate_begun}
 use Rattle.block_format.specs.declared.geometry.Geometry.{Geometry}
@@ -16,6 +16,14 @@ FirstIs P (b ∷ bs) = P b
 abbrev pub with_first : (BufferState → BufferState) → List BufferState → List BufferState
 with_first change [] = []
 with_first change (b ∷ bs) = change b ∷ bs
+
+-- the others are as they were
+abbrev pub ChangesFirst : (old new : List BufferState) → Type 0
+ChangesFirst old new = (drop 1 new ≡ drop 1 old) × (length new ≡ length old)
+
+-- the first leaves, and the others are as they were
+abbrev pub FirstLeaves : (old new : List BufferState) → Type 0
+FirstLeaves old new = (drop 1 old ≡ new) × (length old ≡ length new + 1)
 
 -- the block's gate is open in each image, or closed in each
 abbrev pub GateIs : Bool → Geometry → (block : ℕ) → Images → Type 0

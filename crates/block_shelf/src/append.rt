@@ -9,7 +9,7 @@ ghost use Rattle.recovery_laws.specs.Writes.{MayFollow};
 ghost use Rattle.write_buffer.specs.Buffers.{BufferState, used_units};
 ghost use Rattle.block_shelf.specs.View.{IsShelf, IsSetupOf, SameShape};
 ghost use Rattle.block_shelf.specs.Standing.{StandsFor, IsPlaced, IsSafe};
-ghost use Rattle.block_shelf.specs.Calls.{append_refusal, IsPutRefusal, live_at};
+ghost use Rattle.block_shelf.specs.Calls.{IsPlaceFor, append_refusal, IsPutRefusal, live_at};
 ghost use Rattle.block_shelf.specs.Changes.{HasRoom, begin_refusal, with_begun, with_written};
 
 use crate::seal::seal_each;
@@ -44,7 +44,7 @@ impl<D: Disk> Shelf<D> {
             × (IsPlaced D.may_leave self.old s → IsPlaced D.may_leave self.new (after_step setup (wrote digest.now version.now) s))
             × (MayFollow setup s digest.now version.now → IsSafe setup D.may_leave self.old s → IsSafe setup D.may_leave self.new (after_step setup (wrote digest.now version.now) s)))
             (λ refusal. IsPutRefusal refusal (append_refusal setup class (version_units version.now) s.book)) }
-        ensures units { IfOk result (λ place. place.units ≡ version_units version.now) }
+        ensures place { IfOk result (IsPlaceFor self.old.geometry (version_units version.now)) }
         ensures whole { IsShelf D.extent D.tells D.seen D.may_leave self.old }
         ensures disk { self.new.disk ≡ self.old.disk }
         ensures shape { SameShape self.old self.new }
@@ -113,6 +113,7 @@ impl<D: Disk> Shelf<D> {
         ensures written { (front : List BufferState) (last : BufferState) → self.old.buffers ≡ front ++ last ∷ []
             → (self.new ≡ with_written digest.now version.now front last self.old)
             × (result ≡ record { block = last.block; unit = used_units last; units = units }) }
+        ensures place { IsPlaceFor self.old.geometry units result }
     {
         let last = self.buffers.len() - 1;
         let buffer = &mut self.buffers[last];

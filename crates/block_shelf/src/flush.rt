@@ -14,7 +14,7 @@ ghost use Rattle.block_shelf.specs.Disks.{IsLater};
 ghost use Rattle.block_shelf.specs.View.{IsShelf, SameShape, SameBuffers, IsSetupOf, is_filling, is_written};
 ghost use Rattle.block_shelf.specs.Standing.{StandsFor, book_buffer};
 ghost use Rattle.block_shelf.specs.Calls.{FlushMakes, Goes};
-ghost use Rattle.block_shelf.specs.Flushes.{FirstIs, with_first, GateIs, first_gate_steps};
+ghost use Rattle.block_shelf.specs.Flushes.{ChangesFirst, FirstLeaves, FirstIs, with_first, GateIs, first_gate_steps};
 
 use crate::Shelf;
 use block_flusher::{open_gate, place_of, write_body};
@@ -29,7 +29,7 @@ impl<D: Disk> Shelf<D> {
     pub fn flush_step(&mut self) -> Result<Option<u64>, DiskFault>
         ensures flushed { (setup : Setup) (s : State) → IsSetupOf setup self.old → StandsFor self.old s
             → (steps : List Step) × FlushMakes result (flush_first s.book) steps × Goes D.tells D.seen D.may_leave D.moment D.had D.left_since setup steps self.old s self.new }
-        ensures fewer { IfOk result (λ number. MatchOption number (self.new ≡ self.old) (λ n. length self.old.buffers ≡ length self.new.buffers + 1)) }
+        ensures first { IfOk result (λ number. MatchOption number (self.new ≡ self.old) (λ n. FirstLeaves self.old.buffers self.new.buffers)) }
         ensures none { result ≡ Ok None → AllByRecursion (λ b. is_filling b.phase ≡ true) self.old.buffers }
         ensures left { OnErr result (self.new.buffers ≢ []) }
         ensures whole { IsShelf D.extent D.tells D.seen D.may_leave self.old }
@@ -71,7 +71,7 @@ impl<D: Disk> Shelf<D> {
             → Goes D.tells D.seen D.may_leave D.moment D.had D.left_since setup [] self.old s self.new }
         ensures written { OnOk result (FirstIs (λ b. is_written b.phase ≡ true) self.new.buffers) }
         ensures gate { IfOk result (λ is_open. IsHonest D.tells D.seen D.may_leave self.new.disk → FirstIs (λ b. GateIs is_open self.new.geometry b.block (D.may_leave self.new.disk)) self.new.buffers) }
-        ensures count { length self.new.buffers ≡ length self.old.buffers }
+        ensures rest { ChangesFirst self.old.buffers self.new.buffers }
         ensures cause { OnErr result (Rose (D.faults self.old.disk) (D.faults self.new.disk)) }
         ensures later { IsLater D.extent D.moment D.had D.left_since D.faults self.old.disk self.new.disk }
         ensures honest { IsHonest D.tells D.seen D.may_leave self.old.disk → IsHonest D.tells D.seen D.may_leave self.new.disk }
@@ -93,7 +93,7 @@ impl<D: Disk> Shelf<D> {
             → Goes D.tells D.seen D.may_leave D.moment D.had D.left_since setup [] self.old s self.new }
         ensures written { OnOk result (FirstIs (λ b. is_written b.phase ≡ true) self.new.buffers) }
         ensures shut { OnOk result (IsHonest D.tells D.seen D.may_leave self.new.disk → FirstIs (λ b. IsShut self.new.geometry b.block (D.may_leave self.new.disk)) self.new.buffers) }
-        ensures count { length self.new.buffers ≡ length self.old.buffers }
+        ensures rest { ChangesFirst self.old.buffers self.new.buffers }
         ensures cause { OnErr result (Rose (D.faults self.old.disk) (D.faults self.new.disk)) }
         ensures later { IsLater D.extent D.moment D.had D.left_since D.faults self.old.disk self.new.disk }
         ensures honest { IsHonest D.tells D.seen D.may_leave self.old.disk → IsHonest D.tells D.seen D.may_leave self.new.disk }
@@ -134,7 +134,6 @@ impl<D: Disk> Shelf<D> {
         ensures goes { (setup : Setup) (s : State) → IsSetupOf setup self.old → StandsFor self.old s
             → Goes D.tells D.seen D.may_leave D.moment D.had D.left_since setup (first_gate_steps self.old.buffers) self.old s self.new }
         ensures begun { self.new.buffers ≡ with_first (with_phase GateBegun) self.old.buffers }
-        ensures count { length self.new.buffers ≡ length self.old.buffers }
         ensures disk { self.new.disk ≡ self.old.disk }
         ensures shape { SameShape self.old self.new }
     {
@@ -169,7 +168,7 @@ impl<D: Disk> Shelf<D> {
         requires opened { IsHonest D.tells D.seen D.may_leave self.old.disk → FirstIs (λ b. IsOpened self.old.geometry b.block (D.may_leave self.old.disk)) self.old.buffers }
         ensures goes { (setup : Setup) (s : State) → IsSetupOf setup self.old → StandsFor self.old s
             → Goes D.tells D.seen D.may_leave D.moment D.had D.left_since setup (flushed_buffer result ∷ []) self.old s self.new }
-        ensures fewer { length self.old.buffers ≡ length self.new.buffers + 1 }
+        ensures first { FirstLeaves self.old.buffers self.new.buffers }
         ensures number { FirstIs (λ b. result ≡ b.number) self.old.buffers }
         ensures disk { self.new.disk ≡ self.old.disk }
         ensures shape { SameShape self.old self.new }

@@ -1,6 +1,6 @@
 -- A flush of all sealed buffers, one after another: what each step adds, and how it ends.
 use Rattle.std.proofs.Common.{inl, inr, ◌≡◌, ℕ, ◌+◌, ◌<◌, ◌≤◌, true, false, List, [], ◌∷◌, ◌++◌, map, length, refl, sym, ◌∙◌, ap, subst, arith, append_assoc}
-use Rattle.std.specs.Prelude.{◌⊎◌, Option, Some, None, Result, Ok, Err, IfOk, OnErr, MatchOption}
+use Rattle.std.specs.Prelude.{◌⊎◌, drop, Option, Some, None, Result, Ok, Err, IfOk, OnErr, MatchOption}
 use Rattle.std.specs.List.{AllByRecursion}
 use Rattle.std.proofs.lemmas.Bool.{false≢true}
 use Rattle.std.proofs.lemmas.List.{append-nil}
@@ -21,11 +21,11 @@ use Rattle.write_buffer.specs.Buffers.{BufferState}
 use Rattle.block_shelf.specs.declared.place.ShelfLimits.{ShelfLimits}
 use Rattle.block_shelf.specs.View.{ShelfView, IsShelf, IsBufferOf, StandInOrder, IsSetupOf, SameShape, is_filling}
 use Rattle.block_shelf.specs.Standing.{StandsFor, book_phase, book_buffer}
+use Rattle.block_shelf.specs.Flushes.{FirstLeaves}
 use Rattle.block_shelf.specs.Calls.{FlushMakes, Goes}
 use Rattle.shard_core.specs.Calls.{FlushesAll}
 use Rattle.shard_core.proofs.Going.{after_both, goes_then}
-use Rattle.shard_core.proofs.PlainState.{plain_state, plain_setup, plain_setup_of, plain_stands}
-use Rattle.shard_core.proofs.FlushSteps.{StandRight, first_keeps, flush_all_first, flush_none, flush_is_one, count_both, stops_in_front, stops_behind}
+use Rattle.shard_core.proofs.FlushSteps.{StandRight, flush_all_first, flush_none, flush_is_one, count_both, stops_in_front, stops_behind}
 
 -- ---- the order of the buffers
 
@@ -132,32 +132,21 @@ module _ {D : Type 0} (extent : D → ℕ) (tells : D → Type 0) (seen : D → 
 pub record IsQuiet {D : Type 0} (shelf : ShelfView D) : Type 0 where
   pub none_filling : AllByRecursion (λ b. is_filling b.phase ≡ false) shelf.buffers
 
-to_book : (bs : List BufferState) → AllByRecursion (λ b. is_filling b.phase ≡ false) bs → AllByRecursion (λ b. book.is_filling b.phase ≡ false) (map book_buffer bs)
-to_book [] none = tt
-to_book (b ∷ bs) none = (phase_same b.phase ∙ none.0, to_book bs none.1)
+all_behind : {X : Type 0} (P : X → Type 0) (xs : List X) → AllByRecursion P xs → AllByRecursion P (drop 1 xs)
+all_behind P [] all = tt
+all_behind P (x ∷ xs) all = all.1
 
-from_book : (bs : List BufferState) → AllByRecursion (λ b. book.is_filling b.phase ≡ false) (map book_buffer bs) → AllByRecursion (λ b. is_filling b.phase ≡ false) bs
-from_book [] none = tt
-from_book (b ∷ bs) none = (sym (phase_same b.phase) ∙ none.0, from_book bs none.1)
-
-module _ {D : Type 0} (extent : D → ℕ) (tells : D → Type 0) (seen : D → List ℕ) (may_leave : D → Images) (moment : D → ℕ) (had : D → ℕ → Type 0) (left_since : D → ℕ → Images) (mid new : ShelfView D)
-    (kept : IsShelf extent tells seen may_leave mid) (quiet : IsQuiet mid) where
-  pub quiet_on : (E : Type 0) (n : ℕ) → Stepped extent tells seen may_leave moment had left_since {E = E} (Ok (Some n)) mid new → IsQuiet new
-  quiet_on E n stepped =
-      let s : State = plain_state mid in
-      let one = stepped (plain_setup mid) s (plain_setup_of mid) (plain_stands extent tells seen may_leave mid kept) in
-      let stays = first_keeps (plain_setup mid) s s.book.buffers refl (stand_right mid.buffers kept.order) (to_book mid.buffers quiet.none_filling) in
-      let same : (after_steps (plain_setup mid) (flush_first s.book) s).book.buffers ≡ map book_buffer new.buffers = ap (λ (x : List Step). (after_steps (plain_setup mid) x s).book.buffers) (sym one.1.0) ∙ one.2.stands.buffers in
-      record { none_filling = from_book new.buffers (subst (AllByRecursion (λ b. book.is_filling b.phase ≡ false)) same stays) }
+pub quiet_on : {D : Type 0} (old new : ShelfView D) → IsQuiet old → FirstLeaves old.buffers new.buffers → IsQuiet new
+quiet_on old new quiet leaves = record { none_filling = subst (AllByRecursion (λ b. is_filling b.phase ≡ false)) leaves.0 (all_behind (λ b. is_filling b.phase ≡ false) old.buffers quiet.none_filling) }
 
 -- where every buffer takes records and none does, there is none
 pub none_left : (bs : List BufferState) → AllByRecursion (λ b. is_filling b.phase ≡ true) bs → AllByRecursion (λ b. is_filling b.phase ≡ false) bs → bs ≡ []
 none_left [] all none = refl
 none_left (b ∷ bs) all none = absurd (false≢true (sym none.0 ∙ all.0))
 
--- each buffer that is flushed is one fewer
+-- each buffer that is flushed leaves
 abbrev pub Fewer : {D E : Type 0} → Result (Option ℕ) E → (old new : ShelfView D) → Type 0
-Fewer result old new = IfOk result (λ number. MatchOption number (new ≡ old) (λ n. length old.buffers ≡ length new.buffers + 1))
+Fewer result old new = IfOk result (λ number. MatchOption number (new ≡ old) (λ n. FirstLeaves old.buffers new.buffers))
 
 pub where_err : {E : Type 0} (result : Result ℕ E) (whole steps : List Step) → IsErr result → StopsIn whole steps → FlushesAll result whole steps
 where_err (Ok n) whole steps is stops = absurd (false≢true is)

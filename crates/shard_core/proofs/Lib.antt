@@ -11,7 +11,6 @@ pub mod FoundEntries
 pub mod Beginning
 pub mod Going
 pub mod FlushSteps
-pub mod PlainState
 pub mod FlushLoop
 pub mod Later
 pub mod Making

@@ -3,7 +3,7 @@ use Rattle.std.proofs.Common.{◌≡◌, inl, inr, ℕ, ◌+◌, ◌<◌, ◌≤
 use Rattle.std.specs.Prelude.{◌⊎◌, Option, Some, None, MatchOption, MatchResult, IfSome, Contains, map, Result, Ok, Err, option_map, nat_lt, nat_le, ◌==◌, if◌then◌else◌}
 use Rattle.std.specs.List.{AllByRecursion}
 use Rattle.std.proofs.Math.Nat.{le_refl}
-use Rattle.std.proofs.lemmas.Bool.{false≢true, cond-true, le-ltb, lt-ltb, ltb-true, leb-true}
+use Rattle.std.proofs.lemmas.Bool.{false≢true, le-ltb, lt-ltb, ltb-true, leb-true}
 use Rattle.fault_count.specs.Counts.{Rose}
 use Rattle.rec_format.specs.declared.version.Digest.{Digest}
 use Rattle.rec_format.specs.declared.version.Stamp.{Stamp}
@@ -17,7 +17,7 @@ use Rattle.rec_format.specs.Device.{State, history, entry, entry_is_covered, sta
 use Rattle.rec_format.specs.Steps.{Step, wrote, sealed_stream, after_step, after_steps}
 use Rattle.rec_format.specs.Events.{Event, Call, Answer, put_call, stamp_given, refused, Cause, too_big, spent, disk_fault}
 use Rattle.rec_format.specs.Legal.{Allowed, Unless, WriteEnds, NoMemory, the_stamp, new_put, put_refusal, put_reserve, no_write, no_place, first_cause, flush_between, flush_all, flush_count, StopsIn}
-use Rattle.rec_format.proofs.Laws.{wanted_later, later_than_all, same_digest_is, same_digest_refl}
+use Rattle.rec_format.proofs.Laws.{wanted_later, later_than_all, same_digest_is}
 use Rattle.disk_model.specs.Disk.{Images, IsHonest}
 use Rattle.disk_model.specs.Runs.{OneOf, Leaves, leaves_none}
 use Rattle.block_format.specs.Recovery.{Survives}
@@ -35,7 +35,7 @@ use Rattle.write_buffer.specs.Buffers.{BufferState}
 use Rattle.block_shelf.specs.View.{ShelfView, IsShelf, IsBufferOf, IsSetupOf}
 use Rattle.block_shelf.specs.Standing.{book_buffer}
 use Rattle.block_shelf.specs.Standing as shelf
-use Rattle.block_shelf.specs.Calls.{Goes, Names, live_at, append_refusal, IsPutRefusal}
+use Rattle.block_shelf.specs.Calls.{Goes, IsPlaceFor, Names, live_at, append_refusal, IsPutRefusal}
 use Rattle.shard_core.specs.declared.refusals.WriteRefusal.{WriteRefusal}
 use Rattle.shard_core.specs.declared.refusals.WriteRefusal.TheVariants as write_refusals
 use Rattle.shard_core.specs.Index.{held, stamp_held, flag_of, live_of_entry, high_of, Holds}
@@ -45,7 +45,6 @@ use Rattle.shard_core.specs.Calls.{Makes, FlushesAll, cause_of_write, write_of, 
 use Rattle.shard_core.specs.Putting.{given_stamp, IsNewPut, IsUngiven, Wrote, IsUnwritten, Commits}
 use Rattle.shard_core.proofs.Going.{HasNow, goes_none, goes_then, safe_survives}
 use Rattle.shard_core.proofs.Making.{Stays, IsFlushing, flushes_flushing, steps_stay, lists_stay, setup_is, makes_by}
-use Rattle.shard_core.proofs.PlainState.{plain_state, plain_setup, plain_setup_of, plain_stands}
 use Rattle.shard_core.proofs.FlushSteps.{StandRight}
 use Rattle.shard_core.proofs.FlushLoop.{stand_right}
 use Rattle.shard_core.proofs.Getting.{held_is}
@@ -175,23 +174,17 @@ Appended may_leave digest v result old new = (setup : Setup) (s : State) → IsS
     (λ refusal. IsPutRefusal refusal (append_refusal setup class.Put (version_units v) s.book))
 
 module _ {D : Type 0} (extent : D → ℕ) (tells : D → Type 0) (seen : D → List ℕ) (may_leave : D → Images) (digest : Digest) (v : Version) (place : Place) (old new : ShelfView D)
-    (kept : IsShelf extent tells seen may_leave old) (appended : Appended may_leave digest v (Ok place) old new) (units : place.units ≡ version_units v) (geometry : new.geometry ≡ old.geometry) where
+    (kept : IsShelf extent tells seen may_leave old) (appended : Appended may_leave digest v (Ok place) old new) (lies : IsPlaceFor old.geometry (version_units v) place) (geometry : new.geometry ≡ old.geometry) where
   -- the entry of it is one of the device
   pub copied_is_entry : IsDigest digest → device_number old.geometry.devices digest ≡ old.geometry.device → IsVersion v → IsEntryOf new.geometry (copied digest v place)
-  copied_is_entry named own version =
-      let t : State = after_step (plain_setup old) (wrote digest v) (plain_state old) in
-      let all = appended (plain_setup old) (plain_state old) (plain_setup_of old) (plain_stands extent tells seen may_leave old kept) in
-      let item : history t digest ≡ written_item (plain_setup old) (plain_state old) v ∷ history (plain_state old) digest =
-      wrote_history (plain_setup old) (plain_state old) digest v digest ∙ cond-true (same_digest digest digest) _ _ (same_digest_refl digest) in
-      let live = all.2.live digest (live_at digest place) v all.1 (ap top_of item) in
-      record {
-        named = named;
-        own = subst (λ (g : Geometry). device_number g.devices digest ≡ g.device) (sym geometry) own;
-        time = version.time.0;
-        block = omega (arith, live.block);
-        within = live.within;
-        units = subst (λ (n : ℕ). 3 ≤ n) (sym units) (least_units (length v.payload));
-      }
+  copied_is_entry named own version = subst (λ (g : Geometry). IsEntryOf g (copied digest v place)) (sym geometry) (record {
+    named = named;
+    own = own;
+    time = version.time.0;
+    block = omega (arith, lies.1);
+    within = lies.2;
+    units = subst (λ (n : ℕ). 3 ≤ n) (sym lies.0) (least_units (length v.payload));
+  })
     where
       least_units : (n : ℕ) → 3 ≤ units_for n
       least_units n = omega arith
@@ -211,7 +204,7 @@ module _ {D : Type 0} (extent : D → ℕ) (tells : D → Type 0) (seen : D → 
       let book_right : StandRight s.book.buffers = subst StandRight (sym agrees.shelf.buffers) (subst (λ (x : ShelfView D). StandRight (map book_buffer x.buffers)) (sym same) (stand_right old.buffers kept.order)) in
       record {
         allowed = all.0;
-        lists = lists_wrote setup s digest v shard.index index (copied digest v place) agrees.index holds refl (record { kind = refl; stamp = refl; void = refl; units = units }) refl all.1;
+        lists = lists_wrote setup s digest v shard.index index (copied digest v place) agrees.index holds refl (record { kind = refl; stamp = refl; void = refl; units = lies.0 }) refl all.1;
         stands = all.2;
         placed = λ placed. all.3 (subst (λ (x : ShelfView D). shelf.IsPlaced may_leave x s) same placed);
         safe = λ may safe. all.4 may (subst (λ (x : ShelfView D). shelf.IsSafe setup may_leave x s) same safe);

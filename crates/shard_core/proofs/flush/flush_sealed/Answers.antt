@@ -1,9 +1,10 @@
-use Rattle.std.proofs.Common.{inl, inr, ◌≡◌, ℕ, ◌+◌, length, refl, ◌∙◌, ap, subst, arith}
+use Rattle.std.proofs.Common.{inl, inr, ◌≡◌, ℕ, refl, ◌∙◌, ap, subst, arith}
 use Rattle.std.specs.Prelude.{Option, Some, None, Result, Ok, Err, OnErr}
 use Rattle.fault_count.specs.Counts.{Rose}
 use Rattle.rec_format.specs.Legal.{flush_all}
 use Rattle.disk_model.specs.declared.disk.DiskFault.{DiskFault}
 use Rattle.block_shelf.specs.View.{ShelfView}
+use Rattle.block_shelf.specs.Flushes.{FirstLeaves}
 use Rattle.shard_core.proofs.Going.{HasNow, goes_none}
 use Rattle.shard_core.proofs.Later.{later_none, later_then, shape_then}
 use Rattle.shard_core.proofs.FlushLoop.{Stepped, Fewer, fits_before, setup_stays, went_on, went_all, went_stopped, quiet_on, none_left, where_err, on_err, rose_since}
@@ -43,17 +44,17 @@ overflow_add-count g c =
     let mid : ShelfView g.row.D.Denot = c.loop-count.shelf in
     let new : ShelfView g.row.D.Denot = c.flush_step.new.self in
     let is_some : c.flush_step.result ≡ Ok (Some c.in-Some.field-0) = c.in_ok-flush_step.was ∙ ap (λ (o : Option ℕ). Ok o) c.in-Some.is in
-    let fewer : length mid.buffers ≡ length new.buffers + 1 = subst (λ (r : Result (Option ℕ) DiskFault). Fewer r mid new) is_some c.flush_step.ensures.fewer in
+    let leaves : FirstLeaves mid.buffers new.buffers = subst (λ (r : Result (Option ℕ) DiskFault). Fewer r mid new) is_some c.flush_step.ensures.first in
     let few = fits_before g.D.Disk.extent g.D.Disk.tells g.D.Disk.seen g.D.Disk.may_leave c.loop-count.count mid c.flush_step.ensures.whole c.loop-count.invariant.few in
-    omega (arith, fewer, few)
+    omega (arith, leaves.1, few)
 
 pub loop-count-smaller : goal.loop-count-smaller
 loop-count-smaller g c =
     let mid : ShelfView g.row.D.Denot = c.loop-count.shelf in
     let new : ShelfView g.row.D.Denot = c.flush_step.new.self in
     let is_some : c.flush_step.result ≡ Ok (Some c.in-Some.field-0) = c.in_ok-flush_step.was ∙ ap (λ (o : Option ℕ). Ok o) c.in-Some.is in
-    let fewer : length mid.buffers ≡ length new.buffers + 1 = subst (λ (r : Result (Option ℕ) DiskFault). Fewer r mid new) is_some c.flush_step.ensures.fewer in
-    omega (arith, fewer)
+    let leaves : FirstLeaves mid.buffers new.buffers = subst (λ (r : Result (Option ℕ) DiskFault). Fewer r mid new) is_some c.flush_step.ensures.first in
+    omega (arith, leaves.1)
 
 pub loop-count-preserved : goal.loop-count-preserved
 loop-count-preserved g c =
@@ -63,13 +64,13 @@ loop-count-preserved g c =
     let is_some : c.flush_step.result ≡ Ok (Some c.in-Some.field-0) = c.in_ok-flush_step.was ∙ ap (λ (o : Option ℕ). Ok o) c.in-Some.is in
     let stepped : Stepped g.D.Disk.extent g.D.Disk.tells g.D.Disk.seen g.D.Disk.may_leave g.D.Disk.moment g.D.Disk.had g.D.Disk.left_since {E = DiskFault} (Ok (Some c.in-Some.field-0)) mid new =
     subst (λ (r : Result (Option ℕ) DiskFault). Stepped g.D.Disk.extent g.D.Disk.tells g.D.Disk.seen g.D.Disk.may_leave g.D.Disk.moment g.D.Disk.had g.D.Disk.left_since r mid new) is_some c.flush_step.ensures.flushed in
-    let fewer : length mid.buffers ≡ length new.buffers + 1 = subst (λ (r : Result (Option ℕ) DiskFault). Fewer r mid new) is_some c.flush_step.ensures.fewer in
+    let leaves : FirstLeaves mid.buffers new.buffers = subst (λ (r : Result (Option ℕ) DiskFault). Fewer r mid new) is_some c.flush_step.ensures.first in
     let few = fits_before g.D.Disk.extent g.D.Disk.tells g.D.Disk.seen g.D.Disk.may_leave c.loop-count.count mid c.flush_step.ensures.whole c.loop-count.invariant.few in
     record {
-      few = inr (omega (arith, fewer, few));
+      few = inr (omega (arith, leaves.1, few));
       went = λ setup s is stands. went_on g.D.Disk.extent g.D.Disk.tells g.D.Disk.seen g.D.Disk.may_leave g.D.Disk.moment g.D.Disk.had g.D.Disk.left_since setup c.loop-count.count old mid new s
           (setup_stays setup old mid c.loop-count.invariant.shape is) (c.loop-count.invariant.went setup s is stands) c.flush_step.ensures.whole c.loop-count.invariant.honest DiskFault c.in-Some.field-0 stepped;
-      quiet = λ quiet. quiet_on g.D.Disk.extent g.D.Disk.tells g.D.Disk.seen g.D.Disk.may_leave g.D.Disk.moment g.D.Disk.had g.D.Disk.left_since mid new c.flush_step.ensures.whole (c.loop-count.invariant.quiet quiet) DiskFault c.in-Some.field-0 stepped;
+      quiet = λ quiet. quiet_on mid new (c.loop-count.invariant.quiet quiet) leaves;
       later = later_then g.D.Disk.extent g.D.Disk.may_leave g.D.Disk.moment g.D.Disk.had g.D.Disk.left_since g.D.Disk.faults old.disk mid.disk new.disk c.loop-count.invariant.later c.flush_step.ensures.later;
       honest = λ honest. c.flush_step.ensures.honest (c.loop-count.invariant.honest honest);
       shape = shape_then old mid new c.loop-count.invariant.shape c.flush_step.ensures.shape;
@@ -110,7 +111,7 @@ returns-clause-quiet g c = λ quiet.
     let mid : ShelfView g.row.D.Denot = c.loop-count.shelf in
     let new : ShelfView g.row.D.Denot = c.flush_step.new.self in
     let is_none : c.flush_step.result ≡ Ok None = c.in_ok-flush_step.was ∙ ap (λ (o : Option ℕ). Ok o) c.in_default.is in
-    let same : new ≡ mid = subst (λ (r : Result (Option ℕ) DiskFault). Fewer r mid new) is_none c.flush_step.ensures.fewer in
+    let same : new ≡ mid = subst (λ (r : Result (Option ℕ) DiskFault). Fewer r mid new) is_none c.flush_step.ensures.first in
     ap (λ (x : ShelfView g.row.D.Denot). x.buffers) same
     ∙ none_left mid.buffers (c.flush_step.ensures.none is_none) (c.loop-count.invariant.quiet (record { none_filling = quiet })).none_filling
 
