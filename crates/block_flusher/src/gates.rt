@@ -1,13 +1,13 @@
 // The gate of a block.
-ghost use Rattle.std.specs.Prelude.{◌≡◌, ◌<◌, ◌≤◌, OnOk};
+ghost use Rattle.std.specs.Prelude.{◌≡◌, ◌<◌, ◌≤◌, IfOk, OnOk};
 ghost use Rattle.fault_count.specs.Counts.{Counted, IsCaused};
 ghost use Rattle.disk_model.specs.Bytes.{Torn};
-ghost use Rattle.disk_model.specs.Disk.{IsOnly, IsHonest, TornFrom, Advances};
+ghost use Rattle.disk_model.specs.Disk.{IsOnly, IsHonest, Within, TornFrom, Advances};
 ghost use Rattle.block_format.specs.Layout.{IsGeometry, device_end, block_place, body_bytes, gate_sector, closed_sector, open_sector};
-ghost use Rattle.block_flusher.specs.Images.{IsShut, IsOpened, HasOneBody, IsBodyOf, OpensOverOneBody, OpensOverBodies, ChangesNoOther};
+ghost use Rattle.block_flusher.specs.Images.{IsShut, IsOpened, GateIs, HasOneBody, IsBodyOf, OpensOverOneBody, OpensOverBodies, ChangesNoOther};
 
-use crate::place::write_part;
-use block_format::{Geometry, SECTOR_BYTES, write_closed, write_open};
+use crate::place::{place_of, write_part};
+use block_format::{GATE_BYTES, Geometry, SECTOR_BYTES, is_open, write_closed, write_open};
 use disk_model::{Disk, DiskFault};
 
 /// Closes the gate of a block, and syncs. The block has one body in every image, in the body grammar, and keeps it at each
@@ -64,4 +64,31 @@ pub fn open_gate<D: Disk>(disk: &mut D, geometry: &Geometry, block: u32) -> Resu
     let mut opened = [0; SECTOR_BYTES];
     write_open(&mut opened);
     write_part(disk, geometry, block, 0, &opened)
+}
+
+/// Syncs, and tells whether the gate of a block is open. After `Ok` it is so in every image, or closed in every one. No other image
+/// comes up.
+pub fn is_gate_open<D: Disk>(
+    disk: &mut D,
+    geometry: &Geometry,
+    block: u32,
+) -> Result<bool, DiskFault>
+    requires geometry { IsGeometry geometry.now }
+    requires block { block < geometry.now.blocks }
+    requires room { device_end geometry.now ≤ D.extent disk.old }
+    ensures gate { D.tells disk.old → IfOk result (λ is_open. GateIs is_open geometry.now block (D.may_leave disk.new)) }
+    ensures bytes { D.tells disk.old → D.tells disk.new × (D.seen disk.new ≡ D.seen disk.old) }
+    ensures images { IsHonest D.tells D.seen D.may_leave disk.old → Within (D.may_leave disk.old) (D.left_since disk.new (D.moment disk.old)) }
+    ensures honest { IsHonest D.tells D.seen D.may_leave disk.old → IsHonest D.tells D.seen D.may_leave disk.new }
+    ensures was_honest { IsHonest D.tells D.seen D.may_leave disk.new → IsHonest D.tells D.seen D.may_leave disk.old }
+    ensures time { Advances (D.moment disk.old) (D.had disk.old) (D.had disk.new) (D.left_since disk.old) (D.left_since disk.new) }
+    ensures cause { IsCaused (D.faults disk.old) (D.faults disk.new) result }
+    ensures count { Counted (D.calls disk.old) (D.calls disk.new) }
+    ensures len { D.extent disk.new ≡ D.extent disk.old }
+{
+    let place = place_of(geometry, block);
+    disk.sync()?;
+    let mut gate = [0; GATE_BYTES];
+    disk.read_at(place, &mut gate)?;
+    Ok(is_open(&gate))
 }

@@ -1,4 +1,5 @@
 //! The three writes that a block takes: its gate is closed, its body is written, and its gate is opened. Each is one write and one sync.
+//! And a look at a gate, behind a sync.
 #![tactic(auto)]
 
 mod body;
@@ -6,7 +7,7 @@ mod gates;
 mod place;
 
 pub use body::write_body;
-pub use gates::{close_gate, open_gate};
+pub use gates::{close_gate, is_gate_open, open_gate};
 pub use place::place_of;
 
 #[cfg(test)]

@@ -1,16 +1,14 @@
 -- What each call of the disk makes of a shelf while its first buffer is flushed.
-use Rattle.std.proofs.Common.{◌≡◌, ℕ, ◌+◌, ◌-◌, Bool, true, false, List, [], ◌∷◌, map, take, refl, sym, ap, ◌∙◌, subst, arith}
-use Rattle.std.specs.Prelude.{◌↔◌, MatchBool, IsTrue}
-use Rattle.std.proofs.lemmas.List.{take-take}
-use Rattle.disk_model.specs.Bytes.{range}
+use Rattle.std.proofs.Common.{◌≡◌, ℕ, ◌+◌, ◌-◌, Bool, true, false, List, [], ◌∷◌, map, refl, sym, ap, ◌∙◌, subst}
+use Rattle.std.specs.Prelude.{Result, Ok, Err, IfOk, MatchBool}
 use Rattle.disk_model.specs.Disk.{Images, Within, TornFrom, IsHonest, Advances}
 use Rattle.rec_format.specs.Histories.{is_begun}
 use Rattle.rec_format.specs.Book.{Setup, Buffer, is_opening, pending_of}
 use Rattle.rec_format.specs.Book as book
 use Rattle.rec_format.specs.Device.{State}
 use Rattle.block_format.specs.declared.geometry.Geometry.{Geometry}
-use Rattle.block_format.specs.Layout.{IsOpen, IsBody, block_place, gate_sector, gate_text, body_bytes}
-use Rattle.block_flusher.specs.Images.{IsShut, HasOneBody}
+use Rattle.block_format.specs.Layout.{IsBody, block_place, body_bytes}
+use Rattle.block_flusher.specs.Images.{IsShut, GateIs, HasOneBody}
 use Rattle.write_buffer.specs.declared.phase.Phase.{Phase}
 use Rattle.write_buffer.specs.declared.phase.Phase.TheVariants.{Filling, Sealed, BodyDone, GateBegun}
 use Rattle.write_buffer.specs.Phases.{later_phase}
@@ -21,7 +19,7 @@ use Rattle.std.proofs.lemmas.Bool.{or_left, and_from, eq-eqb, false≢true}
 use Rattle.block_shelf.specs.View.{ShelfView, IsShelf, IsSetupOf, IsBufferOf, IsReady, is_filling, is_written}
 use Rattle.block_shelf.specs.Standing.{StandsFor, HasWritten, book_buffer, book_phase}
 use Rattle.block_shelf.specs.Calls.{Goes}
-use Rattle.block_shelf.specs.Flushes.{GateIs}
+use Rattle.block_shelf.specs.Flushes.{FirstIs}
 use Rattle.block_shelf.proofs.FlushImages.{body_differs, gate_differs, begun_records, behind_held, opening_held}
 use Rattle.block_shelf.proofs.ReadOnly.{ready_within}
 use Rattle.block_shelf.proofs.FlushGoes.{ArePresent, now_left, goes_on}
@@ -43,17 +41,13 @@ written_is_sealed GateBegun is = refl
 pub settled_phase : (b c : BufferState) → c ≡ with_phase (later_phase b.phase BodyDone) b → b.phase ≡ Sealed → c ≡ with_phase BodyDone b
 settled_phase b c set phase = set ∙ ap (λ (q : Phase). with_phase (later_phase q BodyDone) b) phase
 
--- the gate that was read is that of each image
-pub gate_read : (g : Geometry) (block at place : ℕ) (is_open : Bool) (before bytes gate : List ℕ) (images : Images) → place ≡ block_place g at → at ≡ block → (IsTrue is_open ↔ IsOpen gate) → gate ≡ range place 16 bytes
-    → bytes ≡ before → ((c : List ℕ) → images c → c ≡ before) → GateIs is_open g block images
-gate_read g block at place is_open before bytes gate images starts is says read same only = by is_open says
-  where
-    front : take 16 gate ≡ take 16 (gate_sector g block bytes)
-    front = ap (λ (l : List ℕ). take 16 l) (read ∙ ap (λ (p : ℕ). range p 16 bytes) (starts ∙ ap (λ (k : ℕ). block_place g k) is)) ∙ take-take 16 16 _ (omega arith) ∙ sym (take-take 16 4096 _ (omega arith))
-
-    by : (r : Bool) → (IsTrue r ↔ IsOpen gate) → GateIs r g block images
-    by true open_ = λ c image. subst (λ (x : List ℕ). take 16 (gate_sector g block x) ≡ gate_text) (same ∙ sym (only c image)) (sym front ∙ open_.0 refl)
-    by false open_ = λ c image is. false≢true (open_.1 (front ∙ subst (λ (x : List ℕ). take 16 (gate_sector g block x) ≡ gate_text) (only c image ∙ sym same) is))
+-- the gate that was found is that of the first buffer
+pub gate_first : {D E : Type 0} (tells : D → Type 0) (seen : D → List ℕ) (may_leave : D → Images) (result : Result Bool E) (g : Geometry) (buffers : List BufferState) (b : BufferState) {rest : List BufferState} (block : ℕ) (d : D)
+    → buffers ≡ b ∷ rest → block ≡ b.block → (IsHonest tells seen may_leave d → IfOk result (λ is_open. GateIs is_open g block (may_leave d)))
+    → IfOk result (λ is_open. IsHonest tells seen may_leave d → FirstIs (λ x. GateIs is_open g x.block (may_leave d)) buffers)
+gate_first tells seen may_leave (Ok is_open) g buffers b block d parts at found =
+    λ honest. subst (FirstIs (λ x. GateIs is_open g x.block (may_leave d))) (sym parts) (subst (λ (k : ℕ). GateIs is_open g k (may_leave d)) at (found honest))
+gate_first tells seen may_leave (Err e) g buffers b block d parts at found = tt
 
 -- what a call of the disk keeps
 pub record IsCall {D : Type 0} (extent : D → ℕ) (tells : D → Type 0) (seen : D → List ℕ) (may_leave : D → Images) (moment : D → ℕ) (had : D → ℕ → Type 0) (left_since : D → ℕ → Images) (old new : D) : Type 0 where

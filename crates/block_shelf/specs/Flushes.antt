@@ -1,9 +1,6 @@
 -- Crate block_shelf. The first buffer of a shelf while it is flushed.
-use Rattle.std.specs.Prelude.{◌≡◌, ℕ, ◌+◌, Bool, List, [], ◌∷◌, length, drop, MatchBool}
-use Rattle.disk_model.specs.Disk.{Images}
+use Rattle.std.specs.Prelude.{◌≡◌, ℕ, ◌+◌, List, [], ◌∷◌, length, drop}
 use Rattle.rec_format.specs.Steps.{Step, gate_begun}
-use Rattle.block_format.specs.declared.geometry.Geometry.{Geometry}
-use Rattle.block_flusher.specs.Images.{IsShut, IsOpened}
 use Rattle.write_buffer.specs.declared.phase.Phase.{Phase}
 use Rattle.write_buffer.specs.declared.phase.Phase.TheVariants.{Filling, Sealed, BodyDone, GateBegun}
 use Rattle.write_buffer.specs.Buffers.{BufferState}
@@ -24,10 +21,6 @@ ChangesFirst old new = (drop 1 new ≡ drop 1 old) × (length new ≡ length old
 -- the first leaves, and the others are as they were
 abbrev pub FirstLeaves : (old new : List BufferState) → Type 0
 FirstLeaves old new = (drop 1 old ≡ new) × (length old ≡ length new + 1)
-
--- the block's gate is open in each image, or closed in each
-abbrev pub GateIs : Bool → Geometry → (block : ℕ) → Images → Type 0
-GateIs is_open g block images = MatchBool is_open (IsOpened g block images) (IsShut g block images)
 
 -- the step that begins the write of a gate, where it hasn't begun
 abbrev pub gate_steps : Phase → (number : ℕ) → List Step

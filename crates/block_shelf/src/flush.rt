@@ -7,18 +7,17 @@ ghost use Rattle.rec_format.specs.Book.{Setup};
 ghost use Rattle.rec_format.specs.Device.{State};
 ghost use Rattle.rec_format.specs.Steps.{Step, flushed_buffer};
 ghost use Rattle.rec_format.specs.Legal.{flush_first, first_sealed};
-ghost use Rattle.block_flusher.specs.Images.{IsShut, IsOpened};
+ghost use Rattle.block_flusher.specs.Images.{GateIs, IsShut, IsOpened};
 ghost use Rattle.write_buffer.specs.declared.phase.Phase.TheVariants.{Sealed, GateBegun};
 ghost use Rattle.write_buffer.specs.Buffers.{with_phase};
 ghost use Rattle.block_shelf.specs.Disks.{IsLater};
 ghost use Rattle.block_shelf.specs.View.{IsShelf, SameShape, SameBuffers, IsSetupOf, is_filling, is_written};
 ghost use Rattle.block_shelf.specs.Standing.{StandsFor, book_buffer};
 ghost use Rattle.block_shelf.specs.Calls.{FlushMakes, Goes};
-ghost use Rattle.block_shelf.specs.Flushes.{ChangesFirst, FirstLeaves, FirstIs, with_first, GateIs, first_gate_steps};
+ghost use Rattle.block_shelf.specs.Flushes.{ChangesFirst, FirstLeaves, FirstIs, with_first, first_gate_steps};
 
 use crate::Shelf;
-use block_flusher::{open_gate, place_of, write_body};
-use block_format::{GATE_BYTES, is_open};
+use block_flusher::{is_gate_open, open_gate, write_body};
 use disk_model::{Disk, DiskFault};
 use write_buffer::Phase;
 
@@ -121,11 +120,8 @@ impl<D: Disk> Shelf<D> {
         ensures later { IsLater D.extent D.moment D.had D.left_since D.faults self.old.disk self.new.disk }
         ensures honest { IsHonest D.tells D.seen D.may_leave self.old.disk → IsHonest D.tells D.seen D.may_leave self.new.disk }
     {
-        let place = place_of(&self.geometry, self.buffers[0].block());
-        self.disk.sync()?;
-        let mut gate = [0; GATE_BYTES];
-        self.disk.read_at(place, &mut gate)?;
-        Ok(is_open(&gate))
+        let block = self.buffers[0].block();
+        is_gate_open(&mut self.disk, &self.geometry, block)
     }
 
     // The write of the gate of the first buffer begins, whose body is written.

@@ -76,15 +76,6 @@ first_then setup s (b ∷ bs) is right = by (is_filling b.phase) refl
         alone [] same all = sym (ap whole_of same)
         alone (c ∷ cs) same all = absurd (false≢true (sym all.0.1 ∙ fills))
 
--- behind the first sealed buffer no buffer takes records, where none did
-pub first_keeps : (setup : Setup) (s : State) (bs : List Buffer) → s.book.buffers ≡ bs → StandRight bs → AllByRecursion (λ b. is_filling b.phase ≡ false) bs
-    → AllByRecursion (λ b. is_filling b.phase ≡ false) (after_steps setup (first_sealed bs) s).book.buffers
-first_keeps setup s [] is right none = subst (AllByRecursion (λ b. is_filling b.phase ≡ false)) (sym is) tt
-first_keeps setup s (b ∷ bs) is right none =
-    subst (AllByRecursion (λ b. is_filling b.phase ≡ false))
-    (sym (ap (λ (c : Bool). (after_steps setup (cond c (first_sealed bs) (flush_of b)) s).book.buffers) none.0
-    ∙ first_flushed setup s b.number b.block b.stream b.used b.phase bs is (all_numbers b.number (is_filling b.phase ≡ false) bs right.0) none.0)) none.1
-
 pub flush_all_first : (setup : Setup) (s : State) → StandRight s.book.buffers → flush_all s.book ≡ flush_first s.book ++ flush_all (after_steps setup (flush_first s.book) s).book
 flush_all_first setup s right = first_then setup s s.book.buffers refl right
 

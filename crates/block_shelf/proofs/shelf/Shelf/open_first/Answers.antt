@@ -11,7 +11,8 @@ use Rattle.rec_format.specs.Device.{State}
 use Rattle.block_shelf.specs.View.{ShelfView, IsSetupOf, is_filling, is_written}
 use Rattle.block_shelf.specs.Standing.{StandsFor}
 use Rattle.block_shelf.specs.Calls.{Goes}
-use Rattle.block_shelf.specs.Flushes.{FirstIs, GateIs}
+use Rattle.block_shelf.specs.Flushes.{FirstIs}
+use Rattle.block_flusher.specs.Images.{GateIs}
 use Rattle.block_shelf.proofs.FlushShelf.{BeginWith, begin_with}
 use Rattle.block_shelf.proofs.FlushGoes.{ArePresent, goes_on, time_still}
 use Rattle.block_shelf.proofs.FlushCalls.{IsCall, shelf_called, gate_away, gate_body, goes_gate}

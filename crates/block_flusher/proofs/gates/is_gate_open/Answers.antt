@@ -1,0 +1,14 @@
+use Rattle.std.proofs.Common.{arith}
+use Rattle.block_flusher.proofs.Steps.{size_bounds, gate_read}
+use Rattle.block_flusher.proofs.gates.is_gate_open.Goals as goal
+
+pub read_at-requires : goal.read_at-requires
+read_at-requires g c = omega (arith, (size_bounds c.args.geometry.now c.requires.geometry).0, c.place_of-place.ensures.room, c.requires.room, c.sync.ensures.len)
+
+pub returns-clause-gate : goal.returns-clause-gate
+returns-clause-gate g c = λ told.
+    let only = c.in_ok-sync.ensures.durable told in
+    let bytes = c.sync.ensures.bytes told in
+    gate_read c.args.geometry.now c.args.block c.place_of-place.result c.is_open.result (g.D.Disk.seen c.args.disk.now) (g.D.Disk.seen c.sync.new.self) c.read_at.new.out (g.D.Disk.may_leave c.read_at.new.self)
+    c.place_of-place.ensures.place c.is_open.ensures (c.in_ok-read_at.ensures.read bytes.0) bytes.1
+    (λ x image. only.alone x (c.read_at.ensures.images x (g.met.D.Disk.now_since c.read_at.new.self (g.D.Disk.moment c.sync.new.self) x (c.read_at.ensures.time.stays (g.D.Disk.moment c.sync.new.self) c.read_at.ensures.time.started) image)))
