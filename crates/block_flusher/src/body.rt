@@ -1,8 +1,6 @@
 // The body of a block.
 ghost use Rattle.std.specs.Prelude.{◌≡◌, ◌+◌, ◌-◌, ◌<◌, ◌≤◌, length, OnOk};
-ghost use Rattle.fault_count.specs.Counts.{Counted, IsCaused};
-ghost use Rattle.disk_model.specs.Bytes.{Torn};
-ghost use Rattle.disk_model.specs.Disk.{IsOnly, IsHonest, TornFrom, Advances};
+ghost use Rattle.disk_model.specs.Disk.{TornFrom, TellsTorn, IsOnly, IsHonest, IsCall, meanwhile};
 ghost use Rattle.block_format.specs.Layout.{IsGeometry, device_end, block_place, body_bytes};
 ghost use Rattle.block_flusher.specs.Images.{IsShut, HasOneBody, OpensOverOneBody, ChangesNoOther};
 
@@ -21,22 +19,17 @@ pub fn write_body<D: Disk>(
     requires geometry { IsGeometry geometry.now }
     requires block { block < geometry.now.blocks }
     requires size { length body.now ≡ geometry.now.block_size - 4096 }
-    requires room { device_end geometry.now ≤ D.extent disk.old }
-    requires shut { IsHonest D.tells D.seen D.may_leave disk.old → IsShut geometry.now block (D.may_leave disk.old) }
-    ensures body { D.tells disk.old → OnOk result (body_bytes geometry.now block (D.seen disk.new) ≡ body.now) }
-    ensures settled { D.tells disk.old → OnOk result (HasOneBody geometry.now block body.now (D.may_leave disk.new)) }
-    ensures durable { D.tells disk.old → OnOk result (IsOnly (D.seen disk.new) (D.may_leave disk.new)) }
-    ensures bytes { D.tells disk.old → D.tells disk.new × Torn (block_place geometry.now block + 4096) (geometry.now.block_size - 4096) (D.seen disk.old) (D.seen disk.new) }
-    ensures images { IsHonest D.tells D.seen D.may_leave disk.old → TornFrom (block_place geometry.now block + 4096) (geometry.now.block_size - 4096) (D.may_leave disk.old) (D.left_since disk.new (D.moment disk.old)) }
-    ensures others { IsHonest D.tells D.seen D.may_leave disk.old → ChangesNoOther geometry.now block (D.may_leave disk.old) (D.left_since disk.new (D.moment disk.old)) }
-    ensures shut { IsHonest D.tells D.seen D.may_leave disk.old → IsShut geometry.now block (D.left_since disk.new (D.moment disk.old)) }
-    ensures kept { IsHonest D.tells D.seen D.may_leave disk.old → OpensOverOneBody geometry.now block (D.left_since disk.new (D.moment disk.old)) }
-    ensures honest { IsHonest D.tells D.seen D.may_leave disk.old → IsHonest D.tells D.seen D.may_leave disk.new }
-    ensures was_honest { IsHonest D.tells D.seen D.may_leave disk.new → IsHonest D.tells D.seen D.may_leave disk.old }
-    ensures time { Advances (D.moment disk.old) (D.had disk.old) (D.had disk.new) (D.left_since disk.old) (D.left_since disk.new) }
-    ensures cause { IsCaused (D.faults disk.old) (D.faults disk.new) result }
-    ensures count { Counted (D.calls disk.old) (D.calls disk.new) }
-    ensures len { D.extent disk.new ≡ D.extent disk.old }
+    requires room { device_end geometry.now ≤ (D.view disk.old).extent }
+    requires shut { IsHonest (D.view disk.old) → IsShut geometry.now block (D.view disk.old).may_leave }
+    ensures body { (D.view disk.old).tells → OnOk result (body_bytes geometry.now block (D.view disk.new).seen ≡ body.now) }
+    ensures settled { (D.view disk.old).tells → OnOk result (HasOneBody geometry.now block body.now (D.view disk.new).may_leave) }
+    ensures durable { (D.view disk.old).tells → OnOk result (IsOnly (D.view disk.new).seen (D.view disk.new).may_leave) }
+    ensures bytes { TellsTorn (block_place geometry.now block + 4096) (geometry.now.block_size - 4096) (D.view disk.old) (D.view disk.new) }
+    ensures images { IsHonest (D.view disk.old) → TornFrom (block_place geometry.now block + 4096) (geometry.now.block_size - 4096) (D.view disk.old).may_leave (meanwhile (D.view disk.old) (D.view disk.new)) }
+    ensures others { IsHonest (D.view disk.old) → ChangesNoOther geometry.now block (D.view disk.old).may_leave (meanwhile (D.view disk.old) (D.view disk.new)) }
+    ensures shut { IsHonest (D.view disk.old) → IsShut geometry.now block (meanwhile (D.view disk.old) (D.view disk.new)) }
+    ensures kept { IsHonest (D.view disk.old) → OpensOverOneBody geometry.now block (meanwhile (D.view disk.old) (D.view disk.new)) }
+    ensures call { IsCall (D.view disk.old) (D.view disk.new) result }
 {
     write_part(disk, geometry, block, SECTOR_BYTES as u32, body)
 }

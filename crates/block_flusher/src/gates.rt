@@ -1,8 +1,6 @@
 // The gate of a block.
 ghost use Rattle.std.specs.Prelude.{◌≡◌, ◌<◌, ◌≤◌, IfOk, OnOk};
-ghost use Rattle.fault_count.specs.Counts.{Counted, IsCaused};
-ghost use Rattle.disk_model.specs.Bytes.{Torn};
-ghost use Rattle.disk_model.specs.Disk.{IsOnly, IsHonest, Within, TornFrom, Advances};
+ghost use Rattle.disk_model.specs.Disk.{Within, TornFrom, TellsSame, TellsTorn, IsOnly, IsHonest, IsCall, meanwhile};
 ghost use Rattle.block_format.specs.Layout.{IsGeometry, device_end, block_place, body_bytes, gate_sector, closed_sector, open_sector};
 ghost use Rattle.block_flusher.specs.Images.{IsShut, IsOpened, GateIs, HasOneBody, IsBodyOf, OpensOverOneBody, OpensOverBodies, ChangesNoOther};
 
@@ -15,24 +13,19 @@ use disk_model::{Disk, DiskFault};
 pub fn close_gate<D: Disk>(disk: &mut D, geometry: &Geometry, block: u32) -> Result<(), DiskFault>
     requires geometry { IsGeometry geometry.now }
     requires block { block < geometry.now.blocks }
-    requires room { device_end geometry.now ≤ D.extent disk.old }
-    requires settled { IsHonest D.tells D.seen D.may_leave disk.old → HasOneBody geometry.now block (body_bytes geometry.now block (D.seen disk.old)) (D.may_leave disk.old) }
-    requires body { IsHonest D.tells D.seen D.may_leave disk.old → IsBodyOf geometry.now block (body_bytes geometry.now block (D.seen disk.old)) }
-    ensures gate { D.tells disk.old → OnOk result (gate_sector geometry.now block (D.seen disk.new) ≡ closed_sector) }
-    ensures shut { D.tells disk.old → OnOk result (IsShut geometry.now block (D.may_leave disk.new)) }
-    ensures durable { D.tells disk.old → OnOk result (IsOnly (D.seen disk.new) (D.may_leave disk.new)) }
-    ensures bytes { D.tells disk.old → D.tells disk.new × Torn (block_place geometry.now block) 4096 (D.seen disk.old) (D.seen disk.new) }
-    ensures images { IsHonest D.tells D.seen D.may_leave disk.old → TornFrom (block_place geometry.now block) 4096 (D.may_leave disk.old) (D.left_since disk.new (D.moment disk.old)) }
-    ensures others { IsHonest D.tells D.seen D.may_leave disk.old → ChangesNoOther geometry.now block (D.may_leave disk.old) (D.left_since disk.new (D.moment disk.old)) }
-    ensures settled { IsHonest D.tells D.seen D.may_leave disk.old → HasOneBody geometry.now block (body_bytes geometry.now block (D.seen disk.old)) (D.left_since disk.new (D.moment disk.old)) }
-    ensures kept { IsHonest D.tells D.seen D.may_leave disk.old → OpensOverOneBody geometry.now block (D.left_since disk.new (D.moment disk.old)) }
-    ensures readable { IsHonest D.tells D.seen D.may_leave disk.old → OpensOverBodies geometry.now block (D.left_since disk.new (D.moment disk.old)) }
-    ensures honest { IsHonest D.tells D.seen D.may_leave disk.old → IsHonest D.tells D.seen D.may_leave disk.new }
-    ensures was_honest { IsHonest D.tells D.seen D.may_leave disk.new → IsHonest D.tells D.seen D.may_leave disk.old }
-    ensures time { Advances (D.moment disk.old) (D.had disk.old) (D.had disk.new) (D.left_since disk.old) (D.left_since disk.new) }
-    ensures cause { IsCaused (D.faults disk.old) (D.faults disk.new) result }
-    ensures count { Counted (D.calls disk.old) (D.calls disk.new) }
-    ensures len { D.extent disk.new ≡ D.extent disk.old }
+    requires room { device_end geometry.now ≤ (D.view disk.old).extent }
+    requires settled { IsHonest (D.view disk.old) → HasOneBody geometry.now block (body_bytes geometry.now block (D.view disk.old).seen) (D.view disk.old).may_leave }
+    requires body { IsHonest (D.view disk.old) → IsBodyOf geometry.now block (body_bytes geometry.now block (D.view disk.old).seen) }
+    ensures gate { (D.view disk.old).tells → OnOk result (gate_sector geometry.now block (D.view disk.new).seen ≡ closed_sector) }
+    ensures shut { (D.view disk.old).tells → OnOk result (IsShut geometry.now block (D.view disk.new).may_leave) }
+    ensures durable { (D.view disk.old).tells → OnOk result (IsOnly (D.view disk.new).seen (D.view disk.new).may_leave) }
+    ensures bytes { TellsTorn (block_place geometry.now block) 4096 (D.view disk.old) (D.view disk.new) }
+    ensures images { IsHonest (D.view disk.old) → TornFrom (block_place geometry.now block) 4096 (D.view disk.old).may_leave (meanwhile (D.view disk.old) (D.view disk.new)) }
+    ensures others { IsHonest (D.view disk.old) → ChangesNoOther geometry.now block (D.view disk.old).may_leave (meanwhile (D.view disk.old) (D.view disk.new)) }
+    ensures settled { IsHonest (D.view disk.old) → HasOneBody geometry.now block (body_bytes geometry.now block (D.view disk.old).seen) (meanwhile (D.view disk.old) (D.view disk.new)) }
+    ensures kept { IsHonest (D.view disk.old) → OpensOverOneBody geometry.now block (meanwhile (D.view disk.old) (D.view disk.new)) }
+    ensures readable { IsHonest (D.view disk.old) → OpensOverBodies geometry.now block (meanwhile (D.view disk.old) (D.view disk.new)) }
+    ensures call { IsCall (D.view disk.old) (D.view disk.new) result }
 {
     let mut closed = [0; SECTOR_BYTES];
     write_closed(&mut closed);
@@ -44,22 +37,17 @@ pub fn close_gate<D: Disk>(disk: &mut D, geometry: &Geometry, block: u32) -> Res
 pub fn open_gate<D: Disk>(disk: &mut D, geometry: &Geometry, block: u32) -> Result<(), DiskFault>
     requires geometry { IsGeometry geometry.now }
     requires block { block < geometry.now.blocks }
-    requires room { device_end geometry.now ≤ D.extent disk.old }
-    requires settled { IsHonest D.tells D.seen D.may_leave disk.old → HasOneBody geometry.now block (body_bytes geometry.now block (D.seen disk.old)) (D.may_leave disk.old) }
-    ensures gate { D.tells disk.old → OnOk result (gate_sector geometry.now block (D.seen disk.new) ≡ open_sector) }
-    ensures opened { D.tells disk.old → OnOk result (IsOpened geometry.now block (D.may_leave disk.new)) }
-    ensures durable { D.tells disk.old → OnOk result (IsOnly (D.seen disk.new) (D.may_leave disk.new)) }
-    ensures bytes { D.tells disk.old → D.tells disk.new × Torn (block_place geometry.now block) 4096 (D.seen disk.old) (D.seen disk.new) }
-    ensures images { IsHonest D.tells D.seen D.may_leave disk.old → TornFrom (block_place geometry.now block) 4096 (D.may_leave disk.old) (D.left_since disk.new (D.moment disk.old)) }
-    ensures others { IsHonest D.tells D.seen D.may_leave disk.old → ChangesNoOther geometry.now block (D.may_leave disk.old) (D.left_since disk.new (D.moment disk.old)) }
-    ensures settled { IsHonest D.tells D.seen D.may_leave disk.old → HasOneBody geometry.now block (body_bytes geometry.now block (D.seen disk.old)) (D.left_since disk.new (D.moment disk.old)) }
-    ensures kept { IsHonest D.tells D.seen D.may_leave disk.old → OpensOverOneBody geometry.now block (D.left_since disk.new (D.moment disk.old)) }
-    ensures honest { IsHonest D.tells D.seen D.may_leave disk.old → IsHonest D.tells D.seen D.may_leave disk.new }
-    ensures was_honest { IsHonest D.tells D.seen D.may_leave disk.new → IsHonest D.tells D.seen D.may_leave disk.old }
-    ensures time { Advances (D.moment disk.old) (D.had disk.old) (D.had disk.new) (D.left_since disk.old) (D.left_since disk.new) }
-    ensures cause { IsCaused (D.faults disk.old) (D.faults disk.new) result }
-    ensures count { Counted (D.calls disk.old) (D.calls disk.new) }
-    ensures len { D.extent disk.new ≡ D.extent disk.old }
+    requires room { device_end geometry.now ≤ (D.view disk.old).extent }
+    requires settled { IsHonest (D.view disk.old) → HasOneBody geometry.now block (body_bytes geometry.now block (D.view disk.old).seen) (D.view disk.old).may_leave }
+    ensures gate { (D.view disk.old).tells → OnOk result (gate_sector geometry.now block (D.view disk.new).seen ≡ open_sector) }
+    ensures opened { (D.view disk.old).tells → OnOk result (IsOpened geometry.now block (D.view disk.new).may_leave) }
+    ensures durable { (D.view disk.old).tells → OnOk result (IsOnly (D.view disk.new).seen (D.view disk.new).may_leave) }
+    ensures bytes { TellsTorn (block_place geometry.now block) 4096 (D.view disk.old) (D.view disk.new) }
+    ensures images { IsHonest (D.view disk.old) → TornFrom (block_place geometry.now block) 4096 (D.view disk.old).may_leave (meanwhile (D.view disk.old) (D.view disk.new)) }
+    ensures others { IsHonest (D.view disk.old) → ChangesNoOther geometry.now block (D.view disk.old).may_leave (meanwhile (D.view disk.old) (D.view disk.new)) }
+    ensures settled { IsHonest (D.view disk.old) → HasOneBody geometry.now block (body_bytes geometry.now block (D.view disk.old).seen) (meanwhile (D.view disk.old) (D.view disk.new)) }
+    ensures kept { IsHonest (D.view disk.old) → OpensOverOneBody geometry.now block (meanwhile (D.view disk.old) (D.view disk.new)) }
+    ensures call { IsCall (D.view disk.old) (D.view disk.new) result }
 {
     let mut opened = [0; SECTOR_BYTES];
     write_open(&mut opened);
@@ -75,16 +63,11 @@ pub fn is_gate_open<D: Disk>(
 ) -> Result<bool, DiskFault>
     requires geometry { IsGeometry geometry.now }
     requires block { block < geometry.now.blocks }
-    requires room { device_end geometry.now ≤ D.extent disk.old }
-    ensures gate { D.tells disk.old → IfOk result (λ is_open. GateIs is_open geometry.now block (D.may_leave disk.new)) }
-    ensures bytes { D.tells disk.old → D.tells disk.new × (D.seen disk.new ≡ D.seen disk.old) }
-    ensures images { IsHonest D.tells D.seen D.may_leave disk.old → Within (D.may_leave disk.old) (D.left_since disk.new (D.moment disk.old)) }
-    ensures honest { IsHonest D.tells D.seen D.may_leave disk.old → IsHonest D.tells D.seen D.may_leave disk.new }
-    ensures was_honest { IsHonest D.tells D.seen D.may_leave disk.new → IsHonest D.tells D.seen D.may_leave disk.old }
-    ensures time { Advances (D.moment disk.old) (D.had disk.old) (D.had disk.new) (D.left_since disk.old) (D.left_since disk.new) }
-    ensures cause { IsCaused (D.faults disk.old) (D.faults disk.new) result }
-    ensures count { Counted (D.calls disk.old) (D.calls disk.new) }
-    ensures len { D.extent disk.new ≡ D.extent disk.old }
+    requires room { device_end geometry.now ≤ (D.view disk.old).extent }
+    ensures gate { (D.view disk.old).tells → IfOk result (λ is_open. GateIs is_open geometry.now block (D.view disk.new).may_leave) }
+    ensures bytes { TellsSame (D.view disk.old) (D.view disk.new) }
+    ensures images { IsHonest (D.view disk.old) → Within (D.view disk.old).may_leave (meanwhile (D.view disk.old) (D.view disk.new)) }
+    ensures call { IsCall (D.view disk.old) (D.view disk.new) result }
 {
     let place = place_of(geometry, block);
     disk.sync()?;

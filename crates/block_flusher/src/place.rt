@@ -1,8 +1,6 @@
 // Where a block stands, and a write within it.
 ghost use Rattle.std.specs.Prelude.{◌≡◌, ◌+◌, ◌<◌, ◌≤◌, length, OnOk};
-ghost use Rattle.fault_count.specs.Counts.{Counted, IsCaused};
-ghost use Rattle.disk_model.specs.Bytes.{Torn};
-ghost use Rattle.disk_model.specs.Disk.{IsOnly, IsHonest, Written, TornFrom, Advances};
+ghost use Rattle.disk_model.specs.Disk.{Written, TornFrom, TellsTorn, IsOnly, IsHonest, IsCall, meanwhile};
 ghost use Rattle.block_format.specs.Layout.{IsGeometry, device_end, block_place};
 ghost use Rattle.block_flusher.specs.Images.{ChangesNoOther};
 
@@ -30,18 +28,13 @@ pub fn write_part<D: Disk>(
     requires geometry { IsGeometry geometry.now }
     requires block { block < geometry.now.blocks }
     requires within { offset + length bytes.now ≤ geometry.now.block_size }
-    requires room { device_end geometry.now ≤ D.extent disk.old }
-    ensures written { D.tells disk.old → OnOk result (Written (block_place geometry.now block + offset) bytes.now (D.seen disk.old) (D.seen disk.new)) }
-    ensures durable { D.tells disk.old → OnOk result (IsOnly (D.seen disk.new) (D.may_leave disk.new)) }
-    ensures bytes { D.tells disk.old → D.tells disk.new × Torn (block_place geometry.now block + offset) (length bytes.now) (D.seen disk.old) (D.seen disk.new) }
-    ensures images { IsHonest D.tells D.seen D.may_leave disk.old → TornFrom (block_place geometry.now block + offset) (length bytes.now) (D.may_leave disk.old) (D.left_since disk.new (D.moment disk.old)) }
-    ensures others { IsHonest D.tells D.seen D.may_leave disk.old → ChangesNoOther geometry.now block (D.may_leave disk.old) (D.left_since disk.new (D.moment disk.old)) }
-    ensures honest { IsHonest D.tells D.seen D.may_leave disk.old → IsHonest D.tells D.seen D.may_leave disk.new }
-    ensures was_honest { IsHonest D.tells D.seen D.may_leave disk.new → IsHonest D.tells D.seen D.may_leave disk.old }
-    ensures time { Advances (D.moment disk.old) (D.had disk.old) (D.had disk.new) (D.left_since disk.old) (D.left_since disk.new) }
-    ensures cause { IsCaused (D.faults disk.old) (D.faults disk.new) result }
-    ensures count { Counted (D.calls disk.old) (D.calls disk.new) }
-    ensures len { D.extent disk.new ≡ D.extent disk.old }
+    requires room { device_end geometry.now ≤ (D.view disk.old).extent }
+    ensures written { (D.view disk.old).tells → OnOk result (Written (block_place geometry.now block + offset) bytes.now (D.view disk.old).seen (D.view disk.new).seen) }
+    ensures durable { (D.view disk.old).tells → OnOk result (IsOnly (D.view disk.new).seen (D.view disk.new).may_leave) }
+    ensures bytes { TellsTorn (block_place geometry.now block + offset) (length bytes.now) (D.view disk.old) (D.view disk.new) }
+    ensures images { IsHonest (D.view disk.old) → TornFrom (block_place geometry.now block + offset) (length bytes.now) (D.view disk.old).may_leave (meanwhile (D.view disk.old) (D.view disk.new)) }
+    ensures others { IsHonest (D.view disk.old) → ChangesNoOther geometry.now block (D.view disk.old).may_leave (meanwhile (D.view disk.old) (D.view disk.new)) }
+    ensures call { IsCall (D.view disk.old) (D.view disk.new) result }
 {
     let place = place_of(geometry, block) + u64::from(offset);
     write_synced(disk, place, bytes)

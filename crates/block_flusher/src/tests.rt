@@ -1,5 +1,6 @@
 ghost use Rattle.std.specs.Prelude.{IfOk};
 ghost use Rattle.disk_model.specs.Disk.{IsHonest};
+ghost use Rattle.disk_model.specs.Moments.{view_of};
 ghost use Rattle.block_flusher.specs.Images.{IsShut};
 
 use super::*;
@@ -35,8 +36,8 @@ const OPEN: [u8; GATE_BYTES] = *b"ASNODE-GATE-OPEN";
 
 /// A disk of zeros, where the call of this kind after `skip` others is to fail.
 fn failing(alloc: Global, kind: DiskCall, skip: u64) -> Result<MemDisk, Fail>
-    ensures honest { IfOk result (λ disk. IsHonest ⟦<MemDisk as Disk>⟧.tells ⟦<MemDisk as Disk>⟧.seen ⟦<MemDisk as Disk>⟧.may_leave disk) }
-    ensures shut { IfOk result (λ disk. IsShut SHAPE BLOCK (⟦<MemDisk as Disk>⟧.may_leave disk)) }
+    ensures honest { IfOk result (λ disk. IsHonest (view_of disk)) }
+    ensures shut { IfOk result (λ disk. IsShut SHAPE BLOCK (view_of disk).may_leave) }
 {
     let mut disk = MemDisk::new(alloc, DEVICE_BYTES)?;
     disk.fail_after(kind, skip)?;
@@ -50,8 +51,8 @@ fn steps(
     disk: &mut MemDisk,
     body: &[u8; BODY_BYTES],
 ) -> Result<u8, Fail>
-    requires honest { IsHonest ⟦<MemDisk as Disk>⟧.tells ⟦<MemDisk as Disk>⟧.seen ⟦<MemDisk as Disk>⟧.may_leave disk.old }
-    requires shut { IsShut SHAPE BLOCK (⟦<MemDisk as Disk>⟧.may_leave disk.old) }
+    requires honest { IsHonest (view_of disk.old) }
+    requires shut { IsShut SHAPE BLOCK (view_of disk.old).may_leave }
 {
     assert!(rt; disk.len() == DEVICE_BYTES);
     let Ok(()) = write_body(disk, &SHAPE, BLOCK, body) else {

@@ -2,7 +2,7 @@
 use Rattle.std.proofs.Common.{◌≡◌, ℕ, ◌+◌, ◌<◌, ◌≤◌, Bool, true, false, cond, List, length, map, refl, sym, ◌∙◌, ap, subst, arith}
 use Rattle.std.proofs.lemmas.Bool.{ltb-false, leb-false}
 use Rattle.std.specs.Prelude.{Some, None, nat_lt, nat_le, MatchBool}
-use Rattle.disk_model.specs.Disk.{Images}
+use Rattle.disk_model.specs.Disk.{DiskView}
 use Rattle.rec_format.specs.declared.version.Digest.{Digest}
 use Rattle.rec_format.specs.declared.version.Version.{Version}
 use Rattle.rec_format.specs.Versions.{version_units, block_capacity, top_number}
@@ -27,18 +27,18 @@ use Rattle.block_shelf.proofs.Causes.{none_in_room, cause_in_new}
 use Rattle.block_shelf.proofs.Written.{live_here, stands_after, placed_after, safe_after}
 
 -- what an append promises of a shelf, where the copy lies at this place behind it
-abbrev pub Appends : {D : Type 0} → (D → Images) → Setup → State → Digest → Version → Class → (old new : ShelfView D) → Place → Type 0
-Appends may_leave setup s digest v kind old new place =
+abbrev pub Appends : {D : Type 0} → (D → DiskView) → Setup → State → Digest → Version → Class → (old new : ShelfView D) → Place → Type 0
+Appends view setup s digest v kind old new place =
     (append_refusal setup kind (version_units v) s.book ≡ None)
     × (live_of digest (after_step setup (wrote digest v) s).book.live ≡ Some (live_at digest place))
     × StandsFor new (after_step setup (wrote digest v) s)
-    × (IsPlaced may_leave old s → IsPlaced may_leave new (after_step setup (wrote digest v) s))
-    × (MayFollow setup s digest v → IsSafe setup may_leave old s → IsSafe setup may_leave new (after_step setup (wrote digest v) s))
+    × (IsPlaced view old s → IsPlaced view new (after_step setup (wrote digest v) s))
+    × (MayFollow setup s digest v → IsSafe setup view old s → IsSafe setup view new (after_step setup (wrote digest v) s))
 
-pub appends_as : {D : Type 0} (may_leave : D → Images) (setup : Setup) (s : State) (digest : Digest) (v : Version) (kind : Class) (old new : ShelfView D) (place : Place) (new_is : ShelfView D) (place_is : Place) → new ≡ new_is → place ≡ place_is
-    → Appends may_leave setup s digest v kind old new_is place_is → Appends may_leave setup s digest v kind old new place
-appends_as {D} may_leave setup s digest v kind old new place new_is place_is same there appended =
-    subst (λ (x : ShelfView D). Appends may_leave setup s digest v kind old x place) (sym same) (subst (Appends may_leave setup s digest v kind old new_is) (sym there) appended)
+pub appends_as : {D : Type 0} (view : D → DiskView) (setup : Setup) (s : State) (digest : Digest) (v : Version) (kind : Class) (old new : ShelfView D) (place : Place) (new_is : ShelfView D) (place_is : Place) → new ≡ new_is → place ≡ place_is
+    → Appends view setup s digest v kind old new_is place_is → Appends view setup s digest v kind old new place
+appends_as {D} view setup s digest v kind old new place new_is place_is same there appended =
+    subst (λ (x : ShelfView D). Appends view setup s digest v kind old x place) (sym same) (subst (Appends view setup s digest v kind old new_is) (sym there) appended)
 
 -- ---- what the first checks tell
 
@@ -64,34 +64,34 @@ begin_fits shelf none = by (nat_lt top_number shelf.next_number) refl (nat_le sh
     by false is false true has none = absurd (cc)
     by false is false false has none = (ltb-false top_number shelf.next_number is, leb-false (length shelf.free) 0 has)
 
-module _ {D : Type 0} (extent : D → ℕ) (tells : D → Type 0) (seen : D → List ℕ) (may_leave : D → Images) (setup : Setup) (s : State) (digest : Digest) (v : Version) (kind : Class) (shelf : ShelfView D)
-    (is : IsShelf extent tells seen may_leave shelf) (stands : StandsFor shelf s) (setup_is : IsSetupOf setup shelf) (fits : version_units v ≤ setup.capacity) where
+module _ {D : Type 0} (view : D → DiskView) (setup : Setup) (s : State) (digest : Digest) (v : Version) (kind : Class) (shelf : ShelfView D)
+    (is : IsShelf view shelf) (stands : StandsFor shelf s) (setup_is : IsSetupOf setup shelf) (fits : version_units v ≤ setup.capacity) where
   counted : IsCounted s.book
   counted = book_counted shelf.geometry shelf.buffers shelf.next_number s.book is.order is.buffers stands.buffers stands.next
 
   pub append_in_room : (room : HasRoom (version_units v) shelf.buffers)
-      → Appends may_leave setup s digest v kind shelf (with_written digest v room.front room.last shelf) (record { block = room.last.block; unit = used_units room.last; units = version_units v })
+      → Appends view setup s digest v kind shelf (with_written digest v room.front room.last shelf) (record { block = room.last.block; unit = used_units room.last; units = version_units v })
   append_in_room room =
-      let readied = room_readied extent tells seen may_leave setup s v shelf is stands setup_is room in (
-        none_in_room setup s shelf stands setup_is kind (version_units v) fits (room_found extent tells seen may_leave setup s v shelf is stands setup_is room),
-        live_here setup s digest v s.book shelf room.front room.last readied extent tells seen may_leave is counted,
-        stands_after setup s digest v s.book shelf room.front room.last readied extent tells seen may_leave is counted stands.numbers room.room,
-        placed_after setup s digest v s.book shelf room.front room.last readied extent tells seen may_leave is counted,
-        safe_after setup s digest v s.book shelf room.front room.last readied extent tells seen may_leave is counted,
+      let readied = room_readied view setup s v shelf is stands setup_is room in (
+        none_in_room setup s shelf stands setup_is kind (version_units v) fits (room_found view setup s v shelf is stands setup_is room),
+        live_here setup s digest v s.book shelf room.front room.last readied view is counted,
+        stands_after setup s digest v s.book shelf room.front room.last readied view is counted stands.numbers room.room,
+        placed_after setup s digest v s.book shelf room.front room.last readied view is counted,
+        safe_after setup s digest v s.book shelf room.front room.last readied view is counted,
       )
 
   pub append_in_new : has_room setup client (version_units v) s.book ≡ false → begin_refusal shelf ≡ None
-      → Appends may_leave setup s digest v kind shelf (with_written digest v (map sealed_buffer shelf.buffers) (begun_buffer shelf) (with_begun shelf)) (record { block = (begun_buffer shelf).block; unit = used_units (begun_buffer shelf); units = version_units v })
+      → Appends view setup s digest v kind shelf (with_written digest v (map sealed_buffer shelf.buffers) (begun_buffer shelf) (with_begun shelf)) (record { block = (begun_buffer shelf).block; unit = used_units (begun_buffer shelf); units = version_units v })
   append_in_new none refused =
       let may = begin_fits shelf refused in
-      let begun_is = begun_shelf extent tells seen may_leave shelf is may.0 may.1 in
-      let readied = new_readied extent tells seen may_leave setup s v shelf is stands setup_is may.0 may.1 none in
+      let begun_is = begun_shelf view shelf is may.0 may.1 in
+      let readied = new_readied view setup s v shelf is stands setup_is may.0 may.1 none in
       let ready = with_new_buffer client s.book in
       let front : List BufferState = map sealed_buffer shelf.buffers in
       let last : BufferState = begun_buffer shelf in (
         cause_in_new setup s shelf stands setup_is kind (version_units v) fits none ∙ refused,
-        live_here setup s digest v ready (with_begun shelf) front last readied extent tells seen may_leave begun_is counted,
-        stands_after setup s digest v ready (with_begun shelf) front last readied extent tells seen may_leave begun_is counted stands.numbers (subst (λ (n : ℕ). 0 + version_units v ≤ n) setup_is.shape.capacity (omega arith)),
-        (λ placed. placed_after setup s digest v ready (with_begun shelf) front last readied extent tells seen may_leave begun_is counted (begun_placed extent tells seen may_leave setup s v shelf is stands setup_is placed)),
-        (λ follows safe. safe_after setup s digest v ready (with_begun shelf) front last readied extent tells seen may_leave begun_is counted follows (begun_safe extent tells seen may_leave setup s v shelf is stands setup_is safe)),
+        live_here setup s digest v ready (with_begun shelf) front last readied view begun_is counted,
+        stands_after setup s digest v ready (with_begun shelf) front last readied view begun_is counted stands.numbers (subst (λ (n : ℕ). 0 + version_units v ≤ n) setup_is.shape.capacity (omega arith)),
+        (λ placed. placed_after setup s digest v ready (with_begun shelf) front last readied view begun_is counted (begun_placed view setup s v shelf is stands setup_is placed)),
+        (λ follows safe. safe_after setup s digest v ready (with_begun shelf) front last readied view begun_is counted follows (begun_safe view setup s v shelf is stands setup_is safe)),
       )

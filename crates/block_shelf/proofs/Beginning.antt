@@ -2,7 +2,7 @@
 use Rattle.std.proofs.Common.{◌≡◌, ℕ, ◌+◌, ◌<◌, ◌≤◌, false, List, [], ◌∷◌, ◌++◌, length, map, drop, get_or, refl, sym, ◌∙◌, ap, subst, arith, append_assoc}
 use Rattle.std.proofs.lemmas.List.{map-append}
 use Rattle.std.specs.List.{AllByRecursion}
-use Rattle.disk_model.specs.Disk.{Images, IsHonest}
+use Rattle.disk_model.specs.Disk.{DiskView, IsHonest}
 use Rattle.rec_format.specs.Versions.{block_capacity, top_number}
 use Rattle.rec_format.specs.Book.{first_block}
 use Rattle.recovery_laws.proofs.Each.{all_map}
@@ -22,13 +22,13 @@ pub order_more : (bs : List BufferState) (last : BufferState) → AllByRecursion
 order_more [] last all order = (tt, tt)
 order_more (b ∷ bs) last all order = (all_joined (λ c. (b.number < c.number) × (is_filling b.phase ≡ false)) bs (last ∷ []) order.0 (all.0, tt), order_more bs last all.1 order.1)
 
-module _ {D : Type 0} (extent : D → ℕ) (tells : D → Type 0) (seen : D → List ℕ) (may_leave : D → Images) (shelf : ShelfView D) (is : IsShelf extent tells seen may_leave shelf) where
-  sealed_is : IsShelf extent tells seen may_leave (record shelf { buffers = map sealed_buffer shelf.buffers })
-  sealed_is = sealed_shelf sealed_buffer seals_each extent tells seen may_leave shelf is
+module _ {D : Type 0} (view : D → DiskView) (shelf : ShelfView D) (is : IsShelf view shelf) where
+  sealed_is : IsShelf view (record shelf { buffers = map sealed_buffer shelf.buffers })
+  sealed_is = sealed_shelf sealed_buffer seals_each view shelf is
 
   -- in the first of some free blocks
   begun_in : (block : ℕ) (rest : List ℕ) → shelf.free ≡ block ∷ rest → shelf.next_number ≤ top_number
-      → IsShelf extent tells seen may_leave (record shelf {
+      → IsShelf view (record shelf {
         buffers = map sealed_buffer shelf.buffers ++ empty_buffer shelf.next_number block (block_capacity shelf.geometry.block_size) ∷ [];
         free = rest;
         next_number = shelf.next_number + 1;
@@ -47,7 +47,7 @@ module _ {D : Type 0} (extent : D → ℕ) (tells : D → Type 0) (seen : D → 
         sealed_is.order;
     free = within.1;
     apart = subst AreApart (sym blocks) (subst (λ (l : List ℕ). AreApart (map (λ b. b.block) (map sealed_buffer shelf.buffers) ++ l)) free sealed_is.apart);
-    ready = λ honest. all_joined (IsReady shelf.geometry (may_leave shelf.disk)) (map sealed_buffer shelf.buffers) (new ∷ []) (sealed_is.ready honest) ((shut honest).0, tt);
+    ready = λ honest. all_joined (IsReady shelf.geometry (view shelf.disk).may_leave) (map sealed_buffer shelf.buffers) (new ∷ []) (sealed_is.ready honest) ((shut honest).0, tt);
     shut = λ honest. (shut honest).1;
   }
     where
@@ -57,16 +57,16 @@ module _ {D : Type 0} (extent : D → ℕ) (tells : D → Type 0) (seen : D → 
       within : AllByRecursion (λ b. b < shelf.geometry.blocks) (block ∷ rest)
       within = subst (AllByRecursion (λ b. b < shelf.geometry.blocks)) free is.free
 
-      shut : IsHonest tells seen may_leave shelf.disk → AllByRecursion (λ b. IsShut shelf.geometry b (may_leave shelf.disk)) (block ∷ rest)
-      shut honest = subst (AllByRecursion (λ b. IsShut shelf.geometry b (may_leave shelf.disk))) free (is.shut honest)
+      shut : IsHonest (view shelf.disk) → AllByRecursion (λ b. IsShut shelf.geometry b (view shelf.disk).may_leave) (block ∷ rest)
+      shut honest = subst (AllByRecursion (λ b. IsShut shelf.geometry b (view shelf.disk).may_leave)) free (is.shut honest)
 
       blocks : map (λ b. b.block) (map sealed_buffer shelf.buffers ++ new ∷ []) ++ rest ≡ map (λ b. b.block) (map sealed_buffer shelf.buffers) ++ block ∷ rest
       blocks = ap (λ (l : List ℕ). l ++ rest) (map-append (λ b. b.block) (map sealed_buffer shelf.buffers) (new ∷ [])) ∙ append_assoc (map (λ b. b.block) (map sealed_buffer shelf.buffers)) (block ∷ []) rest
 
-  pub begun_shelf : shelf.next_number ≤ top_number → 0 < length shelf.free → IsShelf extent tells seen may_leave (with_begun shelf)
+  pub begun_shelf : shelf.next_number ≤ top_number → 0 < length shelf.free → IsShelf view (with_begun shelf)
   begun_shelf fits some = by shelf.free refl some
     where
-      by : (free : List ℕ) → shelf.free ≡ free → 0 < length free → IsShelf extent tells seen may_leave (record shelf {
+      by : (free : List ℕ) → shelf.free ≡ free → 0 < length free → IsShelf view (record shelf {
         buffers = map sealed_buffer shelf.buffers ++ empty_buffer shelf.next_number (first_block free) (block_capacity shelf.geometry.block_size) ∷ [];
         free = drop 1 free;
         next_number = shelf.next_number + 1;

@@ -17,7 +17,7 @@ use Rattle.rec_format.specs.Device.{State, entry}
 use Rattle.recovery_laws.proofs.Growing.{all_at}
 use Rattle.recovery_laws.proofs.Opening.{all_parted}
 use Rattle.write_buffer.specs.Buffers.{BufferState}
-use Rattle.disk_model.specs.Disk.{Images}
+use Rattle.disk_model.specs.Disk.{DiskView}
 use Rattle.block_format.specs.declared.geometry.Geometry.{Geometry}
 use Rattle.block_format.specs.Layout.{Body, IsBody, IsRecordAt, block_place, body_bytes, records_text}
 use Rattle.block_format.proofs.BodyRecords.{AllRecorded, Record}
@@ -134,11 +134,11 @@ read_in_buffer shelf s place e v b bytes result stands live is names units has a
     record_read e v bytes result names (there e.digest v (copy_in_buffer shelf s place e.digest v b stands live is has at) (sym names.units ∙ units)) reads
 
 -- and where it has none
-pub read_on_disk : {D : Type 0} (may_leave : D → Images) (shelf : ShelfView D) (s : State) (place : Place) (e : Entry) (v : Version) (c : List ℕ) (result : Result Version ReadRefusal)
-    → IsPlaced may_leave shelf s → live_of e.digest s.book.live ≡ Some (live_at e.digest place) → entry s e.digest ≡ Some v → Names e v → (e.units ≡ place.units) × (3 ≤ place.units)
-    → place.unit + place.units ≤ block_capacity shelf.geometry.block_size → AllByRecursion (λ b. b.block ≢ place.block) shelf.buffers → may_leave shelf.disk c
+pub read_on_disk : {D : Type 0} (view : D → DiskView) (shelf : ShelfView D) (s : State) (place : Place) (e : Entry) (v : Version) (c : List ℕ) (result : Result Version ReadRefusal)
+    → IsPlaced view shelf s → live_of e.digest s.book.live ≡ Some (live_at e.digest place) → entry s e.digest ≡ Some v → Names e v → (e.units ≡ place.units) × (3 ≤ place.units)
+    → place.unit + place.units ≤ block_capacity shelf.geometry.block_size → AllByRecursion (λ b. b.block ≢ place.block) shelf.buffers → (view shelf.disk).may_leave c
     → HasRead e (copy_bytes shelf.geometry place c) result → MatchResult result (λ w. w ≡ v) IsUndamaged
-read_on_disk may_leave shelf s place e v c result placed live is names units within none image reads =
+read_on_disk view shelf s place e v c result placed live is names units within none image reads =
     let there = placed.there e.digest (live_at e.digest place) v live is none c image in
     record_read e v (copy_bytes shelf.geometry place c) result names (copy_in_block shelf.geometry place c e.digest v within (sym names.units ∙ units.0) units.1 there) reads
 

@@ -1,6 +1,6 @@
 -- How a shelf goes by no step, by one, and by several.
 use Rattle.std.proofs.Common.{◌≡◌, inl, inr, ℕ, List, [], ◌∷◌, ◌++◌, refl, sym, subst}
-use Rattle.disk_model.specs.Disk.{Images, IsHonest, Advances}
+use Rattle.disk_model.specs.Disk.{Images, DiskView, IsDisk, IsHonest, Advances, meanwhile}
 use Rattle.disk_model.specs.Runs.{OneOf, leaves_then, leaves_more, leaves_none}
 use Rattle.rec_format.specs.Book.{Setup}
 use Rattle.rec_format.specs.Device.{State}
@@ -37,27 +37,20 @@ through_back P setup (x ∷ xs) ys s c h = inr (through_back P setup xs ys (afte
 survives : (setup : Setup) (s : State) (c : List ℕ) → IsOrderly s → IsHeld setup s c → Survives setup s c
 survives setup s c orderly held = held_survives setup s c held.0 orderly held.1
 
--- ---- the disk's laws at a point
-
-pub record ArePresent {D : Type 0} (may_leave : D → Images) (moment : D → ℕ) (had : D → ℕ → Type 0) (left_since : D → ℕ → Images) (disk : D) : Type 0 where
-  pub now : had disk (moment disk)
-  pub alone : (c : List ℕ) → left_since disk (moment disk) c → may_leave disk c
-  pub since : (t : ℕ) (c : List ℕ) → had disk t → may_leave disk c → left_since disk t c
-
-module _ {D : Type 0} (tells : D → Type 0) (seen : D → List ℕ) (may_leave : D → Images) (moment : D → ℕ) (had : D → ℕ → Type 0) (left_since : D → ℕ → Images) where
+module _ {D : Type 0} (view : D → DiskView) where
   -- what may be left now was left since
-  pub now_left : (old new : D) → ArePresent may_leave moment had left_since new → Advances (moment old) (had old) (had new) (left_since old) (left_since new)
-      → (c : List ℕ) → may_leave new c → left_since new (moment old) c
-  now_left old new present time c image = present.since (moment old) c (time.stays (moment old) time.started) image
+  pub now_left : (old new : D) → IsDisk (view new) → Advances (view old) (view new)
+      → (c : List ℕ) → (view new).may_leave c → meanwhile (view old) (view new) c
+  now_left old new present time c image = present.now_since (view old).moment c (time.stays (view old).moment time.started) image
 
-  pub time_still : (disk : D) → ArePresent may_leave moment had left_since disk → Advances (moment disk) (had disk) (had disk) (left_since disk) (left_since disk)
-  time_still disk present = (leaves_none moment had left_since (may_leave disk) (may_leave disk) disk present.now present.alone present.since (λ c image. image)).time
+  pub time_still : (disk : D) → IsDisk (view disk) → Advances (view disk) (view disk)
+  time_still disk present = (leaves_none (view disk).may_leave (view disk) present (λ c image. image)).time
 
   -- no step
-  pub goes_on : (setup : Setup) (old new : ShelfView D) (s : State) → StandsFor new s → (IsHonest tells seen may_leave old.disk → IsPlaced may_leave old s → IsPlaced may_leave new s)
-      → ArePresent may_leave moment had left_since new.disk → Advances (moment old.disk) (had old.disk) (had new.disk) (left_since old.disk) (left_since new.disk)
-      → (IsHonest tells seen may_leave old.disk → ((c : List ℕ) → may_leave old.disk c → IsHeld setup s c) → (c : List ℕ) → left_since new.disk (moment old.disk) c → IsHeld setup s c)
-      → Goes tells seen may_leave moment had left_since setup [] old s new
+  pub goes_on : (setup : Setup) (old new : ShelfView D) (s : State) → StandsFor new s → (IsHonest (view old.disk) → IsPlaced view old s → IsPlaced view new s)
+      → IsDisk (view new.disk) → Advances (view old.disk) (view new.disk)
+      → (IsHonest (view old.disk) → ((c : List ℕ) → (view old.disk).may_leave c → IsHeld setup s c) → (c : List ℕ) → meanwhile (view old.disk) (view new.disk) c → IsHeld setup s c)
+      → Goes view setup [] old s new
   goes_on setup old new s stands placed present time each = record {
     stands = stands;
     placed = placed;
@@ -67,26 +60,26 @@ module _ {D : Type 0} (tells : D → Type 0) (seen : D → List ℕ) (may_leave 
 
   -- a step, and no call of the disk
   pub goes_by : (setup : Setup) (step : Step) (old : ShelfView D) (after : List BufferState) (s : State) → StandsFor (record old { buffers = after }) (after_step setup step s)
-      → (IsHonest tells seen may_leave old.disk → IsPlaced may_leave old s → IsPlaced may_leave (record old { buffers = after }) (after_step setup step s))
-      → ArePresent may_leave moment had left_since old.disk → (IsOrderly s → IsOrderly (after_step setup step s))
-      → (IsHonest tells seen may_leave old.disk → (c : List ℕ) → may_leave old.disk c → IsHeld setup s c → IsHeld setup (after_step setup step s) c)
-      → Goes tells seen may_leave moment had left_since setup (step ∷ []) old s (record old { buffers = after })
+      → (IsHonest (view old.disk) → IsPlaced view old s → IsPlaced view (record old { buffers = after }) (after_step setup step s))
+      → IsDisk (view old.disk) → (IsOrderly s → IsOrderly (after_step setup step s))
+      → (IsHonest (view old.disk) → (c : List ℕ) → (view old.disk).may_leave c → IsHeld setup s c → IsHeld setup (after_step setup step s) c)
+      → Goes view setup (step ∷ []) old s (record old { buffers = after })
   goes_by setup step old after s stands placed present orderly each = record {
     stands = stands;
     placed = placed;
     safe = λ honest safe. record { orderly = orderly safe.orderly; images = λ c image. each honest c image (safe.images c image) };
-    leaves = λ honest safe. record { time = time_still old.disk present; each = λ c left. inl (survives setup s c safe.orderly (safe.images c (present.alone c left))) };
+    leaves = λ honest safe. record { time = time_still old.disk present; each = λ c left. inl (survives setup s c safe.orderly (safe.images c (present.now_alone c left))) };
   }
 
   -- some steps and then others
-  pub goes_then : (setup : Setup) (xs ys : List Step) (old mid new : ShelfView D) (s : State) → (IsHonest tells seen may_leave old.disk → IsHonest tells seen may_leave mid.disk)
-      → Goes tells seen may_leave moment had left_since setup xs old s mid → Goes tells seen may_leave moment had left_since setup ys mid (after_steps setup xs s) new
-      → Goes tells seen may_leave moment had left_since setup (xs ++ ys) old s new
+  pub goes_then : (setup : Setup) (xs ys : List Step) (old mid new : ShelfView D) (s : State) → (IsHonest (view old.disk) → IsHonest (view mid.disk))
+      → Goes view setup xs old s mid → Goes view setup ys mid (after_steps setup xs s) new
+      → Goes view setup (xs ++ ys) old s new
   goes_then setup xs ys old mid new s stays first then = record {
     stands = subst (λ (t : State). StandsFor new t) (sym (after_joined setup xs ys s)) then.stands;
-    placed = λ honest placed. subst (λ (t : State). IsPlaced may_leave new t) (sym (after_joined setup xs ys s)) (then.placed (stays honest) (first.placed honest placed));
-    safe = λ honest safe. subst (λ (t : State). IsSafe setup may_leave new t) (sym (after_joined setup xs ys s)) (then.safe (stays honest) (first.safe honest safe));
-    leaves = λ honest safe. leaves_then moment had left_since
-        (leaves_more moment had left_since (λ c h. through_front (Survives setup) setup xs ys s c h) (first.leaves honest safe))
-        (leaves_more moment had left_since (λ c h. through_back (Survives setup) setup xs ys s c h) (then.leaves (stays honest) (first.safe honest safe)));
+    placed = λ honest placed. subst (λ (t : State). IsPlaced view new t) (sym (after_joined setup xs ys s)) (then.placed (stays honest) (first.placed honest placed));
+    safe = λ honest safe. subst (λ (t : State). IsSafe setup view new t) (sym (after_joined setup xs ys s)) (then.safe (stays honest) (first.safe honest safe));
+    leaves = λ honest safe. leaves_then
+        (leaves_more (λ c h. through_front (Survives setup) setup xs ys s c h) (first.leaves honest safe))
+        (leaves_more (λ c h. through_back (Survives setup) setup xs ys s c h) (then.leaves (stays honest) (first.safe honest safe)));
   }

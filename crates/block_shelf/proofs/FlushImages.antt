@@ -99,7 +99,7 @@ begun_records setup g s next_number b of_g own has begun =
     all_from (λ r. (device_number setup.devices r.0 ≡ setup.device) × Contains (begun_versions (pending_of s.book) (history s r.0)) r.1) b.records (λ r there. (
       ap (λ (n : ℕ). device_number n r.0) of_g.devices ∙ all_at (λ x. device_number g.devices x.0 ≡ g.device) b.records r own.own there ∙ sym of_g.device,
       all_at (λ v. Contains (begun_versions (pending_of s.book) (history s r.0)) v) (versions_to b.number (history s r.0)) r.1 (begun_versions_to b.number (pending_of s.book) (history s r.0) begun)
-          (all_at (λ v. Contains (versions_to b.number (history s r.0)) v) (versions_named r.0 b.records) r.1 ((has r.0).written)
+          (all_at (λ v. Contains (versions_to b.number (history s r.0)) v) (versions_named r.0 b.records) r.1 (has r.0).written
           (map_there (λ (x : Digest × Version). x.1) (filter (λ (x : Digest × Version). same_digest r.0 x.0) b.records) r
           (filter_there (λ (x : Digest × Version). same_digest r.0 x.0) b.records r (same_digest_refl r.0) there))),
     ))

@@ -3,7 +3,7 @@ use Rattle.std.proofs.Common.{◌≡◌, ℕ, ◌+◌, ◌*◌, ◌<◌, Bool, t
 use Rattle.std.specs.Prelude.{◌≢◌, ◌==◌, filter}
 use Rattle.std.specs.List.{AllByRecursion, list_any}
 use Rattle.std.proofs.lemmas.Bool.{eq-eqb, ne_eqb, cases_eq}
-use Rattle.disk_model.specs.Disk.{Images, IsHonest}
+use Rattle.disk_model.specs.Disk.{DiskView, IsDisk, IsHonest}
 use Rattle.rec_format.specs.declared.version.Digest.{Digest}
 use Rattle.rec_format.specs.declared.version.Version.{Version}
 use Rattle.rec_format.specs.Versions.{block_capacity}
@@ -27,7 +27,7 @@ use Rattle.block_shelf.proofs.CopyTexts.{record_in_body}
 use Rattle.block_shelf.proofs.Sealing.{all_to_map}
 use Rattle.block_shelf.proofs.FlushImages.{open_held}
 use Rattle.block_shelf.proofs.FlushShelf.{written_after}
-use Rattle.block_shelf.proofs.FlushGoes.{ArePresent, goes_by}
+use Rattle.block_shelf.proofs.FlushGoes.{goes_by}
 
 -- ---- the book
 
@@ -52,7 +52,7 @@ free_stays policy qualified buffers rest free is_built are apart =
 
 -- ---- the shelf
 
-module _ {D : Type 0} (tells : D → Type 0) (seen : D → List ℕ) (may_leave : D → Images) (old : ShelfView D) (b : BufferState) (rest after : List BufferState) (is : old.buffers ≡ b ∷ rest) (to : after ≡ rest) where
+module _ {D : Type 0} (view : D → DiskView) (old : ShelfView D) (b : BufferState) (rest after : List BufferState) (is : old.buffers ≡ b ∷ rest) (to : after ≡ rest) where
   rest_live : (digest : Digest) (v : Version) (l : Live) → IsLive old digest v l → IsLive (record old { buffers = after }) digest v l
   rest_live digest v l x = record {
     units = x.units;
@@ -74,8 +74,8 @@ module _ {D : Type 0} (tells : D → Type 0) (seen : D → List ℕ) (may_leave 
   }
 
   -- a live copy of the buffer stands in its body, which each image has
-  placed_left : (s : State) (k : Book) (capacity : ℕ) → k.live ≡ s.book.live → StandsFor old s → IsBody capacity (bytes_of b) (body_in b) → HasOneBody old.geometry b.block (bytes_of b) (may_leave old.disk)
-      → IsPlaced may_leave old s → IsPlaced may_leave (record old { buffers = after }) (record s { book = k })
+  placed_left : (s : State) (k : Book) (capacity : ℕ) → k.live ≡ s.book.live → StandsFor old s → IsBody capacity (bytes_of b) (body_in b) → HasOneBody old.geometry b.block (bytes_of b) (view old.disk).may_leave
+      → IsPlaced view old s → IsPlaced view (record old { buffers = after }) (record s { book = k })
   placed_left s k capacity live st is_body one placed = record {
     there = λ digest l v found is_entry none c image.
         let was = ap (λ (ls : List Live). book.live_of digest ls) (sym live) ∙ found in
@@ -88,14 +88,14 @@ module _ {D : Type 0} (tells : D → Type 0) (seen : D → List ℕ) (may_leave 
         (cases_eq b.block l.block);
   }
 
-  module _ (moment : D → ℕ) (had : D → ℕ → Type 0) (left_since : D → ℕ → Images) (present : ArePresent may_leave moment had left_since old.disk) (above : AllByRecursion (λ c. b.number < c.number) rest)
+  module _ (present : IsDisk (view old.disk)) (above : AllByRecursion (λ c. b.number < c.number) rest)
       (apart : AreApart (map (λ c. c.block) rest ++ old.free)) (within : b.block < old.geometry.blocks) (is_geometry : IsGeometry old.geometry) where
-    pub goes_left : IsBody (block_capacity old.geometry.block_size) (bytes_of b) (body_in b) → (IsHonest tells seen may_leave old.disk → HasOneBody old.geometry b.block (bytes_of b) (may_leave old.disk))
-        → (IsHonest tells seen may_leave old.disk → IsOpened old.geometry b.block (may_leave old.disk)) → (setup : Setup) (s : State) → IsSetupOf setup old → StandsFor old s
-        → Goes tells seen may_leave moment had left_since setup (flushed_buffer b.number ∷ []) old s (record old { buffers = after })
+    pub goes_left : IsBody (block_capacity old.geometry.block_size) (bytes_of b) (body_in b) → (IsHonest (view old.disk) → HasOneBody old.geometry b.block (bytes_of b) (view old.disk).may_leave)
+        → (IsHonest (view old.disk) → IsOpened old.geometry b.block (view old.disk).may_leave) → (setup : Setup) (s : State) → IsSetupOf setup old → StandsFor old s
+        → Goes view setup (flushed_buffer b.number ∷ []) old s (record old { buffers = after })
     unfolding after_step with_flushed refreshed
     goes_left is_body one opened setup s of_old st =
-        goes_by tells seen may_leave moment had left_since setup (flushed_buffer b.number) old after s
+        goes_by view setup (flushed_buffer b.number) old after s
         (stands_left s (with_flushed setup b.number s.book) buffers free refl refl st)
         (λ honest placed. placed_left s (with_flushed setup b.number s.book) (block_capacity old.geometry.block_size) refl st is_body (one honest) placed)
         present (flushed_orderly setup b.number s)

@@ -2,7 +2,7 @@
 use Rattle.std.proofs.Common.{◌≡◌, ℕ, ◌+◌, ◌*◌, ◌<◌, ◌≤◌, false, List, [], ◌∷◌, ◌++◌, map, length, drop, refl, sym, ap, ◌∙◌, subst, arith}
 use Rattle.std.specs.Prelude.{◌≢◌, slice_index_or, slice_set}
 use Rattle.std.specs.List.{AllByRecursion}
-use Rattle.disk_model.specs.Disk.{Images, Within, IsHonest}
+use Rattle.disk_model.specs.Disk.{Images, DiskView, Within, IsHonest}
 use Rattle.rec_format.specs.declared.version.Digest.{Digest}
 use Rattle.rec_format.specs.declared.version.Version.{Version}
 use Rattle.rec_format.specs.Book.{Book, Live}
@@ -86,7 +86,7 @@ module _ (g : Geometry) (block : ℕ) (before now : Images) (away : IsElsewhere 
 pub written_after : (s : State) (k : Book) (digest : Digest) (q : Phase) (c : BufferState) → HasWritten s digest c → HasWritten (record s { book = k }) digest (with_phase q c)
 written_after s k digest q c has = record { written = has.written; there = has.there }
 
-module _ {D : Type 0} (extent : D → ℕ) (tells : D → Type 0) (seen : D → List ℕ) (may_leave : D → Images)
+module _ {D : Type 0} (view : D → DiskView)
     (old : ShelfView D) (d : D) (b : BufferState) (rest after : List BufferState) (is : old.buffers ≡ b ∷ rest) where
   -- all other blocks of the shelf are others
   apart_from_first : AreApart (map (λ c. c.block) old.buffers ++ old.free) → AllByRecursion (λ k. b.block ≢ k) (map (λ c. c.block) rest) × AllByRecursion (λ k. b.block ≢ k) old.free
@@ -96,9 +96,9 @@ module _ {D : Type 0} (extent : D → ℕ) (tells : D → Type 0) (seen : D → 
     first_of_phase : IsBufferOf old.geometry old.next_number b → IsBufferOf old.geometry old.next_number (with_phase p b)
     first_of_phase own = record { number = own.number; block = own.block; capacity = own.capacity; own = own.own }
 
-    pub shelf_after : IsShelf extent tells seen may_leave old → extent d ≡ extent old.disk → is_filling p ≡ false → (IsHonest tells seen may_leave d → IsHonest tells seen may_leave old.disk)
-        → (IsHonest tells seen may_leave old.disk → IsElsewhere old.geometry b.block (may_leave old.disk) (may_leave d)) → (IsHonest tells seen may_leave d → IsReady old.geometry (may_leave d) (with_phase p b))
-        → IsShelf extent tells seen may_leave (record old { disk = d; buffers = after })
+    pub shelf_after : IsShelf view old → (view d).extent ≡ (view old.disk).extent → is_filling p ≡ false → (IsHonest (view d) → IsHonest (view old.disk))
+        → (IsHonest (view old.disk) → IsElsewhere old.geometry b.block (view old.disk).may_leave (view d).may_leave) → (IsHonest (view d) → IsReady old.geometry (view d).may_leave (with_phase p b))
+        → IsShelf view (record old { disk = d; buffers = after })
     shelf_after shelf size sealed was away mine = record {
       geometry = shelf.geometry;
       limits = shelf.limits;
@@ -108,12 +108,12 @@ module _ {D : Type 0} (extent : D → ℕ) (tells : D → Type 0) (seen : D → 
       order = subst StandInOrder (sym to) (all_map (λ c. (b.number < c.number) × (is_filling b.phase ≡ false)) (λ c. (b.number < c.number) × (is_filling p ≡ false)) rest (λ c h. (h.0, sealed)) order.0, order.1);
       free = shelf.free;
       apart = subst (λ (l : List BufferState). AreApart (map (λ c. c.block) l ++ old.free)) (sym to) (subst (λ (l : List BufferState). AreApart (map (λ c. c.block) l ++ old.free)) is shelf.apart);
-      ready = λ honest. subst (AllByRecursion (IsReady old.geometry (may_leave d))) (sym to) (
+      ready = λ honest. subst (AllByRecursion (IsReady old.geometry (view d).may_leave)) (sym to) (
         mine honest,
-        all_ready old.geometry b.block (may_leave old.disk) (may_leave d) (away (was honest)) old.next_number rest own.1 others.0
-            (subst (AllByRecursion (IsReady old.geometry (may_leave old.disk))) is (shelf.ready (was honest))).1,
+        all_ready old.geometry b.block (view old.disk).may_leave (view d).may_leave (away (was honest)) old.next_number rest own.1 others.0
+            (subst (AllByRecursion (IsReady old.geometry (view old.disk).may_leave)) is (shelf.ready (was honest))).1,
       );
-      shut = λ honest. all_shut old.geometry b.block (may_leave old.disk) (may_leave d) (away (was honest)) old.free shelf.free others.1 (shelf.shut (was honest));
+      shut = λ honest. all_shut old.geometry b.block (view old.disk).may_leave (view d).may_leave (away (was honest)) old.free shelf.free others.1 (shelf.shut (was honest));
     }
       where
         own : AllByRecursion (IsBufferOf old.geometry old.next_number) (b ∷ rest)
@@ -151,8 +151,8 @@ module _ {D : Type 0} (extent : D → ℕ) (tells : D → Type 0) (seen : D → 
       live = λ digest l v found is_entry. live_after digest v l (st.live digest l v (ap (λ (ls : List Live). book.live_of digest ls) (sym live) ∙ found) is_entry);
     }
 
-    pub placed_after : (s : State) (k : Book) → k.live ≡ s.book.live → StandsFor old s → IsElsewhere old.geometry b.block (may_leave old.disk) (may_leave d)
-        → IsPlaced may_leave old s → IsPlaced may_leave (record old { disk = d; buffers = after }) (record s { book = k })
+    pub placed_after : (s : State) (k : Book) → k.live ≡ s.book.live → StandsFor old s → IsElsewhere old.geometry b.block (view old.disk).may_leave (view d).may_leave
+        → IsPlaced view old s → IsPlaced view (record old { disk = d; buffers = after }) (record s { book = k })
     placed_after s k live st away placed = record {
       there = λ digest l v found is_entry none c image.
           let was = ap (λ (ls : List Live). book.live_of digest ls) (sym live) ∙ found in

@@ -3,7 +3,7 @@ use Rattle.std.proofs.Common.{◌≡◌, ℕ, ◌<◌, Bool, true, List, [], ◌
 use Rattle.std.specs.Prelude.{◌==◌}
 use Rattle.std.specs.List.{AllByRecursion}
 use Rattle.std.proofs.lemmas.Bool.{eq-eqb, eqb-true, false≢true, false_from_ne_true}
-use Rattle.disk_model.specs.Disk.{Images}
+use Rattle.disk_model.specs.Disk.{DiskView, IsDisk}
 use Rattle.rec_format.specs.Book.{Setup, Buffer, opened_if, with_gate_begun}
 use Rattle.rec_format.specs.Device.{State}
 use Rattle.rec_format.specs.Steps.{gate_begun, after_step}
@@ -17,7 +17,7 @@ use Rattle.block_shelf.specs.View.{ShelfView, IsShelf, is_written}
 use Rattle.block_shelf.specs.Standing.{StandsFor, book_buffer, book_phase}
 use Rattle.block_shelf.specs.Calls.{Goes}
 use Rattle.block_shelf.specs.Flushes.{gate_steps, first_gate_steps}
-use Rattle.block_shelf.proofs.FlushGoes.{ArePresent, goes_by, time_still}
+use Rattle.block_shelf.proofs.FlushGoes.{goes_by, time_still}
 use Rattle.block_shelf.proofs.FlushShelf.{within_elsewhere, stands_after, placed_after}
 use Rattle.block_shelf.proofs.FlushCalls.{IsCall, goes_read}
 
@@ -45,28 +45,28 @@ first_opened b rest above =
     ap (λ (o : Bool). opened_if o (book_buffer b) ∷ map (λ x. opened_if (x.number == b.number) x) (map book_buffer rest)) (eq-eqb b.number b.number refl)
     ∙ ap (λ (l : List Buffer). book_buffer (with_phase GateBegun b) ∷ l) (others_opened b.number rest above)
 
-module _ {D : Type 0} (extent : D → ℕ) (tells : D → Type 0) (seen : D → List ℕ) (may_leave : D → Images) (moment : D → ℕ) (had : D → ℕ → Type 0) (left_since : D → ℕ → Images)
-    (old : ShelfView D) (b : BufferState) (rest after : List BufferState) (is : old.buffers ≡ b ∷ rest) (to : after ≡ with_phase GateBegun b ∷ rest) (shelf : IsShelf extent tells seen may_leave old)
-    (present : ArePresent may_leave moment had left_since old.disk) (above : AllByRecursion (λ c. b.number < c.number) rest) where
-  still : IsCall extent tells seen may_leave moment had left_since old.disk old.disk
-  still = record { present = present; time = time_still tells seen may_leave moment had left_since old.disk present; size = refl; was = λ honest. honest }
+module _ {D : Type 0} (view : D → DiskView)
+    (old : ShelfView D) (b : BufferState) (rest after : List BufferState) (is : old.buffers ≡ b ∷ rest) (to : after ≡ with_phase GateBegun b ∷ rest) (shelf : IsShelf view old)
+    (present : IsDisk (view old.disk)) (above : AllByRecursion (λ c. b.number < c.number) rest) where
+  still : IsCall view old.disk old.disk
+  still = record { present = present; time = time_still view old.disk present; size = refl; was = λ honest. honest }
 
-  goes_begun : (setup : Setup) (s : State) → StandsFor old s → Goes tells seen may_leave moment had left_since setup (gate_begun b.number ∷ []) old s (record old { buffers = after })
+  goes_begun : (setup : Setup) (s : State) → StandsFor old s → Goes view setup (gate_begun b.number ∷ []) old s (record old { buffers = after })
   unfolding after_step
   goes_begun setup s st =
-      goes_by tells seen may_leave moment had left_since setup (gate_begun b.number) old after s
-      (stands_after extent tells seen may_leave old old.disk b rest after is GateBegun to s (with_gate_begun b.number s.book)
+      goes_by view setup (gate_begun b.number) old after s
+      (stands_after view old old.disk b rest after is GateBegun to s (with_gate_begun b.number s.book)
       (ap (λ (l : List Buffer). map (λ x. opened_if (x.number == b.number) x) l) (st.buffers ∙ ap (λ (l : List BufferState). map book_buffer l) is) ∙ first_opened b rest above) refl refl refl st)
-      (λ honest placed. placed_after extent tells seen may_leave old old.disk b rest after is GateBegun to s (with_gate_begun b.number s.book) refl st
-      (within_elsewhere old.geometry b.block (may_leave old.disk) (may_leave old.disk) (λ c image. image)) placed)
+      (λ honest placed. placed_after view old old.disk b rest after is GateBegun to s (with_gate_begun b.number s.book) refl st
+      (within_elsewhere old.geometry b.block (view old.disk).may_leave (view old.disk).may_leave (λ c image. image)) placed)
       present (begun_orderly setup b.number s) (λ honest c image held. (held.0, begun_held setup b.number s c held.0 held.1))
 
-  pub goes_to_begin : is_written b.phase ≡ true → (setup : Setup) (s : State) → StandsFor old s → Goes tells seen may_leave moment had left_since setup (first_gate_steps old.buffers) old s (record old { buffers = after })
+  pub goes_to_begin : is_written b.phase ≡ true → (setup : Setup) (s : State) → StandsFor old s → Goes view setup (first_gate_steps old.buffers) old s (record old { buffers = after })
   goes_to_begin written setup s st =
-      subst (λ (l : List BufferState). Goes tells seen may_leave moment had left_since setup (first_gate_steps l) old s (record old { buffers = after })) (sym is) (by b.phase refl)
+      subst (λ (l : List BufferState). Goes view setup (first_gate_steps l) old s (record old { buffers = after })) (sym is) (by b.phase refl)
     where
-      by : (q : Phase) → b.phase ≡ q → Goes tells seen may_leave moment had left_since setup (gate_steps q b.number) old s (record old { buffers = after })
+      by : (q : Phase) → b.phase ≡ q → Goes view setup (gate_steps q b.number) old s (record old { buffers = after })
       by Filling phase = absurd (false≢true (ap (λ (q : Phase). is_written q) (sym phase) ∙ written))
       by Sealed phase = absurd (false≢true (ap (λ (q : Phase). is_written q) (sym phase) ∙ written))
       by BodyDone phase = goes_begun setup s st
-      by GateBegun phase = goes_read extent tells seen may_leave moment had left_since old old.disk b rest after GateBegun is to shelf still (ap (λ (q : Phase). book_phase q) (sym phase)) (λ honest c left. present.alone c left) setup s st
+      by GateBegun phase = goes_read view old old.disk b rest after GateBegun is to shelf still (ap (λ (q : Phase). book_phase q) (sym phase)) (λ honest c left. present.now_alone c left) setup s st

@@ -5,7 +5,7 @@ use Rattle.std.proofs.lemmas.List.{map-append}
 use Rattle.std.proofs.lemmas.List.Folds.{list_any-append}
 use Rattle.std.specs.Prelude.{◌==◌, filter, Contains}
 use Rattle.std.specs.List.{AllByRecursion, list_any}
-use Rattle.disk_model.specs.Disk.{Images}
+use Rattle.disk_model.specs.Disk.{DiskView}
 use Rattle.rec_format.specs.declared.version.Digest.{Digest}
 use Rattle.rec_format.specs.declared.version.Version.{Version}
 use Rattle.rec_format.specs.Versions.{version_units, top_number}
@@ -45,8 +45,8 @@ is_buffered bs front k is =
     ∙ or_right (list_any (λ n. n == k) front) (list_any (λ n. n == k) (k ∷ [])) (or_left (k == k) false (eq-eqb k k refl))
     )
 
-module _ {D : Type 0} (extent : D → ℕ) (tells : D → Type 0) (seen : D → List ℕ) (may_leave : D → Images) (setup : Setup) (s : State) (v : Version) (shelf : ShelfView D)
-    (is : IsShelf extent tells seen may_leave shelf) (stands : StandsFor shelf s) (setup_is : IsSetupOf setup shelf) where
+module _ {D : Type 0} (view : D → DiskView) (setup : Setup) (s : State) (v : Version) (shelf : ShelfView D)
+    (is : IsShelf view shelf) (stands : StandsFor shelf s) (setup_is : IsSetupOf setup shelf) where
   -- the book finds room only where the shelf has it
   pub no_room : (HasRoom (version_units v) shelf.buffers → ⊥) → has_room setup client (version_units v) s.book ≡ false
   no_room none = false_from_ne_true (has_room setup client (version_units v) s.book) (λ fits. none (found fits))
@@ -67,18 +67,18 @@ module _ {D : Type 0} (extent : D → ℕ) (tells : D → Type 0) (seen : D → 
                 (subst (λ (n : ℕ). n + version_units v ≤ setup.capacity) (sym (ap (λ (x : Buffer). x.used) last.same)) fits);
           }
 
-  pub begun_placed : IsPlaced may_leave shelf s → IsPlaced may_leave (with_begun shelf) s
+  pub begun_placed : IsPlaced view shelf s → IsPlaced view (with_begun shelf) s
   begun_placed placed = record {
     there = λ e l w is_live is_entry none c image. placed.there e l w is_live is_entry
         (all_before_map (λ b. b.block ≢ l.block) (λ b. b.block ≢ l.block) sealed_buffer (λ b h. h) shelf.buffers (all_parted (λ b. b.block ≢ l.block) (map sealed_buffer shelf.buffers) (begun_buffer shelf ∷ []) none).0) c image;
   }
 
-  pub begun_safe : IsSafe setup may_leave shelf s → IsSafe setup may_leave (with_begun shelf) s
+  pub begun_safe : IsSafe setup view shelf s → IsSafe setup view (with_begun shelf) s
   begun_safe safe = record { orderly = safe.orderly; images = safe.images }
 
   module _ (fits : shelf.next_number ≤ top_number) (some : 0 < length shelf.free) where
-    begun_is : IsShelf extent tells seen may_leave (with_begun shelf)
-    begun_is = begun_shelf extent tells seen may_leave shelf is fits some
+    begun_is : IsShelf view (with_begun shelf)
+    begun_is = begun_shelf view shelf is fits some
 
     begun_has : (e : Digest) → HasWritten s e (begun_buffer shelf)
     begun_has e = record {

@@ -3,7 +3,7 @@ use Rattle.std.proofs.Common.{◌≡◌, ◌≢◌, ℕ, ◌+◌, ◌<◌, ◌�
 use Rattle.std.proofs.lemmas.Bool.{cond-true, le-leb}
 use Rattle.std.specs.Prelude.{Some, filter}
 use Rattle.std.specs.List.{AllByRecursion}
-use Rattle.disk_model.specs.Disk.{Images}
+use Rattle.disk_model.specs.Disk.{DiskView}
 use Rattle.rec_format.specs.declared.version.Version.{Version}
 use Rattle.rec_format.specs.Versions.{version_units}
 use Rattle.rec_format.specs.Book.{Setup, client, filling_buffer, fits_in, has_room, with_new_buffer, number_or}
@@ -19,8 +19,8 @@ use Rattle.block_shelf.proofs.Blocks.{unbuffered, free_kept}
 use Rattle.block_shelf.proofs.Filling.{before_last, last_filling}
 use Rattle.block_shelf.proofs.Readied.{IsReadied}
 
-module _ {D : Type 0} (extent : D → ℕ) (tells : D → Type 0) (seen : D → List ℕ) (may_leave : D → Images) (setup : Setup) (s : State) (v : Version) (shelf : ShelfView D)
-    (is : IsShelf extent tells seen may_leave shelf) (stands : StandsFor shelf s) (setup_is : IsSetupOf setup shelf) (room : HasRoom (version_units v) shelf.buffers) where
+module _ {D : Type 0} (view : D → DiskView) (setup : Setup) (s : State) (v : Version) (shelf : ShelfView D)
+    (is : IsShelf view shelf) (stands : StandsFor shelf s) (setup_is : IsSetupOf setup shelf) (room : HasRoom (version_units v) shelf.buffers) where
   order : StandInOrder (room.front ++ room.last ∷ [])
   order = subst StandInOrder room.parts is.order
 

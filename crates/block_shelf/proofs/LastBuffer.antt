@@ -3,7 +3,7 @@ use Rattle.std.proofs.Common.{◌≡◌, ℕ, ◌-◌, ◌<◌, false, List, [],
 use Rattle.std.proofs.lemmas.List.{set_at, get_or_at, length_push}
 use Rattle.std.specs.Prelude.{MatchBool}
 use Rattle.std.specs.List.{AllByRecursion}
-use Rattle.disk_model.specs.Disk.{Images, IsHonest}
+use Rattle.disk_model.specs.Disk.{DiskView, IsHonest}
 use Rattle.rec_format.specs.declared.version.Digest.{Digest}
 use Rattle.rec_format.specs.declared.version.Version.{Version}
 use Rattle.rec_format.specs.Places.{device_number}
@@ -44,10 +44,10 @@ pub blocks_last : (front : List BufferState) (last other : BufferState) → last
 blocks_last [] last other same = ap (λ (k : ℕ). k ∷ []) (sym same)
 blocks_last (b ∷ front) last other same = ap (λ (l : List ℕ). b.block ∷ l) (blocks_last front last other same)
 
-pub written_shelf : {D : Type 0} (extent : D → ℕ) (tells : D → Type 0) (seen : D → List ℕ) (may_leave : D → Images) (shelf : ShelfView D) (digest : Digest) (v : Version) (front : List BufferState) (last : BufferState)
-    → IsShelf extent tells seen may_leave shelf → shelf.buffers ≡ front ++ last ∷ [] → last.phase ≡ Filling → device_number shelf.geometry.devices digest ≡ shelf.geometry.device
-    → IsShelf extent tells seen may_leave (with_written digest v front last shelf)
-written_shelf {D} extent tells seen may_leave shelf digest v front last is parts fills named = record {
+pub written_shelf : {D : Type 0} (view : D → DiskView) (shelf : ShelfView D) (digest : Digest) (v : Version) (front : List BufferState) (last : BufferState)
+    → IsShelf view shelf → shelf.buffers ≡ front ++ last ∷ [] → last.phase ≡ Filling → device_number shelf.geometry.devices digest ≡ shelf.geometry.device
+    → IsShelf view (with_written digest v front last shelf)
+written_shelf {D} view shelf digest v front last is parts fills named = record {
   geometry = is.geometry;
   limits = is.limits;
   room = is.room;
@@ -64,18 +64,18 @@ written_shelf {D} extent tells seen may_leave shelf digest v front last is parts
   order = order_last front last (with_record digest v last) refl (subst StandInOrder parts is.order);
   free = is.free;
   apart = subst (λ (l : List ℕ). AreApart (l ++ shelf.free)) (ap (map (λ b. b.block)) parts ∙ sym (blocks_last front last (with_record digest v last) refl)) is.apart;
-  ready = λ honest. let readies = ready honest in all_joined (IsReady shelf.geometry (may_leave shelf.disk)) front (with_record digest v last ∷ []) readies.0 (still readies.1.0, tt);
+  ready = λ honest. let readies = ready honest in all_joined (IsReady shelf.geometry (view shelf.disk).may_leave) front (with_record digest v last ∷ []) readies.0 (still readies.1.0, tt);
   shut = is.shut;
 }
   where
     buffers : AllByRecursion (IsBufferOf shelf.geometry shelf.next_number) front × AllByRecursion (IsBufferOf shelf.geometry shelf.next_number) (last ∷ [])
     buffers = all_parted (IsBufferOf shelf.geometry shelf.next_number) front (last ∷ []) (subst (AllByRecursion (IsBufferOf shelf.geometry shelf.next_number)) parts is.buffers)
 
-    ready : IsHonest tells seen may_leave shelf.disk → AllByRecursion (IsReady shelf.geometry (may_leave shelf.disk)) front × AllByRecursion (IsReady shelf.geometry (may_leave shelf.disk)) (last ∷ [])
-    ready honest = all_parted (IsReady shelf.geometry (may_leave shelf.disk)) front (last ∷ []) (subst (AllByRecursion (IsReady shelf.geometry (may_leave shelf.disk))) parts (is.ready honest))
+    ready : IsHonest (view shelf.disk) → AllByRecursion (IsReady shelf.geometry (view shelf.disk).may_leave) front × AllByRecursion (IsReady shelf.geometry (view shelf.disk).may_leave) (last ∷ [])
+    ready honest = all_parted (IsReady shelf.geometry (view shelf.disk).may_leave) front (last ∷ []) (subst (AllByRecursion (IsReady shelf.geometry (view shelf.disk).may_leave)) parts (is.ready honest))
 
     -- its body isn't written yet, so its gate is closed
-    still : IsReady shelf.geometry (may_leave shelf.disk) last → IsReady shelf.geometry (may_leave shelf.disk) (with_record digest v last)
+    still : IsReady shelf.geometry (view shelf.disk).may_leave last → IsReady shelf.geometry (view shelf.disk).may_leave (with_record digest v last)
     still is_ready =
-        subst (λ (p : Phase). MatchBool (is_written p) (HasOneBody shelf.geometry last.block (bytes_of (with_record digest v last)) (may_leave shelf.disk)) (IsShut shelf.geometry last.block (may_leave shelf.disk))) (sym fills)
-        (subst (λ (p : Phase). MatchBool (is_written p) (HasOneBody shelf.geometry last.block (bytes_of last) (may_leave shelf.disk)) (IsShut shelf.geometry last.block (may_leave shelf.disk))) fills is_ready)
+        subst (λ (p : Phase). MatchBool (is_written p) (HasOneBody shelf.geometry last.block (bytes_of (with_record digest v last)) (view shelf.disk).may_leave) (IsShut shelf.geometry last.block (view shelf.disk).may_leave)) (sym fills)
+        (subst (λ (p : Phase). MatchBool (is_written p) (HasOneBody shelf.geometry last.block (bytes_of last) (view shelf.disk).may_leave) (IsShut shelf.geometry last.block (view shelf.disk).may_leave)) fills is_ready)

@@ -2,7 +2,7 @@
 use Rattle.std.proofs.Common.{◌≡◌, ℕ, ◌≤◌, List, Bool, true, false, MatchBool, sym, ◌∙◌, subst}
 use Rattle.recovery_laws.proofs.Each.{all_map}
 use Rattle.disk_model.specs.Bytes.{range}
-use Rattle.disk_model.specs.Disk.{Images, Within, IsHonest, Advances}
+use Rattle.disk_model.specs.Disk.{Images, DiskView, IsDisk, Within, IsHonest, Advances, meanwhile}
 use Rattle.block_format.specs.declared.geometry.Geometry.{Geometry}
 use Rattle.block_format.specs.Layout.{device_end}
 use Rattle.block_flusher.specs.Images.{IsShut, HasOneBody}
@@ -24,11 +24,11 @@ ready_within g before now b within =
 pub read_there : (bytes out : List ℕ) (place start n m : ℕ) → out ≡ range place n bytes → place ≡ start → n ≡ m → out ≡ range start m bytes
 read_there bytes out place start n m is at size = is ∙ (λ i. range (at i) (size i) bytes)
 
-module _ {D : Type 0} (extent : D → ℕ) (tells : D → Type 0) (seen : D → List ℕ) (may_leave : D → Images) where
+module _ {D : Type 0} (view : D → DiskView) where
   -- the disk may be another of the same size that leaves no further image
-  pub shelf_stays : (s : ShelfView D) (disk : D) → IsShelf extent tells seen may_leave s → extent disk ≡ extent s.disk
-      → (IsHonest tells seen may_leave disk → IsHonest tells seen may_leave s.disk) → (IsHonest tells seen may_leave s.disk → Within (may_leave s.disk) (may_leave disk))
-      → IsShelf extent tells seen may_leave (record s { disk = disk })
+  pub shelf_stays : (s : ShelfView D) (disk : D) → IsShelf view s → (view disk).extent ≡ (view s.disk).extent
+      → (IsHonest (view disk) → IsHonest (view s.disk)) → (IsHonest (view s.disk) → Within (view s.disk).may_leave (view disk).may_leave)
+      → IsShelf view (record s { disk = disk })
   shelf_stays s disk is size was within = record {
     geometry = is.geometry;
     limits = is.limits;
@@ -38,15 +38,12 @@ module _ {D : Type 0} (extent : D → ℕ) (tells : D → Type 0) (seen : D → 
     order = is.order;
     free = is.free;
     apart = is.apart;
-    ready = λ honest. all_map (IsReady s.geometry (may_leave s.disk)) (IsReady s.geometry (may_leave disk)) s.buffers
-        (λ b. ready_within s.geometry (may_leave s.disk) (may_leave disk) b (within (was honest))) (is.ready (was honest));
-    shut = λ honest. all_map (λ b. IsShut s.geometry b (may_leave s.disk)) (λ b. IsShut s.geometry b (may_leave disk)) s.free
-        (λ b. shut_within s.geometry b (may_leave s.disk) (may_leave disk) (within (was honest))) (is.shut (was honest));
+    ready = λ honest. all_map (IsReady s.geometry (view s.disk).may_leave) (IsReady s.geometry (view disk).may_leave) s.buffers
+        (λ b. ready_within s.geometry (view s.disk).may_leave (view disk).may_leave b (within (was honest))) (is.ready (was honest));
+    shut = λ honest. all_map (λ b. IsShut s.geometry b (view s.disk).may_leave) (λ b. IsShut s.geometry b (view disk).may_leave) s.free
+        (λ b. shut_within s.geometry b (view s.disk).may_leave (view disk).may_leave (within (was honest))) (is.shut (was honest));
   }
 
-  -- images that the call left were there before, so those of now were
-  pub images_of_now : (moment : D → ℕ) (had : D → ℕ → Type 0) (left_since : D → ℕ → Images) (old new : D)
-      → ((t : ℕ) (c : List ℕ) → had new t → may_leave new c → left_since new t c)
-      → Advances (moment old) (had old) (had new) (left_since old) (left_since new)
-      → Within (may_leave old) (left_since new (moment old)) → Within (may_leave old) (may_leave new)
-  images_of_now moment had left_since old new now_since time images = λ c image. images c (now_since (moment old) c (time.stays (moment old) time.started) image)
+-- images that the call left were there before, so those of now were
+pub images_of_now : (old new : DiskView) → IsDisk new → Advances old new → Within old.may_leave (meanwhile old new) → Within old.may_leave new.may_leave
+images_of_now old new is time images = λ c image. images c (is.now_since old.moment c (time.stays old.moment time.started) image)

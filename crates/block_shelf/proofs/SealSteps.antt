@@ -1,7 +1,7 @@
 -- The states that a shelf stands for, in the step of a seal.
 use Rattle.std.proofs.Common.{◌≡◌, ◌≢◌, inl, ℕ, Bool, true, false, List, [], ◌∷◌, ◌++◌, map, refl, sym, ◌∙◌, ap, subst}
 use Rattle.std.specs.Prelude.{Option, Some, is_some}
-use Rattle.disk_model.specs.Disk.{Images}
+use Rattle.disk_model.specs.Disk.{Images, DiskView, IsDisk}
 use Rattle.disk_model.specs.Runs.{OneOf, Leaves, leaves_none}
 use Rattle.rec_format.specs.Book.{Setup, Buffer, client, defrag, seal_stream, filling_buffer}
 use Rattle.rec_format.specs.Device.{State}
@@ -38,39 +38,36 @@ sealed_stands setup shelf s stands = record {
   };
 }
 
-sealed_placed : {D : Type 0} (setup : Setup) (may_leave : D → Images) (shelf : ShelfView D) (s : State) → IsPlaced may_leave shelf s → IsPlaced may_leave (sealed_view shelf) (after_step setup (sealed_stream client) s)
+sealed_placed : {D : Type 0} (setup : Setup) (view : D → DiskView) (shelf : ShelfView D) (s : State) → IsPlaced view shelf s → IsPlaced view (sealed_view shelf) (after_step setup (sealed_stream client) s)
 unfolding after_step
-sealed_placed setup may_leave shelf s placed = record {
+sealed_placed setup view shelf s placed = record {
   there = λ digest l v is_live is_entry none c image.
       placed.there digest l v is_live is_entry (all_before_map (λ b. b.block ≢ l.block) (λ b. b.block ≢ l.block) sealed_buffer (λ b h. h) shelf.buffers none) c image;
 }
 
-sealed_safe : {D : Type 0} (setup : Setup) (may_leave : D → Images) (shelf : ShelfView D) (s : State) → IsSafe setup may_leave shelf s → IsSafe setup may_leave (sealed_view shelf) (after_step setup (sealed_stream client) s)
-sealed_safe setup may_leave shelf s safe = record {
+sealed_safe : {D : Type 0} (setup : Setup) (view : D → DiskView) (shelf : ShelfView D) (s : State) → IsSafe setup view shelf s → IsSafe setup view (sealed_view shelf) (after_step setup (sealed_stream client) s)
+sealed_safe setup view shelf s safe = record {
   orderly = sealed_orderly setup client s safe.orderly;
   images = λ c image. let held = safe.images c image in (held.0, sealed_held setup client s c held.0 held.1);
 }
 
-module _ {D : Type 0} (tells : D → Type 0) (seen : D → List ℕ) (may_leave : D → Images) (moment : D → ℕ) (had : D → ℕ → Type 0) (left_since : D → ℕ → Images)
-    (now_had : (disk : D) → had disk (moment disk))
-    (now_alone : (disk : D) (c : List ℕ) → left_since disk (moment disk) c → may_leave disk c)
-    (now_since : (disk : D) (t : ℕ) (c : List ℕ) → had disk t → may_leave disk c → left_since disk t c)
+module _ {D : Type 0} (view : D → DiskView)
+    (is_disk : (disk : D) → IsDisk (view disk))
     (setup : Setup) (shelf : ShelfView D) (s : State) (stands : StandsFor shelf s) where
   -- without a call an image that a crash may leave survives the state
-  stays : (P : Images) → ((c : List ℕ) → Survives setup s c → P c) → IsSafe setup may_leave shelf s → Leaves moment had left_since P shelf.disk shelf.disk
+  stays : (P : Images) → ((c : List ℕ) → Survives setup s c → P c) → IsSafe setup view shelf s → Leaves P (view shelf.disk) (view shelf.disk)
   stays P more safe =
-      leaves_none moment had left_since P (may_leave shelf.disk) shelf.disk (now_had shelf.disk) (now_alone shelf.disk) (now_since shelf.disk)
-      (λ c image. let held = safe.images c image in more c (held_survives setup s c held.0 safe.orderly held.1))
+      leaves_none P (view shelf.disk) (is_disk shelf.disk) (λ c image. let held = safe.images c image in more c (held_survives setup s c held.0 safe.orderly held.1))
 
-  pub goes_sealed : Goes tells seen may_leave moment had left_since setup (sealed_stream client ∷ []) shelf s (sealed_view shelf)
+  pub goes_sealed : Goes view setup (sealed_stream client ∷ []) shelf s (sealed_view shelf)
   goes_sealed = record {
     stands = sealed_stands setup shelf s stands;
-    placed = λ honest placed. sealed_placed setup may_leave shelf s placed;
-    safe = λ honest safe. sealed_safe setup may_leave shelf s safe;
+    placed = λ honest placed. sealed_placed setup view shelf s placed;
+    safe = λ honest safe. sealed_safe setup view shelf s safe;
     leaves = λ honest safe. stays (OneOf (Survives setup) (states_through setup (sealed_stream client ∷ []) s)) (λ c h. inl h) safe;
   }
 
-  goes_nowhere : Goes tells seen may_leave moment had left_since setup [] shelf s shelf
+  goes_nowhere : Goes view setup [] shelf s shelf
   goes_nowhere = record {
     stands = stands;
     placed = λ honest placed. placed;
@@ -79,18 +76,18 @@ module _ {D : Type 0} (tells : D → Type 0) (seen : D → List ℕ) (may_leave 
   }
 
   -- all is sealed by one step, or none where no buffer is being filled
-  pub goes_all : Goes tells seen may_leave moment had left_since setup (seal_all s.book) shelf s (sealed_view shelf)
-  goes_all = subst (λ (o : Option Buffer). Goes tells seen may_leave moment had left_since setup (seal_if (is_some (filling_buffer client s.book.buffers)) client ++ seal_if (is_some o) defrag) shelf s (sealed_view shelf))
+  pub goes_all : Goes view setup (seal_all s.book) shelf s (sealed_view shelf)
+  goes_all = subst (λ (o : Option Buffer). Goes view setup (seal_if (is_some (filling_buffer client s.book.buffers)) client ++ seal_if (is_some o) defrag) shelf s (sealed_view shelf))
       (sym (ap (filling_buffer defrag) stands.buffers ∙ no_defrag shelf.buffers))
       (by (is_some (filling_buffer client s.book.buffers)) (λ none. none_filling shelf.buffers (sym (ap (λ (l : List Buffer). is_some (filling_buffer client l)) stands.buffers) ∙ none)))
     where
-      by : (c : Bool) → (c ≡ false → map sealed_buffer shelf.buffers ≡ shelf.buffers) → Goes tells seen may_leave moment had left_since setup (seal_if c client ++ []) shelf s (sealed_view shelf)
+      by : (c : Bool) → (c ≡ false → map sealed_buffer shelf.buffers ≡ shelf.buffers) → Goes view setup (seal_if c client ++ []) shelf s (sealed_view shelf)
       by true same = goes_sealed
-      by false same = subst (λ (bs : List BufferState). Goes tells seen may_leave moment had left_since setup [] shelf s (record shelf { buffers = bs })) (sym (same refl)) goes_nowhere
+      by false same = subst (λ (bs : List BufferState). Goes view setup [] shelf s (record shelf { buffers = bs })) (sym (same refl)) goes_nowhere
 
   -- so it is where the buffer of one block is sealed, which is being filled
   pub goes_at : StandInOrder shelf.buffers → (block : ℕ) (b : Buffer) → filling_buffer client s.book.buffers ≡ Some b → b.block ≡ block
-      → Goes tells seen may_leave moment had left_since setup (sealed_stream client ∷ []) shelf s (record shelf { buffers = map (sealed_at block) shelf.buffers })
+      → Goes view setup (sealed_stream client ∷ []) shelf s (record shelf { buffers = map (sealed_at block) shelf.buffers })
   goes_at order block b found at =
-      subst (λ (bs : List BufferState). Goes tells seen may_leave moment had left_since setup (sealed_stream client ∷ []) shelf s (record shelf { buffers = bs }))
+      subst (λ (bs : List BufferState). Goes view setup (sealed_stream client ∷ []) shelf s (record shelf { buffers = bs }))
       (sym (seal_at_filling block b at shelf.buffers order (sym (ap (filling_buffer client) stands.buffers) ∙ found))) goes_sealed

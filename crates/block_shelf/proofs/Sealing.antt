@@ -3,7 +3,7 @@ use Rattle.std.proofs.Common.{◌≡◌, ◌≢◌, ◌⊎◌, inl, inr, ℕ, �
 use Rattle.std.proofs.lemmas.Bool.{false≢true, ne_eqb, cond-true, cond-false, eq-eqb}
 use Rattle.std.specs.Prelude.{Some, None, ◌==◌, is_some, Contains, MatchBool}
 use Rattle.std.specs.List.{AllByRecursion}
-use Rattle.disk_model.specs.Disk.{Images}
+use Rattle.disk_model.specs.Disk.{Images, DiskView}
 use Rattle.rec_format.specs.Book.{Buffer, client, defrag, sealed_if, seal_stream, filling_buffer}
 use Rattle.block_format.specs.declared.geometry.Geometry.{Geometry}
 use Rattle.recovery_laws.proofs.Pending.{map_shows}
@@ -103,9 +103,9 @@ module _ (change : BufferState → BufferState) (some : SealsSome change) where
   pub blocks_kept : (bs : List BufferState) → map (λ b. b.block) (map change bs) ≡ map (λ b. b.block) bs
   blocks_kept bs = map_shows (λ b. b.block) change block_kept bs
 
-  pub sealed_shelf : {D : Type 0} (extent : D → ℕ) (tells : D → Type 0) (seen : D → List ℕ) (may_leave : D → Images) (shelf : ShelfView D)
-      → IsShelf extent tells seen may_leave shelf → IsShelf extent tells seen may_leave (record shelf { buffers = map change shelf.buffers })
-  sealed_shelf {D} extent tells seen may_leave shelf is = record {
+  pub sealed_shelf : {D : Type 0} (view : D → DiskView) (shelf : ShelfView D)
+      → IsShelf view shelf → IsShelf view (record shelf { buffers = map change shelf.buffers })
+  sealed_shelf {D} view shelf is = record {
     geometry = is.geometry;
     limits = is.limits;
     room = is.room;
@@ -115,8 +115,8 @@ module _ (change : BufferState → BufferState) (some : SealsSome change) where
     order = order_kept shelf.buffers is.order;
     free = is.free;
     apart = subst (λ (l : List ℕ). AreApart (l ++ shelf.free)) (sym (blocks_kept shelf.buffers)) is.apart;
-    ready = λ honest. all_to_map (IsReady shelf.geometry (may_leave shelf.disk)) (IsReady shelf.geometry (may_leave shelf.disk)) change
-        (kept (IsReady shelf.geometry (may_leave shelf.disk)) (sealed_ready shelf.geometry (may_leave shelf.disk))) shelf.buffers (is.ready honest);
+    ready = λ honest. all_to_map (IsReady shelf.geometry (view shelf.disk).may_leave) (IsReady shelf.geometry (view shelf.disk).may_leave) change
+        (kept (IsReady shelf.geometry (view shelf.disk).may_leave) (sealed_ready shelf.geometry (view shelf.disk).may_leave)) shelf.buffers (is.ready honest);
     shut = is.shut;
   }
 

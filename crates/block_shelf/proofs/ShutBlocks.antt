@@ -2,7 +2,7 @@
 use Rattle.std.proofs.Common.{◌≡◌, ◌≢◌, ℕ, ◌+◌, ◌<◌, ◌≤◌, List, [], ◌∷◌, length, suc, refl, subst, arith}
 use Rattle.std.specs.Prelude.{Some, slice_get}
 use Rattle.std.specs.List.{AllByRecursion}
-use Rattle.disk_model.specs.Disk.{Images, IsHonest}
+use Rattle.disk_model.specs.Disk.{DiskView, IsHonest}
 use Rattle.rec_format.specs.Versions.{top_number}
 use Rattle.block_format.specs.declared.geometry.Geometry.{Geometry}
 use Rattle.block_format.specs.declared.geometry.Gate.{Gate}
@@ -42,11 +42,11 @@ each P block (gate ∷ gates) shut = by gate (shut 0) (each P (block + 1) gates 
     by Unsure here rest = rest
 
 -- the shelf of a device behind a start
-pub start_shelf : {D : Type 0} (extent : D → ℕ) (tells : D → Type 0) (seen : D → List ℕ) (may_leave : D → Images) (disk : D) (geometry : Geometry) (gates : List Gate) (next_number : ℕ) (limits : ShelfLimits)
-    → IsGeometry geometry → device_end geometry ≤ extent disk → AreLimits limits → (1 ≤ next_number) × (next_number ≤ top_number + 1) → length gates ≡ geometry.blocks
-    → (IsHonest tells seen may_leave disk → (k : ℕ) → slice_get gates k ≡ Some Shut → IsShut geometry k (may_leave disk))
-    → IsShelf extent tells seen may_leave (record { disk = disk; geometry = geometry; limits = limits; buffers = []; free = shut_blocks 0 gates; next_number = next_number })
-start_shelf {D} extent tells seen may_leave disk geometry gates next_number limits is room are number count shut = record {
+pub start_shelf : {D : Type 0} (view : D → DiskView) (disk : D) (geometry : Geometry) (gates : List Gate) (next_number : ℕ) (limits : ShelfLimits)
+    → IsGeometry geometry → device_end geometry ≤ (view disk).extent → AreLimits limits → (1 ≤ next_number) × (next_number ≤ top_number + 1) → length gates ≡ geometry.blocks
+    → (IsHonest (view disk) → (k : ℕ) → slice_get gates k ≡ Some Shut → IsShut geometry k (view disk).may_leave)
+    → IsShelf view (record { disk = disk; geometry = geometry; limits = limits; buffers = []; free = shut_blocks 0 gates; next_number = next_number })
+start_shelf {D} view disk geometry gates next_number limits is room are number count shut = record {
   geometry = is;
   limits = are;
   room = room;
@@ -56,5 +56,5 @@ start_shelf {D} extent tells seen may_leave disk geometry gates next_number limi
   free = all_map (λ b. (0 ≤ b) × (b < 0 + length gates)) (λ b. b < geometry.blocks) (shut_blocks 0 gates) (λ b h. let high = h.1 in omega arith) (between 0 gates);
   apart = apart 0 gates;
   ready = λ honest. tt;
-  shut = λ honest. each (λ b. IsShut geometry b (may_leave disk)) 0 gates (λ k is_shut. let same : k ≡ 0 + k = omega arith in subst (λ (b : ℕ). IsShut geometry b (may_leave disk)) same (shut honest k is_shut));
+  shut = λ honest. each (λ b. IsShut geometry b (view disk).may_leave) 0 gates (λ k is_shut. let same : k ≡ 0 + k = omega arith in subst (λ (b : ℕ). IsShut geometry b (view disk).may_leave) same (shut honest k is_shut));
 }

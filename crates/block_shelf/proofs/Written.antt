@@ -3,7 +3,7 @@ use Rattle.std.proofs.Common.{◌≡◌, ◌≢◌, ℕ, ◌+◌, ◌*◌, ◌<�
 use Rattle.std.proofs.lemmas.Bool.{cond-true, cond-false}
 use Rattle.std.specs.Prelude.{Option, Some}
 use Rattle.std.specs.List.{AllByRecursion}
-use Rattle.disk_model.specs.Disk.{Images}
+use Rattle.disk_model.specs.Disk.{DiskView}
 use Rattle.rec_format.specs.declared.version.Digest.{Digest}
 use Rattle.rec_format.specs.declared.version.Version.{Version}
 use Rattle.rec_format.specs.Places.{same_digest}
@@ -57,7 +57,7 @@ stands_before unit e w records more stands = record {
 }
 
 module _ {D : Type 0} (setup : Setup) (s : State) (digest : Digest) (v : Version) (ready : Book) (mid : ShelfView D) (front : List BufferState) (last : BufferState) (readied : IsReadied setup s v ready mid front last)
-    (extent : D → ℕ) (tells : D → Type 0) (seen : D → List ℕ) (may_leave : D → Images) (is : IsShelf extent tells seen may_leave mid) (counted : IsCounted s.book) where
+    (view : D → DiskView) (is : IsShelf view mid) (counted : IsCounted s.book) where
   abbrev t : State
   t = after_step setup (wrote digest v) s
 
@@ -177,9 +177,9 @@ module _ {D : Type 0} (setup : Setup) (s : State) (digest : Digest) (v : Version
     live = λ e l w. each_live (λ d x y. IsLive new d y x) (copy_is_live room) (λ d x y is_live is_entry. other_is_live d x y (readied.lives d x y is_live is_entry)) e l w;
   }
 
-  pub placed_after : IsPlaced may_leave mid s → IsPlaced may_leave new t
+  pub placed_after : IsPlaced view mid s → IsPlaced view new t
   placed_after placed = record {
-    there = each_live (λ e l w. AllByRecursion (λ b. b.block ≢ l.block) (front ++ with_record digest v last ∷ []) → (c : List ℕ) → may_leave mid.disk c → IsRecordAt (body_bytes mid.geometry l.block c) (32 + 16 * l.unit) e w)
+    there = each_live (λ e l w. AllByRecursion (λ b. b.block ≢ l.block) (front ++ with_record digest v last ∷ []) → (c : List ℕ) → (view mid.disk).may_leave c → IsRecordAt (body_bytes mid.geometry l.block c) (32 + 16 * l.unit) e w)
         (λ none. absurd ((all_parted (λ b. b.block ≢ last.block) front (with_record digest v last ∷ []) none).1.0 refl))
         (λ e l w is_live is_entry none. placed.there e l w is_live is_entry (before l.block none));
   }
@@ -189,7 +189,7 @@ module _ {D : Type 0} (setup : Setup) (s : State) (digest : Digest) (v : Version
           let parts = all_parted (λ b. b.block ≢ k) front (with_record digest v last ∷ []) none in
           subst (AllByRecursion (λ b. b.block ≢ k)) (sym readied.parts) (all_joined (λ b. b.block ≢ k) front (last ∷ []) parts.0 (parts.1.0, tt))
 
-  pub safe_after : MayFollow setup s digest v → IsSafe setup may_leave mid s → IsSafe setup may_leave new t
+  pub safe_after : MayFollow setup s digest v → IsSafe setup view mid s → IsSafe setup view new t
   safe_after may safe = record {
     orderly = wrote_orderly setup s digest v safe.orderly counted may;
     images = λ c image. let held = safe.images c image in (held.0, wrote_held setup s digest v safe.orderly counted c held.0 held.1);

@@ -12,7 +12,7 @@ use Rattle.rec_format.specs.Steps.{Step, flushed_buffer, after_steps, states_thr
 use Rattle.rec_format.specs.Events.{Cause, too_big, spent, overload, no_space}
 use Rattle.rec_format.specs.Legal.{first_cause, no_place, StopsIn}
 use Rattle.disk_model.specs.Bytes.{range}
-use Rattle.disk_model.specs.Disk.{Images, IsHonest}
+use Rattle.disk_model.specs.Disk.{DiskView, IsHonest}
 use Rattle.disk_model.specs.Runs.{OneOf, Leaves}
 use Rattle.block_format.specs.declared.geometry.Geometry.{Geometry}
 use Rattle.block_format.specs.Layout.{block_place}
@@ -93,11 +93,11 @@ FlushMakes (Err e) whole steps = StopsIn whole steps
 -- The shelf goes by some steps from a state for which it stood: it stands for the state after them, its live copies stay where they are
 -- over an honest disk, and over one whose image was sound each image that a crash meanwhile might have left survives a state on
 -- the way.
-pub record Goes {D : Type 0} (tells : D → Type 0) (seen : D → List ℕ) (may_leave : D → Images) (moment : D → ℕ) (had : D → ℕ → Type 0) (left_since : D → ℕ → Images) (setup : Setup) (steps : List Step) (old : ShelfView D) (s : State) (new : ShelfView D) : Type 0 where
+pub record Goes {D : Type 0} (view : D → DiskView) (setup : Setup) (steps : List Step) (old : ShelfView D) (s : State) (new : ShelfView D) : Type 0 where
   pub stands : StandsFor new (after_steps setup steps s)
-  pub placed : IsHonest tells seen may_leave old.disk → IsPlaced may_leave old s → IsPlaced may_leave new (after_steps setup steps s)
-  pub safe : IsHonest tells seen may_leave old.disk → IsSafe setup may_leave old s → IsSafe setup may_leave new (after_steps setup steps s)
-  pub leaves : IsHonest tells seen may_leave old.disk → IsSafe setup may_leave old s → Leaves moment had left_since (OneOf (Survives setup) (states_through setup steps s)) old.disk new.disk
+  pub placed : IsHonest (view old.disk) → IsPlaced view old s → IsPlaced view new (after_steps setup steps s)
+  pub safe : IsHonest (view old.disk) → IsSafe setup view old s → IsSafe setup view new (after_steps setup steps s)
+  pub leaves : IsHonest (view old.disk) → IsSafe setup view old s → Leaves (OneOf (Survives setup) (states_through setup steps s)) (view old.disk) (view new.disk)
 
 -- ---- what a read gives
 

@@ -1,7 +1,7 @@
 -- Crate block_shelf. For which states of a device a shelf stands.
 use Rattle.std.specs.Prelude.{◌≡◌, ℕ, ◌+◌, ◌*◌, ◌<◌, ◌≤◌, ◌≢◌, List, ◌∷◌, ◌++◌, map, filter, Some, Contains}
 use Rattle.std.specs.List.{AllByRecursion}
-use Rattle.disk_model.specs.Disk.{Images}
+use Rattle.disk_model.specs.Disk.{DiskView}
 use Rattle.rec_format.specs.declared.version.Digest.{Digest}
 use Rattle.rec_format.specs.declared.version.Version.{Version}
 use Rattle.rec_format.specs.Places.{same_digest}
@@ -67,13 +67,13 @@ pub record StandsFor {D : Type 0} (shelf : ShelfView D) (s : State) : Type 0 whe
   pub live : (digest : Digest) (l : Live) (v : Version) → live_of digest s.book.live ≡ Some l → entry s digest ≡ Some v → IsLive shelf digest v l
 
 -- Over an honest disk: where the block of a live copy has no buffer, each image has the record there.
-pub record IsPlaced {D : Type 0} (may_leave : D → Images) (shelf : ShelfView D) (s : State) : Type 0 where
+pub record IsPlaced {D : Type 0} (view : D → DiskView) (shelf : ShelfView D) (s : State) : Type 0 where
   pub there : (digest : Digest) (l : Live) (v : Version) → live_of digest s.book.live ≡ Some l → entry s digest ≡ Some v
       → AllByRecursion (λ b. b.block ≢ l.block) shelf.buffers
-      → (c : List ℕ) → may_leave shelf.disk c → IsRecordAt (body_bytes shelf.geometry l.block c) (32 + 16 * l.unit) digest v
+      → (c : List ℕ) → (view shelf.disk).may_leave c → IsRecordAt (body_bytes shelf.geometry l.block c) (32 + 16 * l.unit) digest v
 
 -- Over an honest disk whose image was sound: each image that a crash may leave has what is flushed, and nothing whose flush
 -- hasn't begun.
-pub record IsSafe {D : Type 0} (setup : Setup) (may_leave : D → Images) (shelf : ShelfView D) (s : State) : Type 0 where
+pub record IsSafe {D : Type 0} (setup : Setup) (view : D → DiskView) (shelf : ShelfView D) (s : State) : Type 0 where
   pub orderly : IsOrderly s
-  pub images : (c : List ℕ) → may_leave shelf.disk c → IsHeld setup s c
+  pub images : (c : List ℕ) → (view shelf.disk).may_leave c → IsHeld setup s c

@@ -1,7 +1,7 @@
 -- Crate block_shelf. What is seen of a shelf: the disk of a device, its write buffers, and its free blocks.
 use Rattle.std.specs.Prelude.{◌≡◌, ℕ, ◌+◌, ◌<◌, ◌≤◌, ◌≢◌, Bool, true, false, List, [], ◌∷◌, ◌++◌, map, MatchBool}
 use Rattle.std.specs.List.{AllByRecursion}
-use Rattle.disk_model.specs.Disk.{Images, IsHonest}
+use Rattle.disk_model.specs.Disk.{Images, DiskView, IsHonest}
 use Rattle.rec_format.specs.Places.{device_number}
 use Rattle.rec_format.specs.Versions.{block_capacity, top_number}
 use Rattle.rec_format.specs.Policy.{built}
@@ -73,17 +73,17 @@ IsReady g images b = MatchBool (is_written b.phase) (HasOneBody g b.block (bytes
 -- The shape and the limits are in range, the disk is long enough, the buffers stand in order, and each of them and of the free
 -- blocks is a block of its own. Over an honest disk no crash leaves the gate of a free block open, nor that of a buffer without
 -- its body.
-pub record IsShelf {D : Type 0} (extent : D → ℕ) (tells : D → Type 0) (seen : D → List ℕ) (may_leave : D → Images) (shelf : ShelfView D) : Type 0 where
+pub record IsShelf {D : Type 0} (view : D → DiskView) (shelf : ShelfView D) : Type 0 where
   pub geometry : IsGeometry shelf.geometry
   pub limits : AreLimits shelf.limits
-  pub room : device_end shelf.geometry ≤ extent shelf.disk
+  pub room : device_end shelf.geometry ≤ (view shelf.disk).extent
   pub number : (1 ≤ shelf.next_number) × (shelf.next_number ≤ top_number + 1)
   pub buffers : AllByRecursion (IsBufferOf shelf.geometry shelf.next_number) shelf.buffers
   pub order : StandInOrder shelf.buffers
   pub free : AllByRecursion (λ b. b < shelf.geometry.blocks) shelf.free
   pub apart : AreApart (map (λ b. b.block) shelf.buffers ++ shelf.free)
-  pub ready : IsHonest tells seen may_leave shelf.disk → AllByRecursion (IsReady shelf.geometry (may_leave shelf.disk)) shelf.buffers
-  pub shut : IsHonest tells seen may_leave shelf.disk → AllByRecursion (λ b. IsShut shelf.geometry b (may_leave shelf.disk)) shelf.free
+  pub ready : IsHonest (view shelf.disk) → AllByRecursion (IsReady shelf.geometry (view shelf.disk).may_leave) shelf.buffers
+  pub shut : IsHonest (view shelf.disk) → AllByRecursion (λ b. IsShut shelf.geometry b (view shelf.disk).may_leave) shelf.free
 
 -- ---- the device as the definitions see it
 

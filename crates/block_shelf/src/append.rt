@@ -41,11 +41,11 @@ impl<D: Disk> Shelf<D> {
             (λ place. (append_refusal setup class (version_units version.now) s.book ≡ None)
             × (live_of digest.now (after_step setup (wrote digest.now version.now) s).book.live ≡ Some (live_at digest.now place))
             × StandsFor self.new (after_step setup (wrote digest.now version.now) s)
-            × (IsPlaced D.may_leave self.old s → IsPlaced D.may_leave self.new (after_step setup (wrote digest.now version.now) s))
-            × (MayFollow setup s digest.now version.now → IsSafe setup D.may_leave self.old s → IsSafe setup D.may_leave self.new (after_step setup (wrote digest.now version.now) s)))
+            × (IsPlaced D.view self.old s → IsPlaced D.view self.new (after_step setup (wrote digest.now version.now) s))
+            × (MayFollow setup s digest.now version.now → IsSafe setup D.view self.old s → IsSafe setup D.view self.new (after_step setup (wrote digest.now version.now) s)))
             (λ refusal. IsPutRefusal refusal (append_refusal setup class (version_units version.now) s.book)) }
         ensures place { IfOk result (IsPlaceFor self.old.geometry (version_units version.now)) }
-        ensures whole { IsShelf D.extent D.tells D.seen D.may_leave self.old }
+        ensures whole { IsShelf D.view self.old }
         ensures disk { self.new.disk ≡ self.old.disk }
         ensures shape { SameShape self.old self.new }
         ensures refused { OnErr result (self.new ≡ self.old) }

@@ -27,14 +27,14 @@ impl<D: Disk> Shelf<D> {
     /// at the gate first, so that no gate is written over that may be open.
     pub fn flush_step(&mut self) -> Result<Option<u64>, DiskFault>
         ensures flushed { (setup : Setup) (s : State) → IsSetupOf setup self.old → StandsFor self.old s
-            → (steps : List Step) × FlushMakes result (flush_first s.book) steps × Goes D.tells D.seen D.may_leave D.moment D.had D.left_since setup steps self.old s self.new }
+            → (steps : List Step) × FlushMakes result (flush_first s.book) steps × Goes D.view setup steps self.old s self.new }
         ensures first { IfOk result (λ number. MatchOption number (self.new ≡ self.old) (λ n. FirstLeaves self.old.buffers self.new.buffers)) }
         ensures none { result ≡ Ok None → AllByRecursion (λ b. is_filling b.phase ≡ true) self.old.buffers }
         ensures left { OnErr result (self.new.buffers ≢ []) }
-        ensures whole { IsShelf D.extent D.tells D.seen D.may_leave self.old }
-        ensures cause { OnErr result (Rose (D.faults self.old.disk) (D.faults self.new.disk)) }
-        ensures later { IsLater D.extent D.moment D.had D.left_since D.faults self.old.disk self.new.disk }
-        ensures honest { IsHonest D.tells D.seen D.may_leave self.old.disk → IsHonest D.tells D.seen D.may_leave self.new.disk }
+        ensures whole { IsShelf D.view self.old }
+        ensures cause { OnErr result (Rose (D.view self.old.disk).faults (D.view self.new.disk).faults) }
+        ensures later { IsLater (D.view self.old.disk) (D.view self.new.disk) }
+        ensures honest { IsHonest (D.view self.old.disk) → IsHonest (D.view self.new.disk) }
         ensures shape { SameShape self.old self.new }
     {
         if !self.first_is_sealed() {
@@ -52,7 +52,7 @@ impl<D: Disk> Shelf<D> {
     fn first_is_sealed(&self) -> bool
         ensures first { MatchBool result (FirstIs (λ b. is_filling b.phase ≡ false) self.now.buffers) (first_sealed (map book_buffer self.now.buffers) ≡ []) }
         ensures none { result ≡ false → AllByRecursion (λ b. is_filling b.phase ≡ true) self.now.buffers }
-        ensures whole { IsShelf D.extent D.tells D.seen D.may_leave self.now }
+        ensures whole { IsShelf D.view self.now }
     {
         match self.buffers.first() {
             Some(buffer) => match buffer.phase() {
@@ -67,13 +67,13 @@ impl<D: Disk> Shelf<D> {
     fn settle_first(&mut self) -> Result<bool, DiskFault>
         requires sealed { FirstIs (λ b. is_filling b.phase ≡ false) self.old.buffers }
         ensures goes { (setup : Setup) (s : State) → IsSetupOf setup self.old → StandsFor self.old s
-            → Goes D.tells D.seen D.may_leave D.moment D.had D.left_since setup [] self.old s self.new }
+            → Goes D.view setup [] self.old s self.new }
         ensures written { OnOk result (FirstIs (λ b. is_written b.phase ≡ true) self.new.buffers) }
-        ensures gate { IfOk result (λ is_open. IsHonest D.tells D.seen D.may_leave self.new.disk → FirstIs (λ b. GateIs is_open self.new.geometry b.block (D.may_leave self.new.disk)) self.new.buffers) }
+        ensures gate { IfOk result (λ is_open. IsHonest (D.view self.new.disk) → FirstIs (λ b. GateIs is_open self.new.geometry b.block (D.view self.new.disk).may_leave) self.new.buffers) }
         ensures rest { ChangesFirst self.old.buffers self.new.buffers }
-        ensures cause { OnErr result (Rose (D.faults self.old.disk) (D.faults self.new.disk)) }
-        ensures later { IsLater D.extent D.moment D.had D.left_since D.faults self.old.disk self.new.disk }
-        ensures honest { IsHonest D.tells D.seen D.may_leave self.old.disk → IsHonest D.tells D.seen D.may_leave self.new.disk }
+        ensures cause { OnErr result (Rose (D.view self.old.disk).faults (D.view self.new.disk).faults) }
+        ensures later { IsLater (D.view self.old.disk) (D.view self.new.disk) }
+        ensures honest { IsHonest (D.view self.old.disk) → IsHonest (D.view self.new.disk) }
         ensures shape { SameShape self.old self.new }
     {
         match self.buffers[0].phase() {
@@ -89,13 +89,13 @@ impl<D: Disk> Shelf<D> {
     fn write_first(&mut self) -> Result<(), DiskFault>
         requires sealed { FirstIs (λ b. b.phase ≡ Sealed) self.old.buffers }
         ensures goes { (setup : Setup) (s : State) → IsSetupOf setup self.old → StandsFor self.old s
-            → Goes D.tells D.seen D.may_leave D.moment D.had D.left_since setup [] self.old s self.new }
+            → Goes D.view setup [] self.old s self.new }
         ensures written { OnOk result (FirstIs (λ b. is_written b.phase ≡ true) self.new.buffers) }
-        ensures shut { OnOk result (IsHonest D.tells D.seen D.may_leave self.new.disk → FirstIs (λ b. IsShut self.new.geometry b.block (D.may_leave self.new.disk)) self.new.buffers) }
+        ensures shut { OnOk result (IsHonest (D.view self.new.disk) → FirstIs (λ b. IsShut self.new.geometry b.block (D.view self.new.disk).may_leave) self.new.buffers) }
         ensures rest { ChangesFirst self.old.buffers self.new.buffers }
-        ensures cause { OnErr result (Rose (D.faults self.old.disk) (D.faults self.new.disk)) }
-        ensures later { IsLater D.extent D.moment D.had D.left_since D.faults self.old.disk self.new.disk }
-        ensures honest { IsHonest D.tells D.seen D.may_leave self.old.disk → IsHonest D.tells D.seen D.may_leave self.new.disk }
+        ensures cause { OnErr result (Rose (D.view self.old.disk).faults (D.view self.new.disk).faults) }
+        ensures later { IsLater (D.view self.old.disk) (D.view self.new.disk) }
+        ensures honest { IsHonest (D.view self.old.disk) → IsHonest (D.view self.new.disk) }
         ensures shape { SameShape self.old self.new }
     {
         let buffer = &mut self.buffers[0];
@@ -113,12 +113,12 @@ impl<D: Disk> Shelf<D> {
     fn find_gate(&mut self) -> Result<bool, DiskFault>
         requires written { FirstIs (λ b. is_written b.phase ≡ true) self.old.buffers }
         ensures goes { (setup : Setup) (s : State) → IsSetupOf setup self.old → StandsFor self.old s
-            → Goes D.tells D.seen D.may_leave D.moment D.had D.left_since setup [] self.old s self.new }
+            → Goes D.view setup [] self.old s self.new }
         ensures same { SameBuffers self.old self.new }
-        ensures gate { IfOk result (λ is_open. IsHonest D.tells D.seen D.may_leave self.new.disk → FirstIs (λ b. GateIs is_open self.new.geometry b.block (D.may_leave self.new.disk)) self.new.buffers) }
-        ensures cause { OnErr result (Rose (D.faults self.old.disk) (D.faults self.new.disk)) }
-        ensures later { IsLater D.extent D.moment D.had D.left_since D.faults self.old.disk self.new.disk }
-        ensures honest { IsHonest D.tells D.seen D.may_leave self.old.disk → IsHonest D.tells D.seen D.may_leave self.new.disk }
+        ensures gate { IfOk result (λ is_open. IsHonest (D.view self.new.disk) → FirstIs (λ b. GateIs is_open self.new.geometry b.block (D.view self.new.disk).may_leave) self.new.buffers) }
+        ensures cause { OnErr result (Rose (D.view self.old.disk).faults (D.view self.new.disk).faults) }
+        ensures later { IsLater (D.view self.old.disk) (D.view self.new.disk) }
+        ensures honest { IsHonest (D.view self.old.disk) → IsHonest (D.view self.new.disk) }
     {
         let block = self.buffers[0].block();
         is_gate_open(&mut self.disk, &self.geometry, block)
@@ -128,7 +128,7 @@ impl<D: Disk> Shelf<D> {
     fn begin_first(&mut self)
         requires written { FirstIs (λ b. is_written b.phase ≡ true) self.old.buffers }
         ensures goes { (setup : Setup) (s : State) → IsSetupOf setup self.old → StandsFor self.old s
-            → Goes D.tells D.seen D.may_leave D.moment D.had D.left_since setup (first_gate_steps self.old.buffers) self.old s self.new }
+            → Goes D.view setup (first_gate_steps self.old.buffers) self.old s self.new }
         ensures begun { self.new.buffers ≡ with_first (with_phase GateBegun) self.old.buffers }
         ensures disk { self.new.disk ≡ self.old.disk }
         ensures shape { SameShape self.old self.new }
@@ -139,14 +139,14 @@ impl<D: Disk> Shelf<D> {
     // Opens the gate of the first buffer, unless it is open.
     fn open_first(&mut self, is_open: bool) -> Result<(), DiskFault>
         requires begun { FirstIs (λ b. b.phase ≡ GateBegun) self.old.buffers }
-        requires gate { IsHonest D.tells D.seen D.may_leave self.old.disk → FirstIs (λ b. GateIs is_open self.old.geometry b.block (D.may_leave self.old.disk)) self.old.buffers }
+        requires gate { IsHonest (D.view self.old.disk) → FirstIs (λ b. GateIs is_open self.old.geometry b.block (D.view self.old.disk).may_leave) self.old.buffers }
         ensures goes { (setup : Setup) (s : State) → IsSetupOf setup self.old → StandsFor self.old s
-            → Goes D.tells D.seen D.may_leave D.moment D.had D.left_since setup [] self.old s self.new }
-        ensures opened { OnOk result (IsHonest D.tells D.seen D.may_leave self.new.disk → FirstIs (λ b. IsOpened self.new.geometry b.block (D.may_leave self.new.disk)) self.new.buffers) }
+            → Goes D.view setup [] self.old s self.new }
+        ensures opened { OnOk result (IsHonest (D.view self.new.disk) → FirstIs (λ b. IsOpened self.new.geometry b.block (D.view self.new.disk).may_leave) self.new.buffers) }
         ensures same { SameBuffers self.old self.new }
-        ensures cause { OnErr result (Rose (D.faults self.old.disk) (D.faults self.new.disk)) }
-        ensures later { IsLater D.extent D.moment D.had D.left_since D.faults self.old.disk self.new.disk }
-        ensures honest { IsHonest D.tells D.seen D.may_leave self.old.disk → IsHonest D.tells D.seen D.may_leave self.new.disk }
+        ensures cause { OnErr result (Rose (D.view self.old.disk).faults (D.view self.new.disk).faults) }
+        ensures later { IsLater (D.view self.old.disk) (D.view self.new.disk) }
+        ensures honest { IsHonest (D.view self.old.disk) → IsHonest (D.view self.new.disk) }
     {
         if is_open {
             return Ok(());
@@ -161,9 +161,9 @@ impl<D: Disk> Shelf<D> {
     // The first buffer is flushed, and leaves; answers its number.
     fn retire_first(&mut self) -> u64
         requires begun { FirstIs (λ b. b.phase ≡ GateBegun) self.old.buffers }
-        requires opened { IsHonest D.tells D.seen D.may_leave self.old.disk → FirstIs (λ b. IsOpened self.old.geometry b.block (D.may_leave self.old.disk)) self.old.buffers }
+        requires opened { IsHonest (D.view self.old.disk) → FirstIs (λ b. IsOpened self.old.geometry b.block (D.view self.old.disk).may_leave) self.old.buffers }
         ensures goes { (setup : Setup) (s : State) → IsSetupOf setup self.old → StandsFor self.old s
-            → Goes D.tells D.seen D.may_leave D.moment D.had D.left_since setup (flushed_buffer result ∷ []) self.old s self.new }
+            → Goes D.view setup (flushed_buffer result ∷ []) self.old s self.new }
         ensures first { FirstLeaves self.old.buffers self.new.buffers }
         ensures number { FirstIs (λ b. result ≡ b.number) self.old.buffers }
         ensures disk { self.new.disk ≡ self.old.disk }

@@ -47,15 +47,15 @@ impl<D: Disk> Shelf<D> {
             → (self.new ≡ self.old) × MatchResult result (λ version. version ≡ v) (λ refusal. refusal ≡ ReadRefusal.Memory) }
 
         // On a disk that tells its bytes it is what stands there, exactly where that has the entry's head.
-        ensures read { D.tells self.old.disk → AllByRecursion (λ b. b.block ≢ place.block) self.old.buffers
-            → HasRead entry.now (copy_bytes self.old.geometry place (D.seen self.old.disk)) result }
+        ensures read { (D.view self.old.disk).tells → AllByRecursion (λ b. b.block ≢ place.block) self.old.buffers
+            → HasRead entry.now (copy_bytes self.old.geometry place (D.view self.old.disk).seen) result }
 
         // Over an honest disk it is the version that was written, and nothing is damaged.
-        ensures written { IsHonest D.tells D.seen D.may_leave self.old.disk → (s : State) (v : Version) → StandsFor self.old s → IsPlaced D.may_leave self.old s
+        ensures written { IsHonest (D.view self.old.disk) → (s : State) (v : Version) → StandsFor self.old s → IsPlaced D.view self.old s
             → live_of entry.now.digest s.book.live ≡ Some (live_at entry.now.digest place) → device.entry s entry.now.digest ≡ Some v → Names entry.now v
             → MatchResult result (λ version. version ≡ v) IsUndamaged }
-        ensures cause { IfErr result (λ refusal. refusal ≡ ReadRefusal.Fault → Rose (D.faults self.old.disk) (D.faults self.new.disk)) }
-        ensures disk { OnlyRead D.extent D.tells D.seen D.may_leave D.moment D.had D.left_since D.faults self.old.disk self.new.disk }
+        ensures cause { IfErr result (λ refusal. refusal ≡ ReadRefusal.Fault → Rose (D.view self.old.disk).faults (D.view self.new.disk).faults) }
+        ensures disk { OnlyRead (D.view self.old.disk) (D.view self.new.disk) }
         ensures same { SameBuffers self.old self.new }
     {
         match self.buffer_of(place.block) {
@@ -91,9 +91,9 @@ impl<D: Disk> Shelf<D> {
         requires within { place.unit + place.units ≤ block_capacity self.old.geometry.block_size }
         requires units { (entry.now.units ≡ place.units) × (3 ≤ place.units) }
         ensures names { IfOk result (Names entry.now) }
-        ensures read { D.tells self.old.disk → HasRead entry.now (copy_bytes self.old.geometry place (D.seen self.old.disk)) result }
-        ensures cause { IfErr result (λ refusal. refusal ≡ ReadRefusal.Fault → Rose (D.faults self.old.disk) (D.faults self.new.disk)) }
-        ensures disk { OnlyRead D.extent D.tells D.seen D.may_leave D.moment D.had D.left_since D.faults self.old.disk self.new.disk }
+        ensures read { (D.view self.old.disk).tells → HasRead entry.now (copy_bytes self.old.geometry place (D.view self.old.disk).seen) result }
+        ensures cause { IfErr result (λ refusal. refusal ≡ ReadRefusal.Fault → Rose (D.view self.old.disk).faults (D.view self.new.disk).faults) }
+        ensures disk { OnlyRead (D.view self.old.disk) (D.view self.new.disk) }
         ensures same { SameBuffers self.old self.new }
     {
         let size = UNIT_BYTES * place.units as usize;

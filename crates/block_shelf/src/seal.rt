@@ -18,7 +18,7 @@ impl<D: Disk> Shelf<D> {
     /// Seals the buffer that is being filled, if there is one.
     pub fn seal_streams(&mut self)
         ensures sealed { (setup : Setup) (s : State) → IsSetupOf setup self.old → StandsFor self.old s
-            → Goes D.tells D.seen D.may_leave D.moment D.had D.left_since setup (seal_all s.book) self.old s self.new }
+            → Goes D.view setup (seal_all s.book) self.old s self.new }
         ensures none_filling { AllByRecursion (λ b. is_filling b.phase ≡ false) self.new.buffers }
         ensures disk { self.new.disk ≡ self.old.disk }
         ensures shape { SameShape self.old self.new }
@@ -29,7 +29,7 @@ impl<D: Disk> Shelf<D> {
     /// Seals the buffer of a block, if it is being filled. A buffer of another block stays as it is.
     pub fn seal_for(&mut self, block: u32)
         ensures sealed { (setup : Setup) (s : State) (b : Buffer) → IsSetupOf setup self.old → StandsFor self.old s → filling_buffer client s.book.buffers ≡ Some b → b.block ≡ block
-            → Goes D.tells D.seen D.may_leave D.moment D.had D.left_since setup (sealed_stream client ∷ []) self.old s self.new }
+            → Goes D.view setup (sealed_stream client ∷ []) self.old s self.new }
         ensures others { (b : BufferState) → Contains self.old.buffers b → b.block ≢ block → Contains self.new.buffers b }
         ensures disk { self.new.disk ≡ self.old.disk }
         ensures shape { SameShape self.old self.new }

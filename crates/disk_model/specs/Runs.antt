@@ -1,65 +1,60 @@
 -- Several calls of a disk, one after another.
 use Rattle.std.specs.Prelude.{ℕ, List, [], ◌∷◌, ◌++◌, ◌⊎◌}
 use Rattle.std.proofs.Common.{inl, inr}
-use Rattle.disk_model.specs.Disk.{Images, Advances}
+use Rattle.disk_model.specs.Disk.{Images, DiskView, IsDisk, Advances, meanwhile}
 
 -- Whatever the moment of a crash from old to new, what it might have left has P.
-pub record Leaves {D : Type 0} (moment : D → ℕ) (had : D → ℕ → Type 0) (left_since : D → ℕ → Images) (P : Images) (old new : D) : Type 0 where
-  pub time : Advances (moment old) (had old) (had new) (left_since old) (left_since new)
-  pub each : (c : List ℕ) → left_since new (moment old) c → P c
+pub record Leaves (P : Images) (old new : DiskView) : Type 0 where
+  pub time : Advances old new
+  pub each : (c : List ℕ) → meanwhile old new c → P c
 
-pub advances_on : (a b : ℕ) (had0 had1 had2 : ℕ → Type 0) (past mid since : ℕ → Images) → Advances a had0 had1 past mid → Advances b had1 had2 mid since → Advances a had0 had2 past since
-advances_on a b had0 had1 had2 past mid since first then = record {
+pub advances_on : (old mid new : DiskView) → Advances old mid → Advances mid new → Advances old new
+advances_on old mid new first then = record {
   started = first.started;
   stays = λ t h. then.stays t (first.stays t h);
-  only = λ t i h left. elim (then.only t i (first.stays t h) left) [
-    | inl was ↦ elim (first.only t i h was) [
+  only = λ t c h left. elim (then.only t c (first.stays t h) left) [
+    | inl was ↦ elim (first.only t c h was) [
       | inl before ↦ inl before
-      | inr during ↦ inr (then.kept a i (first.stays a first.started) during)
+      | inr during ↦ inr (then.kept old.moment c (first.stays old.moment first.started) during)
     ]
-    | inr behind ↦ inr (then.added a i (first.stays a first.started) behind)
+    | inr behind ↦ inr (then.added old.moment c (first.stays old.moment first.started) behind)
   ];
-  kept = λ t i h left. then.kept t i (first.stays t h) (first.kept t i h left);
-  added = λ t i h left. elim (then.only a i (first.stays a first.started) left) [
-    | inl during ↦ then.kept t i (first.stays t h) (first.added t i h during)
-    | inr behind ↦ then.added t i (first.stays t h) behind
+  kept = λ t c h left. then.kept t c (first.stays t h) (first.kept t c h left);
+  added = λ t c h left. elim (then.only old.moment c (first.stays old.moment first.started) left) [
+    | inl during ↦ then.kept t c (first.stays t h) (first.added t c h during)
+    | inr behind ↦ then.added t c (first.stays t h) behind
   ];
 }
 
-module _ {D : Type 0} (moment : D → ℕ) (had : D → ℕ → Type 0) (left_since : D → ℕ → Images) where
-  -- no call; it needs the disk's laws `now_had`, `now_alone` and `now_since`
-  pub leaves_none : (P may_leave : Images) (disk : D) → had disk (moment disk)
-      → ((c : List ℕ) → left_since disk (moment disk) c → may_leave c)
-      → ((t : ℕ) (c : List ℕ) → had disk t → may_leave c → left_since disk t c)
-      → ((c : List ℕ) → may_leave c → P c) → Leaves moment had left_since P disk disk
-  leaves_none P may_leave disk now alone since here = record {
-    time = record {
-      started = now;
-      stays = λ t h. h;
-      only = λ t c h left. inl left;
-      kept = λ t c h left. left;
-      added = λ t c h left. since t c h (alone c left);
-    };
-    each = λ c left. here c (alone c left);
-  }
+-- no call
+pub leaves_none : (P : Images) (v : DiskView) → IsDisk v → ((c : List ℕ) → v.may_leave c → P c) → Leaves P v v
+leaves_none P v is here = record {
+  time = record {
+    started = is.now_had;
+    stays = λ t h. h;
+    only = λ t c h left. inl left;
+    kept = λ t c h left. left;
+    added = λ t c h left. is.now_since t c h (is.now_alone c left);
+  };
+  each = λ c left. here c (is.now_alone c left);
+}
 
-  -- one run and then another
-  pub leaves_then : {P : Images} {old mid new : D} → Leaves moment had left_since P old mid → Leaves moment had left_since P mid new → Leaves moment had left_since P old new
-  leaves_then {P} {old} {mid} {new} first then = record {
-    time = advances_on _ _ _ _ _ _ _ _ first.time then.time;
-    each = λ c left. elim (then.time.only (moment old) c (first.time.stays (moment old) first.time.started) left) [
-      | inl during ↦ first.each c during
-      | inr behind ↦ then.each c behind
-    ];
-  }
+-- one run and then another
+pub leaves_then : {P : Images} {old mid new : DiskView} → Leaves P old mid → Leaves P mid new → Leaves P old new
+leaves_then {P} {old} {mid} {new} first then = record {
+  time = advances_on old mid new first.time then.time;
+  each = λ c left. elim (then.time.only old.moment c (first.time.stays old.moment first.time.started) left) [
+    | inl during ↦ first.each c during
+    | inr behind ↦ then.each c behind
+  ];
+}
 
-  pub leaves_more : {P Q : Images} {old new : D} → ((c : List ℕ) → P c → Q c) → Leaves moment had left_since P old new → Leaves moment had left_since Q old new
-  leaves_more {P} {Q} {old} {new} weaker run = record { time = run.time; each = λ c left. weaker c (run.each c left) }
+pub leaves_more : {P Q : Images} {old new : DiskView} → ((c : List ℕ) → P c → Q c) → Leaves P old new → Leaves Q old new
+leaves_more {P} {Q} {old} {new} weaker run = record { time = run.time; each = λ c left. weaker c (run.each c left) }
 
-  -- What a crash at the end may leave has P. It needs the disk's law `now_since` at the end.
-  pub leaves_now : {P : Images} {old new : D} (may_leave : Images) → ((t : ℕ) (c : List ℕ) → had new t → may_leave c → left_since new t c)
-      → Leaves moment had left_since P old new → (c : List ℕ) → may_leave c → P c
-  leaves_now {P} {old} {new} may_leave since run c image = run.each c (since (moment old) c (run.time.stays (moment old) run.time.started) image)
+-- What a crash at the end may leave has P.
+pub leaves_now : {P : Images} {old new : DiskView} → IsDisk new → Leaves P old new → (c : List ℕ) → new.may_leave c → P c
+leaves_now {P} {old} {new} is run c image = run.each c (is.now_since old.moment c (run.time.stays old.moment run.time.started) image)
 
 -- P holds of the image and one of these states
 abbrev pub OneOf : {S : Type 0} → (S → Images) → List S → Images

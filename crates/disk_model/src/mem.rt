@@ -2,11 +2,10 @@
 ghost use Rattle.std.specs.Prelude.{◌≡◌, ◌⊎◌, ◌+◌, ◌-◌, ◌++◌, ◌≤◌, ◌^◌, ◌<◌, None, Some, false, true, ℕ, [], ◌∷◌, List, min, length, replicate, OnOk, OnErr, IfOk, is_err, take, drop, if◌then◌else◌};
 ghost use Rattle.disk_model.specs.Bytes.{range, Torn, overwrite};
 ghost use Rattle.disk_model.specs.Replay.{State, synced, written, after, replay, MayLeave, Records};
-ghost use Rattle.disk_model.specs.Disk.{Written, Within, TornFrom, Loosens, IsOnly, IsHonest, Advances};
-ghost use Rattle.fault_count.specs.Counts.{Counted, IsCaused};
+ghost use Rattle.disk_model.specs.Disk.{Written, Within, TornFrom, TellsSame, TellsTorn, Loosens, IsOnly, IsHonest, IsCall, meanwhile};
 ghost use Rattle.disk_model.specs.Faults.{is_asked, IsCounted, IsAskedAfter, IsAskedOf, IsSame, FailsWhere, faults_after, one_more, is_due, flipped};
 ghost use Rattle.disk_model.specs.Picked.{picked_of, Tracks};
-ghost use Rattle.disk_model.specs.Past.{LeftSince, bytes_after, had_now, counts, alone, earlier, whole, read_whole};
+ghost use Rattle.disk_model.specs.Past.{bytes_after, recorded, is_disk};
 
 use crate::change::{Change, Piece};
 use crate::tally::Tally;
@@ -32,13 +31,13 @@ pub struct MemDisk {
 }
 
 impl MemDisk {
-    ghost use Rattle.disk_model.specs.Moments.{IsFresh, state_of};
+    ghost use Rattle.disk_model.specs.Moments.{IsFresh, state_of, view_of};
 
     /// A disk of so many zeros, with nothing left to sync.
     pub fn new(alloc: Global, len: u64) -> Result<MemDisk, NoMemory>
-        ensures zeros { IfOk result (λ disk. ⟦<MemDisk as Disk>⟧.seen disk ≡ replicate len 0) }
-        ensures told { IfOk result (λ disk. IsHonest ⟦<MemDisk as Disk>⟧.tells ⟦<MemDisk as Disk>⟧.seen ⟦<MemDisk as Disk>⟧.may_leave disk) }
-        ensures synced { IfOk result (λ disk. IsOnly (⟦<MemDisk as Disk>⟧.seen disk) (⟦<MemDisk as Disk>⟧.may_leave disk)) }
+        ensures zeros { IfOk result (λ disk. (view_of disk).seen ≡ replicate len 0) }
+        ensures told { IfOk result (λ disk. IsHonest (view_of disk)) }
+        ensures synced { IfOk result (λ disk. IsOnly (view_of disk).seen (view_of disk).may_leave) }
         ensures fresh { IfOk result IsFresh }
     {
         let Ok(content) = vec![in alloc; 0; len as usize] else {
@@ -49,9 +48,9 @@ impl MemDisk {
 
     /// A disk of these bytes, with nothing left to sync.
     fn holding(alloc: Global, content: Vec<u8>) -> Result<MemDisk, NoMemory>
-        ensures holds { IfOk result (λ disk. ⟦<MemDisk as Disk>⟧.seen disk ≡ content.items) }
-        ensures told { IfOk result (λ disk. IsHonest ⟦<MemDisk as Disk>⟧.tells ⟦<MemDisk as Disk>⟧.seen ⟦<MemDisk as Disk>⟧.may_leave disk) }
-        ensures synced { IfOk result (λ disk. IsOnly (⟦<MemDisk as Disk>⟧.seen disk) (⟦<MemDisk as Disk>⟧.may_leave disk)) }
+        ensures holds { IfOk result (λ disk. (view_of disk).seen ≡ content.items) }
+        ensures told { IfOk result (λ disk. IsHonest (view_of disk)) }
+        ensures synced { IfOk result (λ disk. IsOnly (view_of disk).seen (view_of disk).may_leave) }
         ensures fresh { IfOk result IsFresh }
     {
         let Ok(first) = content.to_vec(alloc) else {
@@ -87,7 +86,7 @@ impl MemDisk {
 
     /// Asks that the read which comes after `skip` others has its first byte wrong. From this call on the disk isn't honest, and no longer tells its bytes.
     pub fn lie_after(&mut self, skip: u64)
-        ensures dishonest { ¬ IsHonest ⟦<MemDisk as Disk>⟧.tells ⟦<MemDisk as Disk>⟧.seen ⟦<MemDisk as Disk>⟧.may_leave self.new }
+        ensures dishonest { ¬ IsHonest (view_of self.new) }
         ensures others { self.new ≡ record self.old { lie = Some (min (self.old.reads.done + skip) (2 ^ 64 - 1)) } }
     {
         self.lie = Some(self.reads.done.saturating_add(skip));
@@ -102,19 +101,19 @@ impl MemDisk {
 
     /// The number of its moments, of which the first is 0.
     pub fn moments(&self) -> u64
-        ensures { result ≡ ⟦<MemDisk as Disk>⟧.moment self.now + 1 }
+        ensures { result ≡ (view_of self.now).moment + 1 }
     {
         self.changes.len() as u64 + 1
     }
 
     /// A new disk with what a crash at a moment might have left: of the writes that no sync followed by then, number k, from 0 on, is there where bit k of `pick` is set.
     pub fn image(&self, moment: u64, pick: u64) -> Result<MemDisk, NoMemory>
-        requires { moment < ⟦<MemDisk as Disk>⟧.moment self.now + 1 }
-        ensures holds { IfOk result (λ disk. ⟦<MemDisk as Disk>⟧.seen disk ≡ picked_of pick (state_of self.now moment)) }
-        ensures image { IfOk result (λ disk. MayLeave (state_of self.now moment) (⟦<MemDisk as Disk>⟧.seen disk)) }
-        ensures left { IfOk result (λ disk. (t : ℕ) → t ≤ moment → ⟦<MemDisk as Disk>⟧.left_since self.now t (⟦<MemDisk as Disk>⟧.seen disk)) }
-        ensures told { IfOk result (λ disk. IsHonest ⟦<MemDisk as Disk>⟧.tells ⟦<MemDisk as Disk>⟧.seen ⟦<MemDisk as Disk>⟧.may_leave disk) }
-        ensures synced { IfOk result (λ disk. IsOnly (⟦<MemDisk as Disk>⟧.seen disk) (⟦<MemDisk as Disk>⟧.may_leave disk)) }
+        requires { moment < (view_of self.now).moment + 1 }
+        ensures holds { IfOk result (λ disk. (view_of disk).seen ≡ picked_of pick (state_of self.now moment)) }
+        ensures image { IfOk result (λ disk. MayLeave (state_of self.now moment) (view_of disk).seen) }
+        ensures left { IfOk result (λ disk. (t : ℕ) → t ≤ moment → (view_of self.now).left_since t (view_of disk).seen) }
+        ensures told { IfOk result (λ disk. IsHonest (view_of disk)) }
+        ensures synced { IfOk result (λ disk. IsOnly (view_of disk).seen (view_of disk).may_leave) }
         ensures fresh { IfOk result IsFresh }
     {
         let held = picked_bytes(
@@ -251,53 +250,26 @@ fn is_lie_due(lie: Option<u64>, reads: &Tally) -> bool
 }
 
 impl Disk for MemDisk {
-    ghost extent = { λ d. length d.first.items };
+    ghost use Rattle.disk_model.specs.Moments.{view_of};
 
-    ghost tells = { λ d. d.lie ≡ None };
+    ghost view = { λ d. recorded d.first.items d.changes.items (d.lie ≡ None) d.faults d.calls };
 
-    ghost seen = { λ d. bytes_after d.first.items d.changes.items };
-
-    ghost may_leave = { λ d c. MayLeave (replay d.changes.items (synced d.first.items)) c };
-
-    ghost moment = { λ d. length d.changes.items };
-
-    ghost had = { λ d t. t ≤ length d.changes.items };
-
-    ghost left_since = { λ d t c. LeftSince d.first.items d.changes.items t c };
-
-    ghost faults = { λ d. d.faults };
-
-    ghost calls = { λ d. d.calls };
-
-    ghost seen_whole = { λ d told. read_whole d.first.items d.changes.items };
-
-    ghost images_whole = { λ d t c left. whole d.first.items d.changes.items t c left };
-
-    ghost now_alone = { λ d c left. alone d.first.items d.changes.items c left };
-
-    ghost now_had = { λ d. had_now d.changes.items };
-
-    ghost now_since = { λ d t c le image. earlier d.first.items d.changes.items t (length d.changes.items) c le (counts d.first.items d.changes.items c image) };
+    ghost is_disk = { λ d. is_disk d.first.items d.changes.items (d.lie ≡ None) d.faults d.calls };
 
     fn len(&self) -> u64 {
         self.first.len() as u64
     }
 
     fn read_at(&mut self, place: u64, out: &mut [u8]) -> Result<(), DiskFault>
-        requires { place + length out.old ≤ ⟦<MemDisk as Disk>⟧.extent self.old }
-        ensures read { ⟦<MemDisk as Disk>⟧.tells self.old → OnOk result (out.new ≡ range place (length out.old) (⟦<MemDisk as Disk>⟧.seen self.old)) }
-        ensures bytes { ⟦<MemDisk as Disk>⟧.tells self.old → ⟦<MemDisk as Disk>⟧.tells self.new × (⟦<MemDisk as Disk>⟧.seen self.new ≡ ⟦<MemDisk as Disk>⟧.seen self.old) }
-        ensures images { Within (⟦<MemDisk as Disk>⟧.may_leave self.old) (⟦<MemDisk as Disk>⟧.left_since self.new (⟦<MemDisk as Disk>⟧.moment self.old)) }
-        ensures honest { IsHonest ⟦<MemDisk as Disk>⟧.tells ⟦<MemDisk as Disk>⟧.seen ⟦<MemDisk as Disk>⟧.may_leave self.old → IsHonest ⟦<MemDisk as Disk>⟧.tells ⟦<MemDisk as Disk>⟧.seen ⟦<MemDisk as Disk>⟧.may_leave self.new }
-        ensures was_honest { IsHonest ⟦<MemDisk as Disk>⟧.tells ⟦<MemDisk as Disk>⟧.seen ⟦<MemDisk as Disk>⟧.may_leave self.new → IsHonest ⟦<MemDisk as Disk>⟧.tells ⟦<MemDisk as Disk>⟧.seen ⟦<MemDisk as Disk>⟧.may_leave self.old }
-        ensures time { Advances (⟦<MemDisk as Disk>⟧.moment self.old) (⟦<MemDisk as Disk>⟧.had self.old) (⟦<MemDisk as Disk>⟧.had self.new) (⟦<MemDisk as Disk>⟧.left_since self.old) (⟦<MemDisk as Disk>⟧.left_since self.new) }
-        ensures cause { IsCaused (⟦<MemDisk as Disk>⟧.faults self.old) (⟦<MemDisk as Disk>⟧.faults self.new) result }
-        ensures count { Counted (⟦<MemDisk as Disk>⟧.calls self.old) (⟦<MemDisk as Disk>⟧.calls self.new) }
-        ensures len { ⟦<MemDisk as Disk>⟧.extent self.new ≡ ⟦<MemDisk as Disk>⟧.extent self.old }
+        requires { place + length out.old ≤ (view_of self.old).extent }
+        ensures read { (view_of self.old).tells → OnOk result (out.new ≡ range place (length out.old) (view_of self.old).seen) }
+        ensures bytes { TellsSame (view_of self.old) (view_of self.new) }
+        ensures images { Within (view_of self.old).may_leave (meanwhile (view_of self.old) (view_of self.new)) }
+        ensures call { IsCall (view_of self.old) (view_of self.new) result }
         // It fails exactly where it was asked to.
         ensures fails { is_err result ≡ is_asked self.old.reads }
         // It gives the bytes, but for the first of the read that lies.
-        ensures gives { OnOk result (out.new ≡ (if is_due self.old.lie self.old.reads then flipped (range place (length out.old) (⟦<MemDisk as Disk>⟧.seen self.old)) else range place (length out.old) (⟦<MemDisk as Disk>⟧.seen self.old))) }
+        ensures gives { OnOk result (out.new ≡ (if is_due self.old.lie self.old.reads then flipped (range place (length out.old) (view_of self.old).seen) else range place (length out.old) (view_of self.old).seen)) }
         ensures reads { IsCounted self.old.reads self.new.reads }
         ensures others { self.new ≡ record self.old { reads = self.new.reads; faults = faults_after self.old.faults result; calls = one_more self.old.calls } }
     {
@@ -316,18 +288,13 @@ impl Disk for MemDisk {
     }
 
     fn write_at(&mut self, place: u64, bytes: &[u8]) -> Result<(), DiskFault>
-        requires { place + length bytes.now ≤ ⟦<MemDisk as Disk>⟧.extent self.old }
-        ensures written { ⟦<MemDisk as Disk>⟧.tells self.old → OnOk result (Written place bytes.now (⟦<MemDisk as Disk>⟧.seen self.old) (⟦<MemDisk as Disk>⟧.seen self.new)) }
-        ensures bytes { ⟦<MemDisk as Disk>⟧.tells self.old → ⟦<MemDisk as Disk>⟧.tells self.new × Torn place (length bytes.now) (⟦<MemDisk as Disk>⟧.seen self.old) (⟦<MemDisk as Disk>⟧.seen self.new) }
-        ensures images { TornFrom place (length bytes.now) (⟦<MemDisk as Disk>⟧.may_leave self.old) (⟦<MemDisk as Disk>⟧.left_since self.new (⟦<MemDisk as Disk>⟧.moment self.old)) }
-        ensures more { Within (⟦<MemDisk as Disk>⟧.may_leave self.new) (⟦<MemDisk as Disk>⟧.may_leave self.old) }
-        ensures loose { OnOk result (Loosens place (length bytes.now) (⟦<MemDisk as Disk>⟧.may_leave self.old) (⟦<MemDisk as Disk>⟧.may_leave self.new)) }
-        ensures honest { IsHonest ⟦<MemDisk as Disk>⟧.tells ⟦<MemDisk as Disk>⟧.seen ⟦<MemDisk as Disk>⟧.may_leave self.old → IsHonest ⟦<MemDisk as Disk>⟧.tells ⟦<MemDisk as Disk>⟧.seen ⟦<MemDisk as Disk>⟧.may_leave self.new }
-        ensures was_honest { IsHonest ⟦<MemDisk as Disk>⟧.tells ⟦<MemDisk as Disk>⟧.seen ⟦<MemDisk as Disk>⟧.may_leave self.new → IsHonest ⟦<MemDisk as Disk>⟧.tells ⟦<MemDisk as Disk>⟧.seen ⟦<MemDisk as Disk>⟧.may_leave self.old }
-        ensures time { Advances (⟦<MemDisk as Disk>⟧.moment self.old) (⟦<MemDisk as Disk>⟧.had self.old) (⟦<MemDisk as Disk>⟧.had self.new) (⟦<MemDisk as Disk>⟧.left_since self.old) (⟦<MemDisk as Disk>⟧.left_since self.new) }
-        ensures cause { IsCaused (⟦<MemDisk as Disk>⟧.faults self.old) (⟦<MemDisk as Disk>⟧.faults self.new) result }
-        ensures count { Counted (⟦<MemDisk as Disk>⟧.calls self.old) (⟦<MemDisk as Disk>⟧.calls self.new) }
-        ensures len { ⟦<MemDisk as Disk>⟧.extent self.new ≡ ⟦<MemDisk as Disk>⟧.extent self.old }
+        requires { place + length bytes.now ≤ (view_of self.old).extent }
+        ensures written { (view_of self.old).tells → OnOk result (Written place bytes.now (view_of self.old).seen (view_of self.new).seen) }
+        ensures bytes { TellsTorn place (length bytes.now) (view_of self.old) (view_of self.new) }
+        ensures images { TornFrom place (length bytes.now) (view_of self.old).may_leave (meanwhile (view_of self.old) (view_of self.new)) }
+        ensures more { Within (view_of self.new).may_leave (view_of self.old).may_leave }
+        ensures loose { OnOk result (Loosens place (length bytes.now) (view_of self.old).may_leave (view_of self.new).may_leave) }
+        ensures call { IsCall (view_of self.old) (view_of self.new) result }
         // It fails exactly where it was asked to, or for want of memory for the record.
         ensures fails { FailsWhere (is_asked self.old.writes) self.old.starved self.new.starved result }
         // It is recorded, a failed one too; but for want of memory nothing is done.
@@ -354,16 +321,11 @@ impl Disk for MemDisk {
     }
 
     fn sync(&mut self) -> Result<(), DiskFault>
-        ensures durable { ⟦<MemDisk as Disk>⟧.tells self.old → OnOk result (IsOnly (⟦<MemDisk as Disk>⟧.seen self.old) (⟦<MemDisk as Disk>⟧.may_leave self.new)) }
-        ensures bytes { ⟦<MemDisk as Disk>⟧.tells self.old → ⟦<MemDisk as Disk>⟧.tells self.new × (⟦<MemDisk as Disk>⟧.seen self.new ≡ ⟦<MemDisk as Disk>⟧.seen self.old) }
-        ensures failed { ⟦<MemDisk as Disk>⟧.tells self.old → OnErr result (Within (⟦<MemDisk as Disk>⟧.may_leave self.old) (⟦<MemDisk as Disk>⟧.left_since self.new (⟦<MemDisk as Disk>⟧.moment self.old))) }
-        ensures images { IsHonest ⟦<MemDisk as Disk>⟧.tells ⟦<MemDisk as Disk>⟧.seen ⟦<MemDisk as Disk>⟧.may_leave self.old → Within (⟦<MemDisk as Disk>⟧.may_leave self.old) (⟦<MemDisk as Disk>⟧.left_since self.new (⟦<MemDisk as Disk>⟧.moment self.old)) }
-        ensures honest { IsHonest ⟦<MemDisk as Disk>⟧.tells ⟦<MemDisk as Disk>⟧.seen ⟦<MemDisk as Disk>⟧.may_leave self.old → IsHonest ⟦<MemDisk as Disk>⟧.tells ⟦<MemDisk as Disk>⟧.seen ⟦<MemDisk as Disk>⟧.may_leave self.new }
-        ensures was_honest { IsHonest ⟦<MemDisk as Disk>⟧.tells ⟦<MemDisk as Disk>⟧.seen ⟦<MemDisk as Disk>⟧.may_leave self.new → IsHonest ⟦<MemDisk as Disk>⟧.tells ⟦<MemDisk as Disk>⟧.seen ⟦<MemDisk as Disk>⟧.may_leave self.old }
-        ensures time { Advances (⟦<MemDisk as Disk>⟧.moment self.old) (⟦<MemDisk as Disk>⟧.had self.old) (⟦<MemDisk as Disk>⟧.had self.new) (⟦<MemDisk as Disk>⟧.left_since self.old) (⟦<MemDisk as Disk>⟧.left_since self.new) }
-        ensures cause { IsCaused (⟦<MemDisk as Disk>⟧.faults self.old) (⟦<MemDisk as Disk>⟧.faults self.new) result }
-        ensures count { Counted (⟦<MemDisk as Disk>⟧.calls self.old) (⟦<MemDisk as Disk>⟧.calls self.new) }
-        ensures len { ⟦<MemDisk as Disk>⟧.extent self.new ≡ ⟦<MemDisk as Disk>⟧.extent self.old }
+        ensures durable { (view_of self.old).tells → OnOk result (IsOnly (view_of self.old).seen (view_of self.new).may_leave) }
+        ensures bytes { TellsSame (view_of self.old) (view_of self.new) }
+        ensures failed { (view_of self.old).tells → OnErr result (Within (view_of self.old).may_leave (meanwhile (view_of self.old) (view_of self.new))) }
+        ensures images { IsHonest (view_of self.old) → Within (view_of self.old).may_leave (meanwhile (view_of self.old) (view_of self.new)) }
+        ensures call { IsCall (view_of self.old) (view_of self.new) result }
         // It fails exactly where it was asked to, or for want of memory for the record.
         ensures fails { FailsWhere (is_asked self.old.syncs) self.old.starved self.new.starved result }
         ensures ok { OnOk result (Records self.old.changes.items self.new.changes.items (λ s. synced s.bytes)) }

@@ -1,6 +1,6 @@
-use Rattle.std.proofs.Common.{ℕ, List, lit≤, sym, subst}
-use Rattle.disk_model.specs.Replay.{MayLeave, replay, synced}
+use Rattle.std.proofs.Common.{lit≤, sym, subst}
 use Rattle.disk_model.specs.declared.mem.MemDisk.{MemDisk}
+use Rattle.disk_model.specs.Moments.{view_of}
 use Rattle.block_flusher.specs.Images.{IsShut}
 use Rattle.block_flusher.specs.declared.tests.TheConstants.{SHAPE}
 use Rattle.block_flusher.proofs.Steps.{zeros_shut}
@@ -8,5 +8,5 @@ use Rattle.block_flusher.proofs.tests.failing.Goals as goal
 
 pub returns-clause-shut : goal.returns-clause-shut
 returns-clause-shut c =
-    subst (λ (d : MemDisk). IsShut SHAPE 3 (λ (image : List ℕ). MayLeave (replay d.changes.items (synced d.first.items)) image)) (sym c.fail_after.ensures.others)
+    subst (λ (d : MemDisk). IsShut SHAPE 3 (view_of d).may_leave) (sym c.fail_after.ensures.others)
     (zeros_shut SHAPE 3 _ _ 266240 (lit≤ tt) c.in_ok-disk.ensures.zeros c.in_ok-disk.ensures.synced)

@@ -31,7 +31,7 @@ invariant_of-self-2 g c =
     let first : first_block c.self.inside.free.items ≡ c.in-Some.block.now = first_is c.self.inside.free.items c.in-Some.block.now c.in-Some.ensures.lookup some in
     let begun : c.in-Ok.buffer ≡ empty_buffer c.self.inside.next_number (first_block c.self.inside.free.items) (block_capacity c.self.inside.geometry.block_size) =
     c.in-Ok.ensures.empty ∙ ap (λ (k : ℕ). empty_buffer c.self.inside.next_number k (block_capacity c.self.inside.geometry.block_size)) (sym first) in
-    subst (λ (bs : List BufferState). IsShelf {D = g.row.D.Denot} d.extent d.tells d.seen d.may_leave (record { disk = c.self.inside.disk; geometry = c.self.inside.geometry; limits = c.self.inside.limits; buffers = bs; free = c.pop_front.new.self.items; next_number = c.self.inside.next_number + 1 }))
+    subst (λ (bs : List BufferState). IsShelf {D = g.row.D.Denot} d.view (record { disk = c.self.inside.disk; geometry = c.self.inside.geometry; limits = c.self.inside.limits; buffers = bs; free = c.pop_front.new.self.items; next_number = c.self.inside.next_number + 1 }))
     (sym (new ∙ ap (λ (b : BufferState). map sealed_buffer c.self.inside.buffers.items ++ b ∷ []) begun))
-    (subst (λ (free : List ℕ). IsShelf {D = g.row.D.Denot} d.extent d.tells d.seen d.may_leave (record { disk = c.self.inside.disk; geometry = c.self.inside.geometry; limits = c.self.inside.limits; buffers = map sealed_buffer c.self.inside.buffers.items ++ empty_buffer c.self.inside.next_number (first_block c.self.inside.free.items) (block_capacity c.self.inside.geometry.block_size) ∷ []; free = free; next_number = c.self.inside.next_number + 1 }))
-    (sym rest) (begun_shelf d.extent d.tells d.seen d.may_leave _ c.self.invariant (omega arith) some))
+    (subst (λ (free : List ℕ). IsShelf {D = g.row.D.Denot} d.view (record { disk = c.self.inside.disk; geometry = c.self.inside.geometry; limits = c.self.inside.limits; buffers = map sealed_buffer c.self.inside.buffers.items ++ empty_buffer c.self.inside.next_number (first_block c.self.inside.free.items) (block_capacity c.self.inside.geometry.block_size) ∷ []; free = free; next_number = c.self.inside.next_number + 1 }))
+    (sym rest) (begun_shelf d.view _ c.self.invariant (omega arith) some))

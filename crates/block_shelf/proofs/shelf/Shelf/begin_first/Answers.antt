@@ -12,8 +12,8 @@ use Rattle.block_shelf.specs.Standing.{StandsFor}
 use Rattle.block_shelf.specs.Calls.{Goes}
 use Rattle.block_shelf.specs.Flushes.{FirstIs, first_gate_steps}
 use Rattle.block_shelf.proofs.FlushShelf.{BeginWith, begin_with, set_first, first_of, within_elsewhere, shelf_after}
-use Rattle.block_shelf.proofs.FlushGoes.{ArePresent}
 use Rattle.block_shelf.proofs.FlushSteps.{begun_phase, goes_to_begin}
+use Rattle.disk_model.specs.Disk.{IsDisk}
 use Rattle.block_shelf.proofs.shelf.Shelf.begin_first.Goals as goal
 
 pub invariant_of-self : goal.invariant_of-self
@@ -24,10 +24,10 @@ invariant_of-self g c =
     (subst (λ (v : ShelfView g.row.D.Denot). FirstIs (λ b. is_written b.phase ≡ true) v.buffers) (sym c.self.view_is) c.requires.written) c.index_mut.ensures.value in
     let after = slice_set old.buffers 0 c.set_phase.new.self in
     let to : after ≡ with_phase GateBegun b ∷ first.rest = set_first (λ b. is_written b.phase ≡ true) old.buffers b c.set_phase.new.self (with_phase GateBegun b) first (begun_phase b c.set_phase.new.self c.set_phase.ensures.set) in
-    shelf_after g.D.Disk.extent g.D.Disk.tells g.D.Disk.seen g.D.Disk.may_leave old old.disk b first.rest after first.parts GateBegun to c.self.invariant refl refl (λ honest. honest)
-    (λ honest. within_elsewhere old.geometry b.block (g.D.Disk.may_leave old.disk) (g.D.Disk.may_leave old.disk) (λ x image. image))
-    (λ honest. subst (λ (w : Bool). MatchBool w (HasOneBody old.geometry b.block (bytes_of b) (g.D.Disk.may_leave old.disk)) (IsShut old.geometry b.block (g.D.Disk.may_leave old.disk))) first.has
-    (first_of (IsReady old.geometry (g.D.Disk.may_leave old.disk)) old.buffers first.rest b first.parts (c.self.invariant.ready honest)))
+    shelf_after g.D.Disk.view old old.disk b first.rest after first.parts GateBegun to c.self.invariant refl refl (λ honest. honest)
+    (λ honest. within_elsewhere old.geometry b.block (g.D.Disk.view old.disk).may_leave (g.D.Disk.view old.disk).may_leave (λ x image. image))
+    (λ honest. subst (λ (w : Bool). MatchBool w (HasOneBody old.geometry b.block (bytes_of b) (g.D.Disk.view old.disk).may_leave) (IsShut old.geometry b.block (g.D.Disk.view old.disk).may_leave)) first.has
+    (first_of (IsReady old.geometry (g.D.Disk.view old.disk).may_leave) old.buffers first.rest b first.parts (c.self.invariant.ready honest)))
 
 pub returns-clause-goes : goal.returns-clause-goes
 returns-clause-goes g c =
@@ -37,7 +37,7 @@ returns-clause-goes g c =
     (subst (λ (v : ShelfView g.row.D.Denot). FirstIs (λ b. is_written b.phase ≡ true) v.buffers) (sym c.self.view_is) c.requires.written) c.index_mut.ensures.value in
     let after = slice_set old.buffers 0 c.set_phase.new.self in
     let to : after ≡ with_phase GateBegun b ∷ first.rest = set_first (λ b. is_written b.phase ≡ true) old.buffers b c.set_phase.new.self (with_phase GateBegun b) first (begun_phase b c.set_phase.new.self c.set_phase.ensures.set) in
-    let present : ArePresent g.D.Disk.may_leave g.D.Disk.moment g.D.Disk.had g.D.Disk.left_since old.disk = record { now = g.met.D.Disk.now_had old.disk; alone = g.met.D.Disk.now_alone old.disk; since = g.met.D.Disk.now_since old.disk } in
+    let present : IsDisk (g.D.Disk.view old.disk) = g.met.D.Disk.is_disk old.disk in
     let above : AllByRecursion (λ x. b.number < x.number) first.rest = all_map (λ x. (b.number < x.number) × (is_filling b.phase ≡ false)) (λ x. b.number < x.number) first.rest (λ x h. h.0) (subst StandInOrder first.parts c.self.invariant.order).0 in
-    subst (λ (v : ShelfView g.row.D.Denot). (setup : Setup) (s : State) → IsSetupOf setup v → StandsFor v s → Goes g.D.Disk.tells g.D.Disk.seen g.D.Disk.may_leave g.D.Disk.moment g.D.Disk.had g.D.Disk.left_since setup (first_gate_steps v.buffers) v s (record old { buffers = after })) c.self.view_is
-    (λ setup s of_old st. goes_to_begin g.D.Disk.extent g.D.Disk.tells g.D.Disk.seen g.D.Disk.may_leave g.D.Disk.moment g.D.Disk.had g.D.Disk.left_since old b first.rest after first.parts to c.self.invariant present above first.has setup s st)
+    subst (λ (v : ShelfView g.row.D.Denot). (setup : Setup) (s : State) → IsSetupOf setup v → StandsFor v s → Goes g.D.Disk.view setup (first_gate_steps v.buffers) v s (record old { buffers = after })) c.self.view_is
+    (λ setup s of_old st. goes_to_begin g.D.Disk.view old b first.rest after first.parts to c.self.invariant present above first.has setup s st)

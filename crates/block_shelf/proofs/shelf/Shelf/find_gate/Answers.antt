@@ -16,15 +16,15 @@ invariant_of-self g c =
     let d = c.is_gate_open.new.disk in
     let first : BeginWith (λ b. is_written b.phase ≡ true) old.buffers b = begin_with (λ b. is_written b.phase ≡ true) old.buffers b
     (subst (λ (v : ShelfView g.row.D.Denot). FirstIs (λ b. is_written b.phase ≡ true) v.buffers) (sym c.self.view_is) c.requires.written) c.index.ensures in
-    let call : IsCall g.D.Disk.extent g.D.Disk.tells g.D.Disk.seen g.D.Disk.may_leave g.D.Disk.moment g.D.Disk.had g.D.Disk.left_since old.disk d = record {
-      present = record { now = g.met.D.Disk.now_had d; alone = g.met.D.Disk.now_alone d; since = g.met.D.Disk.now_since d };
-      time = c.is_gate_open.ensures.time;
-      size = c.is_gate_open.ensures.len;
-      was = c.is_gate_open.ensures.was_honest;
+    let call : IsCall g.D.Disk.view old.disk d = record {
+      present = g.met.D.Disk.is_disk d;
+      time = c.is_gate_open.ensures.call.time;
+      size = c.is_gate_open.ensures.call.size;
+      was = c.is_gate_open.ensures.call.was_honest;
     } in
-    shelf_called g.D.Disk.extent g.D.Disk.tells g.D.Disk.seen g.D.Disk.may_leave g.D.Disk.moment g.D.Disk.had g.D.Disk.left_since old d b first.rest old.buffers b.phase first.parts first.parts c.self.invariant call
-    (within_away g.D.Disk.extent g.D.Disk.tells g.D.Disk.seen g.D.Disk.may_leave g.D.Disk.moment g.D.Disk.had g.D.Disk.left_since old d b first.rest old.buffers b.phase first.parts first.parts c.self.invariant call c.is_gate_open.ensures.images) (written_is_sealed b.phase first.has)
-    (ready_read g.D.Disk.extent g.D.Disk.tells g.D.Disk.seen g.D.Disk.may_leave g.D.Disk.moment g.D.Disk.had g.D.Disk.left_since old d b first.rest old.buffers b.phase first.parts first.parts c.self.invariant call c.is_gate_open.ensures.images)
+    shelf_called g.D.Disk.view old d b first.rest old.buffers b.phase first.parts first.parts c.self.invariant call
+    (within_away g.D.Disk.view old d b first.rest old.buffers b.phase first.parts first.parts c.self.invariant call c.is_gate_open.ensures.images) (written_is_sealed b.phase first.has)
+    (ready_read g.D.Disk.view old d b first.rest old.buffers b.phase first.parts first.parts c.self.invariant call c.is_gate_open.ensures.images)
 
 pub returns-clause-goes : goal.returns-clause-goes
 returns-clause-goes g c =
@@ -33,18 +33,18 @@ returns-clause-goes g c =
     let d = c.is_gate_open.new.disk in
     let first : BeginWith (λ b. is_written b.phase ≡ true) old.buffers b = begin_with (λ b. is_written b.phase ≡ true) old.buffers b
     (subst (λ (v : ShelfView g.row.D.Denot). FirstIs (λ b. is_written b.phase ≡ true) v.buffers) (sym c.self.view_is) c.requires.written) c.index.ensures in
-    let call : IsCall g.D.Disk.extent g.D.Disk.tells g.D.Disk.seen g.D.Disk.may_leave g.D.Disk.moment g.D.Disk.had g.D.Disk.left_since old.disk d = record {
-      present = record { now = g.met.D.Disk.now_had d; alone = g.met.D.Disk.now_alone d; since = g.met.D.Disk.now_since d };
-      time = c.is_gate_open.ensures.time;
-      size = c.is_gate_open.ensures.len;
-      was = c.is_gate_open.ensures.was_honest;
+    let call : IsCall g.D.Disk.view old.disk d = record {
+      present = g.met.D.Disk.is_disk d;
+      time = c.is_gate_open.ensures.call.time;
+      size = c.is_gate_open.ensures.call.size;
+      was = c.is_gate_open.ensures.call.was_honest;
     } in
-    subst (λ (v : ShelfView g.row.D.Denot). (setup : Setup) (s : State) → IsSetupOf setup v → StandsFor v s → Goes g.D.Disk.tells g.D.Disk.seen g.D.Disk.may_leave g.D.Disk.moment g.D.Disk.had g.D.Disk.left_since setup [] v s (record old { disk = d })) c.self.view_is
-    (λ setup s of_old st. goes_read g.D.Disk.extent g.D.Disk.tells g.D.Disk.seen g.D.Disk.may_leave g.D.Disk.moment g.D.Disk.had g.D.Disk.left_since old d b first.rest old.buffers b.phase first.parts first.parts c.self.invariant call refl c.is_gate_open.ensures.images setup s st)
+    subst (λ (v : ShelfView g.row.D.Denot). (setup : Setup) (s : State) → IsSetupOf setup v → StandsFor v s → Goes g.D.Disk.view setup [] v s (record old { disk = d })) c.self.view_is
+    (λ setup s of_old st. goes_read g.D.Disk.view old d b first.rest old.buffers b.phase first.parts first.parts c.self.invariant call refl c.is_gate_open.ensures.images setup s st)
 
 pub returns-clause-gate : goal.returns-clause-gate
 returns-clause-gate g c =
-    gate_first g.D.Disk.tells g.D.Disk.seen g.D.Disk.may_leave c.is_gate_open.result c.self.inside.geometry c.self.inside.buffers.items c.index.result.now c.block-block.result c.is_gate_open.new.disk
+    gate_first g.D.Disk.view c.is_gate_open.result c.self.inside.geometry c.self.inside.buffers.items c.index.result.now c.block-block.result c.is_gate_open.new.disk
     (begin_with (λ b. is_written b.phase ≡ true) c.self.inside.buffers.items c.index.result.now
     (subst (λ (v : ShelfView g.row.D.Denot). FirstIs (λ b. is_written b.phase ≡ true) v.buffers) (sym c.self.view_is) c.requires.written) c.index.ensures).parts c.block-block.ensures
-    (λ honest. c.is_gate_open.ensures.gate (c.is_gate_open.ensures.was_honest honest).told)
+    (λ honest. c.is_gate_open.ensures.gate (c.is_gate_open.ensures.call.was_honest honest).told)

@@ -1,7 +1,7 @@
 use Rattle.std.proofs.Common.{◌≡◌, ℕ, ◌<◌, false, [], ◌∷◌, ◌++◌, List, map, sym, subst}
 use Rattle.std.specs.Prelude.{MatchBool}
 use Rattle.std.specs.List.{AllByRecursion}
-use Rattle.disk_model.specs.Disk.{IsHonest}
+use Rattle.disk_model.specs.Disk.{IsDisk, IsHonest}
 use Rattle.rec_format.specs.Versions.{block_capacity}
 use Rattle.rec_format.specs.Book.{Setup}
 use Rattle.rec_format.specs.Device.{State}
@@ -17,7 +17,6 @@ use Rattle.block_shelf.specs.Standing.{StandsFor}
 use Rattle.block_shelf.specs.Calls.{Goes}
 use Rattle.block_shelf.specs.Flushes.{FirstIs}
 use Rattle.block_shelf.proofs.FlushShelf.{BeginWith, begin_with, left_first, first_of}
-use Rattle.block_shelf.proofs.FlushGoes.{ArePresent}
 use Rattle.block_shelf.proofs.FlushLeaving.{goes_left}
 use Rattle.block_shelf.proofs.shelf.Shelf.retire_first.Goals as goal
 
@@ -29,17 +28,17 @@ returns-clause-goes g c =
     (subst (λ (v : ShelfView g.row.D.Denot). FirstIs (λ b. b.phase ≡ GateBegun) v.buffers) (sym c.self.view_is) c.requires.begun) c.remove-buffer.ensures.value in
     let after = c.remove-buffer.new.self.items in
     let to : after ≡ first.rest = left_first (λ b. b.phase ≡ GateBegun) old.buffers after b first c.remove-buffer.ensures.by_index.2 in
-    let present : ArePresent g.D.Disk.may_leave g.D.Disk.moment g.D.Disk.had g.D.Disk.left_since old.disk = record { now = g.met.D.Disk.now_had old.disk; alone = g.met.D.Disk.now_alone old.disk; since = g.met.D.Disk.now_since old.disk } in
+    let present : IsDisk (g.D.Disk.view old.disk) = g.met.D.Disk.is_disk old.disk in
     let above : AllByRecursion (λ x. b.number < x.number) first.rest = all_map (λ x. (b.number < x.number) × (is_filling b.phase ≡ false)) (λ x. b.number < x.number) first.rest (λ x h. h.0) (subst StandInOrder first.parts c.self.invariant.order).0 in
     let apart : AreApart (map (λ x. x.block) first.rest ++ old.free) = (subst (λ (l : List BufferState). AreApart (map (λ x. x.block) l ++ old.free)) first.parts c.self.invariant.apart).1 in
     let own = first_of (IsBufferOf old.geometry old.next_number) old.buffers first.rest b first.parts c.self.invariant.buffers in
     let is_body : IsBody (block_capacity old.geometry.block_size) (bytes_of b) (body_in b) = subst (λ (n : ℕ). IsBody n (bytes_of b) (body_in b)) own.capacity (subst (λ (l : List ℕ). IsBody b.capacity l (body_in b)) c.body-body.ensures.bytes c.body-body.ensures.body) in
-    let one : IsHonest g.D.Disk.tells g.D.Disk.seen g.D.Disk.may_leave old.disk → HasOneBody old.geometry b.block (bytes_of b) (g.D.Disk.may_leave old.disk) = λ honest.
-    subst (λ (q : Phase). MatchBool (is_written q) (HasOneBody old.geometry b.block (bytes_of b) (g.D.Disk.may_leave old.disk)) (IsShut old.geometry b.block (g.D.Disk.may_leave old.disk))) first.has
-    (first_of (IsReady old.geometry (g.D.Disk.may_leave old.disk)) old.buffers first.rest b first.parts (c.self.invariant.ready honest)) in
-    let opened : IsHonest g.D.Disk.tells g.D.Disk.seen g.D.Disk.may_leave old.disk → IsOpened old.geometry b.block (g.D.Disk.may_leave old.disk) = λ honest.
-    subst (FirstIs (λ x. IsOpened old.geometry x.block (g.D.Disk.may_leave old.disk))) first.parts
-    (subst (λ (v : ShelfView g.row.D.Denot). IsHonest g.D.Disk.tells g.D.Disk.seen g.D.Disk.may_leave v.disk → FirstIs (λ x. IsOpened v.geometry x.block (g.D.Disk.may_leave v.disk)) v.buffers) (sym c.self.view_is) c.requires.opened honest) in
-    subst (λ (n : ℕ). (setup : Setup) (s : State) → IsSetupOf setup c.args.self.now → StandsFor c.args.self.now s → Goes g.D.Disk.tells g.D.Disk.seen g.D.Disk.may_leave g.D.Disk.moment g.D.Disk.had g.D.Disk.left_since setup (flushed_buffer n ∷ []) c.args.self.now s (record old { buffers = after })) (sym c.number.ensures.number)
-    (subst (λ (v : ShelfView g.row.D.Denot). (setup : Setup) (s : State) → IsSetupOf setup v → StandsFor v s → Goes g.D.Disk.tells g.D.Disk.seen g.D.Disk.may_leave g.D.Disk.moment g.D.Disk.had g.D.Disk.left_since setup (flushed_buffer b.number ∷ []) v s (record old { buffers = after })) c.self.view_is
-    (goes_left g.D.Disk.tells g.D.Disk.seen g.D.Disk.may_leave old b first.rest after first.parts to g.D.Disk.moment g.D.Disk.had g.D.Disk.left_since present above apart own.block c.self.invariant.geometry is_body one opened))
+    let one : IsHonest (g.D.Disk.view old.disk) → HasOneBody old.geometry b.block (bytes_of b) (g.D.Disk.view old.disk).may_leave = λ honest.
+    subst (λ (q : Phase). MatchBool (is_written q) (HasOneBody old.geometry b.block (bytes_of b) (g.D.Disk.view old.disk).may_leave) (IsShut old.geometry b.block (g.D.Disk.view old.disk).may_leave)) first.has
+    (first_of (IsReady old.geometry (g.D.Disk.view old.disk).may_leave) old.buffers first.rest b first.parts (c.self.invariant.ready honest)) in
+    let opened : IsHonest (g.D.Disk.view old.disk) → IsOpened old.geometry b.block (g.D.Disk.view old.disk).may_leave = λ honest.
+    subst (FirstIs (λ x. IsOpened old.geometry x.block (g.D.Disk.view old.disk).may_leave)) first.parts
+    (subst (λ (v : ShelfView g.row.D.Denot). IsHonest (g.D.Disk.view v.disk) → FirstIs (λ x. IsOpened v.geometry x.block (g.D.Disk.view v.disk).may_leave) v.buffers) (sym c.self.view_is) c.requires.opened honest) in
+    subst (λ (n : ℕ). (setup : Setup) (s : State) → IsSetupOf setup c.args.self.now → StandsFor c.args.self.now s → Goes g.D.Disk.view setup (flushed_buffer n ∷ []) c.args.self.now s (record old { buffers = after })) (sym c.number.ensures.number)
+    (subst (λ (v : ShelfView g.row.D.Denot). (setup : Setup) (s : State) → IsSetupOf setup v → StandsFor v s → Goes g.D.Disk.view setup (flushed_buffer b.number ∷ []) v s (record old { buffers = after })) c.self.view_is
+    (goes_left g.D.Disk.view old b first.rest after first.parts to present above apart own.block c.self.invariant.geometry is_body one opened))

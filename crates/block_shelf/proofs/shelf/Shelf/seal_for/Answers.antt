@@ -19,8 +19,8 @@ invariant_of-self g c =
     let d = g.D.Disk in
     let same : (with_items c.self.inside.buffers c.seal_at.new.buffers).items ≡ map (sealed_at c.args.block) c.self.inside.buffers.items =
     with_items_is c.self.inside.buffers c.seal_at.new.buffers (c.seal_at.auto.buffers ∙ c.deref_mut.ensures.len) ∙ c.seal_at.ensures ∙ ap (map (sealed_at c.args.block)) c.deref_mut.ensures.value in
-    subst (λ (bs : List BufferState). IsShelf {D = g.row.D.Denot} d.extent d.tells d.seen d.may_leave (record { disk = c.self.inside.disk; geometry = c.self.inside.geometry; limits = c.self.inside.limits; buffers = bs; free = c.self.inside.free.items; next_number = c.self.inside.next_number }))
-    (sym same) (sealed_shelf (sealed_at c.args.block) (seals_at c.args.block) d.extent d.tells d.seen d.may_leave _ c.self.invariant)
+    subst (λ (bs : List BufferState). IsShelf {D = g.row.D.Denot} d.view (record { disk = c.self.inside.disk; geometry = c.self.inside.geometry; limits = c.self.inside.limits; buffers = bs; free = c.self.inside.free.items; next_number = c.self.inside.next_number }))
+    (sym same) (sealed_shelf (sealed_at c.args.block) (seals_at c.args.block) d.view _ c.self.invariant)
 
 pub returns-clause-sealed : goal.returns-clause-sealed
 returns-clause-sealed g c =
@@ -29,12 +29,12 @@ returns-clause-sealed g c =
     let same : (with_items c.self.inside.buffers c.seal_at.new.buffers).items ≡ map (sealed_at c.args.block) c.self.inside.buffers.items =
     with_items_is c.self.inside.buffers c.seal_at.new.buffers (c.seal_at.auto.buffers ∙ c.deref_mut.ensures.len) ∙ c.seal_at.ensures ∙ ap (map (sealed_at c.args.block)) c.deref_mut.ensures.value in
     subst (λ (bs : List BufferState). (setup : Setup) (s : State) (b : Buffer) → IsSetupOf setup c.args.self.now → StandsFor c.args.self.now s → filling_buffer client s.book.buffers ≡ Some b → b.block ≡ c.args.block
-    → Goes d.tells d.seen d.may_leave d.moment d.had d.left_since setup (sealed_stream client ∷ []) c.args.self.now s (record { disk = c.self.inside.disk; geometry = c.self.inside.geometry; limits = c.self.inside.limits; buffers = bs; free = c.self.inside.free.items; next_number = c.self.inside.next_number }))
+    → Goes d.view setup (sealed_stream client ∷ []) c.args.self.now s (record { disk = c.self.inside.disk; geometry = c.self.inside.geometry; limits = c.self.inside.limits; buffers = bs; free = c.self.inside.free.items; next_number = c.self.inside.next_number }))
     (sym same)
     (subst (λ (old : ShelfView g.row.D.Denot). (setup : Setup) (s : State) (b : Buffer) → IsSetupOf setup old → StandsFor old s → filling_buffer client s.book.buffers ≡ Some b → b.block ≡ c.args.block
-    → Goes d.tells d.seen d.may_leave d.moment d.had d.left_since setup (sealed_stream client ∷ []) old s (record { disk = c.self.inside.disk; geometry = c.self.inside.geometry; limits = c.self.inside.limits; buffers = map (sealed_at c.args.block) c.self.inside.buffers.items; free = c.self.inside.free.items; next_number = c.self.inside.next_number }))
+    → Goes d.view setup (sealed_stream client ∷ []) old s (record { disk = c.self.inside.disk; geometry = c.self.inside.geometry; limits = c.self.inside.limits; buffers = map (sealed_at c.args.block) c.self.inside.buffers.items; free = c.self.inside.free.items; next_number = c.self.inside.next_number }))
     c.self.view_is
-    (λ setup s b is stands found at. goes_at d.tells d.seen d.may_leave d.moment d.had d.left_since law.now_had law.now_alone law.now_since setup _ s stands c.self.invariant.order c.args.block b found at))
+    (λ setup s b is stands found at. goes_at d.view law.is_disk setup _ s stands c.self.invariant.order c.args.block b found at))
 
 pub returns-clause-others : goal.returns-clause-others
 returns-clause-others g c =

@@ -19,8 +19,8 @@ invariant_of-self g c =
     let d = g.D.Disk in
     let same : (with_items c.self.inside.buffers c.seal_each.new.buffers).items ≡ map sealed_buffer c.self.inside.buffers.items =
     with_items_is c.self.inside.buffers c.seal_each.new.buffers (c.seal_each.auto.buffers ∙ c.deref_mut.ensures.len) ∙ c.seal_each.ensures ∙ ap (map sealed_buffer) c.deref_mut.ensures.value in
-    subst (λ (bs : List BufferState). IsShelf {D = g.row.D.Denot} d.extent d.tells d.seen d.may_leave (record { disk = c.self.inside.disk; geometry = c.self.inside.geometry; limits = c.self.inside.limits; buffers = bs; free = c.self.inside.free.items; next_number = c.self.inside.next_number }))
-    (sym same) (sealed_shelf sealed_buffer seals_each d.extent d.tells d.seen d.may_leave _ c.self.invariant)
+    subst (λ (bs : List BufferState). IsShelf {D = g.row.D.Denot} d.view (record { disk = c.self.inside.disk; geometry = c.self.inside.geometry; limits = c.self.inside.limits; buffers = bs; free = c.self.inside.free.items; next_number = c.self.inside.next_number }))
+    (sym same) (sealed_shelf sealed_buffer seals_each d.view _ c.self.invariant)
 
 pub returns-clause-sealed : goal.returns-clause-sealed
 returns-clause-sealed g c =
@@ -29,12 +29,12 @@ returns-clause-sealed g c =
     let same : (with_items c.self.inside.buffers c.seal_each.new.buffers).items ≡ map sealed_buffer c.self.inside.buffers.items =
     with_items_is c.self.inside.buffers c.seal_each.new.buffers (c.seal_each.auto.buffers ∙ c.deref_mut.ensures.len) ∙ c.seal_each.ensures ∙ ap (map sealed_buffer) c.deref_mut.ensures.value in
     subst (λ (bs : List BufferState). (setup : Setup) (s : State) → IsSetupOf setup c.args.self.now → StandsFor c.args.self.now s
-    → Goes d.tells d.seen d.may_leave d.moment d.had d.left_since setup (seal_all s.book) c.args.self.now s (record { disk = c.self.inside.disk; geometry = c.self.inside.geometry; limits = c.self.inside.limits; buffers = bs; free = c.self.inside.free.items; next_number = c.self.inside.next_number }))
+    → Goes d.view setup (seal_all s.book) c.args.self.now s (record { disk = c.self.inside.disk; geometry = c.self.inside.geometry; limits = c.self.inside.limits; buffers = bs; free = c.self.inside.free.items; next_number = c.self.inside.next_number }))
     (sym same)
     (subst (λ (old : ShelfView g.row.D.Denot). (setup : Setup) (s : State) → IsSetupOf setup old → StandsFor old s
-    → Goes d.tells d.seen d.may_leave d.moment d.had d.left_since setup (seal_all s.book) old s (record { disk = c.self.inside.disk; geometry = c.self.inside.geometry; limits = c.self.inside.limits; buffers = map sealed_buffer c.self.inside.buffers.items; free = c.self.inside.free.items; next_number = c.self.inside.next_number }))
+    → Goes d.view setup (seal_all s.book) old s (record { disk = c.self.inside.disk; geometry = c.self.inside.geometry; limits = c.self.inside.limits; buffers = map sealed_buffer c.self.inside.buffers.items; free = c.self.inside.free.items; next_number = c.self.inside.next_number }))
     c.self.view_is
-    (λ setup s is stands. goes_all d.tells d.seen d.may_leave d.moment d.had d.left_since law.now_had law.now_alone law.now_since setup _ s stands))
+    (λ setup s is stands. goes_all d.view law.is_disk setup _ s stands))
 
 pub returns-clause-none_filling : goal.returns-clause-none_filling
 returns-clause-none_filling g c =

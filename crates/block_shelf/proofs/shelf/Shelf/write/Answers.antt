@@ -17,8 +17,8 @@ invariant_of-self g c =
     let size : length c.self.inside.buffers.items ≡ c.len-last.result = sym c.self.inside.buffers.ok.0 ∙ sym c.len-last.ensures in
     let new : set c.self.inside.buffers.items (c.len-last.result - 1) c.append-unit.new.self ≡ room.front ++ with_record c.args.digest.now c.args.version.now room.last ∷ [] =
     last_change room.front room.last c.self.inside.buffers.items c.len-last.result parts size (with_record c.args.digest.now c.args.version.now) c.index_mut-buffer.result.now c.append-unit.new.self c.index_mut-buffer.ensures.value c.append-unit.ensures.appended in
-    subst (λ (bs : List BufferState). IsShelf {D = g.row.D.Denot} d.extent d.tells d.seen d.may_leave (record { disk = c.self.inside.disk; geometry = c.self.inside.geometry; limits = c.self.inside.limits; buffers = bs; free = c.self.inside.free.items; next_number = c.self.inside.next_number }))
-    (sym new) (written_shelf d.extent d.tells d.seen d.may_leave _ c.args.digest.now c.args.version.now room.front room.last c.self.invariant parts room.fills
+    subst (λ (bs : List BufferState). IsShelf {D = g.row.D.Denot} d.view (record { disk = c.self.inside.disk; geometry = c.self.inside.geometry; limits = c.self.inside.limits; buffers = bs; free = c.self.inside.free.items; next_number = c.self.inside.next_number }))
+    (sym new) (written_shelf d.view _ c.args.digest.now c.args.version.now room.front room.last c.self.invariant parts room.fills
     (ap (λ (v : ShelfView g.row.D.Denot). device_number v.geometry.devices c.args.digest.now) c.self.view_is ∙ c.requires.named ∙ sym (ap (λ (v : ShelfView g.row.D.Denot). v.geometry.device) c.self.view_is)))
 
 pub returns : goal.returns
