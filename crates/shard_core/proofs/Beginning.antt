@@ -4,7 +4,7 @@ use Rattle.std.specs.Prelude.{Option, Some, None, IfSome, Contains, map, filter,
 use Rattle.std.specs.List.{AllByRecursion, range_with_len}
 use Rattle.std.proofs.lemmas.Bool.{cond-true, eq-eqb, eqb-true}
 use Rattle.std.proofs.lemmas.Option.{slice_get_within}
-use Rattle.disk_model.specs.Disk.{Images, IsOnly}
+use Rattle.disk_model.specs.Disk.{Images, DiskView, IsOnly}
 use Rattle.rec_format.specs.declared.version.Digest.{Digest}
 use Rattle.rec_format.specs.declared.entry.Entry.{Entry}
 use Rattle.rec_format.specs.Places.{same_digest, device_number}
@@ -150,13 +150,13 @@ module _ {D : Type 0} (disk : D) (g : Geometry) (gates : List Gate) (set : Setti
     queue = refl;
   }
 
-  pub stands_behind : (may_leave : D → Images) (Honest : Type 0) (bytes : List ℕ) → (Honest → HasBodies g bytes (range_with_len 0 g.blocks) bodies × IsOnly bytes (may_leave disk)) → StandsForEntries may_leave Honest shard
-  stands_behind may_leave Honest bytes told = record {
+  pub stands_behind : (view : D → DiskView) (Honest : Type 0) (bytes : List ℕ) → (Honest → HasBodies g bytes (range_with_len 0 g.blocks) bodies × IsOnly bytes (view disk).may_leave) → StandsForEntries view Honest shard
+  stands_behind view Honest bytes told = record {
     opened = opened;
     found = those;
     next = finding.greatest + 1;
     agrees = entries_agree;
-    placed = λ honest. shelf_placed disk g gates set bodies finding found count sure (find_copy those) entries entries_show may_leave bytes (told honest).0 (told honest).1;
+    placed = λ honest. shelf_placed disk g gates set bodies finding found count sure (find_copy those) entries entries_show view bytes (told honest).0 (told honest).1;
   }
 
   -- ---- from a sound image
@@ -207,9 +207,9 @@ module _ {D : Type 0} (disk : D) (g : Geometry) (gates : List Gate) (set : Setti
         queue = refl;
       }
 
-      start_safe : (may_leave : D → Images) → IsOnly bytes (may_leave disk) → IsSafe may_leave shard start
-      start_safe may_leave only = record {
-        placed = shelf_placed disk g gates set bodies finding found count sure look start start_shows may_leave bytes has only;
+      start_safe : (view : D → DiskView) → IsOnly bytes (view disk).may_leave → IsSafe view shard start
+      start_safe view only = record {
+        placed = shelf_placed disk g gates set bodies finding found count sure look start start_shows view bytes has only;
         safe = record {
           orderly = start_orderly setup bytes bodies sound;
           images = λ c left. subst (IsHeld setup start) (sym (only.alone c left)) (bodies, start_held setup bytes bodies sound);
@@ -222,10 +222,10 @@ module _ {D : Type 0} (disk : D) (g : Geometry) (gates : List Gate) (set : Setti
         subst (λ (l : List Body). Agrees shard (start_state setup l)) same (start_agrees (subst (IsSound setup bytes) (sym same) sound))
 
     -- over a disk with this one image the shard is safe
-    pub sound_safe : (may_leave : D → Images) → IsOnly bytes (may_leave disk) → (all : List Body) → IsSound setup bytes all → IsSafe may_leave shard (start_state setup all)
-    sound_safe may_leave only all sound =
+    pub sound_safe : (view : D → DiskView) → IsOnly bytes (view disk).may_leave → (all : List Body) → IsSound setup bytes all → IsSafe view shard (start_state setup all)
+    sound_safe view only all sound =
         let same = same_bodies all sound in
-        subst (λ (l : List Body). IsSafe may_leave shard (start_state setup l)) same (start_safe (subst (IsSound setup bytes) (sym same) sound) may_leave only)
+        subst (λ (l : List Body). IsSafe view shard (start_state setup l)) same (start_safe (subst (IsSound setup bytes) (sym same) sound) view only)
 
     pub begins : (asked : Asked) → IsAsked asked.device asked.devices bytes g → Begins asked bytes shard
     begins asked is_asked = record {

@@ -12,7 +12,7 @@ use Rattle.rec_format.specs.Book.{Setup, Buffer}
 use Rattle.rec_format.specs.Device.{State}
 use Rattle.rec_format.specs.Steps.{Step, after_steps}
 use Rattle.rec_format.specs.Legal.{flush_all, flush_first, flush_count, StopsIn}
-use Rattle.disk_model.specs.Disk.{Images, IsHonest}
+use Rattle.disk_model.specs.Disk.{DiskView, IsHonest}
 use Rattle.block_format.specs.Recovery.{IsShapeOf}
 use Rattle.recovery_laws.proofs.Each.{all_map}
 use Rattle.write_buffer.specs.declared.phase.Phase.{Phase}
@@ -51,17 +51,17 @@ buffers_fit (b ∷ bs) low next order above below le =
     let rest : b.number + 1 + length bs ≤ next = buffers_fit bs (b.number + 1) next order.1 (all_map (λ c. (b.number < c.number) × (is_filling b.phase ≡ false)) (λ c. b.number + 1 ≤ c.number) bs (λ c h. omega (arith, h.0)) order.0) below.1 (omega (arith, below.0)) in
     omega (arith, rest, above.0)
 
-few_buffers : {D : Type 0} (extent : D → ℕ) (tells : D → Type 0) (seen : D → List ℕ) (may_leave : D → Images) (shelf : ShelfView D) → IsShelf extent tells seen may_leave shelf → length shelf.buffers ≤ shelf.next_number
-few_buffers extent tells seen may_leave shelf kept =
+few_buffers : {D : Type 0} (view : D → DiskView) (shelf : ShelfView D) → IsShelf view shelf → length shelf.buffers ≤ shelf.next_number
+few_buffers view shelf kept =
     let fit : 0 + length shelf.buffers ≤ shelf.next_number = buffers_fit shelf.buffers 0 shelf.next_number kept.order (all_map (IsBufferOf shelf.geometry shelf.next_number) (λ b. 0 ≤ b.number) shelf.buffers (λ b h. omega arith) kept.buffers)
     (all_map (IsBufferOf shelf.geometry shelf.next_number) (λ b. b.number < shelf.next_number) shelf.buffers (λ b h. h.number) kept.buffers) (omega arith) in
     omega arith
 
 -- with those that were flushed before they are as many as numbers at most, also before the first
-pub fits_before : {D : Type 0} (extent : D → ℕ) (tells : D → Type 0) (seen : D → List ℕ) (may_leave : D → Images) (count : ℕ) (shelf : ShelfView D) → IsShelf extent tells seen may_leave shelf
+pub fits_before : {D : Type 0} (view : D → DiskView) (count : ℕ) (shelf : ShelfView D) → IsShelf view shelf
     → (count ≡ 0) ⊎ (count + length shelf.buffers ≤ top_number + 1) → count + length shelf.buffers ≤ top_number + 1
-fits_before extent tells seen may_leave count shelf kept (inl none) = omega (arith, none, few_buffers extent tells seen may_leave shelf kept, kept.number.1)
-fits_before extent tells seen may_leave count shelf kept (inr few) = few
+fits_before view count shelf kept (inl none) = omega (arith, none, few_buffers view shelf kept, kept.number.1)
+fits_before view count shelf kept (inr few) = few
 
 -- ---- the loop
 
@@ -72,9 +72,9 @@ setup_stays setup old new same is = record {
   policy = is.policy;
 }
 
-module _ {D : Type 0} (extent : D → ℕ) (tells : D → Type 0) (seen : D → List ℕ) (may_leave : D → Images) (moment : D → ℕ) (had : D → ℕ → Type 0) (left_since : D → ℕ → Images) where
+module _ {D : Type 0} (view : D → DiskView) where
   abbrev Going : Setup → List Step → ShelfView D → State → ShelfView D → Type 0
-  Going setup steps old s new = Goes tells seen may_leave moment had left_since setup steps old s new
+  Going setup steps old s new = Goes view setup steps old s new
 
   -- so many buffers were flushed, and the rest is still to be
   pub record Went (setup : Setup) (count : ℕ) (old : ShelfView D) (s : State) (new : ShelfView D) : Type 0 where
@@ -87,8 +87,8 @@ module _ {D : Type 0} (extent : D → ℕ) (tells : D → Type 0) (seen : D → 
   abbrev pub Stepped : {E : Type 0} → Result (Option ℕ) E → (old new : ShelfView D) → Type 0
   Stepped result old new = (setup : Setup) (s : State) → IsSetupOf setup old → StandsFor old s → (steps : List Step) × FlushMakes result (flush_first s.book) steps × Going setup steps old s new
 
-  module _ (setup : Setup) (count : ℕ) (old mid new : ShelfView D) (s : State) (is : IsSetupOf setup mid) (went : Went setup count old s mid) (kept : IsShelf extent tells seen may_leave mid)
-      (honest : IsHonest tells seen may_leave old.disk → IsHonest tells seen may_leave mid.disk) where
+  module _ (setup : Setup) (count : ℕ) (old mid new : ShelfView D) (s : State) (is : IsSetupOf setup mid) (went : Went setup count old s mid) (kept : IsShelf view mid)
+      (honest : IsHonest (view old.disk) → IsHonest (view mid.disk)) where
     abbrev t : State
     t = after_steps setup went.steps s
 
@@ -108,7 +108,7 @@ module _ {D : Type 0} (extent : D → ℕ) (tells : D → Type 0) (seen : D → 
           left = went.left ∙ ap (λ (x : List Step). went.steps ++ x) law ∙ sym (append_assoc went.steps one.0 (flush_all (after_steps setup one.0 t).book))
               ∙ ap (λ (x : State). (went.steps ++ one.0) ++ flush_all x.book) (sym (after_both setup went.steps one.0 s));
           counted = let both : flush_count (went.steps ++ one.0) ≡ flush_count went.steps + flush_count one.0 = count_both went.steps one.0 in omega (arith, both, single, went.counted);
-          goes = goes_then tells seen may_leave moment had left_since setup went.steps one.0 old mid new s honest went.goes one.2;
+          goes = goes_then view setup went.steps one.0 old mid new s honest went.goes one.2;
         }
 
     abbrev Ends : {E : Type 0} → Result ℕ E → Type 0
@@ -119,13 +119,13 @@ module _ {D : Type 0} (extent : D → ℕ) (tells : D → Type 0) (seen : D → 
         let one = stepped setup t is went.goes.stands in
         let whole : went.steps ++ one.0 ≡ flush_all s.book = ap (λ (x : List Step). went.steps ++ x) (one.1.1 ∙ sym (flush_none t one.1.0)) ∙ sym went.left in
         let same : went.steps ≡ flush_all s.book = sym (append-nil went.steps) ∙ ap (λ (x : List Step). went.steps ++ x) (sym one.1.1) ∙ whole in
-        (went.steps ++ one.0, (whole, went.counted ∙ ap flush_count same), goes_then tells seen may_leave moment had left_since setup went.steps one.0 old mid new s honest went.goes one.2)
+        (went.steps ++ one.0, (whole, went.counted ∙ ap flush_count same), goes_then view setup went.steps one.0 old mid new s honest went.goes one.2)
 
     pub went_stopped : {E : Type 0} (e : E) → Stepped (Err e) mid new → Ends (Err e)
     went_stopped e stepped =
         let one = stepped setup t is went.goes.stands in
         let here : StopsIn (flush_all t.book) one.0 = subst (λ (x : List Step). StopsIn x one.0) (sym first_of) (stops_in_front (flush_first t.book) one.0 (flush_all (after_steps setup (flush_first t.book) t).book) one.1) in
-        (went.steps ++ one.0, subst (λ (x : List Step). StopsIn x (went.steps ++ one.0)) (sym went.left) (stops_behind went.steps (flush_all t.book) one.0 here), goes_then tells seen may_leave moment had left_since setup went.steps one.0 old mid new s honest went.goes one.2)
+        (went.steps ++ one.0, subst (λ (x : List Step). StopsIn x (went.steps ++ one.0)) (sym went.left) (stops_behind went.steps (flush_all t.book) one.0 here), goes_then view setup went.steps one.0 old mid new s honest went.goes one.2)
 
 -- ---- no buffer takes records
 

@@ -5,7 +5,7 @@ use Rattle.std.proofs.Math.Nat.{mul-le-mul_right}
 use Rattle.std.proofs.lemmas.List.{take-replicate}
 use Rattle.std.specs.List.{range_with_len}
 use Rattle.disk_model.specs.Bytes.{Apart, Torn}
-use Rattle.disk_model.specs.Disk.{Written, Images, Within, TornFrom, IsOnly, Advances}
+use Rattle.disk_model.specs.Disk.{Images, DiskView, IsDisk, Written, Within, TornFrom, IsOnly, Advances, meanwhile}
 use Rattle.disk_model.specs.Runs.{Leaves, leaves_then, leaves_more, leaves_now}
 use Rattle.block_format.specs.declared.geometry.Geometry.{Geometry}
 use Rattle.block_format.specs.Layout.{IsGeometry, IsClosed, gate_text, gate_sector, block_place, closed_sector, device_end, header_text}
@@ -52,33 +52,28 @@ formatted g (Err e) old new header is closed text write size = tt
 
 -- ---- formatting, as a crash may show it
 
-module _ {D : Type 0} (moment : D → ℕ) (had : D → ℕ → Type 0) (left_since : D → ℕ → Images) where
+module _ (old mid new : DiskView) (is : IsDisk mid) where
   -- a call that brings up no image
-  pub leaves_same : (P may_leave : Images) (old mid new : D) → ((t : ℕ) (c : List ℕ) → had mid t → may_leave c → left_since mid t c)
-      → Leaves moment had left_since P old mid → Advances (moment mid) (had mid) (had new) (left_since mid) (left_since new) → Within may_leave (left_since new (moment mid))
-      → Leaves moment had left_since P old new
-  leaves_same P may_leave old mid new since run time images =
-      leaves_then moment had left_since run (record { time = time; each = λ c left. leaves_now moment had left_since may_leave since run c (images c left) })
+  pub leaves_same : (P : Images) → Leaves P old mid → Advances mid new → Within mid.may_leave (meanwhile mid new) → Leaves P old new
+  leaves_same P run time images = leaves_then run (record { time = time; each = λ c left. leaves_now is run c (images c left) })
 
   -- a write behind the header
-  pub header_stays : (before may_leave : Images) (old mid new : D) (place n : ℕ) → 4096 ≤ place → ((t : ℕ) (c : List ℕ) → had mid t → may_leave c → left_since mid t c)
-      → Leaves moment had left_since (HasHeaderOf before) old mid → Advances (moment mid) (had mid) (had new) (left_since mid) (left_since new) → TornFrom place n may_leave (left_since new (moment mid))
-      → Leaves moment had left_since (HasHeaderOf before) old new
-  header_stays before may_leave old mid new place n behind since run time images =
-      leaves_then moment had left_since run (record {
+  pub header_stays : (before : Images) (place n : ℕ) → 4096 ≤ place → Leaves (HasHeaderOf before) old mid → Advances mid new → TornFrom place n mid.may_leave (meanwhile mid new) → Leaves (HasHeaderOf before) old new
+  header_stays before place n behind run time images =
+      leaves_then run (record {
         time = time;
         each = λ c left.
             let from = images c left in
-            let has = leaves_now moment had left_since may_leave since run from.0 from.1 in
+            let has = leaves_now is run from.0 from.1 in
             (has.0, has.1, from.2.apart 0 4096 (inl behind) ∙ has.2);
       })
 
   -- the header's own write, over closed gates
-  pub header_comes : (g : Geometry) (before may_leave : Images) (bytes : List ℕ) (old mid new : D) (n : ℕ) → n ≡ 4096 → AllClosed g bytes g.blocks → IsOnly bytes may_leave
-      → Leaves moment had left_since (HasHeaderOf before) old mid → Advances (moment mid) (had mid) (had new) (left_since mid) (left_since new) → TornFrom 0 n may_leave (left_since new (moment mid))
-      → Leaves moment had left_since (IsHalfFormatted g before) old new
-  header_comes g before may_leave bytes old mid new n size closed only run time images =
-      leaves_then moment had left_since (leaves_more moment had left_since (λ c has. inl has) run) (record {
+  pub header_comes : (g : Geometry) (before : Images) (bytes : List ℕ) (n : ℕ) → n ≡ 4096 → AllClosed g bytes g.blocks → IsOnly bytes mid.may_leave
+      → Leaves (HasHeaderOf before) old mid → Advances mid new → TornFrom 0 n mid.may_leave (meanwhile mid new)
+      → Leaves (IsHalfFormatted g before) old new
+  header_comes g before bytes n size closed only run time images =
+      leaves_then (leaves_more (λ c has. inl has) run) (record {
         time = time;
         each = λ c left.
             let from = images c left in

@@ -18,7 +18,7 @@ use Rattle.rec_format.specs.Device.{State}
 use Rattle.rec_format.specs.Events.{Event, get_call, found_version}
 use Rattle.rec_format.specs.Legal.{Allowed, Reads, ReadInstead, WhereReads}
 use Rattle.rec_format.proofs.Laws.{same_digest_is}
-use Rattle.disk_model.specs.Disk.{Images, IsHonest}
+use Rattle.disk_model.specs.Disk.{DiskView, IsDisk, IsHonest}
 use Rattle.expiry_rule.specs.Seen.{seen_entry, is_live_entry}
 use Rattle.block_format.specs.declared.geometry.Geometry.{Geometry}
 use Rattle.write_buffer.specs.Buffers.{BufferState}
@@ -34,7 +34,7 @@ use Rattle.shard_core.specs.Index.{held, live_of_entry}
 use Rattle.shard_core.specs.View.{ShardView, SameShape, setup_of}
 use Rattle.shard_core.specs.Stands.{Lists, Agrees}
 use Rattle.shard_core.specs.Calls.{Makes, read_answer}
-use Rattle.shard_core.proofs.Going.{HasNow, goes_none, safe_survives}
+use Rattle.shard_core.proofs.Going.{goes_none, safe_survives}
 use Rattle.shard_core.proofs.Making.{makes_by}
 
 -- ---- a disk that was only read
@@ -57,19 +57,19 @@ stands_over old disk s stands = record {
   live = λ d l v is there. let here = stands.live d l v is there in record { units = here.units; block = here.block; within = here.within; used = here.used; buffered = here.buffered };
 }
 
-module _ {D : Type 0} (extent : D → ℕ) (tells : D → Type 0) (seen : D → List ℕ) (may_leave : D → Images) (moment : D → ℕ) (had : D → ℕ → Type 0) (left_since : D → ℕ → Images) (faults : D → ℕ) where
-  pub goes_read : (setup : Setup) (old new : ShelfView D) (s : State) → SameBuffers old new → OnlyRead extent tells seen may_leave moment had left_since faults old.disk new.disk → HasNow may_leave moment had left_since new.disk
-      → StandsFor old s → Goes tells seen may_leave moment had left_since setup [] old s new
-  goes_read setup old new s same only now stands = subst (λ (v : ShelfView D). Goes tells seen may_leave moment had left_since setup [] old s v) (same_view old new same) (record {
+module _ {D : Type 0} (view : D → DiskView) where
+  pub goes_read : (setup : Setup) (old new : ShelfView D) (s : State) → SameBuffers old new → OnlyRead (view old.disk) (view new.disk) → IsDisk (view new.disk)
+      → StandsFor old s → Goes view setup [] old s new
+  goes_read setup old new s same only now stands = subst (λ (v : ShelfView D). Goes view setup [] old s v) (same_view old new same) (record {
     stands = stands_over old new.disk s stands;
     placed = λ honest placed. record { there = λ d l v is there none c left. placed.there d l v is there none c (within honest c left) };
     safe = λ honest safe. record { orderly = safe.orderly; images = λ c left. safe.images c (within honest c left) };
-    leaves = λ honest safe. record { time = only.time; each = λ c left. inl (safe_survives setup may_leave old s safe c (only.images honest c left)) };
+    leaves = λ honest safe. record { time = only.time; each = λ c left. inl (safe_survives setup view old s safe c (only.images honest c left)) };
   })
     where
       -- what may be left at the end might have been left before
-      within : IsHonest tells seen may_leave old.disk → (c : List ℕ) → may_leave new.disk c → may_leave old.disk c
-      within honest c left = only.images honest c (now.since (moment old.disk) c (only.time.stays (moment old.disk) only.time.started) left)
+      within : IsHonest (view old.disk) → (c : List ℕ) → (view new.disk).may_leave c → (view old.disk).may_leave c
+      within honest c left = only.images honest c (now.now_since (view old.disk).moment c (only.time.stays (view old.disk).moment only.time.started) left)
 
 -- ---- what is seen of an entry
 
@@ -133,28 +133,28 @@ shown (Err refusal) = Err refusal
 both_named : (e : Entry) (v w : Version) → Names e v → Names e w → ReadInstead v w
 both_named e v w first then = record { kind = sym then.kind ∙ first.kind; stamp = sym then.stamp ∙ first.stamp; void = sym then.void ∙ first.void; units = sym then.units ∙ first.units }
 
-module _ {D : Type 0} (extent : D → ℕ) (tells : D → Type 0) (seen : D → List ℕ) (may_leave : D → Images) (moment : D → ℕ) (had : D → ℕ → Type 0) (left_since : D → ℕ → Images) (faults : D → ℕ)
+module _ {D : Type 0} (view : D → DiskView)
     (old new : ShardView D) (s : State) (digest : Digest) (now : ℕ) (agrees : Agrees old s) where
-  pub makes_unseen : HasNow may_leave moment had left_since old.shelf.disk → seen_entry now (held digest old.index) ≡ None
-      → Makes tells seen may_leave moment had left_since faults (get_call digest now) (read_answer (Ok None)) old s old
+  pub makes_unseen : IsDisk (view old.shelf.disk) → seen_entry now (held digest old.index) ≡ None
+      → Makes view (get_call digest now) (read_answer (Ok None)) old s old
   makes_unseen has_now none =
       let nothing : device.seen s now digest ≡ None = seen_none (setup_of old) s now digest old.index agrees.index none in
       let may = λ (told : Bool). found told nothing in
-      makes_by tells seen may_leave moment had left_since faults old old s (get_call digest now) (found_version None) [] (record { geometry = refl; set = refl }) (le_refl (faults old.shelf.disk))
-      (goes_none tells seen may_leave moment had left_since (setup_of old) old.shelf s has_now agrees.shelf) (may false) (λ honest safe. may true) agrees.index agrees.queue
+      makes_by view old old s (get_call digest now) (found_version None) [] (record { geometry = refl; set = refl }) (le_refl (view old.shelf.disk).faults)
+      (goes_none view (setup_of old) old.shelf s has_now agrees.shelf) (may false) (λ honest safe. may true) agrees.index agrees.queue
     where
       found : (told : Bool) → device.seen s now digest ≡ None
-          → Allowed (setup_of old) told s (record { call = get_call digest now; answer = found_version None; steps = []; faults_before = faults old.shelf.disk; faults_after = faults old.shelf.disk }) (get_call digest now)
+          → Allowed (setup_of old) told s (record { call = get_call digest now; answer = found_version None; steps = []; faults_before = (view old.shelf.disk).faults; faults_after = (view old.shelf.disk).faults }) (get_call digest now)
       found told nothing = inl (None, refl, refl, subst (λ (o : Option Version). Reads told o None) (sym nothing) refl)
 
   module _ (e : Entry) (is : SeenIs s now digest old.index e) (result : Result Version ReadRefusal) (shape : SameShape old new) (same : SameBuffers old.shelf new.shelf) (index : new.index ≡ old.index)
-      (only : OnlyRead extent tells seen may_leave moment had left_since faults old.shelf.disk new.shelf.disk) (has_now : HasNow may_leave moment had left_since new.shelf.disk)
-      (names : IfOk result (Names e)) (cause : IfErr result (λ refusal. refusal ≡ read.Fault → Rose (faults old.shelf.disk) (faults new.shelf.disk)))
-      (written : IsHonest tells seen may_leave old.shelf.disk → IsPlaced may_leave old.shelf s → MatchResult result (λ v. v ≡ is.version) IsUndamaged) where
+      (only : OnlyRead (view old.shelf.disk) (view new.shelf.disk)) (has_now : IsDisk (view new.shelf.disk))
+      (names : IfOk result (Names e)) (cause : IfErr result (λ refusal. refusal ≡ read.Fault → Rose (view old.shelf.disk).faults (view new.shelf.disk).faults))
+      (written : IsHonest (view old.shelf.disk) → IsPlaced view old.shelf s → MatchResult result (λ v. v ≡ is.version) IsUndamaged) where
     abbrev event_of : Result (Option Version) ReadRefusal → Event
-    event_of answered = record { call = get_call digest now; answer = read_answer answered; steps = []; faults_before = faults old.shelf.disk; faults_after = faults new.shelf.disk }
+    event_of answered = record { call = get_call digest now; answer = read_answer answered; steps = []; faults_before = (view old.shelf.disk).faults; faults_after = (view new.shelf.disk).faults }
 
-    may_be : (told : Bool) (r : Result Version ReadRefusal) → IfOk r (Names e) → IfErr r (λ refusal. refusal ≡ read.Fault → Rose (faults old.shelf.disk) (faults new.shelf.disk))
+    may_be : (told : Bool) (r : Result Version ReadRefusal) → IfOk r (Names e) → IfErr r (λ refusal. refusal ≡ read.Fault → Rose (view old.shelf.disk).faults (view new.shelf.disk).faults)
         → (told ≡ true → MatchResult r (λ v. v ≡ is.version) IsUndamaged) → Allowed (setup_of old) told s (event_of (shown r)) (get_call digest now)
     may_be true (Ok v) named caused right = inl (Some v, refl, refl, subst (λ (o : Option Version). Reads true o (Some v)) (sym is.seen) (right refl))
     may_be false (Ok v) named caused right = inl (Some v, refl, refl, subst (λ (o : Option Version). Reads false o (Some v)) (sym is.seen) (both_named e is.version v is.names named))
@@ -163,10 +163,10 @@ module _ {D : Type 0} (extent : D → ℕ) (tells : D → Type 0) (seen : D → 
     may_be true (Err (read.Damaged kept found)) named caused right = absurd (right refl)
     may_be false (Err (read.Damaged kept found)) named caused right = inr (inr (subst (WhereReads false (event_of (Err (read.Damaged kept found)))) (sym is.seen) (inl (refl, refl, refl))))
 
-    pub makes_read : Makes tells seen may_leave moment had left_since faults (get_call digest now) (read_answer (shown result)) old s new
+    pub makes_read : Makes view (get_call digest now) (read_answer (shown result)) old s new
     makes_read =
-        makes_by tells seen may_leave moment had left_since faults old new s (get_call digest now) (read_answer (shown result)) [] shape only.later
-        (goes_read extent tells seen may_leave moment had left_since faults (setup_of old) old.shelf new.shelf s same only has_now agrees.shelf)
+        makes_by view old new s (get_call digest now) (read_answer (shown result)) [] shape only.later
+        (goes_read view (setup_of old) old.shelf new.shelf s same only has_now agrees.shelf)
         (may_be false result names cause (λ no. absurd (false≢true no))) (λ honest safe. may_be true result names cause (λ yes. written honest safe.placed))
         (subst (λ (entries : List Entry). Lists (setup_of old) entries s) (sym index) agrees.index) agrees.queue
 

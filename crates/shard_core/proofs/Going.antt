@@ -3,7 +3,7 @@ use Rattle.std.proofs.Common.{◌≡◌, ℕ, List, [], ◌∷◌, ◌++◌, ref
 use Rattle.rec_format.specs.Book.{Setup}
 use Rattle.rec_format.specs.Device.{State}
 use Rattle.rec_format.specs.Steps.{Step, after_step, after_steps, states_through}
-use Rattle.disk_model.specs.Disk.{Images, IsHonest}
+use Rattle.disk_model.specs.Disk.{Images, DiskView, IsDisk, IsHonest}
 use Rattle.disk_model.specs.Runs.{OneOf, leaves_none, leaves_then, leaves_more}
 use Rattle.block_format.specs.Recovery.{Survives}
 use Rattle.recovery_laws.proofs.Held.{held_survives}
@@ -31,37 +31,30 @@ one_behind : (setup : Setup) (P : State → Images) (first then : List Step) (s 
 one_behind setup P [] then s image there = there
 one_behind setup P (step ∷ first) then s image there = inr (one_behind setup P first then (after_step setup step s) image there)
 
--- a disk's laws on the images of its present moment
-pub record HasNow {D : Type 0} (may_leave : D → Images) (moment : D → ℕ) (had : D → ℕ → Type 0) (left_since : D → ℕ → Images) (disk : D) : Type 0 where
-  pub had_now : had disk (moment disk)
-  pub alone : (image : List ℕ) → left_since disk (moment disk) image → may_leave disk image
-  pub since : (t : ℕ) (image : List ℕ) → had disk t → may_leave disk image → left_since disk t image
-
 -- a safe shelf's images survive its state
-pub safe_survives : {D : Type 0} (setup : Setup) (may_leave : D → Images) (shelf : ShelfView D) (s : State) → IsSafe setup may_leave shelf s → (image : List ℕ) → may_leave shelf.disk image → Survives setup s image
-safe_survives setup may_leave shelf s safe image here = let held = safe.images image here in held_survives setup s image held.0 safe.orderly held.1
+pub safe_survives : {D : Type 0} (setup : Setup) (view : D → DiskView) (shelf : ShelfView D) (s : State) → IsSafe setup view shelf s → (image : List ℕ) → (view shelf.disk).may_leave image → Survives setup s image
+safe_survives setup view shelf s safe image here = let held = safe.images image here in held_survives setup s image held.0 safe.orderly held.1
 
-module _ {D : Type 0} (tells : D → Type 0) (seen : D → List ℕ) (may_leave : D → Images) (moment : D → ℕ) (had : D → ℕ → Type 0) (left_since : D → ℕ → Images) (setup : Setup) where
+module _ {D : Type 0} (view : D → DiskView) (setup : Setup) where
   -- no step
-  pub goes_none : (shelf : ShelfView D) (s : State) → HasNow may_leave moment had left_since shelf.disk → StandsFor shelf s → Goes tells seen may_leave moment had left_since setup [] shelf s shelf
+  pub goes_none : (shelf : ShelfView D) (s : State) → IsDisk (view shelf.disk) → StandsFor shelf s → Goes view setup [] shelf s shelf
   goes_none shelf s now stands = record {
     stands = stands;
     placed = λ honest placed. placed;
     safe = λ honest safe. safe;
-    leaves = λ honest safe. leaves_none moment had left_since (OneOf (Survives setup) (s ∷ [])) (may_leave shelf.disk) shelf.disk now.had_now now.alone now.since
-        (λ image here. inl (safe_survives setup may_leave shelf s safe image here));
+    leaves = λ honest safe. leaves_none (OneOf (Survives setup) (s ∷ [])) (view shelf.disk) now (λ image here. inl (safe_survives setup view shelf s safe image here));
   }
 
-  pub goes_then : (first then : List Step) (old mid new : ShelfView D) (s : State) → (IsHonest tells seen may_leave old.disk → IsHonest tells seen may_leave mid.disk)
-      → Goes tells seen may_leave moment had left_since setup first old s mid → Goes tells seen may_leave moment had left_since setup then mid (after_steps setup first s) new
-      → Goes tells seen may_leave moment had left_since setup (first ++ then) old s new
+  pub goes_then : (first then : List Step) (old mid new : ShelfView D) (s : State) → (IsHonest (view old.disk) → IsHonest (view mid.disk))
+      → Goes view setup first old s mid → Goes view setup then mid (after_steps setup first s) new
+      → Goes view setup (first ++ then) old s new
   goes_then first then old mid new s honest one two = record {
     stands = subst (λ (t : State). StandsFor new t) both two.stands;
-    placed = λ was placed. subst (λ (t : State). IsPlaced may_leave new t) both (two.placed (honest was) (one.placed was placed));
-    safe = λ was safe. subst (λ (t : State). IsSafe setup may_leave new t) both (two.safe (honest was) (one.safe was safe));
-    leaves = λ was safe. leaves_then moment had left_since
-        (leaves_more moment had left_since (one_before setup (Survives setup) first then s) (one.leaves was safe))
-        (leaves_more moment had left_since (one_behind setup (Survives setup) first then s) (two.leaves (honest was) (one.safe was safe)));
+    placed = λ was placed. subst (λ (t : State). IsPlaced view new t) both (two.placed (honest was) (one.placed was placed));
+    safe = λ was safe. subst (λ (t : State). IsSafe setup view new t) both (two.safe (honest was) (one.safe was safe));
+    leaves = λ was safe. leaves_then
+        (leaves_more (one_before setup (Survives setup) first then s) (one.leaves was safe))
+        (leaves_more (one_behind setup (Survives setup) first then s) (two.leaves (honest was) (one.safe was safe)));
   }
     where
       both : after_steps setup then (after_steps setup first s) ≡ after_steps setup (first ++ then) s

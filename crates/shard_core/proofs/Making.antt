@@ -12,7 +12,7 @@ use Rattle.rec_format.specs.Device.{State, Log, history_of, high_time}
 use Rattle.rec_format.specs.Steps.{Step, sealed_stream, gate_begun, flushed_buffer, after_step, after_steps}
 use Rattle.rec_format.specs.Events.{Event, Call, Answer, counted}
 use Rattle.rec_format.specs.Legal.{Allowed, FlushEnds, flush_of, flush_all, seal_if, seal_all}
-use Rattle.disk_model.specs.Disk.{Images, IsHonest}
+use Rattle.disk_model.specs.Disk.{DiskView, IsHonest}
 use Rattle.recovery_laws.proofs.Opening.{all_joined, all_parted}
 use Rattle.block_shelf.specs.View.{IsSetupOf}
 use Rattle.block_shelf.specs.Standing as shelf
@@ -112,15 +112,15 @@ setup_same old new shape = ap (λ (g : Geometry). setup_for g old.set) (sym shap
 
 -- ---- the event
 
-module _ {D : Type 0} (tells : D → Type 0) (seen : D → List ℕ) (may_leave : D → Images) (moment : D → ℕ) (had : D → ℕ → Type 0) (left_since : D → ℕ → Images) (faults : D → ℕ)
+module _ {D : Type 0} (view : D → DiskView)
     (old new : ShardView D) (s : State) (call : Call) (answer : Answer) (steps : List Step) where
   abbrev pub event_of : Event
-  event_of = record { call = call; answer = answer; steps = steps; faults_before = faults old.shelf.disk; faults_after = faults new.shelf.disk }
+  event_of = record { call = call; answer = answer; steps = steps; faults_before = (view old.shelf.disk).faults; faults_after = (view new.shelf.disk).faults }
 
-  pub makes_by : SameShape old new → faults old.shelf.disk ≤ faults new.shelf.disk → Goes tells seen may_leave moment had left_since (setup_of old) steps old.shelf s new.shelf
-      → Allowed (setup_of old) false s event_of call → (IsHonest tells seen may_leave old.shelf.disk → IsSafe may_leave old s → Allowed (setup_of old) true s event_of call)
+  pub makes_by : SameShape old new → (view old.shelf.disk).faults ≤ (view new.shelf.disk).faults → Goes view (setup_of old) steps old.shelf s new.shelf
+      → Allowed (setup_of old) false s event_of call → (IsHonest (view old.shelf.disk) → IsSafe view old s → Allowed (setup_of old) true s event_of call)
       → Lists (setup_of old) new.index (after_steps (setup_of old) steps s) → (after_steps (setup_of old) steps s).book.queue ≡ []
-      → Makes tells seen may_leave moment had left_since faults call answer old s new
+      → Makes view call answer old s new
   makes_by shape up goes allowed allowed_told lists queue = record {
     event = event_of;
     is_call = refl;
@@ -130,7 +130,7 @@ module _ {D : Type 0} (tells : D → Type 0) (seen : D → List ℕ) (may_leave 
     counted = refl;
     stands = record { index = subst (λ (x : Setup). Lists x new.index (after_steps (setup_of old) steps s)) same lists; shelf = goes.stands; queue = queue };
     placed = goes.placed;
-    safe = λ honest safe. record { placed = goes.placed honest safe.placed; safe = subst (λ (x : Setup). shelf.IsSafe x may_leave new.shelf (after_steps (setup_of old) steps s)) same (goes.safe honest safe.safe) };
+    safe = λ honest safe. record { placed = goes.placed honest safe.placed; safe = subst (λ (x : Setup). shelf.IsSafe x view new.shelf (after_steps (setup_of old) steps s)) same (goes.safe honest safe.safe) };
     leaves = λ honest safe. goes.leaves honest safe.safe;
   }
     where
@@ -140,19 +140,19 @@ module _ {D : Type 0} (tells : D → Type 0) (seen : D → List ℕ) (may_leave 
 -- ---- a flush
 
 -- what sealing and flushing make of a shard, with an event that ends so
-module _ {D : Type 0} (tells : D → Type 0) (seen : D → List ℕ) (may_leave : D → Images) (moment : D → ℕ) (had : D → ℕ → Type 0) (left_since : D → ℕ → Images) (faults : D → ℕ)
-    (old new : ShardView D) (s : State) (agrees : Agrees old s) (shape : SameShape old new) (index : new.index ≡ old.index) (up : faults old.shelf.disk ≤ faults new.shelf.disk) where
+module _ {D : Type 0} (view : D → DiskView)
+    (old new : ShardView D) (s : State) (agrees : Agrees old s) (shape : SameShape old new) (index : new.index ≡ old.index) (up : (view old.shelf.disk).faults ≤ (view new.shelf.disk).faults) where
   pub makes_flush : {E : Type 0} (result : Result ℕ E) (call : Call) (first steps : List Step) → AllByRecursion IsFlushing first
-      → let rest = flush_all (after_steps (setup_of old) first s).book in FlushesAll result rest steps → OnErr result (Rose (faults old.shelf.disk) (faults new.shelf.disk))
+      → let rest = flush_all (after_steps (setup_of old) first s).book in FlushesAll result rest steps → OnErr result (Rose (view old.shelf.disk).faults (view new.shelf.disk).faults)
       → ((event : Event) (told : Bool) → FlushEnds event first rest → Allowed (setup_of old) told s event call)
-      → Goes tells seen may_leave moment had left_since (setup_of old) (first ++ steps) old.shelf s new.shelf
-      → Makes tells seen may_leave moment had left_since faults call (flush_answer result) old s new
+      → Goes view (setup_of old) (first ++ steps) old.shelf s new.shelf
+      → Makes view call (flush_answer result) old s new
   makes_flush result call first steps first_flushing flushes rose allowed goes =
       let all : AllByRecursion IsFlushing (first ++ steps) = all_joined IsFlushing first steps first_flushing (flushes_flushing result (after_steps (setup_of old) first s).book steps flushes) in
       let stays = steps_stay (setup_of old) refl (first ++ steps) s all in
-      let may = λ (told : Bool). allowed (record { call = call; answer = flush_answer result; steps = first ++ steps; faults_before = faults old.shelf.disk; faults_after = faults new.shelf.disk }) told
-      (flush_ends result call (faults old.shelf.disk) (faults new.shelf.disk) first (flush_all (after_steps (setup_of old) first s).book) steps flushes rose) in
-      makes_by tells seen may_leave moment had left_since faults old new s call (flush_answer result) (first ++ steps) shape up goes
+      let may = λ (told : Bool). allowed (record { call = call; answer = flush_answer result; steps = first ++ steps; faults_before = (view old.shelf.disk).faults; faults_after = (view new.shelf.disk).faults }) told
+      (flush_ends result call (view old.shelf.disk).faults (view new.shelf.disk).faults first (flush_all (after_steps (setup_of old) first s).book) steps flushes rose) in
+      makes_by view old new s call (flush_answer result) (first ++ steps) shape up goes
       (may false) (λ honest safe. may true)
       (subst (λ (entries : List Entry). Lists (setup_of old) entries (after_steps (setup_of old) (first ++ steps) s)) (sym index) (lists_stay (setup_of old) old.index s (after_steps (setup_of old) (first ++ steps) s) stays agrees.index))
       (stays.queue agrees.queue)

@@ -18,7 +18,7 @@ use Rattle.rec_format.specs.Steps.{Step, wrote, sealed_stream, after_step, after
 use Rattle.rec_format.specs.Events.{Event, Call, Answer, put_call, stamp_given, refused, Cause, too_big, spent, disk_fault}
 use Rattle.rec_format.specs.Legal.{Allowed, Unless, WriteEnds, NoMemory, the_stamp, new_put, put_refusal, put_reserve, no_write, no_place, first_cause, flush_between, flush_all, flush_count, StopsIn}
 use Rattle.rec_format.proofs.Laws.{wanted_later, later_than_all, same_digest_is}
-use Rattle.disk_model.specs.Disk.{Images, IsHonest}
+use Rattle.disk_model.specs.Disk.{DiskView, IsDisk, IsHonest}
 use Rattle.disk_model.specs.Runs.{OneOf, Leaves, leaves_none}
 use Rattle.block_format.specs.Recovery.{Survives}
 use Rattle.recovery_laws.specs.Orderly.{AreWrites, IsFalling, IsOrderly}
@@ -43,7 +43,7 @@ use Rattle.shard_core.specs.View.{ShardView, IsWhole, IsEntryOf, SameShape, setu
 use Rattle.shard_core.specs.Stands.{Lists, Agrees}
 use Rattle.shard_core.specs.Calls.{Makes, FlushesAll, cause_of_write, write_of, write_answer}
 use Rattle.shard_core.specs.Putting.{given_stamp, IsNewPut, IsUngiven, Wrote, IsUnwritten, Commits}
-use Rattle.shard_core.proofs.Going.{HasNow, goes_none, goes_then, safe_survives}
+use Rattle.shard_core.proofs.Going.{goes_none, goes_then, safe_survives}
 use Rattle.shard_core.proofs.Making.{Stays, IsFlushing, flushes_flushing, steps_stay, lists_stay, setup_is, makes_by}
 use Rattle.shard_core.proofs.FlushSteps.{StandRight}
 use Rattle.shard_core.proofs.FlushLoop.{stand_right}
@@ -164,17 +164,17 @@ abbrev pub copied : Digest → Version → Place → Entry
 copied digest v place = record { digest = digest; stamp = v.stamp; void = v.void; kind = v.kind; cover = v.cover; mark = 0; block = place.block; unit = place.unit; units = place.units }
 
 -- what the shelf says of a copy that was appended
-abbrev pub Appended : {D : Type 0} → (may_leave : D → Images) → Digest → Version → Result Place PutRefusal → (old new : ShelfView D) → Type 0
-Appended may_leave digest v result old new = (setup : Setup) (s : State) → IsSetupOf setup old → shelf.StandsFor old s → MatchResult result
+abbrev pub Appended : {D : Type 0} → (view : D → DiskView) → Digest → Version → Result Place PutRefusal → (old new : ShelfView D) → Type 0
+Appended view digest v result old new = (setup : Setup) (s : State) → IsSetupOf setup old → shelf.StandsFor old s → MatchResult result
     (λ place. (append_refusal setup class.Put (version_units v) s.book ≡ None)
     × (live_of digest (after_step setup (wrote digest v) s).book.live ≡ Some (live_at digest place))
     × shelf.StandsFor new (after_step setup (wrote digest v) s)
-    × (shelf.IsPlaced may_leave old s → shelf.IsPlaced may_leave new (after_step setup (wrote digest v) s))
-    × (MayFollow setup s digest v → shelf.IsSafe setup may_leave old s → shelf.IsSafe setup may_leave new (after_step setup (wrote digest v) s)))
+    × (shelf.IsPlaced view old s → shelf.IsPlaced view new (after_step setup (wrote digest v) s))
+    × (MayFollow setup s digest v → shelf.IsSafe setup view old s → shelf.IsSafe setup view new (after_step setup (wrote digest v) s)))
     (λ refusal. IsPutRefusal refusal (append_refusal setup class.Put (version_units v) s.book))
 
-module _ {D : Type 0} (extent : D → ℕ) (tells : D → Type 0) (seen : D → List ℕ) (may_leave : D → Images) (digest : Digest) (v : Version) (place : Place) (old new : ShelfView D)
-    (kept : IsShelf extent tells seen may_leave old) (appended : Appended may_leave digest v (Ok place) old new) (lies : IsPlaceFor old.geometry (version_units v) place) (geometry : new.geometry ≡ old.geometry) where
+module _ {D : Type 0} (view : D → DiskView) (digest : Digest) (v : Version) (place : Place) (old new : ShelfView D)
+    (kept : IsShelf view old) (appended : Appended view digest v (Ok place) old new) (lies : IsPlaceFor old.geometry (version_units v) place) (geometry : new.geometry ≡ old.geometry) where
   -- the entry of it is one of the device
   pub copied_is_entry : IsDigest digest → device_number old.geometry.devices digest ≡ old.geometry.device → IsVersion v → IsEntryOf new.geometry (copied digest v place)
   copied_is_entry named own version = subst (λ (g : Geometry). IsEntryOf g (copied digest v place)) (sym geometry) (record {
@@ -195,7 +195,7 @@ module _ {D : Type 0} (extent : D → ℕ) (tells : D → Type 0) (seen : D → 
       all_map (λ e. Contains (copied digest v place ∷ before) e) (IsEntryOf new.geometry) after (λ e there. all_at (IsEntryOf new.geometry) (copied digest v place ∷ before) e both there) holds.each
 
   pub wrote_by : (shard : ShardView D) (s : State) (index : List Entry) → shard.shelf ≡ old → IsWhole shard → Agrees shard s → Holds (copied digest v place) shard.index index
-      → Wrote may_leave shard s digest v place.block (record { shelf = new; set = shard.set; index = index })
+      → Wrote view shard s digest v place.block (record { shelf = new; set = shard.set; index = index })
   wrote_by shard s index same whole agrees holds =
       let setup : Setup = setup_of shard in
       let all = appended setup s (subst (IsSetupOf setup) same (setup_is shard whole)) (subst (λ (x : ShelfView D). shelf.StandsFor x s) same agrees.shelf) in
@@ -206,8 +206,8 @@ module _ {D : Type 0} (extent : D → ℕ) (tells : D → Type 0) (seen : D → 
         allowed = all.0;
         lists = lists_wrote setup s digest v shard.index index (copied digest v place) agrees.index holds refl (record { kind = refl; stamp = refl; void = refl; units = lies.0 }) refl all.1;
         stands = all.2;
-        placed = λ placed. all.3 (subst (λ (x : ShelfView D). shelf.IsPlaced may_leave x s) same placed);
-        safe = λ may safe. all.4 may (subst (λ (x : ShelfView D). shelf.IsSafe setup may_leave x s) same safe);
+        placed = λ placed. all.3 (subst (λ (x : ShelfView D). shelf.IsPlaced view x s) same placed);
+        safe = λ may safe. all.4 may (subst (λ (x : ShelfView D). shelf.IsSafe setup view x s) same safe);
         buffer = filled.buffer;
         filling = filled.found;
         there = filled.block ∙ live_block lives;
@@ -250,7 +250,7 @@ module _ {D : Type 0} (old : ShardView D) (s : State) (digest : Digest) (payload
       ∙ ap (λ (b : Bool). first_cause (cond b (Some (too_big (units_for (length payload)) (setup_of old).capacity)) None) (no_write (setup_of old) put_reserve (units_for (length payload)) (given_stamp old digest now) s))
       (lt-ltb (setup_of old).capacity (units_for (length payload)) (subst (λ (n : ℕ). n < units_for (length payload)) is.1 (subst (λ (n : ℕ). capacity < n) is.0 is.2)))
       ∙ ap (λ (n : ℕ). Some (too_big n (setup_of old).capacity)) (sym is.0) ∙ ap (λ (n : ℕ). Some (too_big units n)) (sym is.1))
-  refused_by (write_refusals.Gen seen) is = absurd is
+  refused_by (write_refusals.Gen view) is = absurd is
   refused_by write_refusals.Spent is = inr (refusal_is ∙ ap refusal_of is.1
       ∙ ap (λ (b : Bool). first_cause (cond b (Some (too_big (units_for (length payload)) (setup_of old).capacity)) None) (Some spent)) (le-ltb (setup_of old).capacity (units_for (length payload)) is.0))
   refused_by (write_refusals.Load pending) is = absurd is
@@ -304,28 +304,28 @@ refused_write old s digest payload now agrees v is refusal why =
 
 -- ---- the event
 
-module _ {D : Type 0} (tells : D → Type 0) (seen : D → List ℕ) (may_leave : D → Images) (moment : D → ℕ) (had : D → ℕ → Type 0) (left_since : D → ℕ → Images) (faults : D → ℕ)
-    (old : ShardView D) (s : State) (digest : Digest) (payload : List ℕ) (now : ℕ) (agrees : Agrees old s) (has_now : HasNow may_leave moment had left_since old.shelf.disk) where
+module _ {D : Type 0} (view : D → DiskView)
+    (old : ShardView D) (s : State) (digest : Digest) (payload : List ℕ) (now : ℕ) (agrees : Agrees old s) (has_now : IsDisk (view old.shelf.disk)) where
   abbrev call : Call
   call = put_call digest 0 None payload now
 
   abbrev MakesPut : Answer → ShardView D → Type 0
-  MakesPut answer new = Makes tells seen may_leave moment had left_since faults call answer old s new
+  MakesPut answer new = Makes view call answer old s new
 
   abbrev refused_event : WriteRefusal → Event
-  refused_event refusal = record { call = call; answer = refused (cause_of_write refusal); steps = []; faults_before = faults old.shelf.disk; faults_after = faults old.shelf.disk }
+  refused_event refusal = record { call = call; answer = refused (cause_of_write refusal); steps = []; faults_before = (view old.shelf.disk).faults; faults_after = (view old.shelf.disk).faults }
 
   pub makes_refused : (refusal : WriteRefusal) → (refusal ≡ write_refusals.Memory) ⊎ (put_refusal (setup_of old) s digest None payload now ≡ Some (cause_of_write refusal)) → MakesPut (write_answer (Err refusal)) old
   makes_refused refusal why =
       let may = λ (told : Bool). allowed told why in
-      makes_by tells seen may_leave moment had left_since faults old old s call (refused (cause_of_write refusal)) [] (record { geometry = refl; set = refl }) (le_refl (faults old.shelf.disk))
-      (goes_none tells seen may_leave moment had left_since (setup_of old) old.shelf s has_now agrees.shelf) (may false) (λ honest safe. may true) agrees.index agrees.queue
+      makes_by view old old s call (refused (cause_of_write refusal)) [] (record { geometry = refl; set = refl }) (le_refl (view old.shelf.disk).faults)
+      (goes_none view (setup_of old) old.shelf s has_now agrees.shelf) (may false) (λ honest safe. may true) agrees.index agrees.queue
     where
       allowed : (told : Bool) → (refusal ≡ write_refusals.Memory) ⊎ (put_refusal (setup_of old) s digest None payload now ≡ Some (cause_of_write refusal)) → Allowed (setup_of old) told s (refused_event refusal) call
       allowed told (inl memory) = inl (ap (λ (r : WriteRefusal). refused (cause_of_write r)) memory, refl)
       allowed told (inr cause) = inr (subst (λ (o : Option Cause). Unless (refused_event refusal) o (let w = new_put (setup_of old) s digest 0 payload now in WriteEnds (setup_of old) s (refused_event refusal) digest w (stamp_given w.stamp))) (sym cause) (refl, refl))
 
-  module _ (v : Version) (is : IsNewPut old digest payload now v) (block : ℕ) (mid : ShardView D) (wrote_it : Wrote may_leave old s digest v block mid) (disk : mid.shelf.disk ≡ old.shelf.disk)
+  module _ (v : Version) (is : IsNewPut old digest payload now v) (block : ℕ) (mid : ShardView D) (wrote_it : Wrote view old s digest v block mid) (disk : mid.shelf.disk ≡ old.shelf.disk)
       (own : device_number old.shelf.geometry.devices digest ≡ old.shelf.geometry.device) where
     abbrev written_state : State
     written_state = after_step (setup_of old) (wrote digest v) s
@@ -333,14 +333,13 @@ module _ {D : Type 0} (tells : D → Type 0) (seen : D → List ℕ) (may_leave 
     abbrev number : ℕ
     number = placing_number (setup_of old) client (version_units v) s.book
 
-    goes_wrote : Goes tells seen may_leave moment had left_since (setup_of old) (wrote digest v ∷ []) old.shelf s mid.shelf
+    goes_wrote : Goes view (setup_of old) (wrote digest v ∷ []) old.shelf s mid.shelf
     goes_wrote = record {
       stands = wrote_it.stands;
       placed = λ honest placed. wrote_it.placed placed;
       safe = λ honest safe. wrote_it.safe (may_follow old s digest payload now agrees v is own safe.orderly) safe;
-      leaves = λ honest safe. subst (λ (d : D). Leaves moment had left_since (OneOf (Survives (setup_of old)) (s ∷ written_state ∷ [])) old.shelf.disk d) (sym disk)
-          (leaves_none moment had left_since (OneOf (Survives (setup_of old)) (s ∷ written_state ∷ [])) (may_leave old.shelf.disk) old.shelf.disk has_now.had_now has_now.alone has_now.since
-          (λ image here. inl (safe_survives (setup_of old) may_leave old.shelf s safe image here)));
+      leaves = λ honest safe. subst (λ (d : D). Leaves (OneOf (Survives (setup_of old)) (s ∷ written_state ∷ [])) (view old.shelf.disk) (view d)) (sym disk)
+          (leaves_none (OneOf (Survives (setup_of old)) (s ∷ written_state ∷ [])) (view old.shelf.disk) has_now (λ image here. inl (safe_survives (setup_of old) view old.shelf s safe image here)));
     }
 
     -- what may follow, by how the write ends
@@ -360,21 +359,21 @@ module _ {D : Type 0} (tells : D → Type 0) (seen : D → List ℕ) (may_leave 
 
     pub makes_waiting : old.set.commit ≡ false → SameShape old mid → MakesPut (write_answer (Ok v.stamp)) mid
     makes_waiting off shape =
-        let event : Event = record { call = call; answer = stamp_given v.stamp; steps = wrote digest v ∷ []; faults_before = faults old.shelf.disk; faults_after = faults mid.shelf.disk } in
+        let event : Event = record { call = call; answer = stamp_given v.stamp; steps = wrote digest v ∷ []; faults_before = (view old.shelf.disk).faults; faults_after = (view mid.shelf.disk).faults } in
         let steps : wrote digest v ∷ [] ≡ first_if (setup_of old).commit ++ rest_if (setup_of old).commit = ap (λ (on : Bool). first_if on ++ rest_if on) (sym off) in
         let may = λ (told : Bool). allowed_by told event (inl (refl, steps)) in
-        makes_by tells seen may_leave moment had left_since faults old mid s call (stamp_given v.stamp) (wrote digest v ∷ []) shape (subst (λ (d : D). faults old.shelf.disk ≤ faults d) (sym disk) (le_refl (faults old.shelf.disk)))
+        makes_by view old mid s call (stamp_given v.stamp) (wrote digest v ∷ []) shape (subst (λ (d : D). (view old.shelf.disk).faults ≤ (view d).faults) (sym disk) (le_refl (view old.shelf.disk).faults))
         goes_wrote (may false) (λ honest safe. may true) wrote_it.lists (wrote_queue (setup_of old) s digest v refl)
 
-    module _ (on : old.set.commit ≡ true) (new : ShardView D) (shape : SameShape old new) (index : new.index ≡ mid.index) (up : faults old.shelf.disk ≤ faults new.shelf.disk) (r : Result (Unit {0}) WriteRefusal) (steps : List Step)
+    module _ (on : old.set.commit ≡ true) (new : ShardView D) (shape : SameShape old new) (index : new.index ≡ mid.index) (up : (view old.shelf.disk).faults ≤ (view new.shelf.disk).faults) (r : Result (Unit {0}) WriteRefusal) (steps : List Step)
         (commits : Commits r (flush_all (after_step (setup_of old) (sealed_stream client) written_state).book) steps)
-        (goes : Goes tells seen may_leave moment had left_since (setup_of old) (sealed_stream client ∷ steps) mid.shelf written_state new.shelf) where
+        (goes : Goes view (setup_of old) (sealed_stream client ∷ steps) mid.shelf written_state new.shelf) where
       abbrev all_steps : List Step
       all_steps = wrote digest v ∷ sealed_stream client ∷ steps
 
-      goes_all : Goes tells seen may_leave moment had left_since (setup_of old) all_steps old.shelf s new.shelf
-      goes_all = goes_then tells seen may_leave moment had left_since (setup_of old) (wrote digest v ∷ []) (sealed_stream client ∷ steps) old.shelf mid.shelf new.shelf s
-          (λ honest. subst (λ (d : D). IsHonest tells seen may_leave d) (sym disk) honest) goes_wrote goes
+      goes_all : Goes view (setup_of old) all_steps old.shelf s new.shelf
+      goes_all = goes_then view (setup_of old) (wrote digest v ∷ []) (sealed_stream client ∷ steps) old.shelf mid.shelf new.shelf s
+          (λ honest. subst (λ (d : D). IsHonest (view d)) (sym disk) honest) goes_wrote goes
 
       stays : Stays written_state (after_steps (setup_of old) (sealed_stream client ∷ steps) written_state)
       stays = steps_stay (setup_of old) refl (sealed_stream client ∷ steps) written_state (tt, commits_flushing r (after_step (setup_of old) (sealed_stream client) written_state).book steps commits)
@@ -393,12 +392,12 @@ module _ {D : Type 0} (tells : D → Type 0) (seen : D → List ℕ) (may_leave 
       rests = ap rest_if (sym on)
 
       abbrev event_of : Answer → Event
-      event_of answer = record { call = call; answer = answer; steps = all_steps; faults_before = faults old.shelf.disk; faults_after = faults new.shelf.disk }
+      event_of answer = record { call = call; answer = answer; steps = all_steps; faults_before = (view old.shelf.disk).faults; faults_after = (view new.shelf.disk).faults }
 
       pub makes_ended : (answer : Answer) → WriteEnds (setup_of old) s (event_of answer) digest v (stamp_given v.stamp) → MakesPut answer new
       makes_ended answer ends =
           let may = λ (told : Bool). allowed_by told (event_of answer) ends in
-          makes_by tells seen may_leave moment had left_since faults old new s call answer all_steps shape up goes_all (may false) (λ honest safe. may true) lists
+          makes_by view old new s call answer all_steps shape up goes_all (may false) (λ honest safe. may true) lists
           (stays.queue (wrote_queue (setup_of old) s digest v refl))
 
       pub ends_done : steps ≡ flush_all (after_step (setup_of old) (sealed_stream client) written_state).book → MakesPut (write_answer (Ok v.stamp)) new
@@ -407,7 +406,7 @@ module _ {D : Type 0} (tells : D → Type 0) (seen : D → List ℕ) (may_leave 
         ap (λ (x : List Step). wrote digest v ∷ sealed_stream client ∷ x) (done ∙ whole) ∙ ap (λ (b : Bool). first_if b ++ rest_if b) (sym on),
       ))
 
-      pub ends_faulted : StopsIn (flush_all (after_step (setup_of old) (sealed_stream client) written_state).book) steps → Rose (faults old.shelf.disk) (faults new.shelf.disk) → MakesPut (write_answer (Err write_refusals.Fault)) new
+      pub ends_faulted : StopsIn (flush_all (after_step (setup_of old) (sealed_stream client) written_state).book) steps → Rose (view old.shelf.disk).faults (view new.shelf.disk).faults → MakesPut (write_answer (Err write_refusals.Fault)) new
       ends_faulted stops rose = makes_ended (refused disk_fault) (inr (
         refl,
         rose,

@@ -4,7 +4,7 @@ use Rattle.std.specs.Prelude.{Option, Some, None, IfSome, MatchOption, Contains,
 use Rattle.std.specs.List.{AllByRecursion, range_with_len}
 use Rattle.std.proofs.lemmas.Option.{slice_get_within}
 use Rattle.std.proofs.Math.Seq.{take-length}
-use Rattle.disk_model.specs.Disk.{Images, IsOnly}
+use Rattle.disk_model.specs.Disk.{DiskView, IsOnly}
 use Rattle.rec_format.specs.declared.version.Digest.{Digest}
 use Rattle.rec_format.specs.declared.version.Version.{Version}
 use Rattle.rec_format.specs.declared.entry.Entry.{Entry}
@@ -113,8 +113,8 @@ module _ {D : Type 0} (disk : D) (g : Geometry) (gates : List Gate) (set : Setti
     }
 
     -- over a disk with one image the copies are where they were found
-    pub shelf_placed : (may_leave : D → Images) (bytes : List ℕ) → HasBodies g bytes (range_with_len 0 g.blocks) bodies → IsOnly bytes (may_leave disk) → IsPlaced may_leave shelf s
-    shelf_placed may_leave bytes has only = record {
+    pub shelf_placed : (view : D → DiskView) (bytes : List ℕ) → HasBodies g bytes (range_with_len 0 g.blocks) bodies → IsOnly bytes (view disk).may_leave → IsPlaced view shelf s
+    shelf_placed view bytes has only = record {
       there = λ d l v live version none image left.
           let copy = shown_copy bodies finding.index.entries look s shows d l v live version in
           let c = copy.0 in

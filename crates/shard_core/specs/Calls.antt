@@ -6,7 +6,7 @@ use Rattle.rec_format.specs.Device.{State}
 use Rattle.rec_format.specs.Steps.{Step, states_through}
 use Rattle.rec_format.specs.Events.{Event, Call, Answer, stamp_given, found_version, counted, refused, Cause, too_big, wrong_generation, spent, overload, no_space, damaged, no_memory, disk_fault, after_event}
 use Rattle.rec_format.specs.Legal.{Follows, flush_count, StopsIn}
-use Rattle.disk_model.specs.Disk.{Images, IsHonest}
+use Rattle.disk_model.specs.Disk.{DiskView, IsHonest}
 use Rattle.disk_model.specs.Runs.{OneOf, Leaves}
 use Rattle.block_format.specs.Recovery.{Survives}
 use Rattle.block_shelf.specs.declared.refusals.PutRefusal.{PutRefusal}
@@ -57,22 +57,22 @@ flush_answer (Err fault) = refused disk_fault
 -- From a state for which the shard stood, one event of this call with this answer may follow, and the shard stands for the state
 -- after it. Over an honest disk that was safe the event may follow as one over a disk that tells what it holds, the shard is safe
 -- then, and each image that a crash meanwhile might have left survives the state before, or one after some of the event's steps.
-pub record Makes {D : Type 0} (tells : D → Type 0) (seen : D → List ℕ) (may_leave : D → Images) (moment : D → ℕ) (had : D → ℕ → Type 0) (left_since : D → ℕ → Images) (faults : D → ℕ) (call : Call) (answer : Answer) (old : ShardView D) (s : State) (new : ShardView D) : Type 0 where
+pub record Makes {D : Type 0} (view : D → DiskView) (call : Call) (answer : Answer) (old : ShardView D) (s : State) (new : ShardView D) : Type 0 where
   pub event : Event
   pub is_call : event.call ≡ call
   pub is_answer : event.answer ≡ answer
-  pub follows : Follows (setup_of old) false s (faults old.shelf.disk) event
-  pub told : IsHonest tells seen may_leave old.shelf.disk → IsSafe may_leave old s → Follows (setup_of old) true s (faults old.shelf.disk) event
-  pub counted : event.faults_after ≡ faults new.shelf.disk
+  pub follows : Follows (setup_of old) false s (view old.shelf.disk).faults event
+  pub told : IsHonest (view old.shelf.disk) → IsSafe view old s → Follows (setup_of old) true s (view old.shelf.disk).faults event
+  pub counted : event.faults_after ≡ (view new.shelf.disk).faults
   pub stands : Agrees new (after_event (setup_of old) event s)
-  pub placed : IsHonest tells seen may_leave old.shelf.disk → IsPlaced may_leave old.shelf s → IsPlaced may_leave new.shelf (after_event (setup_of old) event s)
-  pub safe : IsHonest tells seen may_leave old.shelf.disk → IsSafe may_leave old s → IsSafe may_leave new (after_event (setup_of old) event s)
-  pub leaves : IsHonest tells seen may_leave old.shelf.disk → IsSafe may_leave old s
-      → Leaves moment had left_since (OneOf (Survives (setup_of old)) (states_through (setup_of old) event.steps s)) old.shelf.disk new.shelf.disk
+  pub placed : IsHonest (view old.shelf.disk) → IsPlaced view old.shelf s → IsPlaced view new.shelf (after_event (setup_of old) event s)
+  pub safe : IsHonest (view old.shelf.disk) → IsSafe view old s → IsSafe view new (after_event (setup_of old) event s)
+  pub leaves : IsHonest (view old.shelf.disk) → IsSafe view old s
+      → Leaves (OneOf (Survives (setup_of old)) (states_through (setup_of old) event.steps s)) (view old.shelf.disk) (view new.shelf.disk)
 
 -- so it does, whatever the answer
-abbrev pub MakesAny : {D : Type 0} → (tells : D → Type 0) → (seen : D → List ℕ) → (may_leave : D → Images) → (moment : D → ℕ) → (had : D → ℕ → Type 0) → (left_since : D → ℕ → Images) → (faults : D → ℕ) → Call → (old : ShardView D) → State → (new : ShardView D) → Type 0
-MakesAny tells seen may_leave moment had left_since faults call old s new = (answer : Answer) × Makes tells seen may_leave moment had left_since faults call answer old s new
+abbrev pub MakesAny : {D : Type 0} → (view : D → DiskView) → Call → (old : ShardView D) → State → (new : ShardView D) → Type 0
+MakesAny view call old s new = (answer : Answer) × Makes view call answer old s new
 
 -- The steps of flushing all sealed buffers, and how many those are; or, where the disk failed, some of the steps.
 abbrev pub FlushesAll : {E : Type 0} → Result ℕ E → (whole steps : List Step) → Type 0

@@ -10,7 +10,7 @@ use Rattle.rec_format.specs.Device.{State}
 use Rattle.rec_format.specs.Steps.{Step, wrote, sealed_stream, after_step}
 use Rattle.rec_format.specs.Events.{Cause}
 use Rattle.rec_format.specs.Legal.{flush_between, flush_all, StopsIn}
-use Rattle.disk_model.specs.Disk.{Images}
+use Rattle.disk_model.specs.Disk.{DiskView}
 use Rattle.recovery_laws.specs.Writes.{MayFollow}
 use Rattle.block_shelf.specs.declared.place.Class.TheVariants as class
 use Rattle.block_shelf.specs.declared.refusals.PutRefusal.{PutRefusal}
@@ -50,12 +50,12 @@ IsUngiven shard digest payload now write.Fault = ⊥
 
 -- A version was written, and its buffer, which is filled now, has this block: the index and the shelf stand for the state after
 -- it, and where the buffer is sealed next, the buffers up to it are all that there are.
-pub record Wrote {D : Type 0} (may_leave : D → Images) (old : ShardView D) (s : State) (digest : Digest) (v : Version) (block : ℕ) (new : ShardView D) : Type 0 where
+pub record Wrote {D : Type 0} (view : D → DiskView) (old : ShardView D) (s : State) (digest : Digest) (v : Version) (block : ℕ) (new : ShardView D) : Type 0 where
   pub allowed : append_refusal (setup_of old) class.Put (version_units v) s.book ≡ None
   pub lists : Lists (setup_of old) new.index (after_step (setup_of old) (wrote digest v) s)
   pub stands : shelf.StandsFor new.shelf (after_step (setup_of old) (wrote digest v) s)
-  pub placed : shelf.IsPlaced may_leave old.shelf s → shelf.IsPlaced may_leave new.shelf (after_step (setup_of old) (wrote digest v) s)
-  pub safe : MayFollow (setup_of old) s digest v → shelf.IsSafe (setup_of old) may_leave old.shelf s → shelf.IsSafe (setup_of old) may_leave new.shelf (after_step (setup_of old) (wrote digest v) s)
+  pub placed : shelf.IsPlaced view old.shelf s → shelf.IsPlaced view new.shelf (after_step (setup_of old) (wrote digest v) s)
+  pub safe : MayFollow (setup_of old) s digest v → shelf.IsSafe (setup_of old) view old.shelf s → shelf.IsSafe (setup_of old) view new.shelf (after_step (setup_of old) (wrote digest v) s)
   pub buffer : Buffer
   pub filling : filling_buffer client (after_step (setup_of old) (wrote digest v) s).book.buffers ≡ Some buffer
   pub there : buffer.block ≡ block

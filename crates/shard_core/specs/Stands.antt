@@ -5,7 +5,7 @@ use Rattle.rec_format.specs.declared.version.Version.{Version}
 use Rattle.rec_format.specs.declared.entry.Entry.{Entry}
 use Rattle.rec_format.specs.Book.{Setup, live_of}
 use Rattle.rec_format.specs.Device.{State, entry, entry_is_covered, high_time}
-use Rattle.disk_model.specs.Disk.{Images}
+use Rattle.disk_model.specs.Disk.{DiskView}
 use Rattle.block_shelf.specs.Standing as shelf
 use Rattle.block_shelf.specs.Calls.{Names}
 use Rattle.shard_core.specs.Index.{held, flag_of, live_of_entry, high_of}
@@ -26,6 +26,6 @@ pub record Agrees {D : Type 0} (shard : ShardView D) (s : State) : Type 0 where
 
 -- What stands over an honest disk whose image was sound besides: each live copy is where the state says, and each image that a
 -- crash may leave has what is flushed, and nothing whose flush hasn't begun.
-pub record IsSafe {D : Type 0} (may_leave : D → Images) (shard : ShardView D) (s : State) : Type 0 where
-  pub placed : shelf.IsPlaced may_leave shard.shelf s
-  pub safe : shelf.IsSafe (setup_of shard) may_leave shard.shelf s
+pub record IsSafe {D : Type 0} (view : D → DiskView) (shard : ShardView D) (s : State) : Type 0 where
+  pub placed : shelf.IsPlaced view shard.shelf s
+  pub safe : shelf.IsSafe (setup_of shard) view shard.shelf s

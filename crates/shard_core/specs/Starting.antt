@@ -2,7 +2,7 @@
 use Rattle.std.specs.Prelude.{◌≡◌, ℕ, ◌+◌, ◌==◌, List, map, filter, option_map}
 use Rattle.std.specs.List.{range_with_len}
 use Rattle.fault_count.specs.Counts.{Rose}
-use Rattle.disk_model.specs.Disk.{Images}
+use Rattle.disk_model.specs.Disk.{DiskView}
 use Rattle.rec_format.specs.declared.version.Digest.{Digest}
 use Rattle.rec_format.specs.Places.{device_number}
 use Rattle.rec_format.specs.Policy.{built, unused}
@@ -48,12 +48,12 @@ pub record Begins {D : Type 0} (asked : Asked) (bytes : List ℕ) (shard : Shard
 
 -- Over any disk: these blocks were open and these entries were found, and the shard stands for a start from them. Over an honest
 -- one their copies are where they were found.
-pub record StandsForEntries {D : Type 0} (may_leave : D → Images) (Honest : Type 0) (shard : ShardView D) : Type 0 where
+pub record StandsForEntries {D : Type 0} (view : D → DiskView) (Honest : Type 0) (shard : ShardView D) : Type 0 where
   pub opened : List ℕ
   pub found : List Copy
   pub next : ℕ
   pub agrees : Agrees shard (entries_state (setup_of shard) opened found next)
-  pub placed : Honest → IsPlaced may_leave shard.shelf (entries_state (setup_of shard) opened found next)
+  pub placed : Honest → IsPlaced view shard.shelf (entries_state (setup_of shard) opened found next)
 
 -- a fault is answered only where the count rose
 abbrev pub FaultRose : StartCause → (before after : ℕ) → Type 0

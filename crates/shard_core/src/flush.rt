@@ -24,12 +24,12 @@ use disk_model::{Disk, DiskFault};
 /// Flushes the sealed buffers in rising number, up to the first fault, and answers how many it flushed.
 pub(crate) fn flush_sealed<D: Disk>(shelf: &mut Shelf<D>) -> Result<u64, DiskFault>
     ensures flushed { (setup : Setup) (s : State) → IsSetupOf setup shelf.old → StandsFor shelf.old s
-        → (steps : List Step) × FlushesAll result (flush_all s.book) steps × Goes D.tells D.seen D.may_leave D.moment D.had D.left_since setup steps shelf.old s shelf.new }
+        → (steps : List Step) × FlushesAll result (flush_all s.book) steps × Goes D.view setup steps shelf.old s shelf.new }
     ensures quiet { AllByRecursion (λ b. is_filling b.phase ≡ false) shelf.old.buffers → OnOk result (shelf.new.buffers ≡ []) }
     ensures left { OnErr result (shelf.new.buffers ≢ []) }
-    ensures cause { OnErr result (Rose (D.faults shelf.old.disk) (D.faults shelf.new.disk)) }
-    ensures later { IsLater D.extent D.moment D.had D.left_since D.faults shelf.old.disk shelf.new.disk }
-    ensures honest { IsHonest D.tells D.seen D.may_leave shelf.old.disk → IsHonest D.tells D.seen D.may_leave shelf.new.disk }
+    ensures cause { OnErr result (Rose (D.view shelf.old.disk).faults (D.view shelf.new.disk).faults) }
+    ensures later { IsLater (D.view shelf.old.disk) (D.view shelf.new.disk) }
+    ensures honest { IsHonest (D.view shelf.old.disk) → IsHonest (D.view shelf.new.disk) }
     ensures shape { shelf_view.SameShape shelf.old shelf.new }
 {
     let mut count = 0;
@@ -43,11 +43,11 @@ impl<D: Disk> Shard<D> {
     /// Seals the buffer that is being filled, and flushes all that is sealed in rising number; answers how many buffers it flushed.
     /// After a fault those that were flushed stay so. It takes no memory. After `Ok` nothing is pending.
     pub fn flush(&mut self) -> Result<u64, DiskFault>
-        ensures makes { (s : State) → Agrees self.old s → Makes D.tells D.seen D.may_leave D.moment D.had D.left_since D.faults flush_call (flush_answer result) self.old s self.new }
+        ensures makes { (s : State) → Agrees self.old s → Makes D.view flush_call (flush_answer result) self.old s self.new }
         ensures quiet { OnOk result (self.new.shelf.buffers ≡ []) }
         ensures left { OnErr result (self.new.shelf.buffers ≢ []) }
-        ensures later { IsLater D.extent D.moment D.had D.left_since D.faults self.old.shelf.disk self.new.shelf.disk }
-        ensures honest { IsHonest D.tells D.seen D.may_leave self.old.shelf.disk → IsHonest D.tells D.seen D.may_leave self.new.shelf.disk }
+        ensures later { IsLater (D.view self.old.shelf.disk) (D.view self.new.shelf.disk) }
+        ensures honest { IsHonest (D.view self.old.shelf.disk) → IsHonest (D.view self.new.shelf.disk) }
         ensures shape { SameShape self.old self.new }
     {
         self.shelf.seal_streams();
@@ -56,9 +56,9 @@ impl<D: Disk> Shard<D> {
 
     /// Flushes what is sealed, as far as the disk goes. It answers nothing, and takes no memory.
     pub fn tend(&mut self)
-        ensures makes { (s : State) → Agrees self.old s → MakesAny D.tells D.seen D.may_leave D.moment D.had D.left_since D.faults flush_sealed_call self.old s self.new }
-        ensures later { IsLater D.extent D.moment D.had D.left_since D.faults self.old.shelf.disk self.new.shelf.disk }
-        ensures honest { IsHonest D.tells D.seen D.may_leave self.old.shelf.disk → IsHonest D.tells D.seen D.may_leave self.new.shelf.disk }
+        ensures makes { (s : State) → Agrees self.old s → MakesAny D.view flush_sealed_call self.old s self.new }
+        ensures later { IsLater (D.view self.old.shelf.disk) (D.view self.new.shelf.disk) }
+        ensures honest { IsHonest (D.view self.old.shelf.disk) → IsHonest (D.view self.new.shelf.disk) }
         ensures shape { SameShape self.old self.new }
     {
         let _ = flush_sealed(&mut self.shelf);

@@ -14,14 +14,14 @@ use disk_model::{Disk, DiskFault, write_synced};
 // Writes a closed gate over each block's gate sector.
 fn close_gates<D: Disk>(disk: &mut D, geometry: &Geometry) -> Result<(), DiskFault>
     requires geometry { IsGeometry geometry.now }
-    requires room { device_end geometry.now ≤ D.extent disk.old }
-    ensures closed { D.tells disk.old → OnOk result (AllClosed geometry.now (D.seen disk.new) geometry.now.blocks) }
-    ensures told { D.tells disk.old → D.tells disk.new }
-    ensures honest { IsHonest D.tells D.seen D.may_leave disk.old → IsHonest D.tells D.seen D.may_leave disk.new }
-    ensures header { Leaves D.moment D.had D.left_since (HasHeaderOf (D.may_leave disk.old)) disk.old disk.new }
-    ensures later { D.faults disk.old ≤ D.faults disk.new }
-    ensures cause { OnErr result (Rose (D.faults disk.old) (D.faults disk.new)) }
-    ensures len { D.extent disk.new ≡ D.extent disk.old }
+    requires room { device_end geometry.now ≤ (D.view disk.old).extent }
+    ensures closed { (D.view disk.old).tells → OnOk result (AllClosed geometry.now (D.view disk.new).seen geometry.now.blocks) }
+    ensures told { (D.view disk.old).tells → (D.view disk.new).tells }
+    ensures honest { IsHonest (D.view disk.old) → IsHonest (D.view disk.new) }
+    ensures header { Leaves (HasHeaderOf (D.view disk.old).may_leave) (D.view disk.old) (D.view disk.new) }
+    ensures later { (D.view disk.old).faults ≤ (D.view disk.new).faults }
+    ensures cause { OnErr result (Rose (D.view disk.old).faults (D.view disk.new).faults) }
+    ensures len { (D.view disk.new).extent ≡ (D.view disk.old).extent }
 {
     let mut gate = [0; SECTOR_BYTES];
     write_closed(&mut gate);
@@ -36,16 +36,16 @@ fn close_gates<D: Disk>(disk: &mut D, geometry: &Geometry) -> Result<(), DiskFau
 /// fault the disk may hold some of it; format it again. It takes no memory.
 pub fn format_disk<D: Disk>(disk: &mut D, geometry: &Geometry) -> Result<(), DiskFault>
     requires geometry { IsGeometry geometry.now }
-    requires room { device_end geometry.now ≤ D.extent disk.old }
-    ensures formatted { D.tells disk.old → OnOk result (IsFormatted geometry.now (D.seen disk.new)) }
-    ensures durable { D.tells disk.old → OnOk result (IsOnly (D.seen disk.new) (D.may_leave disk.new)) }
-    ensures told { D.tells disk.old → D.tells disk.new }
-    ensures honest { IsHonest D.tells D.seen D.may_leave disk.old → IsHonest D.tells D.seen D.may_leave disk.new }
-    ensures time { Advances (D.moment disk.old) (D.had disk.old) (D.had disk.new) (D.left_since disk.old) (D.left_since disk.new) }
-    ensures ordered { IsHonest D.tells D.seen D.may_leave disk.old → Leaves D.moment D.had D.left_since (IsHalfFormatted geometry.now (D.may_leave disk.old)) disk.old disk.new }
-    ensures later { D.faults disk.old ≤ D.faults disk.new }
-    ensures cause { OnErr result (Rose (D.faults disk.old) (D.faults disk.new)) }
-    ensures len { D.extent disk.new ≡ D.extent disk.old }
+    requires room { device_end geometry.now ≤ (D.view disk.old).extent }
+    ensures formatted { (D.view disk.old).tells → OnOk result (IsFormatted geometry.now (D.view disk.new).seen) }
+    ensures durable { (D.view disk.old).tells → OnOk result (IsOnly (D.view disk.new).seen (D.view disk.new).may_leave) }
+    ensures told { (D.view disk.old).tells → (D.view disk.new).tells }
+    ensures honest { IsHonest (D.view disk.old) → IsHonest (D.view disk.new) }
+    ensures time { Advances (D.view disk.old) (D.view disk.new) }
+    ensures ordered { IsHonest (D.view disk.old) → Leaves (IsHalfFormatted geometry.now (D.view disk.old).may_leave) (D.view disk.old) (D.view disk.new) }
+    ensures later { (D.view disk.old).faults ≤ (D.view disk.new).faults }
+    ensures cause { OnErr result (Rose (D.view disk.old).faults (D.view disk.new).faults) }
+    ensures len { (D.view disk.new).extent ≡ (D.view disk.old).extent }
 {
     close_gates(disk, geometry)?;
     disk.sync()?;

@@ -34,15 +34,15 @@ impl<D: Disk> Shard<D> {
     ) -> Result<Option<Version>, ReadRefusal>
         requires named { device_number self.old.shelf.geometry.devices digest.now ≡ self.old.shelf.geometry.device }
         requires now { now ≤ 2 ^ 61 }
-        ensures makes { (s : State) → Agrees self.old s → Makes D.tells D.seen D.may_leave D.moment D.had D.left_since D.faults (get_call digest.now now) (read_answer result) self.old s self.new }
+        ensures makes { (s : State) → Agrees self.old s → Makes D.view (get_call digest.now now) (read_answer result) self.old s self.new }
 
         // A record whose block has a write buffer is read without a call of the disk.
         ensures buffered { (s : State) → Agrees self.old s → (e : Entry) (b : BufferState) → held digest.now self.old.index ≡ Some e → Contains self.old.shelf.buffers b → b.block ≡ e.block
             → (self.new ≡ self.old) × IfErr result (λ refusal. refusal ≡ ReadRefusal.Memory) }
 
         // Over an honest disk nothing is damaged.
-        ensures undamaged { IsHonest D.tells D.seen D.may_leave self.old.shelf.disk → (s : State) → Agrees self.old s → IsPlaced D.may_leave self.old.shelf s → IfErr result IsUndamaged }
-        ensures disk { OnlyRead D.extent D.tells D.seen D.may_leave D.moment D.had D.left_since D.faults self.old.shelf.disk self.new.shelf.disk }
+        ensures undamaged { IsHonest (D.view self.old.shelf.disk) → (s : State) → Agrees self.old s → IsPlaced D.view self.old.shelf s → IfErr result IsUndamaged }
+        ensures disk { OnlyRead (D.view self.old.shelf.disk) (D.view self.new.shelf.disk) }
         ensures shape { SameShape self.old self.new }
     {
         let found = self.index.find(digest);

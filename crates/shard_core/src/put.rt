@@ -48,13 +48,13 @@ impl<D: Disk> Shard<D> {
         requires expect { expect ≡ None }
         requires size { length payload.now ≤ 2 ^ 31 }
         requires now { now ≤ 2 ^ 61 }
-        ensures makes { (s : State) → Agrees self.old s → Makes D.tells D.seen D.may_leave D.moment D.had D.left_since D.faults (put_call digest.now ttl expect payload.now now) (write_answer result) self.old s self.new }
+        ensures makes { (s : State) → Agrees self.old s → Makes D.view (put_call digest.now ttl expect payload.now now) (write_answer result) self.old s self.new }
         ensures waits { self.old.set.commit ≡ false → self.new.shelf.disk ≡ self.old.shelf.disk }
 
         // A refusal leaves all as it was, but where commit is on and the flush failed.
         ensures refused { IfErr result (λ refusal. ((refusal ≡ WriteRefusal.Fault) × (self.old.set.commit ≡ true)) ⊎ (self.new ≡ self.old)) }
-        ensures later { IsLater D.extent D.moment D.had D.left_since D.faults self.old.shelf.disk self.new.shelf.disk }
-        ensures honest { IsHonest D.tells D.seen D.may_leave self.old.shelf.disk → IsHonest D.tells D.seen D.may_leave self.new.shelf.disk }
+        ensures later { IsLater (D.view self.old.shelf.disk) (D.view self.new.shelf.disk) }
+        ensures honest { IsHonest (D.view self.old.shelf.disk) → IsHonest (D.view self.new.shelf.disk) }
         ensures shape { SameShape self.old self.new }
     {
         let version = self.version_for(alloc, digest, payload, now)?;
@@ -116,7 +116,7 @@ impl<D: Disk> Shard<D> {
         requires version { IsVersion version.now }
         requires size { length version.now.payload ≤ 2 ^ 31 }
         requires later { IfSome (held digest.now self.old.index) (λ before. before.stamp.lut ≤ version.now.stamp.lut) }
-        ensures wrote { (s : State) → Agrees self.old s → MatchResult result (λ block. Wrote D.may_leave self.old s digest.now version.now block self.new)
+        ensures wrote { (s : State) → Agrees self.old s → MatchResult result (λ block. Wrote D.view self.old s digest.now version.now block self.new)
             (λ refusal. IsUnwritten refusal (append_refusal (setup_of self.old) Class.Put (version_units version.now) s.book)) }
         ensures refused { OnErr result (self.new ≡ self.old) }
         ensures disk { self.new.shelf.disk ≡ self.old.shelf.disk }
@@ -145,12 +145,12 @@ impl<D: Disk> Shard<D> {
     fn commit(&mut self, block: u32) -> Result<(), WriteRefusal>
         ensures committed { (s : State) (b : Buffer) → StandsFor self.old.shelf s → filling_buffer client s.book.buffers ≡ Some b → b.block ≡ block
             → (steps : List Step) × Commits result (flush_all (after_step (setup_of self.old) (sealed_stream client) s).book) steps
-            × Goes D.tells D.seen D.may_leave D.moment D.had D.left_since (setup_of self.old) (sealed_stream client ∷ steps) self.old.shelf s self.new.shelf }
+            × Goes D.view (setup_of self.old) (sealed_stream client ∷ steps) self.old.shelf s self.new.shelf }
         ensures index { self.new.index ≡ self.old.index }
         ensures fault { IfErr result (λ refusal. refusal ≡ WriteRefusal.Fault) }
-        ensures cause { OnErr result (Rose (D.faults self.old.shelf.disk) (D.faults self.new.shelf.disk)) }
-        ensures later { IsLater D.extent D.moment D.had D.left_since D.faults self.old.shelf.disk self.new.shelf.disk }
-        ensures honest { IsHonest D.tells D.seen D.may_leave self.old.shelf.disk → IsHonest D.tells D.seen D.may_leave self.new.shelf.disk }
+        ensures cause { OnErr result (Rose (D.view self.old.shelf.disk).faults (D.view self.new.shelf.disk).faults) }
+        ensures later { IsLater (D.view self.old.shelf.disk) (D.view self.new.shelf.disk) }
+        ensures honest { IsHonest (D.view self.old.shelf.disk) → IsHonest (D.view self.new.shelf.disk) }
         ensures shape { SameShape self.old self.new }
     {
         self.shelf.seal_for(block);

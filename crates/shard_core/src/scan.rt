@@ -113,13 +113,13 @@ fn read_gates<D: Disk>(
     geometry: &Geometry,
 ) -> Result<Vec<Gate>, StartCause>
     requires geometry { IsGeometry geometry.now }
-    requires room { device_end geometry.now ≤ D.extent disk.old }
-    ensures read { OnlyRead D.extent D.tells D.seen D.may_leave D.moment D.had D.left_since D.faults disk.old disk.new }
+    requires room { device_end geometry.now ≤ (D.view disk.old).extent }
+    ensures read { OnlyRead (D.view disk.old) (D.view disk.new) }
     ensures all { IfOk result (λ gates. length gates.items ≡ geometry.now.blocks) }
     ensures sure { IfOk result (λ gates. AllByRecursion IsSure gates.items) }
-    ensures gates { D.tells disk.old → IfOk result (λ gates. AreGates geometry.now (D.seen disk.old) gates.items) }
-    ensures stopped { IfErr result (λ cause. IsStopped geometry.now (D.seen disk.old) cause) }
-    ensures cause { IfErr result (λ cause. FaultRose cause (D.faults disk.old) (D.faults disk.new)) }
+    ensures gates { (D.view disk.old).tells → IfOk result (λ gates. AreGates geometry.now (D.view disk.old).seen gates.items) }
+    ensures stopped { IfErr result (λ cause. IsStopped geometry.now (D.view disk.old).seen cause) }
+    ensures cause { IfErr result (λ cause. FaultRose cause (D.view disk.old).faults (D.view disk.new).faults) }
 {
     let mut gates = Vec::new(alloc);
     for block in 0..geometry.blocks {
@@ -144,13 +144,13 @@ fn read_block<D: Disk>(
 ) -> Result<(u64, Vec<Found>), StartCause>
     requires geometry { IsGeometry geometry.now }
     requires block { block < geometry.now.blocks }
-    requires room { device_end geometry.now ≤ D.extent disk.old }
+    requires room { device_end geometry.now ≤ (D.view disk.old).extent }
     requires size { length body.old ≡ geometry.now.block_size - 4096 }
-    ensures read { OnlyRead D.extent D.tells D.seen D.may_leave D.moment D.had D.left_since D.faults disk.old disk.new }
+    ensures read { OnlyRead (D.view disk.old) (D.view disk.new) }
     ensures size { length body.new ≡ geometry.now.block_size - 4096 }
     ensures found { IfOk result (λ r. IsReading body.new block r.0 r.1.items) }
-    ensures bytes { D.tells disk.old → MatchResult result (λ r. body.new ≡ body_bytes geometry.now block (D.seen disk.old)) (λ cause. StopsOn geometry.now (D.seen disk.old) block cause) }
-    ensures cause { IfErr result (λ cause. FaultRose cause (D.faults disk.old) (D.faults disk.new)) }
+    ensures bytes { (D.view disk.old).tells → MatchResult result (λ r. body.new ≡ body_bytes geometry.now block (D.view disk.old).seen) (λ cause. StopsOn geometry.now (D.view disk.old).seen block cause) }
+    ensures cause { IfErr result (λ cause. FaultRose cause (D.view disk.old).faults (D.view disk.new).faults) }
 {
     let place = place_of(geometry, block) + SECTOR_BYTES as u64;
     let Ok(()) = disk.read_at(place, body) else {
@@ -174,13 +174,13 @@ fn take_open<D: Disk>(
 ) -> Result<(), StartCause>
     requires geometry { IsGeometry geometry.now }
     requires block { block < geometry.now.blocks }
-    requires room { device_end geometry.now ≤ D.extent disk.old }
+    requires room { device_end geometry.now ≤ (D.view disk.old).extent }
     requires size { length body.old ≡ geometry.now.block_size - 4096 }
-    ensures read { OnlyRead D.extent D.tells D.seen D.may_leave D.moment D.had D.left_since D.faults disk.old disk.new }
+    ensures read { OnlyRead (D.view disk.old) (D.view disk.new) }
     ensures size { length body.new ≡ geometry.now.block_size - 4096 }
     ensures taken { OnOk result (TakesBody geometry.now block body.new finding.old finding.new) }
-    ensures bytes { D.tells disk.old → MatchResult result (λ done. body.new ≡ body_bytes geometry.now block (D.seen disk.old)) (λ cause. StopsOn geometry.now (D.seen disk.old) block cause) }
-    ensures cause { IfErr result (λ cause. FaultRose cause (D.faults disk.old) (D.faults disk.new)) }
+    ensures bytes { (D.view disk.old).tells → MatchResult result (λ done. body.new ≡ body_bytes geometry.now block (D.view disk.old).seen) (λ cause. StopsOn geometry.now (D.view disk.old).seen block cause) }
+    ensures cause { IfErr result (λ cause. FaultRose cause (D.view disk.old).faults (D.view disk.new).faults) }
 {
     let (number, found) = match read_block(alloc, disk, geometry, block, body) {
         Ok(read) => read,
@@ -210,14 +210,14 @@ fn take_blocks<D: Disk>(
     body: &mut [u8],
 ) -> Result<Finding, StartCause>
     requires geometry { IsGeometry geometry.now }
-    requires room { device_end geometry.now ≤ D.extent disk.old }
+    requires room { device_end geometry.now ≤ (D.view disk.old).extent }
     requires size { length body.old ≡ geometry.now.block_size - 4096 }
     requires count { length gates.now ≡ geometry.now.blocks }
-    ensures read { OnlyRead D.extent D.tells D.seen D.may_leave D.moment D.had D.left_since D.faults disk.old disk.new }
+    ensures read { OnlyRead (D.view disk.old) (D.view disk.new) }
     ensures found { IfOk result (λ finding. (bodies : List Body) × IsFinding geometry.now gates.now geometry.now.blocks bodies finding
-        × (D.tells disk.old → AreGates geometry.now (D.seen disk.old) gates.now → HasBodies geometry.now (D.seen disk.old) (range_with_len 0 geometry.now.blocks) bodies)) }
-    ensures stopped { D.tells disk.old → AreGates geometry.now (D.seen disk.old) gates.now → IfErr result (λ cause. IsStopped geometry.now (D.seen disk.old) cause) }
-    ensures cause { IfErr result (λ cause. FaultRose cause (D.faults disk.old) (D.faults disk.new)) }
+        × ((D.view disk.old).tells → AreGates geometry.now (D.view disk.old).seen gates.now → HasBodies geometry.now (D.view disk.old).seen (range_with_len 0 geometry.now.blocks) bodies)) }
+    ensures stopped { (D.view disk.old).tells → AreGates geometry.now (D.view disk.old).seen gates.now → IfErr result (λ cause. IsStopped geometry.now (D.view disk.old).seen cause) }
+    ensures cause { IfErr result (λ cause. FaultRose cause (D.view disk.old).faults (D.view disk.new).faults) }
 {
     let mut finding = Finding {
         index: Index::new(alloc),
@@ -242,15 +242,15 @@ pub fn scan<D: Disk>(
     geometry: &Geometry,
 ) -> Result<(Vec<Gate>, Finding), StartCause>
     requires geometry { IsGeometry geometry.now }
-    requires room { device_end geometry.now ≤ D.extent disk.old }
-    ensures read { OnlyRead D.extent D.tells D.seen D.may_leave D.moment D.had D.left_since D.faults disk.old disk.new }
+    requires room { device_end geometry.now ≤ (D.view disk.old).extent }
+    ensures read { OnlyRead (D.view disk.old) (D.view disk.new) }
     ensures all { IfOk result (λ r. length r.0.items ≡ geometry.now.blocks) }
     ensures sure { IfOk result (λ r. AllByRecursion IsSure r.0.items) }
-    ensures gates { D.tells disk.old → IfOk result (λ r. AreGates geometry.now (D.seen disk.old) r.0.items) }
+    ensures gates { (D.view disk.old).tells → IfOk result (λ r. AreGates geometry.now (D.view disk.old).seen r.0.items) }
     ensures found { IfOk result (λ r. (bodies : List Body) × IsFinding geometry.now r.0.items geometry.now.blocks bodies r.1
-        × (D.tells disk.old → HasBodies geometry.now (D.seen disk.old) (range_with_len 0 geometry.now.blocks) bodies)) }
-    ensures stopped { D.tells disk.old → IfErr result (λ cause. IsStopped geometry.now (D.seen disk.old) cause) }
-    ensures cause { IfErr result (λ cause. FaultRose cause (D.faults disk.old) (D.faults disk.new)) }
+        × ((D.view disk.old).tells → HasBodies geometry.now (D.view disk.old).seen (range_with_len 0 geometry.now.blocks) bodies)) }
+    ensures stopped { (D.view disk.old).tells → IfErr result (λ cause. IsStopped geometry.now (D.view disk.old).seen cause) }
+    ensures cause { IfErr result (λ cause. FaultRose cause (D.view disk.old).faults (D.view disk.new).faults) }
 {
     let gates = match read_gates(alloc, disk, geometry) {
         Ok(gates) => gates,

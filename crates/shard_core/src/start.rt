@@ -63,10 +63,10 @@ pub struct StartRefusal<D> {
 // The first sector, with zeros past the disk's end, and whether all of it is there.
 fn read_first<D: Disk>(disk: &mut D, out: &mut [u8; SECTOR_BYTES]) -> Result<bool, DiskFault>
     requires { out.old ≡ replicate 4096 0 }
-    ensures read { OnlyRead D.extent D.tells D.seen D.may_leave D.moment D.had D.left_since D.faults disk.old disk.new }
-    ensures bytes { D.tells disk.old → IfOk result (λ whole. out.new ≡ take 4096 (D.seen disk.old ++ replicate 4096 0)) }
-    ensures whole { IfOk result (λ whole. whole ≡ nat_le 4096 (D.extent disk.old)) }
-    ensures cause { OnErr result (Rose (D.faults disk.old) (D.faults disk.new)) }
+    ensures read { OnlyRead (D.view disk.old) (D.view disk.new) }
+    ensures bytes { (D.view disk.old).tells → IfOk result (λ whole. out.new ≡ take 4096 ((D.view disk.old).seen ++ replicate 4096 0)) }
+    ensures whole { IfOk result (λ whole. whole ≡ nat_le 4096 (D.view disk.old).extent) }
+    ensures cause { OnErr result (Rose (D.view disk.old).faults (D.view disk.new).faults) }
 {
     let count = disk.len().min(SECTOR_BYTES as u64) as usize;
     disk.read_at(0, &mut out[..count])?;
@@ -75,10 +75,10 @@ fn read_first<D: Disk>(disk: &mut D, out: &mut [u8; SECTOR_BYTES]) -> Result<boo
 
 // The shape by the header, if it is of the device that was asked for and all of it is there.
 fn shape_of<D: Disk>(disk: &mut D, asked: Asked) -> Result<Geometry, StartCause>
-    ensures read { OnlyRead D.extent D.tells D.seen D.may_leave D.moment D.had D.left_since D.faults disk.old disk.new }
-    ensures shape { IfOk result (λ g. IsGeometry g × (g.device ≡ asked.device) × (g.devices ≡ asked.devices) × (device_end g ≤ D.extent disk.new)) }
-    ensures bytes { D.tells disk.old → MatchResult result (λ g. IsAsked asked.device asked.devices (D.seen disk.old) g) (λ cause. IsRefused asked (D.seen disk.old) cause) }
-    ensures cause { IfErr result (λ cause. FaultRose cause (D.faults disk.old) (D.faults disk.new)) }
+    ensures read { OnlyRead (D.view disk.old) (D.view disk.new) }
+    ensures shape { IfOk result (λ g. IsGeometry g × (g.device ≡ asked.device) × (g.devices ≡ asked.devices) × (device_end g ≤ (D.view disk.new).extent)) }
+    ensures bytes { (D.view disk.old).tells → MatchResult result (λ g. IsAsked asked.device asked.devices (D.view disk.old).seen g) (λ cause. IsRefused asked (D.view disk.old).seen cause) }
+    ensures cause { IfErr result (λ cause. FaultRose cause (D.view disk.old).faults (D.view disk.new).faults) }
 {
     let mut sector = [0; SECTOR_BYTES];
     let Ok(whole) = read_first(disk, &mut sector) else {
@@ -125,17 +125,17 @@ fn examine<D: Disk>(
     disk: &mut D,
     asked: Asked,
 ) -> Result<(Geometry, Vec<Gate>, Finding), StartCause>
-    ensures read { OnlyRead D.extent D.tells D.seen D.may_leave D.moment D.had D.left_since D.faults disk.old disk.new }
-    ensures shape { IfOk result (λ found. IsGeometry found.0 × (found.0.device ≡ asked.device) × (found.0.devices ≡ asked.devices) × (device_end found.0 ≤ D.extent disk.new)) }
+    ensures read { OnlyRead (D.view disk.old) (D.view disk.new) }
+    ensures shape { IfOk result (λ found. IsGeometry found.0 × (found.0.device ≡ asked.device) × (found.0.devices ≡ asked.devices) × (device_end found.0 ≤ (D.view disk.new).extent)) }
     ensures all { IfOk result (λ found. length found.1.items ≡ found.0.blocks) }
     ensures sure { IfOk result (λ found. AllByRecursion IsSure found.1.items) }
-    ensures asked { D.tells disk.old → IfOk result (λ found. IsAsked asked.device asked.devices (D.seen disk.old) found.0) }
-    ensures gates { D.tells disk.old → IfOk result (λ found. AreGates found.0 (D.seen disk.old) found.1.items) }
+    ensures asked { (D.view disk.old).tells → IfOk result (λ found. IsAsked asked.device asked.devices (D.view disk.old).seen found.0) }
+    ensures gates { (D.view disk.old).tells → IfOk result (λ found. AreGates found.0 (D.view disk.old).seen found.1.items) }
     ensures found { IfOk result (λ found. (bodies : List Body) × IsFinding found.0 found.1.items found.0.blocks bodies found.2
-        × (D.tells disk.old → HasBodies found.0 (D.seen disk.old) (range_with_len 0 found.0.blocks) bodies)) }
-    ensures refused { D.tells disk.old → IfErr result (λ cause. IsRefused asked (D.seen disk.old) cause) }
-    ensures only { D.tells disk.old → OnOk result (IsOnly (D.seen disk.old) (D.may_leave disk.new)) }
-    ensures cause { IfErr result (λ cause. FaultRose cause (D.faults disk.old) (D.faults disk.new)) }
+        × ((D.view disk.old).tells → HasBodies found.0 (D.view disk.old).seen (range_with_len 0 found.0.blocks) bodies)) }
+    ensures refused { (D.view disk.old).tells → IfErr result (λ cause. IsRefused asked (D.view disk.old).seen cause) }
+    ensures only { (D.view disk.old).tells → OnOk result (IsOnly (D.view disk.old).seen (D.view disk.new).may_leave) }
+    ensures cause { IfErr result (λ cause. FaultRose cause (D.view disk.old).faults (D.view disk.new).faults) }
 {
     let Ok(()) = disk.sync() else {
         return Err(StartCause::Fault);
@@ -160,11 +160,11 @@ fn begun<D: Disk>(
     finding: Finding,
 ) -> Result<Shard<D>, StartRefusal<D>>
     requires geometry { IsGeometry geometry }
-    requires room { device_end geometry ≤ D.extent disk }
+    requires room { device_end geometry ≤ (D.view disk).extent }
     requires settings { IsSettings set }
     requires number { finding.greatest ≤ top_number }
     requires count { length gates.items ≡ geometry.blocks }
-    requires shut { IsHonest D.tells D.seen D.may_leave disk → (k : ℕ) → slice_get gates.items k ≡ Some Shut → IsShut geometry k (D.may_leave disk) }
+    requires shut { IsHonest (D.view disk) → (k : ℕ) → slice_get gates.items k ≡ Some Shut → IsShut geometry k (D.view disk).may_leave }
     requires entries { AllByRecursion (IsEntryOf geometry) finding.index.entries }
     ensures { MatchResult result (λ shard. shard ≡ view_with disk geometry gates.items set finding) (λ refusal. (refusal.disk ≡ disk) × (refusal.cause ≡ StartCause.Memory)) }
 {
@@ -200,14 +200,14 @@ impl<D: Disk> Shard<D> {
         set: Settings,
     ) -> Result<Shard<D>, StartRefusal<D>>
         requires { IsSettings set }
-        ensures stands { IfOk result (StandsForEntries D.may_leave (IsHonest D.tells D.seen D.may_leave disk)) }
-        ensures begins { D.tells disk → MatchResult result (λ shard. Begins asked (D.seen disk) shard) (λ refusal. IsRefused asked (D.seen disk) refusal.cause) }
-        ensures safe { IsHonest D.tells D.seen D.may_leave disk → IfOk result (λ shard. (bodies : List Body) → IsSound (setup_of shard) (D.seen disk) bodies
-            → IsSafe D.may_leave shard (start_state (setup_of shard) bodies)) }
-        ensures only { D.tells disk → IfOk result (λ shard. IsOnly (D.seen disk) (D.may_leave shard.shelf.disk)) }
+        ensures stands { IfOk result (StandsForEntries D.view (IsHonest (D.view disk))) }
+        ensures begins { (D.view disk).tells → MatchResult result (λ shard. Begins asked (D.view disk).seen shard) (λ refusal. IsRefused asked (D.view disk).seen refusal.cause) }
+        ensures safe { IsHonest (D.view disk) → IfOk result (λ shard. (bodies : List Body) → IsSound (setup_of shard) (D.view disk).seen bodies
+            → IsSafe D.view shard (start_state (setup_of shard) bodies)) }
+        ensures only { (D.view disk).tells → IfOk result (λ shard. IsOnly (D.view disk).seen (D.view shard.shelf.disk).may_leave) }
         ensures shape { IfOk result (λ shard. (shard.set ≡ set) × (shard.shelf.geometry.device ≡ asked.device) × (shard.shelf.geometry.devices ≡ asked.devices)) }
-        ensures read { MatchResult result (λ shard. OnlyRead D.extent D.tells D.seen D.may_leave D.moment D.had D.left_since D.faults disk shard.shelf.disk) (λ refusal. OnlyRead D.extent D.tells D.seen D.may_leave D.moment D.had D.left_since D.faults disk refusal.disk) }
-        ensures cause { IfErr result (λ refusal. FaultRose refusal.cause (D.faults disk) (D.faults refusal.disk)) }
+        ensures read { MatchResult result (λ shard. OnlyRead (D.view disk) (D.view shard.shelf.disk)) (λ refusal. OnlyRead (D.view disk) (D.view refusal.disk)) }
+        ensures cause { IfErr result (λ refusal. FaultRose refusal.cause (D.view disk).faults (D.view refusal.disk).faults) }
     {
         match examine(alloc, &mut disk, asked) {
             Ok((geometry, gates, finding)) => begun(alloc, disk, geometry, gates, set, finding),

@@ -14,10 +14,10 @@ abbrev pub invariant-loop-count : goal.invariant-loop-count
 invariant-loop-count g l = record {
   few : (l.count ≡ 0) ⊎ (l.count + length l.shelf.buffers ≤ top_number + 1);
   went : (setup : Setup) (s : State) → IsSetupOf setup l.fn.shelf → StandsFor l.fn.shelf s
-      → Went g.D.Disk.extent g.D.Disk.tells g.D.Disk.seen g.D.Disk.may_leave g.D.Disk.moment g.D.Disk.had g.D.Disk.left_since setup l.count l.fn.shelf s l.shelf;
+      → Went g.D.Disk.view setup l.count l.fn.shelf s l.shelf;
   quiet : IsQuiet l.fn.shelf → IsQuiet l.shelf;
-  later : IsLater g.D.Disk.extent g.D.Disk.moment g.D.Disk.had g.D.Disk.left_since g.D.Disk.faults l.fn.shelf.disk l.shelf.disk;
-  honest : IsHonest g.D.Disk.tells g.D.Disk.seen g.D.Disk.may_leave l.fn.shelf.disk → IsHonest g.D.Disk.tells g.D.Disk.seen g.D.Disk.may_leave l.shelf.disk;
+  later : IsLater (g.D.Disk.view l.fn.shelf.disk) (g.D.Disk.view l.shelf.disk);
+  honest : IsHonest (g.D.Disk.view l.fn.shelf.disk) → IsHonest (g.D.Disk.view l.shelf.disk);
   shape : SameShape l.fn.shelf l.shelf;
 }
 

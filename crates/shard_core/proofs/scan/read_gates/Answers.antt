@@ -10,13 +10,13 @@ read_at-requires g c = omega (arith, (size_bounds c.args.geometry.now c.requires
 
 pub loop-block-preserved : goal.loop-block-preserved
 loop-block-preserved g c = record {
-  read = reads_on g.D.Disk.extent g.D.Disk.tells g.D.Disk.seen g.D.Disk.may_leave g.D.Disk.moment g.D.Disk.had g.D.Disk.left_since g.D.Disk.faults g.met.D.Disk.now_alone g.met.D.Disk.now_had g.met.D.Disk.now_since c.args.disk.now c.loop-block.disk c.read_at.new.self c.loop-block.invariant.read (search rules);
+  read = reads_on _ _ (g.D.Disk.view c.read_at.new.self) (g.met.D.Disk.is_disk c.loop-block.disk) c.loop-block.invariant.read (search rules);
   count = search rules;
   sure = sure_more c.loop-block.gates.items c.push.new.self.items c.gate_of.result c.in-Ok-push.ensures.items c.loop-block.invariant.sure c.gate_of.ensures.sure;
   gates = λ told.
       let now = c.loop-block.invariant.read.bytes told in
-      let bytes = g.D.Disk.seen c.args.disk.now in
-      let same = same_gate c.args.geometry.now c.loop-block.block bytes (g.D.Disk.seen c.loop-block.disk) c.read_at.new.out c.place_of.result (c.in-Ok.ensures.read now.0) now.1 c.place_of.ensures.place in
+      let bytes = (g.D.Disk.view c.args.disk.now).seen in
+      let same = same_gate c.args.geometry.now c.loop-block.block bytes (g.D.Disk.view c.loop-block.disk).seen c.read_at.new.out c.place_of.result (c.in-Ok.ensures.read now.0) now.1 c.place_of.ensures.place in
       gates_more c.args.geometry.now bytes c.loop-block.gates.items c.push.new.self.items c.gate_of.result c.loop-block.block c.in-Ok-push.ensures.items c.loop-block.invariant.count (c.loop-block.invariant.gates told)
       (c.gate_of.ensures.told (gate_sector c.args.geometry.now c.loop-block.block bytes) same);
 }

@@ -11,26 +11,26 @@ pub loop-block-init : goal.loop-block-init
 loop-block-init g c = record {
   read = search rules;
   size = c.requires.size;
-  found = none_found c.args.geometry.now (g.D.Disk.tells c.args.disk.now) (g.D.Disk.seen c.args.disk.now) c.args.gates.now (record { index = c.new.result; greatest = 0 }) (ap (λ (v : IndexView). v.entries) c.new.ensures) refl;
+  found = none_found c.args.geometry.now (g.D.Disk.view c.args.disk.now).tells (g.D.Disk.view c.args.disk.now).seen c.args.gates.now (record { index = c.new.result; greatest = 0 }) (ap (λ (v : IndexView). v.entries) c.new.ensures) refl;
 }
 
 pub loop-block-preserved-then-not-is_opened : goal.loop-block-preserved-then-not-is_opened
 loop-block-preserved-then-not-is_opened g c = record {
   read = c.loop-block.invariant.read;
   size = c.loop-block.invariant.size;
-  found = found_closed c.args.geometry.now (g.D.Disk.tells c.args.disk.now) (g.D.Disk.seen c.args.disk.now) c.args.gates.now c.loop-block.block c.loop-block.finding c.loop-block.invariant.found (c.is_opened.ensures ∙ ap Some c.if-not-is_opened.true);
+  found = found_closed c.args.geometry.now (g.D.Disk.view c.args.disk.now).tells (g.D.Disk.view c.args.disk.now).seen c.args.gates.now c.loop-block.block c.loop-block.finding c.loop-block.invariant.found (c.is_opened.ensures ∙ ap Some c.if-not-is_opened.true);
 }
 
 pub loop-block-preserved : goal.loop-block-preserved
 loop-block-preserved g c = record {
-  read = reads_on g.D.Disk.extent g.D.Disk.tells g.D.Disk.seen g.D.Disk.may_leave g.D.Disk.moment g.D.Disk.had g.D.Disk.left_since g.D.Disk.faults g.met.D.Disk.now_alone g.met.D.Disk.now_had g.met.D.Disk.now_since c.args.disk.now c.loop-block.disk c.take_open.new.disk c.loop-block.invariant.read c.take_open.ensures.read;
+  read = reads_on _ _ (g.D.Disk.view c.take_open.new.disk) (g.met.D.Disk.is_disk c.loop-block.disk) c.loop-block.invariant.read c.take_open.ensures.read;
   size = c.take_open.ensures.size;
-  found = found_open c.args.geometry.now (g.D.Disk.tells c.args.disk.now) (g.D.Disk.seen c.args.disk.now) c.take_open.new.body c.args.gates.now c.loop-block.block c.loop-block.finding c.take_open.new.finding c.loop-block.invariant.found (c.is_opened.ensures ∙ ap Some c.if-not-is_opened.false) c.in-Ok.ensures.taken
+  found = found_open c.args.geometry.now (g.D.Disk.view c.args.disk.now).tells (g.D.Disk.view c.args.disk.now).seen c.take_open.new.body c.args.gates.now c.loop-block.block c.loop-block.finding c.take_open.new.finding c.loop-block.invariant.found (c.is_opened.ensures ∙ ap Some c.if-not-is_opened.false) c.in-Ok.ensures.taken
       (λ t. let now = c.loop-block.invariant.read.bytes t in subst (λ (l : List ℕ). c.take_open.new.body ≡ body_bytes c.args.geometry.now c.loop-block.block l) now.1 (c.in-Ok.ensures.bytes now.0));
 }
 
 pub returns-in-Err-clause-stopped : goal.returns-in-Err-clause-stopped
 returns-in-Err-clause-stopped g c = λ t are.
     let now = c.loop-block.invariant.read.bytes t in
-    stopped_there c.args.geometry.now (g.D.Disk.tells c.args.disk.now) (g.D.Disk.seen c.args.disk.now) c.args.gates.now c.loop-block.block c.loop-block.finding c.in-Err.cause c.loop-block.invariant.found t are c.loop-block-test.true (c.is_opened.ensures ∙ ap Some c.if-not-is_opened.false)
+    stopped_there c.args.geometry.now (g.D.Disk.view c.args.disk.now).tells (g.D.Disk.view c.args.disk.now).seen c.args.gates.now c.loop-block.block c.loop-block.finding c.in-Err.cause c.loop-block.invariant.found t are c.loop-block-test.true (c.is_opened.ensures ∙ ap Some c.if-not-is_opened.false)
     (subst (λ (l : List ℕ). StopsOn c.args.geometry.now l c.loop-block.block c.in-Err.cause) now.1 (c.in-Err.ensures.bytes now.0))

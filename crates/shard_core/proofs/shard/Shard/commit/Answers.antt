@@ -26,13 +26,13 @@ returns-clause-committed g c =
     let answered : c.match-flush_sealed.result ≡ committed c.flush_sealed.result = elim c.match-flush_sealed.branch [ in-Ok w ↦ w.result-is ∙ sym (ap committed w.in-Ok.is) | in-Err w ↦ w.result-is ∙ sym (ap committed w.in-Err.is) ] in
     subst (λ (v : ShardView g.row.D.Denot). (s : State) (b : Buffer) → StandsFor v.shelf s → filling_buffer client s.book.buffers ≡ Some b → b.block ≡ c.args.block
     → (steps : List Step) × Commits c.match-flush_sealed.result (flush_all (after_step (setup_of v) (sealed_stream client) s).book) steps
-    × Goes g.D.Disk.tells g.D.Disk.seen g.D.Disk.may_leave g.D.Disk.moment g.D.Disk.had g.D.Disk.left_since (setup_of v) (sealed_stream client ∷ steps) v.shelf s new) c.self.view_is
+    × Goes g.D.Disk.view (setup_of v) (sealed_stream client ∷ steps) v.shelf s new) c.self.view_is
     (λ s b stands found at.
     let is = setup_is old c.self.invariant in
     let first = c.seal_for.ensures.sealed (setup_of old) s b is stands found at in
     let then = c.flush_sealed.ensures.flushed (setup_of old) (after_step (setup_of old) (sealed_stream client) s) (setup_stays (setup_of old) old.shelf mid c.seal_for.ensures.shape is) first.stands in (
       then.0,
       subst (λ (r : Result (Unit {0}) WriteRefusal). Commits r (flush_all (after_step (setup_of old) (sealed_stream client) s).book) then.0) (sym answered) (commits_from c.flush_sealed.result _ then.0 then.1),
-      goes_then g.D.Disk.tells g.D.Disk.seen g.D.Disk.may_leave g.D.Disk.moment g.D.Disk.had g.D.Disk.left_since (setup_of old) (sealed_stream client ∷ []) then.0 old.shelf mid new s
-          (λ honest. subst (λ (d : g.row.D.Denot). IsHonest g.D.Disk.tells g.D.Disk.seen g.D.Disk.may_leave d) (sym c.seal_for.ensures.disk) honest) first then.2,
+      goes_then g.D.Disk.view (setup_of old) (sealed_stream client ∷ []) then.0 old.shelf mid new s
+          (λ honest. subst (λ (d : g.row.D.Denot). IsHonest (g.D.Disk.view d)) (sym c.seal_for.ensures.disk) honest) first then.2,
     ))

@@ -20,16 +20,16 @@ returns-clause-makes g c =
     let old : ShardView g.row.D.Denot = record { shelf = c.self.inside.shelf; set = c.self.inside.set; index = c.self.inside.index.entries } in
     let new : ShardView g.row.D.Denot = record { shelf = c.flush_sealed.new.shelf; set = c.self.inside.set; index = c.self.inside.index.entries } in
     let mid : ShelfView g.row.D.Denot = c.seal_streams.new.self in
-    subst (λ (v : ShardView g.row.D.Denot). (s : State) → Agrees v s → Makes g.D.Disk.tells g.D.Disk.seen g.D.Disk.may_leave g.D.Disk.moment g.D.Disk.had g.D.Disk.left_since g.D.Disk.faults flush_call (flush_answer c.flush_sealed.result) v s new) c.self.view_is
+    subst (λ (v : ShardView g.row.D.Denot). (s : State) → Agrees v s → Makes g.D.Disk.view flush_call (flush_answer c.flush_sealed.result) v s new) c.self.view_is
     (λ s agrees.
     let is = setup_is old c.self.invariant in
     let first = c.seal_streams.ensures.sealed (setup_of old) s is agrees.shelf in
     let then = c.flush_sealed.ensures.flushed (setup_of old) (after_steps (setup_of old) (seal_all s.book) s) (setup_stays (setup_of old) old.shelf mid c.seal_streams.ensures.shape is) first.stands in
-    makes_flush g.D.Disk.tells g.D.Disk.seen g.D.Disk.may_leave g.D.Disk.moment g.D.Disk.had g.D.Disk.left_since g.D.Disk.faults old new s agrees
+    makes_flush g.D.Disk.view old new s agrees
     (record { geometry = c.flush_sealed.ensures.shape.geometry ∙ c.seal_streams.ensures.shape.geometry; set = refl }) refl
-    (subst (λ (d : g.row.D.Denot). g.D.Disk.faults d ≤ g.D.Disk.faults new.shelf.disk) c.seal_streams.ensures.disk c.flush_sealed.ensures.later.count)
+    (subst (λ (d : g.row.D.Denot). (g.D.Disk.view d).faults ≤ (g.D.Disk.view new.shelf.disk).faults) c.seal_streams.ensures.disk c.flush_sealed.ensures.later.count)
     c.flush_sealed.result flush_call (seal_all s.book) then.0 (seal_all_flushing s.book) then.1
-    (subst (λ (d : g.row.D.Denot). OnErr c.flush_sealed.result (Rose (g.D.Disk.faults d) (g.D.Disk.faults new.shelf.disk))) c.seal_streams.ensures.disk c.flush_sealed.ensures.cause)
+    (subst (λ (d : g.row.D.Denot). OnErr c.flush_sealed.result (Rose (g.D.Disk.view d).faults (g.D.Disk.view new.shelf.disk).faults)) c.seal_streams.ensures.disk c.flush_sealed.ensures.cause)
     (λ event told ends. ends)
-    (goes_then g.D.Disk.tells g.D.Disk.seen g.D.Disk.may_leave g.D.Disk.moment g.D.Disk.had g.D.Disk.left_since (setup_of old) (seal_all s.book) then.0 old.shelf mid new.shelf s
-    (λ honest. subst (λ (d : g.row.D.Denot). IsHonest g.D.Disk.tells g.D.Disk.seen g.D.Disk.may_leave d) (sym c.seal_streams.ensures.disk) honest) first then.2))
+    (goes_then g.D.Disk.view (setup_of old) (seal_all s.book) then.0 old.shelf mid new.shelf s
+    (λ honest. subst (λ (d : g.row.D.Denot). IsHonest (g.D.Disk.view d)) (sym c.seal_streams.ensures.disk) honest) first then.2))

@@ -26,9 +26,9 @@ use Rattle.shard_core.proofs.shard.Shard.get.Goals as goal
 pub returns-in_default-clause-makes : goal.returns-in_default-clause-makes
 returns-in_default-clause-makes g c =
     let old : ShardView g.row.D.Denot = record { shelf = c.self.inside.shelf; set = c.self.inside.set; index = c.self.inside.index.entries } in
-    subst (λ (v : ShardView g.row.D.Denot). (s : State) → Agrees v s → Makes g.D.Disk.tells g.D.Disk.seen g.D.Disk.may_leave g.D.Disk.moment g.D.Disk.had g.D.Disk.left_since g.D.Disk.faults (get_call c.args.digest.now c.args.now) (read_answer (Ok None)) v s v) c.self.view_is
-    (λ s agrees. makes_unseen g.D.Disk.extent g.D.Disk.tells g.D.Disk.seen g.D.Disk.may_leave g.D.Disk.moment g.D.Disk.had g.D.Disk.left_since g.D.Disk.faults old old s c.args.digest.now c.args.now agrees
-    (record { had_now = g.met.D.Disk.now_had old.shelf.disk; alone = g.met.D.Disk.now_alone old.shelf.disk; since = g.met.D.Disk.now_since old.shelf.disk })
+    subst (λ (v : ShardView g.row.D.Denot). (s : State) → Agrees v s → Makes g.D.Disk.view (get_call c.args.digest.now c.args.now) (read_answer (Ok None)) v s v) c.self.view_is
+    (λ s agrees. makes_unseen g.D.Disk.view old old s c.args.digest.now c.args.now agrees
+    (g.met.D.Disk.is_disk old.shelf.disk)
     (ap (seen_entry c.args.now) (sym (c.as_ref.ensures.value ∙ c.find-found.ensures)) ∙ sym c.seen.ensures ∙ ap option_copied c.in_default.is))
 
 pub read-requires-clause-block : goal.read-requires-clause-block
@@ -61,14 +61,14 @@ returns-clause-makes g c =
     let answered : c.match-read.result ≡ shown c.read.result = elim c.match-read.branch [ in-Ok w ↦ w.result-is ∙ sym (ap shown w.in-Ok.is) | in-Err w ↦ w.result-is ∙ sym (ap shown w.in-Err.is) ] in
     let seen : seen_entry c.args.now (held digest old.index) ≡ Some e = ap (seen_entry c.args.now) (sym (c.as_ref.ensures.value ∙ c.find-found.ensures)) ∙ sym c.seen.ensures ∙ ap option_copied c.in-Some.is in
     let here = held_is digest (IsEntryOf old.shelf.geometry) old.index e c.self.invariant.entries (seen_held c.args.now (held digest old.index) e seen) in
-    subst (λ (v : ShardView g.row.D.Denot). (s : State) → Agrees v s → Makes g.D.Disk.tells g.D.Disk.seen g.D.Disk.may_leave g.D.Disk.moment g.D.Disk.had g.D.Disk.left_since g.D.Disk.faults (get_call digest c.args.now) (read_answer c.match-read.result) v s new) c.self.view_is
-    (subst (λ (r : Result (Option Version) ReadRefusal). (s : State) → Agrees old s → Makes g.D.Disk.tells g.D.Disk.seen g.D.Disk.may_leave g.D.Disk.moment g.D.Disk.had g.D.Disk.left_since g.D.Disk.faults (get_call digest c.args.now) (read_answer r) old s new) (sym answered)
+    subst (λ (v : ShardView g.row.D.Denot). (s : State) → Agrees v s → Makes g.D.Disk.view (get_call digest c.args.now) (read_answer c.match-read.result) v s new) c.self.view_is
+    (subst (λ (r : Result (Option Version) ReadRefusal). (s : State) → Agrees old s → Makes g.D.Disk.view (get_call digest c.args.now) (read_answer r) old s new) (sym answered)
     (λ s agrees.
     let is = seen_some (setup_of old) s c.args.now digest old.index agrees.index e seen in
     let live = live_is (setup_of old) s c.args.now digest old.index e c.place_of_entry.result agrees.index is here.same c.place_of_entry.ensures in
-    makes_read g.D.Disk.extent g.D.Disk.tells g.D.Disk.seen g.D.Disk.may_leave g.D.Disk.moment g.D.Disk.had g.D.Disk.left_since g.D.Disk.faults old new s digest c.args.now agrees e is c.read.result
+    makes_read g.D.Disk.view old new s digest c.args.now agrees e is c.read.result
     (record { geometry = c.read.ensures.same.geometry; set = refl }) c.read.ensures.same refl c.read.ensures.disk
-    (record { had_now = g.met.D.Disk.now_had new.shelf.disk; alone = g.met.D.Disk.now_alone new.shelf.disk; since = g.met.D.Disk.now_since new.shelf.disk })
+    (g.met.D.Disk.is_disk new.shelf.disk)
     c.read.ensures.names c.read.ensures.cause (λ honest placed. c.read.ensures.written honest s is.version agrees.shelf placed live.live live.entry_is is.names)))
 
 pub returns-clause-buffered : goal.returns-clause-buffered
@@ -100,7 +100,7 @@ returns-clause-undamaged g c =
     let answered : c.match-read.result ≡ shown c.read.result = elim c.match-read.branch [ in-Ok w ↦ w.result-is ∙ sym (ap shown w.in-Ok.is) | in-Err w ↦ w.result-is ∙ sym (ap shown w.in-Err.is) ] in
     let seen : seen_entry c.args.now (held digest old.index) ≡ Some e = ap (seen_entry c.args.now) (sym (c.as_ref.ensures.value ∙ c.find-found.ensures)) ∙ sym c.seen.ensures ∙ ap option_copied c.in-Some.is in
     let here = held_is digest (IsEntryOf old.shelf.geometry) old.index e c.self.invariant.entries (seen_held c.args.now (held digest old.index) e seen) in
-    subst (λ (v : ShardView g.row.D.Denot). IsHonest g.D.Disk.tells g.D.Disk.seen g.D.Disk.may_leave v.shelf.disk → (s : State) → Agrees v s → IsPlaced g.D.Disk.may_leave v.shelf s → IfErr c.match-read.result IsUndamaged) c.self.view_is
+    subst (λ (v : ShardView g.row.D.Denot). IsHonest (g.D.Disk.view v.shelf.disk) → (s : State) → Agrees v s → IsPlaced g.D.Disk.view v.shelf s → IfErr c.match-read.result IsUndamaged) c.self.view_is
     (λ honest s agrees placed.
     let is = seen_some (setup_of old) s c.args.now digest old.index agrees.index e seen in
     let live = live_is (setup_of old) s c.args.now digest old.index e c.place_of_entry.result agrees.index is here.same c.place_of_entry.ensures in

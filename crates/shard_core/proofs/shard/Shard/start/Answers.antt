@@ -19,7 +19,7 @@ if_made (Err e) value Q P is holds = tt
 pub begun-requires-clause-shut : goal.begun-requires-clause-shut
 begun-requires-clause-shut g c = λ honest.
     let told = (c.examine.ensures.read.was_honest honest).told in
-    shut_behind c.in-Ok.geometry (g.D.Disk.seen c.args.disk) (g.D.Disk.may_leave c.examine.new.disk) c.in-Ok.gates.items (c.in-Ok.ensures.gates told) (c.in-Ok.ensures.only told)
+    shut_behind c.in-Ok.geometry (g.D.Disk.view c.args.disk).seen (g.D.Disk.view c.examine.new.disk).may_leave c.in-Ok.gates.items (c.in-Ok.ensures.gates told) (c.in-Ok.ensures.only told)
 
 pub begun-requires-clause-entries : goal.begun-requires-clause-entries
 begun-requires-clause-entries g c =
@@ -29,14 +29,14 @@ begun-requires-clause-entries g c =
 pub returns-in-Ok-clause-stands : goal.returns-in-Ok-clause-stands
 returns-in-Ok-clause-stands g c =
     let found = c.in-Ok.ensures.found in
-    if_made c.begun.result (view_with c.examine.new.disk c.in-Ok.geometry c.in-Ok.gates.items c.args.set c.in-Ok.finding) _ (StandsForEntries g.D.Disk.may_leave (IsHonest g.D.Disk.tells g.D.Disk.seen g.D.Disk.may_leave c.args.disk)) c.begun.ensures
-    (stands_behind c.examine.new.disk c.in-Ok.geometry c.in-Ok.gates.items c.args.set found.0 c.in-Ok.finding found.1 c.in-Ok.ensures.all c.in-Ok.ensures.sure g.D.Disk.may_leave (IsHonest g.D.Disk.tells g.D.Disk.seen g.D.Disk.may_leave c.args.disk) (g.D.Disk.seen c.args.disk)
+    if_made c.begun.result (view_with c.examine.new.disk c.in-Ok.geometry c.in-Ok.gates.items c.args.set c.in-Ok.finding) _ (StandsForEntries g.D.Disk.view (IsHonest (g.D.Disk.view c.args.disk))) c.begun.ensures
+    (stands_behind c.examine.new.disk c.in-Ok.geometry c.in-Ok.gates.items c.args.set found.0 c.in-Ok.finding found.1 c.in-Ok.ensures.all c.in-Ok.ensures.sure g.D.Disk.view (IsHonest (g.D.Disk.view c.args.disk)) (g.D.Disk.view c.args.disk).seen
     (λ honest. (found.2 honest.told, c.in-Ok.ensures.only honest.told)))
 
 pub returns-in-Ok-clause-begins : goal.returns-in-Ok-clause-begins
 returns-in-Ok-clause-begins g c = λ told.
     let found = c.in-Ok.ensures.found in
-    let bytes = g.D.Disk.seen c.args.disk in
+    let bytes = (g.D.Disk.view c.args.disk).seen in
     MatchResult-weaker c.begun.result c.begun.ensures
     (λ shard is. subst (Begins c.args.asked bytes) (sym is) (begins c.examine.new.disk c.in-Ok.geometry c.in-Ok.gates.items c.args.set found.0 c.in-Ok.finding found.1 c.in-Ok.ensures.all c.in-Ok.ensures.sure bytes c.in-Ok.ensures.shape.0 (found.2 told) c.args.asked (c.in-Ok.ensures.asked told)))
     (λ refusal is. subst (IsRefused c.args.asked bytes) (sym is.1) tt)
@@ -44,6 +44,6 @@ returns-in-Ok-clause-begins g c = λ told.
 pub returns-in-Ok-clause-safe : goal.returns-in-Ok-clause-safe
 returns-in-Ok-clause-safe g c = λ honest.
     let found = c.in-Ok.ensures.found in
-    let bytes = g.D.Disk.seen c.args.disk in
-    if_made c.begun.result (view_with c.examine.new.disk c.in-Ok.geometry c.in-Ok.gates.items c.args.set c.in-Ok.finding) _ (λ shard. (bodies : List Body) → IsSound (setup_of shard) bytes bodies → IsSafe g.D.Disk.may_leave shard (start_state (setup_of shard) bodies)) c.begun.ensures
-    (sound_safe c.examine.new.disk c.in-Ok.geometry c.in-Ok.gates.items c.args.set found.0 c.in-Ok.finding found.1 c.in-Ok.ensures.all c.in-Ok.ensures.sure bytes c.in-Ok.ensures.shape.0 (found.2 honest.told) g.D.Disk.may_leave (c.in-Ok.ensures.only honest.told))
+    let bytes = (g.D.Disk.view c.args.disk).seen in
+    if_made c.begun.result (view_with c.examine.new.disk c.in-Ok.geometry c.in-Ok.gates.items c.args.set c.in-Ok.finding) _ (λ shard. (bodies : List Body) → IsSound (setup_of shard) bytes bodies → IsSafe g.D.Disk.view shard (start_state (setup_of shard) bodies)) c.begun.ensures
+    (sound_safe c.examine.new.disk c.in-Ok.geometry c.in-Ok.gates.items c.args.set found.0 c.in-Ok.finding found.1 c.in-Ok.ensures.all c.in-Ok.ensures.sure bytes c.in-Ok.ensures.shape.0 (found.2 honest.told) g.D.Disk.view (c.in-Ok.ensures.only honest.told))

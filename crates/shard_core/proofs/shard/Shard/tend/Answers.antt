@@ -11,11 +11,11 @@ pub returns-clause-makes : goal.returns-clause-makes
 returns-clause-makes g c =
     let old : ShardView g.row.D.Denot = record { shelf = c.self.inside.shelf; set = c.self.inside.set; index = c.self.inside.index.entries } in
     let new : ShardView g.row.D.Denot = record { shelf = c.flush_sealed.new.shelf; set = c.self.inside.set; index = c.self.inside.index.entries } in
-    subst (λ (v : ShardView g.row.D.Denot). (s : State) → Agrees v s → MakesAny g.D.Disk.tells g.D.Disk.seen g.D.Disk.may_leave g.D.Disk.moment g.D.Disk.had g.D.Disk.left_since g.D.Disk.faults flush_sealed_call v s new) c.self.view_is
+    subst (λ (v : ShardView g.row.D.Denot). (s : State) → Agrees v s → MakesAny g.D.Disk.view flush_sealed_call v s new) c.self.view_is
     (λ s agrees.
     let went = c.flush_sealed.ensures.flushed (setup_of old) s (setup_is old c.self.invariant) agrees.shelf in (
       flush_answer c.flush_sealed.result,
-      makes_flush g.D.Disk.tells g.D.Disk.seen g.D.Disk.may_leave g.D.Disk.moment g.D.Disk.had g.D.Disk.left_since g.D.Disk.faults old new s agrees
+      makes_flush g.D.Disk.view old new s agrees
           (record { geometry = c.flush_sealed.ensures.shape.geometry; set = refl }) refl c.flush_sealed.ensures.later.count
           c.flush_sealed.result flush_sealed_call [] went.0 tt went.1 c.flush_sealed.ensures.cause (λ event told ends. ends) went.2,
     ))

@@ -26,16 +26,16 @@ invariant_of-self-in-Ok-append g c =
     let place : Place = c.in-Ok-append.place in
     let old : ShelfView g.row.D.Denot = c.self.inside.shelf in
     let new : ShelfView g.row.D.Denot = c.append.new.self in
-    let appended : Appended g.D.Disk.may_leave digest v (Ok place) old new = subst (λ (r : Result Place PutRefusal). Appended g.D.Disk.may_leave digest v r old new) c.in-Ok-append.is c.append.ensures.appended in
+    let appended : Appended g.D.Disk.view digest v (Ok place) old new = subst (λ (r : Result Place PutRefusal). Appended g.D.Disk.view digest v r old new) c.in-Ok-append.is c.append.ensures.appended in
     let lies : IsPlaceFor old.geometry (version_units v) place = subst (λ (r : Result Place PutRefusal). IfOk r (IsPlaceFor old.geometry (version_units v))) c.in-Ok-append.is c.append.ensures.place in
     let holds : Holds (copied digest v place) c.self.inside.index.entries c.put.new.self.entries = subst (λ (es : List Entry). Holds (copied digest v place) es c.put.new.self.entries) c.reserve.ensures.entries
     (subst (λ (e : Entry). Holds e c.reserve.new.self.entries c.put.new.self.entries) c.entry_at.ensures.entry c.put.ensures) in
-    let one = copied_is_entry g.D.Disk.extent g.D.Disk.tells g.D.Disk.seen g.D.Disk.may_leave digest v place old new c.append.ensures.whole appended lies c.append.ensures.shape.geometry c.entry_at.ensures.named
+    let one = copied_is_entry g.D.Disk.view digest v place old new c.append.ensures.whole appended lies c.append.ensures.shape.geometry c.entry_at.ensures.named
     (subst (λ (x : ShardView g.row.D.Denot). device_number x.shelf.geometry.devices digest ≡ x.shelf.geometry.device) (sym c.self.view_is) c.requires.named) c.requires.version in
     record {
       settings = c.self.invariant.settings;
       limits = c.append.ensures.shape.limits ∙ c.self.invariant.limits;
-      entries = entries_stay g.D.Disk.extent g.D.Disk.tells g.D.Disk.seen g.D.Disk.may_leave digest v place old new c.append.ensures.whole appended lies c.append.ensures.shape.geometry c.self.inside.index.entries c.put.new.self.entries holds one c.self.invariant.entries;
+      entries = entries_stay g.D.Disk.view digest v place old new c.append.ensures.whole appended lies c.append.ensures.shape.geometry c.self.inside.index.entries c.put.new.self.entries holds one c.self.invariant.entries;
     }
 
 pub returns-in-Ok-append-clause-wrote : goal.returns-in-Ok-append-clause-wrote
@@ -46,18 +46,18 @@ returns-in-Ok-append-clause-wrote g c =
     let shard : ShardView g.row.D.Denot = record { shelf = c.self.inside.shelf; set = c.self.inside.set; index = c.self.inside.index.entries } in
     let old : ShelfView g.row.D.Denot = c.self.inside.shelf in
     let new : ShelfView g.row.D.Denot = c.append.new.self in
-    let appended : Appended g.D.Disk.may_leave digest v (Ok place) old new = subst (λ (r : Result Place PutRefusal). Appended g.D.Disk.may_leave digest v r old new) c.in-Ok-append.is c.append.ensures.appended in
+    let appended : Appended g.D.Disk.view digest v (Ok place) old new = subst (λ (r : Result Place PutRefusal). Appended g.D.Disk.view digest v r old new) c.in-Ok-append.is c.append.ensures.appended in
     let lies : IsPlaceFor old.geometry (version_units v) place = subst (λ (r : Result Place PutRefusal). IfOk r (IsPlaceFor old.geometry (version_units v))) c.in-Ok-append.is c.append.ensures.place in
     let holds : Holds (copied digest v place) c.self.inside.index.entries c.put.new.self.entries = subst (λ (es : List Entry). Holds (copied digest v place) es c.put.new.self.entries) c.reserve.ensures.entries
     (subst (λ (e : Entry). Holds e c.reserve.new.self.entries c.put.new.self.entries) c.entry_at.ensures.entry c.put.ensures) in
-    subst (λ (x : ShardView g.row.D.Denot). (s : State) → Agrees x s → Wrote g.D.Disk.may_leave x s digest v place.block (record { shelf = new; set = c.self.inside.set; index = c.put.new.self.entries })) c.self.view_is
-    (λ s agrees. wrote_by g.D.Disk.extent g.D.Disk.tells g.D.Disk.seen g.D.Disk.may_leave digest v place old new c.append.ensures.whole appended lies c.append.ensures.shape.geometry shard s c.put.new.self.entries refl c.self.invariant agrees holds)
+    subst (λ (x : ShardView g.row.D.Denot). (s : State) → Agrees x s → Wrote g.D.Disk.view x s digest v place.block (record { shelf = new; set = c.self.inside.set; index = c.put.new.self.entries })) c.self.view_is
+    (λ s agrees. wrote_by g.D.Disk.view digest v place old new c.append.ensures.whole appended lies c.append.ensures.shape.geometry shard s c.put.new.self.entries refl c.self.invariant agrees holds)
 
 pub returns-in-Err-clause-wrote : goal.returns-in-Err-clause-wrote
 returns-in-Err-clause-wrote g c =
     let digest : Digest = c.args.digest.now in
     let v : Version = c.args.version.now in
     let old : ShardView g.row.D.Denot = record { shelf = c.self.inside.shelf; set = c.self.inside.set; index = c.self.inside.index.entries } in
-    let appended : Appended g.D.Disk.may_leave digest v (Err c.in-Err.refusal) old.shelf c.append.new.self = subst (λ (r : Result Place PutRefusal). Appended g.D.Disk.may_leave digest v r old.shelf c.append.new.self) c.in-Err.is c.append.ensures.appended in
+    let appended : Appended g.D.Disk.view digest v (Err c.in-Err.refusal) old.shelf c.append.new.self = subst (λ (r : Result Place PutRefusal). Appended g.D.Disk.view digest v r old.shelf c.append.new.self) c.in-Err.is c.append.ensures.appended in
     subst (λ (x : ShardView g.row.D.Denot). (s : State) → Agrees x s → IsUnwritten c.write_refusal.result (append_refusal (setup_of x) class.Put (version_units v) s.book)) c.self.view_is
     (λ s agrees. (c.in-Err.refusal, c.write_refusal.ensures, appended (setup_of old) s (setup_is old c.self.invariant) agrees.shelf))
