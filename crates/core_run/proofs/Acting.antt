@@ -2,7 +2,7 @@
 use Rattle.std.proofs.Common.{◌≡◌, inl, inr, ℕ, zero, suc, Bool, true, false, List, [], ◌∷◌, ◌+◌, refl, sym, ◌∙◌, ap, subst, arith}
 use Rattle.std.specs.Prelude.{◌≢◌, Option, Some, None, Result, Ok, Err, OnOk, OnErr}
 use Rattle.std.proofs.lemmas.List.{append-nil}
-use Rattle.disk_model.specs.Disk.{Images, IsHonest}
+use Rattle.disk_model.specs.Disk.{DiskView, IsDisk, IsHonest}
 use Rattle.disk_model.specs.Runs.{OneOf, Leaves, leaves_none}
 use Rattle.rec_format.specs.declared.version.Digest.{Digest}
 use Rattle.rec_format.specs.declared.version.Stamp.{Stamp}
@@ -30,14 +30,14 @@ use Rattle.shard_core.specs.Calls.{Makes, MakesAny, write_answer, read_answer, f
 use Rattle.shard_core.proofs.Going.{safe_survives}
 use Rattle.core_run.specs.Session.{states_while}
 use Rattle.core_run.specs.Meaning.{ActsFrom, TendsFrom, ClosesFrom, LeavesEach, SurvivesOne, Rests}
-use Rattle.core_run.specs.OneDevice.{StandsAlone, StandsSafely, moment_of, HadOf, ImagesOf, no_moment, AnyMoment, NoImages, NeverHalts, ActsAlone, TendsAlone, ClosesAlone, ClosedSo, flush_outcome}
+use Rattle.core_run.specs.OneDevice.{StandsAlone, StandsSafely, views_of, unknown, NeverHalts, ActsAlone, TendsAlone, ClosesAlone, ClosedSo, flush_outcome}
 use Rattle.core_run.proofs.Closing.{closed_so}
 
 -- one device has every digest
 pub only_device : (digest : Digest) → device_number 1 digest ≡ 0
 only_device digest = omega arith
 
-pub nothing_left : {T : Type 0} (old new : T) (node : Node) (states : ℕ → List State) → LeavesEach no_moment AnyMoment NoImages node states old new
+pub nothing_left : {T : Type 0} (old new : T) (node : Node) (states : ℕ → List State) → LeavesEach unknown node states old new
 nothing_left old new node states = λ device. record {
   time = record { started = tt; stays = λ t h. tt; only = λ t c h left. absurd left; kept = λ t c h left. absurd left; added = λ t c h left. absurd left };
   each = λ c left. absurd left;
@@ -97,8 +97,8 @@ none_follows setup told s faults none = record {
 }
 
 -- the one device of a node
-abbrev pub slot_of : {D : Type 0} → (faults : D → ℕ) → ShardView D → State → Slot
-slot_of faults shard state = record { setup = setup_of shard; state = state; faults = faults shard.shelf.disk }
+abbrev pub slot_of : {D : Type 0} → (view : D → DiskView) → ShardView D → State → Slot
+slot_of view shard state = record { setup = setup_of shard; state = state; faults = (view shard.shelf.disk).faults }
 
 -- a choice takes no step
 no_more_states : (device : ℕ) (event : Event) (faults : ℕ) (slot : Slot)
@@ -108,28 +108,28 @@ no_more_states (suc n) event faults slot = refl
 
 -- ---- where one event was made
 
-module _ {D : Type 0} (extent : D → ℕ) (tells : D → Type 0) (seen : D → List ℕ) (may_leave : D → Images) (moment : D → ℕ) (had : D → ℕ → Type 0) (left_since : D → ℕ → Images) (faults : D → ℕ) (old new : ShardView D) (shape : SameShape old new)
-    (later : IsLater extent moment had left_since faults old.shelf.disk new.shelf.disk) (honest : IsHonest tells seen may_leave old.shelf.disk → IsHonest tells seen may_leave new.shelf.disk) where
+module _ {D : Type 0} (view : D → DiskView) (old new : ShardView D) (shape : SameShape old new)
+    (later : IsLater (view old.shelf.disk) (view new.shelf.disk)) (honest : IsHonest (view old.shelf.disk) → IsHonest (view new.shelf.disk)) where
   setups_same : setup_of new ≡ setup_of old
   setups_same = ap (λ g. setup_for g new.set) shape.geometry ∙ ap (λ set. setup_for old.shelf.geometry set) shape.set
 
   -- the node before, and after the event
   abbrev Before : State → Node
-  Before s = slot_of faults old s ∷ []
+  Before s = slot_of view old s ∷ []
 
   abbrev After : Event → State → Node
   After event s = node_after (on_device 0 event ∷ []) (Before s)
 
   -- it is the one that the shard has then
-  after_is : (event : Event) (s : State) → event.faults_after ≡ faults new.shelf.disk → After event s ≡ slot_of faults new (after_event (setup_of old) event s) ∷ []
+  after_is : (event : Event) (s : State) → event.faults_after ≡ (view new.shelf.disk).faults → After event s ≡ slot_of view new (after_event (setup_of old) event s) ∷ []
   after_is event s counted =
       let after : State = after_event (setup_of old) event s in
       ap (λ (n : ℕ). let x : Slot = record { setup = setup_of old; state = after; faults = n } in x ∷ []) counted
-      ∙ ap (λ setup. let x : Slot = record { setup = setup; state = after; faults = faults new.shelf.disk } in x ∷ []) (sym setups_same)
+      ∙ ap (λ setup. let x : Slot = record { setup = setup; state = after; faults = (view new.shelf.disk).faults } in x ∷ []) (sym setups_same)
 
   -- the states on the way of the one device are those of the event, and there is no other device
-  left_by_event : (event : Event) (s : State) → Leaves moment had left_since (OneOf (Survives (setup_of old)) (states_through (setup_of old) event.steps s)) old.shelf.disk new.shelf.disk
-      → LeavesEach (moment_of moment) (HadOf had) (ImagesOf left_since) (Before s) (λ device. states_while device (on_device 0 event ∷ []) (Before s)) old new
+  left_by_event : (event : Event) (s : State) → Leaves (OneOf (Survives (setup_of old)) (states_through (setup_of old) event.steps s)) (view old.shelf.disk) (view new.shelf.disk)
+      → LeavesEach (views_of view) (Before s) (λ device. states_while device (on_device 0 event ∷ []) (Before s)) old new
   left_by_event event s left zero = record {
     time = left.time;
     each = λ image was. subst (λ (steps : List Step). OneOf (Survives (setup_of old)) (states_through (setup_of old) steps s) image) (sym (append-nil event.steps)) (left.each image was);
@@ -137,13 +137,13 @@ module _ {D : Type 0} (extent : D → ℕ) (tells : D → Type 0) (seen : D → 
   left_by_event event s left (suc n) = record { time = left.time; each = λ image was. tt }
 
   abbrev MakesOne : Call → Answer → State → Type 0
-  MakesOne call answer s = Makes tells seen may_leave moment had left_since faults call answer old s new
+  MakesOne call answer s = Makes view call answer old s new
 
-  stands_any : (call : Call) (answer : Answer) (s : State) (m : MakesOne call answer s) → StandsAlone faults new (After m.event s)
+  stands_any : (call : Call) (answer : Answer) (s : State) (m : MakesOne call answer s) → StandsAlone view new (After m.event s)
   stands_any call answer s m = record { state = after_event (setup_of old) m.event s; is_one = after_is m.event s m.counted; agrees = m.stands }
 
-  stands_safe : (call : Call) (answer : Answer) (s : State) (m : MakesOne call answer s) → IsHonest tells seen may_leave old.shelf.disk → IsSafe may_leave old s
-      → StandsSafely tells seen may_leave faults new (After m.event s)
+  stands_safe : (call : Call) (answer : Answer) (s : State) (m : MakesOne call answer s) → IsHonest (view old.shelf.disk) → IsSafe view old s
+      → StandsSafely view new (After m.event s)
   stands_safe call answer s m was safe = record {
     state = after_event (setup_of old) m.event s;
     is_one = after_is m.event s m.counted;
@@ -158,40 +158,40 @@ module _ {D : Type 0} (extent : D → ℕ) (tells : D → Type 0) (seen : D → 
       (does : (slot : Slot) (event : Event) → event.call ≡ call → event.answer ≡ answer → Does (slot ∷ []) c now (on_device 0 event ∷ []) r) (goes : r ≡ reply.Halted → ⊥)
       (makes : (s : State) → Agrees old s → MakesOne call answer s) where
     -- however the node stands, and whatever is left
-    acts_one : (Stands : ShardView D → Node → Type 0) (times : ShardView D → ℕ → ℕ) (before : ShardView D → ℕ → ℕ → Type 0) (since : ShardView D → ℕ → ℕ → Images) (told : Bool) (s : State) (m : MakesOne call answer s)
-        → Follows (setup_of old) told s (faults old.shelf.disk) m.event → Stands new (After m.event s)
-        → LeavesEach times before since (Before s) (λ device. states_while device (on_device 0 m.event ∷ []) (Before s)) old new
-        → ActsFrom Stands times before since NeverHalts told old (Before s) c now r new
-    acts_one Stands times before since told s m follows stands leaves = record {
+    acts_one : (Stands : ShardView D → Node → Type 0) (views : ShardView D → ℕ → DiskView) (told : Bool) (s : State) (m : MakesOne call answer s)
+        → Follows (setup_of old) told s (view old.shelf.disk).faults m.event → Stands new (After m.event s)
+        → LeavesEach views (Before s) (λ device. states_while device (on_device 0 m.event ∷ []) (Before s)) old new
+        → ActsFrom Stands views NeverHalts told old (Before s) c now r new
+    acts_one Stands views told s m follows stands leaves = record {
       work = on_device 0 m.event ∷ [];
       restarted = None;
-      carried = inl (inl (refl, does (slot_of faults old s) m.event m.is_call m.is_answer));
+      carried = inl (inl (refl, does (slot_of view old s) m.event m.is_call m.is_answer));
       legal = (follows, tt);
       stands = stands;
       leaves = leaves;
       halt = λ h. absurd (goes h);
     }
 
-    acts : ActsAlone extent tells seen may_leave moment had left_since faults old c now r new
+    acts : ActsAlone view old c now r new
     acts = (later, over_any, over_honest)
       where
-        over_any : (node : Node) → StandsAlone faults old node → ActsFrom (StandsAlone faults) no_moment AnyMoment NoImages NeverHalts false old node c now r new
+        over_any : (node : Node) → StandsAlone view old node → ActsFrom (StandsAlone view) unknown NeverHalts false old node c now r new
         over_any node stands =
             let m = makes stands.state stands.agrees in
-            subst (λ (n : Node). ActsFrom (StandsAlone faults) no_moment AnyMoment NoImages NeverHalts false old n c now r new) (sym stands.is_one)
-            (acts_one (StandsAlone faults) no_moment AnyMoment NoImages false stands.state m m.follows (stands_any call answer stands.state m) (nothing_left old new (Before stands.state) _))
+            subst (λ (n : Node). ActsFrom (StandsAlone view) unknown NeverHalts false old n c now r new) (sym stands.is_one)
+            (acts_one (StandsAlone view) unknown false stands.state m m.follows (stands_any call answer stands.state m) (nothing_left old new (Before stands.state) _))
 
-        over_honest : (node : Node) → StandsSafely tells seen may_leave faults old node
-            → ActsFrom (StandsSafely tells seen may_leave faults) (moment_of moment) (HadOf had) (ImagesOf left_since) NeverHalts true old node c now r new
+        over_honest : (node : Node) → StandsSafely view old node
+            → ActsFrom (StandsSafely view) (views_of view) NeverHalts true old node c now r new
         over_honest node stands =
             let m = makes stands.state stands.agrees in
-            subst (λ (n : Node). ActsFrom (StandsSafely tells seen may_leave faults) (moment_of moment) (HadOf had) (ImagesOf left_since) NeverHalts true old n c now r new) (sym stands.is_one)
-            (acts_one (StandsSafely tells seen may_leave faults) (moment_of moment) (HadOf had) (ImagesOf left_since) true stands.state m (m.told stands.honest stands.safe)
+            subst (λ (n : Node). ActsFrom (StandsSafely view) (views_of view) NeverHalts true old n c now r new) (sym stands.is_one)
+            (acts_one (StandsSafely view) (views_of view) true stands.state m (m.told stands.honest stands.safe)
             (stands_safe call answer stands.state m stands.honest stands.safe) (left_by_event m.event stands.state (m.leaves stands.honest stands.safe)))
 
   pub acts_put : (digest : Digest) (ttl : ℕ) (expect : Option ℕ) (payload : List ℕ) (now : ℕ) (r : Reply) (result : Result Stamp WriteRefusal) → r ≡ answer_reply (write_answer result)
       → ((s : State) → Agrees old s → MakesOne (put_call digest ttl expect payload now) (write_answer result) s)
-      → ActsAlone extent tells seen may_leave moment had left_since faults old (command.Put digest ttl expect payload) now r new
+      → ActsAlone view old (command.Put digest ttl expect payload) now r new
   acts_put digest ttl expect payload now r result is makes =
       acts (put_call digest ttl expect payload now) (write_answer result) (command.Put digest ttl expect payload) now r
       (λ slot. digest_does slot digest (put_call digest ttl expect payload now) (write_answer result) (command.Put digest ttl expect payload) now r (λ event work at is_call given. (event, at, is_call, given)) is)
@@ -199,7 +199,7 @@ module _ {D : Type 0} (extent : D → ℕ) (tells : D → Type 0) (seen : D → 
 
   pub acts_get : (digest : Digest) (now : ℕ) (r : Reply) (result : Result (Option Version) ReadRefusal) → r ≡ answer_reply (read_answer result)
       → ((s : State) → Agrees old s → MakesOne (get_call digest now) (read_answer result) s)
-      → ActsAlone extent tells seen may_leave moment had left_since faults old (command.Get digest) now r new
+      → ActsAlone view old (command.Get digest) now r new
   acts_get digest now r result is makes =
       acts (get_call digest now) (read_answer result) (command.Get digest) now r
       (λ slot. digest_does slot digest (get_call digest now) (read_answer result) (command.Get digest) now r (λ event work at is_call given. (event, at, is_call, given)) is)
@@ -207,97 +207,94 @@ module _ {D : Type 0} (extent : D → ℕ) (tells : D → Type 0) (seen : D → 
 
   pub acts_flush : {E : Type 0} (now : ℕ) (r : Reply) (flushed : Result ℕ E) → r ≡ one_sum (flush_outcome flushed)
       → ((s : State) → Agrees old s → MakesOne flush_call (flush_answer flushed) s)
-      → ActsAlone extent tells seen may_leave moment had left_since faults old command.Flush now r new
+      → ActsAlone view old command.Flush now r new
   acts_flush now r flushed is makes =
       acts flush_call (flush_answer flushed) command.Flush now r (λ slot event. flush_does flushed slot now r is event) (λ h. flushed_goes_on flushed (sym is ∙ h)) makes
 
   -- ---- a tending
 
   -- what is sealed is flushed, and nothing is queued
-  tends_one : (Stands : ShardView D → Node → Type 0) (times : ShardView D → ℕ → ℕ) (before : ShardView D → ℕ → ℕ → Type 0) (since : ShardView D → ℕ → ℕ → Images) (told : Bool) (s : State) (answer : Answer) (m : MakesOne flush_sealed_call answer s)
-      → Follows (setup_of old) told s (faults old.shelf.disk) m.event → Stands new (After m.event s)
-      → LeavesEach times before since (Before s) (λ device. states_while device (on_device 0 m.event ∷ []) (Before s)) old new
-      → TendsFrom Stands times before since told old (Before s) new
-  tends_one Stands times before since told s answer m follows stands leaves =
+  tends_one : (Stands : ShardView D → Node → Type 0) (views : ShardView D → ℕ → DiskView) (told : Bool) (s : State) (answer : Answer) (m : MakesOne flush_sealed_call answer s)
+      → Follows (setup_of old) told s (view old.shelf.disk).faults m.event → Stands new (After m.event s)
+      → LeavesEach views (Before s) (λ device. states_while device (on_device 0 m.event ∷ []) (Before s)) old new
+      → TendsFrom Stands views told old (Before s) new
+  tends_one Stands views told s answer m follows stands leaves =
       let chosen : Event = chooses_none m.event.faults_after in
       record {
         tended = on_device 0 m.event ∷ on_device 0 chosen ∷ [];
         tends = (m.event ∷ chosen ∷ [], [], refl, (m.event, chosen ∷ [], refl, m.is_call, did 0 0, (chosen, [], refl, refl, inl (refl, refl, refl))), refl);
         legal = (follows, (none_follows (setup_of old) told (after_event (setup_of old) m.event s) m.event.faults_after m.stands.queue, tt));
         stands = stands;
-        leaves = λ device. subst (λ (states : List State). Leaves (λ t. times t device) (λ t. before t device) (λ t. since t device) (SurvivesOne device (Before s) states) old new)
-            (sym (no_more_states device m.event m.event.faults_after (slot_of faults old s))) (leaves device);
+        leaves = λ device. subst (λ (states : List State). Leaves (SurvivesOne device (Before s) states) (views old device) (views new device))
+            (sym (no_more_states device m.event m.event.faults_after (slot_of view old s))) (leaves device);
       }
 
-  pub tends : ((s : State) → Agrees old s → MakesAny tells seen may_leave moment had left_since faults flush_sealed_call old s new) → TendsAlone extent tells seen may_leave moment had left_since faults old new
+  pub tends : ((s : State) → Agrees old s → MakesAny view flush_sealed_call old s new) → TendsAlone view old new
   tends makes = (later, over_any, over_honest)
     where
-      over_any : (node : Node) → StandsAlone faults old node → TendsFrom (StandsAlone faults) no_moment AnyMoment NoImages false old node new
+      over_any : (node : Node) → StandsAlone view old node → TendsFrom (StandsAlone view) unknown false old node new
       over_any node stands =
           let any = makes stands.state stands.agrees in
-          subst (λ (n : Node). TendsFrom (StandsAlone faults) no_moment AnyMoment NoImages false old n new) (sym stands.is_one)
-          (tends_one (StandsAlone faults) no_moment AnyMoment NoImages false stands.state any.0 any.1 any.1.follows (stands_any flush_sealed_call any.0 stands.state any.1) (nothing_left old new (Before stands.state) _))
+          subst (λ (n : Node). TendsFrom (StandsAlone view) unknown false old n new) (sym stands.is_one)
+          (tends_one (StandsAlone view) unknown false stands.state any.0 any.1 any.1.follows (stands_any flush_sealed_call any.0 stands.state any.1) (nothing_left old new (Before stands.state) _))
 
-      over_honest : (node : Node) → StandsSafely tells seen may_leave faults old node
-          → TendsFrom (StandsSafely tells seen may_leave faults) (moment_of moment) (HadOf had) (ImagesOf left_since) true old node new
+      over_honest : (node : Node) → StandsSafely view old node
+          → TendsFrom (StandsSafely view) (views_of view) true old node new
       over_honest node stands =
           let any = makes stands.state stands.agrees in
-          subst (λ (n : Node). TendsFrom (StandsSafely tells seen may_leave faults) (moment_of moment) (HadOf had) (ImagesOf left_since) true old n new) (sym stands.is_one)
-          (tends_one (StandsSafely tells seen may_leave faults) (moment_of moment) (HadOf had) (ImagesOf left_since) true stands.state any.0 any.1 (any.1.told stands.honest stands.safe)
+          subst (λ (n : Node). TendsFrom (StandsSafely view) (views_of view) true old n new) (sym stands.is_one)
+          (tends_one (StandsSafely view) (views_of view) true stands.state any.0 any.1 (any.1.told stands.honest stands.safe)
           (stands_safe flush_sealed_call any.0 stands.state any.1 stands.honest stands.safe) (left_by_event any.1.event stands.state (any.1.leaves stands.honest stands.safe)))
 
   -- ---- the closing
 
   abbrev Says : {E : Type 0} → Result ℕ E → Node → Type 0
-  Says flushed = ClosedSo flushed (faults old.shelf.disk) (faults new.shelf.disk)
+  Says flushed = ClosedSo flushed (view old.shelf.disk).faults (view new.shelf.disk).faults
 
-  closes_one : {E : Type 0} (flushed : Result ℕ E) (Stands : ShardView D → Node → Type 0) (times : ShardView D → ℕ → ℕ) (before : ShardView D → ℕ → ℕ → Type 0) (since : ShardView D → ℕ → ℕ → Images) (told : Bool) (s : State) (m : MakesOne flush_call (flush_answer flushed) s)
+  closes_one : {E : Type 0} (flushed : Result ℕ E) (Stands : ShardView D → Node → Type 0) (views : ShardView D → ℕ → DiskView) (told : Bool) (s : State) (m : MakesOne flush_call (flush_answer flushed) s)
       → OnOk flushed (new.shelf.buffers ≡ []) → OnErr flushed (new.shelf.buffers ≢ [])
-      → Follows (setup_of old) told s (faults old.shelf.disk) m.event → Stands new (After m.event s)
-      → LeavesEach times before since (Before s) (λ device. states_while device (on_device 0 m.event ∷ []) (Before s)) old new
-      → ClosesFrom Stands times before since told (ClosedSo flushed (faults old.shelf.disk) (faults new.shelf.disk)) old (Before s) new
-  closes_one flushed Stands times before since told s m quiet left follows stands leaves = record {
+      → Follows (setup_of old) told s (view old.shelf.disk).faults m.event → Stands new (After m.event s)
+      → LeavesEach views (Before s) (λ device. states_while device (on_device 0 m.event ∷ []) (Before s)) old new
+      → ClosesFrom Stands views told (ClosedSo flushed (view old.shelf.disk).faults (view new.shelf.disk).faults) old (Before s) new
+  closes_one flushed Stands views told s m quiet left follows stands leaves = record {
     closing = on_device 0 m.event ∷ [];
     closes = (m.event ∷ [], [], refl, (m.event, refl, m.is_call), refl);
     legal = (follows, tt);
     stands = stands;
     leaves = leaves;
-    says = closed_so flushed new (setup_of old) told s m.event (faults old.shelf.disk) (faults new.shelf.disk) (slot_after m.event (slot_of faults old s))
+    says = closed_so flushed new (setup_of old) told s m.event (view old.shelf.disk).faults (view new.shelf.disk).faults (slot_after m.event (slot_of view old s))
         quiet left m.stands follows m.is_call m.is_answer m.counted;
   }
 
   pub closes : {E : Type 0} (flushed : Result ℕ E) → OnOk flushed (new.shelf.buffers ≡ []) → OnErr flushed (new.shelf.buffers ≢ [])
-      → ((s : State) → Agrees old s → MakesOne flush_call (flush_answer flushed) s) → ClosesAlone extent tells seen may_leave moment had left_since faults flushed old new
+      → ((s : State) → Agrees old s → MakesOne flush_call (flush_answer flushed) s) → ClosesAlone view flushed old new
   closes flushed quiet left makes = (later, over_any, over_honest)
     where
-      over_any : (node : Node) → StandsAlone faults old node → ClosesFrom (StandsAlone faults) no_moment AnyMoment NoImages false (Says flushed) old node new
+      over_any : (node : Node) → StandsAlone view old node → ClosesFrom (StandsAlone view) unknown false (Says flushed) old node new
       over_any node stands =
           let m = makes stands.state stands.agrees in
-          subst (λ (n : Node). ClosesFrom (StandsAlone faults) no_moment AnyMoment NoImages false (Says flushed) old n new) (sym stands.is_one)
-          (closes_one flushed (StandsAlone faults) no_moment AnyMoment NoImages false stands.state m quiet left m.follows (stands_any flush_call (flush_answer flushed) stands.state m) (nothing_left old new (Before stands.state) _))
+          subst (λ (n : Node). ClosesFrom (StandsAlone view) unknown false (Says flushed) old n new) (sym stands.is_one)
+          (closes_one flushed (StandsAlone view) unknown false stands.state m quiet left m.follows (stands_any flush_call (flush_answer flushed) stands.state m) (nothing_left old new (Before stands.state) _))
 
-      over_honest : (node : Node) → StandsSafely tells seen may_leave faults old node
-          → ClosesFrom (StandsSafely tells seen may_leave faults) (moment_of moment) (HadOf had) (ImagesOf left_since) true (Says flushed) old node new
+      over_honest : (node : Node) → StandsSafely view old node
+          → ClosesFrom (StandsSafely view) (views_of view) true (Says flushed) old node new
       over_honest node stands =
           let m = makes stands.state stands.agrees in
-          subst (λ (n : Node). ClosesFrom (StandsSafely tells seen may_leave faults) (moment_of moment) (HadOf had) (ImagesOf left_since) true (Says flushed) old n new) (sym stands.is_one)
-          (closes_one flushed (StandsSafely tells seen may_leave faults) (moment_of moment) (HadOf had) (ImagesOf left_since) true stands.state m quiet left (m.told stands.honest stands.safe)
+          subst (λ (n : Node). ClosesFrom (StandsSafely view) (views_of view) true (Says flushed) old n new) (sym stands.is_one)
+          (closes_one flushed (StandsSafely view) (views_of view) true stands.state m quiet left (m.told stands.honest stands.safe)
           (stands_safe flush_call (flush_answer flushed) stands.state m stands.honest stands.safe) (left_by_event m.event stands.state (m.leaves stands.honest stands.safe)))
 
 -- ---- where nothing is done, by the laws of the disk
 
-module _ {D : Type 0} (tells : D → Type 0) (seen : D → List ℕ) (may_leave : D → Images) (moment : D → ℕ) (had : D → ℕ → Type 0) (left_since : D → ℕ → Images) (faults : D → ℕ)
-    (now_alone : (disk : D) (c : List ℕ) → left_since disk (moment disk) c → may_leave disk c) (now_had : (disk : D) → had disk (moment disk))
-    (now_since : (disk : D) (t : ℕ) (c : List ℕ) → had disk t → may_leave disk c → left_since disk t c) where
+module _ {D : Type 0} (view : D → DiskView)
+    (is_disk : (disk : D) → IsDisk (view disk)) where
   -- each image of an honest disk survives the state for which the node stands
-  pub rests_safely : Rests (StandsSafely tells seen may_leave faults) (moment_of moment) (HadOf had) (ImagesOf left_since)
+  pub rests_safely : Rests (StandsSafely view) (views_of view)
   rests_safely store node stands =
-      subst (λ (n : Node). LeavesEach (moment_of moment) (HadOf had) (ImagesOf left_since) n (λ device. states_while device [] n) store store) (sym stands.is_one)
-      (of stands.state (safe_survives (setup_of store) may_leave store.shelf stands.state stands.safe.safe))
+      subst (λ (n : Node). LeavesEach (views_of view) n (λ device. states_while device [] n) store store) (sym stands.is_one)
+      (of stands.state (safe_survives (setup_of store) view store.shelf stands.state stands.safe.safe))
     where
-      of : (s : State) → ((c : List ℕ) → may_leave store.shelf.disk c → Survives (setup_of store) s c)
-          → LeavesEach (moment_of moment) (HadOf had) (ImagesOf left_since) (slot_of faults store s ∷ []) (λ device. states_while device [] (slot_of faults store s ∷ [])) store store
-      of s survives zero = leaves_none (λ t. moment t.shelf.disk) (λ t. had t.shelf.disk) (λ t. left_since t.shelf.disk) (OneOf (Survives (setup_of store)) (s ∷ [])) (may_leave store.shelf.disk) store
-          (now_had store.shelf.disk) (now_alone store.shelf.disk) (now_since store.shelf.disk) (λ c image. inl (survives c image))
-      of s survives (suc n) = leaves_none (λ t. moment t.shelf.disk) (λ t. had t.shelf.disk) (λ t. left_since t.shelf.disk) (λ c. Unit {0}) (may_leave store.shelf.disk) store
-          (now_had store.shelf.disk) (now_alone store.shelf.disk) (now_since store.shelf.disk) (λ c image. tt)
+      of : (s : State) → ((c : List ℕ) → (view store.shelf.disk).may_leave c → Survives (setup_of store) s c)
+          → LeavesEach (views_of view) (slot_of view store s ∷ []) (λ device. states_while device [] (slot_of view store s ∷ [])) store store
+      of s survives zero = leaves_none (OneOf (Survives (setup_of store)) (s ∷ [])) (view store.shelf.disk) (is_disk store.shelf.disk) (λ c image. inl (survives c image))
+      of s survives (suc n) = leaves_none (λ c. Unit {0}) (view store.shelf.disk) (is_disk store.shelf.disk) (λ c image. tt)

@@ -3,7 +3,7 @@ use Rattle.std.proofs.Common.{◌≡◌, ◌≢◌, ℕ, ◌+◌, ◌*◌, ◌==
 use Rattle.std.specs.Prelude.{Option, Some, None, MatchOption, IfSome, option_map}
 use Rattle.std.specs.List.{AllByRecursion, range_with_len}
 use Rattle.std.proofs.lemmas.List.{append-nil}
-use Rattle.disk_model.specs.Disk.{Images, IsHonest}
+use Rattle.disk_model.specs.Disk.{DiskView, IsHonest}
 use Rattle.rec_format.specs.declared.version.Digest.{Digest}
 use Rattle.rec_format.specs.declared.version.Version.{Version}
 use Rattle.rec_format.specs.declared.entry.Entry.{Entry}
@@ -40,13 +40,13 @@ no_buffers : (setup : Setup) (opened : List ℕ) (found : List Copy) (next : ℕ
 unfolding entries_state cold_book refreshed
 no_buffers setup opened found next = refl
 
-module _ {D : Type 0} (extent : D → ℕ) (tells : D → Type 0) (seen : D → List ℕ) (may_leave : D → Images) (moment : D → ℕ) (had : D → ℕ → Type 0) (left_since : D → ℕ → Images) (faults : D → ℕ)
-    (set : Settings) (disk : D) (shard : ShardView D) (started : Started extent tells seen may_leave moment had left_since faults set disk shard) (told : tells disk) where
+module _ {D : Type 0} (view : D → DiskView)
+    (set : Settings) (disk : D) (shard : ShardView D) (started : Started view set disk shard) (told : (view disk).tells) where
   -- a disk that is taken into use and tells its bytes is honest, since it was synced
-  was_honest : IsHonest tells seen may_leave disk
+  was_honest : IsHonest (view disk)
   was_honest =
       let same = started.read.bytes told in
-      started.read.was_honest (record { told = same.0; image = subst (λ (bytes : List ℕ). may_leave shard.shelf.disk bytes) (sym same.1) (started.only told).holds })
+      started.read.was_honest (record { told = same.0; image = subst (λ (bytes : List ℕ). (view shard.shelf.disk).may_leave bytes) (sym same.1) (started.only told).holds })
 
   abbrev Found : State
   Found = entries_state (setup_of shard) started.stands.opened started.stands.found started.stands.next
@@ -61,7 +61,7 @@ module _ {D : Type 0} (extent : D → ℕ) (tells : D → Type 0) (seen : D → 
   -- the latest copy of a digest is the version of its entry
   of_copy : (digest : Digest) (c : Copy) → held digest shard.index ≡ Some (entry_for c) → IsLatest (copies_named digest Own) c → entry Found digest ≡ Some c.version
   of_copy digest c held_is is =
-      let bytes : List ℕ = seen disk in
+      let bytes : List ℕ = (view disk).seen in
       let named = filter_from (λ x. same_digest digest x.digest) Own c is.there in
       let own = filter_from (λ x. device_number shard.shelf.geometry.devices x.digest == shard.shelf.geometry.device) (copies_of (started.begins told).bodies) c named.0 in
       let stands : CopyStands shard.shelf.geometry bytes (range_with_len 0 shard.shelf.geometry.blocks) c =

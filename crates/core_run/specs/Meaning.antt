@@ -1,6 +1,6 @@
 -- Crate core_run. What a store's calls mean on the states of a node that it stands for: by this a session over a store is a run.
 use Rattle.std.specs.Prelude.{◌≡◌, ◌⊎◌, ℕ, Bool, List, [], Option, None}
-use Rattle.disk_model.specs.Disk.{Images, Advances}
+use Rattle.disk_model.specs.Disk.{Images, DiskView, Advances, meanwhile}
 use Rattle.disk_model.specs.Runs.{OneOf, Leaves}
 use Rattle.rec_format.specs.Device.{State}
 use Rattle.block_format.specs.Recovery.{Survives}
@@ -13,68 +13,68 @@ use Rattle.core_run.specs.Session.{ImagesLeft, Carries, ClosesEach, node_or, sta
 use Rattle.core_run.specs.Headline.{On}
 
 -- the images that each device's disk might have left from one point of the store to a later one
-abbrev pub left_between : {T : Type 0} → (moment : T → ℕ → ℕ) → (since : T → ℕ → ℕ → Images) → (old new : T) → ImagesLeft
-left_between moment since old new = λ device. since new device (moment old device)
+abbrev pub left_between : {T : Type 0} → (views : T → ℕ → DiskView) → (old new : T) → ImagesLeft
+left_between views old new = λ device. meanwhile (views old device) (views new device)
 
 -- an image of the device survives one of these states
 abbrev pub SurvivesOne : (device : ℕ) → Node → List State → Images
 SurvivesOne device node states = λ image. On node device (λ slot. OneOf (Survives slot.setup) states image)
 
 -- Of each device's disk time goes on, and each image since the start survives one of these states.
-abbrev pub LeavesEach : {T : Type 0} → (moment : T → ℕ → ℕ) → (had : T → ℕ → ℕ → Type 0) → (since : T → ℕ → ℕ → Images) → Node → (ℕ → List State) → (old new : T) → Type 0
-LeavesEach moment had since node states old new = (device : ℕ) → Leaves (λ t. moment t device) (λ t. had t device) (λ t. since t device) (SurvivesOne device node (states device)) old new
+abbrev pub LeavesEach : {T : Type 0} → (views : T → ℕ → DiskView) → Node → (ℕ → List State) → (old new : T) → Type 0
+LeavesEach views node states old new = (device : ℕ) → Leaves (SurvivesOne device node (states device)) (views old device) (views new device)
 
 -- nothing was done for want of memory
 abbrev pub Lacks : List NodeEvent → Option Node → Reply → Type 0
 Lacks work restarted r = (restarted ≡ None) × (work ≡ []) × (r ≡ reply.Fail why.Memory)
 
 -- A command is carried out from a state for which the store stood: there are its events, or a restart, and the store stands for the state after.
-pub record ActsFrom {T : Type 0} (Stands : T → Node → Type 0) (moment : T → ℕ → ℕ) (had : T → ℕ → ℕ → Type 0) (since : T → ℕ → ℕ → Images) (Halts : T → (before after : Node) → Type 0) (told : Bool) (old : T) (node : Node) (c : Command) (now : ℕ) (r : Reply) (new : T) : Type 0 where
+pub record ActsFrom {T : Type 0} (Stands : T → Node → Type 0) (views : T → ℕ → DiskView) (Halts : T → (before after : Node) → Type 0) (told : Bool) (old : T) (node : Node) (c : Command) (now : ℕ) (r : Reply) (new : T) : Type 0 where
   pub work : List NodeEvent
   pub restarted : Option Node
-  pub carried : Carries (left_between moment since old new) node c now work restarted r ⊎ Lacks work restarted r
+  pub carried : Carries (left_between views old new) node c now work restarted r ⊎ Lacks work restarted r
   pub legal : IsLegalOn told node work
   pub stands : Stands new (node_or (node_after work node) restarted)
-  pub leaves : LeavesEach moment had since node (λ device. states_while device work node) old new
+  pub leaves : LeavesEach views node (λ device. states_while device work node) old new
   pub halt : r ≡ reply.Halted → Halts new node (node_or (node_after work node) restarted)
 
-abbrev pub ActsBy : {T : Type 0} → (Stands : T → Node → Type 0) → (moment : T → ℕ → ℕ) → (had : T → ℕ → ℕ → Type 0) → (since : T → ℕ → ℕ → Images) → (Halts : T → (before after : Node) → Type 0) → (told : Bool) → T → Command → ℕ → Reply → T → Type 0
-ActsBy Stands moment had since Halts told old c now r new = (node : Node) → Stands old node → ActsFrom Stands moment had since Halts told old node c now r new
+abbrev pub ActsBy : {T : Type 0} → (Stands : T → Node → Type 0) → (views : T → ℕ → DiskView) → (Halts : T → (before after : Node) → Type 0) → (told : Bool) → T → Command → ℕ → Reply → T → Type 0
+ActsBy Stands views Halts told old c now r new = (node : Node) → Stands old node → ActsFrom Stands views Halts told old node c now r new
 
 -- The store is tended from a state for which it stood.
-pub record TendsFrom {T : Type 0} (Stands : T → Node → Type 0) (moment : T → ℕ → ℕ) (had : T → ℕ → ℕ → Type 0) (since : T → ℕ → ℕ → Images) (told : Bool) (old : T) (node : Node) (new : T) : Type 0 where
+pub record TendsFrom {T : Type 0} (Stands : T → Node → Type 0) (views : T → ℕ → DiskView) (told : Bool) (old : T) (node : Node) (new : T) : Type 0 where
   pub tended : List NodeEvent
   pub tends : TendsEach 0 node tended
   pub legal : IsLegalOn told node tended
   pub stands : Stands new (node_after tended node)
-  pub leaves : LeavesEach moment had since node (λ device. states_while device tended node) old new
+  pub leaves : LeavesEach views node (λ device. states_while device tended node) old new
 
-abbrev pub TendsBy : {T : Type 0} → (Stands : T → Node → Type 0) → (moment : T → ℕ → ℕ) → (had : T → ℕ → ℕ → Type 0) → (since : T → ℕ → ℕ → Images) → (told : Bool) → T → T → Type 0
-TendsBy Stands moment had since told old new = (node : Node) → Stands old node → TendsFrom Stands moment had since told old node new
+abbrev pub TendsBy : {T : Type 0} → (Stands : T → Node → Type 0) → (views : T → ℕ → DiskView) → (told : Bool) → T → T → Type 0
+TendsBy Stands views told old new = (node : Node) → Stands old node → TendsFrom Stands views told old node new
 
 -- Where the store stands for a state, and nothing is done, each image of now survives it.
-abbrev pub Rests : {T : Type 0} → (Stands : T → Node → Type 0) → (moment : T → ℕ → ℕ) → (had : T → ℕ → ℕ → Type 0) → (since : T → ℕ → ℕ → Images) → Type 0
-Rests {T} Stands moment had since = (store : T) (node : Node) → Stands store node → LeavesEach moment had since node (λ device. states_while device [] node) store store
+abbrev pub Rests : {T : Type 0} → (Stands : T → Node → Type 0) → (views : T → ℕ → DiskView) → Type 0
+Rests {T} Stands views = (store : T) (node : Node) → Stands store node → LeavesEach views node (λ device. states_while device [] node) store store
 
 -- ---- before the first call and behind the last
 
 -- Over the start of a store the disks' time goes on from their moments at entry.
-abbrev pub GoesOn : {T : Type 0} → (moment : T → ℕ → ℕ) → (had : T → ℕ → ℕ → Type 0) → (since : T → ℕ → ℕ → Images) → (entry : ℕ → ℕ) → (had_before : ℕ → ℕ → Type 0) → (past : ℕ → ℕ → Images) → (store : T) → Type 0
-GoesOn moment had since entry had_before past store = (device : ℕ) → Advances (entry device) (had_before device) (had store device) (past device) (since store device)
+abbrev pub GoesOn : {T : Type 0} → (views : T → ℕ → DiskView) → (entry : ℕ → DiskView) → (store : T) → Type 0
+GoesOn views entry store = (device : ℕ) → Advances (entry device) (views store device)
 
 -- So it does, and each image since the entry survives the state that the store starts with.
-pub record Enters {T : Type 0} (moment : T → ℕ → ℕ) (had : T → ℕ → ℕ → Type 0) (since : T → ℕ → ℕ → Images) (entry : ℕ → ℕ) (had_before : ℕ → ℕ → Type 0) (past : ℕ → ℕ → Images) (node : Node) (store : T) : Type 0 where
-  pub time : GoesOn moment had since entry had_before past store
-  pub each : (device : ℕ) (image : List ℕ) → since store device (entry device) image → SurvivesOne device node (states_while device [] node) image
+pub record Enters {T : Type 0} (views : T → ℕ → DiskView) (entry : ℕ → DiskView) (node : Node) (store : T) : Type 0 where
+  pub time : GoesOn views entry store
+  pub each : (device : ℕ) (image : List ℕ) → meanwhile (entry device) (views store device) image → SurvivesOne device node (states_while device [] node) image
 
 -- Each device is closed, from a state for which the store stood, and Says holds of the state after it.
-pub record ClosesFrom {T : Type 0} (Stands : T → Node → Type 0) (moment : T → ℕ → ℕ) (had : T → ℕ → ℕ → Type 0) (since : T → ℕ → ℕ → Images) (told : Bool) (Says : Node → Type 0) (old : T) (node : Node) (new : T) : Type 0 where
+pub record ClosesFrom {T : Type 0} (Stands : T → Node → Type 0) (views : T → ℕ → DiskView) (told : Bool) (Says : Node → Type 0) (old : T) (node : Node) (new : T) : Type 0 where
   pub closing : List NodeEvent
   pub closes : ClosesEach 0 node closing
   pub legal : IsLegalOn told node closing
   pub stands : Stands new (node_after closing node)
-  pub leaves : LeavesEach moment had since node (λ device. states_while device closing node) old new
+  pub leaves : LeavesEach views node (λ device. states_while device closing node) old new
   pub says : Says (node_after closing node)
 
-abbrev pub ClosesBy : {T : Type 0} → (Stands : T → Node → Type 0) → (moment : T → ℕ → ℕ) → (had : T → ℕ → ℕ → Type 0) → (since : T → ℕ → ℕ → Images) → (told : Bool) → (Says : Node → Type 0) → T → T → Type 0
-ClosesBy Stands moment had since told Says old new = (node : Node) → Stands old node → ClosesFrom Stands moment had since told Says old node new
+abbrev pub ClosesBy : {T : Type 0} → (Stands : T → Node → Type 0) → (views : T → ℕ → DiskView) → (told : Bool) → (Says : Node → Type 0) → T → T → Type 0
+ClosesBy Stands views told Says old new = (node : Node) → Stands old node → ClosesFrom Stands views told Says old node new

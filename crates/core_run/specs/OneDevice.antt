@@ -1,7 +1,7 @@
 -- Crate core_run. For which nodes of the model a node over one device stands, and what its calls mean by that.
 use Rattle.std.specs.Prelude.{◌≡◌, ℕ, true, false, List, [], ◌∷◌, Result, Ok, Err, slice_get}
 use Rattle.fault_count.specs.Counts.{Rose}
-use Rattle.disk_model.specs.Disk.{Images, IsOnly, IsHonest}
+use Rattle.disk_model.specs.Disk.{DiskView, IsOnly, IsHonest}
 use Rattle.rec_format.specs.Device.{State}
 use Rattle.rec_format.specs.Events.{disk_fault}
 use Rattle.line_proto.specs.declared.command.Command.{Command}
@@ -21,20 +21,14 @@ use Rattle.core_run.specs.Meaning.{ActsBy, TendsBy, ClosesBy}
 
 -- The node has one device, of the shard's shape and settings and with its disk's count of faults, in a state for which the
 -- shard stands.
-pub record StandsAlone {D : Type 0} (faults : D → ℕ) (shard : ShardView D) (node : Node) : Type 0 where
+pub record StandsAlone {D : Type 0} (view : D → DiskView) (shard : ShardView D) (node : Node) : Type 0 where
   pub state : State
-  pub is_one : node ≡ (record { setup = setup_of shard; state = state; faults = faults shard.shelf.disk }) ∷ []
+  pub is_one : node ≡ (record { setup = setup_of shard; state = state; faults = (view shard.shelf.disk).faults }) ∷ []
   pub agrees : Agrees shard state
 
 -- Where nothing is said of what a crash leaves, no image is looked at, and every moment is one.
-abbrev pub no_moment : {T : Type 0} → T → ℕ → ℕ
-no_moment store device = 0
-
-abbrev pub AnyMoment : {T : Type 0} → T → ℕ → ℕ → Type 0
-AnyMoment store device moment = Unit {0}
-
-abbrev pub NoImages : {T : Type 0} → T → ℕ → ℕ → Images
-NoImages store device moment image = ⊥
+abbrev pub unknown : {T : Type 0} → T → ℕ → DiskView
+unknown store device = record { extent = 0; tells = ⊥; seen = []; may_leave = λ image. ⊥; moment = 0; had = λ moment. Unit {0}; left_since = λ moment image. ⊥; faults = 0; calls = 0 }
 
 -- it never halts
 abbrev pub NeverHalts : {T : Type 0} → T → (before after : Node) → Type 0
@@ -43,38 +37,32 @@ NeverHalts store before after = ⊥
 -- ---- what a crash leaves
 
 -- The node stands for a state so that each image that its honest disk may leave survives it.
-pub record StandsSafely {D : Type 0} (tells : D → Type 0) (seen : D → List ℕ) (may_leave : D → Images) (faults : D → ℕ) (shard : ShardView D) (node : Node) : Type 0 where
+pub record StandsSafely {D : Type 0} (view : D → DiskView) (shard : ShardView D) (node : Node) : Type 0 where
   pub state : State
-  pub is_one : node ≡ (record { setup = setup_of shard; state = state; faults = faults shard.shelf.disk }) ∷ []
+  pub is_one : node ≡ (record { setup = setup_of shard; state = state; faults = (view shard.shelf.disk).faults }) ∷ []
   pub agrees : Agrees shard state
-  pub honest : IsHonest tells seen may_leave shard.shelf.disk
-  pub safe : IsSafe may_leave shard state
+  pub honest : IsHonest (view shard.shelf.disk)
+  pub safe : IsSafe view shard state
 
--- the moments and images of the one disk, whichever device is asked for
-abbrev pub moment_of : {D : Type 0} → (moment : D → ℕ) → ShardView D → ℕ → ℕ
-moment_of moment shard device = moment shard.shelf.disk
-
-abbrev pub HadOf : {D : Type 0} → (had : D → ℕ → Type 0) → ShardView D → ℕ → ℕ → Type 0
-HadOf had shard device = had shard.shelf.disk
-
-abbrev pub ImagesOf : {D : Type 0} → (left_since : D → ℕ → Images) → ShardView D → ℕ → ℕ → Images
-ImagesOf left_since shard device = left_since shard.shelf.disk
+-- what is known of the one disk, whichever device is asked for
+abbrev pub views_of : {D : Type 0} → (view : D → DiskView) → ShardView D → ℕ → DiskView
+views_of view shard device = view shard.shelf.disk
 
 -- ---- calls
 
 -- Each command is carried out from each state for which the node stood: over every disk, where what is read may be anything, and over
 -- an honest one, with what a crash leaves meanwhile. The disk is the same, later.
-abbrev pub ActsAlone : {D : Type 0} → (extent : D → ℕ) → (tells : D → Type 0) → (seen : D → List ℕ) → (may_leave : D → Images) → (moment : D → ℕ) → (had : D → ℕ → Type 0) → (left_since : D → ℕ → Images) → (faults : D → ℕ) → ShardView D → Command → ℕ → Reply → ShardView D → Type 0
-ActsAlone extent tells seen may_leave moment had left_since faults old c now r new =
-    IsLater extent moment had left_since faults old.shelf.disk new.shelf.disk
-    × ActsBy (StandsAlone faults) no_moment AnyMoment NoImages NeverHalts false old c now r new
-    × ActsBy (StandsSafely tells seen may_leave faults) (moment_of moment) (HadOf had) (ImagesOf left_since) NeverHalts true old c now r new
+abbrev pub ActsAlone : {D : Type 0} → (view : D → DiskView) → ShardView D → Command → ℕ → Reply → ShardView D → Type 0
+ActsAlone view old c now r new =
+    IsLater (view old.shelf.disk) (view new.shelf.disk)
+    × ActsBy (StandsAlone view) unknown NeverHalts false old c now r new
+    × ActsBy (StandsSafely view) (views_of view) NeverHalts true old c now r new
 
-abbrev pub TendsAlone : {D : Type 0} → (extent : D → ℕ) → (tells : D → Type 0) → (seen : D → List ℕ) → (may_leave : D → Images) → (moment : D → ℕ) → (had : D → ℕ → Type 0) → (left_since : D → ℕ → Images) → (faults : D → ℕ) → (old new : ShardView D) → Type 0
-TendsAlone extent tells seen may_leave moment had left_since faults old new =
-    IsLater extent moment had left_since faults old.shelf.disk new.shelf.disk
-    × TendsBy (StandsAlone faults) no_moment AnyMoment NoImages false old new
-    × TendsBy (StandsSafely tells seen may_leave faults) (moment_of moment) (HadOf had) (ImagesOf left_since) true old new
+abbrev pub TendsAlone : {D : Type 0} → (view : D → DiskView) → (old new : ShardView D) → Type 0
+TendsAlone view old new =
+    IsLater (view old.shelf.disk) (view new.shelf.disk)
+    × TendsBy (StandsAlone view) unknown false old new
+    × TendsBy (StandsSafely view) (views_of view) true old new
 
 -- what a flush of the one device comes to
 abbrev pub flush_outcome : {E : Type 0} → Result ℕ E → Outcome
@@ -89,11 +77,11 @@ ClosedSo (Ok flushed) before after node = AllQuiet node
 ClosedSo (Err fault) before after node = (IsQuiet (slice_get node 0) → ⊥) × Rose before after
 
 -- The device is closed from each state for which the node stood, over every disk and over an honest one.
-abbrev pub ClosesAlone : {D : Type 0} → {E : Type 0} → (extent : D → ℕ) → (tells : D → Type 0) → (seen : D → List ℕ) → (may_leave : D → Images) → (moment : D → ℕ) → (had : D → ℕ → Type 0) → (left_since : D → ℕ → Images) → (faults : D → ℕ) → Result ℕ E → (old new : ShardView D) → Type 0
-ClosesAlone extent tells seen may_leave moment had left_since faults flushed old new =
-    IsLater extent moment had left_since faults old.shelf.disk new.shelf.disk
-    × ClosesBy (StandsAlone faults) no_moment AnyMoment NoImages false (ClosedSo flushed (faults old.shelf.disk) (faults new.shelf.disk)) old new
-    × ClosesBy (StandsSafely tells seen may_leave faults) (moment_of moment) (HadOf had) (ImagesOf left_since) true (ClosedSo flushed (faults old.shelf.disk) (faults new.shelf.disk)) old new
+abbrev pub ClosesAlone : {D : Type 0} → {E : Type 0} → (view : D → DiskView) → Result ℕ E → (old new : ShardView D) → Type 0
+ClosesAlone view flushed old new =
+    IsLater (view old.shelf.disk) (view new.shelf.disk)
+    × ClosesBy (StandsAlone view) unknown false (ClosedSo flushed (view old.shelf.disk).faults (view new.shelf.disk).faults) old new
+    × ClosesBy (StandsSafely view) (views_of view) true (ClosedSo flushed (view old.shelf.disk).faults (view new.shelf.disk).faults) old new
 
 -- ---- the start
 
@@ -103,18 +91,18 @@ the_only = record { device = 0; devices = 1 }
 -- A disk was taken into use, and nothing was written. Over any disk the shard stands for a start from the entries that were found;
 -- over one that tells its bytes it begins with what they have, and a crash leaves just these. Over an honest one whose image is sound
 -- it is safe.
-pub record Started {D : Type 0} (extent : D → ℕ) (tells : D → Type 0) (seen : D → List ℕ) (may_leave : D → Images) (moment : D → ℕ) (had : D → ℕ → Type 0) (left_since : D → ℕ → Images) (faults : D → ℕ) (set : Settings) (disk : D) (shard : ShardView D) : Type 0 where
-  pub stands : StandsForEntries may_leave (IsHonest tells seen may_leave disk) shard
-  pub begins : tells disk → Begins the_only (seen disk) shard
-  pub only : tells disk → IsOnly (seen disk) (may_leave shard.shelf.disk)
-  pub safe : IsHonest tells seen may_leave disk → (bodies : List Body) → IsSound (setup_of shard) (seen disk) bodies → IsSafe may_leave shard (start_state (setup_of shard) bodies)
+pub record Started {D : Type 0} (view : D → DiskView) (set : Settings) (disk : D) (shard : ShardView D) : Type 0 where
+  pub stands : StandsForEntries view (IsHonest (view disk)) shard
+  pub begins : (view disk).tells → Begins the_only (view disk).seen shard
+  pub only : (view disk).tells → IsOnly (view disk).seen (view shard.shelf.disk).may_leave
+  pub safe : IsHonest (view disk) → (bodies : List Body) → IsSound (setup_of shard) (view disk).seen bodies → IsSafe view shard (start_state (setup_of shard) bodies)
   pub set_is : shard.set ≡ set
   pub device_is : shard.shelf.geometry.device ≡ 0
   pub devices_is : shard.shelf.geometry.devices ≡ 1
-  pub read : OnlyRead extent tells seen may_leave moment had left_since faults disk shard.shelf.disk
+  pub read : OnlyRead (view disk) (view shard.shelf.disk)
 
 -- A disk was not taken into use, and is handed back as it was.
-pub record NotStarted {D : Type 0} (extent : D → ℕ) (tells : D → Type 0) (seen : D → List ℕ) (may_leave : D → Images) (moment : D → ℕ) (had : D → ℕ → Type 0) (left_since : D → ℕ → Images) (faults : D → ℕ) (cause : StartCause) (disk new : D) : Type 0 where
-  pub read : OnlyRead extent tells seen may_leave moment had left_since faults disk new
-  pub bytes : tells disk → IsRefused the_only (seen disk) cause
-  pub rose : FaultRose cause (faults disk) (faults new)
+pub record NotStarted {D : Type 0} (view : D → DiskView) (cause : StartCause) (disk new : D) : Type 0 where
+  pub read : OnlyRead (view disk) (view new)
+  pub bytes : (view disk).tells → IsRefused the_only (view disk).seen cause
+  pub rose : FaultRose cause (view disk).faults (view new).faults

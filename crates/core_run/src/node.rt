@@ -45,8 +45,8 @@ impl<D: Disk> Node<D> {
     pub fn start(alloc: Global, mut disks: Vec<D>, set: Settings) -> Result<Node<D>, NodeRefusal<D>>
         requires disks { vec_len disks ≡ 1 }
         requires set { IsSettings set }
-        ensures begun { (disk : D) → disks.items ≡ disk ∷ [] → MatchResult result (λ node. Started D.extent D.tells D.seen D.may_leave D.moment D.had D.left_since D.faults set disk node)
-            (λ refusal. (new : D) × (refusal.disks.items ≡ new ∷ []) × NotStarted D.extent D.tells D.seen D.may_leave D.moment D.had D.left_since D.faults refusal.cause disk new) }
+        ensures begun { (disk : D) → disks.items ≡ disk ∷ [] → MatchResult result (λ node. Started D.view set disk node)
+            (λ refusal. (new : D) × (refusal.disks.items ≡ new ∷ []) × NotStarted D.view refusal.cause disk new) }
         ensures which { IfErr result (λ refusal. refusal.device ≡ 0) }
     {
         let Some(disk) = disks.pop() else {
@@ -75,8 +75,8 @@ impl<D: Disk> Node<D> {
     /// Flushes all that a device has pending, for the end of a run; answers how many buffers it flushed. At present there is device 0.
     pub fn flush_device(&mut self, device: u16) -> Result<u64, DiskFault>
         requires { device ≡ 0 }
-        ensures closes { ClosesAlone D.extent D.tells D.seen D.may_leave D.moment D.had D.left_since D.faults result self.old self.new }
-        ensures answer { (s : State) → Agrees self.old s → Makes D.tells D.seen D.may_leave D.moment D.had D.left_since D.faults flush_call (flush_answer result) self.old s self.new }
+        ensures closes { ClosesAlone D.view result self.old self.new }
+        ensures answer { (s : State) → Agrees self.old s → Makes D.view flush_call (flush_answer result) self.old s self.new }
     {
         prove!(device == 0);
         self.shard.flush()
@@ -95,9 +95,9 @@ impl<D: Disk> Node<D> {
 impl<D: Disk> Store for Node<D> {
     ghost use Rattle.core_run.specs.OneDevice.{ActsAlone, TendsAlone};
 
-    ghost acts = { ActsAlone D.extent D.tells D.seen D.may_leave D.moment D.had D.left_since D.faults };
+    ghost acts = { ActsAlone D.view };
 
-    ghost tends = { TendsAlone D.extent D.tells D.seen D.may_leave D.moment D.had D.left_since D.faults };
+    ghost tends = { TendsAlone D.view };
 
     fn act(&mut self, alloc: Global, command: &Command, now: u64) -> Reply {
         match command {

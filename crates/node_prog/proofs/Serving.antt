@@ -2,7 +2,7 @@
 use Rattle.std.proofs.Common.{◌≡◌, ◌≢◌, ℕ, zero, suc, ◌<◌, ◌≤◌, Bool, true, false, List, [], ◌∷◌, refl, inl, subst, sym, ap, ◌∙◌, arith}
 use Rattle.std.specs.Prelude.{Option, Result, ◌^◌}
 use Rattle.fault_count.specs.Counts.{Rose}
-use Rattle.disk_model.specs.Disk.{Images, IsOnly, IsHonest}
+use Rattle.disk_model.specs.Disk.{DiskView, IsDisk, IsOnly, IsHonest, meanwhile}
 use Rattle.rec_format.specs.Device.{State}
 use Rattle.block_format.specs.Layout.{Body}
 use Rattle.block_format.specs.Recovery.{IsSound, start_state, entries_state}
@@ -20,7 +20,7 @@ use Rattle.shard_core.specs.Stands.{Agrees}
 use Rattle.core_run.specs.Session.{last_node, states_while}
 use Rattle.core_run.specs.Headline.{Outside, StartsFrom, HoldsReplies, HoldsThroughout, counts_of, input_limit}
 use Rattle.core_run.specs.Meaning.{ActsBy, TendsBy, Rests, Enters, SurvivesOne}
-use Rattle.core_run.specs.OneDevice.{StandsAlone, StandsSafely, moment_of, HadOf, ImagesOf, ActsAlone, TendsAlone, ClosesAlone, ClosedSo, no_moment, AnyMoment, NoImages, NeverHalts, Started}
+use Rattle.core_run.specs.OneDevice.{StandsAlone, StandsSafely, views_of, ActsAlone, TendsAlone, ClosesAlone, ClosedSo, unknown, NeverHalts, Started}
 use Rattle.shard_core.proofs.Going.{safe_survives}
 use Rattle.shard_core.proofs.Later.{later_none, later_then}
 use Rattle.core_run.proofs.Later.{later_read}
@@ -39,83 +39,81 @@ use Rattle.node_prog.proofs.Ending.{note_of, rose_of, status_of}
 rose_before : (a b c : ℕ) → a ≤ b → Rose b c → Rose a c
 rose_before a b c up rose = λ below. let higher : b < c = rose below in omega arith
 
-module _ {D : Type 0} (extent : D → ℕ) (tells : D → Type 0) (seen : D → List ℕ) (may_leave : D → Images) (moment : D → ℕ) (had : D → ℕ → Type 0) (left_since : D → ℕ → Images) (faults : D → ℕ) where
+module _ {D : Type 0} (view : D → DiskView) where
   abbrev first_of : ShardView D → State → Node
-  first_of store s = slot_of faults store s ∷ []
+  first_of store s = slot_of view store s ∷ []
 
   -- the node has one device, as the shard has it
   abbrev IsOne : ShardView D → Node → Type 0
   IsOne store node = (s : State) × (node ≡ first_of store s)
 
-  counted : (store : ShardView D) (node : Node) → IsOne store node → counts_of node ≡ faults store.shelf.disk ∷ []
+  counted : (store : ShardView D) (node : Node) → IsOne store node → counts_of node ≡ (view store.shelf.disk).faults ∷ []
   counted store node one = ap counts_of one.1
 
-  any_is_one : (store : ShardView D) (node : Node) → StandsAlone faults store node → IsOne store node
+  any_is_one : (store : ShardView D) (node : Node) → StandsAlone view store node → IsOne store node
   any_is_one store node stands = (stands.state, stands.is_one)
 
-  safe_is_one : (store : ShardView D) (node : Node) → StandsSafely tells seen may_leave faults store node → IsOne store node
+  safe_is_one : (store : ShardView D) (node : Node) → StandsSafely view store node → IsOne store node
   safe_is_one store node stands = (stands.state, stands.is_one)
 
-  rests_any : Rests (StandsAlone faults) no_moment AnyMoment NoImages
+  rests_any : Rests (StandsAlone view) unknown
   rests_any store node stands = nothing_left store store node _
 
   abbrev Acts : ShardView D → Command → ℕ → Reply → ShardView D → Type 0
-  Acts old c now r new = ActsAlone extent tells seen may_leave moment had left_since faults old c now r new
+  Acts old c now r new = ActsAlone view old c now r new
 
   abbrev Tends : ShardView D → ShardView D → Type 0
-  Tends old new = TendsAlone extent tells seen may_leave moment had left_since faults old new
+  Tends old new = TendsAlone view old new
 
   abbrev LaterDisk : ShardView D → ShardView D → Type 0
-  LaterDisk old new = IsLater extent moment had left_since faults old.shelf.disk new.shelf.disk
+  LaterDisk old new = IsLater (view old.shelf.disk) (view new.shelf.disk)
 
   -- a session over a device that was taken into use
   module _ (taken taken' : List ℕ) (left left' : Option (List ℕ)) (written written' : Option (List ℕ)) (set : Settings) (disk : D) (old new : ShardView D) (times later : Times) (result : Ended)
       (ran : Ran Acts Tends (2 ^ 40) taken taken' left left' written written' old new times later result)
-      (started : Started extent tells seen may_leave moment had left_since faults set disk old) where
-    abbrev ran_any : Ran (ActsBy (StandsAlone faults) no_moment AnyMoment NoImages NeverHalts false) (TendsBy (StandsAlone faults) no_moment AnyMoment NoImages false) (2 ^ 40) taken taken' left left' written written' old new times later result
-    ran_any = ran_more Acts (ActsBy (StandsAlone faults) no_moment AnyMoment NoImages NeverHalts false) Tends (TendsBy (StandsAlone faults) no_moment AnyMoment NoImages false)
+      (started : Started view set disk old) where
+    abbrev ran_any : Ran (ActsBy (StandsAlone view) unknown NeverHalts false) (TendsBy (StandsAlone view) unknown false) (2 ^ 40) taken taken' left left' written written' old new times later result
+    ran_any = ran_more Acts (ActsBy (StandsAlone view) unknown NeverHalts false) Tends (TendsBy (StandsAlone view) unknown false)
         (λ o c now r n acts. acts.1) (λ o n tends. tends.1) _ _ _ _ _ _ _ old new times later result ran
 
     pub goes_on : result ≢ Halted
     goes_on =
         let s : State = entries_state (setup_of old) started.stands.opened started.stands.found started.stands.next in
-        never_halts (StandsAlone faults) no_moment AnyMoment NoImages NeverHalts false (λ store before after h. h) rests_any _ _ _ _ _ _ _ old new times later (first_of old s) result ran_any
+        never_halts (StandsAlone view) unknown NeverHalts false (λ store before after h. h) rests_any _ _ _ _ _ _ _ old new times later (first_of old s) result ran_any
         (record { state = s; is_one = refl; agrees = started.stands.agrees })
 
-    session_later : ((store : D) → IsLater extent moment had left_since faults store store) → IsLater extent moment had left_since faults disk new.shelf.disk
+    session_later : ((store : D) → IsLater (view store) (view store)) → IsLater (view disk) (view new.shelf.disk)
     session_later none =
-        later_then extent may_leave moment had left_since faults disk old.shelf.disk new.shelf.disk (later_read extent tells seen may_leave moment had left_since faults disk old.shelf.disk started.read)
-        (ran_keeps Acts Tends LaterDisk (λ store. none store.shelf.disk) (λ o m n. later_then extent may_leave moment had left_since faults o.shelf.disk m.shelf.disk n.shelf.disk) (λ o c now r n acts. acts.0) (λ o n tends. tends.0)
+        later_then view disk old.shelf.disk new.shelf.disk (later_read view disk old.shelf.disk started.read)
+        (ran_keeps Acts Tends LaterDisk (λ store. none store.shelf.disk) (λ o m n. later_then view o.shelf.disk m.shelf.disk n.shelf.disk) (λ o c now r n acts. acts.0) (λ o n tends. tends.0)
         _ _ _ _ _ _ _ old new times later result ran)
 
   -- under the status and the note that it ends with
-  -- under the status and the note that it ends with
-  module _ (now_alone : (store : D) (c : List ℕ) → left_since store (moment store) c → may_leave store c) (now_had : (store : D) → had store (moment store))
-      (now_since : (store : D) (t : ℕ) (c : List ℕ) → had store t → may_leave store c → left_since store t c)
+  module _ (is_disk : (disk : D) → IsDisk (view disk))
       {E : Type 0} (before after : Ends) (set : Settings) (disk : D) (old new end : ShardView D) (times later : Times) (result : Ended) (closed : Result ℕ E)
       (ran : Ran Acts Tends (2 ^ 40) before.taken after.taken before.left after.left before.written after.written old new times later result)
-      (started : Started extent tells seen may_leave moment had left_since faults set disk old)
-      (closes : ClosesAlone extent tells seen may_leave moment had left_since faults closed new end)
+      (started : Started view set disk old)
+      (closes : ClosesAlone view closed new end)
       (source : result ≡ SourceFault → Rose before.source after.source) (sink : result ≡ SinkFault → Rose before.sink after.sink)
-      (at_first : before.disk ≡ faults disk) (at_last : after.disk ≡ faults end.shelf.disk) where
+      (at_first : before.disk ≡ (view disk).faults) (at_last : after.disk ≡ (view end.shelf.disk).faults) where
     goes : result ≢ Halted
     goes = goes_on before.taken after.taken before.left after.left before.written after.written set disk old new times later result ran started
 
-    up_to_closing : IsLater extent moment had left_since faults disk new.shelf.disk
+    up_to_closing : IsLater (view disk) (view new.shelf.disk)
     up_to_closing = session_later before.taken after.taken before.left after.left before.written after.written set disk old new times later result ran started
-        (λ store. later_none extent may_leave moment had left_since faults store (record { had_now = now_had store; alone = now_alone store; since = now_since store }))
+        (λ store. later_none view store (is_disk store))
 
     -- what the closing says of the last state
     abbrev Says : Node → Type 0
-    Says = ClosedSo closed (faults new.shelf.disk) (faults end.shelf.disk)
+    Says = ClosedSo closed (view new.shelf.disk).faults (view end.shelf.disk).faults
 
     abbrev OutsideOf : (ended : Bool) → (images : List (List ℕ)) → Outside
     OutsideOf ended images = outside (ended_status result closed) (ended_note result closed) ran.bytes ran.output ended times before after images
 
     rose : (last : Node) → Says last → ended_status result closed ≡ 3 → Rose before.disk after.disk
     rose last says is =
-        subst (λ (n : ℕ). Rose n after.disk) (sym at_first) (subst (λ (n : ℕ). Rose (faults disk) n) (sym at_last)
-        (rose_before (faults disk) (faults new.shelf.disk) (faults end.shelf.disk) up_to_closing.count (rose_of result closed goes (faults new.shelf.disk) (faults end.shelf.disk) last says is)))
+        subst (λ (n : ℕ). Rose n after.disk) (sym at_first) (subst (λ (n : ℕ). Rose (view disk).faults n) (sym at_last)
+        (rose_before (view disk).faults (view new.shelf.disk).faults (view end.shelf.disk).faults up_to_closing.count (rose_of result closed goes (view new.shelf.disk).faults (view end.shelf.disk).faults last says is)))
 
     frames : (Starts : Node → Type 0) (ended : Bool) (images : List (List ℕ)) (s : State) (last : Node) → Starts (first_of old s) → IsOne end last → Says last
         → Frames Starts (setup_of old ∷ []) (OutsideOf ended images) 0 (first_of old s) last
@@ -123,7 +121,7 @@ module _ {D : Type 0} (extent : D → ℕ) (tells : D → Type 0) (seen : D → 
       set = refl;
       numbered = (started.device_is, started.devices_is, tt);
       starts = starts;
-      counts_first = (subst (λ (n : ℕ). n ≤ faults old.shelf.disk) (sym at_first) started.read.later, refl);
+      counts_first = (subst (λ (n : ℕ). n ≤ (view old.shelf.disk).faults) (sym at_first) started.read.later, refl);
       counts_last = counted end last one ∙ ap (λ (n : ℕ). n ∷ []) (sym at_last);
       note = note_of result closed goes;
       disk = rose last says;
@@ -131,7 +129,7 @@ module _ {D : Type 0} (extent : D → ℕ) (tells : D → Type 0) (seen : D → 
 
     concludes : (ended : Bool) (images : List (List ℕ)) (last : Node) → Says last → Concludes (λ a b. ⊥) (OutsideOf ended images) 0 last result
     concludes ended images last says = record {
-      status = status_of result closed goes (faults new.shelf.disk) (faults end.shelf.disk) last says;
+      status = status_of result closed goes (view new.shelf.disk).faults (view end.shelf.disk).faults last says;
       restart = λ is a b halts. absurd halts;
       source = source;
       sink = sink;
@@ -141,30 +139,30 @@ module _ {D : Type 0} (extent : D → ℕ) (tells : D → Type 0) (seen : D → 
     replies_from : (Starts : Node → Type 0) (images : List (List ℕ)) (s : State) → Agrees old s → Starts (first_of old s)
         → (ended : Bool) × HoldsReplies Starts false (setup_of old ∷ []) (OutsideOf ended images) (λ device image. ⊥)
     replies_from Starts images s agrees starts =
-        let w : RunsWhole (StandsAlone faults) no_moment AnyMoment NoImages NeverHalts false Says input_limit ran.bytes ran.output after.left times (first_of old s) old new end result =
-        closed_run (StandsAlone faults) no_moment AnyMoment NoImages NeverHalts false Says (λ store a b h. h) rests_any _ _ _ _ _ _ _ old new end times later (first_of old s) result
+        let w : RunsWhole (StandsAlone view) unknown NeverHalts false Says input_limit ran.bytes ran.output after.left times (first_of old s) old new end result =
+        closed_run (StandsAlone view) unknown NeverHalts false Says (λ store a b h. h) rests_any _ _ _ _ _ _ _ old new end times later (first_of old s) result
         (ran_any before.taken after.taken before.left after.left before.written after.written set disk old new times later result ran started)
         (record { state = s; is_one = refl; agrees = agrees }) closes.1 in
         let last : Node = last_node (first_of old s) w.lifted.served w.closing in
         let says : Says last = says_last Says last result goes w.says in (
           w.lifted.ended,
-          run_replies (StandsAlone faults) no_moment AnyMoment NoImages NeverHalts false Says Starts (setup_of old ∷ []) (OutsideOf w.lifted.ended images) 0
-              (λ device. 0) (λ device t. Unit {0}) (λ device t image. ⊥) (first_of old s) old new end result w refl
+          run_replies (StandsAlone view) unknown NeverHalts false Says Starts (setup_of old ∷ []) (OutsideOf w.lifted.ended images) 0
+              (unknown old) (first_of old s) old new end result w refl
               (frames Starts w.lifted.ended images s last starts (any_is_one end last w.stands) says) (concludes w.lifted.ended images last says)
               (λ (device : ℕ). (nothing_left old old (first_of old s) (λ n. []) device).time),
         )
 
     -- from a sound image
-    from_it : (bodies : List Body) → IsSound (setup_of old) (seen disk) bodies → StartsFrom (seen disk ∷ []) (first_of old (start_state (setup_of old) bodies))
+    from_it : (bodies : List Body) → IsSound (setup_of old) (view disk).seen bodies → StartsFrom ((view disk).seen ∷ []) (first_of old (start_state (setup_of old) bodies))
     from_it bodies sound = ((bodies, sound, refl), refl)
 
     -- ---- over an honest disk whose one image is sound
 
-    module _ (honest : IsHonest tells seen may_leave disk) (only : IsOnly (seen disk) (may_leave disk)) (bodies : List Body) (sound : IsSound (setup_of old) (seen disk) bodies) where
+    module _ (honest : IsHonest (view disk)) (only : IsOnly (view disk).seen (view disk).may_leave) (bodies : List Body) (sound : IsSound (setup_of old) (view disk).seen bodies) where
       abbrev Start : State
       Start = start_state (setup_of old) bodies
 
-      stands : StandsSafely tells seen may_leave faults old (first_of old Start)
+      stands : StandsSafely view old (first_of old Start)
       stands = record {
         state = Start;
         is_one = refl;
@@ -173,46 +171,46 @@ module _ {D : Type 0} (extent : D → ℕ) (tells : D → Type 0) (seen : D → 
         safe = started.safe honest bodies sound;
       }
 
-      rests_safe : Rests (StandsSafely tells seen may_leave faults) (moment_of moment) (HadOf had) (ImagesOf left_since)
-      rests_safe = rests_safely tells seen may_leave moment had left_since faults now_alone now_had now_since
+      rests_safe : Rests (StandsSafely view) (views_of view)
+      rests_safe = rests_safely view is_disk
 
-      safe_run : RunsWhole (StandsSafely tells seen may_leave faults) (moment_of moment) (HadOf had) (ImagesOf left_since) NeverHalts true Says input_limit ran.bytes ran.output after.left times (first_of old Start) old new end result
+      safe_run : RunsWhole (StandsSafely view) (views_of view) NeverHalts true Says input_limit ran.bytes ran.output after.left times (first_of old Start) old new end result
       safe_run =
-          closed_run (StandsSafely tells seen may_leave faults) (moment_of moment) (HadOf had) (ImagesOf left_since) NeverHalts true Says (λ store a b h. h) rests_safe _ _ _ _ _ _ _ old new end times later (first_of old Start) result
-          (ran_more Acts (ActsBy (StandsSafely tells seen may_leave faults) (moment_of moment) (HadOf had) (ImagesOf left_since) NeverHalts true)
-          Tends (TendsBy (StandsSafely tells seen may_leave faults) (moment_of moment) (HadOf had) (ImagesOf left_since) true)
+          closed_run (StandsSafely view) (views_of view) NeverHalts true Says (λ store a b h. h) rests_safe _ _ _ _ _ _ _ old new end times later (first_of old Start) result
+          (ran_more Acts (ActsBy (StandsSafely view) (views_of view) NeverHalts true)
+          Tends (TendsBy (StandsSafely view) (views_of view) true)
           (λ o c now r n acts. acts.2) (λ o n tends. tends.2) _ _ _ _ _ _ _ old new times later result ran)
           stands closes.2
 
       -- what was read at the start may be left by the started disk, so it survives the start state; and no other image was left meanwhile
-      enters : Enters (moment_of moment) (HadOf had) (ImagesOf left_since) (λ device. moment disk) (λ device. had disk) (λ device. left_since disk) (first_of old Start) old
+      enters : Enters (views_of view) (λ device. view disk) (first_of old Start) old
       enters = record { time = λ device. started.read.time; each = each }
         where
-          each : (device : ℕ) (image : List ℕ) → left_since old.shelf.disk (moment disk) image → SurvivesOne device (first_of old Start) (states_while device [] (first_of old Start)) image
-          each zero image left = inl (safe_survives (setup_of old) may_leave old.shelf Start (started.safe honest bodies sound).safe image
-              (subst (λ (bytes : List ℕ). may_leave old.shelf.disk bytes) (sym (only.alone image (started.read.images honest image left))) (started.only honest.told).holds))
+          each : (device : ℕ) (image : List ℕ) → meanwhile (view disk) (view old.shelf.disk) image → SurvivesOne device (first_of old Start) (states_while device [] (first_of old Start)) image
+          each zero image left = inl (safe_survives (setup_of old) view old.shelf Start (started.safe honest bodies sound).safe image
+              (subst (λ (bytes : List ℕ). (view old.shelf.disk).may_leave bytes) (sym (only.alone image (started.read.images honest image left))) (started.only honest.told).holds))
           each (suc n) image left = tt
 
-      holds : (ended : Bool) × HoldsThroughout (setup_of old ∷ []) (OutsideOf ended (seen disk ∷ [])) (λ device. left_since end.shelf.disk (moment disk)) (λ device. may_leave end.shelf.disk)
+      holds : (ended : Bool) × HoldsThroughout (setup_of old ∷ []) (OutsideOf ended ((view disk).seen ∷ [])) (λ device. meanwhile (view disk) (view end.shelf.disk)) (λ device. (view end.shelf.disk).may_leave)
       holds =
           let w = safe_run in
           let last : Node = last_node (first_of old Start) w.lifted.served w.closing in
           let says : Says last = says_last Says last result goes w.says in (
             w.lifted.ended,
-            run_holds (StandsSafely tells seen may_leave faults) (moment_of moment) (HadOf had) (ImagesOf left_since) NeverHalts Says rests_safe (setup_of old ∷ []) (OutsideOf w.lifted.ended (seen disk ∷ [])) 0
-                (λ device. moment disk) (λ device. had disk) (λ device. left_since disk) (λ device. may_leave end.shelf.disk) (first_of old Start) old new end result w refl
-                (frames (StartsFrom (seen disk ∷ [])) w.lifted.ended (seen disk ∷ []) Start last (from_it bodies sound) (safe_is_one end last w.stands) says)
-                (concludes w.lifted.ended (seen disk ∷ []) last says) enters
-                (λ device image left. now_since end.shelf.disk (moment end.shelf.disk) image (now_had end.shelf.disk) left),
+            run_holds (StandsSafely view) (views_of view) NeverHalts Says rests_safe (setup_of old ∷ []) (OutsideOf w.lifted.ended ((view disk).seen ∷ [])) 0
+                (λ device. view disk) (λ device. (view end.shelf.disk).may_leave) (first_of old Start) old new end result w refl
+                (frames (StartsFrom ((view disk).seen ∷ [])) w.lifted.ended ((view disk).seen ∷ []) Start last (from_it bodies sound) (safe_is_one end last w.stands) says)
+                (concludes w.lifted.ended ((view disk).seen ∷ []) last says) enters
+                (λ device image left. (is_disk end.shelf.disk).now_since (view end.shelf.disk).moment image (is_disk end.shelf.disk).now_had left),
           )
 
     -- ---- all together
 
-    serving : IsServed old.set (disk_of extent tells seen may_leave moment had left_since faults disk end.shelf.disk) (ended_status result closed) (ended_note result closed) times before after
+    serving : IsServed old.set (disk_of (view disk) (view end.shelf.disk)) (ended_status result closed) (ended_note result closed) times before after
     serving = record {
       geometry = old.shelf.geometry;
       place = (started.device_is, started.devices_is);
-      disk = later_then extent may_leave moment had left_since faults disk new.shelf.disk end.shelf.disk up_to_closing closes.0;
+      disk = later_then view disk new.shelf.disk end.shelf.disk up_to_closing closes.0;
       passes = λ told. let begins = started.begins told in (begins.bodies, begins.passes);
       bytes = ran.bytes;
       output = ran.output;
@@ -220,23 +218,23 @@ module _ {D : Type 0} (extent : D → ℕ) (tells : D → Type 0) (seen : D → 
       shortens = ran.shortens;
       extends = ran.extends;
       replies = let found = started.stands in
-          replies_from (StartsFound (setup_of old) old.shelf.geometry (tells disk) (seen disk)) [] (entries_state (setup_of old) found.opened found.found found.next) found.agrees (
+          replies_from (StartsFound (setup_of old) old.shelf.geometry (view disk).tells (view disk).seen) [] (entries_state (setup_of old) found.opened found.found found.next) found.agrees (
             found.opened,
             found.found,
             found.next,
-            faults old.shelf.disk,
+            (view old.shelf.disk).faults,
             refl,
             λ told. let begins = started.begins told in
-                (begins.bodies, begins.passes, found_entries extent tells seen may_leave moment had left_since faults set disk old started told),
+                (begins.bodies, begins.passes, found_entries view set disk old started told),
           );
       from_image = λ told bodies sound.
-          replies_from (StartsFrom (seen disk ∷ [])) (seen disk ∷ []) (start_state (setup_of old) bodies) ((started.begins told).sound bodies sound) (from_it bodies sound);
+          replies_from (StartsFrom ((view disk).seen ∷ [])) ((view disk).seen ∷ []) (start_state (setup_of old) bodies) ((started.begins told).sound bodies sound) (from_it bodies sound);
       throughout = holds;
     }
 
     pub is_served : (status : ℕ) (note : List ℕ) → status ≡ ended_status result closed → note ≡ ended_note result closed
-        → IsServed set (disk_of extent tells seen may_leave moment had left_since faults disk end.shelf.disk) status note times before after
+        → IsServed set (disk_of (view disk) (view end.shelf.disk)) status note times before after
     is_served status note status_is note_is =
-        subst (λ (s : Settings). IsServed s (disk_of extent tells seen may_leave moment had left_since faults disk end.shelf.disk) status note times before after) started.set_is
-        (subst (λ (n : ℕ). IsServed old.set (disk_of extent tells seen may_leave moment had left_since faults disk end.shelf.disk) n note times before after) (sym status_is)
-        (subst (λ (text : List ℕ). IsServed old.set (disk_of extent tells seen may_leave moment had left_since faults disk end.shelf.disk) (ended_status result closed) text times before after) (sym note_is) serving))
+        subst (λ (s : Settings). IsServed s (disk_of (view disk) (view end.shelf.disk)) status note times before after) started.set_is
+        (subst (λ (n : ℕ). IsServed old.set (disk_of (view disk) (view end.shelf.disk)) n note times before after) (sym status_is)
+        (subst (λ (text : List ℕ). IsServed old.set (disk_of (view disk) (view end.shelf.disk)) (ended_status result closed) text times before after) (sym note_is) serving))

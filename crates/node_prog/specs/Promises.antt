@@ -1,6 +1,6 @@
 -- Crate node_prog. What a run over one device promises.
 use Rattle.std.specs.Prelude.{◌≡◌, ◌⊎◌, ℕ, Bool, false, List, [], ◌∷◌, ◌++◌, codes, Option}
-use Rattle.disk_model.specs.Disk.{Images, IsOnly, IsHonest}
+use Rattle.disk_model.specs.Disk.{Images, DiskView, IsOnly, IsHonest, meanwhile}
 use Rattle.rec_format.specs.declared.version.Digest.{Digest}
 use Rattle.rec_format.specs.Book.{Setup}
 use Rattle.rec_format.specs.Device.{entry}
@@ -59,16 +59,16 @@ pub record DiskOf : Type 1 where
   pub since : Images
   pub now : Images
 
-abbrev pub disk_of : {D : Type 0} → (extent : D → ℕ) → (tells : D → Type 0) → (seen : D → List ℕ) → (may_leave : D → Images) → (moment : D → ℕ) → (had : D → ℕ → Type 0) → (left_since : D → ℕ → Images) → (faults : D → ℕ) → (old new : D) → DiskOf
-disk_of extent tells seen may_leave moment had left_since faults old new = record {
-  tells = tells old;
-  reads = seen old;
-  honest = IsHonest tells seen may_leave old;
-  same_later = IsLater extent moment had left_since faults old new;
-  read_alone = OnlyRead extent tells seen may_leave moment had left_since faults old new;
-  at_entry = may_leave old;
-  since = left_since new (moment old);
-  now = may_leave new;
+abbrev pub disk_of : (old new : DiskView) → DiskOf
+disk_of old new = record {
+  tells = old.tells;
+  reads = old.seen;
+  honest = IsHonest old;
+  same_later = IsLater old new;
+  read_alone = OnlyRead old new;
+  at_entry = old.may_leave;
+  since = meanwhile old new;
+  now = new.may_leave;
 }
 
 -- The device wasn't taken into use. Nothing was taken and nothing written, the disk was read alone, and what a disk that tells

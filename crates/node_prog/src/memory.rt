@@ -1,5 +1,6 @@
 // What a run is served over until disks are files: a device in memory, and a clock that stands still.
 ghost use Rattle.std.specs.Prelude.{◌≡◌, ◌∷◌, [], IfOk};
+ghost use Rattle.disk_model.specs.Moments.{view_of};
 ghost use Rattle.block_format.specs.Recovery.{IsFormatted};
 ghost use Rattle.node_prog.specs.Asking.{only_geometry};
 
@@ -24,7 +25,7 @@ const TIME: u64 = 1000;
 
 /// A device in memory, formatted and empty. Its calls fail for want of memory alone.
 pub fn formatted_disk(alloc: Global) -> Result<MemDisk, NoMemory>
-    ensures { IfOk result (λ disk. IsFormatted only_geometry (⟦<MemDisk as Disk>⟧.seen disk)) }
+    ensures { IfOk result (λ disk. IsFormatted only_geometry (view_of disk).seen) }
 {
     let mut disk = MemDisk::new(alloc, DISK_BYTES)?;
     match format_disk(&mut disk, &GEOMETRY) {

@@ -26,9 +26,9 @@ pub fn run_with<D: Disk, L: Source + Sink, C: Clock>(
     requires disks { vec_len disks ≡ 1 }
     requires set { IsSettings set }
     ensures replies { (disk : D) → disks.items ≡ disk ∷ [] → (new : D) × (result.disks.items ≡ new ∷ [])
-        × Runs set (disk_of D.extent D.tells D.seen D.may_leave D.moment D.had D.left_since D.faults disk new) result.status result.note (C.times clock.old)
-        (record { taken = L.taken link.old; left = L.left link.old; written = L.written link.old; source = L.source_faults link.old; sink = L.sink_faults link.old; disk = D.faults disk })
-        (record { taken = L.taken link.new; left = L.left link.new; written = L.written link.new; source = L.source_faults link.new; sink = L.sink_faults link.new; disk = D.faults new }) }
+        × Runs set (disk_of (D.view disk) (D.view new)) result.status result.note (C.times clock.old)
+        (record { taken = L.taken link.old; left = L.left link.old; written = L.written link.old; source = L.source_faults link.old; sink = L.sink_faults link.old; disk = (D.view disk).faults })
+        (record { taken = L.taken link.new; left = L.left link.new; written = L.written link.new; source = L.source_faults link.new; sink = L.sink_faults link.new; disk = (D.view new).faults }) }
 {
     match Node::start(alloc, disks, set) {
         Ok(mut node) => {

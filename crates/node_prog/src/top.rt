@@ -24,9 +24,9 @@ pub fn node_top<D: Disk, L: Source + Sink, C: Clock>(
     ensures refused { (AsksToRun (map string_bytes words.now) → ⊥) → (result.status ≡ 2) × (result.note ≡ codes "words refused")
         × (result.disks.items ≡ disks.items) × (link.new ≡ link.old) × (clock.new ≡ clock.old) }
     ensures replies { AsksToRun (map string_bytes words.now) → (disk : D) → disks.items ≡ disk ∷ [] → (new : D) × (result.disks.items ≡ new ∷ [])
-        × Runs run_settings (disk_of D.extent D.tells D.seen D.may_leave D.moment D.had D.left_since D.faults disk new) result.status result.note (C.times clock.old)
-        (record { taken = L.taken link.old; left = L.left link.old; written = L.written link.old; source = L.source_faults link.old; sink = L.sink_faults link.old; disk = D.faults disk })
-        (record { taken = L.taken link.new; left = L.left link.new; written = L.written link.new; source = L.source_faults link.new; sink = L.sink_faults link.new; disk = D.faults new }) }
+        × Runs run_settings (disk_of (D.view disk) (D.view new)) result.status result.note (C.times clock.old)
+        (record { taken = L.taken link.old; left = L.left link.old; written = L.written link.old; source = L.source_faults link.old; sink = L.sink_faults link.old; disk = (D.view disk).faults })
+        (record { taken = L.taken link.new; left = L.left link.new; written = L.written link.new; source = L.source_faults link.new; sink = L.sink_faults link.new; disk = (D.view new).faults }) }
 {
     if !asks_to_run(words) {
         return Outcome {

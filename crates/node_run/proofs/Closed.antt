@@ -1,7 +1,7 @@
 -- A session over a store that never halts ends otherwise, and each device is closed behind it.
 use Rattle.std.proofs.Common.{◌≡◌, ◌≢◌, ℕ, Bool, true, false, List, [], ◌∷◌, refl, subst}
 use Rattle.std.specs.Prelude.{Option, IsTrue}
-use Rattle.disk_model.specs.Disk.{Images}
+use Rattle.disk_model.specs.Disk.{DiskView}
 use Rattle.line_proto.specs.Commands.{Node}
 use Rattle.node_session.specs.declared.ended.Ended.{Ended}
 use Rattle.node_session.specs.declared.ended.Ended.TheVariants.{Finish, Quit, SourceFault, SinkFault, Memory, Halted, Long}
@@ -22,23 +22,23 @@ none_halts Halts none node (served ∷ next ∷ lines) once is h =
     let more = goes_more served.reply (EndsOnce (next ∷ lines)) (next ∷ lines) next lines once refl in
     none_halts Halts none (node_after_line served node) (next ∷ lines) more.0 (or_goes (halts served.reply) (is_halted (next ∷ lines)) more.1 is) h
 
-module _ {T : Type 0} (Stands : T → Node → Type 0) (moment : T → ℕ → ℕ) (had : T → ℕ → ℕ → Type 0) (since : T → ℕ → ℕ → Images) (Halts : T → (before after : Node) → Type 0) (told : Bool)
+module _ {T : Type 0} (Stands : T → Node → Type 0) (views : T → ℕ → DiskView) (Halts : T → (before after : Node) → Type 0) (told : Bool)
     (none : (store : T) (before after : Node) → Halts store before after → ⊥) where
   no_halt : (limit : ℕ) (bytes output : List ℕ) (left : Option (List ℕ)) (times : Times) (node : Node) (old new : T)
-      → Lifted Stands moment had since Halts told limit bytes output left times node old new Halted → ⊥
+      → Lifted Stands views Halts told limit bytes output left times node old new Halted → ⊥
   no_halt limit bytes output left times node old new l = none_halts (Halts new) (none new) node l.served l.once l.ends.1 l.halt
 
-  pub never_halts : Rests Stands moment had since → (limit : ℕ) (taken taken' : List ℕ) (left left' : Option (List ℕ)) (written written' : Option (List ℕ)) (old new : T) (times later : Times) (node : Node) (result : Ended)
-      → Ran (ActsBy Stands moment had since Halts told) (TendsBy Stands moment had since told) limit taken taken' left left' written written' old new times later result → Stands old node
+  pub never_halts : Rests Stands views → (limit : ℕ) (taken taken' : List ℕ) (left left' : Option (List ℕ)) (written written' : Option (List ℕ)) (old new : T) (times later : Times) (node : Node) (result : Ended)
+      → Ran (ActsBy Stands views Halts told) (TendsBy Stands views told) limit taken taken' left left' written written' old new times later result → Stands old node
       → result ≢ Halted
   never_halts rests limit taken taken' left left' written written' old new times later node result ran stands is =
       no_halt limit ran.bytes ran.output left' times node old new
-      (subst (λ (r : Ended). Lifted Stands moment had since Halts told limit ran.bytes ran.output left' times node old new r) is
-      (ran_lifts Stands moment had since Halts told rests limit taken taken' left left' written written' old new times later node result ran stands))
+      (subst (λ (r : Ended). Lifted Stands views Halts told limit ran.bytes ran.output left' times node old new r) is
+      (ran_lifts Stands views Halts told rests limit taken taken' left left' written written' old new times later node result ran stands))
 
-module _ {T : Type 0} (Stands : T → Node → Type 0) (moment : T → ℕ → ℕ) (had : T → ℕ → ℕ → Type 0) (since : T → ℕ → ℕ → Images) (told : Bool) (Says : Node → Type 0) where
+module _ {T : Type 0} (Stands : T → Node → Type 0) (views : T → ℕ → DiskView) (told : Bool) (Says : Node → Type 0) where
   -- one closing, however the session ended
-  pub close_after : (new end : T) (result : Ended) → result ≢ Halted → ClosesBy Stands moment had since told Says new end → CloseAfter Stands moment had since told Says new end result
+  pub close_after : (new end : T) (result : Ended) → result ≢ Halted → ClosesBy Stands views told Says new end → CloseAfter Stands views told Says new end result
   close_after new end (Finish n) goes closes = closes
   close_after new end (Quit n) goes closes = closes
   close_after new end SourceFault goes closes = closes
@@ -47,17 +47,17 @@ module _ {T : Type 0} (Stands : T → Node → Type 0) (moment : T → ℕ → �
   close_after new end Halted goes closes = absurd (goes refl)
   close_after new end (Long n) goes closes = closes
 
-module _ {T : Type 0} (Stands : T → Node → Type 0) (moment : T → ℕ → ℕ) (had : T → ℕ → ℕ → Type 0) (since : T → ℕ → ℕ → Images) (Halts : T → (before after : Node) → Type 0) (told : Bool) (Says : Node → Type 0)
+module _ {T : Type 0} (Stands : T → Node → Type 0) (views : T → ℕ → DiskView) (Halts : T → (before after : Node) → Type 0) (told : Bool) (Says : Node → Type 0)
     (none : (store : T) (before after : Node) → Halts store before after → ⊥) where
   -- A session over a store that never halts, and the closing of each device behind it, are a run of each node that the store stood for.
-  pub closed_run : Rests Stands moment had since → (limit : ℕ) (taken taken' : List ℕ) (left left' : Option (List ℕ)) (written written' : Option (List ℕ)) (old new end : T) (times later : Times) (node : Node) (result : Ended)
-      → (ran : Ran (ActsBy Stands moment had since Halts told) (TendsBy Stands moment had since told) limit taken taken' left left' written written' old new times later result) → Stands old node
-      → ClosesBy Stands moment had since told Says new end
-      → RunsWhole Stands moment had since Halts told Says limit ran.bytes ran.output left' times node old new end result
+  pub closed_run : Rests Stands views → (limit : ℕ) (taken taken' : List ℕ) (left left' : Option (List ℕ)) (written written' : Option (List ℕ)) (old new end : T) (times later : Times) (node : Node) (result : Ended)
+      → (ran : Ran (ActsBy Stands views Halts told) (TendsBy Stands views told) limit taken taken' left left' written written' old new times later result) → Stands old node
+      → ClosesBy Stands views told Says new end
+      → RunsWhole Stands views Halts told Says limit ran.bytes ran.output left' times node old new end result
   closed_run rests limit taken taken' left left' written written' old new end times later node result ran stands closes =
-      ran_whole Stands moment had since Halts told Says rests limit taken taken' left left' written written' old new end times later node result ran stands
-      (close_after Stands moment had since told Says new end result
-      (never_halts Stands moment had since Halts told none rests limit taken taken' left left' written written' old new times later node result ran stands) closes)
+      ran_whole Stands views Halts told Says rests limit taken taken' left left' written written' old new end times later node result ran stands
+      (close_after Stands views told Says new end result
+      (never_halts Stands views Halts told none rests limit taken taken' left left' written written' old new times later node result ran stands) closes)
 
 -- what the closing says holds in the end
 pub says_last : (Says : Node → Type 0) (last : Node) (result : Ended) → result ≢ Halted → UnlessHalted Says last result → Says last

@@ -4,7 +4,7 @@ use Rattle.std.specs.Prelude.{Option, Some, None, IfSome, IsTrue, flat_map}
 use Rattle.std.specs.List.{AllByRecursion}
 use Rattle.std.proofs.lemmas.List.{append-nil, map-append, length-map}
 use Rattle.std.proofs.lemmas.Grind.{flat_map-append}
-use Rattle.disk_model.specs.Disk.{Images}
+use Rattle.disk_model.specs.Disk.{DiskView}
 use Rattle.io_traits.specs.Source.{IsAtEnd}
 use Rattle.line_proto.specs.declared.reply.Reply.{Reply}
 use Rattle.line_proto.specs.declared.reply.Reply.TheVariants as reply
@@ -87,26 +87,26 @@ LastIs SinkStop r unsent = halts r ≡ false
 LastIs MemoryStop r unsent = halts r ≡ false
 LastIs HaltStop r unsent = (r ≡ reply.Halted) × (unsent ≡ [])
 
-module _ {T : Type 0} (Stands : T → Node → Type 0) (moment : T → ℕ → ℕ) (had : T → ℕ → ℕ → Type 0) (since : T → ℕ → ℕ → Images) (Halts : T → (before after : Node) → Type 0) (told : Bool) where
+module _ {T : Type 0} (Stands : T → Node → Type 0) (views : T → ℕ → DiskView) (Halts : T → (before after : Node) → Type 0) (told : Bool) where
   record LastChain (raw : Option (List ℕ)) (mid : T) (then : Times) (node : Node) (sent : List ℕ) (new : T) (later : Times) (stop : Stop) : Type 0 where
     last : Reply
-    chain : ChainOf Stands moment had since Halts told mid then node (raw ∷ []) (last ∷ []) new later
+    chain : ChainOf Stands views Halts told mid then node (raw ∷ []) (last ∷ []) new later
     unsent : List ℕ
     text : reply_text last ≡ sent ++ unsent
     is_last : LastIs stop last unsent
 
-  any_chain : Rests Stands moment had since → (raw : Option (List ℕ)) (mid : T) (then : Times) (node : Node) (r : Reply) (new : T) (later : Times)
-      → TurnAny (ActsBy Stands moment had since Halts told) (TendsBy Stands moment had since told) (line_end_of raw) mid then r new later → Stands mid node
-      → ChainOf Stands moment had since Halts told mid then node (raw ∷ []) (r ∷ []) new later × (halts r ≡ false)
-  any_chain rests raw mid then node r new later (inl turn) stands = ((turn_chain Stands moment had since Halts told mid new then later node raw r turn stands).0, halts_not r turn.no_halt)
-  any_chain rests raw mid then node r new later (inr quits) stands = (quit_chain Stands moment had since Halts told rests mid new then later node raw r quits stands, ap halts quits.farewell)
+  any_chain : Rests Stands views → (raw : Option (List ℕ)) (mid : T) (then : Times) (node : Node) (r : Reply) (new : T) (later : Times)
+      → TurnAny (ActsBy Stands views Halts told) (TendsBy Stands views told) (line_end_of raw) mid then r new later → Stands mid node
+      → ChainOf Stands views Halts told mid then node (raw ∷ []) (r ∷ []) new later × (halts r ≡ false)
+  any_chain rests raw mid then node r new later (inl turn) stands = ((turn_chain Stands views Halts told mid new then later node raw r turn stands).0, halts_not r turn.no_halt)
+  any_chain rests raw mid then node r new later (inr quits) stands = (quit_chain Stands views Halts told rests mid new then later node raw r quits stands, ap halts quits.farewell)
 
-  last_chain : Rests Stands moment had since → (raw : Option (List ℕ)) (mid : T) (then : Times) (node : Node) (sent : List ℕ) (new : T) (later : Times) (stop : Stop)
-      → StopsAt (ActsBy Stands moment had since Halts told) (TendsBy Stands moment had since told) (line_end_of raw) mid then sent new later stop → Stands mid node
+  last_chain : Rests Stands views → (raw : Option (List ℕ)) (mid : T) (then : Times) (node : Node) (sent : List ℕ) (new : T) (later : Times) (stop : Stop)
+      → StopsAt (ActsBy Stands views Halts told) (TendsBy Stands views told) (line_end_of raw) mid then sent new later stop → Stands mid node
       → LastChain raw mid then node sent new later stop
   last_chain rests raw mid then node sent new later QuitStop stops stands = record {
     last = reply.Bye;
-    chain = quit_chain Stands moment had since Halts told rests mid new then later node raw reply.Bye stops.0 stands;
+    chain = quit_chain Stands views Halts told rests mid new then later node raw reply.Bye stops.0 stands;
     unsent = [];
     text = sym stops.1 ∙ sym (append-nil sent);
     is_last = (refl, refl);
@@ -119,7 +119,7 @@ module _ {T : Type 0} (Stands : T → Node → Type 0) (moment : T → ℕ → �
       record { last = stops.0; chain = any.0; unsent = reply_text stops.0; text = ap (λ (l : List ℕ). l ++ reply_text stops.0) (sym stops.2); is_last = any.1 }
   last_chain rests raw mid then node sent new later HaltStop stops stands = record {
     last = reply.Halted;
-    chain = halt_chain Stands moment had since Halts told rests mid new then later node raw stops.0 stands;
+    chain = halt_chain Stands views Halts told rests mid new then later node raw stops.0 stands;
     unsent = [];
     text = sym stops.1 ∙ sym (append-nil sent);
     is_last = (refl, refl);
@@ -127,11 +127,11 @@ module _ {T : Type 0} (Stands : T → Node → Type 0) (moment : T → ℕ → �
 
   -- a chain, and what the bytes and the replies say of it
   lifted : (limit : ℕ) (bytes output : List ℕ) (left : Option (List ℕ)) (old new : T) (times later : Times) (node : Node) (result : Ended) (raws unserved : List (Option (List ℕ))) (rs : List Reply) (at_input_end : Bool) (lines : List (List ℕ)) (rest : List ℕ)
-      → ChainOf Stands moment had since Halts told old times node raws rs new later → FallInto bytes lines rest
+      → ChainOf Stands views Halts told old times node raws rs new later → FallInto bytes lines rest
       → map Some lines ++ rest_line at_input_end rest ≡ raws ++ unserved → (IsTrue at_input_end → IsAtEnd left)
       → once_in rs → IsFrontOf output (flat_map reply_text rs)
       → ((served : List Served) → map (λ s. s.line) served ≡ raws → replies_of served ≡ rs → EndsWith limit bytes output at_input_end served unserved result)
-      → Lifted Stands moment had since Halts told limit bytes output left times node old new result
+      → Lifted Stands views Halts told limit bytes output left times node old new result
   lifted limit bytes output left old new times later node result raws unserved rs at_input_end lines rest chain falls in_order at_end once front ends = record {
     served = chain.served;
     unserved = unserved;
@@ -173,25 +173,25 @@ module _ {T : Type 0} (Stands : T → Node → Type 0) (moment : T → ℕ → �
   count_served served raws of = sym (length-map served (λ (s : Served). s.line)) ∙ ap length of
 
   abbrev TurnsOf : List LineEnd → T → Times → List ℕ → T → Times → Type 0
-  TurnsOf ends old times output new later = Serves (ActsBy Stands moment had since Halts told) (TendsBy Stands moment had since told) ends old times output new later
+  TurnsOf ends old times output new later = Serves (ActsBy Stands views Halts told) (TendsBy Stands views told) ends old times output new later
 
   -- all whole lines had their turns, and perhaps a rest at the input's end
-  all_served : Rests Stands moment had since → (limit : ℕ) (bytes output : List ℕ) (left : Option (List ℕ)) (old new : T) (times later : Times) (node : Node) (result : Ended) (raws unserved : List (Option (List ℕ))) (at_input_end : Bool) (lines : List (List ℕ)) (rest : List ℕ)
+  all_served : Rests Stands views → (limit : ℕ) (bytes output : List ℕ) (left : Option (List ℕ)) (old new : T) (times later : Times) (node : Node) (result : Ended) (raws unserved : List (Option (List ℕ))) (at_input_end : Bool) (lines : List (List ℕ)) (rest : List ℕ)
       → TurnsOf (map line_end_of raws) old times output new later → Stands old node → FallInto bytes lines rest
       → map Some lines ++ rest_line at_input_end rest ≡ raws ++ unserved → (IsTrue at_input_end → IsAtEnd left)
       → ((served : List Served) → map (λ s. s.line) served ≡ raws → output ≡ written_text served → has_quit served ≡ false → is_halted served ≡ false → EndsWith limit bytes output at_input_end served unserved result)
-      → Lifted Stands moment had since Halts told limit bytes output left times node old new result
+      → Lifted Stands views Halts told limit bytes output left times node old new result
   all_served rests limit bytes output left old new times later node result raws unserved at_input_end lines rest serves stands falls in_order at_end ends =
-      let chain = turns_chain Stands moment had since Halts told rests raws serves.replies old new times later node serves.turns stands in
+      let chain = turns_chain Stands views Halts told rests raws serves.replies old new times later node serves.turns stands in
       lifted limit bytes output left old new times later node result raws unserved serves.replies at_input_end lines rest chain.0 falls in_order at_end (go_once serves.replies chain.1)
       (whole_front serves.replies output serves.told)
       (λ served of_lines of_replies. ends served of_lines (whole_text served serves.replies output of_replies serves.told)
       (not_quit served serves.replies false of_replies (go_bye serves.replies chain.1)) (not_halted served serves.replies false of_replies (go_halted serves.replies chain.1)))
 
-  whole_lines : Rests Stands moment had since → (limit : ℕ) (bytes output : List ℕ) (left : Option (List ℕ)) (old new : T) (times later : Times) (node : Node) (result : Ended)
-      → ServesWhole (ActsBy Stands moment had since Halts told) (TendsBy Stands moment had since told) bytes old times output new later → Stands old node
+  whole_lines : Rests Stands views → (limit : ℕ) (bytes output : List ℕ) (left : Option (List ℕ)) (old new : T) (times later : Times) (node : Node) (result : Ended)
+      → ServesWhole (ActsBy Stands views Halts told) (TendsBy Stands views told) bytes old times output new later → Stands old node
       → ((served : List Served) → output ≡ written_text served → has_quit served ≡ false → is_halted served ≡ false → EndsWith limit bytes output false served [] result)
-      → Lifted Stands moment had since Halts told limit bytes output left times node old new result
+      → Lifted Stands views Halts told limit bytes output left times node old new result
   whole_lines rests limit bytes output left old new times later node result whole stands ends =
       all_served rests limit bytes output left old new times later node result (map Some whole.lines) [] false whole.lines whole.rest
       (subst (λ (l : List LineEnd). TurnsOf l old times output new later) (sym (ends_of whole.lines)) whole.serves) stands whole.falls refl (λ no_end. absurd (not_true no_end))
@@ -214,22 +214,22 @@ module _ {T : Type 0} (Stands : T → Node → Type 0) (moment : T → ℕ → �
   said_so served rs said of is = text_of served ∙ of_text served rs of ∙ is
 
   -- the session stopped at a line
-  stopped_lifts : Rests Stands moment had since → (limit : ℕ) (bytes output : List ℕ) (left : Option (List ℕ)) (old new : T) (times later : Times) (node : Node) (result : Ended) (n : ℕ) (stop : Stop)
-      → StopsAfter (ActsBy Stands moment had since Halts told) (TendsBy Stands moment had since told) bytes left n old times output new later stop → Stands old node
+  stopped_lifts : Rests Stands views → (limit : ℕ) (bytes output : List ℕ) (left : Option (List ℕ)) (old new : T) (times later : Times) (node : Node) (result : Ended) (n : ℕ) (stop : Stop)
+      → StopsAfter (ActsBy Stands views Halts told) (TendsBy Stands views told) bytes left n old times output new later stop → Stands old node
       → ((at_input_end : Bool) (served : List Served) (unserved : List (Option (List ℕ))) (r : Reply) (unsent : List ℕ) → length served ≡ n + 1 → written_text served ≡ output ++ unsent
       → LastIs stop r unsent → has_quit served ≡ is_bye r → is_halted served ≡ halts r → EndsWith limit bytes output at_input_end served unserved result)
-      → Lifted Stands moment had since Halts told limit bytes output left times node old new result
+      → Lifted Stands views Halts told limit bytes output left times node old new result
   stopped_lifts rests limit bytes output left old new times later node result n stop stops stands ends =
       let parts : Parts bytes left stops.lines stops.line = parts_of bytes left stops.lines stops.rest stops.line stops.whole stops.each stops.takes_up in
       let serves : TurnsOf (map line_end_of (map Some stops.lines)) old times stops.told stops.mid stops.then =
       subst (λ (l : List LineEnd). TurnsOf l old times stops.told stops.mid stops.then) (sym (ends_of stops.lines)) stops.serves in
-      let first = turns_chain Stands moment had since Halts told rests (map Some stops.lines) serves.replies old stops.mid times stops.then node serves.turns stands in
+      let first = turns_chain Stands views Halts told rests (map Some stops.lines) serves.replies old stops.mid times stops.then node serves.turns stands in
       let mid_node : Node = node_after_lines first.0.served node in
       let last : LastChain parts.raw stops.mid stops.then mid_node stops.sent new later stop =
       last_chain rests parts.raw stops.mid stops.then mid_node stops.sent new later stop
-      (subst (λ (l : LineEnd). StopsAt (ActsBy Stands moment had since Halts told) (TendsBy Stands moment had since told) l stops.mid stops.then stops.sent new later stop) (sym parts.is_end) stops.stops) first.0.stands in
-      let both : ChainOf Stands moment had since Halts told old times node (map Some stops.lines ++ parts.raw ∷ []) (serves.replies ++ last.last ∷ []) new later =
-      chain_then Stands moment had since Halts told old stops.mid new times stops.then later node (map Some stops.lines) (parts.raw ∷ []) serves.replies (last.last ∷ []) first.0 last.chain
+      (subst (λ (l : LineEnd). StopsAt (ActsBy Stands views Halts told) (TendsBy Stands views told) l stops.mid stops.then stops.sent new later stop) (sym parts.is_end) stops.stops) first.0.stands in
+      let both : ChainOf Stands views Halts told old times node (map Some stops.lines ++ parts.raw ∷ []) (serves.replies ++ last.last ∷ []) new later =
+      chain_then Stands views Halts told old stops.mid new times stops.then later node (map Some stops.lines) (parts.raw ∷ []) serves.replies (last.last ∷ []) first.0 last.chain
       (back_in_halt (Halts new) node first.0.served last.chain.served (omega (arith, count_served last.chain.served (parts.raw ∷ []) last.chain.of_lines)) last.chain.halt) in
       let text : flat_map reply_text (serves.replies ++ last.last ∷ []) ≡ output ++ last.unsent = text_parts output stops.told stops.sent last.unsent serves.replies last.last stops.all serves.told last.text in
       lifted limit bytes output left old new times later node result (map Some stops.lines ++ parts.raw ∷ []) parts.unserved (serves.replies ++ last.last ∷ []) parts.at_input_end parts.all_lines parts.open_line
@@ -245,9 +245,9 @@ module _ {T : Type 0} (Stands : T → Node → Type 0) (moment : T → ℕ → �
   all_sent output text unsent is none = sym (is ∙ ap (λ (l : List ℕ). output ++ l) none ∙ append-nil output)
 
   -- All of a run but its closing flush, of every end of a session.
-  pub ends_lift : Rests Stands moment had since → (limit : ℕ) (bytes output : List ℕ) (left : Option (List ℕ)) (old new : T) (times later : Times) (node : Node) (result : Ended)
-      → EndsSo (ActsBy Stands moment had since Halts told) (TendsBy Stands moment had since told) limit bytes left old times output new later result → Stands old node
-      → Lifted Stands moment had since Halts told limit bytes output left times node old new result
+  pub ends_lift : Rests Stands views → (limit : ℕ) (bytes output : List ℕ) (left : Option (List ℕ)) (old new : T) (times later : Times) (node : Node) (result : Ended)
+      → EndsSo (ActsBy Stands views Halts told) (TendsBy Stands views told) limit bytes left old times output new later result → Stands old node
+      → Lifted Stands views Halts told limit bytes output left times node old new result
   ends_lift rests limit bytes output left old new times later node (Finish n) ends stands =
       let all = ends.1 in
       let raws : List (Option (List ℕ)) = map Some all.lines ++ rest_line true all.rest in
@@ -281,8 +281,8 @@ module _ {T : Type 0} (Stands : T → Node → Type 0) (moment : T → ℕ → �
       whole_lines rests limit bytes output left old new times later node (Long n) ends.2 stands (λ served told_text quit halted. (told_text, refl, refl, quit, halted, ends.1))
 
   -- The same of the session's own word.
-  pub ran_lifts : Rests Stands moment had since → (limit : ℕ) (taken taken' : List ℕ) (left left' : Option (List ℕ)) (written written' : Option (List ℕ)) (old new : T) (times later : Times) (node : Node) (result : Ended)
-      → (ran : Ran (ActsBy Stands moment had since Halts told) (TendsBy Stands moment had since told) limit taken taken' left left' written written' old new times later result) → Stands old node
-      → Lifted Stands moment had since Halts told limit ran.bytes ran.output left' times node old new result
+  pub ran_lifts : Rests Stands views → (limit : ℕ) (taken taken' : List ℕ) (left left' : Option (List ℕ)) (written written' : Option (List ℕ)) (old new : T) (times later : Times) (node : Node) (result : Ended)
+      → (ran : Ran (ActsBy Stands views Halts told) (TendsBy Stands views told) limit taken taken' left left' written written' old new times later result) → Stands old node
+      → Lifted Stands views Halts told limit ran.bytes ran.output left' times node old new result
   ran_lifts rests limit taken taken' left left' written written' old new times later node result ran stands =
       ends_lift rests limit ran.bytes ran.output left' old new times later node result ran.ends stands

@@ -1,7 +1,7 @@
 -- All of the promises of a run: what the session gives of them, and what else the run must have.
 use Rattle.std.proofs.Common.{◌≡◌, ℕ, Bool, true, List, [], subst, sym}
 use Rattle.std.specs.Prelude.{Option, Some, None, IfSome, IsTrue}
-use Rattle.disk_model.specs.Disk.{Images}
+use Rattle.disk_model.specs.Disk.{DiskView, meanwhile}
 use Rattle.rec_format.specs.Book.{Setup}
 use Rattle.io_traits.specs.Source.{IsAtEnd}
 use Rattle.line_proto.specs.Commands.{Node}
@@ -17,17 +17,17 @@ at_end_of : (left : Option (List ℕ)) → IsAtEnd left → IfSome left (λ byte
 at_end_of None h = tt
 at_end_of (Some bytes) h = h
 
-module _ {T : Type 0} (Stands : T → Node → Type 0) (moment : T → ℕ → ℕ) (had : T → ℕ → ℕ → Type 0) (since : T → ℕ → ℕ → Images) (Halts : T → (before after : Node) → Type 0) (told : Bool) (Says : Node → Type 0) where
+module _ {T : Type 0} (Stands : T → Node → Type 0) (views : T → ℕ → DiskView) (Halts : T → (before after : Node) → Type 0) (told : Bool) (Says : Node → Type 0) where
   abbrev pub WholeOf : Outside → Node → (old new end : T) → Ended → Type 0
-  WholeOf o node old new end result = RunsWhole Stands moment had since Halts told Says input_limit o.taken o.written o.left o.times node old new end result
+  WholeOf o node old new end result = RunsWhole Stands views Halts told Says input_limit o.taken o.written o.left o.times node old new end result
 
   -- The promises on replies.
-  pub run_replies : (Starts : Node → Type 0) (setups : List Setup) (o : Outside) (noted : ℕ) (entry : ℕ → ℕ) (had_before : ℕ → ℕ → Type 0) (past : ℕ → ℕ → Images) (node : Node) (old new end : T) (result : Ended)
+  pub run_replies : (Starts : Node → Type 0) (setups : List Setup) (o : Outside) (noted : ℕ) (entry : ℕ → DiskView) (node : Node) (old new end : T) (result : Ended)
       → (w : WholeOf o node old new end result) → o.ended ≡ w.lifted.ended
       → Frames Starts setups o noted node (last_node node w.lifted.served w.closing) → Concludes (Halts new) o noted (last_node node w.lifted.served w.closing) result
-      → GoesOn moment had since entry had_before past old
-      → HoldsReplies Starts told setups o (λ device. since end device (entry device))
-  run_replies Starts setups o noted entry had_before past node old new end result w ended f c time =
+      → GoesOn views entry old
+      → HoldsReplies Starts told setups o (λ device. meanwhile (entry device) (views end device))
+  run_replies Starts setups o noted entry node old new end result w ended f c time =
       let l = w.lifted in
       record {
         first = node;
@@ -39,28 +39,28 @@ module _ {T : Type 0} (Stands : T → Node → Type 0) (moment : T → ℕ → �
         starts = f.starts;
         counts_first = f.counts_first;
         counts_last = f.counts_last;
-        is_run = run_since Stands moment had since Halts told Says entry had_before past node old end l.served w.closing time w.leaves w.is_run;
+        is_run = run_since Stands views Halts told Says entry node old end l.served w.closing time w.leaves w.is_run;
         clock = l.clock;
         at_end = λ is. at_end_of o.left (l.at_end (subst IsTrue ended is));
         answered = subst (λ (b : Bool). IsAnswered o.status noted o.taken o.written b node l.served w.closing) (sym ended)
-            (is_answered Stands moment had since Halts told Says input_limit o.status noted o.taken o.written o.left o.times node old new end result w c.status);
+            (is_answered Stands views Halts told Says input_limit o.status noted o.taken o.written o.left o.times node old new end result w c.status);
         cause = subst (λ (b : Bool). EndsWithCause o.status noted o.taken b o.before o.after node l.served) (sym ended)
-            (is_caused Stands moment had since Halts told Says o noted o.left o.times node old new end result w c f.disk);
+            (is_caused Stands views Halts told Says o noted o.left o.times node old new end result w c f.disk);
         note = f.note;
       }
 
-module _ {T : Type 0} (Stands : T → Node → Type 0) (moment : T → ℕ → ℕ) (had : T → ℕ → ℕ → Type 0) (since : T → ℕ → ℕ → Images) (Halts : T → (before after : Node) → Type 0) (Says : Node → Type 0) where
+module _ {T : Type 0} (Stands : T → Node → Type 0) (views : T → ℕ → DiskView) (Halts : T → (before after : Node) → Type 0) (Says : Node → Type 0) where
   -- All of the promises, over disks that tell what they hold.
-  pub run_holds : Rests Stands moment had since → (setups : List Setup) (o : Outside) (noted : ℕ) (entry : ℕ → ℕ) (had_before : ℕ → ℕ → Type 0) (past : ℕ → ℕ → Images) (may_leave : ImagesLeft) (node : Node) (old new end : T) (result : Ended)
-      → (w : WholeOf Stands moment had since Halts true Says o node old new end result) → o.ended ≡ w.lifted.ended
+  pub run_holds : Rests Stands views → (setups : List Setup) (o : Outside) (noted : ℕ) (entry : ℕ → DiskView) (may_leave : ImagesLeft) (node : Node) (old new end : T) (result : Ended)
+      → (w : WholeOf Stands views Halts true Says o node old new end result) → o.ended ≡ w.lifted.ended
       → Frames (StartsFrom o.images) setups o noted node (last_node node w.lifted.served w.closing) → Concludes (Halts new) o noted (last_node node w.lifted.served w.closing) result
-      → Enters moment had since entry had_before past node old
-      → ((device : ℕ) (image : List ℕ) → may_leave device image → since end device (moment end device) image)
-      → HoldsThroughout setups o (λ device. since end device (entry device)) may_leave
+      → Enters views entry node old
+      → ((device : ℕ) (image : List ℕ) → may_leave device image → meanwhile (views end device) (views end device) image)
+      → HoldsThroughout setups o (λ device. meanwhile (entry device) (views end device)) may_leave
   unfolding run_replies
-  run_holds rests setups o noted entry had_before past may_leave node old new end result w ended f c enters law = record {
-    replies = run_replies Stands moment had since Halts true Says (StartsFrom o.images) setups o noted entry had_before past node old new end result w ended f c enters.time;
-    left_now = last_images Stands moment had since Halts true Says rests may_leave end (last_node node w.lifted.served w.closing) w.stands law;
-    left_since = images_since Stands moment had since Halts true Says entry had_before past node old end w.lifted.served w.closing enters w.leaves;
-    committed = commits_all (left_between moment since old end) true node w.lifted.served w.is_run.serves;
+  run_holds rests setups o noted entry may_leave node old new end result w ended f c enters law = record {
+    replies = run_replies Stands views Halts true Says (StartsFrom o.images) setups o noted entry node old new end result w ended f c enters.time;
+    left_now = last_images Stands views Halts true Says rests may_leave end (last_node node w.lifted.served w.closing) w.stands law;
+    left_since = images_since Stands views Halts true Says entry node old end w.lifted.served w.closing enters w.leaves;
+    committed = commits_all (left_between views old end) true node w.lifted.served w.is_run.serves;
   }

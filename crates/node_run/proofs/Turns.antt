@@ -3,7 +3,7 @@ use Rattle.std.proofs.Common.{◌≡◌, ◌≢◌, ℕ, ◌<◌, Bool, true, fa
 use Rattle.std.specs.Prelude.{Option, Some, None, ◌⊎◌, MatchBool}
 use Rattle.std.specs.List.{AllByRecursion}
 use Rattle.std.proofs.lemmas.List.{map-append}
-use Rattle.disk_model.specs.Disk.{Images, Advances}
+use Rattle.disk_model.specs.Disk.{Images, DiskView, Advances}
 use Rattle.disk_model.specs.Runs.{OneOf, one_of_front, one_of_back, leaves_then, leaves_more}
 use Rattle.rec_format.specs.Device.{State}
 use Rattle.rec_format.specs.Versions.{bounded_time}
@@ -147,66 +147,66 @@ declines_of left node (Some line) r tended (inr memory) = inr (inr (refl, refl, 
 goes_tends : (r : Reply) (Then Else : Type 0) → goes_on r ≡ true → Then → MatchBool (goes_on r) Then Else
 goes_tends r Then Else goes h = rw goes h
 
-module _ {T : Type 0} (Stands : T → Node → Type 0) (moment : T → ℕ → ℕ) (had : T → ℕ → ℕ → Type 0) (since : T → ℕ → ℕ → Images) (Halts : T → (before after : Node) → Type 0) (told : Bool) where
+module _ {T : Type 0} (Stands : T → Node → Type 0) (views : T → ℕ → DiskView) (Halts : T → (before after : Node) → Type 0) (told : Bool) where
   -- the images of the first part are among those of the whole, and so are those of the second
-  first_images : (old mid new : T) → ((device : ℕ) → Advances (moment old device) (had old device) (had mid device) (since old device) (since mid device))
-      → ((device : ℕ) → Advances (moment mid device) (had mid device) (had new device) (since mid device) (since new device))
-      → (device : ℕ) (image : List ℕ) → left_between moment since old mid device image → left_between moment since old new device image
-  first_images old mid new one two device image was = (two device).kept (moment old device) image ((one device).stays (moment old device) (one device).started) was
+  first_images : (old mid new : T) → ((device : ℕ) → Advances (views old device) (views mid device))
+      → ((device : ℕ) → Advances (views mid device) (views new device))
+      → (device : ℕ) (image : List ℕ) → left_between views old mid device image → left_between views old new device image
+  first_images old mid new one two device image was = (two device).kept (views old device).moment image ((one device).stays (views old device).moment (one device).started) was
 
-  second_images : (old mid new : T) → ((device : ℕ) → Advances (moment old device) (had old device) (had mid device) (since old device) (since mid device))
-      → ((device : ℕ) → Advances (moment mid device) (had mid device) (had new device) (since mid device) (since new device))
-      → (device : ℕ) (image : List ℕ) → left_between moment since mid new device image → left_between moment since old new device image
-  second_images old mid new one two device image was = (two device).added (moment old device) image ((one device).stays (moment old device) (one device).started) was
+  second_images : (old mid new : T) → ((device : ℕ) → Advances (views old device) (views mid device))
+      → ((device : ℕ) → Advances (views mid device) (views new device))
+      → (device : ℕ) (image : List ℕ) → left_between views mid new device image → left_between views old new device image
+  second_images old mid new one two device image was = (two device).added (views old device).moment image ((one device).stays (views old device).moment (one device).started) was
 
   -- one list of states and another, of which the second goes from a node with the same setups
   pub leaves_both : (node mid_node : Node) (first second all : ℕ → List State) (old mid new : T) → setups_of mid_node ≡ setups_of node
       → ((P : State → Images) (device : ℕ) (image : List ℕ) → OneOf P (first device) image → OneOf P (all device) image)
       → ((P : State → Images) (device : ℕ) (image : List ℕ) → OneOf P (second device) image → OneOf P (all device) image)
-      → LeavesEach moment had since node first old mid → LeavesEach moment had since mid_node second mid new → LeavesEach moment had since node all old new
+      → LeavesEach views node first old mid → LeavesEach views mid_node second mid new → LeavesEach views node all old new
   leaves_both node mid_node first second all old mid new same front back one two device =
-      leaves_then (λ t. moment t device) (λ t. had t device) (λ t. since t device) {P = SurvivesOne device node (all device)} {old = old} {mid = mid} {new = new}
-      (leaves_more (λ t. moment t device) (λ t. had t device) (λ t. since t device) {P = SurvivesOne device node (first device)} {Q = SurvivesOne device node (all device)} {old = old} {new = mid}
+      leaves_then {P = SurvivesOne device node (all device)} {old = views old device} {mid = views mid device} {new = views new device}
+      (leaves_more {P = SurvivesOne device node (first device)} {Q = SurvivesOne device node (all device)} {old = views old device} {new = views mid device}
       (λ image h. on_same (λ setup. OneOf (Survives setup) (first device) image) (λ setup. OneOf (Survives setup) (all device) image) node node device refl (λ setup. front (Survives setup) device image) h) (one device))
-      (leaves_more (λ t. moment t device) (λ t. had t device) (λ t. since t device) {P = SurvivesOne device mid_node (second device)} {Q = SurvivesOne device node (all device)} {old = mid} {new = new}
+      (leaves_more {P = SurvivesOne device mid_node (second device)} {Q = SurvivesOne device node (all device)} {old = views mid device} {new = views new device}
       (λ image h. on_same (λ setup. OneOf (Survives setup) (second device) image) (λ setup. OneOf (Survives setup) (all device) image) node mid_node device same (λ setup. back (Survives setup) device image) h) (two device))
 
   -- the same, with more states
   pub leaves_wider : (node : Node) (some all : ℕ → List State) (old new : T) → ((P : State → Images) (device : ℕ) (image : List ℕ) → OneOf P (some device) image → OneOf P (all device) image)
-      → LeavesEach moment had since node some old new → LeavesEach moment had since node all old new
+      → LeavesEach views node some old new → LeavesEach views node all old new
   leaves_wider node some all old new wider leaves device =
-      leaves_more (λ t. moment t device) (λ t. had t device) (λ t. since t device) {P = SurvivesOne device node (some device)} {Q = SurvivesOne device node (all device)} {old = old} {new = new}
+      leaves_more {P = SurvivesOne device node (some device)} {Q = SurvivesOne device node (all device)} {old = views old device} {new = views new device}
       (λ image h. on_same (λ setup. OneOf (Survives setup) (some device) image) (λ setup. OneOf (Survives setup) (all device) image) node node device refl (λ setup. wider (Survives setup) device image) h) (leaves device)
 
   abbrev pub ChainOf : T → Times → Node → List (Option (List ℕ)) → List Reply → T → Times → Type 0
-  ChainOf old times node lines replies new later = Chain Stands moment had since Halts told old times node lines replies new later
+  ChainOf old times node lines replies new later = Chain Stands views Halts told old times node lines replies new later
 
   -- one chain after another
   pub chain_then : (old mid new : T) (times then later : Times) (node : Node) (xs ys : List (Option (List ℕ))) (rs ss : List Reply)
       → (first : ChainOf old times node xs rs mid then) → (second : ChainOf mid then (node_after_lines first.served node) ys ss new later) → InHalt (Halts new) node (first.served ++ second.served) → ChainOf old times node (xs ++ ys) (rs ++ ss) new later
   chain_then old mid new times then later node xs ys rs ss first second halt =
       let mid_node = node_after_lines first.served node in
-      let one : (device : ℕ) → Advances (moment old device) (had old device) (had mid device) (since old device) (since mid device) = λ device. (first.leaves device).time in
-      let two : (device : ℕ) → Advances (moment mid device) (had mid device) (had new device) (since mid device) (since new device) = λ device. (second.leaves device).time in
+      let one : (device : ℕ) → Advances (views old device) (views mid device) = λ device. (first.leaves device).time in
+      let two : (device : ℕ) → Advances (views mid device) (views new device) = λ device. (second.leaves device).time in
       record {
         served = first.served ++ second.served;
-        serves = serves_append (left_between moment since old new) told first.served second.served node
-            (serves_more (left_between moment since old mid) (left_between moment since old new) (first_images old mid new one two) told node first.served first.serves)
-            (serves_more (left_between moment since mid new) (left_between moment since old new) (second_images old mid new one two) told mid_node second.served second.serves);
+        serves = serves_append (left_between views old new) told first.served second.served node
+            (serves_more (left_between views old mid) (left_between views old new) (first_images old mid new one two) told node first.served first.serves)
+            (serves_more (left_between views mid new) (left_between views old new) (second_images old mid new one two) told mid_node second.served second.serves);
         of_lines = map-append (λ s. s.line) first.served second.served ∙ (λ i. first.of_lines i ++ second.of_lines i);
         of_replies = map-append (λ s. s.reply) first.served second.served ∙ (λ i. first.of_replies i ++ second.of_replies i);
         clock = subst (λ (given : List ℕ). TicksAll times given later) (sym (times_append first.served second.served)) (ticks_then times then later (times_of first.served) (times_of second.served) first.clock second.clock);
         stands = subst (Stands new) (sym (after_append first.served second.served node)) second.stands;
         leaves = leaves_both node mid_node (λ device. states_of_lines device first.served node) (λ device. states_of_lines device second.served mid_node)
             (λ device. states_of_lines device (first.served ++ second.served) node) old mid new
-            (lines_setups (left_between moment since old mid) told node first.served first.serves)
+            (lines_setups (left_between views old mid) told node first.served first.serves)
             (λ P device image h. states_front P device first.served second.served node image h)
             (λ P device image h. states_back P device first.served second.served node image h)
             first.leaves second.leaves;
         halt = halt;
       }
 
-  pub chain_none : Rests Stands moment had since → (store : T) (times : Times) (node : Node) → Stands store node → ChainOf store times node [] [] store times
+  pub chain_none : Rests Stands views → (store : T) (times : Times) (node : Node) → Stands store node → ChainOf store times node [] [] store times
   chain_none rests store times node stands = record {
     served = [];
     serves = tt;
@@ -219,9 +219,9 @@ module _ {T : Type 0} (Stands : T → Node → Type 0) (moment : T → ℕ → �
   }
 
   -- one line
-  one_chain : (old new : T) (times later : Times) (node : Node) (served : Served) → Serves (left_between moment since old new) told node served
+  one_chain : (old new : T) (times later : Times) (node : Node) (served : Served) → Serves (left_between views old new) told node served
       → TicksAll times (times_of (served ∷ [])) later → Stands new (node_after_line served node)
-      → LeavesEach moment had since node (λ device. states_of_lines device (served ∷ []) node) old new
+      → LeavesEach views node (λ device. states_of_lines device (served ∷ []) node) old new
       → (served.reply ≡ reply.Halted → Halts new node (node_after_line served node))
       → ChainOf old times node (served.line ∷ []) (served.reply ∷ []) new later
   one_chain old new times later node served serves clock stands leaves halt = record {
@@ -250,39 +250,39 @@ module _ {T : Type 0} (Stands : T → Node → Type 0) (moment : T → ℕ → �
 
   -- a command was carried out, and something followed that leads from the node at the reply to the end
   carried_chain : (old mid new : T) (times later : Times) (node : Node) (line : Option (List ℕ)) (c : Command) (now : ℕ) (r : Reply) (tended : List NodeEvent)
-      → IsCommand (line_end_of line) c → Ticks times now later → (from : ActsFrom Stands moment had since Halts told old node c (bounded_time now) r mid)
+      → IsCommand (line_end_of line) c → Ticks times now later → (from : ActsFrom Stands views Halts told old node c (bounded_time now) r mid)
       → MatchBool (goes_on r) (TendsEach 0 (node_or (node_after from.work node) from.restarted) tended) (tended ≡ [])
       → IsLegalOn told (node_or (node_after from.work node) from.restarted) tended
       → Stands new (node_after tended (node_or (node_after from.work node) from.restarted))
-      → LeavesEach moment had since (node_or (node_after from.work node) from.restarted) (λ device. states_while device tended (node_or (node_after from.work node) from.restarted)) mid new
+      → LeavesEach views (node_or (node_after from.work node) from.restarted) (λ device. states_while device tended (node_or (node_after from.work node) from.restarted)) mid new
       → (r ≡ reply.Halted → Halts new node (node_after tended (node_or (node_after from.work node) from.restarted)))
       → ChainOf old times node (line ∷ []) (r ∷ []) new later
   carried_chain old mid new times later node line c now r tended is ticks from tends legal stands leaves halt =
       let served : Served = record { line = line; time = Some now; reply = r; work = from.work; restarted = from.restarted; tended = tended } in
-      let serves : Serves (left_between moment since old mid) told node served = record {
-        answers = answers_of (left_between moment since old mid) node line c now from.work from.restarted r tended is from.carried;
+      let serves : Serves (left_between views old mid) told node served = record {
+        answers = answers_of (left_between views old mid) node line c now from.work from.restarted r tended is from.carried;
         work = from.legal;
         tends = tends;
         tending = legal;
       } in
-      let one : (device : ℕ) → Advances (moment old device) (had old device) (had mid device) (since old device) (since mid device) = λ device. (from.leaves device).time in
-      let two : (device : ℕ) → Advances (moment mid device) (had mid device) (had new device) (since mid device) (since new device) = λ device. (leaves device).time in
+      let one : (device : ℕ) → Advances (views old device) (views mid device) = λ device. (from.leaves device).time in
+      let two : (device : ℕ) → Advances (views mid device) (views new device) = λ device. (leaves device).time in
       one_chain old new times later node served
-      (serves_more (left_between moment since old mid) (left_between moment since old new) (first_images old mid new one two) told node (served ∷ []) (serves, tt)).0
+      (serves_more (left_between views old mid) (left_between views old new) (first_images old mid new one two) told node (served ∷ []) (serves, tt)).0
       (later, ticks, refl) stands
       (leaves_both node (node_at_reply served node) (λ device. states_while device from.work node) (λ device. states_while device tended (node_at_reply served node))
-      (λ device. states_of_lines device (served ∷ []) node) old mid new (reply_setups (left_between moment since old mid) told node served serves)
+      (λ device. states_of_lines device (served ∷ []) node) old mid new (reply_setups (left_between views old mid) told node served serves)
       (λ P device image h. in_work P device node served image h) (λ P device image h. in_tending P device node served image h) from.leaves leaves) halt
 
   -- a line was declined, and tending followed
   declined_chain : (old new : T) (times : Times) (node : Node) (line : Option (List ℕ)) (r : Reply)
       → (IsNoCommand (line_end_of line) × (r ≡ reply.Fail why.Line)) ⊎ (r ≡ reply.Fail why.Memory) → goes_on r ≡ true
-      → TendsFrom Stands moment had since told old node new → ChainOf old times node (line ∷ []) (r ∷ []) new times
+      → TendsFrom Stands views told old node new → ChainOf old times node (line ∷ []) (r ∷ []) new times
   declined_chain old new times node line r why_so goes tend =
       let served : Served = record { line = line; time = None; reply = r; work = []; restarted = None; tended = tend.tended } in
       one_chain old new times times node served
       (record {
-        answers = declines_of (left_between moment since old new) node line r tend.tended why_so;
+        answers = declines_of (left_between views old new) node line r tend.tended why_so;
         work = tt;
         tends = goes_tends r (TendsEach 0 node tend.tended) (tend.tended ≡ []) goes tend.tends;
         tending = tend.legal;
@@ -300,29 +300,29 @@ module _ {T : Type 0} (Stands : T → Node → Type 0) (moment : T → ℕ → �
   fail_is_no_halt line r (inr memory) is = cc
 
   abbrev pub TurnOf : Option (List ℕ) → T → Times → Reply → T → Times → Type 0
-  TurnOf line old times r new later = Turn (ActsBy Stands moment had since Halts told) (TendsBy Stands moment had since told) (line_end_of line) old times r new later
+  TurnOf line old times r new later = Turn (ActsBy Stands views Halts told) (TendsBy Stands views told) (line_end_of line) old times r new later
 
   -- a whole turn
   pub turn_chain : (old new : T) (times later : Times) (node : Node) (line : Option (List ℕ)) (r : Reply)
       → TurnOf line old times r new later → Stands old node → ChainOf old times node (line ∷ []) (r ∷ []) new later × (goes_on r ≡ true)
   turn_chain old new times later node line r turn stands = elim turn.answer [
     | inl carries ↦
-        let from : ActsFrom Stands moment had since Halts told old node carries.command (bounded_time carries.now) r turn.answered = carries.acted node stands in
+        let from : ActsFrom Stands views Halts told old node carries.command (bounded_time carries.now) r turn.answered = carries.acted node stands in
         let at_reply : Node = node_or (node_after from.work node) from.restarted in
-        let tend : TendsFrom Stands moment had since told turn.answered at_reply new = turn.tended at_reply from.stands in
-        let goes : goes_on r ≡ true = goes_of r turn.no_halt (carried_no_bye (left_between moment since old turn.answered) node carries.command (bounded_time carries.now) from.work from.restarted r carries.goes_on from.carried) in (
+        let tend : TendsFrom Stands views told turn.answered at_reply new = turn.tended at_reply from.stands in
+        let goes : goes_on r ≡ true = goes_of r turn.no_halt (carried_no_bye (left_between views old turn.answered) node carries.command (bounded_time carries.now) from.work from.restarted r carries.goes_on from.carried) in (
           carried_chain old turn.answered new times later node line carries.command carries.now r tend.tended carries.is_command carries.ticks from
               (goes_tends r (TendsEach 0 at_reply tend.tended) (tend.tended ≡ []) goes tend.tends) tend.legal tend.stands tend.leaves (λ is. absurd (turn.no_halt is)),
           goes,
         )
     | inr declines ↦
         let goes : goes_on r ≡ true = goes_of r turn.no_halt (fail_is_no_bye line r declines.why) in
-        let tends : TendsBy Stands moment had since told old new = subst (λ (t : T). TendsBy Stands moment had since told t new) declines.same_store turn.tended in
+        let tends : TendsBy Stands views told old new = subst (λ (t : T). TendsBy Stands views told t new) declines.same_store turn.tended in
         (subst (λ (t : Times). ChainOf old times node (line ∷ []) (r ∷ []) new t) (sym declines.same_times) (declined_chain old new times node line r declines.why goes (tends node stands)), goes)
   ]
 
   -- `quit`, which isn't followed by tending
-  pub quit_chain : Rests Stands moment had since → (old new : T) (times later : Times) (node : Node) (line : Option (List ℕ)) (r : Reply)
+  pub quit_chain : Rests Stands views → (old new : T) (times later : Times) (node : Node) (line : Option (List ℕ)) (r : Reply)
       → Quits (line_end_of line) old times r new later → Stands old node → ChainOf old times node (line ∷ []) (r ∷ []) new later
   quit_chain rests old new times later node line r quits stands =
       subst (λ (t : T). ChainOf old times node (line ∷ []) (r ∷ []) t later) (sym quits.same_store)
@@ -332,17 +332,17 @@ module _ {T : Type 0} (Stands : T → Node → Type 0) (moment : T → ℕ → �
       refl tt stands (rests old node stands) (λ is. absurd (bye_not_halted is))))
 
   -- a halt, which ends the run
-  pub halt_chain : Rests Stands moment had since → (old new : T) (times later : Times) (node : Node) (line : Option (List ℕ))
-      → Answers (ActsBy Stands moment had since Halts told) (line_end_of line) old times reply.Halted new later → Stands old node → ChainOf old times node (line ∷ []) (reply.Halted ∷ []) new later
+  pub halt_chain : Rests Stands views → (old new : T) (times later : Times) (node : Node) (line : Option (List ℕ))
+      → Answers (ActsBy Stands views Halts told) (line_end_of line) old times reply.Halted new later → Stands old node → ChainOf old times node (line ∷ []) (reply.Halted ∷ []) new later
   halt_chain rests old new times later node line (inl carries) stands =
-      let from : ActsFrom Stands moment had since Halts told old node carries.command (bounded_time carries.now) reply.Halted new = carries.acted node stands in
+      let from : ActsFrom Stands views Halts told old node carries.command (bounded_time carries.now) reply.Halted new = carries.acted node stands in
       carried_chain old new new times later node line carries.command carries.now reply.Halted [] carries.is_command carries.ticks from
       refl tt from.stands (rests new (node_or (node_after from.work node) from.restarted) from.stands) from.halt
   halt_chain rests old new times later node line (inr declines) stands = absurd (fail_is_no_halt line reply.Halted declines.why refl)
 
   -- all turns of some lines, by one induction
-  pub turns_chain : Rests Stands moment had since → (lines : List (Option (List ℕ))) (rs : List Reply) (old new : T) (times later : Times) (node : Node)
-      → Turns (ActsBy Stands moment had since Halts told) (TendsBy Stands moment had since told) (map line_end_of lines) old times rs new later → Stands old node
+  pub turns_chain : Rests Stands views → (lines : List (Option (List ℕ))) (rs : List Reply) (old new : T) (times later : Times) (node : Node)
+      → Turns (ActsBy Stands views Halts told) (TendsBy Stands views told) (map line_end_of lines) old times rs new later → Stands old node
       → ChainOf old times node lines rs new later × AllByRecursion (λ r. goes_on r ≡ true) rs
   turns_chain rests [] [] old new times later node turns stands =
       (subst (λ (t : T). ChainOf old times node [] [] t later) (sym turns.0) (subst (λ (t : Times). ChainOf old times node [] [] old t) (sym turns.1) (chain_none rests old times node stands)), tt)

@@ -1,7 +1,7 @@
 -- A whole run: the start, the session, the closing flush.
 use Rattle.std.proofs.Common.{◌≡◌, ℕ, ◌<◌, ◌≤◌, Bool, true, false, List, [], ◌∷◌, length, refl, sym, ◌∙◌, subst, inl, inr, arith}
 use Rattle.std.specs.Prelude.{◌⊎◌, ◌||◌, Option, Some, None, MatchOption, MatchBool, IsTrue, slice_get}
-use Rattle.disk_model.specs.Disk.{Images}
+use Rattle.disk_model.specs.Disk.{DiskView, meanwhile}
 use Rattle.disk_model.specs.Runs.{OneOf, one_of_front, one_of_back}
 use Rattle.block_format.specs.Recovery.{Survives}
 use Rattle.line_proto.specs.Commands.{Slot, Node, NodeEvent}
@@ -212,15 +212,15 @@ in_halt_more P Q more node [] h = tt
 in_halt_more P Q more node (served ∷ []) h = λ is. more node (node_after_line served node) (h is)
 in_halt_more P Q more node (served ∷ next ∷ lines) h = in_halt_more P Q more (node_after_line served node) (next ∷ lines) h
 
-module _ {T : Type 0} (Stands : T → Node → Type 0) (moment : T → ℕ → ℕ) (had : T → ℕ → ℕ → Type 0) (since : T → ℕ → ℕ → Images) (Halts : T → (before after : Node) → Type 0) (told : Bool) (Says : Node → Type 0) where
+module _ {T : Type 0} (Stands : T → Node → Type 0) (views : T → ℕ → DiskView) (Halts : T → (before after : Node) → Type 0) (told : Bool) (Says : Node → Type 0) where
   -- ---- the session, and the closing of each device
 
   -- a run that is closed
   run_closes : (limit : ℕ) (bytes output : List ℕ) (left : Option (List ℕ)) (times : Times) (node : Node) (old new end : T) (result : Ended)
-      → (l : Lifted Stands moment had since Halts told limit bytes output left times node old new result) → length bytes ≤ limit → is_halted l.served ≡ false
-      → (c : ClosesFrom Stands moment had since told Says new (node_after_lines l.served node) end)
+      → (l : Lifted Stands views Halts told limit bytes output left times node old new result) → length bytes ≤ limit → is_halted l.served ≡ false
+      → (c : ClosesFrom Stands views told Says new (node_after_lines l.served node) end)
       → UnlessHalted Says (last_node node l.served c.closing) result
-      → RunsWhole Stands moment had since Halts told Says limit bytes output left times node old new end result
+      → RunsWhole Stands views Halts told Says limit bytes output left times node old new end result
   run_closes limit bytes output left times node old new end result l within goes c says =
       let last : Node = node_after_lines l.served node in
       record {
@@ -228,17 +228,17 @@ module _ {T : Type 0} (Stands : T → Node → Type 0) (moment : T → ℕ → �
         within = within;
         closing = c.closing;
         is_run = record {
-          serves = serves_more (left_between moment since old new) (left_between moment since old end)
-              (λ device image was. (c.leaves device).time.kept (moment old device) image ((l.leaves device).time.stays (moment old device) (l.leaves device).time.started) was)
+          serves = serves_more (left_between views old new) (left_between views old end)
+              (λ device image was. (c.leaves device).time.kept (views old device).moment image ((l.leaves device).time.stays (views old device).moment (l.leaves device).time.started) was)
               told node l.served l.serves;
           ends = l.once;
           closes = match_false (is_halted l.served) (c.closing ≡ []) (ClosesEach 0 last c.closing) goes c.closes;
           legal = c.legal;
         };
         stands = c.stands;
-        leaves = leaves_both Stands moment had since Halts told node last (λ device. states_of_lines device l.served node) (λ device. states_while device c.closing last)
+        leaves = leaves_both Stands views Halts told node last (λ device. states_of_lines device l.served node) (λ device. states_while device c.closing last)
             (λ device. states_of_run device node l.served c.closing) old new end
-            (lines_setups (left_between moment since old new) told node l.served l.serves)
+            (lines_setups (left_between views old new) told node l.served l.serves)
             (λ P device image h. one_of_front P (states_of_lines device l.served node) (states_while device c.closing last) image h)
             (λ P device image h. one_of_back P (states_of_lines device l.served node) (states_while device c.closing last) image h)
             l.leaves c.leaves;
@@ -247,8 +247,8 @@ module _ {T : Type 0} (Stands : T → Node → Type 0) (moment : T → ℕ → �
 
   -- a refused restart is followed by nothing
   run_halts : (limit : ℕ) (bytes output : List ℕ) (left : Option (List ℕ)) (times : Times) (node : Node) (old new : T)
-      → (l : Lifted Stands moment had since Halts told limit bytes output left times node old new Halted) → length bytes ≤ limit → is_halted l.served ≡ true
-      → RunsWhole Stands moment had since Halts told Says limit bytes output left times node old new new Halted
+      → (l : Lifted Stands views Halts told limit bytes output left times node old new Halted) → length bytes ≤ limit → is_halted l.served ≡ true
+      → RunsWhole Stands views Halts told Says limit bytes output left times node old new new Halted
   run_halts limit bytes output left times node old new l within halted = record {
     lifted = l;
     within = within;
@@ -260,66 +260,66 @@ module _ {T : Type 0} (Stands : T → Node → Type 0) (moment : T → ℕ → �
       legal = tt;
     };
     stands = l.stands;
-    leaves = leaves_wider Stands moment had since Halts told node (λ device. states_of_lines device l.served node) (λ device. states_of_run device node l.served []) old new
+    leaves = leaves_wider Stands views Halts told node (λ device. states_of_lines device l.served node) (λ device. states_of_run device node l.served []) old new
         (λ P device image h. one_of_front P (states_of_lines device l.served node) (states_while device [] (node_after_lines l.served node)) image h) l.leaves;
     says = tt;
   }
 
   run_ends : (limit : ℕ) (bytes output : List ℕ) (left : Option (List ℕ)) (times : Times) (node : Node) (old new end : T) (result : Ended)
-      → Lifted Stands moment had since Halts told limit bytes output left times node old new result → length bytes ≤ limit
-      → CloseAfter Stands moment had since told Says new end result
-      → RunsWhole Stands moment had since Halts told Says limit bytes output left times node old new end result
+      → Lifted Stands views Halts told limit bytes output left times node old new result → length bytes ≤ limit
+      → CloseAfter Stands views told Says new end result
+      → RunsWhole Stands views Halts told Says limit bytes output left times node old new end result
   run_ends limit bytes output left times node old new end (Finish n) l within close =
-      let c : ClosesFrom Stands moment had since told Says new (node_after_lines l.served node) end = close (node_after_lines l.served node) l.stands in
+      let c : ClosesFrom Stands views told Says new (node_after_lines l.served node) end = close (node_after_lines l.served node) l.stands in
       run_closes limit bytes output left times node old new end (Finish n) l within l.ends.4 c c.says
   run_ends limit bytes output left times node old new end (Quit n) l within close =
-      let c : ClosesFrom Stands moment had since told Says new (node_after_lines l.served node) end = close (node_after_lines l.served node) l.stands in
+      let c : ClosesFrom Stands views told Says new (node_after_lines l.served node) end = close (node_after_lines l.served node) l.stands in
       run_closes limit bytes output left times node old new end (Quit n) l within l.ends.3 c c.says
   run_ends limit bytes output left times node old new end SourceFault l within close =
-      let c : ClosesFrom Stands moment had since told Says new (node_after_lines l.served node) end = close (node_after_lines l.served node) l.stands in
+      let c : ClosesFrom Stands views told Says new (node_after_lines l.served node) end = close (node_after_lines l.served node) l.stands in
       run_closes limit bytes output left times node old new end SourceFault l within l.ends.4 c c.says
   run_ends limit bytes output left times node old new end SinkFault l within close =
-      let c : ClosesFrom Stands moment had since told Says new (node_after_lines l.served node) end = close (node_after_lines l.served node) l.stands in
+      let c : ClosesFrom Stands views told Says new (node_after_lines l.served node) end = close (node_after_lines l.served node) l.stands in
       run_closes limit bytes output left times node old new end SinkFault l within l.ends c c.says
   run_ends limit bytes output left times node old new end Memory l within close =
-      let c : ClosesFrom Stands moment had since told Says new (node_after_lines l.served node) end = close (node_after_lines l.served node) l.stands in
+      let c : ClosesFrom Stands views told Says new (node_after_lines l.served node) end = close (node_after_lines l.served node) l.stands in
       run_closes limit bytes output left times node old new end Memory l within l.ends c c.says
   run_ends limit bytes output left times node old new end Halted l within close =
-      subst (λ (e : T). RunsWhole Stands moment had since Halts told Says limit bytes output left times node old new e Halted) (sym close)
+      subst (λ (e : T). RunsWhole Stands views Halts told Says limit bytes output left times node old new e Halted) (sym close)
       (run_halts limit bytes output left times node old new l within l.ends.1)
   run_ends limit bytes output left times node old new end (Long n) l within close =
-      let c : ClosesFrom Stands moment had since told Says new (node_after_lines l.served node) end = close (node_after_lines l.served node) l.stands in
+      let c : ClosesFrom Stands views told Says new (node_after_lines l.served node) end = close (node_after_lines l.served node) l.stands in
       run_closes limit bytes output left times node old new end (Long n) l within l.ends.4 c c.says
 
   -- A session over a store, and what is done behind it, are a run of each node that the store stood for.
-  pub ran_whole : Rests Stands moment had since → (limit : ℕ) (taken taken' : List ℕ) (left left' : Option (List ℕ)) (written written' : Option (List ℕ)) (old new end : T) (times later : Times) (node : Node) (result : Ended)
-      → (ran : Ran (ActsBy Stands moment had since Halts told) (TendsBy Stands moment had since told) limit taken taken' left left' written written' old new times later result) → Stands old node
-      → CloseAfter Stands moment had since told Says new end result
-      → RunsWhole Stands moment had since Halts told Says limit ran.bytes ran.output left' times node old new end result
+  pub ran_whole : Rests Stands views → (limit : ℕ) (taken taken' : List ℕ) (left left' : Option (List ℕ)) (written written' : Option (List ℕ)) (old new end : T) (times later : Times) (node : Node) (result : Ended)
+      → (ran : Ran (ActsBy Stands views Halts told) (TendsBy Stands views told) limit taken taken' left left' written written' old new times later result) → Stands old node
+      → CloseAfter Stands views told Says new end result
+      → RunsWhole Stands views Halts told Says limit ran.bytes ran.output left' times node old new end result
   ran_whole rests limit taken taken' left left' written written' old new end times later node result ran stands close =
       run_ends limit ran.bytes ran.output left' times node old new end result
-      (ran_lifts Stands moment had since Halts told rests limit taken taken' left left' written written' old new times later node result ran stands) ran.within close
+      (ran_lifts Stands views Halts told rests limit taken taken' left left' written written' old new times later node result ran stands) ran.within close
 
   -- ---- since the entry
 
-  pub run_since : (entry : ℕ → ℕ) (had_before : ℕ → ℕ → Type 0) (past : ℕ → ℕ → Images) (node : Node) (old end : T) (lines : List Served) (closing : List NodeEvent)
-      → GoesOn moment had since entry had_before past old
-      → LeavesEach moment had since node (λ device. states_of_run device node lines closing) old end
-      → IsRun (left_between moment since old end) told node lines closing → IsRun (λ device. since end device (entry device)) told node lines closing
-  run_since entry had_before past node old end lines closing time leaves run = record {
-    serves = serves_more (left_between moment since old end) (λ device. since end device (entry device))
-        (λ device image was. (leaves device).time.added (entry device) image ((time device).stays (entry device) (time device).started) was) told node lines run.serves;
+  pub run_since : (entry : ℕ → DiskView) (node : Node) (old end : T) (lines : List Served) (closing : List NodeEvent)
+      → GoesOn views entry old
+      → LeavesEach views node (λ device. states_of_run device node lines closing) old end
+      → IsRun (left_between views old end) told node lines closing → IsRun (λ device. meanwhile (entry device) (views end device)) told node lines closing
+  run_since entry node old end lines closing time leaves run = record {
+    serves = serves_more (left_between views old end) (λ device. meanwhile (entry device) (views end device))
+        (λ device image was. (leaves device).time.added (entry device).moment image ((time device).stays (entry device).moment (time device).started) was) told node lines run.serves;
     ends = run.ends;
     closes = run.closes;
     legal = run.legal;
   }
 
-  pub images_since : (entry : ℕ → ℕ) (had_before : ℕ → ℕ → Type 0) (past : ℕ → ℕ → Images) (node : Node) (old end : T) (lines : List Served) (closing : List NodeEvent)
-      → Enters moment had since entry had_before past node old
-      → LeavesEach moment had since node (λ device. states_of_run device node lines closing) old end
-      → LeavesSome (λ device. since end device (entry device)) node lines closing
-  images_since entry had_before past node old end lines closing enters leaves device image was =
-      elim ((leaves device).time.only (entry device) image ((enters.time device).stays (entry device) (enters.time device).started) was) [
+  pub images_since : (entry : ℕ → DiskView) (node : Node) (old end : T) (lines : List Served) (closing : List NodeEvent)
+      → Enters views entry node old
+      → LeavesEach views node (λ device. states_of_run device node lines closing) old end
+      → LeavesSome (λ device. meanwhile (entry device) (views end device)) node lines closing
+  images_since entry node old end lines closing enters leaves device image was =
+      elim ((leaves device).time.only (entry device).moment image ((enters.time device).stays (entry device).moment (enters.time device).started) was) [
         | inl before ↦ on_same (λ setup. OneOf (Survives setup) (states_while device [] node) image) (λ setup. OneOf (Survives setup) (states_of_run device node lines closing) image) node node device refl
             (λ setup h. one_of_front (Survives setup) (states_of_lines device lines node) (states_while device closing (node_after_lines lines node)) image (first_of_lines (Survives setup) device lines node image h))
             (enters.each device image before)
@@ -327,15 +327,15 @@ module _ {T : Type 0} (Stands : T → Node → Type 0) (moment : T → ℕ → �
       ]
 
   -- what a crash may leave at the end survives the last state
-  pub last_images : Rests Stands moment had since → (may_leave : ImagesLeft) (end : T) (last : Node) → Stands end last
-      → ((device : ℕ) (image : List ℕ) → may_leave device image → since end device (moment end device) image) → LeavesLast may_leave last
+  pub last_images : Rests Stands views → (may_leave : ImagesLeft) (end : T) (last : Node) → Stands end last
+      → ((device : ℕ) (image : List ℕ) → may_leave device image → meanwhile (views end device) (views end device) image) → LeavesLast may_leave last
   last_images rests may_leave end last stands law device image left =
       one_state device (slice_get last device) image ((rests end last stands device).each image (law device image left))
 
   -- ---- the replies and the causes
 
   pub is_answered : (limit status noted : ℕ) (bytes output : List ℕ) (left : Option (List ℕ)) (times : Times) (node : Node) (old new end : T) (result : Ended)
-      → (w : RunsWhole Stands moment had since Halts told Says limit bytes output left times node old new end result) → StatusIs result status noted (last_node node w.lifted.served w.closing)
+      → (w : RunsWhole Stands views Halts told Says limit bytes output left times node old new end result) → StatusIs result status noted (last_node node w.lifted.served w.closing)
       → IsAnswered status noted bytes output w.lifted.ended node w.lifted.served w.closing
   is_answered limit status noted bytes output left times node old new end result w so =
       let l = w.lifted in
@@ -352,7 +352,7 @@ module _ {T : Type 0} (Stands : T → Node → Type 0) (moment : T → ℕ → �
 
   -- the status has its cause, where the session's own faults and the disks' have theirs
   pub is_caused : (o : Outside) (noted : ℕ) (left : Option (List ℕ)) (times : Times) (node : Node) (old new end : T) (result : Ended)
-      → (w : RunsWhole Stands moment had since Halts told Says input_limit o.taken o.written left times node old new end result)
+      → (w : RunsWhole Stands views Halts told Says input_limit o.taken o.written left times node old new end result)
       → Concludes (Halts new) o noted (last_node node w.lifted.served w.closing) result
       → (o.status ≡ 3 → RoseOn noted o.before.disks o.after.disks)
       → EndsWithCause o.status noted o.taken w.lifted.ended o.before o.after node w.lifted.served

@@ -1,6 +1,6 @@
 -- Crate node_run. What a session comes to on the states of a node that its store stands for.
 use Rattle.std.specs.Prelude.{◌≡◌, ℕ, ◌<◌, Bool, true, false, List, [], ◌∷◌, length, map, Option, Some, None, IfSome, IsTrue}
-use Rattle.disk_model.specs.Disk.{Images}
+use Rattle.disk_model.specs.Disk.{DiskView}
 use Rattle.io_traits.specs.Clock.{Ticks}
 use Rattle.io_traits.specs.Source.{IsAtEnd}
 use Rattle.line_proto.specs.declared.reply.Reply.{Reply}
@@ -33,14 +33,14 @@ InHalt Halts node (served ∷ []) = served.reply ≡ reply.Halted → Halts node
 InHalt Halts node (served ∷ next ∷ lines) = InHalt Halts (node_after_line served node) (next ∷ lines)
 
 -- From a state for which the store stood these lines are served with these replies, and the store stands for the state after them.
-pub record Chain {T : Type 0} (Stands : T → Node → Type 0) (moment : T → ℕ → ℕ) (had : T → ℕ → ℕ → Type 0) (since : T → ℕ → ℕ → Images) (Halts : T → (before after : Node) → Type 0) (told : Bool) (old : T) (times : Times) (node : Node) (lines : List (Option (List ℕ))) (replies : List Reply) (new : T) (later : Times) : Type 0 where
+pub record Chain {T : Type 0} (Stands : T → Node → Type 0) (views : T → ℕ → DiskView) (Halts : T → (before after : Node) → Type 0) (told : Bool) (old : T) (times : Times) (node : Node) (lines : List (Option (List ℕ))) (replies : List Reply) (new : T) (later : Times) : Type 0 where
   pub served : List Served
-  pub serves : ServesAll (left_between moment since old new) told node served
+  pub serves : ServesAll (left_between views old new) told node served
   pub of_lines : map (λ s. s.line) served ≡ lines
   pub of_replies : replies_of served ≡ replies
   pub clock : TicksAll times (times_of served) later
   pub stands : Stands new (node_after_lines served node)
-  pub leaves : LeavesEach moment had since node (λ device. states_of_lines device served node) old new
+  pub leaves : LeavesEach views node (λ device. states_of_lines device served node) old new
   pub halt : InHalt (Halts new) node served
 
 -- How much was served and written, by how the session ended.
@@ -54,14 +54,14 @@ EndsWith limit bytes output ended served unserved Halted = (output ≡ written_t
 EndsWith limit bytes output ended served unserved (Long n) = (output ≡ written_text served) × (unserved ≡ []) × (ended ≡ false) × (has_quit served ≡ false) × (is_halted served ≡ false) × (length bytes ≡ limit)
 
 -- All of a run but its closing flush: the lines served are the first of those taken, the output is the front of their replies.
-pub record Lifted {T : Type 0} (Stands : T → Node → Type 0) (moment : T → ℕ → ℕ) (had : T → ℕ → ℕ → Type 0) (since : T → ℕ → ℕ → Images) (Halts : T → (before after : Node) → Type 0) (told : Bool) (limit : ℕ) (bytes output : List ℕ) (left : Option (List ℕ)) (times : Times) (node : Node) (old new : T) (result : Ended) : Type 0 where
+pub record Lifted {T : Type 0} (Stands : T → Node → Type 0) (views : T → ℕ → DiskView) (Halts : T → (before after : Node) → Type 0) (told : Bool) (limit : ℕ) (bytes output : List ℕ) (left : Option (List ℕ)) (times : Times) (node : Node) (old new : T) (result : Ended) : Type 0 where
   pub served : List Served
   pub unserved : List (Option (List ℕ))
   pub ended : Bool
-  pub serves : ServesAll (left_between moment since old new) told node served
+  pub serves : ServesAll (left_between views old new) told node served
   pub once : EndsOnce served
   pub stands : Stands new (node_after_lines served node)
-  pub leaves : LeavesEach moment had since node (λ device. states_of_lines device served node) old new
+  pub leaves : LeavesEach views node (λ device. states_of_lines device served node) old new
   pub halt : InHalt (Halts new) node served
   pub takes : TakesLines bytes ended served unserved
   pub at_end : IsTrue ended → IsAtEnd left

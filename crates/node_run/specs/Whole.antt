@@ -2,7 +2,7 @@
 -- what is known of it besides.
 use Rattle.std.specs.Prelude.{◌≡◌, ◌⊎◌, ℕ, ◌≤◌, Bool, List, Option, length, map, slice_get}
 use Rattle.fault_count.specs.Counts.{Rose}
-use Rattle.disk_model.specs.Disk.{Images}
+use Rattle.disk_model.specs.Disk.{DiskView}
 use Rattle.rec_format.specs.Book.{Setup}
 use Rattle.line_proto.specs.Commands.{Node, NodeEvent, IsNumbered}
 use Rattle.node_session.specs.declared.ended.Ended.{Ended}
@@ -15,14 +15,14 @@ use Rattle.core_run.specs.Meaning.{left_between, LeavesEach, ClosesBy}
 use Rattle.node_run.specs.Chain.{Lifted}
 
 -- Behind a session each device is closed; behind a refused restart nothing is done.
-abbrev pub CloseAfter : {T : Type 0} → (Stands : T → Node → Type 0) → (moment : T → ℕ → ℕ) → (had : T → ℕ → ℕ → Type 0) → (since : T → ℕ → ℕ → Images) → (told : Bool) → (Says : Node → Type 0) → (new end : T) → Ended → Type 0
-CloseAfter Stands moment had since told Says new end Halted = end ≡ new
-CloseAfter Stands moment had since told Says new end (Finish n) = ClosesBy Stands moment had since told Says new end
-CloseAfter Stands moment had since told Says new end (Quit n) = ClosesBy Stands moment had since told Says new end
-CloseAfter Stands moment had since told Says new end SourceFault = ClosesBy Stands moment had since told Says new end
-CloseAfter Stands moment had since told Says new end SinkFault = ClosesBy Stands moment had since told Says new end
-CloseAfter Stands moment had since told Says new end Memory = ClosesBy Stands moment had since told Says new end
-CloseAfter Stands moment had since told Says new end (Long n) = ClosesBy Stands moment had since told Says new end
+abbrev pub CloseAfter : {T : Type 0} → (Stands : T → Node → Type 0) → (views : T → ℕ → DiskView) → (told : Bool) → (Says : Node → Type 0) → (new end : T) → Ended → Type 0
+CloseAfter Stands views told Says new end Halted = end ≡ new
+CloseAfter Stands views told Says new end (Finish n) = ClosesBy Stands views told Says new end
+CloseAfter Stands views told Says new end (Quit n) = ClosesBy Stands views told Says new end
+CloseAfter Stands views told Says new end SourceFault = ClosesBy Stands views told Says new end
+CloseAfter Stands views told Says new end SinkFault = ClosesBy Stands views told Says new end
+CloseAfter Stands views told Says new end Memory = ClosesBy Stands views told Says new end
+CloseAfter Stands views told Says new end (Long n) = ClosesBy Stands views told Says new end
 
 -- it holds of the last state, unless a restart was refused
 abbrev pub UnlessHalted : (Node → Type 0) → Node → Ended → Type 0
@@ -35,13 +35,13 @@ UnlessHalted Says last Memory = Says last
 UnlessHalted Says last (Long n) = Says last
 
 -- A session over a store, which was at old before it, new behind it and end in the end, is a run of the node that the store stood for.
-pub record RunsWhole {T : Type 0} (Stands : T → Node → Type 0) (moment : T → ℕ → ℕ) (had : T → ℕ → ℕ → Type 0) (since : T → ℕ → ℕ → Images) (Halts : T → (before after : Node) → Type 0) (told : Bool) (Says : Node → Type 0) (limit : ℕ) (bytes output : List ℕ) (left : Option (List ℕ)) (times : Times) (node : Node) (old new end : T) (result : Ended) : Type 0 where
-  pub lifted : Lifted Stands moment had since Halts told limit bytes output left times node old new result
+pub record RunsWhole {T : Type 0} (Stands : T → Node → Type 0) (views : T → ℕ → DiskView) (Halts : T → (before after : Node) → Type 0) (told : Bool) (Says : Node → Type 0) (limit : ℕ) (bytes output : List ℕ) (left : Option (List ℕ)) (times : Times) (node : Node) (old new end : T) (result : Ended) : Type 0 where
+  pub lifted : Lifted Stands views Halts told limit bytes output left times node old new result
   pub within : length bytes ≤ limit
   pub closing : List NodeEvent
-  pub is_run : IsRun (left_between moment since old end) told node lifted.served closing
+  pub is_run : IsRun (left_between views old end) told node lifted.served closing
   pub stands : Stands end (last_node node lifted.served closing)
-  pub leaves : LeavesEach moment had since node (λ device. states_of_run device node lifted.served closing) old end
+  pub leaves : LeavesEach views node (λ device. states_of_run device node lifted.served closing) old end
   pub says : UnlessHalted Says (last_node node lifted.served closing) result
 
 -- success where nothing is pending, and else a disk's fault of a device with a buffer left

@@ -10,25 +10,25 @@ use Rattle.core_run.proofs.node.NodeStore.act.Goals as goal
 pub returns-in-Put : goal.returns-in-Put
 returns-in-Put g c =
     let d = g.D.Disk in
-    subst (λ (old : ShardView g.row.D.Denot). ActsAlone d.extent d.tells d.seen d.may_leave d.moment d.had d.left_since d.faults old c.args.command.now c.args.now c.write_reply.result c.put.new.self) c.self.view_is
-    (subst (λ (command : Command). ActsAlone d.extent d.tells d.seen d.may_leave d.moment d.had d.left_since d.faults c.self.inside.shard command c.args.now c.write_reply.result c.put.new.self) (sym c.in-Put.is)
-    (subst (λ (payload : List ℕ). ActsAlone d.extent d.tells d.seen d.may_leave d.moment d.had d.left_since d.faults c.self.inside.shard (Put c.in-Put.digest c.in-Put.ttl c.in-Put.expect payload) c.args.now c.write_reply.result c.put.new.self) c.as_slice.ensures
-    (acts_put d.extent d.tells d.seen d.may_leave d.moment d.had d.left_since d.faults c.self.inside.shard c.put.new.self c.put.ensures.shape c.put.ensures.later c.put.ensures.honest
+    subst (λ (old : ShardView g.row.D.Denot). ActsAlone d.view old c.args.command.now c.args.now c.write_reply.result c.put.new.self) c.self.view_is
+    (subst (λ (command : Command). ActsAlone d.view c.self.inside.shard command c.args.now c.write_reply.result c.put.new.self) (sym c.in-Put.is)
+    (subst (λ (payload : List ℕ). ActsAlone d.view c.self.inside.shard (Put c.in-Put.digest c.in-Put.ttl c.in-Put.expect payload) c.args.now c.write_reply.result c.put.new.self) c.as_slice.ensures
+    (acts_put d.view c.self.inside.shard c.put.new.self c.put.ensures.shape c.put.ensures.later c.put.ensures.honest
     c.in-Put.digest c.in-Put.ttl c.in-Put.expect c.as_slice.result.now c.args.now c.write_reply.result c.put.result c.write_reply.ensures c.put.ensures.makes)))
 
 pub returns-in-Get : goal.returns-in-Get
 returns-in-Get g c =
     let d = g.D.Disk in
-    subst (λ (old : ShardView g.row.D.Denot). ActsAlone d.extent d.tells d.seen d.may_leave d.moment d.had d.left_since d.faults old c.args.command.now c.args.now c.read_reply.result c.get.new.self) c.self.view_is
-    (subst (λ (command : Command). ActsAlone d.extent d.tells d.seen d.may_leave d.moment d.had d.left_since d.faults c.self.inside.shard command c.args.now c.read_reply.result c.get.new.self) (sym c.in-Get.is)
-    (acts_get d.extent d.tells d.seen d.may_leave d.moment d.had d.left_since d.faults c.self.inside.shard c.get.new.self c.get.ensures.shape
-    (later_read d.extent d.tells d.seen d.may_leave d.moment d.had d.left_since d.faults c.self.inside.shard.shelf.disk c.get.new.self.shelf.disk c.get.ensures.disk) c.get.ensures.disk.honest
+    subst (λ (old : ShardView g.row.D.Denot). ActsAlone d.view old c.args.command.now c.args.now c.read_reply.result c.get.new.self) c.self.view_is
+    (subst (λ (command : Command). ActsAlone d.view c.self.inside.shard command c.args.now c.read_reply.result c.get.new.self) (sym c.in-Get.is)
+    (acts_get d.view c.self.inside.shard c.get.new.self c.get.ensures.shape
+    (later_read d.view c.self.inside.shard.shelf.disk c.get.new.self.shelf.disk c.get.ensures.disk) c.get.ensures.disk.honest
     c.in-Get.digest c.args.now c.read_reply.result c.get.result c.read_reply.ensures c.get.ensures.makes))
 
 pub returns-in-Flush : goal.returns-in-Flush
 returns-in-Flush g c =
     let d = g.D.Disk in
-    subst (λ (old : ShardView g.row.D.Denot). ActsAlone d.extent d.tells d.seen d.may_leave d.moment d.had d.left_since d.faults old c.args.command.now c.args.now c.flush_reply.result c.flush.new.self) c.self.view_is
-    (subst (λ (command : Command). ActsAlone d.extent d.tells d.seen d.may_leave d.moment d.had d.left_since d.faults c.self.inside.shard command c.args.now c.flush_reply.result c.flush.new.self) (sym c.in-Flush.is)
-    (acts_flush d.extent d.tells d.seen d.may_leave d.moment d.had d.left_since d.faults c.self.inside.shard c.flush.new.self c.flush.ensures.shape c.flush.ensures.later c.flush.ensures.honest
+    subst (λ (old : ShardView g.row.D.Denot). ActsAlone d.view old c.args.command.now c.args.now c.flush_reply.result c.flush.new.self) c.self.view_is
+    (subst (λ (command : Command). ActsAlone d.view c.self.inside.shard command c.args.now c.flush_reply.result c.flush.new.self) (sym c.in-Flush.is)
+    (acts_flush d.view c.self.inside.shard c.flush.new.self c.flush.ensures.shape c.flush.ensures.later c.flush.ensures.honest
     c.args.now c.flush_reply.result c.flush.result c.flush_reply.ensures c.flush.ensures.makes))

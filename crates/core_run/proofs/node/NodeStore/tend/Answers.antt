@@ -7,5 +7,5 @@ use Rattle.core_run.proofs.node.NodeStore.tend.Goals as goal
 pub returns : goal.returns
 returns g c =
     let d = g.D.Disk in
-    subst (λ (old : ShardView g.row.D.Denot). TendsAlone d.extent d.tells d.seen d.may_leave d.moment d.had d.left_since d.faults old c.tend.new.self) c.self.view_is
-    (tends d.extent d.tells d.seen d.may_leave d.moment d.had d.left_since d.faults c.self.inside.shard c.tend.new.self c.tend.ensures.shape c.tend.ensures.later c.tend.ensures.honest c.tend.ensures.makes)
+    subst (λ (old : ShardView g.row.D.Denot). TendsAlone d.view old c.tend.new.self) c.self.view_is
+    (tends d.view c.self.inside.shard c.tend.new.self c.tend.ensures.shape c.tend.ensures.later c.tend.ensures.honest c.tend.ensures.makes)
