@@ -7,8 +7,8 @@ use Rattle.std.specs.List.{AllByRecursion}
 use Rattle.rec_format.specs.RecordText.{record_text, CanBeRecorded}
 use Rattle.rec_format.specs.declared.version.Digest.{Digest}
 use Rattle.rec_format.specs.declared.version.Version.{Version}
-use Rattle.rec_format.specs.Policy.{whole}
-use Rattle.rec_format.specs.Book.{Setup}
+use Rattle.device_model.specs.Policy.{whole}
+use Rattle.device_model.specs.Book.{Setup}
 use Rattle.block_format.specs.Copies.{Copy}
 use Rattle.block_format.specs.Audit.{verdict, all_sound, stray, twins, bare}
 use Rattle.block_format.specs.Layout.{header_text, head_text, IsFaultAt, gate_text, open_sector, closed_sector}

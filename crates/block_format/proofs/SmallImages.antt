@@ -3,17 +3,17 @@ use Rattle.std.proofs.Common.{◌≡◌, inl, inr, ℕ, Bool, true, false, List,
 use Rattle.rec_format.specs.declared.version.Digest.{Digest}
 use Rattle.rec_format.specs.declared.version.Version.{Version}
 use Rattle.rec_format.specs.Versions.{a_put}
-use Rattle.rec_format.specs.Policy.{whole}
-use Rattle.rec_format.specs.Book.{Setup}
+use Rattle.device_model.specs.Policy.{whole}
+use Rattle.device_model.specs.Book.{Setup}
 use Rattle.block_format.specs.declared.geometry.Geometry.{Geometry}
 use Rattle.std.proofs.Common.{cond, ⊎_elim, Some, None, sym, ap, ◌∙◌}
-use Rattle.rec_format.proofs.Laws.{Keeps-choices}
+use Rattle.device_model.proofs.Laws.{Keeps-choices}
 use Rattle.rec_format.specs.Places.{same_digest}
 use Rattle.rec_format.specs.RecordText.{CanBeRecorded}
-use Rattle.rec_format.specs.Histories.{Item, write, Keeps, last_write}
-use Rattle.rec_format.specs.Book.{refreshed, dropped_live, placed, with_flushed, cold_book, client}
-use Rattle.rec_format.specs.Device.{State}
-use Rattle.rec_format.specs.Steps.{wrote, sealed_stream, gate_begun, flushed_buffer, after_step, after_steps}
+use Rattle.device_model.specs.Histories.{Item, write, Keeps, last_write}
+use Rattle.device_model.specs.Book.{refreshed, dropped_live, placed, with_flushed, cold_book, client}
+use Rattle.device_model.specs.Device.{State}
+use Rattle.device_model.specs.Steps.{wrote, sealed_stream, gate_begun, flushed_buffer, after_step, after_steps}
 use Rattle.block_format.specs.Layout.{IsGeometry, header_text, open_sector, Body, body_text, body_bytes, IsBody}
 use Rattle.block_format.specs.Copies.{IsReadable, copies_of, cold, latest, version_of}
 use Rattle.block_format.specs.Recovery.{IsSound, Survives, start_state}

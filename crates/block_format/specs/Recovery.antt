@@ -5,9 +5,9 @@ use Rattle.rec_format.specs.declared.version.Digest.{Digest}
 use Rattle.rec_format.specs.declared.version.Version.{Version}
 use Rattle.rec_format.specs.Places.{same_digest, device_number, with_digest}
 use Rattle.rec_format.specs.Versions.{is_later, is_put, is_tombstone, version_units, block_capacity}
-use Rattle.rec_format.specs.Histories.{Item, write, dropped, rid, cleared, Pending, is_pending, Keeps, last_write, writes_of, without_numbers}
-use Rattle.rec_format.specs.Book.{Setup, Live, cold_book, pending_of}
-use Rattle.rec_format.specs.Device.{State, Log, history, no_raid}
+use Rattle.device_model.specs.Histories.{Item, write, dropped, rid, cleared, Pending, is_pending, Keeps, last_write, writes_of, without_numbers}
+use Rattle.device_model.specs.Book.{Setup, Live, cold_book, pending_of}
+use Rattle.device_model.specs.Device.{State, Log, history, no_raid}
 use Rattle.block_format.specs.declared.geometry.Geometry.{Geometry}
 use Rattle.block_format.specs.Layout.{Body}
 use Rattle.block_format.specs.Copies.{Copy, IsReadable, copies_of, copies_named, cold_copy, cold}

@@ -6,10 +6,10 @@ use Rattle.disk_model.specs.Disk.{DiskView}
 use Rattle.rec_format.specs.declared.version.Digest.{Digest}
 use Rattle.rec_format.specs.declared.version.Version.{Version}
 use Rattle.rec_format.specs.Versions.{version_units, block_capacity, top_number}
-use Rattle.rec_format.specs.Book.{Setup, client, has_room, live_of, with_new_buffer}
-use Rattle.rec_format.specs.Device.{State}
-use Rattle.rec_format.specs.Steps.{wrote, after_step}
-use Rattle.rec_format.specs.Events.{spent, overload, no_space}
+use Rattle.device_model.specs.Book.{Setup, client, has_room, live_of, with_new_buffer}
+use Rattle.device_model.specs.Device.{State}
+use Rattle.device_model.specs.Steps.{wrote, after_step}
+use Rattle.device_model.specs.Events.{spent, overload, no_space}
 use Rattle.recovery_laws.specs.Writes.{MayFollow}
 use Rattle.recovery_laws.specs.Holding.{IsCounted}
 use Rattle.write_buffer.specs.Buffers.{BufferState, used_units}

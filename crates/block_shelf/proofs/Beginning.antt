@@ -4,7 +4,7 @@ use Rattle.std.proofs.lemmas.List.{map-append}
 use Rattle.std.specs.List.{AllByRecursion}
 use Rattle.disk_model.specs.Disk.{DiskView, IsHonest}
 use Rattle.rec_format.specs.Versions.{block_capacity, top_number}
-use Rattle.rec_format.specs.Book.{first_block}
+use Rattle.device_model.specs.Book.{first_block}
 use Rattle.recovery_laws.proofs.Each.{all_map}
 use Rattle.recovery_laws.proofs.Opening.{all_joined}
 use Rattle.write_buffer.specs.Buffers.{BufferState, empty_buffer}

@@ -12,8 +12,8 @@ use Rattle.rec_format.specs.RecordText.{BeginsWith, CanBeHead, CanBeRecorded, Is
 use Rattle.rec_format.specs.RecordFlaws.{head_in}
 use Rattle.rec_format.proofs.HeadText.{head_back}
 use Rattle.rec_format.proofs.RecordFront.{head_sound, length-head, padding_of}
-use Rattle.rec_format.specs.Book.{live_of}
-use Rattle.rec_format.specs.Device.{State, entry}
+use Rattle.device_model.specs.Book.{live_of}
+use Rattle.device_model.specs.Device.{State, entry}
 use Rattle.recovery_laws.proofs.Growing.{all_at}
 use Rattle.recovery_laws.proofs.Opening.{all_parted}
 use Rattle.write_buffer.specs.Buffers.{BufferState}

@@ -7,7 +7,7 @@ use Rattle.std.specs.List.{AllByRecursion}
 use Rattle.rec_format.specs.declared.version.Digest.{Digest}
 use Rattle.rec_format.specs.declared.version.Version.{Version}
 use Rattle.rec_format.specs.Versions.{version_units}
-use Rattle.rec_format.specs.Book.{Buffer, Book, client, filling_buffer, used_more}
+use Rattle.device_model.specs.Book.{Buffer, Book, client, filling_buffer, used_more}
 use Rattle.block_format.specs.declared.geometry.Geometry.{Geometry}
 use Rattle.recovery_laws.specs.Holding.{AreRising, IsCounted}
 use Rattle.recovery_laws.proofs.Opening.{all_parted}

@@ -2,10 +2,10 @@
 use Rattle.std.proofs.Common.{◌≡◌, ℕ, ◌+◌, ◌-◌, Bool, true, false, List, [], ◌∷◌, map, refl, sym, ap, ◌∙◌, subst}
 use Rattle.std.specs.Prelude.{Result, Ok, Err, IfOk, MatchBool}
 use Rattle.disk_model.specs.Disk.{Images, DiskView, IsDisk, Within, TornFrom, IsHonest, Advances, meanwhile}
-use Rattle.rec_format.specs.Histories.{is_begun}
-use Rattle.rec_format.specs.Book.{Setup, Buffer, is_opening, pending_of}
-use Rattle.rec_format.specs.Book as book
-use Rattle.rec_format.specs.Device.{State}
+use Rattle.device_model.specs.Histories.{is_begun}
+use Rattle.device_model.specs.Book.{Setup, Buffer, is_opening, pending_of}
+use Rattle.device_model.specs.Book as book
+use Rattle.device_model.specs.Device.{State}
 use Rattle.block_format.specs.declared.geometry.Geometry.{Geometry}
 use Rattle.block_format.specs.Layout.{IsBody, block_place, body_bytes}
 use Rattle.block_flusher.specs.Images.{IsShut, GateIs, HasOneBody}

@@ -2,9 +2,9 @@
 use Rattle.std.proofs.Common.{◌≡◌, inl, inr, ℕ, List, [], ◌∷◌, ◌++◌, refl, sym, subst}
 use Rattle.disk_model.specs.Disk.{Images, DiskView, IsDisk, IsHonest, Advances, meanwhile}
 use Rattle.disk_model.specs.Runs.{OneOf, leaves_then, leaves_more, leaves_none}
-use Rattle.rec_format.specs.Book.{Setup}
-use Rattle.rec_format.specs.Device.{State}
-use Rattle.rec_format.specs.Steps.{Step, after_step, after_steps, states_through}
+use Rattle.device_model.specs.Book.{Setup}
+use Rattle.device_model.specs.Device.{State}
+use Rattle.device_model.specs.Steps.{Step, after_step, after_steps, states_through}
 use Rattle.block_format.specs.Recovery.{Survives}
 use Rattle.recovery_laws.specs.Orderly.{IsOrderly}
 use Rattle.recovery_laws.specs.Holding.{IsHeld}

@@ -12,10 +12,10 @@ use Rattle.rec_format.specs.declared.version.Digest.{Digest}
 use Rattle.rec_format.specs.declared.version.Version.{Version}
 use Rattle.rec_format.specs.Places.{same_digest, device_number}
 use Rattle.rec_format.specs.Versions.{block_capacity}
-use Rattle.rec_format.specs.Histories.{is_begun}
-use Rattle.rec_format.specs.Book.{Setup, pending_of}
-use Rattle.rec_format.specs.Device.{State, history}
-use Rattle.rec_format.specs.Steps.{flushed_buffer, after_step}
+use Rattle.device_model.specs.Histories.{is_begun}
+use Rattle.device_model.specs.Book.{Setup, pending_of}
+use Rattle.device_model.specs.Device.{State, history}
+use Rattle.device_model.specs.Steps.{flushed_buffer, after_step}
 use Rattle.rec_format.proofs.Laws.{same_digest_refl, same_digest_is}
 use Rattle.block_format.specs.declared.geometry.Geometry.{Geometry}
 use Rattle.block_format.specs.Layout.{IsGeometry, IsOpen, IsClosed, block_place, gate_sector, gate_text, body_bytes, IsBody}

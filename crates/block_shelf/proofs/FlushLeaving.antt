@@ -7,11 +7,11 @@ use Rattle.disk_model.specs.Disk.{DiskView, IsDisk, IsHonest}
 use Rattle.rec_format.specs.declared.version.Digest.{Digest}
 use Rattle.rec_format.specs.declared.version.Version.{Version}
 use Rattle.rec_format.specs.Versions.{block_capacity}
-use Rattle.rec_format.specs.Policy.{Policy, built, free_after}
-use Rattle.rec_format.specs.Book.{Setup, Book, Buffer, Live, has_buffer, updated, may_be_free, all_blocks, with_flushed, refreshed}
-use Rattle.rec_format.specs.Book as book
-use Rattle.rec_format.specs.Device.{State, history}
-use Rattle.rec_format.specs.Steps.{flushed_buffer, after_step}
+use Rattle.device_model.specs.Policy.{Policy, built, free_after}
+use Rattle.device_model.specs.Book.{Setup, Book, Buffer, Live, has_buffer, updated, may_be_free, all_blocks, with_flushed, refreshed}
+use Rattle.device_model.specs.Book as book
+use Rattle.device_model.specs.Device.{State, history}
+use Rattle.device_model.specs.Steps.{flushed_buffer, after_step}
 use Rattle.block_format.specs.Layout.{IsGeometry, IsBody, IsRecordAt, body_bytes}
 use Rattle.block_flusher.specs.Images.{HasOneBody, IsOpened}
 use Rattle.write_buffer.specs.Buffers.{BufferState, bytes_of, body_in}

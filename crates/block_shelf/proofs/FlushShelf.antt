@@ -5,9 +5,9 @@ use Rattle.std.specs.List.{AllByRecursion}
 use Rattle.disk_model.specs.Disk.{Images, DiskView, Within, IsHonest}
 use Rattle.rec_format.specs.declared.version.Digest.{Digest}
 use Rattle.rec_format.specs.declared.version.Version.{Version}
-use Rattle.rec_format.specs.Book.{Book, Live}
-use Rattle.rec_format.specs.Book as book
-use Rattle.rec_format.specs.Device.{State, history}
+use Rattle.device_model.specs.Book.{Book, Live}
+use Rattle.device_model.specs.Book as book
+use Rattle.device_model.specs.Device.{State, history}
 use Rattle.block_format.specs.declared.geometry.Geometry.{Geometry}
 use Rattle.block_format.specs.Layout.{IsClosed, IsRecordAt, device_end}
 use Rattle.block_flusher.specs.Images.{IsShut, HasOneBody}

@@ -4,9 +4,9 @@ use Rattle.std.specs.Prelude.{◌==◌}
 use Rattle.std.specs.List.{AllByRecursion}
 use Rattle.std.proofs.lemmas.Bool.{eq-eqb, eqb-true, false≢true, false_from_ne_true}
 use Rattle.disk_model.specs.Disk.{DiskView, IsDisk}
-use Rattle.rec_format.specs.Book.{Setup, Buffer, opened_if, with_gate_begun}
-use Rattle.rec_format.specs.Device.{State}
-use Rattle.rec_format.specs.Steps.{gate_begun, after_step}
+use Rattle.device_model.specs.Book.{Setup, Buffer, opened_if, with_gate_begun}
+use Rattle.device_model.specs.Device.{State}
+use Rattle.device_model.specs.Steps.{gate_begun, after_step}
 use Rattle.write_buffer.specs.declared.phase.Phase.{Phase}
 use Rattle.write_buffer.specs.declared.phase.Phase.TheVariants.{Filling, Sealed, BodyDone, GateBegun}
 use Rattle.write_buffer.specs.Phases.{later_phase}

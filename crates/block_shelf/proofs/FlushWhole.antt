@@ -4,10 +4,10 @@ use Rattle.std.specs.Prelude.{Option}
 use Rattle.std.specs.Result.{IsErr}
 use Rattle.std.specs.List.{AllByRecursion}
 use Rattle.std.proofs.lemmas.Bool.{false≢true}
-use Rattle.rec_format.specs.Book.{Setup, Buffer}
-use Rattle.rec_format.specs.Device.{State}
-use Rattle.rec_format.specs.Steps.{Step, gate_begun, flushed_buffer}
-use Rattle.rec_format.specs.Legal.{flush_first, first_sealed, StopsIn}
+use Rattle.device_model.specs.Book.{Setup, Buffer}
+use Rattle.device_model.specs.Device.{State}
+use Rattle.device_model.specs.Steps.{Step, gate_begun, flushed_buffer}
+use Rattle.device_model.specs.Legal.{flush_first, first_sealed, StopsIn}
 use Rattle.write_buffer.specs.declared.phase.Phase.{Phase}
 use Rattle.write_buffer.specs.declared.phase.Phase.TheVariants.{Filling, Sealed, BodyDone, GateBegun}
 use Rattle.write_buffer.specs.Buffers.{BufferState, with_phase}

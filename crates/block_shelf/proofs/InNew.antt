@@ -9,8 +9,8 @@ use Rattle.disk_model.specs.Disk.{DiskView}
 use Rattle.rec_format.specs.declared.version.Digest.{Digest}
 use Rattle.rec_format.specs.declared.version.Version.{Version}
 use Rattle.rec_format.specs.Versions.{version_units, top_number}
-use Rattle.rec_format.specs.Book.{Setup, Buffer, Live, client, filling, filling_buffer, fits_in, first_block, has_room, seal_stream, with_new_buffer, number_or}
-use Rattle.rec_format.specs.Device.{State, history}
+use Rattle.device_model.specs.Book.{Setup, Buffer, Live, client, filling, filling_buffer, fits_in, first_block, has_room, seal_stream, with_new_buffer, number_or}
+use Rattle.device_model.specs.Device.{State, history}
 use Rattle.recovery_laws.specs.Holding.{versions_to}
 use Rattle.recovery_laws.proofs.Opening.{all_joined, all_parted}
 use Rattle.recovery_laws.proofs.Pending.{any_map}

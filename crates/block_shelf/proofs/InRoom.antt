@@ -6,8 +6,8 @@ use Rattle.std.specs.List.{AllByRecursion}
 use Rattle.disk_model.specs.Disk.{DiskView}
 use Rattle.rec_format.specs.declared.version.Version.{Version}
 use Rattle.rec_format.specs.Versions.{version_units}
-use Rattle.rec_format.specs.Book.{Setup, client, filling_buffer, fits_in, has_room, with_new_buffer, number_or}
-use Rattle.rec_format.specs.Device.{State}
+use Rattle.device_model.specs.Book.{Setup, client, filling_buffer, fits_in, has_room, with_new_buffer, number_or}
+use Rattle.device_model.specs.Device.{State}
 use Rattle.recovery_laws.proofs.Each.{all_map}
 use Rattle.recovery_laws.proofs.Opening.{all_parted}
 use Rattle.recovery_laws.proofs.Placing.{less_apart}

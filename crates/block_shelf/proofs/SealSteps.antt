@@ -3,10 +3,10 @@ use Rattle.std.proofs.Common.{◌≡◌, ◌≢◌, inl, ℕ, Bool, true, false,
 use Rattle.std.specs.Prelude.{Option, Some, is_some}
 use Rattle.disk_model.specs.Disk.{Images, DiskView, IsDisk}
 use Rattle.disk_model.specs.Runs.{OneOf, Leaves, leaves_none}
-use Rattle.rec_format.specs.Book.{Setup, Buffer, client, defrag, seal_stream, filling_buffer}
-use Rattle.rec_format.specs.Device.{State}
-use Rattle.rec_format.specs.Steps.{sealed_stream, after_step, states_through}
-use Rattle.rec_format.specs.Legal.{seal_if, seal_all}
+use Rattle.device_model.specs.Book.{Setup, Buffer, client, defrag, seal_stream, filling_buffer}
+use Rattle.device_model.specs.Device.{State}
+use Rattle.device_model.specs.Steps.{sealed_stream, after_step, states_through}
+use Rattle.device_model.specs.Legal.{seal_if, seal_all}
 use Rattle.block_format.specs.Recovery.{Survives}
 use Rattle.recovery_laws.proofs.HeldSteps.{sealed_held}
 use Rattle.recovery_laws.proofs.Orderly.{sealed_orderly}

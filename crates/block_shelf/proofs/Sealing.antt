@@ -4,7 +4,7 @@ use Rattle.std.proofs.lemmas.Bool.{false≢true, ne_eqb, cond-true, cond-false, 
 use Rattle.std.specs.Prelude.{Some, None, ◌==◌, is_some, Contains, MatchBool}
 use Rattle.std.specs.List.{AllByRecursion}
 use Rattle.disk_model.specs.Disk.{Images, DiskView}
-use Rattle.rec_format.specs.Book.{Buffer, client, defrag, sealed_if, seal_stream, filling_buffer}
+use Rattle.device_model.specs.Book.{Buffer, client, defrag, sealed_if, seal_stream, filling_buffer}
 use Rattle.block_format.specs.declared.geometry.Geometry.{Geometry}
 use Rattle.recovery_laws.proofs.Pending.{map_shows}
 use Rattle.recovery_laws.proofs.Members.{map_there}

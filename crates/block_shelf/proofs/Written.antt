@@ -8,12 +8,12 @@ use Rattle.rec_format.specs.declared.version.Digest.{Digest}
 use Rattle.rec_format.specs.declared.version.Version.{Version}
 use Rattle.rec_format.specs.Places.{same_digest}
 use Rattle.rec_format.specs.Versions.{version_units}
-use Rattle.rec_format.specs.Histories.{top_of}
-use Rattle.rec_format.specs.Book.{Setup, Book, Live, client, live_of, without_live, placing_number}
-use Rattle.rec_format.specs.Device.{State, entry, history}
-use Rattle.rec_format.specs.Steps.{wrote, after_step}
+use Rattle.device_model.specs.Histories.{top_of}
+use Rattle.device_model.specs.Book.{Setup, Book, Live, client, live_of, without_live, placing_number}
+use Rattle.device_model.specs.Device.{State, entry, history}
+use Rattle.device_model.specs.Steps.{wrote, after_step}
 use Rattle.rec_format.proofs.Laws.{same_digest_refl, same_digest_is}
-use Rattle.rec_format.proofs.Numbers.{next_number_rises}
+use Rattle.device_model.proofs.Numbers.{next_number_rises}
 use Rattle.recovery_laws.specs.Orderly.{NumbersBelow}
 use Rattle.recovery_laws.specs.Writes.{MayFollow}
 use Rattle.recovery_laws.specs.Holding.{IsCounted}

@@ -6,11 +6,11 @@ use Rattle.rec_format.specs.declared.version.Version.{Version}
 use Rattle.rec_format.specs.declared.entry.Entry.{Entry}
 use Rattle.rec_format.specs.Versions.{version_units, units_for, block_capacity}
 use Rattle.rec_format.specs.RecordText.{CanBeHead, head_text}
-use Rattle.rec_format.specs.Book.{Setup, Book, Live, client}
-use Rattle.rec_format.specs.Device.{State}
-use Rattle.rec_format.specs.Steps.{Step, flushed_buffer, after_steps, states_through}
-use Rattle.rec_format.specs.Events.{Cause, too_big, spent, overload, no_space}
-use Rattle.rec_format.specs.Legal.{first_cause, no_place, StopsIn}
+use Rattle.device_model.specs.Book.{Setup, Book, Live, client}
+use Rattle.device_model.specs.Device.{State}
+use Rattle.device_model.specs.Steps.{Step, flushed_buffer, after_steps, states_through}
+use Rattle.device_model.specs.Events.{Cause, too_big, spent, overload, no_space}
+use Rattle.device_model.specs.Legal.{first_cause, no_place, StopsIn}
 use Rattle.disk_model.specs.Bytes.{range}
 use Rattle.disk_model.specs.Disk.{DiskView, IsHonest}
 use Rattle.disk_model.specs.Runs.{OneOf, Leaves}

@@ -6,8 +6,8 @@ use Rattle.rec_format.specs.declared.version.Digest.{Digest}
 use Rattle.rec_format.specs.declared.version.Version.{Version}
 use Rattle.rec_format.specs.Places.{same_digest}
 use Rattle.rec_format.specs.Versions.{version_units, block_capacity}
-use Rattle.rec_format.specs.Book.{Setup, Live, Buffer, Phase, filling, sealed, opening, client, live_of}
-use Rattle.rec_format.specs.Device.{State, entry, history}
+use Rattle.device_model.specs.Book.{Setup, Live, Buffer, Phase, filling, sealed, opening, client, live_of}
+use Rattle.device_model.specs.Device.{State, entry, history}
 use Rattle.block_format.specs.Layout.{IsRecordAt, body_bytes, units_of_records}
 use Rattle.recovery_laws.specs.Orderly.{NumbersBelow, IsOrderly}
 use Rattle.recovery_laws.specs.Holding.{versions_to, IsHeld}

@@ -4,8 +4,8 @@ use Rattle.std.specs.List.{AllByRecursion}
 use Rattle.disk_model.specs.Disk.{Images, DiskView, IsHonest}
 use Rattle.rec_format.specs.Places.{device_number}
 use Rattle.rec_format.specs.Versions.{block_capacity, top_number}
-use Rattle.rec_format.specs.Policy.{built}
-use Rattle.rec_format.specs.Book.{Setup}
+use Rattle.device_model.specs.Policy.{built}
+use Rattle.device_model.specs.Book.{Setup}
 use Rattle.block_format.specs.declared.geometry.Geometry.{Geometry}
 use Rattle.block_format.specs.declared.geometry.Gate.{Gate}
 use Rattle.block_format.specs.declared.geometry.Gate.TheVariants.{Shut, Set, Unsure}

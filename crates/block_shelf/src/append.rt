@@ -2,9 +2,9 @@
 ghost use Rattle.std.specs.Prelude.{◌≡◌, ◌≤◌, ◌^◌, ◌++◌, ◌∷◌, [], List, None, Some, length, IfOk, MatchBool, MatchResult, OnErr};
 ghost use Rattle.rec_format.specs.Places.{device_number};
 ghost use Rattle.rec_format.specs.Versions.{IsVersion, version_units};
-ghost use Rattle.rec_format.specs.Book.{Setup, live_of};
-ghost use Rattle.rec_format.specs.Device.{State};
-ghost use Rattle.rec_format.specs.Steps.{wrote, after_step};
+ghost use Rattle.device_model.specs.Book.{Setup, live_of};
+ghost use Rattle.device_model.specs.Device.{State};
+ghost use Rattle.device_model.specs.Steps.{wrote, after_step};
 ghost use Rattle.recovery_laws.specs.Writes.{MayFollow};
 ghost use Rattle.write_buffer.specs.Buffers.{BufferState, used_units};
 ghost use Rattle.block_shelf.specs.View.{IsShelf, IsSetupOf, SameShape};

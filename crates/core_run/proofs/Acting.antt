@@ -8,11 +8,11 @@ use Rattle.rec_format.specs.declared.version.Digest.{Digest}
 use Rattle.rec_format.specs.declared.version.Stamp.{Stamp}
 use Rattle.rec_format.specs.declared.version.Version.{Version}
 use Rattle.rec_format.specs.Places.{device_number}
-use Rattle.rec_format.specs.Book.{Setup}
-use Rattle.rec_format.specs.Device.{State}
-use Rattle.rec_format.specs.Steps.{Step, states_through}
-use Rattle.rec_format.specs.Events.{Event, Call, put_call, get_call, flush_call, flush_sealed_call, choose_call, Answer, block_chosen, disk_fault, after_event}
-use Rattle.rec_format.specs.Legal.{Follows, queue_front}
+use Rattle.device_model.specs.Book.{Setup}
+use Rattle.device_model.specs.Device.{State}
+use Rattle.device_model.specs.Steps.{Step, states_through}
+use Rattle.device_model.specs.Events.{Event, Call, put_call, get_call, flush_call, flush_sealed_call, choose_call, Answer, block_chosen, disk_fault, after_event}
+use Rattle.device_model.specs.Legal.{Follows, queue_front}
 use Rattle.block_format.specs.Recovery.{Survives}
 use Rattle.line_proto.specs.declared.command.Command.{Command}
 use Rattle.line_proto.specs.declared.command.Command.TheVariants as command

@@ -2,11 +2,11 @@
 use Rattle.std.proofs.Common.{◌≡◌, ◌≢◌, inl, inr, ℕ, Bool, List, [], ◌∷◌, map, refl, sym, ◌∙◌, ap, subst}
 use Rattle.std.specs.Prelude.{Result, Ok, Err, OnOk, OnErr}
 use Rattle.fault_count.specs.Counts.{Rose}
-use Rattle.rec_format.specs.Book.{Setup}
-use Rattle.rec_format.specs.Device.{State}
-use Rattle.rec_format.specs.Steps.{Step, after_steps}
-use Rattle.rec_format.specs.Events.{Event, Call, flush_call, refused, disk_fault}
-use Rattle.rec_format.specs.Legal.{Follows, Allowed, FlushEnds, seal_all, flush_all}
+use Rattle.device_model.specs.Book.{Setup}
+use Rattle.device_model.specs.Device.{State}
+use Rattle.device_model.specs.Steps.{Step, after_steps}
+use Rattle.device_model.specs.Events.{Event, Call, flush_call, refused, disk_fault}
+use Rattle.device_model.specs.Legal.{Follows, Allowed, FlushEnds, seal_all, flush_all}
 use Rattle.line_proto.specs.Commands.{Slot}
 use Rattle.block_shelf.specs.Standing.{book_buffer}
 use Rattle.write_buffer.specs.Buffers.{BufferState}

@@ -6,10 +6,10 @@ use Rattle.std.proofs.lemmas.List.{append-nil}
 use Rattle.std.proofs.lemmas.Bool.{eqb-true}
 use Rattle.rec_format.specs.declared.version.Digest.{Digest}
 use Rattle.rec_format.specs.declared.version.Version.{Version}
-use Rattle.rec_format.specs.Device.{seen}
-use Rattle.rec_format.specs.Steps.{Step}
-use Rattle.rec_format.specs.Events.{Cause, Answer, stamp_given, refused, Event, put_call, get_call, after_event}
-use Rattle.rec_format.specs.Legal.{Follows, Allowed, Unless, WriteEnds, WhereReads, put_refusal, new_put}
+use Rattle.device_model.specs.Device.{seen}
+use Rattle.device_model.specs.Steps.{Step}
+use Rattle.device_model.specs.Events.{Cause, Answer, stamp_given, refused, Event, put_call, get_call, after_event}
+use Rattle.device_model.specs.Legal.{Follows, Allowed, Unless, WriteEnds, WhereReads, put_refusal, new_put}
 use Rattle.line_proto.specs.declared.command.Command.{Command}
 use Rattle.line_proto.specs.declared.command.Command.TheVariants as command
 use Rattle.line_proto.specs.declared.reply.Reply.{Reply}

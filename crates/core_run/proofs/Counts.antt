@@ -1,10 +1,10 @@
 -- The counts of faults of a run never fall, and an answer of a fault raises one of them.
 use Rattle.std.proofs.Common.{◌≡◌, ℕ, zero, suc, ◌+◌, ◌≤◌, Bool, List, [], ◌∷◌, refl, inl, inr, arith, subst, sym, ◌∙◌}
 use Rattle.std.specs.List.{AllByRecursion}
-use Rattle.rec_format.specs.Book.{Setup}
+use Rattle.device_model.specs.Book.{Setup}
 use Rattle.std.specs.Prelude.{◌⊎◌, Option, Some, None, MatchOption, slice_get}
-use Rattle.rec_format.specs.Events.{Event}
-use Rattle.rec_format.specs.Legal.{Follows}
+use Rattle.device_model.specs.Events.{Event}
+use Rattle.device_model.specs.Legal.{Follows}
 use Rattle.line_proto.specs.Commands.{Node, NodeEvent, at_place, slot_after, node_after, IsLegalOn}
 use Rattle.core_run.specs.Session.{ImagesLeft, Served, RestartsEach, SameStates, Serves, ServesAll, IsRun, node_or, node_at_reply, node_after_line, node_after_lines, last_node, AnswersLine}
 use Rattle.core_run.specs.Headline.{NoneFell, counts_of, Outside, HoldsReplies}

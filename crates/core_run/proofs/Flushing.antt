@@ -6,14 +6,14 @@ use Rattle.std.proofs.lemmas.Bool.{and_parts, and_from, or_cases, or_left, or_ri
 use Rattle.rec_format.specs.declared.version.Digest.{Digest}
 use Rattle.rec_format.specs.declared.version.Version.{Version}
 use Rattle.rec_format.specs.Versions.{version_units}
-use Rattle.rec_format.specs.Histories.{Item, write, is_pending}
-use Rattle.rec_format.specs.Book.{Setup, Book, Buffer, Phase, Stream, client, filling, sealed, opening, is_filling, is_opening, same_stream, filling_buffer, sealed_if, seal_stream, with_room, used_more, put_in, placed, refreshed, placing_number, with_seal, opened_if, with_flushed}
-use Rattle.rec_format.specs.Device.{State, history_of}
-use Rattle.rec_format.specs.Steps.{Step, wrote, sealed_stream, gate_begun, flushed_buffer, wrote_state, after_step, after_steps}
-use Rattle.rec_format.specs.Legal.{flush_of, flush_between, commit_seal, commit_flush}
+use Rattle.device_model.specs.Histories.{Item, write, is_pending}
+use Rattle.device_model.specs.Book.{Setup, Book, Buffer, Phase, Stream, client, filling, sealed, opening, is_filling, is_opening, same_stream, filling_buffer, sealed_if, seal_stream, with_room, used_more, put_in, placed, refreshed, placing_number, with_seal, opened_if, with_flushed}
+use Rattle.device_model.specs.Device.{State, history_of}
+use Rattle.device_model.specs.Steps.{Step, wrote, sealed_stream, gate_begun, flushed_buffer, wrote_state, after_step, after_steps}
+use Rattle.device_model.specs.Legal.{flush_of, flush_between, commit_seal, commit_flush}
 use Rattle.std.proofs.lemmas.List.Folds.{list_any-append}
 use Rattle.line_proto.proofs.Falling.{all_append}
-use Rattle.rec_format.proofs.Laws.{history_hit}
+use Rattle.device_model.proofs.Laws.{history_hit}
 use Rattle.recovery_laws.proofs.Placing.{room_of}
 use Rattle.core_run.specs.Session.{top_is_flushed, flushed_if_wrote}
 

@@ -10,8 +10,8 @@ use Rattle.rec_format.specs.declared.entry.Entry.{Entry}
 use Rattle.rec_format.specs.Places.{device_number, same_digest}
 use Rattle.rec_format.specs.Versions.{version_units}
 use Rattle.rec_format.specs.RecordText.{BeginsWith, record_text}
-use Rattle.rec_format.specs.Book.{Setup, cold_book, refreshed}
-use Rattle.rec_format.specs.Device.{State, entry}
+use Rattle.device_model.specs.Book.{Setup, cold_book, refreshed}
+use Rattle.device_model.specs.Device.{State, entry}
 use Rattle.rec_format.proofs.RecordFront.{texts_apart}
 use Rattle.rec_format.proofs.Laws.{same_digest_is}
 use Rattle.block_format.specs.Layout.{IsRecordAt, body_bytes}

@@ -2,11 +2,11 @@
 use Rattle.std.proofs.Common.{◌≡◌, ℕ, ◌+◌, Bool, true, false, cond, List, [], ◌∷◌, ◌++◌, map, sym, subst, inl, inr}
 use Rattle.std.specs.Prelude.{Option, Some, None, MatchOption, ◌==◌, slice_get, is_some}
 use Rattle.std.specs.List.{AllByRecursion}
-use Rattle.rec_format.specs.Book.{Book, Stream, client, defrag, filling_buffer}
-use Rattle.rec_format.specs.Device.{State}
-use Rattle.rec_format.specs.Steps.{Step, wrote, gate_begun, flushed_buffer, after_steps}
-use Rattle.rec_format.specs.Events.{Event, Call, flush_call}
-use Rattle.rec_format.specs.Legal.{Follows, Allowed, FlushEnds, seal_if, seal_all, flush_all}
+use Rattle.device_model.specs.Book.{Book, Stream, client, defrag, filling_buffer}
+use Rattle.device_model.specs.Device.{State}
+use Rattle.device_model.specs.Steps.{Step, wrote, gate_begun, flushed_buffer, after_steps}
+use Rattle.device_model.specs.Events.{Event, Call, flush_call}
+use Rattle.device_model.specs.Legal.{Follows, Allowed, FlushEnds, seal_if, seal_all, flush_all}
 use Rattle.line_proto.specs.Commands.{Slot, Node, NodeEvent, Outcome, at_place, slot_after, on_device, IsLegalOn, EachDevice, Flushes}
 use Rattle.line_proto.proofs.Falling.{all_append}
 use Rattle.recovery_laws.proofs.Opening.{all_parted}

@@ -4,9 +4,9 @@ use Rattle.std.specs.Prelude.{length, ℕ, ◌^◌, ◌<◌, ◌≤◌, Bool, tr
 use Rattle.std.specs.List.{AllByRecursion, list_any}
 use Rattle.fault_count.specs.Counts.{Rose}
 use Rattle.disk_model.specs.Runs.{OneOf}
-use Rattle.rec_format.specs.Book.{Setup}
-use Rattle.rec_format.specs.Events.{Event, flush_call, after_events, states_of}
-use Rattle.rec_format.specs.Legal.{IsLegal, last_faults}
+use Rattle.device_model.specs.Book.{Setup}
+use Rattle.device_model.specs.Events.{Event, flush_call, after_events, states_of}
+use Rattle.device_model.specs.Legal.{IsLegal, last_faults}
 use Rattle.block_format.specs.Layout.{Body}
 use Rattle.block_format.specs.Recovery.{Survives, IsSound, start_state}
 use Rattle.line_proto.specs.declared.reply.Reply.{Reply}

@@ -2,8 +2,8 @@
 use Rattle.std.specs.Prelude.{◌≡◌, ℕ, true, false, List, [], ◌∷◌, Result, Ok, Err, slice_get}
 use Rattle.fault_count.specs.Counts.{Rose}
 use Rattle.disk_model.specs.Disk.{DiskView, IsOnly, IsHonest}
-use Rattle.rec_format.specs.Device.{State}
-use Rattle.rec_format.specs.Events.{disk_fault}
+use Rattle.device_model.specs.Device.{State}
+use Rattle.device_model.specs.Events.{disk_fault}
 use Rattle.line_proto.specs.declared.command.Command.{Command}
 use Rattle.line_proto.specs.declared.reply.Reply.{Reply}
 use Rattle.line_proto.specs.Commands.{Node, Outcome, did, stopped}

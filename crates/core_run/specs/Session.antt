@@ -4,11 +4,11 @@ use Rattle.std.specs.Prelude.{ℕ, ◌+◌, ◌≤◌, Bool, true, false, ◌||�
 use Rattle.std.specs.List.{AllByRecursion}
 use Rattle.rec_format.specs.declared.version.Digest.{Digest}
 use Rattle.rec_format.specs.Versions.{bounded_time}
-use Rattle.rec_format.specs.Histories.{Item, write, dropped, rid, cleared, is_flushed}
-use Rattle.rec_format.specs.Book.{pending_of}
-use Rattle.rec_format.specs.Device.{State, history, put_count, tombstone_count}
-use Rattle.rec_format.specs.Steps.{Step, wrote, states_through}
-use Rattle.rec_format.specs.Events.{Event, flush_call}
+use Rattle.device_model.specs.Histories.{Item, write, dropped, rid, cleared, is_flushed}
+use Rattle.device_model.specs.Book.{pending_of}
+use Rattle.device_model.specs.Device.{State, history, put_count, tombstone_count}
+use Rattle.device_model.specs.Steps.{Step, wrote, states_through}
+use Rattle.device_model.specs.Events.{Event, flush_call}
 use Rattle.block_format.specs.Recovery.{Restarts}
 use Rattle.line_proto.specs.declared.command.Command.{Command}
 use Rattle.line_proto.specs.declared.command.Command.TheVariants as command

@@ -1,8 +1,8 @@
 // A node over one device.
 ghost use Rattle.std.specs.Prelude.{◌≡◌, ◌∷◌, [], vec_len, IfErr, MatchResult};
 ghost use Rattle.shard_core.specs.View.{IsSettings};
-ghost use Rattle.rec_format.specs.Device.{State};
-ghost use Rattle.rec_format.specs.Events.{flush_call};
+ghost use Rattle.device_model.specs.Device.{State};
+ghost use Rattle.device_model.specs.Events.{flush_call};
 ghost use Rattle.shard_core.specs.Stands.{Agrees};
 ghost use Rattle.shard_core.specs.Calls.{Makes, flush_answer};
 ghost use Rattle.core_run.specs.OneDevice.{Started, NotStarted, ClosesAlone};

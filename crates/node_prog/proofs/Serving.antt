@@ -3,7 +3,7 @@ use Rattle.std.proofs.Common.{◌≡◌, ◌≢◌, ℕ, zero, suc, ◌<◌, ◌
 use Rattle.std.specs.Prelude.{Option, Result, ◌^◌}
 use Rattle.fault_count.specs.Counts.{Rose}
 use Rattle.disk_model.specs.Disk.{DiskView, IsDisk, IsOnly, IsHonest, meanwhile}
-use Rattle.rec_format.specs.Device.{State}
+use Rattle.device_model.specs.Device.{State}
 use Rattle.block_format.specs.Layout.{Body}
 use Rattle.block_format.specs.Recovery.{IsSound, start_state, entries_state}
 use Rattle.line_proto.specs.declared.command.Command.{Command}

@@ -2,8 +2,8 @@
 use Rattle.std.specs.Prelude.{◌≡◌, ◌⊎◌, ℕ, Bool, false, List, [], ◌∷◌, ◌++◌, codes, Option}
 use Rattle.disk_model.specs.Disk.{Images, DiskView, IsOnly, IsHonest, meanwhile}
 use Rattle.rec_format.specs.declared.version.Digest.{Digest}
-use Rattle.rec_format.specs.Book.{Setup}
-use Rattle.rec_format.specs.Device.{entry}
+use Rattle.device_model.specs.Book.{Setup}
+use Rattle.device_model.specs.Device.{entry}
 use Rattle.block_format.specs.declared.geometry.Geometry.{Geometry}
 use Rattle.block_format.specs.Layout.{Body}
 use Rattle.block_format.specs.Copies.{Copy, copies_of, cold}

@@ -2,7 +2,7 @@
 use Rattle.std.proofs.Common.{◌≡◌, ℕ, Bool, true, List, [], subst, sym}
 use Rattle.std.specs.Prelude.{Option, Some, None, IfSome, IsTrue}
 use Rattle.disk_model.specs.Disk.{DiskView, meanwhile}
-use Rattle.rec_format.specs.Book.{Setup}
+use Rattle.device_model.specs.Book.{Setup}
 use Rattle.io_traits.specs.Source.{IsAtEnd}
 use Rattle.line_proto.specs.Commands.{Node}
 use Rattle.node_session.specs.declared.ended.Ended.{Ended}

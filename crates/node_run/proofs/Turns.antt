@@ -5,10 +5,10 @@ use Rattle.std.specs.List.{AllByRecursion}
 use Rattle.std.proofs.lemmas.List.{map-append}
 use Rattle.disk_model.specs.Disk.{Images, DiskView, Advances}
 use Rattle.disk_model.specs.Runs.{OneOf, one_of_front, one_of_back, leaves_then, leaves_more}
-use Rattle.rec_format.specs.Device.{State}
+use Rattle.device_model.specs.Device.{State}
 use Rattle.rec_format.specs.Versions.{bounded_time}
 use Rattle.rec_format.specs.declared.version.Version.{Version}
-use Rattle.rec_format.specs.Events.{Answer, stamp_given, happened, found_version, counted, block_chosen, raid_numbered, marks_made, block_scanned, marks_undone, part_ended, raid_over, refused}
+use Rattle.device_model.specs.Events.{Answer, stamp_given, happened, found_version, counted, block_chosen, raid_numbered, marks_made, block_scanned, marks_undone, part_ended, raid_over, refused}
 use Rattle.block_format.specs.Recovery.{Survives}
 use Rattle.io_traits.specs.Clock.{Ticks}
 use Rattle.line_proto.specs.declared.command.Command.{Command}

@@ -3,7 +3,7 @@
 use Rattle.std.specs.Prelude.{◌≡◌, ◌⊎◌, ℕ, ◌≤◌, Bool, List, Option, length, map, slice_get}
 use Rattle.fault_count.specs.Counts.{Rose}
 use Rattle.disk_model.specs.Disk.{DiskView}
-use Rattle.rec_format.specs.Book.{Setup}
+use Rattle.device_model.specs.Book.{Setup}
 use Rattle.line_proto.specs.Commands.{Node, NodeEvent, IsNumbered}
 use Rattle.node_session.specs.declared.ended.Ended.{Ended}
 use Rattle.node_session.specs.declared.ended.Ended.TheVariants.{Finish, Quit, SourceFault, SinkFault, Memory, Halted, Long}

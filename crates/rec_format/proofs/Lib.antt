@@ -1,7 +1,5 @@
 pub mod Laws
-pub mod Numbers
 pub mod Examples
-pub mod Refused
 pub mod Flaws
 pub mod TextParts
 pub mod BytesFit

@@ -1,12 +1,4 @@
-pub mod Policy
 pub mod Places
 pub mod Versions
 pub mod RecordText
 pub mod RecordFlaws
-pub mod Histories
-pub mod Book
-pub mod Device
-pub mod Steps
-pub mod Events
-pub mod Legal
-pub mod Passes

@@ -7,7 +7,7 @@ use Rattle.rec_format.specs.declared.version.Digest.{Digest}
 use Rattle.rec_format.specs.declared.version.Version.{Version}
 use Rattle.rec_format.specs.Places.{same_digest}
 use Rattle.rec_format.specs.Versions.{is_later, block_capacity}
-use Rattle.rec_format.specs.Histories.{Item, write, dropped, rid, cleared, top_of, is_covered}
+use Rattle.device_model.specs.Histories.{Item, write, dropped, rid, cleared, top_of, is_covered}
 use Rattle.block_format.specs.declared.geometry.Geometry.{Geometry}
 use Rattle.block_format.specs.Layout.{Body, body_bytes}
 use Rattle.block_format.specs.Readings.{AtMostOneBody}

@@ -8,9 +8,9 @@ use Rattle.rec_format.specs.declared.version.Stamp.{Stamp}
 use Rattle.rec_format.specs.declared.version.Version.{Version}
 use Rattle.rec_format.specs.Places.{same_digest}
 use Rattle.rec_format.specs.Versions.{is_later, is_later_stamp}
-use Rattle.rec_format.specs.Histories.{Item, write}
-use Rattle.rec_format.specs.Book.{Setup}
-use Rattle.rec_format.specs.Device.{Log, history_of, part_of, high_time}
+use Rattle.device_model.specs.Histories.{Item, write}
+use Rattle.device_model.specs.Book.{Setup}
+use Rattle.device_model.specs.Device.{Log, history_of, part_of, high_time}
 use Rattle.rec_format.proofs.Laws.{same_digest_is}
 use Rattle.block_format.specs.Copies.{Copy}
 use Rattle.block_format.specs.Recovery.{with_copy, log_of}

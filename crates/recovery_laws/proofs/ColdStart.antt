@@ -7,9 +7,9 @@ use Rattle.rec_format.specs.declared.version.Version.{Version}
 use Rattle.rec_format.specs.Places.{same_digest}
 use Rattle.rec_format.specs.Versions.{IsVersion, version_units}
 use Rattle.rec_format.specs.RecordText.{CanBeRecorded}
-use Rattle.rec_format.specs.Histories.{top_of, writes_of}
-use Rattle.rec_format.specs.Book.{Setup}
-use Rattle.rec_format.specs.Device.{history, entry, high_time}
+use Rattle.device_model.specs.Histories.{top_of, writes_of}
+use Rattle.device_model.specs.Book.{Setup}
+use Rattle.device_model.specs.Device.{history, entry, high_time}
 use Rattle.block_format.specs.declared.geometry.Geometry.{Geometry}
 use Rattle.block_format.specs.Layout.{Body}
 use Rattle.block_format.specs.Copies.{Copy, HasBodies, copies_from, copies_of, cold}

@@ -1,7 +1,7 @@
 -- What holds of each element of a list, and lists of pending buffers that say the same of all numbers below a limit.
 use Rattle.std.proofs.Common.{◌≡◌, ℕ, ◌<◌, Bool, not, ◌||◌, List, [], ◌∷◌, refl, ◌∙◌, ap}
 use Rattle.std.specs.List.{AllByRecursion, list_any}
-use Rattle.rec_format.specs.Histories.{Pending, is_pending, is_begun, is_flushed}
+use Rattle.device_model.specs.Histories.{Pending, is_pending, is_begun, is_flushed}
 
 pub all_map : {X : Type 0} (P Q : X → Type 0) (xs : List X) → ((x : X) → P x → Q x) → AllByRecursion P xs → AllByRecursion Q xs
 all_map P Q [] step all = tt

@@ -5,10 +5,10 @@ use Rattle.std.specs.Prelude.{◌==◌, Contains}
 use Rattle.std.specs.List.{AllByRecursion, list_any}
 use Rattle.rec_format.specs.declared.version.Digest.{Digest}
 use Rattle.rec_format.specs.declared.version.Version.{Version}
-use Rattle.rec_format.specs.Histories.{Item, write, dropped, rid, cleared, Pending, is_pending, is_begun, is_flushed, is_waiting, stage_of}
-use Rattle.rec_format.specs.Book.{Setup, Book, pending_of, with_flushed}
-use Rattle.rec_format.specs.Device.{State, history}
-use Rattle.rec_format.specs.Steps.{gate_begun, flushed_buffer, after_step}
+use Rattle.device_model.specs.Histories.{Item, write, dropped, rid, cleared, Pending, is_pending, is_begun, is_flushed, is_waiting, stage_of}
+use Rattle.device_model.specs.Book.{Setup, Book, pending_of, with_flushed}
+use Rattle.device_model.specs.Device.{State, history}
+use Rattle.device_model.specs.Steps.{gate_begun, flushed_buffer, after_step}
 use Rattle.block_format.specs.Layout.{Body}
 use Rattle.recovery_laws.specs.Holding.{versions_to, begun_versions, flushed_versions, versions_in, Holds}
 use Rattle.recovery_laws.proofs.Each.{all_map}

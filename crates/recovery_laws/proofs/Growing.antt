@@ -7,7 +7,7 @@ use Rattle.std.specs.List.{AllByRecursion}
 use Rattle.rec_format.specs.declared.version.Stamp.{Stamp}
 use Rattle.rec_format.specs.declared.version.Version.{Version}
 use Rattle.rec_format.specs.Versions.{is_later, is_put, is_tombstone, IsVersion}
-use Rattle.rec_format.specs.Histories.{Item, write, dropped, rid, cleared, is_covered, writes_of}
+use Rattle.device_model.specs.Histories.{Item, write, dropped, rid, cleared, is_covered, writes_of}
 use Rattle.rec_format.proofs.Laws.{later_fact}
 use Rattle.recovery_laws.specs.Orderly.{NumbersBelow, NoBareVersions, IsOrderlyHistory}
 use Rattle.recovery_laws.proofs.Each.{all_map}

@@ -8,9 +8,9 @@ use Rattle.rec_format.specs.declared.version.Digest.{Digest}
 use Rattle.rec_format.specs.declared.version.Version.{Version}
 use Rattle.rec_format.specs.Places.{same_digest}
 use Rattle.rec_format.specs.Versions.{is_later, is_tombstone}
-use Rattle.rec_format.specs.Histories.{Item, write, dropped, rid, cleared, Pending, is_flushed, is_waiting, stage_of, has_flushed, has_flushed_tombstone, ends_well, is_nothing, Keeps, last_write, writes_of}
-use Rattle.rec_format.specs.Book.{Setup, pending_of}
-use Rattle.rec_format.specs.Device.{State, history}
+use Rattle.device_model.specs.Histories.{Item, write, dropped, rid, cleared, Pending, is_flushed, is_waiting, stage_of, has_flushed, has_flushed_tombstone, ends_well, is_nothing, Keeps, last_write, writes_of}
+use Rattle.device_model.specs.Book.{Setup, pending_of}
+use Rattle.device_model.specs.Device.{State, history}
 use Rattle.rec_format.proofs.Laws.{same_digest_is}
 use Rattle.block_format.specs.Layout.{Body}
 use Rattle.block_format.specs.Copies.{Copy, copies_of, copies_named, later_copy, latest, version_of, cold}

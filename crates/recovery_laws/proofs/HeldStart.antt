@@ -5,9 +5,9 @@ use Rattle.std.specs.List.{AllByRecursion}
 use Rattle.rec_format.specs.declared.version.Digest.{Digest}
 use Rattle.rec_format.specs.declared.version.Version.{Version}
 use Rattle.rec_format.specs.Places.{same_digest}
-use Rattle.rec_format.specs.Histories.{Pending}
-use Rattle.rec_format.specs.Book.{Setup, pending_of}
-use Rattle.rec_format.specs.Device.{State, history}
+use Rattle.device_model.specs.Histories.{Pending}
+use Rattle.device_model.specs.Book.{Setup, pending_of}
+use Rattle.device_model.specs.Device.{State, history}
 use Rattle.block_format.specs.Layout.{Body}
 use Rattle.block_format.specs.Copies.{Copy, copies_of, copies_named}
 use Rattle.block_format.specs.Recovery.{IsSound, start_state}

@@ -4,10 +4,10 @@ use Rattle.std.specs.Prelude.{Contains}
 use Rattle.std.specs.List.{AllByRecursion}
 use Rattle.rec_format.specs.declared.version.Digest.{Digest}
 use Rattle.rec_format.specs.declared.version.Version.{Version}
-use Rattle.rec_format.specs.Histories.{Pending}
-use Rattle.rec_format.specs.Book.{Setup, Stream, Book, with_gate_begun, pending_of}
-use Rattle.rec_format.specs.Device.{State, history}
-use Rattle.rec_format.specs.Steps.{sealed_stream, gate_begun, after_step}
+use Rattle.device_model.specs.Histories.{Pending}
+use Rattle.device_model.specs.Book.{Setup, Stream, Book, with_gate_begun, pending_of}
+use Rattle.device_model.specs.Device.{State, history}
+use Rattle.device_model.specs.Steps.{sealed_stream, gate_begun, after_step}
 use Rattle.block_format.specs.Layout.{Body}
 use Rattle.block_format.specs.Copies.{copies_of}
 use Rattle.recovery_laws.specs.Holding.{begun_versions, flushed_versions, versions_in, Holds}

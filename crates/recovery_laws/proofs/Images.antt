@@ -5,7 +5,7 @@ use Rattle.std.proofs.lemmas.Nat.{pow-add}
 use Rattle.std.proofs.lemmas.Bool.{cases_eq}
 use Rattle.std.specs.List.{AllByRecursion, range_with_len}
 use Rattle.rec_format.specs.Versions.{block_capacity}
-use Rattle.rec_format.specs.Book.{Setup}
+use Rattle.device_model.specs.Book.{Setup}
 use Rattle.block_format.specs.declared.geometry.Geometry.{Geometry}
 use Rattle.block_format.specs.Layout.{IsBlockSize, IsGeometry, IsOpen, IsClosed, gate_sector, body_bytes, device_end, Body, IsBody, IsHeader}
 use Rattle.block_format.specs.Copies.{HasBodies, IsReadable}

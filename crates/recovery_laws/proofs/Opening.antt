@@ -8,8 +8,8 @@ use Rattle.rec_format.specs.declared.version.Digest.{Digest}
 use Rattle.rec_format.specs.declared.version.Version.{Version}
 use Rattle.rec_format.specs.Places.{same_digest, device_number}
 use Rattle.rec_format.specs.Versions.{version_units, block_capacity}
-use Rattle.rec_format.specs.Book.{Setup, pending_of}
-use Rattle.rec_format.specs.Device.{State, history}
+use Rattle.device_model.specs.Book.{Setup, pending_of}
+use Rattle.device_model.specs.Device.{State, history}
 use Rattle.block_format.specs.declared.geometry.Geometry.{Geometry}
 use Rattle.block_format.specs.Layout.{IsGeometry, IsOpen, IsClosed, gate_sector, body_bytes, Body, IsBody}
 use Rattle.block_format.specs.Copies.{Copy, IsReadable, copies_from, copies_of, copies_named}

@@ -4,11 +4,11 @@ use Rattle.std.specs.Prelude.{Option, Some, None}
 use Rattle.rec_format.specs.declared.version.Digest.{Digest}
 use Rattle.rec_format.specs.declared.version.Version.{Version}
 use Rattle.rec_format.specs.Versions.{version_units}
-use Rattle.rec_format.specs.Book.{Setup, Buffer, Book, Stream, client, same_stream, is_filling, filling_buffer, has_room, with_new_buffer, with_room, put_in, placed, number_or, placing_number, with_flushed, refreshed}
-use Rattle.rec_format.specs.Device.{State, history}
-use Rattle.rec_format.specs.Steps.{wrote, sealed_stream, gate_begun, flushed_buffer, after_step}
+use Rattle.device_model.specs.Book.{Setup, Buffer, Book, Stream, client, same_stream, is_filling, filling_buffer, has_room, with_new_buffer, with_room, put_in, placed, number_or, placing_number, with_flushed, refreshed}
+use Rattle.device_model.specs.Device.{State, history}
+use Rattle.device_model.specs.Steps.{wrote, sealed_stream, gate_begun, flushed_buffer, after_step}
 use Rattle.rec_format.proofs.Laws.{same_digest_is}
-use Rattle.rec_format.proofs.Numbers.{next_number_rises}
+use Rattle.device_model.proofs.Numbers.{next_number_rises}
 use Rattle.recovery_laws.specs.Orderly.{IsOrderlyHistory, IsOrderly}
 use Rattle.recovery_laws.specs.Writes.{MayFollow}
 use Rattle.recovery_laws.specs.Holding.{IsCounted}

@@ -3,8 +3,8 @@ use Rattle.std.proofs.Common.{◌≡◌, ◌≢◌, inl, inr, ℕ, ◌+◌, Bool
 use Rattle.std.proofs.lemmas.Bool.{and_parts, and_from, or_cases, or_left, or_right, or_from, both_ways, eqb-true, eq-eqb, false≢true, false_from_ne_true}
 use Rattle.std.specs.Prelude.{◌==◌, filter}
 use Rattle.std.specs.List.{list_any}
-use Rattle.rec_format.specs.Histories.{is_pending, is_begun}
-use Rattle.rec_format.specs.Book.{Setup, Buffer, Book, Phase, Stream, filling, sealed, opening, is_opening, same_stream, sealed_if, seal_stream, used_more, opened_if, with_gate_begun, with_flushed, refreshed, pending_of}
+use Rattle.device_model.specs.Histories.{is_pending, is_begun}
+use Rattle.device_model.specs.Book.{Setup, Buffer, Book, Phase, Stream, filling, sealed, opening, is_opening, same_stream, sealed_if, seal_stream, used_more, opened_if, with_gate_begun, with_flushed, refreshed, pending_of}
 
 -- ---- tests of lists
 

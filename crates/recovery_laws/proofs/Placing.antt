@@ -9,10 +9,10 @@ use Rattle.std.specs.List.{AllByRecursion, list_any}
 use Rattle.rec_format.specs.declared.version.Digest.{Digest}
 use Rattle.rec_format.specs.declared.version.Version.{Version}
 use Rattle.rec_format.specs.Versions.{version_units}
-use Rattle.rec_format.specs.Histories.{Pending, is_pending, is_begun}
-use Rattle.rec_format.specs.Book.{Setup, Buffer, Book, Phase, Stream, client, defrag, filling, sealed, opening, is_filling, is_opening, same_stream, seal_stream, first_block, filling_buffer, fits_in, has_room, with_new_buffer, with_room, put_in, placed, number_or, placing_number, refreshed, pending_of}
-use Rattle.rec_format.specs.Device.{State}
-use Rattle.rec_format.specs.Steps.{wrote, after_step}
+use Rattle.device_model.specs.Histories.{Pending, is_pending, is_begun}
+use Rattle.device_model.specs.Book.{Setup, Buffer, Book, Phase, Stream, client, defrag, filling, sealed, opening, is_filling, is_opening, same_stream, seal_stream, first_block, filling_buffer, fits_in, has_room, with_new_buffer, with_room, put_in, placed, number_or, placing_number, refreshed, pending_of}
+use Rattle.device_model.specs.Device.{State}
+use Rattle.device_model.specs.Steps.{wrote, after_step}
 use Rattle.recovery_laws.specs.Holding.{AreRising, IsCounted}
 use Rattle.recovery_laws.specs.Awaited.{IsAwaited}
 use Rattle.recovery_laws.proofs.Each.{all_map}

@@ -4,7 +4,7 @@ use Rattle.std.proofs.lemmas.Bool.{or_cases, or_left, or_right, both_ways, false
 use Rattle.std.specs.Prelude.{Contains}
 use Rattle.std.specs.List.{list_any}
 use Rattle.rec_format.specs.declared.version.Version.{Version}
-use Rattle.rec_format.specs.Histories.{Item, write, dropped, rid, cleared, Pending, waiting, begun, flushed, is_pending, is_begun, is_flushed, is_waiting, stage_of}
+use Rattle.device_model.specs.Histories.{Item, write, dropped, rid, cleared, Pending, waiting, begun, flushed, is_pending, is_begun, is_flushed, is_waiting, stage_of}
 use Rattle.recovery_laws.specs.Holding.{begun_versions, flushed_versions}
 use Rattle.recovery_laws.proofs.Growing.{cons_cases}
 use Rattle.recovery_laws.proofs.Members.{first_there, rest_there}

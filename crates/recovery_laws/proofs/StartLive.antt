@@ -5,7 +5,7 @@ use Rattle.std.specs.Prelude.{Contains, IfSome, find, option_map}
 use Rattle.std.specs.List.{filter_map, cons_option}
 use Rattle.rec_format.specs.declared.version.Digest.{Digest}
 use Rattle.rec_format.specs.Places.{same_digest, digest_before, with_digest}
-use Rattle.rec_format.specs.Book.{Setup, live_of, refreshed, cold_book}
+use Rattle.device_model.specs.Book.{Setup, live_of, refreshed, cold_book}
 use Rattle.rec_format.proofs.Laws.{same_digest_is, same_digest_refl}
 use Rattle.block_format.specs.Layout.{Body}
 use Rattle.block_format.specs.Copies.{Copy, copies_of, copies_named, latest, cold_copy}

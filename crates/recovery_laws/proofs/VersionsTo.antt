@@ -7,10 +7,10 @@ use Rattle.rec_format.specs.declared.version.Digest.{Digest}
 use Rattle.rec_format.specs.declared.version.Version.{Version}
 use Rattle.rec_format.specs.Places.{same_digest}
 use Rattle.rec_format.specs.Versions.{version_units}
-use Rattle.rec_format.specs.Histories.{Item, write, dropped, rid, cleared}
-use Rattle.rec_format.specs.Book.{Setup, client, placing_number}
-use Rattle.rec_format.specs.Device.{State, history}
-use Rattle.rec_format.specs.Steps.{wrote, after_step}
+use Rattle.device_model.specs.Histories.{Item, write, dropped, rid, cleared}
+use Rattle.device_model.specs.Book.{Setup, client, placing_number}
+use Rattle.device_model.specs.Device.{State, history}
+use Rattle.device_model.specs.Steps.{wrote, after_step}
 use Rattle.recovery_laws.specs.Orderly.{NumbersBelow}
 use Rattle.recovery_laws.specs.Holding.{versions_to}
 use Rattle.recovery_laws.proofs.Each.{all_map}

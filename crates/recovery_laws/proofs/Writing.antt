@@ -7,8 +7,8 @@ use Rattle.std.specs.List.{AllByRecursion}
 use Rattle.rec_format.specs.declared.version.Digest.{Digest}
 use Rattle.rec_format.specs.declared.version.Version.{Version}
 use Rattle.rec_format.specs.Versions.{is_later, is_put, is_tombstone}
-use Rattle.rec_format.specs.Histories.{writes_of}
-use Rattle.rec_format.specs.Device.{State, history}
+use Rattle.device_model.specs.Histories.{writes_of}
+use Rattle.device_model.specs.Device.{State, history}
 use Rattle.rec_format.proofs.Laws.{same_digest_is}
 use Rattle.block_format.specs.Layout.{Body}
 use Rattle.block_format.specs.Copies.{Copy, copies_from, copies_of}

@@ -1,6 +1,6 @@
 -- Crate recovery_laws. What a write makes of the pending buffers.
 use Rattle.std.specs.Prelude.{ℕ, ◌<◌, true, false, ◌≡◌}
-use Rattle.rec_format.specs.Histories.{Pending, is_pending, is_begun}
+use Rattle.device_model.specs.Histories.{Pending, is_pending, is_begun}
 
 -- The buffer of this number is pending and hasn't begun. Of the numbers below the next one of before the same is pending and begun.
 pub record IsAwaited (number next_number : ℕ) (old new : Pending) : Type 0 where

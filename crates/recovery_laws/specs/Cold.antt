@@ -4,8 +4,8 @@ use Rattle.rec_format.specs.declared.version.Digest.{Digest}
 use Rattle.rec_format.specs.declared.version.Version.{Version}
 use Rattle.rec_format.specs.Places.{same_digest}
 use Rattle.rec_format.specs.Versions.{is_later}
-use Rattle.rec_format.specs.Book.{Setup}
-use Rattle.rec_format.specs.Device.{part_of}
+use Rattle.device_model.specs.Book.{Setup}
+use Rattle.device_model.specs.Device.{part_of}
 use Rattle.block_format.specs.Copies.{Copy}
 
 -- the later of two versions, of equal ones the first

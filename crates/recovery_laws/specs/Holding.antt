@@ -4,9 +4,9 @@ use Rattle.std.specs.Prelude.{ℕ, ◌<◌, ◌==◌, List, [], ◌∷◌, map, 
 use Rattle.std.specs.List.{AllByRecursion, list_any}
 use Rattle.rec_format.specs.declared.version.Digest.{Digest}
 use Rattle.rec_format.specs.declared.version.Version.{Version}
-use Rattle.rec_format.specs.Histories.{Item, write, dropped, rid, cleared, Pending, is_flushed, is_waiting, stage_of}
-use Rattle.rec_format.specs.Book.{Setup, Buffer, Book, pending_of}
-use Rattle.rec_format.specs.Device.{State, history}
+use Rattle.device_model.specs.Histories.{Item, write, dropped, rid, cleared, Pending, is_flushed, is_waiting, stage_of}
+use Rattle.device_model.specs.Book.{Setup, Buffer, Book, pending_of}
+use Rattle.device_model.specs.Device.{State, history}
 use Rattle.block_format.specs.declared.geometry.Geometry.{Geometry}
 use Rattle.block_format.specs.Layout.{Body}
 use Rattle.block_format.specs.Copies.{IsReadable, copies_of, copies_named}

@@ -4,8 +4,8 @@ use Rattle.std.specs.List.{AllByRecursion}
 use Rattle.rec_format.specs.declared.version.Digest.{Digest}
 use Rattle.rec_format.specs.declared.version.Version.{Version}
 use Rattle.rec_format.specs.Versions.{is_later, is_put, is_tombstone, IsVersion}
-use Rattle.rec_format.specs.Histories.{Item, write, dropped, rid, cleared, writes_of}
-use Rattle.rec_format.specs.Device.{State, history}
+use Rattle.device_model.specs.Histories.{Item, write, dropped, rid, cleared, writes_of}
+use Rattle.device_model.specs.Device.{State, history}
 
 -- nothing was removed
 abbrev pub AreWrites : List Item → Type 0

@@ -5,9 +5,9 @@ use Rattle.rec_format.specs.declared.version.Digest.{Digest}
 use Rattle.rec_format.specs.declared.version.Version.{Version}
 use Rattle.rec_format.specs.Places.{device_number}
 use Rattle.rec_format.specs.Versions.{is_later, is_put, IsVersion}
-use Rattle.rec_format.specs.Histories.{writes_of, is_covered}
-use Rattle.rec_format.specs.Book.{Setup}
-use Rattle.rec_format.specs.Device.{State, history}
+use Rattle.device_model.specs.Histories.{writes_of, is_covered}
+use Rattle.device_model.specs.Book.{Setup}
+use Rattle.device_model.specs.Device.{State, history}
 use Rattle.block_format.specs.declared.geometry.Geometry.{Geometry}
 use Rattle.block_format.specs.Layout.{gate_sector, body_bytes}
 

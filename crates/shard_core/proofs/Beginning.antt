@@ -9,9 +9,9 @@ use Rattle.rec_format.specs.declared.version.Digest.{Digest}
 use Rattle.rec_format.specs.declared.entry.Entry.{Entry}
 use Rattle.rec_format.specs.Places.{same_digest, device_number}
 use Rattle.rec_format.specs.Versions.{units_for}
-use Rattle.rec_format.specs.Policy.{built, unused}
-use Rattle.rec_format.specs.Book.{Setup, Live, refreshed, cold_book}
-use Rattle.rec_format.specs.Device.{State, history}
+use Rattle.device_model.specs.Policy.{built, unused}
+use Rattle.device_model.specs.Book.{Setup, Live, refreshed, cold_book}
+use Rattle.device_model.specs.Device.{State, history}
 use Rattle.block_format.specs.declared.geometry.Geometry.{Geometry}
 use Rattle.block_format.specs.declared.geometry.Gate.{Gate}
 use Rattle.block_format.specs.declared.geometry.Gate.TheVariants.{Shut, Set}

@@ -7,11 +7,11 @@ use Rattle.std.proofs.lemmas.List.{append-nil}
 use Rattle.std.specs.Result.{IsErr}
 use Rattle.fault_count.specs.Counts.{Rose}
 use Rattle.rec_format.specs.Versions.{top_number}
-use Rattle.rec_format.specs.Book as book
-use Rattle.rec_format.specs.Book.{Setup, Buffer}
-use Rattle.rec_format.specs.Device.{State}
-use Rattle.rec_format.specs.Steps.{Step, after_steps}
-use Rattle.rec_format.specs.Legal.{flush_all, flush_first, flush_count, StopsIn}
+use Rattle.device_model.specs.Book as book
+use Rattle.device_model.specs.Book.{Setup, Buffer}
+use Rattle.device_model.specs.Device.{State}
+use Rattle.device_model.specs.Steps.{Step, after_steps}
+use Rattle.device_model.specs.Legal.{flush_all, flush_first, flush_count, StopsIn}
 use Rattle.disk_model.specs.Disk.{DiskView, IsHonest}
 use Rattle.block_format.specs.Recovery.{IsShapeOf}
 use Rattle.recovery_laws.proofs.Each.{all_map}

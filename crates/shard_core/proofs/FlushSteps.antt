@@ -4,10 +4,10 @@ use Rattle.std.specs.Prelude.{◌==◌, filter, flat_map}
 use Rattle.std.specs.List.{AllByRecursion}
 use Rattle.std.proofs.lemmas.Bool.{false≢true, eq-eqb, ne_eqb}
 use Rattle.std.proofs.lemmas.List.Sums.{sum_by-append}
-use Rattle.rec_format.specs.Book.{Setup, Buffer, Phase, Stream, filling, sealed, opening, is_filling, opened_if, with_flushed, refreshed}
-use Rattle.rec_format.specs.Device.{State}
-use Rattle.rec_format.specs.Steps.{Step, flushed_buffer, after_step, after_steps}
-use Rattle.rec_format.specs.Legal.{flush_of, flush_all, first_sealed, flush_first, is_flush, flush_count, StopsIn}
+use Rattle.device_model.specs.Book.{Setup, Buffer, Phase, Stream, filling, sealed, opening, is_filling, opened_if, with_flushed, refreshed}
+use Rattle.device_model.specs.Device.{State}
+use Rattle.device_model.specs.Steps.{Step, flushed_buffer, after_step, after_steps}
+use Rattle.device_model.specs.Legal.{flush_of, flush_all, first_sealed, flush_first, is_flush, flush_count, StopsIn}
 
 -- in rising number, and none but the last takes records
 abbrev pub StandRight : List Buffer → Type 0

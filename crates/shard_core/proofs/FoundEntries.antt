@@ -5,9 +5,9 @@ use Rattle.std.specs.List.{AllByRecursion}
 use Rattle.rec_format.specs.declared.version.Digest.{Digest}
 use Rattle.rec_format.specs.declared.entry.Entry.{Entry}
 use Rattle.rec_format.specs.Places.{same_digest}
-use Rattle.rec_format.specs.Histories.{write, top_of, is_covered}
-use Rattle.rec_format.specs.Book.{Setup}
-use Rattle.rec_format.specs.Device.{Log, history_of, high_time, part_of}
+use Rattle.device_model.specs.Histories.{write, top_of, is_covered}
+use Rattle.device_model.specs.Book.{Setup}
+use Rattle.device_model.specs.Device.{Log, history_of, high_time, part_of}
 use Rattle.block_format.specs.Copies.{Copy, version_of}
 use Rattle.recovery_laws.specs.Orderly.{NumbersBelow}
 use Rattle.recovery_laws.proofs.Placing.{found_is}

@@ -4,7 +4,7 @@ use Rattle.std.specs.Prelude.{Option, Some, None, ◌==◌, ◌||◌, filter, sl
 use Rattle.std.specs.List.{AllByRecursion, range_with_len, list_any}
 use Rattle.std.proofs.lemmas.Bool.{false≢true, eq-eqb, ne_eqb}
 use Rattle.std.proofs.lemmas.List.{append_assoc, take-take}
-use Rattle.rec_format.specs.Policy.{built, unused}
+use Rattle.device_model.specs.Policy.{built, unused}
 use Rattle.block_format.specs.declared.geometry.Geometry.{Geometry}
 use Rattle.block_format.specs.declared.geometry.Gate.{Gate}
 use Rattle.block_format.specs.declared.geometry.Gate.TheVariants.{Shut, Set, Unsure}

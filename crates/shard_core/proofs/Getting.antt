@@ -11,12 +11,12 @@ use Rattle.rec_format.specs.declared.version.Version.{Version}
 use Rattle.rec_format.specs.declared.entry.Entry.{Entry}
 use Rattle.rec_format.specs.Places.{same_digest}
 use Rattle.rec_format.specs.Versions.{is_tomb_kind, is_expired, is_live_put}
-use Rattle.rec_format.specs.Histories.{if_live}
-use Rattle.rec_format.specs.Book.{Setup, live_of}
-use Rattle.rec_format.specs.Device as device
-use Rattle.rec_format.specs.Device.{State}
-use Rattle.rec_format.specs.Events.{Event, get_call, found_version}
-use Rattle.rec_format.specs.Legal.{Allowed, Reads, ReadInstead, WhereReads}
+use Rattle.device_model.specs.Histories.{if_live}
+use Rattle.device_model.specs.Book.{Setup, live_of}
+use Rattle.device_model.specs.Device as device
+use Rattle.device_model.specs.Device.{State}
+use Rattle.device_model.specs.Events.{Event, get_call, found_version}
+use Rattle.device_model.specs.Legal.{Allowed, Reads, ReadInstead, WhereReads}
 use Rattle.rec_format.proofs.Laws.{same_digest_is}
 use Rattle.disk_model.specs.Disk.{DiskView, IsDisk, IsHonest}
 use Rattle.expiry_rule.specs.Seen.{seen_entry, is_live_entry}

@@ -1,8 +1,8 @@
 -- A shelf goes by some steps and then by others.
 use Rattle.std.proofs.Common.{◌≡◌, ℕ, List, [], ◌∷◌, ◌++◌, refl, sym, subst, inl, inr}
-use Rattle.rec_format.specs.Book.{Setup}
-use Rattle.rec_format.specs.Device.{State}
-use Rattle.rec_format.specs.Steps.{Step, after_step, after_steps, states_through}
+use Rattle.device_model.specs.Book.{Setup}
+use Rattle.device_model.specs.Device.{State}
+use Rattle.device_model.specs.Steps.{Step, after_step, after_steps, states_through}
 use Rattle.disk_model.specs.Disk.{Images, DiskView, IsDisk, IsHonest}
 use Rattle.disk_model.specs.Runs.{OneOf, leaves_none, leaves_then, leaves_more}
 use Rattle.block_format.specs.Recovery.{Survives}

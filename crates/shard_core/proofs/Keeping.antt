@@ -10,8 +10,8 @@ use Rattle.rec_format.specs.declared.version.Version.{Version}
 use Rattle.rec_format.specs.declared.entry.Entry.{Entry}
 use Rattle.rec_format.specs.Places.{same_digest, device_number, part_number_of}
 use Rattle.rec_format.specs.Versions.{is_later, is_later_stamp, version_units}
-use Rattle.rec_format.specs.Book.{Setup}
-use Rattle.rec_format.specs.Device.{part_of}
+use Rattle.device_model.specs.Book.{Setup}
+use Rattle.device_model.specs.Device.{part_of}
 use Rattle.rec_format.proofs.Laws.{same_digest_is, later_test}
 use Rattle.block_format.specs.declared.geometry.Geometry.{Geometry}
 use Rattle.block_format.specs.Layout.{Body}

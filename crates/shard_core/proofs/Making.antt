@@ -5,13 +5,13 @@ use Rattle.std.specs.List.{AllByRecursion}
 use Rattle.fault_count.specs.Counts.{Rose}
 use Rattle.rec_format.specs.declared.version.Version.{Version}
 use Rattle.rec_format.specs.declared.entry.Entry.{Entry}
-use Rattle.rec_format.specs.Histories.{top_of, is_covered}
-use Rattle.rec_format.specs.Policy.{Policy, built, queue_after}
-use Rattle.rec_format.specs.Book.{Setup, Book, Buffer, Live, Phase, Stream, client, defrag, filling, sealed, opening, filling_buffer, live_of, updated, may_be_queued, all_blocks, with_flushed, refreshed}
-use Rattle.rec_format.specs.Device.{State, Log, history_of, high_time}
-use Rattle.rec_format.specs.Steps.{Step, sealed_stream, gate_begun, flushed_buffer, after_step, after_steps}
-use Rattle.rec_format.specs.Events.{Event, Call, Answer, counted}
-use Rattle.rec_format.specs.Legal.{Allowed, FlushEnds, flush_of, flush_all, seal_if, seal_all}
+use Rattle.device_model.specs.Histories.{top_of, is_covered}
+use Rattle.device_model.specs.Policy.{Policy, built, queue_after}
+use Rattle.device_model.specs.Book.{Setup, Book, Buffer, Live, Phase, Stream, client, defrag, filling, sealed, opening, filling_buffer, live_of, updated, may_be_queued, all_blocks, with_flushed, refreshed}
+use Rattle.device_model.specs.Device.{State, Log, history_of, high_time}
+use Rattle.device_model.specs.Steps.{Step, sealed_stream, gate_begun, flushed_buffer, after_step, after_steps}
+use Rattle.device_model.specs.Events.{Event, Call, Answer, counted}
+use Rattle.device_model.specs.Legal.{Allowed, FlushEnds, flush_of, flush_all, seal_if, seal_all}
 use Rattle.disk_model.specs.Disk.{DiskView, IsHonest}
 use Rattle.recovery_laws.proofs.Opening.{all_joined, all_parted}
 use Rattle.block_shelf.specs.View.{IsSetupOf}

@@ -8,11 +8,11 @@ use Rattle.rec_format.specs.declared.version.Digest.{Digest}
 use Rattle.rec_format.specs.declared.version.Version.{Version}
 use Rattle.rec_format.specs.Places.{same_digest}
 use Rattle.rec_format.specs.Versions.{version_units}
-use Rattle.rec_format.specs.Policy.{built}
-use Rattle.rec_format.specs.Book.{Setup, Book, Buffer, Live, client, sealed, is_filling, same_stream, filling_buffer, has_room, sealed_if, seal_stream, with_new_buffer, with_room, used_more, put_in, placed, refreshed, number_or, placing_number, live_of, without_live}
-use Rattle.rec_format.specs.Device.{State}
-use Rattle.rec_format.specs.Steps.{wrote, sealed_stream, after_step}
-use Rattle.rec_format.specs.Legal.{flush_of, flush_between, flush_all}
+use Rattle.device_model.specs.Policy.{built}
+use Rattle.device_model.specs.Book.{Setup, Book, Buffer, Live, client, sealed, is_filling, same_stream, filling_buffer, has_room, sealed_if, seal_stream, with_new_buffer, with_room, used_more, put_in, placed, refreshed, number_or, placing_number, live_of, without_live}
+use Rattle.device_model.specs.Device.{State}
+use Rattle.device_model.specs.Steps.{wrote, sealed_stream, after_step}
+use Rattle.device_model.specs.Legal.{flush_of, flush_between, flush_all}
 use Rattle.rec_format.proofs.Laws.{same_digest_refl, same_digest_is}
 use Rattle.recovery_laws.proofs.Each.{all_map}
 use Rattle.recovery_laws.proofs.Opening.{all_joined}

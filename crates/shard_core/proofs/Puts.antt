@@ -11,13 +11,14 @@ use Rattle.rec_format.specs.declared.version.Version.{Version}
 use Rattle.rec_format.specs.declared.entry.Entry.{Entry}
 use Rattle.rec_format.specs.Places.{IsDigest, same_digest, device_number, part_number_of}
 use Rattle.rec_format.specs.Versions.{is_later, is_later_stamp, is_put, a_put, units_for, version_units, new_stamp, wanted_stamp, top_number, block_capacity, IsVersion}
-use Rattle.rec_format.specs.Histories.{Item, write, dropped, rid, cleared, top_of, is_covered, writes_of}
-use Rattle.rec_format.specs.Book.{Setup, Book, Buffer, Live, client, placing_number, live_of}
-use Rattle.rec_format.specs.Device.{State, history, entry, entry_is_covered, stamp_of, next_stamp_of, part_of, high_time}
-use Rattle.rec_format.specs.Steps.{Step, wrote, sealed_stream, after_step, after_steps}
-use Rattle.rec_format.specs.Events.{Event, Call, Answer, put_call, stamp_given, refused, Cause, too_big, spent, disk_fault}
-use Rattle.rec_format.specs.Legal.{Allowed, Unless, WriteEnds, NoMemory, the_stamp, new_put, put_refusal, put_reserve, no_write, no_place, first_cause, flush_between, flush_all, flush_count, StopsIn}
-use Rattle.rec_format.proofs.Laws.{wanted_later, later_than_all, same_digest_is}
+use Rattle.device_model.specs.Histories.{Item, write, dropped, rid, cleared, top_of, is_covered, writes_of}
+use Rattle.device_model.specs.Book.{Setup, Book, Buffer, Live, client, placing_number, live_of}
+use Rattle.device_model.specs.Device.{State, history, entry, entry_is_covered, stamp_of, next_stamp_of, part_of, high_time}
+use Rattle.device_model.specs.Steps.{Step, wrote, sealed_stream, after_step, after_steps}
+use Rattle.device_model.specs.Events.{Event, Call, Answer, put_call, stamp_given, refused, Cause, too_big, spent, disk_fault}
+use Rattle.device_model.specs.Legal.{Allowed, Unless, WriteEnds, NoMemory, the_stamp, new_put, put_refusal, put_reserve, no_write, no_place, first_cause, flush_between, flush_all, flush_count, StopsIn}
+use Rattle.device_model.proofs.Laws.{wanted_later, later_than_all}
+use Rattle.rec_format.proofs.Laws.{same_digest_is}
 use Rattle.disk_model.specs.Disk.{DiskView, IsDisk, IsHonest}
 use Rattle.disk_model.specs.Runs.{OneOf, Leaves, leaves_none}
 use Rattle.block_format.specs.Recovery.{Survives}

@@ -9,9 +9,9 @@ use Rattle.rec_format.specs.declared.version.Digest.{Digest}
 use Rattle.rec_format.specs.declared.version.Version.{Version}
 use Rattle.rec_format.specs.declared.entry.Entry.{Entry}
 use Rattle.rec_format.specs.Places.{same_digest}
-use Rattle.rec_format.specs.Policy.{built, unused}
-use Rattle.rec_format.specs.Book.{Live, live_of}
-use Rattle.rec_format.specs.Device.{State, entry, history}
+use Rattle.device_model.specs.Policy.{built, unused}
+use Rattle.device_model.specs.Book.{Live, live_of}
+use Rattle.device_model.specs.Device.{State, entry, history}
 use Rattle.rec_format.proofs.Laws.{same_digest_is}
 use Rattle.block_format.specs.declared.geometry.Geometry.{Geometry}
 use Rattle.block_format.specs.declared.geometry.Gate.{Gate}

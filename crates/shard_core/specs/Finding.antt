@@ -6,7 +6,7 @@ use Rattle.rec_format.specs.declared.version.Stamp.{Stamp}
 use Rattle.rec_format.specs.declared.entry.Entry.{Entry}
 use Rattle.rec_format.specs.Places.{IsDigest, same_digest, device_number, part_number_of}
 use Rattle.rec_format.specs.Versions.{is_later_stamp, version_units, top_number, block_capacity}
-use Rattle.rec_format.specs.Book.{Setup}
+use Rattle.device_model.specs.Book.{Setup}
 use Rattle.disk_model.specs.Bytes.{range}
 use Rattle.disk_model.specs.Disk.{Images}
 use Rattle.block_format.specs.declared.geometry.Geometry.{Geometry}

@@ -7,7 +7,7 @@ use Rattle.rec_format.specs.declared.version.Version.{Version}
 use Rattle.rec_format.specs.declared.entry.Entry.{Entry}
 use Rattle.rec_format.specs.Places.{same_digest, part_number_of}
 use Rattle.rec_format.specs.Versions.{version_units}
-use Rattle.rec_format.specs.Book.{Live}
+use Rattle.device_model.specs.Book.{Live}
 use Rattle.block_format.specs.Copies.{Copy}
 
 -- the entries, and for how many more there is room

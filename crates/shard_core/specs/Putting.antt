@@ -5,11 +5,11 @@ use Rattle.rec_format.specs.declared.version.Stamp.{Stamp}
 use Rattle.rec_format.specs.declared.version.Version.{Version}
 use Rattle.rec_format.specs.Places.{part_number_of}
 use Rattle.rec_format.specs.Versions.{IsVersion, a_put, new_stamp, units_for, version_units, block_capacity}
-use Rattle.rec_format.specs.Book.{Buffer, client, filling_buffer, placing_number}
-use Rattle.rec_format.specs.Device.{State}
-use Rattle.rec_format.specs.Steps.{Step, wrote, sealed_stream, after_step}
-use Rattle.rec_format.specs.Events.{Cause}
-use Rattle.rec_format.specs.Legal.{flush_between, flush_all, StopsIn}
+use Rattle.device_model.specs.Book.{Buffer, client, filling_buffer, placing_number}
+use Rattle.device_model.specs.Device.{State}
+use Rattle.device_model.specs.Steps.{Step, wrote, sealed_stream, after_step}
+use Rattle.device_model.specs.Events.{Cause}
+use Rattle.device_model.specs.Legal.{flush_between, flush_all, StopsIn}
 use Rattle.disk_model.specs.Disk.{DiskView}
 use Rattle.recovery_laws.specs.Writes.{MayFollow}
 use Rattle.block_shelf.specs.declared.place.Class.TheVariants as class

@@ -3,8 +3,8 @@ use Rattle.std.specs.Prelude.{◌≡◌, ℕ, List, [], Some, None, option_map, 
 use Rattle.rec_format.specs.declared.version.Digest.{Digest}
 use Rattle.rec_format.specs.declared.version.Version.{Version}
 use Rattle.rec_format.specs.declared.entry.Entry.{Entry}
-use Rattle.rec_format.specs.Book.{Setup, live_of}
-use Rattle.rec_format.specs.Device.{State, entry, entry_is_covered, high_time}
+use Rattle.device_model.specs.Book.{Setup, live_of}
+use Rattle.device_model.specs.Device.{State, entry, entry_is_covered, high_time}
 use Rattle.disk_model.specs.Disk.{DiskView}
 use Rattle.block_shelf.specs.Standing as shelf
 use Rattle.block_shelf.specs.Calls.{Names}

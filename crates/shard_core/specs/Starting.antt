@@ -5,7 +5,7 @@ use Rattle.fault_count.specs.Counts.{Rose}
 use Rattle.disk_model.specs.Disk.{DiskView}
 use Rattle.rec_format.specs.declared.version.Digest.{Digest}
 use Rattle.rec_format.specs.Places.{device_number}
-use Rattle.rec_format.specs.Policy.{built, unused}
+use Rattle.device_model.specs.Policy.{built, unused}
 use Rattle.block_format.specs.declared.geometry.Geometry.{Geometry}
 use Rattle.block_format.specs.Layout.{Body}
 use Rattle.block_format.specs.Copies.{Copy, HasBodies, copies_of, cold_copy}

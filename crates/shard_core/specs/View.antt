@@ -4,8 +4,8 @@ use Rattle.std.specs.List.{AllByRecursion}
 use Rattle.rec_format.specs.declared.entry.Entry.{Entry}
 use Rattle.rec_format.specs.Places.{IsDigest, device_number}
 use Rattle.rec_format.specs.Versions.{block_capacity}
-use Rattle.rec_format.specs.Policy.{built}
-use Rattle.rec_format.specs.Book.{Setup}
+use Rattle.device_model.specs.Policy.{built}
+use Rattle.device_model.specs.Book.{Setup}
 use Rattle.block_format.specs.declared.geometry.Geometry.{Geometry}
 use Rattle.block_shelf.specs.declared.place.ShelfLimits.{ShelfLimits}
 use Rattle.block_shelf.specs.View.{ShelfView}

@@ -3,11 +3,11 @@ ghost use Rattle.std.specs.Prelude.{◌≡◌, ◌≢◌, false, [], List, OnOk,
 ghost use Rattle.std.specs.List.{AllByRecursion};
 ghost use Rattle.fault_count.specs.Counts.{Rose};
 ghost use Rattle.disk_model.specs.Disk.{IsHonest};
-ghost use Rattle.rec_format.specs.Book.{Setup};
-ghost use Rattle.rec_format.specs.Device.{State};
-ghost use Rattle.rec_format.specs.Steps.{Step};
-ghost use Rattle.rec_format.specs.Events.{flush_call, flush_sealed_call};
-ghost use Rattle.rec_format.specs.Legal.{flush_all};
+ghost use Rattle.device_model.specs.Book.{Setup};
+ghost use Rattle.device_model.specs.Device.{State};
+ghost use Rattle.device_model.specs.Steps.{Step};
+ghost use Rattle.device_model.specs.Events.{flush_call, flush_sealed_call};
+ghost use Rattle.device_model.specs.Legal.{flush_all};
 ghost use Rattle.block_shelf.specs.Disks.{IsLater};
 ghost use Rattle.block_shelf.specs.View.{IsSetupOf, is_filling};
 ghost use Rattle.block_shelf.specs.View as shelf_view;

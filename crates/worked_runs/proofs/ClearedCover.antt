@@ -2,11 +2,11 @@
 use Rattle.std.proofs.Common.{◌≡◌, true, false, List, [], ◌∷◌, refl, inl, inr, lit≤}
 use Rattle.std.specs.Prelude.{Some, None}
 use Rattle.rec_format.specs.Versions.{a_put, a_tombstone}
-use Rattle.rec_format.specs.Histories.{write, dropped, cleared}
-use Rattle.rec_format.specs.Book.{refreshed, dropped_live, placed, with_flushed, cold_book, client}
-use Rattle.rec_format.specs.Device.{mark_turn, scan_turn, apply_turn, drop_turn, finished}
-use Rattle.rec_format.specs.Steps.{wrote, removed, uncovered, raid_begun, marked_part, scanned_block, compared_part, done_part, sealed_stream, gate_begun, flushed_buffer, after_step}
-use Rattle.rec_format.specs.Events.{Event, put_call, bury_call, delete_call, get_call, flush_sealed_call, choose_call, begin_call, turn_call, raid_numbered, marks_made, block_scanned, marks_undone, part_ended, stamp_given, happened, found_version, counted, block_chosen}
+use Rattle.device_model.specs.Histories.{write, dropped, cleared}
+use Rattle.device_model.specs.Book.{refreshed, dropped_live, placed, with_flushed, cold_book, client}
+use Rattle.device_model.specs.Device.{mark_turn, scan_turn, apply_turn, drop_turn, finished}
+use Rattle.device_model.specs.Steps.{wrote, removed, uncovered, raid_begun, marked_part, scanned_block, compared_part, done_part, sealed_stream, gate_begun, flushed_buffer, after_step}
+use Rattle.device_model.specs.Events.{Event, put_call, bury_call, delete_call, get_call, flush_sealed_call, choose_call, begin_call, turn_call, raid_numbered, marks_made, block_scanned, marks_undone, part_ended, stamp_given, happened, found_version, counted, block_chosen}
 use Rattle.block_format.specs.Layout.{Body}
 use Rattle.block_format.specs.Copies.{copies_of}
 use Rattle.block_format.specs.Recovery.{start_state, KeepsShown}

@@ -2,11 +2,11 @@
 use Rattle.std.proofs.Common.{◌≡◌, false, List, [], ◌∷◌, refl, inl, inr, lit≤}
 use Rattle.std.specs.Prelude.{Some, None}
 use Rattle.rec_format.specs.Versions.{a_put}
-use Rattle.rec_format.specs.Histories.{write}
-use Rattle.rec_format.specs.Book.{refreshed, dropped_live, placed, with_flushed, cold_book, client, filling}
-use Rattle.rec_format.specs.Device.{finished}
-use Rattle.rec_format.specs.Steps.{wrote, sealed_stream, gate_begun, flushed_buffer, after_step}
-use Rattle.rec_format.specs.Events.{put_call, get_call, flush_call, flush_sealed_call, choose_call, stamp_given, found_version, counted, block_chosen}
+use Rattle.device_model.specs.Histories.{write}
+use Rattle.device_model.specs.Book.{refreshed, dropped_live, placed, with_flushed, cold_book, client, filling}
+use Rattle.device_model.specs.Device.{finished}
+use Rattle.device_model.specs.Steps.{wrote, sealed_stream, gate_begun, flushed_buffer, after_step}
+use Rattle.device_model.specs.Events.{put_call, get_call, flush_call, flush_sealed_call, choose_call, stamp_given, found_version, counted, block_chosen}
 use Rattle.block_format.specs.Layout.{Body}
 use Rattle.block_format.specs.Copies.{copies_of}
 use Rattle.block_format.specs.Recovery.{start_state, KeepsShown}

@@ -2,11 +2,11 @@
 use Rattle.std.proofs.Common.{◌≡◌, false, List, [], ◌∷◌, refl, inl, inr, lit≤}
 use Rattle.std.specs.Prelude.{None}
 use Rattle.rec_format.specs.Versions.{a_put}
-use Rattle.rec_format.specs.Histories.{write}
-use Rattle.rec_format.specs.Book.{refreshed, dropped_live, placed, with_flushed, cold_book, client, filling}
-use Rattle.rec_format.specs.Device.{finished}
-use Rattle.rec_format.specs.Steps.{wrote, after_step}
-use Rattle.rec_format.specs.Events.{put_call, flush_sealed_call, choose_call, stamp_given, counted, block_chosen}
+use Rattle.device_model.specs.Histories.{write}
+use Rattle.device_model.specs.Book.{refreshed, dropped_live, placed, with_flushed, cold_book, client, filling}
+use Rattle.device_model.specs.Device.{finished}
+use Rattle.device_model.specs.Steps.{wrote, after_step}
+use Rattle.device_model.specs.Events.{put_call, flush_sealed_call, choose_call, stamp_given, counted, block_chosen}
 use Rattle.block_format.specs.Layout.{Body}
 use Rattle.block_format.specs.Recovery.{start_state}
 use Rattle.line_proto.specs.declared.command.Command.TheVariants as command

@@ -5,12 +5,12 @@ use Rattle.rec_format.specs.declared.version.Digest.{Digest}
 use Rattle.rec_format.specs.declared.version.Stamp.{Stamp}
 use Rattle.rec_format.specs.declared.version.Version.{Version}
 use Rattle.rec_format.specs.Versions.{bounded_time}
-use Rattle.rec_format.specs.Histories.{last_write, choices}
-use Rattle.rec_format.specs.Policy.{whole}
-use Rattle.rec_format.specs.Book.{Setup, pending_of}
-use Rattle.rec_format.specs.Device.{State, Log, no_raid, put_count, tombstone_count, history}
-use Rattle.rec_format.specs.Steps.{Step}
-use Rattle.rec_format.specs.Events.{Event, Call, Answer}
+use Rattle.device_model.specs.Histories.{last_write, choices}
+use Rattle.device_model.specs.Policy.{whole}
+use Rattle.device_model.specs.Book.{Setup, pending_of}
+use Rattle.device_model.specs.Device.{State, Log, no_raid, put_count, tombstone_count, history}
+use Rattle.device_model.specs.Steps.{Step}
+use Rattle.device_model.specs.Events.{Event, Call, Answer}
 use Rattle.block_format.specs.Layout.{Body}
 use Rattle.block_format.specs.Recovery.{start_state}
 use Rattle.line_proto.specs.declared.command.Command.{Command}

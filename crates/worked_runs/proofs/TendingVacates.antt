@@ -2,11 +2,11 @@
 use Rattle.std.proofs.Common.{◌≡◌, true, false, [], ◌∷◌, replicate, refl, inl, inr, lit≤}
 use Rattle.std.specs.Prelude.{Some, None}
 use Rattle.rec_format.specs.Versions.{a_put}
-use Rattle.rec_format.specs.Histories.{write, dropped}
-use Rattle.rec_format.specs.Book.{refreshed, dropped_live, placed, with_flushed, cold_book, client, defrag, filling}
-use Rattle.rec_format.specs.Device.{finished}
-use Rattle.rec_format.specs.Steps.{wrote, moved, removed, sealed_stream, gate_begun, flushed_buffer, after_step}
-use Rattle.rec_format.specs.Events.{put_call, delete_call, flush_call, flush_sealed_call, choose_call, move_call, stamp_given, happened, counted, block_chosen}
+use Rattle.device_model.specs.Histories.{write, dropped}
+use Rattle.device_model.specs.Book.{refreshed, dropped_live, placed, with_flushed, cold_book, client, defrag, filling}
+use Rattle.device_model.specs.Device.{finished}
+use Rattle.device_model.specs.Steps.{wrote, moved, removed, sealed_stream, gate_begun, flushed_buffer, after_step}
+use Rattle.device_model.specs.Events.{put_call, delete_call, flush_call, flush_sealed_call, choose_call, move_call, stamp_given, happened, counted, block_chosen}
 use Rattle.block_format.specs.Recovery.{start_state}
 use Rattle.line_proto.specs.declared.command.Command.TheVariants as command
 use Rattle.line_proto.specs.declared.reply.Reply.TheVariants as reply

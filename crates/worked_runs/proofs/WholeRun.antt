@@ -2,9 +2,9 @@
 use Rattle.std.proofs.Common.{◌≡◌, ℕ, true, false, List, [], ◌∷◌, ◌++◌, refl, inl, inr, lit≤}
 use Rattle.std.specs.Prelude.{Some, None, map}
 use Rattle.rec_format.specs.Versions.{a_put}
-use Rattle.rec_format.specs.Book.{Setup, refreshed, dropped_live, placed, with_flushed, cold_book, client}
-use Rattle.rec_format.specs.Steps.{wrote, sealed_stream, gate_begun, flushed_buffer, after_step}
-use Rattle.rec_format.specs.Events.{put_call, get_call, flush_call, flush_sealed_call, choose_call, stamp_given, found_version, counted, block_chosen}
+use Rattle.device_model.specs.Book.{Setup, refreshed, dropped_live, placed, with_flushed, cold_book, client}
+use Rattle.device_model.specs.Steps.{wrote, sealed_stream, gate_begun, flushed_buffer, after_step}
+use Rattle.device_model.specs.Events.{put_call, get_call, flush_call, flush_sealed_call, choose_call, stamp_given, found_version, counted, block_chosen}
 use Rattle.block_format.specs.Recovery.{start_state}
 use Rattle.line_proto.specs.declared.command.Command.TheVariants as command
 use Rattle.line_proto.specs.declared.reply.Reply.TheVariants as reply

@@ -1,7 +1,7 @@
 use Rattle.std.proofs.Common.{inl, inr, ◌≡◌, ℕ, refl, ◌∙◌, ap, subst, arith}
 use Rattle.std.specs.Prelude.{Option, Some, None, Result, Ok, Err, OnErr}
 use Rattle.fault_count.specs.Counts.{Rose}
-use Rattle.rec_format.specs.Legal.{flush_all}
+use Rattle.device_model.specs.Legal.{flush_all}
 use Rattle.disk_model.specs.declared.disk.DiskFault.{DiskFault}
 use Rattle.block_shelf.specs.View.{ShelfView}
 use Rattle.block_shelf.specs.Flushes.{FirstLeaves}

@@ -1,8 +1,8 @@
 use Rattle.std.proofs.Common.{◌≡◌, ◌+◌, ◌≤◌, length}
 use Rattle.std.specs.Prelude.{◌⊎◌}
 use Rattle.rec_format.specs.Versions.{top_number}
-use Rattle.rec_format.specs.Book.{Setup}
-use Rattle.rec_format.specs.Device.{State}
+use Rattle.device_model.specs.Book.{Setup}
+use Rattle.device_model.specs.Device.{State}
 use Rattle.disk_model.specs.Disk.{IsHonest}
 use Rattle.block_shelf.specs.Disks.{IsLater}
 use Rattle.block_shelf.specs.View.{IsSetupOf, SameShape}

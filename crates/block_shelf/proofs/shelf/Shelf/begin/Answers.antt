@@ -3,7 +3,7 @@ use Rattle.std.proofs.lemmas.List.{with_items_is}
 use Rattle.std.specs.Vec.{with_items}
 use Rattle.write_buffer.specs.Buffers.{BufferState, empty_buffer}
 use Rattle.rec_format.specs.Versions.{block_capacity}
-use Rattle.rec_format.specs.Book.{first_block}
+use Rattle.device_model.specs.Book.{first_block}
 use Rattle.recovery_laws.proofs.Each.{all_map}
 use Rattle.block_shelf.specs.View.{IsShelf, IsBufferOf}
 use Rattle.block_shelf.specs.Changes.{sealed_buffer}

@@ -1,8 +1,8 @@
 use Rattle.std.proofs.Common.{◌≡◌, ◌<◌, true, false, ◌∷◌, refl, sym, subst}
 use Rattle.std.specs.Prelude.{MatchBool, Bool, slice_set}
 use Rattle.std.specs.List.{AllByRecursion}
-use Rattle.rec_format.specs.Book.{Setup}
-use Rattle.rec_format.specs.Device.{State}
+use Rattle.device_model.specs.Book.{Setup}
+use Rattle.device_model.specs.Device.{State}
 use Rattle.block_flusher.specs.Images.{IsShut, HasOneBody}
 use Rattle.write_buffer.specs.declared.phase.Phase.TheVariants.{GateBegun}
 use Rattle.write_buffer.specs.Buffers.{with_phase, bytes_of}

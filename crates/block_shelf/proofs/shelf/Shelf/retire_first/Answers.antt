@@ -3,9 +3,9 @@ use Rattle.std.specs.Prelude.{MatchBool}
 use Rattle.std.specs.List.{AllByRecursion}
 use Rattle.disk_model.specs.Disk.{IsDisk, IsHonest}
 use Rattle.rec_format.specs.Versions.{block_capacity}
-use Rattle.rec_format.specs.Book.{Setup}
-use Rattle.rec_format.specs.Device.{State}
-use Rattle.rec_format.specs.Steps.{flushed_buffer}
+use Rattle.device_model.specs.Book.{Setup}
+use Rattle.device_model.specs.Device.{State}
+use Rattle.device_model.specs.Steps.{flushed_buffer}
 use Rattle.block_format.specs.Layout.{IsBody}
 use Rattle.block_flusher.specs.Images.{IsShut, IsOpened, HasOneBody}
 use Rattle.write_buffer.specs.declared.phase.Phase.{Phase}

@@ -5,8 +5,8 @@ use Rattle.write_buffer.specs.declared.phase.Phase.{Phase}
 use Rattle.write_buffer.specs.declared.phase.Phase.TheVariants.{Sealed, BodyDone}
 use Rattle.write_buffer.specs.Buffers.{with_phase, bytes_of}
 use Rattle.write_buffer.proofs.Sizes.{body_size}
-use Rattle.rec_format.specs.Book.{Setup}
-use Rattle.rec_format.specs.Device.{State}
+use Rattle.device_model.specs.Book.{Setup}
+use Rattle.device_model.specs.Device.{State}
 use Rattle.block_shelf.specs.View.{ShelfView, IsBufferOf, IsSetupOf, is_filling, is_written}
 use Rattle.block_shelf.specs.Standing.{StandsFor, book_phase}
 use Rattle.block_shelf.specs.Calls.{Goes}

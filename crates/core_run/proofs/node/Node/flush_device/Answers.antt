@@ -1,6 +1,6 @@
 use Rattle.std.proofs.Common.{subst}
-use Rattle.rec_format.specs.Device.{State}
-use Rattle.rec_format.specs.Events.{flush_call}
+use Rattle.device_model.specs.Device.{State}
+use Rattle.device_model.specs.Events.{flush_call}
 use Rattle.shard_core.specs.View.{ShardView}
 use Rattle.shard_core.specs.Stands.{Agrees}
 use Rattle.shard_core.specs.Calls.{Makes, flush_answer}

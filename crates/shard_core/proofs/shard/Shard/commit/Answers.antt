@@ -1,9 +1,9 @@
 use Rattle.std.proofs.Common.{◌≡◌, List, [], ◌∷◌, sym, ap, ◌∙◌, subst}
 use Rattle.std.specs.Prelude.{Some, Result}
-use Rattle.rec_format.specs.Book.{Buffer, client, filling_buffer}
-use Rattle.rec_format.specs.Device.{State}
-use Rattle.rec_format.specs.Steps.{Step, sealed_stream, after_step}
-use Rattle.rec_format.specs.Legal.{flush_all}
+use Rattle.device_model.specs.Book.{Buffer, client, filling_buffer}
+use Rattle.device_model.specs.Device.{State}
+use Rattle.device_model.specs.Steps.{Step, sealed_stream, after_step}
+use Rattle.device_model.specs.Legal.{flush_all}
 use Rattle.disk_model.specs.Disk.{IsHonest}
 use Rattle.block_shelf.specs.View.{ShelfView}
 use Rattle.block_shelf.specs.Standing.{StandsFor}

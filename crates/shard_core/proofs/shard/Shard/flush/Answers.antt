@@ -1,10 +1,10 @@
 use Rattle.std.proofs.Common.{◌≤◌, sym, refl, ◌∙◌, subst}
 use Rattle.std.specs.Prelude.{OnErr}
 use Rattle.fault_count.specs.Counts.{Rose}
-use Rattle.rec_format.specs.Device.{State}
-use Rattle.rec_format.specs.Steps.{after_steps}
-use Rattle.rec_format.specs.Events.{flush_call}
-use Rattle.rec_format.specs.Legal.{seal_all}
+use Rattle.device_model.specs.Device.{State}
+use Rattle.device_model.specs.Steps.{after_steps}
+use Rattle.device_model.specs.Events.{flush_call}
+use Rattle.device_model.specs.Legal.{seal_all}
 use Rattle.disk_model.specs.Disk.{IsHonest}
 use Rattle.block_shelf.specs.View.{ShelfView}
 use Rattle.shard_core.specs.View.{ShardView, setup_of}

@@ -4,8 +4,8 @@ use Rattle.std.specs.Option.{option_copied}
 use Rattle.rec_format.specs.declared.version.Digest.{Digest}
 use Rattle.rec_format.specs.declared.version.Version.{Version}
 use Rattle.rec_format.specs.declared.entry.Entry.{Entry}
-use Rattle.rec_format.specs.Device.{State}
-use Rattle.rec_format.specs.Events.{get_call}
+use Rattle.device_model.specs.Device.{State}
+use Rattle.device_model.specs.Events.{get_call}
 use Rattle.disk_model.specs.Disk.{IsHonest}
 use Rattle.expiry_rule.specs.Seen.{seen_entry}
 use Rattle.write_buffer.specs.Buffers.{BufferState}

@@ -4,11 +4,11 @@ use Rattle.std.proofs.lemmas.Result.{err_from_is_err_and}
 use Rattle.fault_count.specs.Counts.{Rose}
 use Rattle.rec_format.specs.declared.version.Stamp.{Stamp}
 use Rattle.rec_format.specs.declared.version.Version.{Version}
-use Rattle.rec_format.specs.Book.{Setup, client}
-use Rattle.rec_format.specs.Device.{State}
-use Rattle.rec_format.specs.Steps.{Step, wrote, sealed_stream, after_step}
-use Rattle.rec_format.specs.Events.{put_call}
-use Rattle.rec_format.specs.Legal.{flush_all}
+use Rattle.device_model.specs.Book.{Setup, client}
+use Rattle.device_model.specs.Device.{State}
+use Rattle.device_model.specs.Steps.{Step, wrote, sealed_stream, after_step}
+use Rattle.device_model.specs.Events.{put_call}
+use Rattle.device_model.specs.Legal.{flush_all}
 use Rattle.block_shelf.specs.Calls.{Goes}
 use Rattle.shard_core.specs.declared.settings.Settings.{Settings}
 use Rattle.shard_core.specs.declared.refusals.WriteRefusal.{WriteRefusal}

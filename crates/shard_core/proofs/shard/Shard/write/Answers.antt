@@ -5,7 +5,7 @@ use Rattle.rec_format.specs.declared.version.Version.{Version}
 use Rattle.rec_format.specs.declared.entry.Entry.{Entry}
 use Rattle.rec_format.specs.Places.{device_number}
 use Rattle.rec_format.specs.Versions.{version_units}
-use Rattle.rec_format.specs.Device.{State}
+use Rattle.device_model.specs.Device.{State}
 use Rattle.block_shelf.specs.declared.place.Place.{Place}
 use Rattle.block_shelf.specs.declared.place.Class.TheVariants as class
 use Rattle.block_shelf.specs.declared.refusals.PutRefusal.{PutRefusal}

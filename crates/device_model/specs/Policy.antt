@@ -1,4 +1,4 @@
--- Crate rec_format. How a store uses its blocks, and what is different as long as not all of it is built.
+-- Crate device_model. How a store uses its blocks, and what is different as long as not all of it is built.
 -- The whole store uses a block again when nothing in it is live. What is built so far uses no block twice. All that follows from
 -- that stands in this file: a later stage changes `built` and nothing else.
 use Rattle.std.specs.Prelude.{ℕ, Bool, true, false, not, ◌&&◌, ◌==◌, List, [], filter, if◌then◌else◌}

@@ -4,12 +4,12 @@ use Rattle.std.specs.Prelude.{Option, Some, None}
 use Rattle.rec_format.specs.declared.version.Digest.{Digest}
 use Rattle.rec_format.specs.declared.version.Version.{Version}
 use Rattle.rec_format.specs.Versions.{a_put}
-use Rattle.rec_format.specs.Policy.{whole}
-use Rattle.rec_format.specs.Book.{Setup, refreshed, dropped_live, placed, with_flushed, cold_book, client}
-use Rattle.rec_format.specs.Device.{State, no_raid}
-use Rattle.rec_format.specs.Steps.{Step, wrote, after_step, after_steps, sealed_stream, gate_begun, flushed_buffer}
-use Rattle.rec_format.specs.Events.{Event, Call, Answer, put_call, delete_call, get_call, flush_call, choose_call, stamp_given, found_version, refused, no_space, disk_fault}
-use Rattle.rec_format.specs.Legal.{Allowed, Reads}
+use Rattle.device_model.specs.Policy.{whole}
+use Rattle.device_model.specs.Book.{Setup, refreshed, dropped_live, placed, with_flushed, cold_book, client}
+use Rattle.device_model.specs.Device.{State, no_raid}
+use Rattle.device_model.specs.Steps.{Step, wrote, after_step, after_steps, sealed_stream, gate_begun, flushed_buffer}
+use Rattle.device_model.specs.Events.{Event, Call, Answer, put_call, delete_call, get_call, flush_call, choose_call, stamp_given, found_version, refused, no_space, disk_fault}
+use Rattle.device_model.specs.Legal.{Allowed, Reads}
 
 abbrev setup : Setup
 setup = record { capacity = 766; blocks = 16; device = 0; devices = 1; sprigs = 16; lwm = 0; pending_limit = 16; commit = false; raid_age = 86400; policy = whole }

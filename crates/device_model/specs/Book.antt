@@ -1,11 +1,11 @@
--- Crate rec_format. The block book of a device: which copies are live, which buffers are open, and which blocks are
+-- Crate device_model. The block book of a device: which copies are live, which buffers are open, and which blocks are
 -- held, free or queued. Each change is a function, so the book after it is one.
 use Rattle.std.specs.Prelude.{ℕ, ◌+◌, ◌*◌, Bool, true, false, not, ◌&&◌, ◌==◌, nat_lt, nat_le, List, [], ◌∷◌, ◌++◌, map, filter, find, sum_by, Option, Some, None, if◌then◌else◌}
 use Rattle.std.specs.List.{list_any, range_with_len}
 use Rattle.rec_format.specs.declared.version.Digest.{Digest}
 use Rattle.rec_format.specs.Places.{same_digest}
-use Rattle.rec_format.specs.Histories.{Pending}
-use Rattle.rec_format.specs.Policy.{Policy, free_after, queue_after, unused}
+use Rattle.device_model.specs.Histories.{Pending}
+use Rattle.device_model.specs.Policy.{Policy, free_after, queue_after, unused}
 
 -- what stays the same through a run: the device's shape and place, the settings, and how blocks are used
 pub record Setup : Type 0 where

@@ -1,4 +1,4 @@
--- Crate rec_format. Which events may follow a state, and which lists of events are legal.
+-- Crate device_model. Which events may follow a state, and which lists of events are legal.
 use Rattle.std.specs.Prelude.{ℕ, ◌+◌, ◌-◌, ◌≤◌, Bool, true, false, ◌&&◌, ◌==◌, nat_lt, nat_le, List, [], ◌∷◌, ◌++◌, length, map, filter, flat_map, count_by, Option, Some, None, ◌≡◌, ◌⊎◌, if◌then◌else◌, is_some, MatchBool, MatchOption}
 use Rattle.std.specs.List.{list_any}
 use Rattle.fault_count.specs.Counts.{Rose}
@@ -7,11 +7,11 @@ use Rattle.rec_format.specs.declared.version.Stamp.{Stamp}
 use Rattle.rec_format.specs.declared.version.Version.{Version}
 use Rattle.rec_format.specs.Places.{same_digest}
 use Rattle.rec_format.specs.Versions.{units_for, version_units, void_time, is_tombstone, is_expired_put, a_put, a_tombstone, top_number}
-use Rattle.rec_format.specs.Policy.{reserve, seals_low}
-use Rattle.rec_format.specs.Book.{Setup, Book, Buffer, Live, Stream, client, defrag, Phase, filling, sealed, opening, is_filling, filling_buffer, has_room, live_of, placing_number, holds_dead}
-use Rattle.rec_format.specs.Device.{State, Turn, mark_turn, scan_turn, apply_turn, drop_turn, finished, entry, entry_is_covered, entry_passes, seen, next_stamp_of, eligible_in, in_part}
-use Rattle.rec_format.specs.Steps.{Step, wrote, moved, removed, rid_of, uncovered, sealed_stream, gate_begun, flushed_buffer, closing_failed, raid_begun, raid_given_up, marked_part, scanned_block, compared_part, done_part, after_step, after_steps}
-use Rattle.rec_format.specs.Events.{Call, put_call, bury_call, delete_call, expire_call, get_call, flush_call, flush_sealed_call, flush_next_call, choose_call, move_call, begin_call, turn_call, Cause, too_big, wrong_generation, spent, overload, no_space, damaged, no_memory, disk_fault, stale, Answer, stamp_given, happened, found_version, counted, block_chosen, raid_numbered, marks_made, block_scanned, marks_undone, part_ended, raid_over, refused, Event, after_event}
+use Rattle.device_model.specs.Policy.{reserve, seals_low}
+use Rattle.device_model.specs.Book.{Setup, Book, Buffer, Live, Stream, client, defrag, Phase, filling, sealed, opening, is_filling, filling_buffer, has_room, live_of, placing_number, holds_dead}
+use Rattle.device_model.specs.Device.{State, Turn, mark_turn, scan_turn, apply_turn, drop_turn, finished, entry, entry_is_covered, entry_passes, seen, next_stamp_of, eligible_in, in_part}
+use Rattle.device_model.specs.Steps.{Step, wrote, moved, removed, rid_of, uncovered, sealed_stream, gate_begun, flushed_buffer, closing_failed, raid_begun, raid_given_up, marked_part, scanned_block, compared_part, done_part, after_step, after_steps}
+use Rattle.device_model.specs.Events.{Call, put_call, bury_call, delete_call, expire_call, get_call, flush_call, flush_sealed_call, flush_next_call, choose_call, move_call, begin_call, turn_call, Cause, too_big, wrong_generation, spent, overload, no_space, damaged, no_memory, disk_fault, stale, Answer, stamp_given, happened, found_version, counted, block_chosen, raid_numbered, marks_made, block_scanned, marks_undone, part_ended, raid_over, refused, Event, after_event}
 
 -- ---- sealing and flushing
 
