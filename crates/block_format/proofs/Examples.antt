@@ -1,16 +1,11 @@
 -- Worked texts: a header and the head of a body.
 use Rattle.std.proofs.Common.{replicate, false, ◌≡◌, [], ◌∷◌, take, length, refl}
-use Rattle.rec_format.specs.Versions.{a_put, a_tombstone}
-use Rattle.block_format.specs.Recovery.{check_counts}
-use Rattle.std.proofs.Common.{Bool, true, ℕ, List, inl, inr, arith, lit≤, lit<, ◌+◌, ◌/◌, ◌++◌, ◌<◌, ◌≤◌}
+use Rattle.rec_format.specs.Versions.{a_put}
+use Rattle.std.proofs.Common.{Bool, ℕ, List, inl, inr, arith, lit≤, lit<, ◌+◌, ◌/◌, ◌++◌, ◌<◌, ◌≤◌}
 use Rattle.std.specs.List.{AllByRecursion}
 use Rattle.rec_format.specs.RecordText.{record_text, CanBeRecorded}
 use Rattle.rec_format.specs.declared.version.Digest.{Digest}
 use Rattle.rec_format.specs.declared.version.Version.{Version}
-use Rattle.device_model.specs.Policy.{whole}
-use Rattle.device_model.specs.Book.{Setup}
-use Rattle.block_format.specs.Copies.{Copy}
-use Rattle.block_format.specs.Audit.{verdict, all_sound, stray, twins, bare}
 use Rattle.block_format.specs.Layout.{header_text, head_text, IsFaultAt, gate_text, open_sector, closed_sector}
 
 header : take 32 (header_text (record { block_size = 16384; blocks = 16; device = 0; devices = 1 }))
@@ -28,21 +23,10 @@ head : head_text 1 1 4 0
     ≡ 0x41 ∷ 0x53 ∷ 0x4e ∷ 0x42 ∷ 0x4f ∷ 0x44 ∷ 0x59 ∷ 0x31 ∷ 1 ∷ 0 ∷ 0 ∷ 0 ∷ 0 ∷ 0 ∷ 0 ∷ 0 ∷ 1 ∷ 0 ∷ 0 ∷ 0 ∷ 4 ∷ 0 ∷ 0 ∷ 0 ∷ 0 ∷ 0 ∷ 0 ∷ 0 ∷ 0 ∷ 0 ∷ 0 ∷ 0 ∷ []
 head = refl
 
--- a flushed put and a flushed tombstone of one digest, each in a block of its own
-counted : check_counts ((record { number = 1; block = 0; records = (record { 0 = replicate 20 7 }, a_put (record { lut = 1000; gen_ = 1 }) 0 false (170 ∷ [])) ∷ [] })
-    ∷ (record { number = 2; block = 1; records = (record { 0 = replicate 20 7 }, a_tombstone (record { lut = 1000; gen_ = 2 })) ∷ [] }) ∷ []) ≡ 2 ∷ 2 ∷ 0 ∷ 1 ∷ []
-counted = refl
-
--- ---- verdicts
-
-abbrev one_device : Setup
-one_device = record { capacity = 766; blocks = 16; device = 0; devices = 1; sprigs = 16; lwm = 0; pending_limit = 16; commit = false; raid_age = 0; policy = whole }
+-- ---- where bytes are no body
 
 abbrev sevens : Digest
 sevens = record { 0 = replicate 20 7 }
-
-abbrev copy : ℕ → Version → Copy
-copy block v = record { digest = sevens; version = v; block = block; unit = 0 }
 
 abbrev at : ℕ → Bool → List ℕ → Version
 at g cover payload = a_put (record { lut = 1000; gen_ = g }) 0 cover payload
@@ -57,23 +41,6 @@ hello_text = record {
   where
     sevens_are : AllByRecursion (λ b. b < 256) (replicate 20 7)
     sevens_are = (lit< tt, (lit< tt, (lit< tt, (lit< tt, (lit< tt, (lit< tt, (lit< tt, (lit< tt, (lit< tt, (lit< tt, (lit< tt, (lit< tt, (lit< tt, (lit< tt, (lit< tt, (lit< tt, (lit< tt, (lit< tt, (lit< tt, (lit< tt, tt))))))))))))))))))))
-
-sound_verdict : verdict one_device (copy 0 (at 1 false (170 ∷ [])) ∷ copy 1 (at 1 false (170 ∷ [])) ∷ []) ≡ all_sound
-sound_verdict = refl
-
-twins_verdict : verdict one_device (copy 0 (at 1 false (170 ∷ [])) ∷ copy 1 (at 1 false (187 ∷ [])) ∷ []) ≡ twins sevens
-twins_verdict = refl
-
-bare_verdict : verdict one_device (copy 0 (at 1 false (170 ∷ [])) ∷ copy 1 (a_tombstone (record { lut = 1000; gen_ = 2 })) ∷ copy 2 (at 3 false (187 ∷ [])) ∷ []) ≡ bare sevens
-bare_verdict = refl
-
-covered_verdict : verdict one_device (copy 0 (at 1 false (170 ∷ [])) ∷ copy 1 (a_tombstone (record { lut = 1000; gen_ = 2 })) ∷ copy 2 (at 3 true (187 ∷ [])) ∷ []) ≡ all_sound
-covered_verdict = refl
-
-stray_verdict : verdict (record one_device { devices = 2 }) ((record { digest = record { 0 = replicate 20 255 }; version = at 1 false []; block = 0; unit = 0 }) ∷ []) ≡ stray (record { 0 = replicate 20 255 })
-stray_verdict = refl
-
--- ---- where bytes are no body
 
 -- zeros: no head
 zeros_fault : IsFaultAt 766 (replicate 64 0) 0 0

@@ -1,5 +1,4 @@
 pub mod Examples
-pub mod SmallImages
 pub mod Sectors
 pub mod HeadFields
 pub mod BodyRecords

@@ -10,8 +10,8 @@ use Rattle.device_model.specs.Book.{Setup, client, has_room, live_of, with_new_b
 use Rattle.device_model.specs.Device.{State}
 use Rattle.device_model.specs.Steps.{wrote, after_step}
 use Rattle.device_model.specs.Events.{spent, overload, no_space}
-use Rattle.recovery_laws.specs.Writes.{MayFollow}
-use Rattle.recovery_laws.specs.Holding.{IsCounted}
+use Rattle.recovery.specs.Writes.{MayFollow}
+use Rattle.recovery.specs.Holding.{IsCounted}
 use Rattle.write_buffer.specs.Buffers.{BufferState, used_units}
 use Rattle.block_shelf.specs.declared.place.Place.{Place}
 use Rattle.block_shelf.specs.declared.place.Class.{Class}

@@ -9,8 +9,8 @@ use Rattle.rec_format.specs.declared.version.Version.{Version}
 use Rattle.rec_format.specs.Versions.{version_units}
 use Rattle.device_model.specs.Book.{Buffer, Book, client, filling_buffer, used_more}
 use Rattle.block_format.specs.declared.geometry.Geometry.{Geometry}
-use Rattle.recovery_laws.specs.Holding.{AreRising, IsCounted}
-use Rattle.recovery_laws.proofs.Opening.{all_parted}
+use Rattle.recovery.specs.Holding.{AreRising, IsCounted}
+use Rattle.recovery.proofs.Opening.{all_parted}
 use Rattle.write_buffer.specs.declared.phase.Phase.{Phase}
 use Rattle.write_buffer.specs.declared.phase.Phase.TheVariants.{Filling, Sealed, BodyDone, GateBegun}
 use Rattle.write_buffer.specs.Buffers.{BufferState, used_units, with_record}

@@ -13,8 +13,8 @@ use Rattle.write_buffer.specs.declared.phase.Phase.{Phase}
 use Rattle.write_buffer.specs.declared.phase.Phase.TheVariants.{Filling, Sealed, BodyDone, GateBegun}
 use Rattle.write_buffer.specs.Phases.{later_phase}
 use Rattle.write_buffer.specs.Buffers.{BufferState, bytes_of, body_in, with_phase}
-use Rattle.recovery_laws.specs.Writes.{DiffersIn}
-use Rattle.recovery_laws.specs.Holding.{IsHeld}
+use Rattle.recovery.specs.Writes.{DiffersIn}
+use Rattle.recovery.specs.Holding.{IsHeld}
 use Rattle.std.proofs.lemmas.Bool.{or_left, and_from, eq-eqb, false≢true}
 use Rattle.block_shelf.specs.View.{ShelfView, IsShelf, IsSetupOf, IsBufferOf, IsReady, is_filling, is_written}
 use Rattle.block_shelf.specs.Standing.{StandsFor, HasWritten, book_buffer, book_phase}

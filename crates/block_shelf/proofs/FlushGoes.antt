@@ -5,10 +5,10 @@ use Rattle.disk_model.specs.Runs.{OneOf, leaves_then, leaves_more, leaves_none}
 use Rattle.device_model.specs.Book.{Setup}
 use Rattle.device_model.specs.Device.{State}
 use Rattle.device_model.specs.Steps.{Step, after_step, after_steps, states_through}
-use Rattle.block_format.specs.Recovery.{Survives}
-use Rattle.recovery_laws.specs.Orderly.{IsOrderly}
-use Rattle.recovery_laws.specs.Holding.{IsHeld}
-use Rattle.recovery_laws.proofs.Held.{held_survives}
+use Rattle.recovery.specs.Surviving.{Survives}
+use Rattle.recovery.specs.Orderly.{IsOrderly}
+use Rattle.recovery.specs.Holding.{IsHeld}
+use Rattle.recovery.proofs.Held.{held_survives}
 use Rattle.write_buffer.specs.Buffers.{BufferState}
 use Rattle.block_shelf.specs.View.{ShelfView}
 use Rattle.block_shelf.specs.Standing.{StandsFor, IsPlaced, IsSafe}

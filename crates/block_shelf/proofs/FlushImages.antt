@@ -19,18 +19,18 @@ use Rattle.device_model.specs.Steps.{flushed_buffer, after_step}
 use Rattle.rec_format.proofs.Laws.{same_digest_refl, same_digest_is}
 use Rattle.block_format.specs.declared.geometry.Geometry.{Geometry}
 use Rattle.block_format.specs.Layout.{IsGeometry, IsOpen, IsClosed, block_place, gate_sector, gate_text, body_bytes, IsBody}
-use Rattle.block_format.specs.Recovery.{IsShapeOf}
+use Rattle.recovery.specs.Sound.{IsShapeOf}
 use Rattle.block_flusher.specs.Images.{IsShut, HasOneBody}
 use Rattle.write_buffer.specs.Buffers.{BufferState, body_in, bytes_of}
 use Rattle.write_buffer.proofs.Sizes.{sized}
-use Rattle.recovery_laws.specs.Writes.{DiffersIn}
-use Rattle.recovery_laws.specs.Holding.{versions_to, begun_versions, versions_in, IsHeld}
-use Rattle.recovery_laws.proofs.Growing.{all_at, all_from}
-use Rattle.recovery_laws.proofs.Each.{all_map}
-use Rattle.recovery_laws.proofs.Members.{map_there, map_from, filter_there, filter_from}
-use Rattle.recovery_laws.proofs.Opening.{held_in_shape, elsewhere_held, opened_held}
-use Rattle.recovery_laws.proofs.Flushing.{begun_versions_to, flushed_held}
-use Rattle.recovery_laws.proofs.Named.{named_in_body}
+use Rattle.recovery.specs.Writes.{DiffersIn}
+use Rattle.recovery.specs.Holding.{versions_to, begun_versions, versions_in, IsHeld}
+use Rattle.recovery.proofs.Growing.{all_at, all_from}
+use Rattle.recovery.proofs.Each.{all_map}
+use Rattle.recovery.proofs.Members.{map_there, map_from, filter_there, filter_from}
+use Rattle.recovery.proofs.Opening.{held_in_shape, elsewhere_held, opened_held}
+use Rattle.recovery.proofs.Flushing.{begun_versions_to, flushed_held}
+use Rattle.recovery.proofs.Named.{named_in_body}
 use Rattle.block_shelf.specs.View.{IsBufferOf}
 use Rattle.block_shelf.specs.Standing.{HasWritten, versions_named}
 

@@ -11,8 +11,8 @@ use Rattle.write_buffer.specs.declared.phase.Phase.{Phase}
 use Rattle.write_buffer.specs.declared.phase.Phase.TheVariants.{Filling, Sealed, BodyDone, GateBegun}
 use Rattle.write_buffer.specs.Phases.{later_phase}
 use Rattle.write_buffer.specs.Buffers.{BufferState, with_phase}
-use Rattle.recovery_laws.proofs.Orderly.{begun_orderly}
-use Rattle.recovery_laws.proofs.HeldSteps.{begun_held}
+use Rattle.recovery.proofs.Orderly.{begun_orderly}
+use Rattle.recovery.proofs.HeldSteps.{begun_held}
 use Rattle.block_shelf.specs.View.{ShelfView, IsShelf, is_written}
 use Rattle.block_shelf.specs.Standing.{StandsFor, book_buffer, book_phase}
 use Rattle.block_shelf.specs.Calls.{Goes}

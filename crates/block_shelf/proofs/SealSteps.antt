@@ -7,10 +7,10 @@ use Rattle.device_model.specs.Book.{Setup, Buffer, client, defrag, seal_stream, 
 use Rattle.device_model.specs.Device.{State}
 use Rattle.device_model.specs.Steps.{sealed_stream, after_step, states_through}
 use Rattle.device_model.specs.Legal.{seal_if, seal_all}
-use Rattle.block_format.specs.Recovery.{Survives}
-use Rattle.recovery_laws.proofs.HeldSteps.{sealed_held}
-use Rattle.recovery_laws.proofs.Orderly.{sealed_orderly}
-use Rattle.recovery_laws.proofs.Held.{held_survives}
+use Rattle.recovery.specs.Surviving.{Survives}
+use Rattle.recovery.proofs.HeldSteps.{sealed_held}
+use Rattle.recovery.proofs.Orderly.{sealed_orderly}
+use Rattle.recovery.proofs.Held.{held_survives}
 use Rattle.write_buffer.specs.Buffers.{BufferState}
 use Rattle.block_shelf.specs.View.{ShelfView, StandInOrder}
 use Rattle.block_shelf.specs.Standing.{HasWritten, StandsBehind, StandsFor, IsPlaced, IsSafe}

@@ -14,14 +14,14 @@ use Rattle.device_model.specs.Device.{State, entry, history}
 use Rattle.device_model.specs.Steps.{wrote, after_step}
 use Rattle.rec_format.proofs.Laws.{same_digest_refl, same_digest_is}
 use Rattle.device_model.proofs.Numbers.{next_number_rises}
-use Rattle.recovery_laws.specs.Orderly.{NumbersBelow}
-use Rattle.recovery_laws.specs.Writes.{MayFollow}
-use Rattle.recovery_laws.specs.Holding.{IsCounted}
-use Rattle.recovery_laws.proofs.Each.{all_map}
-use Rattle.recovery_laws.proofs.Growing.{numbers_rise}
-use Rattle.recovery_laws.proofs.Opening.{all_joined, all_parted}
-use Rattle.recovery_laws.proofs.HeldWrites.{written_item, wrote_history, wrote_case, wrote_held}
-use Rattle.recovery_laws.proofs.Orderly.{placing_below, wrote_orderly}
+use Rattle.recovery.specs.Orderly.{NumbersBelow}
+use Rattle.recovery.specs.Writes.{MayFollow}
+use Rattle.recovery.specs.Holding.{IsCounted}
+use Rattle.recovery.proofs.Each.{all_map}
+use Rattle.recovery.proofs.Growing.{numbers_rise}
+use Rattle.recovery.proofs.Opening.{all_joined, all_parted}
+use Rattle.recovery.proofs.HeldWrites.{written_item, wrote_history, wrote_case, wrote_held}
+use Rattle.recovery.proofs.Orderly.{placing_below, wrote_orderly}
 use Rattle.write_buffer.specs.Buffers.{BufferState, used_units, with_record}
 use Rattle.block_format.specs.Layout.{IsRecordAt, body_bytes}
 use Rattle.block_shelf.specs.View.{ShelfView, IsShelf, IsBufferOf, AreApart}

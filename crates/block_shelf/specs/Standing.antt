@@ -9,8 +9,8 @@ use Rattle.rec_format.specs.Versions.{version_units, block_capacity}
 use Rattle.device_model.specs.Book.{Setup, Live, Buffer, Phase, filling, sealed, opening, client, live_of}
 use Rattle.device_model.specs.Device.{State, entry, history}
 use Rattle.block_format.specs.Layout.{IsRecordAt, body_bytes, units_of_records}
-use Rattle.recovery_laws.specs.Orderly.{NumbersBelow, IsOrderly}
-use Rattle.recovery_laws.specs.Holding.{versions_to, IsHeld}
+use Rattle.recovery.specs.Orderly.{NumbersBelow, IsOrderly}
+use Rattle.recovery.specs.Holding.{versions_to, IsHeld}
 use Rattle.write_buffer.specs.declared.phase.Phase as write_phase
 use Rattle.write_buffer.specs.declared.phase.Phase.TheVariants.{Filling, Sealed, BodyDone, GateBegun}
 use Rattle.write_buffer.specs.Buffers.{BufferState, used_units}

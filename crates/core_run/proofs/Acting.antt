@@ -13,7 +13,7 @@ use Rattle.device_model.specs.Device.{State}
 use Rattle.device_model.specs.Steps.{Step, states_through}
 use Rattle.device_model.specs.Events.{Event, Call, put_call, get_call, flush_call, flush_sealed_call, choose_call, Answer, block_chosen, disk_fault, after_event}
 use Rattle.device_model.specs.Legal.{Follows, queue_front}
-use Rattle.block_format.specs.Recovery.{Survives}
+use Rattle.recovery.specs.Surviving.{Survives}
 use Rattle.line_proto.specs.declared.command.Command.{Command}
 use Rattle.line_proto.specs.declared.command.Command.TheVariants as command
 use Rattle.line_proto.specs.declared.reply.Reply.{Reply}

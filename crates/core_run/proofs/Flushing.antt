@@ -14,7 +14,7 @@ use Rattle.device_model.specs.Legal.{flush_of, flush_between, commit_seal, commi
 use Rattle.std.proofs.lemmas.List.Folds.{list_any-append}
 use Rattle.line_proto.proofs.Falling.{all_append}
 use Rattle.device_model.proofs.Laws.{history_hit}
-use Rattle.recovery_laws.proofs.Placing.{room_of}
+use Rattle.recovery.proofs.Placing.{room_of}
 use Rattle.core_run.specs.Session.{top_is_flushed, flushed_if_wrote}
 
 -- ---- buffers of a number

@@ -16,11 +16,11 @@ use Rattle.rec_format.proofs.RecordFront.{texts_apart}
 use Rattle.rec_format.proofs.Laws.{same_digest_is}
 use Rattle.block_format.specs.Layout.{IsRecordAt, body_bytes}
 use Rattle.block_format.specs.Copies.{Copy, copies_of, copies_named, cold_copy, cold, version_of}
-use Rattle.block_format.specs.Recovery.{entries_state}
-use Rattle.recovery_laws.specs.Standing.{CopyStands}
-use Rattle.recovery_laws.proofs.Held.{IsLatest, latest_is}
-use Rattle.recovery_laws.proofs.Members.{filter_from}
-use Rattle.recovery_laws.proofs.Places.{copy_stands}
+use Rattle.recovery.specs.Start.{entries_state}
+use Rattle.recovery.specs.Standing.{CopyStands}
+use Rattle.recovery.proofs.Held.{IsLatest, latest_is}
+use Rattle.recovery.proofs.Members.{filter_from}
+use Rattle.recovery.proofs.Places.{copy_stands}
 use Rattle.block_shelf.specs.Calls.{Names}
 use Rattle.shard_core.specs.declared.settings.Settings.{Settings}
 use Rattle.shard_core.specs.Index.{held, entry_for, live_of_entry}

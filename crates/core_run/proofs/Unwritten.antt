@@ -9,8 +9,8 @@ use Rattle.device_model.specs.Events.{Event, Call, flush_call}
 use Rattle.device_model.specs.Legal.{Follows, Allowed, FlushEnds, seal_if, seal_all, flush_all}
 use Rattle.line_proto.specs.Commands.{Slot, Node, NodeEvent, Outcome, at_place, slot_after, on_device, IsLegalOn, EachDevice, Flushes}
 use Rattle.line_proto.proofs.Falling.{all_append}
-use Rattle.recovery_laws.proofs.Opening.{all_parted}
-use Rattle.recovery_laws.proofs.Each.{all_map}
+use Rattle.recovery.proofs.Opening.{all_parted}
+use Rattle.recovery.proofs.Each.{all_map}
 use Rattle.core_run.specs.Session.{steps_on, flushed_if_wrote}
 use Rattle.core_run.proofs.Flushing.{FlushStep, all_flush_steps}
 

@@ -8,7 +8,9 @@ use Rattle.device_model.specs.Book.{Setup}
 use Rattle.device_model.specs.Events.{Event, flush_call, after_events, states_of}
 use Rattle.device_model.specs.Legal.{IsLegal, last_faults}
 use Rattle.block_format.specs.Layout.{Body}
-use Rattle.block_format.specs.Recovery.{Survives, IsSound, start_state}
+use Rattle.recovery.specs.Start.{start_state}
+use Rattle.recovery.specs.Surviving.{Survives}
+use Rattle.recovery.specs.Sound.{IsSound}
 use Rattle.line_proto.specs.declared.reply.Reply.{Reply}
 use Rattle.line_proto.specs.declared.reply.Reply.TheVariants as reply
 use Rattle.line_proto.specs.Lines.{reply_text}

@@ -3,7 +3,7 @@ use Rattle.std.specs.Prelude.{◌≡◌, ◌⊎◌, ℕ, Bool, List, [], Option,
 use Rattle.disk_model.specs.Disk.{Images, DiskView, Advances, meanwhile}
 use Rattle.disk_model.specs.Runs.{OneOf, Leaves}
 use Rattle.device_model.specs.Device.{State}
-use Rattle.block_format.specs.Recovery.{Survives}
+use Rattle.recovery.specs.Surviving.{Survives}
 use Rattle.line_proto.specs.declared.command.Command.{Command}
 use Rattle.line_proto.specs.declared.reply.Reply.{Reply}
 use Rattle.line_proto.specs.declared.reply.Reply.TheVariants as reply

@@ -3,7 +3,7 @@
 use Rattle.std.specs.Prelude.{ℕ, List, [], ◌∷◌, ◌++◌, length, codes, decimal, ◌≡◌, MatchBool, MatchOption, slice_get}
 use Rattle.hex.specs.Hex.{encode_lower}
 use Rattle.device_model.specs.Policy.{built}
-use Rattle.block_format.specs.Audit.{Verdict, all_sound, stray, twins, bare}
+use Rattle.recovery.specs.Audit.{Verdict, all_sound, stray, twins, bare}
 use Rattle.block_format.specs.Refusals.{Refusal, not_formatted, other_shape, damaged_block, IsRefusedFor}
 use Rattle.line_proto.specs.Lines.{words_line}
 

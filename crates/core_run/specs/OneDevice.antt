@@ -11,7 +11,8 @@ use Rattle.block_shelf.specs.Disks.{IsLater, OnlyRead}
 use Rattle.shard_core.specs.View.{ShardView, setup_of}
 use Rattle.shard_core.specs.Stands.{Agrees, IsSafe}
 use Rattle.block_format.specs.Layout.{Body}
-use Rattle.block_format.specs.Recovery.{start_state, IsSound}
+use Rattle.recovery.specs.Start.{start_state}
+use Rattle.recovery.specs.Sound.{IsSound}
 use Rattle.shard_core.specs.declared.settings.Settings.{Settings}
 use Rattle.shard_core.specs.declared.start.Asked.{Asked}
 use Rattle.shard_core.specs.declared.start.StartCause.{StartCause}

@@ -9,7 +9,7 @@ use Rattle.device_model.specs.Book.{pending_of}
 use Rattle.device_model.specs.Device.{State, history, put_count, tombstone_count}
 use Rattle.device_model.specs.Steps.{Step, wrote, states_through}
 use Rattle.device_model.specs.Events.{Event, flush_call}
-use Rattle.block_format.specs.Recovery.{Restarts}
+use Rattle.recovery.specs.Start.{Restarts}
 use Rattle.line_proto.specs.declared.command.Command.{Command}
 use Rattle.line_proto.specs.declared.command.Command.TheVariants as command
 use Rattle.line_proto.specs.declared.reply.Reply.{Reply}

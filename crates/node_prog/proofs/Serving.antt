@@ -5,7 +5,8 @@ use Rattle.fault_count.specs.Counts.{Rose}
 use Rattle.disk_model.specs.Disk.{DiskView, IsDisk, IsOnly, IsHonest, meanwhile}
 use Rattle.device_model.specs.Device.{State}
 use Rattle.block_format.specs.Layout.{Body}
-use Rattle.block_format.specs.Recovery.{IsSound, start_state, entries_state}
+use Rattle.recovery.specs.Start.{start_state, entries_state}
+use Rattle.recovery.specs.Sound.{IsSound}
 use Rattle.line_proto.specs.declared.command.Command.{Command}
 use Rattle.line_proto.specs.declared.reply.Reply.{Reply}
 use Rattle.line_proto.specs.Commands.{Node}

@@ -7,7 +7,8 @@ use Rattle.device_model.specs.Device.{entry}
 use Rattle.block_format.specs.declared.geometry.Geometry.{Geometry}
 use Rattle.block_format.specs.Layout.{Body}
 use Rattle.block_format.specs.Copies.{Copy, copies_of, cold}
-use Rattle.block_format.specs.Recovery.{IsSound, entries_state}
+use Rattle.recovery.specs.Start.{entries_state}
+use Rattle.recovery.specs.Sound.{IsSound}
 use Rattle.io_traits.specs.Sink.{Extends}
 use Rattle.io_traits.specs.Source.{Shortens}
 use Rattle.line_proto.specs.Commands.{Node}

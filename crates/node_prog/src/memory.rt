@@ -1,7 +1,7 @@
 // What a run is served over until disks are files: a device in memory, and a clock that stands still.
 ghost use Rattle.std.specs.Prelude.{◌≡◌, ◌∷◌, [], IfOk};
 ghost use Rattle.disk_model.specs.Moments.{view_of};
-ghost use Rattle.block_format.specs.Recovery.{IsFormatted};
+ghost use Rattle.block_format.specs.Copies.{IsFormatted};
 ghost use Rattle.node_prog.specs.Asking.{only_geometry};
 
 use block_format::Geometry;

@@ -9,7 +9,7 @@ use Rattle.device_model.specs.Device.{State}
 use Rattle.rec_format.specs.Versions.{bounded_time}
 use Rattle.rec_format.specs.declared.version.Version.{Version}
 use Rattle.device_model.specs.Events.{Answer, stamp_given, happened, found_version, counted, block_chosen, raid_numbered, marks_made, block_scanned, marks_undone, part_ended, raid_over, refused}
-use Rattle.block_format.specs.Recovery.{Survives}
+use Rattle.recovery.specs.Surviving.{Survives}
 use Rattle.io_traits.specs.Clock.{Ticks}
 use Rattle.line_proto.specs.declared.command.Command.{Command}
 use Rattle.line_proto.specs.declared.command.Command.TheVariants as command

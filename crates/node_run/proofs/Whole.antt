@@ -3,7 +3,7 @@ use Rattle.std.proofs.Common.{◌≡◌, ℕ, ◌<◌, ◌≤◌, Bool, true, fa
 use Rattle.std.specs.Prelude.{◌⊎◌, ◌||◌, Option, Some, None, MatchOption, MatchBool, IsTrue, slice_get}
 use Rattle.disk_model.specs.Disk.{DiskView, meanwhile}
 use Rattle.disk_model.specs.Runs.{OneOf, one_of_front, one_of_back}
-use Rattle.block_format.specs.Recovery.{Survives}
+use Rattle.recovery.specs.Surviving.{Survives}
 use Rattle.line_proto.specs.Commands.{Slot, Node, NodeEvent}
 use Rattle.line_proto.specs.declared.reply.Reply.{Reply}
 use Rattle.line_proto.specs.declared.reply.Reply.TheVariants as reply

@@ -17,22 +17,23 @@ use Rattle.block_format.specs.declared.geometry.Gate.{Gate}
 use Rattle.block_format.specs.declared.geometry.Gate.TheVariants.{Shut, Set}
 use Rattle.block_format.specs.Layout.{IsGeometry, IsClosed, gate_sector, Body}
 use Rattle.block_format.specs.Copies.{Copy, HasBodies, copies_of, copies_named, version_of, cold_copy}
-use Rattle.block_format.specs.Recovery.{start_state, entries_state, IsSound, IsShapeOf, NoStrays, greatest_number, live_copy, cold_copies}
+use Rattle.recovery.specs.Start.{start_state, entries_state, greatest_number, live_copy, cold_copies}
+use Rattle.recovery.specs.Sound.{IsSound, IsShapeOf, NoStrays}
 use Rattle.block_format.specs.Refusals.{IsAsked}
 use Rattle.block_format.proofs.BodyLaws.{one_body}
 use Rattle.block_flusher.specs.Images.{IsShut}
-use Rattle.recovery_laws.specs.Cold.{copies_high}
-use Rattle.recovery_laws.specs.Holding.{IsHeld}
-use Rattle.recovery_laws.proofs.Cold.{one_image, covered_is, cover_of}
-use Rattle.recovery_laws.proofs.ColdStart.{start_entry, start_times, start_orderly}
-use Rattle.recovery_laws.proofs.Growing.{all_at}
-use Rattle.recovery_laws.proofs.Held.{latest_is}
-use Rattle.recovery_laws.proofs.Held as latest_copy
-use Rattle.recovery_laws.proofs.HeldStart.{start_held}
-use Rattle.recovery_laws.proofs.Images.{one_shape}
-use Rattle.recovery_laws.proofs.Members.{filter_from}
-use Rattle.recovery_laws.proofs.StartLive.{start_live, entries_live}
-use Rattle.recovery_laws.proofs.Each.{all_map}
+use Rattle.recovery.specs.Cold.{copies_high}
+use Rattle.recovery.specs.Holding.{IsHeld}
+use Rattle.recovery.proofs.Cold.{one_image, covered_is, cover_of}
+use Rattle.recovery.proofs.ColdStart.{start_entry, start_times, start_orderly}
+use Rattle.recovery.proofs.Growing.{all_at}
+use Rattle.recovery.proofs.Held.{latest_is}
+use Rattle.recovery.proofs.Held as latest_copy
+use Rattle.recovery.proofs.HeldStart.{start_held}
+use Rattle.recovery.proofs.Images.{one_shape}
+use Rattle.recovery.proofs.Members.{filter_from}
+use Rattle.recovery.proofs.StartLive.{start_live, entries_live}
+use Rattle.recovery.proofs.Each.{all_map}
 use Rattle.shard_core.specs.declared.settings.Settings.{Settings}
 use Rattle.shard_core.specs.declared.start.Asked.{Asked}
 use Rattle.shard_core.specs.declared.scan.Finding.{Finding}

@@ -13,8 +13,8 @@ use Rattle.device_model.specs.Device.{State}
 use Rattle.device_model.specs.Steps.{Step, after_steps}
 use Rattle.device_model.specs.Legal.{flush_all, flush_first, flush_count, StopsIn}
 use Rattle.disk_model.specs.Disk.{DiskView, IsHonest}
-use Rattle.block_format.specs.Recovery.{IsShapeOf}
-use Rattle.recovery_laws.proofs.Each.{all_map}
+use Rattle.recovery.specs.Sound.{IsShapeOf}
+use Rattle.recovery.proofs.Each.{all_map}
 use Rattle.write_buffer.specs.declared.phase.Phase.{Phase}
 use Rattle.write_buffer.specs.declared.phase.Phase.TheVariants.{Filling, Sealed, BodyDone, GateBegun}
 use Rattle.write_buffer.specs.Buffers.{BufferState}

@@ -10,7 +10,7 @@ use Rattle.disk_model.specs.Runs.{Leaves, leaves_then, leaves_more, leaves_now}
 use Rattle.block_format.specs.declared.geometry.Geometry.{Geometry}
 use Rattle.block_format.specs.Layout.{IsGeometry, IsClosed, gate_text, gate_sector, block_place, closed_sector, device_end, header_text}
 use Rattle.block_format.specs.Copies.{HasBodies}
-use Rattle.block_format.specs.Recovery.{IsFormatted}
+use Rattle.block_format.specs.Copies.{IsFormatted}
 use Rattle.shard_core.specs.Finding.{AllClosed, HasHeaderOf, IsHalfFormatted}
 use Rattle.shard_core.proofs.Room.{size_bounds}
 

@@ -9,8 +9,8 @@ use Rattle.device_model.specs.Histories.{write, top_of, is_covered}
 use Rattle.device_model.specs.Book.{Setup}
 use Rattle.device_model.specs.Device.{Log, history_of, high_time, part_of}
 use Rattle.block_format.specs.Copies.{Copy, version_of}
-use Rattle.recovery_laws.specs.Orderly.{NumbersBelow}
-use Rattle.recovery_laws.proofs.Placing.{found_is}
+use Rattle.recovery.specs.Orderly.{NumbersBelow}
+use Rattle.recovery.proofs.Placing.{found_is}
 use Rattle.shard_core.specs.Index.{held, flag_of, high_of, entry_for}
 use Rattle.shard_core.proofs.Keeping.{IsOneOf}
 

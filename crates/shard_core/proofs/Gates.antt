@@ -9,7 +9,7 @@ use Rattle.block_format.specs.declared.geometry.Geometry.{Geometry}
 use Rattle.block_format.specs.declared.geometry.Gate.{Gate}
 use Rattle.block_format.specs.declared.geometry.Gate.TheVariants.{Shut, Set, Unsure}
 use Rattle.block_format.specs.Layout.{gate_sector, block_place}
-use Rattle.recovery_laws.proofs.Opening.{all_joined}
+use Rattle.recovery.proofs.Opening.{all_joined}
 use Rattle.block_shelf.specs.View.{shut_blocks}
 use Rattle.shard_core.specs.Finding.{is_set, IsSure, TellsSector, AreGates, set_blocks}
 

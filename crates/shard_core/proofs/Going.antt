@@ -5,8 +5,8 @@ use Rattle.device_model.specs.Device.{State}
 use Rattle.device_model.specs.Steps.{Step, after_step, after_steps, states_through}
 use Rattle.disk_model.specs.Disk.{Images, DiskView, IsDisk, IsHonest}
 use Rattle.disk_model.specs.Runs.{OneOf, leaves_none, leaves_then, leaves_more}
-use Rattle.block_format.specs.Recovery.{Survives}
-use Rattle.recovery_laws.proofs.Held.{held_survives}
+use Rattle.recovery.specs.Surviving.{Survives}
+use Rattle.recovery.proofs.Held.{held_survives}
 use Rattle.block_shelf.specs.View.{ShelfView}
 use Rattle.block_shelf.specs.Standing.{StandsFor, IsSafe, IsPlaced}
 use Rattle.block_shelf.specs.Calls.{Goes}

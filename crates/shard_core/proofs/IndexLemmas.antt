@@ -11,8 +11,8 @@ use Rattle.rec_format.specs.declared.version.Digest.{Digest}
 use Rattle.rec_format.specs.declared.entry.Entry.{Entry}
 use Rattle.rec_format.specs.Places.{same_digest, part_number_of}
 use Rattle.rec_format.proofs.Laws.{same_digest_refl, same_digest_is}
-use Rattle.recovery_laws.proofs.Growing.{cons_cases, all_at, all_from}
-use Rattle.recovery_laws.proofs.Members.{first_there, rest_there}
+use Rattle.recovery.proofs.Growing.{cons_cases, all_at, all_from}
+use Rattle.recovery.proofs.Members.{first_there, rest_there}
 use Rattle.shard_core.specs.Index.{held, high_of, IsPlaceOf, Holds}
 
 abbrev or_else : Option Entry → Option Entry → Option Entry

@@ -13,7 +13,7 @@ use Rattle.device_model.specs.Steps.{Step, sealed_stream, gate_begun, flushed_bu
 use Rattle.device_model.specs.Events.{Event, Call, Answer, counted}
 use Rattle.device_model.specs.Legal.{Allowed, FlushEnds, flush_of, flush_all, seal_if, seal_all}
 use Rattle.disk_model.specs.Disk.{DiskView, IsHonest}
-use Rattle.recovery_laws.proofs.Opening.{all_joined, all_parted}
+use Rattle.recovery.proofs.Opening.{all_joined, all_parted}
 use Rattle.block_shelf.specs.View.{IsSetupOf}
 use Rattle.block_shelf.specs.Standing as shelf
 use Rattle.block_shelf.specs.Calls.{Goes, Names}

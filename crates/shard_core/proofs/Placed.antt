@@ -14,9 +14,9 @@ use Rattle.device_model.specs.Device.{State}
 use Rattle.device_model.specs.Steps.{wrote, sealed_stream, after_step}
 use Rattle.device_model.specs.Legal.{flush_of, flush_between, flush_all}
 use Rattle.rec_format.proofs.Laws.{same_digest_refl, same_digest_is}
-use Rattle.recovery_laws.proofs.Each.{all_map}
-use Rattle.recovery_laws.proofs.Opening.{all_joined}
-use Rattle.recovery_laws.proofs.Placing.{found_is, some_room, Room, room_of}
+use Rattle.recovery.proofs.Each.{all_map}
+use Rattle.recovery.proofs.Opening.{all_joined}
+use Rattle.recovery.proofs.Placing.{found_is, some_room, Room, room_of}
 use Rattle.shard_core.proofs.FlushSteps.{StandRight}
 use Rattle.shard_core.proofs.Making.{refreshed_queue}
 

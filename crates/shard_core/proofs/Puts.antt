@@ -21,12 +21,12 @@ use Rattle.device_model.proofs.Laws.{wanted_later, later_than_all}
 use Rattle.rec_format.proofs.Laws.{same_digest_is}
 use Rattle.disk_model.specs.Disk.{DiskView, IsDisk, IsHonest}
 use Rattle.disk_model.specs.Runs.{OneOf, Leaves, leaves_none}
-use Rattle.block_format.specs.Recovery.{Survives}
-use Rattle.recovery_laws.specs.Orderly.{AreWrites, IsFalling, IsOrderly}
-use Rattle.recovery_laws.specs.Writes.{MayFollow}
-use Rattle.recovery_laws.proofs.Each.{all_map}
-use Rattle.recovery_laws.proofs.Growing.{all_at}
-use Rattle.recovery_laws.proofs.HeldWrites.{written_item, wrote_history}
+use Rattle.recovery.specs.Surviving.{Survives}
+use Rattle.recovery.specs.Orderly.{AreWrites, IsFalling, IsOrderly}
+use Rattle.recovery.specs.Writes.{MayFollow}
+use Rattle.recovery.proofs.Each.{all_map}
+use Rattle.recovery.proofs.Growing.{all_at}
+use Rattle.recovery.proofs.HeldWrites.{written_item, wrote_history}
 use Rattle.block_shelf.specs.declared.place.Class.TheVariants as class
 use Rattle.block_shelf.specs.declared.refusals.PutRefusal.{PutRefusal}
 use Rattle.block_shelf.specs.declared.refusals.PutRefusal.TheVariants as put

@@ -17,10 +17,10 @@ use Rattle.block_format.specs.declared.geometry.Found.{Found}
 use Rattle.block_format.specs.Layout.{IsOpen, IsClosed, gate_sector, block_place, body_bytes, Body, IsBody, IsFaultAt, units_of_records}
 use Rattle.block_format.specs.Readings.{IsReading, body_capacity}
 use Rattle.block_format.specs.Copies.{Copy, HasBodies, copies_from, copies_of}
-use Rattle.block_format.specs.Recovery.{greatest_number}
+use Rattle.recovery.specs.Start.{greatest_number}
 use Rattle.block_format.specs.Refusals.{IsBlock, IsDamagedAt}
 use Rattle.block_format.proofs.BodyRecords.{units-cons}
-use Rattle.recovery_laws.proofs.Opening.{all_joined}
+use Rattle.recovery.proofs.Opening.{all_joined}
 use Rattle.shard_core.specs.declared.scan.Finding.{Finding}
 use Rattle.shard_core.specs.declared.start.StartCause.{StartCause}
 use Rattle.shard_core.specs.declared.start.StartCause.TheVariants as why

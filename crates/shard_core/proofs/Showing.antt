@@ -18,10 +18,10 @@ use Rattle.block_format.specs.declared.geometry.Gate.{Gate}
 use Rattle.block_format.specs.declared.geometry.Gate.TheVariants.{Set}
 use Rattle.block_format.specs.Layout.{IsRecordAt, body_bytes, Body}
 use Rattle.block_format.specs.Copies.{Copy, HasBodies, copies_of, version_of}
-use Rattle.block_format.specs.Recovery.{live_copy}
-use Rattle.recovery_laws.specs.Orderly.{NumbersBelow}
-use Rattle.recovery_laws.proofs.Growing.{all_at}
-use Rattle.recovery_laws.proofs.Places.{copy_stands}
+use Rattle.recovery.specs.Start.{live_copy}
+use Rattle.recovery.specs.Orderly.{NumbersBelow}
+use Rattle.recovery.proofs.Growing.{all_at}
+use Rattle.recovery.proofs.Places.{copy_stands}
 use Rattle.block_shelf.specs.View.{ShelfView, shut_blocks}
 use Rattle.block_shelf.specs.Standing.{IsLive, IsPlaced, StandsFor}
 use Rattle.block_shelf.specs.Calls.{Names}

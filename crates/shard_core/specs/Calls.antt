@@ -8,7 +8,7 @@ use Rattle.device_model.specs.Events.{Event, Call, Answer, stamp_given, found_ve
 use Rattle.device_model.specs.Legal.{Follows, flush_count, StopsIn}
 use Rattle.disk_model.specs.Disk.{DiskView, IsHonest}
 use Rattle.disk_model.specs.Runs.{OneOf, Leaves}
-use Rattle.block_format.specs.Recovery.{Survives}
+use Rattle.recovery.specs.Surviving.{Survives}
 use Rattle.block_shelf.specs.declared.refusals.PutRefusal.{PutRefusal}
 use Rattle.block_shelf.specs.declared.refusals.PutRefusal.TheVariants as put
 use Rattle.block_shelf.specs.declared.refusals.ReadRefusal.{ReadRefusal}

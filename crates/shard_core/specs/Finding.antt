@@ -15,9 +15,9 @@ use Rattle.block_format.specs.declared.geometry.Gate.TheVariants.{Shut, Set, Uns
 use Rattle.block_format.specs.declared.geometry.Found.{Found}
 use Rattle.block_format.specs.Layout.{IsOpen, IsClosed, gate_sector, body_bytes, Body, IsBody, IsFaultAt}
 use Rattle.block_format.specs.Copies.{Copy, copies_from, copies_of, cold_copy}
-use Rattle.block_format.specs.Recovery.{greatest_number}
+use Rattle.recovery.specs.Start.{greatest_number}
 use Rattle.block_format.specs.Refusals.{IsDamagedAt}
-use Rattle.recovery_laws.specs.Cold.{copies_high}
+use Rattle.recovery.specs.Cold.{copies_high}
 use Rattle.block_shelf.specs.View.{shut_blocks}
 use Rattle.shard_core.specs.declared.scan.Finding.{Finding}
 use Rattle.shard_core.specs.declared.start.StartCause.{StartCause}

@@ -11,7 +11,7 @@ use Rattle.device_model.specs.Steps.{Step, wrote, sealed_stream, after_step}
 use Rattle.device_model.specs.Events.{Cause}
 use Rattle.device_model.specs.Legal.{flush_between, flush_all, StopsIn}
 use Rattle.disk_model.specs.Disk.{DiskView}
-use Rattle.recovery_laws.specs.Writes.{MayFollow}
+use Rattle.recovery.specs.Writes.{MayFollow}
 use Rattle.block_shelf.specs.declared.place.Class.TheVariants as class
 use Rattle.block_shelf.specs.declared.refusals.PutRefusal.{PutRefusal}
 use Rattle.block_shelf.specs.Standing as shelf

@@ -9,7 +9,8 @@ use Rattle.device_model.specs.Policy.{built, unused}
 use Rattle.block_format.specs.declared.geometry.Geometry.{Geometry}
 use Rattle.block_format.specs.Layout.{Body}
 use Rattle.block_format.specs.Copies.{Copy, HasBodies, copies_of, cold_copy}
-use Rattle.block_format.specs.Recovery.{IsSound, start_state, entries_state, greatest_number}
+use Rattle.recovery.specs.Start.{start_state, entries_state, greatest_number}
+use Rattle.recovery.specs.Sound.{IsSound}
 use Rattle.block_format.specs.Refusals.{IsRefusedFor, IsAsked, not_formatted, other_shape, damaged_block}
 use Rattle.shard_core.specs.View.{ShardView, setup_of}
 use Rattle.block_shelf.specs.Standing.{IsPlaced}

@@ -4,7 +4,7 @@ ghost use Rattle.fault_count.specs.Counts.{Rose};
 ghost use Rattle.disk_model.specs.Disk.{IsOnly, IsHonest, Advances};
 ghost use Rattle.disk_model.specs.Runs.{Leaves};
 ghost use Rattle.block_format.specs.Layout.{IsGeometry, device_end};
-ghost use Rattle.block_format.specs.Recovery.{IsFormatted};
+ghost use Rattle.block_format.specs.Copies.{IsFormatted};
 ghost use Rattle.shard_core.specs.Finding.{AllClosed, HasHeaderOf, IsHalfFormatted};
 
 use block_flusher::place_of;

@@ -9,7 +9,8 @@ use Rattle.device_model.specs.Steps.{wrote, sealed_stream, gate_begun, flushed_b
 use Rattle.device_model.specs.Events.{put_call, bury_call, delete_call, get_call, flush_call, flush_sealed_call, choose_call, stamp_given, happened, found_version, counted, block_chosen}
 use Rattle.block_format.specs.Layout.{Body}
 use Rattle.block_format.specs.Copies.{copies_of}
-use Rattle.block_format.specs.Recovery.{start_state, KeepsShown}
+use Rattle.recovery.specs.Start.{start_state}
+use Rattle.recovery.specs.Surviving.{KeepsShown}
 use Rattle.line_proto.specs.declared.command.Command.TheVariants as command
 use Rattle.line_proto.specs.declared.reply.Reply.TheVariants as reply
 use Rattle.line_proto.specs.Commands.{Node, did}

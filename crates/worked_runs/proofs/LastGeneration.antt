@@ -8,7 +8,7 @@ use Rattle.device_model.specs.Device.{finished}
 use Rattle.device_model.specs.Steps.{wrote, after_step}
 use Rattle.device_model.specs.Events.{put_call, flush_sealed_call, choose_call, stamp_given, counted, block_chosen}
 use Rattle.block_format.specs.Layout.{Body}
-use Rattle.block_format.specs.Recovery.{start_state}
+use Rattle.recovery.specs.Start.{start_state}
 use Rattle.line_proto.specs.declared.command.Command.TheVariants as command
 use Rattle.line_proto.specs.declared.reply.Reply.TheVariants as reply
 use Rattle.line_proto.specs.Commands.{Node, did}

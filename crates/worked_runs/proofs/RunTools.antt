@@ -12,7 +12,7 @@ use Rattle.device_model.specs.Device.{State, Log, no_raid, put_count, tombstone_
 use Rattle.device_model.specs.Steps.{Step}
 use Rattle.device_model.specs.Events.{Event, Call, Answer}
 use Rattle.block_format.specs.Layout.{Body}
-use Rattle.block_format.specs.Recovery.{start_state}
+use Rattle.recovery.specs.Start.{start_state}
 use Rattle.line_proto.specs.declared.command.Command.{Command}
 use Rattle.line_proto.specs.declared.reply.Reply.{Reply}
 use Rattle.line_proto.specs.Commands.{Node, IsLegalOn, on_device, Does, TendsEach, total}

@@ -7,7 +7,7 @@ use Rattle.device_model.specs.Book.{refreshed, dropped_live, placed, with_flushe
 use Rattle.device_model.specs.Device.{finished}
 use Rattle.device_model.specs.Steps.{wrote, moved, removed, sealed_stream, gate_begun, flushed_buffer, after_step}
 use Rattle.device_model.specs.Events.{put_call, delete_call, flush_call, flush_sealed_call, choose_call, move_call, stamp_given, happened, counted, block_chosen}
-use Rattle.block_format.specs.Recovery.{start_state}
+use Rattle.recovery.specs.Start.{start_state}
 use Rattle.line_proto.specs.declared.command.Command.TheVariants as command
 use Rattle.line_proto.specs.declared.reply.Reply.TheVariants as reply
 use Rattle.line_proto.specs.Commands.{Node, did}

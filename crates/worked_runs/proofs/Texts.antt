@@ -3,7 +3,7 @@ use Rattle.std.proofs.Common.{◌≡◌, [], ◌++◌, replicate, refl}
 use Rattle.std.specs.Prelude.{codes}
 use Rattle.std.specs.Fmt.{digits}
 use Rattle.hex.proofs.OnLiterals.{hex_on_literals}
-use Rattle.block_format.specs.Audit.{all_sound, stray}
+use Rattle.recovery.specs.Audit.{all_sound, stray}
 use Rattle.block_format.specs.Refusals.{not_formatted, other_shape, damaged_block, first_bytes}
 use Rattle.core_run.specs.Notes.{fault_note, short_note, refusal_note, formatted_text, check_text, audit_text}
 use Rattle.worked_runs.proofs.RunTools.{d2}

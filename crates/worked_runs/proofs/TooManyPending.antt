@@ -7,7 +7,7 @@ use Rattle.device_model.specs.Book.{refreshed, dropped_live, placed, with_flushe
 use Rattle.device_model.specs.Device.{finished}
 use Rattle.device_model.specs.Steps.{wrote, gate_begun, flushed_buffer, after_step}
 use Rattle.device_model.specs.Events.{put_call, flush_sealed_call, choose_call, stamp_given, counted, block_chosen, refused, overload, disk_fault}
-use Rattle.block_format.specs.Recovery.{start_state}
+use Rattle.recovery.specs.Start.{start_state}
 use Rattle.line_proto.specs.declared.command.Command.TheVariants as command
 use Rattle.line_proto.specs.declared.reply.Reply.TheVariants as reply
 use Rattle.line_proto.specs.declared.reply.LineFault.TheVariants as why

@@ -5,7 +5,7 @@ use Rattle.rec_format.specs.Versions.{a_put}
 use Rattle.device_model.specs.Book.{Setup, refreshed, dropped_live, placed, with_flushed, cold_book, client}
 use Rattle.device_model.specs.Steps.{wrote, sealed_stream, gate_begun, flushed_buffer, after_step}
 use Rattle.device_model.specs.Events.{put_call, get_call, flush_call, flush_sealed_call, choose_call, stamp_given, found_version, counted, block_chosen}
-use Rattle.block_format.specs.Recovery.{start_state}
+use Rattle.recovery.specs.Start.{start_state}
 use Rattle.line_proto.specs.declared.command.Command.TheVariants as command
 use Rattle.line_proto.specs.declared.reply.Reply.TheVariants as reply
 use Rattle.line_proto.specs.Commands.{Node, did}
@@ -22,7 +22,7 @@ use Rattle.core_run.specs.Notes.{IsNote}
 use Rattle.core_run.specs.Headline.{written_text, IsAnswered, Faults, EndsWithCause, CommitsAt, StartsFrom, Outside, HoldsReplies, HoldsThroughout, RoseOn, is_among, run_statuses}
 use Rattle.std.specs.Prelude.{IsTrue}
 use Rattle.std.proofs.Common.{lit<, zero, suc, subst, sym, ◌∙◌, arith}
-use Rattle.block_format.specs.Recovery.{IsSound}
+use Rattle.recovery.specs.Sound.{IsSound}
 use Rattle.worked_runs.proofs.RunTools.{device, event, d1, stamp, state_at}
 
 abbrev start0 : Node

@@ -3,7 +3,8 @@ use Rattle.std.specs.Prelude.{List, Result, Ok, Err, IfOk, MatchResult}
 use Rattle.std.proofs.lemmas.Result.{MatchResult-weaker}
 use Rattle.disk_model.specs.Disk.{IsHonest}
 use Rattle.block_format.specs.Layout.{Body}
-use Rattle.block_format.specs.Recovery.{IsSound, start_state}
+use Rattle.recovery.specs.Start.{start_state}
+use Rattle.recovery.specs.Sound.{IsSound}
 use Rattle.shard_core.specs.View.{setup_of}
 use Rattle.shard_core.specs.Stands.{IsSafe}
 use Rattle.shard_core.specs.Starting.{StandsForEntries, Begins, IsRefused}

@@ -1,0 +1,125 @@
+-- When a buffer is flushed, what was written to it is flushed: an image that has it all has what the new state demands.
+use Rattle.std.proofs.Common.{◌≡◌, ◌⊎◌, inl, inr, ⊎_elim, ℕ, Bool, true, false, not, cond, List, [], ◌∷◌, refl, sym, ◌∙◌, ap, subst}
+use Rattle.std.proofs.lemmas.Bool.{or_cases, or_left, or_right, eqb-true, eq-eqb, cases_eq, both_ways, not-true, not_from_false, false≢true, cond_both, cond-false}
+use Rattle.std.specs.Prelude.{◌==◌, Contains}
+use Rattle.std.specs.List.{AllByRecursion, list_any}
+use Rattle.rec_format.specs.declared.version.Digest.{Digest}
+use Rattle.rec_format.specs.declared.version.Version.{Version}
+use Rattle.device_model.specs.Histories.{Item, write, dropped, rid, cleared, Pending, is_pending, is_begun, is_flushed, is_waiting, stage_of}
+use Rattle.device_model.specs.Book.{Setup, Book, pending_of, with_flushed}
+use Rattle.device_model.specs.Device.{State, history}
+use Rattle.device_model.specs.Steps.{gate_begun, flushed_buffer, after_step}
+use Rattle.block_format.specs.Layout.{Body}
+use Rattle.recovery.specs.Holding.{versions_to, begun_versions, flushed_versions, versions_in, Holds}
+use Rattle.recovery.proofs.Each.{all_map}
+use Rattle.recovery.proofs.Pending.{any_more, begun_at, apart_pending, apart_begun, none_pending}
+use Rattle.recovery.proofs.Members.{first_there, rest_there}
+use Rattle.recovery.proofs.Stages.{stage_from, IsFurther, begun_further}
+use Rattle.recovery.proofs.HeldSteps.{held_after}
+
+-- ---- what went to a buffer
+
+-- what went to a buffer whose flush has begun is among the versions that have begun
+pub begun_versions_to : (number : ℕ) (pending : Pending) (items : List Item) → is_begun pending number ≡ true → AllByRecursion (λ v. Contains (begun_versions pending items) v) (versions_to number items)
+begun_versions_to number pending [] begun = tt
+begun_versions_to number pending (write v numbers ∷ items) begun = by (list_any (λ n. n == number) numbers) refl (begun_versions_to number pending items begun)
+  where
+    all : List Version
+    all = cond (is_waiting (stage_of pending numbers)) (begun_versions pending items) (v ∷ begun_versions pending items)
+
+    behind : AllByRecursion (λ w. Contains (begun_versions pending items) w) (versions_to number items) → AllByRecursion (λ w. Contains all w) (versions_to number items)
+    behind rest = all_map (λ w. Contains (begun_versions pending items) w) (λ w. Contains all w) (versions_to number items)
+        (λ w there. cond_both (is_waiting (stage_of pending numbers)) (begun_versions pending items) (v ∷ begun_versions pending items) (λ (l : List Version). Contains l w) (λ _. there) (λ _. rest_there v (begun_versions pending items) w there)) rest
+
+    moving : list_any (λ n. n == number) numbers ≡ true → is_waiting (stage_of pending numbers) ≡ false
+    moving went =
+        stage_from (is_flushed pending numbers) (list_any (is_begun pending) numbers)
+        (inr (any_more (λ n. n == number) (is_begun pending) (λ n same. subst (λ (m : ℕ). is_begun pending m ≡ true) (sym (eqb-true n number same)) begun) numbers went))
+
+    by : (b : Bool) → list_any (λ n. n == number) numbers ≡ b → AllByRecursion (λ w. Contains (begun_versions pending items) w) (versions_to number items)
+        → AllByRecursion (λ w. Contains all w) (cond b (v ∷ versions_to number items) (versions_to number items))
+    by true went rest = (
+      subst (λ (l : List Version). Contains l v) (sym (cond-false (is_waiting (stage_of pending numbers)) (begun_versions pending items) (v ∷ begun_versions pending items) (moving went))) (first_there v (begun_versions pending items)),
+      behind rest,
+    )
+    by false went rest = behind rest
+begun_versions_to number pending (dropped ∷ items) begun = begun_versions_to number pending items begun
+begun_versions_to number pending (rid ∷ items) begun = begun_versions_to number pending items begun
+begun_versions_to number pending (cleared ∷ items) begun = begun_versions_to number pending items begun
+
+-- a buffer of this number has begun
+pub begun_is : (setup : Setup) (s : State) (number : ℕ) → list_any (λ b. b.number == number) s.book.buffers ≡ true → is_begun (pending_of (after_step setup (gate_begun number) s).book) number ≡ true
+unfolding after_step
+begun_is setup s number there = begun_at number s.book there
+
+-- ---- what is newly flushed
+
+all_first : {X : Type 0} (P : X → Type 0) (x : X) (xs : List X) (b : Bool) → b ≡ true → AllByRecursion P (cond b (x ∷ xs) xs) → P x
+all_first P x xs true is all = all.0
+all_first P x xs false is all = absurd (false≢true is)
+
+all_behind : {X : Type 0} (P : X → Type 0) (x : X) (xs : List X) (b : Bool) → AllByRecursion P (cond b (x ∷ xs) xs) → AllByRecursion P xs
+all_behind P x xs true all = all.1
+all_behind P x xs false all = all
+
+module _ (number : ℕ) (old new : Pending) (only : (m : ℕ) → is_pending new m ≡ false → (is_pending old m ≡ false) ⊎ (m ≡ number)) where
+  newly_left : (numbers : List ℕ) → list_any (λ m. not (is_pending new m)) numbers ≡ true → (list_any (λ m. not (is_pending old m)) numbers ≡ true) ⊎ (list_any (λ m. m == number) numbers ≡ true)
+  newly_left [] some = absurd (false≢true some)
+  newly_left (n ∷ numbers) some = by (or_cases (not (is_pending new n)) (list_any (λ m. not (is_pending new m)) numbers) some) (newly_left numbers)
+    where
+      here : (is_pending old n ≡ false) ⊎ (n ≡ number) → (list_any (λ m. not (is_pending old m)) (n ∷ numbers) ≡ true) ⊎ (list_any (λ m. m == number) (n ∷ numbers) ≡ true)
+      here (inl left) = inl (or_left (not (is_pending old n)) _ (not_from_false (is_pending old n) left))
+      here (inr same) = inr (or_left (n == number) _ (eq-eqb n number same))
+
+      behind : (list_any (λ m. not (is_pending old m)) numbers ≡ true) ⊎ (list_any (λ m. m == number) numbers ≡ true) → (list_any (λ m. not (is_pending old m)) (n ∷ numbers) ≡ true) ⊎ (list_any (λ m. m == number) (n ∷ numbers) ≡ true)
+      behind (inl left) = inl (or_right (not (is_pending old n)) _ left)
+      behind (inr same) = inr (or_right (n == number) _ same)
+
+      by : (not (is_pending new n) ≡ true) ⊎ (list_any (λ m. not (is_pending new m)) numbers ≡ true)
+          → (list_any (λ m. not (is_pending new m)) numbers ≡ true → (list_any (λ m. not (is_pending old m)) numbers ≡ true) ⊎ (list_any (λ m. m == number) numbers ≡ true))
+          → (list_any (λ m. not (is_pending old m)) (n ∷ numbers) ≡ true) ⊎ (list_any (λ m. m == number) (n ∷ numbers) ≡ true)
+      by (inl left) rest = here (only n (not-true (is_pending new n) left))
+      by (inr some) rest = behind (rest some)
+
+  newly_flushed : (numbers : List ℕ) → is_flushed new numbers ≡ true → (is_flushed old numbers ≡ true) ⊎ (list_any (λ m. m == number) numbers ≡ true)
+  newly_flushed [] done = inl refl
+  newly_flushed (n ∷ numbers) done = newly_left (n ∷ numbers) done
+
+  -- it was flushed before, or went to the buffer of this number
+  flushed_were : (P : Version → Type 0) (items : List Item) → AllByRecursion P (flushed_versions old items) → AllByRecursion P (versions_to number items) → AllByRecursion P (flushed_versions new items)
+  flushed_were P [] before went = tt
+  flushed_were P (write v numbers ∷ items) before went =
+      let rest = flushed_were P items (all_behind P v (flushed_versions old items) (is_flushed old numbers) before) (all_behind P v (versions_to number items) (list_any (λ m. m == number) numbers) went) in
+      cond_both (is_flushed new numbers) (v ∷ flushed_versions new items) (flushed_versions new items) (AllByRecursion P)
+      (λ done. (
+        ⊎_elim (λ was. all_first P v (flushed_versions old items) (is_flushed old numbers) was before)
+            (λ is. all_first P v (versions_to number items) (list_any (λ m. m == number) numbers) is went) (newly_flushed numbers done),
+        rest,
+      )) (λ _. rest)
+  flushed_were P (dropped ∷ items) before went = flushed_were P items before went
+  flushed_were P (rid ∷ items) before went = flushed_were P items before went
+  flushed_were P (cleared ∷ items) before went = flushed_were P items before went
+
+-- ---- a buffer is flushed
+
+module _ (setup : Setup) (number : ℕ) (book : Book) where
+  flushed_is_further : IsFurther (pending_of book) (pending_of (with_flushed setup number book))
+  flushed_is_further = record {
+    pending = λ m is. ⊎_elim (λ (e : m ≡ number). absurd (both_ways (is_pending (pending_of (with_flushed setup number book)) m) (gone m e) is)) (λ apart. sym (apart_pending setup number book m apart) ∙ is) (cases_eq m number);
+    begun = λ m is. ⊎_elim (λ (e : m ≡ number). inr (gone m e)) (λ apart. inl (apart_begun setup number book m apart ∙ is)) (cases_eq m number);
+  }
+    where
+      gone : (m : ℕ) → m ≡ number → is_pending (pending_of (with_flushed setup number book)) m ≡ false
+      gone m e = ap (is_pending (pending_of (with_flushed setup number book))) e ∙ none_pending setup number book
+
+  flushed_only : (m : ℕ) → is_pending (pending_of (with_flushed setup number book)) m ≡ false → (is_pending (pending_of book) m ≡ false) ⊎ (m ≡ number)
+  flushed_only m left = ⊎_elim (λ e. inr e) (λ apart. inl (sym (apart_pending setup number book m apart) ∙ left)) (cases_eq m number)
+
+-- the image has all that went to the buffer
+pub flushed_held : (setup : Setup) (s : State) (number : ℕ) (image : List ℕ) (bodies : List Body) → Holds setup s image bodies
+    → ((digest : Digest) → AllByRecursion (λ v. Contains (versions_in digest bodies) v) (versions_to number (history s digest))) → Holds setup (after_step setup (flushed_buffer number) s) image bodies
+unfolding after_step
+flushed_held setup s number image bodies holds has =
+    held_after setup s (after_step setup (flushed_buffer number) s) image bodies
+    (λ e v there. begun_further (pending_of s.book) (pending_of (with_flushed setup number s.book)) (flushed_is_further setup number s.book) (history s e) v there)
+    (λ e. flushed_were number (pending_of s.book) (pending_of (with_flushed setup number s.book)) (flushed_only setup number s.book) (λ v. Contains (versions_in e bodies) v) (history s e) (holds.flushed e) (has e)) holds

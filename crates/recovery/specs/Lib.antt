@@ -1,0 +1,10 @@
+pub mod Sound
+pub mod Surviving
+pub mod Start
+pub mod Audit
+pub mod Orderly
+pub mod Cold
+pub mod Writes
+pub mod Holding
+pub mod Standing
+pub mod Awaited
