@@ -18,7 +18,7 @@ use Rattle.line_proto.specs.declared.command.Command.{Command}
 use Rattle.line_proto.specs.declared.command.Command.TheVariants as command
 use Rattle.line_proto.specs.declared.reply.Reply.{Reply}
 use Rattle.line_proto.specs.declared.reply.Reply.TheVariants as reply
-use Rattle.line_proto.specs.Commands.{Slot, Node, NodeEvent, slot_after, Does, did, stopped, one_sum, answer_reply, on_device, node_after}
+use Rattle.node_model.specs.Commands.{Slot, Node, NodeEvent, slot_after, Does, did, stopped, one_sum, answer_reply, on_device, node_after}
 use Rattle.block_shelf.specs.Disks.{IsLater}
 use Rattle.shard_core.specs.declared.refusals.WriteRefusal.{WriteRefusal}
 use Rattle.shard_core.specs.declared.refusals.WriteRefusal.TheVariants as write
@@ -28,8 +28,8 @@ use Rattle.shard_core.specs.View.{ShardView, SameShape, setup_of, setup_for}
 use Rattle.shard_core.specs.Stands.{Agrees, IsSafe}
 use Rattle.shard_core.specs.Calls.{Makes, MakesAny, write_answer, read_answer, flush_answer}
 use Rattle.shard_core.proofs.Going.{safe_survives}
-use Rattle.core_run.specs.Session.{states_while}
-use Rattle.core_run.specs.Meaning.{ActsFrom, TendsFrom, ClosesFrom, LeavesEach, SurvivesOne, Rests}
+use Rattle.node_model.specs.Run.{states_while}
+use Rattle.node_model.specs.Meaning.{ActsFrom, TendsFrom, ClosesFrom, LeavesEach, SurvivesOne, Rests}
 use Rattle.core_run.specs.OneDevice.{StandsAlone, StandsSafely, views_of, unknown, NeverHalts, ActsAlone, TendsAlone, ClosesAlone, ClosedSo, flush_outcome}
 use Rattle.core_run.proofs.Closing.{closed_so}
 

@@ -7,7 +7,7 @@ use Rattle.device_model.specs.Device.{State}
 use Rattle.device_model.specs.Steps.{Step, after_steps}
 use Rattle.device_model.specs.Events.{Event, Call, flush_call, refused, disk_fault}
 use Rattle.device_model.specs.Legal.{Follows, Allowed, FlushEnds, seal_all, flush_all}
-use Rattle.line_proto.specs.Commands.{Slot}
+use Rattle.node_model.specs.Commands.{Slot}
 use Rattle.block_shelf.specs.Standing.{book_buffer}
 use Rattle.write_buffer.specs.Buffers.{BufferState}
 use Rattle.shard_core.specs.View.{ShardView}

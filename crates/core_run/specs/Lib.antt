@@ -1,5 +1,1 @@
-pub mod Notes
-pub mod Session
-pub mod Headline
-pub mod Meaning
 pub mod OneDevice

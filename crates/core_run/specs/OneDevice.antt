@@ -6,7 +6,7 @@ use Rattle.device_model.specs.Device.{State}
 use Rattle.device_model.specs.Events.{disk_fault}
 use Rattle.line_proto.specs.declared.command.Command.{Command}
 use Rattle.line_proto.specs.declared.reply.Reply.{Reply}
-use Rattle.line_proto.specs.Commands.{Node, Outcome, did, stopped}
+use Rattle.node_model.specs.Commands.{Node, Outcome, did, stopped}
 use Rattle.block_shelf.specs.Disks.{IsLater, OnlyRead}
 use Rattle.shard_core.specs.View.{ShardView, setup_of}
 use Rattle.shard_core.specs.Stands.{Agrees, IsSafe}
@@ -17,8 +17,8 @@ use Rattle.shard_core.specs.declared.settings.Settings.{Settings}
 use Rattle.shard_core.specs.declared.start.Asked.{Asked}
 use Rattle.shard_core.specs.declared.start.StartCause.{StartCause}
 use Rattle.shard_core.specs.Starting.{StandsForEntries, Begins, IsRefused, FaultRose}
-use Rattle.core_run.specs.Headline.{IsQuiet, AllQuiet}
-use Rattle.core_run.specs.Meaning.{ActsBy, TendsBy, ClosesBy}
+use Rattle.node_model.specs.Headline.{IsQuiet, AllQuiet}
+use Rattle.node_model.specs.Meaning.{ActsBy, TendsBy, ClosesBy}
 
 -- The node has one device, of the shard's shape and settings and with its disk's count of faults, in a state for which the
 -- shard stands.

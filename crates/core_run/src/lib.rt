@@ -1,4 +1,4 @@
-//! A node over all of its devices, as a store for sessions. The definitions of runs and of their promises stand in specs/.
+//! A node over all of its devices, as a store for sessions.
 #![tactic(auto)]
 
 mod node;

@@ -1,6 +1,6 @@
 // The replies to what a device answers.
 ghost use Rattle.std.specs.Prelude.{◌≡◌};
-ghost use Rattle.line_proto.specs.Commands.{answer_reply, one_sum};
+ghost use Rattle.node_model.specs.Commands.{answer_reply, one_sum};
 ghost use Rattle.shard_core.specs.Calls.{write_answer, read_answer};
 ghost use Rattle.core_run.specs.OneDevice.{flush_outcome};
 

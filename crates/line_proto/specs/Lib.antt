@@ -2,4 +2,3 @@ pub mod Lines
 pub mod Built
 pub mod Reading
 pub mod Stream
-pub mod Commands

@@ -12,8 +12,8 @@ use Rattle.shard_core.specs.declared.start.StartCause.TheVariants as why
 use Rattle.node_prog.specs.Promises.{EndsRefused}
 use Rattle.node_session.specs.declared.ended.Ended.{Ended}
 use Rattle.node_session.specs.declared.ended.Ended.TheVariants.{Finish, Quit, SourceFault, SinkFault, Memory, Halted, Long}
-use Rattle.line_proto.specs.Commands.{Node}
-use Rattle.core_run.specs.Notes.{IsNote, fault_note, refused_note}
+use Rattle.node_model.specs.Commands.{Node}
+use Rattle.node_model.specs.Notes.{IsNote, fault_note, refused_note}
 use Rattle.core_run.specs.OneDevice.{ClosedSo}
 use Rattle.node_run.specs.Whole.{ClosesWith, StatusIs}
 use Rattle.node_prog.specs.Concluding.{closed_status, closed_note, ended_status, ended_note}

@@ -9,7 +9,7 @@ use Rattle.recovery.specs.Start.{start_state, entries_state}
 use Rattle.recovery.specs.Sound.{IsSound}
 use Rattle.line_proto.specs.declared.command.Command.{Command}
 use Rattle.line_proto.specs.declared.reply.Reply.{Reply}
-use Rattle.line_proto.specs.Commands.{Node}
+use Rattle.node_model.specs.Commands.{Node}
 use Rattle.node_session.specs.declared.ended.Ended.{Ended}
 use Rattle.node_session.specs.declared.ended.Ended.TheVariants.{SourceFault, SinkFault, Halted}
 use Rattle.node_session.specs.Run.{Times}
@@ -18,9 +18,9 @@ use Rattle.block_shelf.specs.Disks.{IsLater}
 use Rattle.shard_core.specs.declared.settings.Settings.{Settings}
 use Rattle.shard_core.specs.View.{ShardView, setup_of}
 use Rattle.shard_core.specs.Stands.{Agrees}
-use Rattle.core_run.specs.Session.{last_node, states_while}
-use Rattle.core_run.specs.Headline.{Outside, StartsFrom, HoldsReplies, HoldsThroughout, counts_of, input_limit}
-use Rattle.core_run.specs.Meaning.{ActsBy, TendsBy, Rests, Enters, SurvivesOne}
+use Rattle.node_model.specs.Run.{last_node, states_while}
+use Rattle.node_model.specs.Headline.{Outside, StartsFrom, HoldsReplies, HoldsThroughout, counts_of, input_limit}
+use Rattle.node_model.specs.Meaning.{ActsBy, TendsBy, Rests, Enters, SurvivesOne}
 use Rattle.core_run.specs.OneDevice.{StandsAlone, StandsSafely, views_of, ActsAlone, TendsAlone, ClosesAlone, ClosedSo, unknown, NeverHalts, Started}
 use Rattle.shard_core.proofs.Going.{safe_survives}
 use Rattle.shard_core.proofs.Later.{later_none, later_then}

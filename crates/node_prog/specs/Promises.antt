@@ -11,7 +11,7 @@ use Rattle.recovery.specs.Start.{entries_state}
 use Rattle.recovery.specs.Sound.{IsSound}
 use Rattle.io_traits.specs.Sink.{Extends}
 use Rattle.io_traits.specs.Source.{Shortens}
-use Rattle.line_proto.specs.Commands.{Node}
+use Rattle.node_model.specs.Commands.{Node}
 use Rattle.shard_core.specs.declared.settings.Settings.{Settings}
 use Rattle.shard_core.specs.declared.start.StartCause.{StartCause}
 use Rattle.shard_core.specs.declared.start.StartCause.TheVariants as why
@@ -19,8 +19,8 @@ use Rattle.shard_core.specs.View.{setup_for}
 use Rattle.block_shelf.specs.Disks.{IsLater, OnlyRead}
 use Rattle.shard_core.specs.Starting.{Passes, own_copies, IsRefused, FaultRose}
 use Rattle.core_run.specs.OneDevice.{the_only}
-use Rattle.core_run.specs.Notes.{fault_note, refused_note}
-use Rattle.core_run.specs.Headline.{Outside, StartsFrom, HoldsReplies, HoldsThroughout}
+use Rattle.node_model.specs.Notes.{fault_note, refused_note}
+use Rattle.node_model.specs.Headline.{Outside, StartsFrom, HoldsReplies, HoldsThroughout}
 
 -- The first node of a run, over any disk: the device with this setup, as a start from the entries that were found leaves it. Where
 -- the disk tells its bytes, sound or not, the entry of each digest is its latest copy behind the open gates.

@@ -2,13 +2,13 @@
 use Rattle.std.proofs.Common.{◌≡◌, ◌≢◌, ℕ, Bool, true, false, List, [], ◌∷◌, refl, subst}
 use Rattle.std.specs.Prelude.{Option, IsTrue}
 use Rattle.disk_model.specs.Disk.{DiskView}
-use Rattle.line_proto.specs.Commands.{Node}
+use Rattle.node_model.specs.Commands.{Node}
 use Rattle.node_session.specs.declared.ended.Ended.{Ended}
 use Rattle.node_session.specs.declared.ended.Ended.TheVariants.{Finish, Quit, SourceFault, SinkFault, Memory, Halted, Long}
 use Rattle.node_session.specs.Run.{Times}
 use Rattle.node_session.specs.Session.{Ran}
-use Rattle.core_run.specs.Session.{Served, EndsOnce, halts, is_halted, node_after_line}
-use Rattle.core_run.specs.Meaning.{ActsBy, TendsBy, Rests, ClosesBy}
+use Rattle.node_model.specs.Run.{Served, EndsOnce, halts, is_halted, node_after_line}
+use Rattle.node_model.specs.Meaning.{ActsBy, TendsBy, Rests, ClosesBy}
 use Rattle.node_run.specs.Chain.{InHalt, Lifted}
 use Rattle.node_run.specs.Whole.{CloseAfter, UnlessHalted, RunsWhole}
 use Rattle.node_run.proofs.Ends.{ran_lifts}

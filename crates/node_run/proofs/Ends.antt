@@ -11,16 +11,16 @@ use Rattle.line_proto.specs.declared.reply.Reply.TheVariants as reply
 use Rattle.line_proto.specs.declared.line_end.LineEnd.{LineEnd}
 use Rattle.line_proto.specs.Lines.{reply_text}
 use Rattle.line_proto.specs.Stream.{IsOneLine, ended, FallInto}
-use Rattle.line_proto.specs.Commands.{Node}
+use Rattle.node_model.specs.Commands.{Node}
 use Rattle.node_session.specs.declared.stop.Stop.{Stop}
 use Rattle.node_session.specs.declared.stop.Stop.TheVariants.{Quit as QuitStop, SinkFault as SinkStop, Memory as MemoryStop, Halted as HaltStop}
 use Rattle.node_session.specs.declared.ended.Ended.{Ended}
 use Rattle.node_session.specs.declared.ended.Ended.TheVariants.{Finish, Quit, SourceFault, SinkFault, Memory, Halted, Long}
 use Rattle.node_session.specs.Run.{Times, Serves, StopsAt, TurnAny}
 use Rattle.node_session.specs.Session.{unended, TakesUp, ServesWhole, StopsAfter, EndsSo, Ran}
-use Rattle.core_run.specs.Session.{Served, halts, is_halted, times_of, replies_of, node_after_lines}
-use Rattle.core_run.specs.Headline.{IsFrontOf, Gives, is_bye, has_quit, written_text, rest_line}
-use Rattle.core_run.specs.Meaning.{ActsBy, TendsBy, Rests}
+use Rattle.node_model.specs.Run.{Served, halts, is_halted, times_of, replies_of, node_after_lines}
+use Rattle.node_model.specs.Headline.{IsFrontOf, Gives, is_bye, has_quit, written_text, rest_line}
+use Rattle.node_model.specs.Meaning.{ActsBy, TendsBy, Rests}
 use Rattle.node_run.specs.Chain.{line_end_of, TicksAll, EndsWith, Lifted}
 use Rattle.node_run.proofs.Lines.{falls_any, falls_behind, falls_first, ends_of, ends_of_all}
 use Rattle.node_run.proofs.Replies.{once_in, halted_in, bye_in, once_of, halted_of, quit_of, text_of, go_once, go_halted, go_bye, last_once, last_halted, last_bye, halts_not, count_unended}

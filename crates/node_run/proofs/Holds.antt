@@ -4,12 +4,12 @@ use Rattle.std.specs.Prelude.{Option, Some, None, IfSome, IsTrue}
 use Rattle.disk_model.specs.Disk.{DiskView, meanwhile}
 use Rattle.device_model.specs.Book.{Setup}
 use Rattle.io_traits.specs.Source.{IsAtEnd}
-use Rattle.line_proto.specs.Commands.{Node}
+use Rattle.node_model.specs.Commands.{Node}
 use Rattle.node_session.specs.declared.ended.Ended.{Ended}
-use Rattle.core_run.specs.Session.{ImagesLeft, last_node}
-use Rattle.core_run.specs.Headline.{StartsFrom, IsAnswered, EndsWithCause, Outside, HoldsReplies, HoldsThroughout, input_limit}
-use Rattle.core_run.specs.Meaning.{left_between, Rests, GoesOn, Enters}
-use Rattle.core_run.proofs.Commits.{commits_all}
+use Rattle.node_model.specs.Run.{ImagesLeft, last_node}
+use Rattle.node_model.specs.Headline.{StartsFrom, IsAnswered, EndsWithCause, Outside, HoldsReplies, HoldsThroughout, input_limit}
+use Rattle.node_model.specs.Meaning.{left_between, Rests, GoesOn, Enters}
+use Rattle.node_model.proofs.Commits.{commits_all}
 use Rattle.node_run.specs.Whole.{RunsWhole, Frames, Concludes}
 use Rattle.node_run.proofs.Whole.{is_answered, is_caused, run_since, images_since, last_images}
 

@@ -8,9 +8,9 @@ use Rattle.device_model.specs.Steps.{Step, states_through}
 use Rattle.device_model.specs.Events.{Event}
 use Rattle.line_proto.specs.declared.command.Command.{Command}
 use Rattle.line_proto.specs.declared.reply.Reply.{Reply}
-use Rattle.line_proto.specs.Commands.{Slot, Node, NodeEvent, at_place, slot_after, node_after}
-use Rattle.core_run.specs.Session.{ImagesLeft, Served, RestartsEach, SameStates, Carries, AnswersLine, Serves, ServesAll, node_or, node_at_reply, node_after_line, node_after_lines, steps_on, states_from, states_while, states_of_lines, times_of}
-use Rattle.core_run.specs.Headline.{On}
+use Rattle.node_model.specs.Commands.{Slot, Node, NodeEvent, at_place, slot_after, node_after}
+use Rattle.node_model.specs.Run.{ImagesLeft, Served, RestartsEach, SameStates, Carries, AnswersLine, Serves, ServesAll, node_or, node_at_reply, node_after_line, node_after_lines, steps_on, states_from, states_while, states_of_lines, times_of}
+use Rattle.node_model.specs.Headline.{On}
 
 pub one_of_more : {S : Type 0} (P : S → List ℕ → Type 0) (front xs ys : List S) (image : List ℕ) → (OneOf P xs image → OneOf P ys image) → OneOf P (front ++ xs) image → OneOf P (front ++ ys) image
 one_of_more P [] xs ys image more h = more h

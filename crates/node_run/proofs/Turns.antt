@@ -16,11 +16,11 @@ use Rattle.line_proto.specs.declared.command.Command.TheVariants as command
 use Rattle.line_proto.specs.declared.reply.Reply.{Reply}
 use Rattle.line_proto.specs.declared.reply.Reply.TheVariants as reply
 use Rattle.line_proto.specs.declared.reply.LineFault.TheVariants as why
-use Rattle.line_proto.specs.Commands.{Node, NodeEvent, node_after, Does, IsLegalOn, TendsEach, Outcome, did, stopped, answer_reply, found_reply, meta_reply, one_sum, two_sums}
+use Rattle.node_model.specs.Commands.{Node, NodeEvent, node_after, Does, IsLegalOn, TendsEach, Outcome, did, stopped, answer_reply, found_reply, meta_reply, one_sum, two_sums}
 use Rattle.node_session.specs.Run.{Times, Turn, Turns, Answers, Quits, IsCommand, IsNoCommand}
-use Rattle.core_run.specs.Session.{ImagesLeft, Served, Serves, AnswersLine, Carries, goes_on, node_or, node_at_reply, node_after_line, node_after_lines, states_while, states_of_lines, times_of, replies_of}
-use Rattle.core_run.specs.Headline.{Gives}
-use Rattle.core_run.specs.Meaning.{left_between, SurvivesOne, LeavesEach, Lacks, ActsFrom, ActsBy, TendsFrom, TendsBy, Rests}
+use Rattle.node_model.specs.Run.{ImagesLeft, Served, Serves, AnswersLine, Carries, goes_on, node_or, node_at_reply, node_after_line, node_after_lines, states_while, states_of_lines, times_of, replies_of}
+use Rattle.node_model.specs.Headline.{Gives}
+use Rattle.node_model.specs.Meaning.{left_between, SurvivesOne, LeavesEach, Lacks, ActsFrom, ActsBy, TendsFrom, TendsBy, Rests}
 use Rattle.node_run.specs.Chain.{line_end_of, TicksAll, InHalt, Chain}
 use Rattle.node_run.proofs.States.{setups_of, on_same, lines_setups, reply_setups, states_front, states_back, times_append, after_append, serves_append, serves_more}
 use Rattle.node_run.proofs.Replies.{AllGo}

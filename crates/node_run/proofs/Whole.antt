@@ -4,16 +4,16 @@ use Rattle.std.specs.Prelude.{◌⊎◌, ◌||◌, Option, Some, None, MatchOpti
 use Rattle.disk_model.specs.Disk.{DiskView, meanwhile}
 use Rattle.disk_model.specs.Runs.{OneOf, one_of_front, one_of_back}
 use Rattle.recovery.specs.Surviving.{Survives}
-use Rattle.line_proto.specs.Commands.{Slot, Node, NodeEvent}
+use Rattle.node_model.specs.Commands.{Slot, Node, NodeEvent}
 use Rattle.line_proto.specs.declared.reply.Reply.{Reply}
 use Rattle.line_proto.specs.declared.reply.Reply.TheVariants as reply
 use Rattle.node_session.specs.declared.ended.Ended.{Ended}
 use Rattle.node_session.specs.declared.ended.Ended.TheVariants.{Finish, Quit, SourceFault, SinkFault, Memory, Halted, Long}
 use Rattle.node_session.specs.Run.{Times}
 use Rattle.node_session.specs.Session.{Ran}
-use Rattle.core_run.specs.Session.{ImagesLeft, Served, IsRun, ClosesEach, EndsOnce, goes_on, halts, is_halted, node_after_line, node_after_lines, last_node, states_from, states_while, states_of_lines, states_of_run}
-use Rattle.core_run.specs.Headline.{IsAnswered, LeavesLast, LeavesSome, ServedAll, AllQuiet, IsQuiet, has_quit, written_text, is_among, RoseOn, RoseInLast, counts_of, Outside, EndsWithCause, input_limit}
-use Rattle.core_run.specs.Meaning.{left_between, LeavesEach, Rests, ActsBy, TendsBy, GoesOn, Enters, ClosesFrom}
+use Rattle.node_model.specs.Run.{ImagesLeft, Served, IsRun, ClosesEach, EndsOnce, goes_on, halts, is_halted, node_after_line, node_after_lines, last_node, states_from, states_while, states_of_lines, states_of_run}
+use Rattle.node_model.specs.Headline.{IsAnswered, LeavesLast, LeavesSome, ServedAll, AllQuiet, IsQuiet, has_quit, written_text, is_among, RoseOn, RoseInLast, counts_of, Outside, EndsWithCause, input_limit}
+use Rattle.node_model.specs.Meaning.{left_between, LeavesEach, Rests, ActsBy, TendsBy, GoesOn, Enters, ClosesFrom}
 use Rattle.node_run.specs.Chain.{EndsWith, InHalt, Lifted}
 use Rattle.node_run.specs.Whole.{CloseAfter, UnlessHalted, RunsWhole, StatusIs, Concludes}
 use Rattle.node_run.proofs.Ends.{ran_lifts}

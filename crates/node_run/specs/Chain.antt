@@ -8,13 +8,13 @@ use Rattle.line_proto.specs.declared.reply.Reply.TheVariants as reply
 use Rattle.line_proto.specs.declared.line_end.LineEnd.{LineEnd}
 use Rattle.line_proto.specs.declared.line_end.LineEnd.TheVariants.{TooLong}
 use Rattle.line_proto.specs.Stream.{line_end}
-use Rattle.line_proto.specs.Commands.{Node}
+use Rattle.node_model.specs.Commands.{Node}
 use Rattle.node_session.specs.Run.{Times}
 use Rattle.node_session.specs.declared.ended.Ended.{Ended}
 use Rattle.node_session.specs.declared.ended.Ended.TheVariants.{Finish, Quit, SourceFault, SinkFault, Memory, Halted, Long}
-use Rattle.core_run.specs.Session.{Served, ServesAll, EndsOnce, node_after_line, node_after_lines, replies_of, times_of, states_of_lines, is_halted}
-use Rattle.core_run.specs.Headline.{IsFrontOf, TakesLines, Gives, has_quit, written_text}
-use Rattle.core_run.specs.Meaning.{left_between, LeavesEach}
+use Rattle.node_model.specs.Run.{Served, ServesAll, EndsOnce, node_after_line, node_after_lines, replies_of, times_of, states_of_lines, is_halted}
+use Rattle.node_model.specs.Headline.{IsFrontOf, TakesLines, Gives, has_quit, written_text}
+use Rattle.node_model.specs.Meaning.{left_between, LeavesEach}
 
 -- what a line is taken up as, and a rest without LF
 abbrev pub line_end_of : Option (List ℕ) → LineEnd

@@ -4,14 +4,14 @@ use Rattle.std.specs.Prelude.{◌≡◌, ◌⊎◌, ℕ, ◌≤◌, Bool, List, 
 use Rattle.fault_count.specs.Counts.{Rose}
 use Rattle.disk_model.specs.Disk.{DiskView}
 use Rattle.device_model.specs.Book.{Setup}
-use Rattle.line_proto.specs.Commands.{Node, NodeEvent, IsNumbered}
+use Rattle.node_model.specs.Commands.{Node, NodeEvent, IsNumbered}
 use Rattle.node_session.specs.declared.ended.Ended.{Ended}
 use Rattle.node_session.specs.declared.ended.Ended.TheVariants.{Finish, Quit, SourceFault, SinkFault, Memory, Halted, Long}
 use Rattle.node_session.specs.Run.{Times}
-use Rattle.core_run.specs.Session.{IsRun, last_node, states_of_run}
-use Rattle.core_run.specs.Notes.{IsNote}
-use Rattle.core_run.specs.Headline.{AllQuiet, IsQuiet, NoneFell, RoseOn, counts_of, Outside}
-use Rattle.core_run.specs.Meaning.{left_between, LeavesEach, ClosesBy}
+use Rattle.node_model.specs.Run.{IsRun, last_node, states_of_run}
+use Rattle.node_model.specs.Notes.{IsNote}
+use Rattle.node_model.specs.Headline.{AllQuiet, IsQuiet, NoneFell, RoseOn, counts_of, Outside}
+use Rattle.node_model.specs.Meaning.{left_between, LeavesEach, ClosesBy}
 use Rattle.node_run.specs.Chain.{Lifted}
 
 -- Behind a session each device is closed; behind a refused restart nothing is done.

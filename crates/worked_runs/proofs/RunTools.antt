@@ -15,8 +15,8 @@ use Rattle.block_format.specs.Layout.{Body}
 use Rattle.recovery.specs.Start.{start_state}
 use Rattle.line_proto.specs.declared.command.Command.{Command}
 use Rattle.line_proto.specs.declared.reply.Reply.{Reply}
-use Rattle.line_proto.specs.Commands.{Node, IsLegalOn, on_device, Does, TendsEach, total}
-use Rattle.core_run.specs.Session.{Served, node_at_reply}
+use Rattle.node_model.specs.Commands.{Node, IsLegalOn, on_device, Does, TendsEach, total}
+use Rattle.node_model.specs.Run.{Served, node_at_reply}
 
 abbrev pub device : (blocks lwm pending : ℕ) → (commit : Bool) → (age : ℕ) → Setup
 device blocks lwm pending commit age =

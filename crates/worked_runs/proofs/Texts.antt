@@ -5,7 +5,7 @@ use Rattle.std.specs.Fmt.{digits}
 use Rattle.hex.proofs.OnLiterals.{hex_on_literals}
 use Rattle.recovery.specs.Audit.{all_sound, stray}
 use Rattle.block_format.specs.Refusals.{not_formatted, other_shape, damaged_block, first_bytes}
-use Rattle.core_run.specs.Notes.{fault_note, short_note, refusal_note, formatted_text, check_text, audit_text}
+use Rattle.node_model.specs.Notes.{fault_note, short_note, refusal_note, formatted_text, check_text, audit_text}
 use Rattle.worked_runs.proofs.RunTools.{d2}
 
 faulty : fault_note 0 ≡ codes "device 0 fault"

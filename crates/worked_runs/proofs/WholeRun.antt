@@ -8,7 +8,7 @@ use Rattle.device_model.specs.Events.{put_call, get_call, flush_call, flush_seal
 use Rattle.recovery.specs.Start.{start_state}
 use Rattle.line_proto.specs.declared.command.Command.TheVariants as command
 use Rattle.line_proto.specs.declared.reply.Reply.TheVariants as reply
-use Rattle.line_proto.specs.Commands.{Node, did}
+use Rattle.node_model.specs.Commands.{Node, did}
 use Rattle.std.specs.Prelude.{codes, Bool, ◌==◌, ◌||◌}
 use Rattle.std.specs.List.{list_any}
 use Rattle.std.proofs.lemmas.Bool.{false≢true, or_left, eq-eqb}
@@ -16,10 +16,10 @@ use Rattle.line_proto.specs.Stream.{IsOneLine}
 use Rattle.std.specs.Fmt.{digits}
 use Rattle.hex.proofs.OnLiterals.{hex_on_literals}
 use Rattle.line_proto.specs.Lines.{IsCommandLine, IsDigestText}
-use Rattle.line_proto.specs.Commands.{NodeEvent, on_device}
-use Rattle.core_run.specs.Session.{Served, Serves, IsRun, ImagesLeft, node_after_line}
-use Rattle.core_run.specs.Notes.{IsNote}
-use Rattle.core_run.specs.Headline.{written_text, IsAnswered, Faults, EndsWithCause, CommitsAt, StartsFrom, Outside, HoldsReplies, HoldsThroughout, RoseOn, is_among, run_statuses}
+use Rattle.node_model.specs.Commands.{NodeEvent, on_device}
+use Rattle.node_model.specs.Run.{Served, Serves, IsRun, ImagesLeft, node_after_line}
+use Rattle.node_model.specs.Notes.{IsNote}
+use Rattle.node_model.specs.Headline.{written_text, IsAnswered, Faults, EndsWithCause, CommitsAt, StartsFrom, Outside, HoldsReplies, HoldsThroughout, RoseOn, is_among, run_statuses}
 use Rattle.std.specs.Prelude.{IsTrue}
 use Rattle.std.proofs.Common.{lit<, zero, suc, subst, sym, ◌∙◌, arith}
 use Rattle.recovery.specs.Sound.{IsSound}

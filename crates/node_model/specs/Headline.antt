@@ -1,4 +1,4 @@
--- Crate core_run. What a run promises: what is written is the replies of a chain, each image that a crash might have left
+-- Crate node_model. What a run promises: what is written is the replies of a chain, each image that a crash might have left
 -- is one that the chain allows, with commit on what was answered as done is on the device, and each status has its cause.
 use Rattle.std.specs.Prelude.{length, ℕ, ◌^◌, ◌<◌, ◌≤◌, Bool, true, false, ◌||◌, ◌==◌, List, [], ◌∷◌, ◌++◌, map, flat_map, Option, Some, None, ◌≡◌, ◌≢◌, ◌⊎◌, MatchOption, IfSome, slice_get, IsTrue}
 use Rattle.std.specs.List.{AllByRecursion, list_any}
@@ -15,9 +15,9 @@ use Rattle.line_proto.specs.declared.reply.Reply.{Reply}
 use Rattle.line_proto.specs.declared.reply.Reply.TheVariants as reply
 use Rattle.line_proto.specs.Lines.{reply_text}
 use Rattle.line_proto.specs.Stream.{FallInto}
-use Rattle.line_proto.specs.Commands.{IsNumbered, Slot, Node, NodeEvent}
-use Rattle.core_run.specs.Notes.{IsNote}
-use Rattle.core_run.specs.Session.{ImagesLeft, Served, IsRun, node_after_line, last_node, times_of, is_halted, states_of_run, WritesFlushedOn}
+use Rattle.node_model.specs.Commands.{IsNumbered, Slot, Node, NodeEvent}
+use Rattle.node_model.specs.Notes.{IsNote}
+use Rattle.node_model.specs.Run.{ImagesLeft, Served, IsRun, node_after_line, last_node, times_of, is_halted, states_of_run, WritesFlushedOn}
 
 -- ---- the start
 

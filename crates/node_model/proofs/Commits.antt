@@ -14,11 +14,11 @@ use Rattle.line_proto.specs.declared.command.Command.{Command}
 use Rattle.line_proto.specs.declared.command.Command.TheVariants as command
 use Rattle.line_proto.specs.declared.reply.Reply.{Reply}
 use Rattle.line_proto.specs.Built.{IsBuilt}
-use Rattle.line_proto.specs.Commands.{Slot, Node, NodeEvent, at_place, slot_after, node_after, IsLegalOn, on_device, answer_reply, Does}
-use Rattle.core_run.specs.Session.{ImagesLeft, Served, ServesAll, AnswersLine, node_or, node_at_reply, node_after_line, steps_on, WritesFlushed, flushed_if_wrote}
-use Rattle.core_run.specs.Headline.{On, is_failed, CommitsAt, CommitsAll}
-use Rattle.core_run.proofs.Flushing.{write_commits}
-use Rattle.core_run.proofs.Unwritten.{WritesNone, none_flushed, all_flushes, flushes_write_nothing}
+use Rattle.node_model.specs.Commands.{Slot, Node, NodeEvent, at_place, slot_after, node_after, IsLegalOn, on_device, answer_reply, Does}
+use Rattle.node_model.specs.Run.{ImagesLeft, Served, ServesAll, AnswersLine, node_or, node_at_reply, node_after_line, steps_on, WritesFlushed, flushed_if_wrote}
+use Rattle.node_model.specs.Headline.{On, is_failed, CommitsAt, CommitsAll}
+use Rattle.node_model.proofs.Flushing.{write_commits}
+use Rattle.node_model.proofs.Unwritten.{WritesNone, none_flushed, all_flushes, flushes_write_nothing}
 
 -- ---- one event
 

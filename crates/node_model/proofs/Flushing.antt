@@ -15,7 +15,7 @@ use Rattle.std.proofs.lemmas.List.Folds.{list_any-append}
 use Rattle.line_proto.proofs.Falling.{all_append}
 use Rattle.device_model.proofs.Laws.{history_hit}
 use Rattle.recovery.proofs.Placing.{room_of}
-use Rattle.core_run.specs.Session.{top_is_flushed, flushed_if_wrote}
+use Rattle.node_model.specs.Run.{top_is_flushed, flushed_if_wrote}
 
 -- ---- buffers of a number
 

@@ -7,12 +7,12 @@ use Rattle.device_model.specs.Device.{State}
 use Rattle.device_model.specs.Steps.{Step, wrote, gate_begun, flushed_buffer, after_steps}
 use Rattle.device_model.specs.Events.{Event, Call, flush_call}
 use Rattle.device_model.specs.Legal.{Follows, Allowed, FlushEnds, seal_if, seal_all, flush_all}
-use Rattle.line_proto.specs.Commands.{Slot, Node, NodeEvent, Outcome, at_place, slot_after, on_device, IsLegalOn, EachDevice, Flushes}
+use Rattle.node_model.specs.Commands.{Slot, Node, NodeEvent, Outcome, at_place, slot_after, on_device, IsLegalOn, EachDevice, Flushes}
 use Rattle.line_proto.proofs.Falling.{all_append}
 use Rattle.recovery.proofs.Opening.{all_parted}
 use Rattle.recovery.proofs.Each.{all_map}
-use Rattle.core_run.specs.Session.{steps_on, flushed_if_wrote}
-use Rattle.core_run.proofs.Flushing.{FlushStep, all_flush_steps}
+use Rattle.node_model.specs.Run.{steps_on, flushed_if_wrote}
+use Rattle.node_model.proofs.Flushing.{FlushStep, all_flush_steps}
 
 abbrev pub WritesNone : Step → Type 0
 WritesNone (wrote digest v) = ⊥

@@ -1,4 +1,4 @@
--- Crate core_run. A run over all devices: a chain of lines, each with its time, its reply, the events that it made and the
+-- Crate node_model. A run over all devices: a chain of lines, each with its time, its reply, the events that it made and the
 -- tending after it.
 use Rattle.std.specs.Prelude.{ℕ, ◌+◌, ◌≤◌, Bool, true, false, ◌||◌, ◌==◌, List, [], ◌∷◌, ◌++◌, map, Option, Some, None, ◌≡◌, ◌⊎◌, if◌then◌else◌, MatchBool, slice_get}
 use Rattle.std.specs.List.{AllByRecursion}
@@ -16,7 +16,7 @@ use Rattle.line_proto.specs.declared.reply.Reply.{Reply}
 use Rattle.line_proto.specs.declared.reply.Reply.TheVariants as reply
 use Rattle.line_proto.specs.declared.reply.LineFault.TheVariants as why
 use Rattle.line_proto.specs.Built.{IsLine, IsNoCommand}
-use Rattle.line_proto.specs.Commands.{Slot, Node, NodeEvent, node_after, IsLegalOn, on_device, total, Does, TendsEach}
+use Rattle.node_model.specs.Commands.{Slot, Node, NodeEvent, node_after, IsLegalOn, on_device, total, Does, TendsEach}
 
 -- the images that a device's disk might have left since the run's start, by the device's number
 abbrev pub ImagesLeft : Type 1

@@ -5,9 +5,9 @@ use Rattle.device_model.specs.Book.{Setup}
 use Rattle.std.specs.Prelude.{◌⊎◌, Option, Some, None, MatchOption, slice_get}
 use Rattle.device_model.specs.Events.{Event}
 use Rattle.device_model.specs.Legal.{Follows}
-use Rattle.line_proto.specs.Commands.{Node, NodeEvent, at_place, slot_after, node_after, IsLegalOn}
-use Rattle.core_run.specs.Session.{ImagesLeft, Served, RestartsEach, SameStates, Serves, ServesAll, IsRun, node_or, node_at_reply, node_after_line, node_after_lines, last_node, AnswersLine}
-use Rattle.core_run.specs.Headline.{NoneFell, counts_of, Outside, HoldsReplies}
+use Rattle.node_model.specs.Commands.{Node, NodeEvent, at_place, slot_after, node_after, IsLegalOn}
+use Rattle.node_model.specs.Run.{ImagesLeft, Served, RestartsEach, SameStates, Serves, ServesAll, IsRun, node_or, node_at_reply, node_after_line, node_after_lines, last_node, AnswersLine}
+use Rattle.node_model.specs.Headline.{NoneFell, counts_of, Outside, HoldsReplies}
 
 pub none_fell_refl : (xs : List ℕ) → NoneFell xs xs
 none_fell_refl [] = refl

@@ -1,4 +1,4 @@
--- Crate core_run. What a store's calls mean on the states of a node that it stands for: by this a session over a store is a run.
+-- Crate node_model. What a store's calls mean on the states of a node that it stands for: by this a session over a store is a run.
 use Rattle.std.specs.Prelude.{◌≡◌, ◌⊎◌, ℕ, Bool, List, [], Option, None}
 use Rattle.disk_model.specs.Disk.{Images, DiskView, Advances, meanwhile}
 use Rattle.disk_model.specs.Runs.{OneOf, Leaves}
@@ -8,9 +8,9 @@ use Rattle.line_proto.specs.declared.command.Command.{Command}
 use Rattle.line_proto.specs.declared.reply.Reply.{Reply}
 use Rattle.line_proto.specs.declared.reply.Reply.TheVariants as reply
 use Rattle.line_proto.specs.declared.reply.LineFault.TheVariants as why
-use Rattle.line_proto.specs.Commands.{Node, NodeEvent, node_after, IsLegalOn, TendsEach}
-use Rattle.core_run.specs.Session.{ImagesLeft, Carries, ClosesEach, node_or, states_while}
-use Rattle.core_run.specs.Headline.{On}
+use Rattle.node_model.specs.Commands.{Node, NodeEvent, node_after, IsLegalOn, TendsEach}
+use Rattle.node_model.specs.Run.{ImagesLeft, Carries, ClosesEach, node_or, states_while}
+use Rattle.node_model.specs.Headline.{On}
 
 -- the images that each device's disk might have left from one point of the store to a later one
 abbrev pub left_between : {T : Type 0} → (views : T → ℕ → DiskView) → (old new : T) → ImagesLeft

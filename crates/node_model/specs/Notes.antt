@@ -1,4 +1,4 @@
--- Crate core_run. The texts of a command besides replies: the note on how it ended, and what is written of each device.
+-- Crate node_model. The texts of a command besides replies: the note on how it ended, and what is written of each device.
 -- What is written stands as a line, with an LF behind it; a note has none.
 use Rattle.std.specs.Prelude.{ℕ, List, [], ◌∷◌, ◌++◌, length, codes, decimal, ◌≡◌, MatchBool, MatchOption, slice_get}
 use Rattle.hex.specs.Hex.{encode_lower}

@@ -1,0 +1,4 @@
+pub mod Counts
+pub mod Flushing
+pub mod Unwritten
+pub mod Commits

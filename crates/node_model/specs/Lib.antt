@@ -1,0 +1,5 @@
+pub mod Commands
+pub mod Run
+pub mod Notes
+pub mod Headline
+pub mod Meaning
