@@ -4,7 +4,7 @@ ghost use Rattle.disk_model.specs.Disk.{Within, TornFrom, TellsSame, TellsTorn, 
 ghost use Rattle.block_format.specs.Layout.{IsGeometry, device_end, block_place, body_bytes, gate_sector, closed_sector, open_sector};
 ghost use Rattle.block_flusher.specs.Images.{IsShut, IsOpened, GateIs, HasOneBody, IsBodyOf, OpensOverOneBody, OpensOverBodies, ChangesNoOther};
 
-use crate::place::{place_of, write_part};
+use crate::place::{start_of_block, write_part};
 use block_format::{GATE_BYTES, Geometry, SECTOR_BYTES, is_open, write_closed, write_open};
 use disk_model::{Disk, DiskFault};
 
@@ -69,7 +69,7 @@ pub fn is_gate_open<D: Disk>(
     ensures images { IsHonest (D.view disk.old) → Within (D.view disk.old).may_leave (meanwhile (D.view disk.old) (D.view disk.new)) }
     ensures call { IsCall (D.view disk.old) (D.view disk.new) result }
 {
-    let place = place_of(geometry, block);
+    let place = start_of_block(geometry, block);
     disk.sync()?;
     let mut gate = [0; GATE_BYTES];
     disk.read_at(place, &mut gate)?;

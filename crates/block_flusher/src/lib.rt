@@ -8,7 +8,7 @@ mod place;
 
 pub use body::write_body;
 pub use gates::{close_gate, is_gate_open, open_gate};
-pub use place::place_of;
+pub use place::start_of_block;
 
 #[cfg(test)]
 mod tests;

@@ -8,7 +8,7 @@ use block_format::{Geometry, SECTOR_BYTES};
 use disk_model::{Disk, DiskFault, write_synced};
 
 /// Where a block begins on its device.
-pub fn place_of(geometry: &Geometry, block: u32) -> u64
+pub fn start_of_block(geometry: &Geometry, block: u32) -> u64
     requires geometry { IsGeometry geometry.now }
     requires block { block < geometry.now.blocks }
     ensures place { result ≡ block_place geometry.now block }
@@ -36,6 +36,6 @@ pub fn write_part<D: Disk>(
     ensures others { IsHonest (D.view disk.old) → ChangesNoOther geometry.now block (D.view disk.old).may_leave (meanwhile (D.view disk.old) (D.view disk.new)) }
     ensures call { IsCall (D.view disk.old) (D.view disk.new) result }
 {
-    let place = place_of(geometry, block) + u64::from(offset);
+    let place = start_of_block(geometry, block) + u64::from(offset);
     write_synced(disk, place, bytes)
 }

@@ -50,7 +50,7 @@ fn read_head(bytes: &[u8], capacity: u32, block: u32) -> Option<BodyHead>
 }
 
 /// The place behind so many units.
-fn place_of(used: u32) -> u32
+fn record_place(used: u32) -> u32
     requires { used ≤ MAX_UNITS }
     ensures { result ≡ 32 + 16 * used }
 {
@@ -65,7 +65,7 @@ fn next_record(body: &[u8], used: u32, units: u32) -> Option<Found>
     ensures next { IfSome result (IsNext body.now used units) }
     ensures none { IfNone result (HasNoNext body.now used units) }
 {
-    let rest = &body[place_of(used) as usize..];
+    let rest = &body[record_place(used) as usize..];
     match check_record(rest) {
         Ok((head, taken)) if taken <= units - used => Some(Found {
             head,
@@ -89,7 +89,7 @@ fn read_records(alloc: Global, body: &[u8], head: &BodyHead) -> Result<Vec<Found
     for _record in 0..head.records {
         let Some(next) = next_record(body, used, head.units) else {
             return Err(BodyRefusal::Bad {
-                place: place_of(used),
+                place: record_place(used),
             });
         };
         let Ok(()) = found.push(next) else {
@@ -99,7 +99,7 @@ fn read_records(alloc: Global, body: &[u8], head: &BodyHead) -> Result<Vec<Found
     }
     if used != head.units {
         return Err(BodyRefusal::Bad {
-            place: place_of(used),
+            place: record_place(used),
         });
     }
     Ok(found)

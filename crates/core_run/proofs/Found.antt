@@ -18,7 +18,7 @@ use Rattle.block_format.specs.Layout.{IsRecordAt, body_bytes}
 use Rattle.block_format.specs.Copies.{Copy, copies_of, copies_named, cold_copy, cold, version_of}
 use Rattle.recovery.specs.Start.{entries_state}
 use Rattle.recovery.specs.Standing.{CopyStands}
-use Rattle.recovery.proofs.Held.{IsLatest, latest_is}
+use Rattle.recovery.proofs.Held.{IsNewest, latest_is}
 use Rattle.recovery.proofs.Members.{filter_from}
 use Rattle.recovery.proofs.Places.{copy_stands}
 use Rattle.block_shelf.specs.Calls.{Names}
@@ -59,7 +59,7 @@ module _ {D : Type 0} (view : D → DiskView)
       none_mapped shard.shelf.buffers (sym started.stands.agrees.shelf.buffers ∙ no_buffers (setup_of shard) started.stands.opened started.stands.found started.stands.next)
 
   -- the latest copy of a digest is the version of its entry
-  of_copy : (digest : Digest) (c : Copy) → held digest shard.index ≡ Some (entry_for c) → IsLatest (copies_named digest Own) c → entry Found digest ≡ Some c.version
+  of_copy : (digest : Digest) (c : Copy) → held digest shard.index ≡ Some (entry_for c) → IsNewest (copies_named digest Own) c → entry Found digest ≡ Some c.version
   of_copy digest c held_is is =
       let bytes : List ℕ = (view disk).seen in
       let named = filter_from (λ x. same_digest digest x.digest) Own c is.there in
@@ -80,6 +80,6 @@ module _ {D : Type 0} (view : D → DiskView)
   pub found_entries : (digest : Digest) → entry Found digest ≡ cold digest Own
   found_entries digest = of (cold_copy digest Own) ((started.begins told).entries digest) (latest_is (copies_named digest Own))
     where
-      of : (o : Option Copy) → held digest shard.index ≡ option_map entry_for o → IfSome o (IsLatest (copies_named digest Own)) → entry Found digest ≡ version_of o
+      of : (o : Option Copy) → held digest shard.index ≡ option_map entry_for o → IfSome o (IsNewest (copies_named digest Own)) → entry Found digest ≡ version_of o
       of None held_is is = subst (λ (o : Option Entry). MatchOption o (entry Found digest ≡ None) (λ e. (v : Version) × (entry Found digest ≡ Some v) × Names e v)) held_is (started.stands.agrees.index.entries digest)
       of (Some c) held_is is = of_copy digest c held_is is

@@ -7,7 +7,7 @@ use Rattle.std.specs.List.{AllByRecursion, flat_map}
 use Rattle.line_proto.specs.declared.line_end.LineEnd.{LineEnd}
 use Rattle.line_proto.specs.declared.line_end.LineEnd.TheVariants.{Whole, TooLong}
 use Rattle.line_proto.specs.Lines.{line_limit}
-use Rattle.line_proto.specs.Stream.{IsOneLine, ended, line_end, FallInto, Kept, StandsFor, nothing_kept, with_bytes, open_end, BeginsWith}
+use Rattle.line_proto.specs.Stream.{IsOneLine, ended, line_end, FallInto, Kept, KeepsBytes, nothing_kept, with_bytes, open_end, BeginsWithLine}
 
 pub all_append : {X : Type 0} (P : X → Type 0) (xs ys : List X) → AllByRecursion P xs → AllByRecursion P ys → AllByRecursion P (xs ++ ys)
 all_append P [] ys one two = two
@@ -56,7 +56,7 @@ same_end kept line counted is_partial =
     within false is = refl
 
 -- what is kept stands for more bytes of the open line
-pub stands_on : (kept : Kept) (bytes more : List ℕ) → StandsFor kept bytes → IsOneLine more → StandsFor (with_bytes kept more) (bytes ++ more)
+pub stands_on : (kept : Kept) (bytes more : List ℕ) → KeepsBytes kept bytes → IsOneLine more → KeepsBytes (with_bytes kept more) (bytes ++ more)
 stands_on kept bytes more stands one_line =
     let longer : length (stands.rest ++ more) ≡ length stands.rest + length more = length-append stands.rest more in
     record {
@@ -75,10 +75,10 @@ abbrev with_end : Kept → Kept
 with_end kept = record { ready = kept.ready ++ open_end kept ∷ []; partial = []; size = 0 }
 
 record StandsFresh (kept : Kept) (bytes : List ℕ) : Type 0 where
-  stands : StandsFor kept bytes
+  stands : KeepsBytes kept bytes
   fresh : stands.rest ≡ []
 
-stands_over : (kept : Kept) (bytes : List ℕ) → StandsFor kept bytes → StandsFresh (with_end kept) (bytes ++ 10 ∷ [])
+stands_over : (kept : Kept) (bytes : List ℕ) → KeepsBytes kept bytes → StandsFresh (with_end kept) (bytes ++ 10 ∷ [])
 stands_over kept bytes stands = record {
   stands = record {
     lines = stands.lines ++ stands.rest ∷ [];
@@ -94,7 +94,7 @@ stands_over kept bytes stands = record {
 }
 
 -- the open line, the line feed, and what bytes alone come to
-joined : (kept more : Kept) (bytes piece : List ℕ) → StandsFresh kept bytes → StandsFor more piece → StandsFor (record { ready = kept.ready ++ more.ready; partial = more.partial; size = more.size }) (bytes ++ piece)
+joined : (kept more : Kept) (bytes piece : List ℕ) → StandsFresh kept bytes → KeepsBytes more piece → KeepsBytes (record { ready = kept.ready ++ more.ready; partial = more.partial; size = more.size }) (bytes ++ piece)
 joined kept more bytes piece was next = record {
   lines = was.stands.lines ++ next.lines;
   rest = next.rest;
@@ -105,24 +105,24 @@ joined kept more bytes piece was next = record {
 }
 
 -- a piece up to its first LF, and what the bytes behind it come to
-fed : (kept more : Kept) (bytes first others : List ℕ) → StandsFor kept bytes → IsOneLine first → StandsFor more others
-    → StandsFor (record { ready = (kept.ready ++ open_end (with_bytes kept first) ∷ []) ++ more.ready; partial = more.partial; size = more.size }) (bytes ++ (first ++ 10 ∷ others))
+fed : (kept more : Kept) (bytes first others : List ℕ) → KeepsBytes kept bytes → IsOneLine first → KeepsBytes more others
+    → KeepsBytes (record { ready = (kept.ready ++ open_end (with_bytes kept first) ∷ []) ++ more.ready; partial = more.partial; size = more.size }) (bytes ++ (first ++ 10 ∷ others))
 fed kept more bytes first others stands one_line next =
     let longer = stands_on kept bytes first stands one_line in
     let closed = stands_over (with_bytes kept first) (bytes ++ first) longer in
     let all = joined (with_end (with_bytes kept first)) more ((bytes ++ first) ++ 10 ∷ []) others closed next in
-    subst (λ (l : List ℕ). StandsFor (record { ready = (kept.ready ++ open_end (with_bytes kept first) ∷ []) ++ more.ready; partial = more.partial; size = more.size }) l)
+    subst (λ (l : List ℕ). KeepsBytes (record { ready = (kept.ready ++ open_end (with_bytes kept first) ∷ []) ++ more.ready; partial = more.partial; size = more.size }) l)
     (append_assoc (bytes ++ first) (10 ∷ []) others ∙ append_assoc bytes first (10 ∷ others)) all
 
 -- one more line of bytes that are taken line by line
 pub next_stands : (ready ready' : List LineEnd) (end : LineEnd) (tail longer fresh : Kept) (gone line : List ℕ)
     → ready' ≡ ready ++ end ∷ [] → end ≡ open_end longer → longer ≡ with_bytes tail line → fresh ≡ nothing_kept
-    → StandsFor (record { ready = ready; partial = tail.partial; size = tail.size }) gone → IsOneLine line
-    → StandsFor (record { ready = ready'; partial = fresh.partial; size = fresh.size }) (gone ++ (line ++ 10 ∷ []))
+    → KeepsBytes (record { ready = ready; partial = tail.partial; size = tail.size }) gone → IsOneLine line
+    → KeepsBytes (record { ready = ready'; partial = fresh.partial; size = fresh.size }) (gone ++ (line ++ 10 ∷ []))
 next_stands ready ready' end tail longer fresh gone line is_ready is_end is_longer is_fresh stands one_line =
     let kept : Kept = record { ready = ready; partial = tail.partial; size = tail.size } in
     let over = (stands_over (with_bytes kept line) (gone ++ line) (stands_on kept gone line stands one_line)).stands in
-    rw (is_ready, is_end, is_longer, is_fresh) (subst (λ (l : List ℕ). StandsFor (with_end (with_bytes kept line)) l) (append_assoc gone line (10 ∷ [])) over)
+    rw (is_ready, is_end, is_longer, is_fresh) (subst (λ (l : List ℕ). KeepsBytes (with_end (with_bytes kept line)) l) (append_assoc gone line (10 ∷ [])) over)
 
 -- where a line and its LF were taken, the rest is behind them
 pub next_parts : (bytes gone rest line after : List ℕ) → bytes ≡ gone ++ rest → rest ≡ line ++ 10 ∷ after → bytes ≡ (gone ++ (line ++ 10 ∷ [])) ++ after
@@ -131,8 +131,8 @@ next_parts bytes gone rest line after one two = one ∙ ap (λ (l : List ℕ). g
 -- a piece is fed: its first line ends the open line, the lines behind it are ready, and its end is open
 pub fed_piece : (ready ready' : List LineEnd) (end : LineEnd) (tail longer : Kept) (more : Kept) (bytes first others piece : List ℕ)
     → ready' ≡ (ready ++ end ∷ []) ++ more.ready → end ≡ open_end longer → longer ≡ with_bytes tail first → piece ≡ first ++ 10 ∷ others
-    → StandsFor (record { ready = ready; partial = tail.partial; size = tail.size }) bytes → IsOneLine first → StandsFor more others
-    → StandsFor (record { ready = ready'; partial = more.partial; size = more.size }) (bytes ++ piece)
+    → KeepsBytes (record { ready = ready; partial = tail.partial; size = tail.size }) bytes → IsOneLine first → KeepsBytes more others
+    → KeepsBytes (record { ready = ready'; partial = more.partial; size = more.size }) (bytes ++ piece)
 fed_piece ready ready' end tail longer more bytes first others piece is_ready is_end is_longer is_piece stands one_line next =
     rw (is_ready, is_end, is_longer, is_piece) (fed (record { ready = ready; partial = tail.partial; size = tail.size }) more bytes first others stands one_line next)
 
@@ -141,10 +141,10 @@ none_ready bytes [] rest falls none = subst IsOneLine (sym falls.whole) falls.op
 none_ready bytes (line ∷ lines) rest falls none = cc
 
 -- with no line ready no LF is left
-pub no_line : (kept : Kept) (bytes : List ℕ) → StandsFor kept bytes → kept.ready ≡ [] → IsOneLine bytes
+pub no_line : (kept : Kept) (bytes : List ℕ) → KeepsBytes kept bytes → kept.ready ≡ [] → IsOneLine bytes
 no_line kept bytes stands none = none_ready bytes stands.lines stands.rest stands.falls (sym none ∙ stands.are_ready)
 
-begins : (bytes : List ℕ) (lines : List (List ℕ)) (rest : List ℕ) (end : LineEnd) (more : List LineEnd) (partial : List ℕ) (size : ℕ) → FallInto bytes lines rest → end ∷ more ≡ map line_end lines → size ≡ min (length rest) (2 ^ 64 - 1) → (length rest ≤ line_limit → partial ≡ rest) → BeginsWith bytes end (record { ready = more; partial = partial; size = size })
+begins : (bytes : List ℕ) (lines : List (List ℕ)) (rest : List ℕ) (end : LineEnd) (more : List LineEnd) (partial : List ℕ) (size : ℕ) → FallInto bytes lines rest → end ∷ more ≡ map line_end lines → size ≡ min (length rest) (2 ^ 64 - 1) → (length rest ≤ line_limit → partial ≡ rest) → BeginsWithLine bytes end (record { ready = more; partial = partial; size = size })
 begins bytes [] rest end more partial size falls ready counted is_partial = cc
 begins bytes (line ∷ lines) rest end more partial size falls ready counted is_partial = record {
   line = line;
@@ -156,5 +156,5 @@ begins bytes (line ∷ lines) rest end more partial size falls ready counted is_
 }
 
 -- the first line that is ready is the first of the bytes
-pub first_line : (kept : Kept) (bytes : List ℕ) (end : LineEnd) (more : List LineEnd) → StandsFor kept bytes → kept.ready ≡ end ∷ more → BeginsWith bytes end (record { ready = more; partial = kept.partial; size = kept.size })
+pub first_line : (kept : Kept) (bytes : List ℕ) (end : LineEnd) (more : List LineEnd) → KeepsBytes kept bytes → kept.ready ≡ end ∷ more → BeginsWithLine bytes end (record { ready = more; partial = kept.partial; size = kept.size })
 first_line kept bytes end more stands ready = begins bytes stands.lines stands.rest end more kept.partial kept.size stands.falls (sym ready ∙ stands.are_ready) stands.counted stands.is_partial

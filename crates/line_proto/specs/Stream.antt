@@ -30,7 +30,7 @@ pub record Kept : Type 0 where
   pub size : ℕ
 
 -- what is kept stands for these bytes, which aren't handed on yet
-pub record StandsFor (kept : Kept) (bytes : List ℕ) : Type 0 where
+pub record KeepsBytes (kept : Kept) (bytes : List ℕ) : Type 0 where
   pub lines : List (List ℕ)
   pub rest : List ℕ
   pub falls : FallInto bytes lines rest
@@ -53,10 +53,10 @@ abbrev pub open_end : Kept → LineEnd
 open_end kept = if nat_le kept.size line_limit then Whole kept.partial else TooLong
 
 -- the first of the lines that these bytes begin with, and the bytes after it
-pub record BeginsWith (bytes : List ℕ) (end : LineEnd) (kept : Kept) : Type 0 where
+pub record BeginsWithLine (bytes : List ℕ) (end : LineEnd) (kept : Kept) : Type 0 where
   pub line : List ℕ
   pub after : List ℕ
   pub first : bytes ≡ ended line ++ after
   pub one_line : IsOneLine line
   pub is_end : end ≡ line_end line
-  pub stands : StandsFor kept after
+  pub stands : KeepsBytes kept after

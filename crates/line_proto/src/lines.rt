@@ -2,7 +2,7 @@
 ghost use Rattle.std.specs.VecDeque.{deque_len, deque_capacity};
 ghost use Rattle.std.specs.Prelude.{◌≡◌, ◌≤◌, ◌+◌, IfOk, OnErr, [], ◌++◌, List, ℕ, IfNone, MatchOption, OnOk};
 ghost use Rattle.std.specs.Option.{option_to_list};
-ghost use Rattle.line_proto.specs.Stream.{StandsFor, BeginsWith, IsOneLine, nothing_kept};
+ghost use Rattle.line_proto.specs.Stream.{KeepsBytes, BeginsWithLine, IsOneLine, nothing_kept};
 
 use crate::NoMemory;
 use crate::line_end::LineEnd;
@@ -32,7 +32,7 @@ impl Model for Lines {
 impl Lines {
     pub fn new(alloc: Global) -> Self
         ensures empty { result ≡ nothing_kept }
-        ensures stands { StandsFor result [] }
+        ensures stands { KeepsBytes result [] }
     {
         Lines {
             alloc,
@@ -43,7 +43,7 @@ impl Lines {
 
     /// Takes the next piece of the stream, in a time linear in its bytes. An `Err` changes nothing.
     pub fn feed(&mut self, piece: &[u8]) -> Result<(), NoMemory>
-        ensures ok { OnOk result ((bytes : List ℕ) → StandsFor self.old bytes → StandsFor self.new (bytes ++ piece.now)) }
+        ensures ok { OnOk result ((bytes : List ℕ) → KeepsBytes self.old bytes → KeepsBytes self.new (bytes ++ piece.now)) }
         ensures err { OnErr result (self.new ≡ self.old) }
     {
         let Some((first, others)) = cut(piece, b'\n') else {
@@ -64,8 +64,8 @@ impl Lines {
         ensures ready { self.old.ready ≡ option_to_list result ++ self.new.ready }
         ensures none { IfNone result (self.new.ready ≡ []) }
         ensures others { self.new ≡ record self.old { ready = self.new.ready } }
-        ensures line { (bytes : List ℕ) → StandsFor self.old bytes →
-            MatchOption result (IsOneLine bytes × StandsFor self.new bytes) (λ end. BeginsWith bytes end self.new) }
+        ensures line { (bytes : List ℕ) → KeepsBytes self.old bytes →
+            MatchOption result (IsOneLine bytes × KeepsBytes self.new bytes) (λ end. BeginsWithLine bytes end self.new) }
     {
         self.ready.pop_front()
     }
@@ -80,7 +80,7 @@ impl Lines {
 
 // What the bytes alone fall into.
 fn lines_of(alloc: Global, bytes: &[u8]) -> Result<Lines, NoMemory>
-    ensures { IfOk result (λ lines. StandsFor lines bytes.now) }
+    ensures { IfOk result (λ lines. KeepsBytes lines bytes.now) }
 {
     let mut ready = VecDeque::new(alloc);
     let mut tail = OpenLine::new(alloc);

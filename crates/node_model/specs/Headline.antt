@@ -69,8 +69,8 @@ abbrev pub AllQuiet : Node → Type 0
 AllQuiet node = AllByRecursion (λ slot. IsQuiet (Some slot)) node
 
 -- every line that was taken was served, or a `quit` among them
-abbrev pub ServedAll : List Served → List (Option (List ℕ)) → Type 0
-ServedAll served unserved = (unserved ≡ []) ⊎ IsTrue (has_quit served)
+abbrev pub NoneUnserved : List Served → List (Option (List ℕ)) → Type 0
+NoneUnserved served unserved = (unserved ≡ []) ⊎ IsTrue (has_quit served)
 
 -- What was written is the front of the replies. How much of them it is, by the status.
 -- `ended` says that the end of the input was met, and `noted` is the device that the note names.
@@ -79,14 +79,14 @@ pub record IsAnswered (status noted : ℕ) (taken written : List ℕ) (ended : B
   pub takes : TakesLines taken ended lines unserved
   pub front : IsFrontOf written (written_text lines)
   -- success: all replies, the input to its end or to `quit`, and nothing pending
-  pub success : status ≡ 0 → (written ≡ written_text lines) × ServedAll lines unserved × IsTrue (ended || has_quit lines) × AllQuiet (last_node first lines closing)
+  pub success : status ≡ 0 → (written ≡ written_text lines) × NoneUnserved lines unserved × IsTrue (ended || has_quit lines) × AllQuiet (last_node first lines closing)
   -- the source's fault, and input that is too long: the replies of all whole lines
-  pub source : (status ≡ 4) ⊎ (status ≡ 10) → (written ≡ written_text lines) × ServedAll lines unserved
+  pub source : (status ≡ 4) ⊎ (status ≡ 10) → (written ≡ written_text lines) × NoneUnserved lines unserved
   -- a refused device: at the start, or at a restart, with the replies of all lines before it
   pub refused : status ≡ 7 → (taken ≡ []) ⊎ (IsTrue (is_halted lines) × (written ≡ written_text lines))
   -- a disk's fault: in these two, or in the closing flush, with a buffer left
   pub disk : status ≡ 3 → (taken ≡ []) ⊎ (IsTrue (is_halted lines) × (written ≡ written_text lines))
-      ⊎ ((written ≡ written_text lines) × ServedAll lines unserved × IsTrue (ended || has_quit lines)
+      ⊎ ((written ≡ written_text lines) × NoneUnserved lines unserved × IsTrue (ended || has_quit lines)
       × (IsQuiet (slice_get (last_node first lines closing) noted) → ⊥))
 
 -- ---- causes

@@ -1,5 +1,5 @@
 -- Crate node_model. What a store's calls mean on the states of a node that it stands for: by this a session over a store is a run.
-use Rattle.std.specs.Prelude.{◌≡◌, ◌⊎◌, ℕ, Bool, List, [], Option, None}
+use Rattle.std.specs.Prelude.{◌≡◌, ◌⊎◌, ℕ, Bool, List, [], Option}
 use Rattle.disk_model.specs.Disk.{Images, DiskView, Advances, meanwhile}
 use Rattle.disk_model.specs.Runs.{OneOf, Leaves}
 use Rattle.device_model.specs.Device.{State}
@@ -7,9 +7,8 @@ use Rattle.recovery.specs.Surviving.{Survives}
 use Rattle.line_proto.specs.declared.command.Command.{Command}
 use Rattle.line_proto.specs.declared.reply.Reply.{Reply}
 use Rattle.line_proto.specs.declared.reply.Reply.TheVariants as reply
-use Rattle.line_proto.specs.declared.reply.LineFault.TheVariants as why
 use Rattle.node_model.specs.Commands.{Node, NodeEvent, node_after, IsLegalOn, TendsEach}
-use Rattle.node_model.specs.Run.{ImagesLeft, Carries, ClosesEach, node_or, states_while}
+use Rattle.node_model.specs.Run.{ImagesLeft, WantsMemory, Carries, ClosesEach, node_or, states_while}
 use Rattle.node_model.specs.Headline.{On}
 
 -- the images that each device's disk might have left from one point of the store to a later one
@@ -24,15 +23,11 @@ SurvivesOne device node states = λ image. On node device (λ slot. OneOf (Survi
 abbrev pub LeavesEach : {T : Type 0} → (views : T → ℕ → DiskView) → Node → (ℕ → List State) → (old new : T) → Type 0
 LeavesEach views node states old new = (device : ℕ) → Leaves (SurvivesOne device node (states device)) (views old device) (views new device)
 
--- nothing was done for want of memory
-abbrev pub Lacks : List NodeEvent → Option Node → Reply → Type 0
-Lacks work restarted r = (restarted ≡ None) × (work ≡ []) × (r ≡ reply.Fail why.Memory)
-
 -- A command is carried out from a state for which the store stood: there are its events, or a restart, and the store stands for the state after.
 pub record ActsFrom {T : Type 0} (Stands : T → Node → Type 0) (views : T → ℕ → DiskView) (Halts : T → (before after : Node) → Type 0) (told : Bool) (old : T) (node : Node) (c : Command) (now : ℕ) (r : Reply) (new : T) : Type 0 where
   pub work : List NodeEvent
   pub restarted : Option Node
-  pub carried : Carries (left_between views old new) node c now work restarted r ⊎ Lacks work restarted r
+  pub carried : Carries (left_between views old new) node c now work restarted r ⊎ WantsMemory work restarted r
   pub legal : IsLegalOn told node work
   pub stands : Stands new (node_or (node_after work node) restarted)
   pub leaves : LeavesEach views node (λ device. states_while device work node) old new

@@ -88,9 +88,13 @@ DoesLine left node line served =
 abbrev pub RefusesLine : Served → Type 0
 RefusesLine served = (served.time ≡ None) × (served.restarted ≡ None) × (served.work ≡ []) × (served.reply ≡ reply.Fail why.Line)
 
--- want of memory may be answered to any line
+-- nothing was done for want of memory
+abbrev pub WantsMemory : List NodeEvent → Option Node → Reply → Type 0
+WantsMemory work restarted r = (restarted ≡ None) × (work ≡ []) × (r ≡ reply.Fail why.Memory)
+
+-- that may be answered to any line
 abbrev pub LacksMemory : Served → Type 0
-LacksMemory served = (served.restarted ≡ None) × (served.work ≡ []) × (served.reply ≡ reply.Fail why.Memory)
+LacksMemory served = WantsMemory served.work served.restarted served.reply
 
 abbrev pub AnswersLine : ImagesLeft → Node → Option (List ℕ) → Served → Type 0
 AnswersLine left node None served = RefusesLine served ⊎ LacksMemory served

@@ -12,7 +12,7 @@ use Rattle.line_proto.specs.declared.reply.Reply.{Reply}
 use Rattle.node_model.specs.Commands.{Node}
 use Rattle.node_session.specs.declared.ended.Ended.{Ended}
 use Rattle.node_session.specs.declared.ended.Ended.TheVariants.{SourceFault, SinkFault, Halted}
-use Rattle.node_session.specs.Run.{Times}
+use Rattle.node_session.specs.Turns.{Times}
 use Rattle.node_session.specs.Session.{Ran}
 use Rattle.block_shelf.specs.Disks.{IsLater}
 use Rattle.shard_core.specs.declared.settings.Settings.{Settings}

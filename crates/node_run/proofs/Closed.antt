@@ -5,7 +5,7 @@ use Rattle.disk_model.specs.Disk.{DiskView}
 use Rattle.node_model.specs.Commands.{Node}
 use Rattle.node_session.specs.declared.ended.Ended.{Ended}
 use Rattle.node_session.specs.declared.ended.Ended.TheVariants.{Finish, Quit, SourceFault, SinkFault, Memory, Halted, Long}
-use Rattle.node_session.specs.Run.{Times}
+use Rattle.node_session.specs.Turns.{Times}
 use Rattle.node_session.specs.Session.{Ran}
 use Rattle.node_model.specs.Run.{Served, EndsOnce, halts, is_halted, node_after_line}
 use Rattle.node_model.specs.Meaning.{ActsBy, TendsBy, Rests, ClosesBy}

@@ -16,8 +16,8 @@ use Rattle.node_session.specs.declared.stop.Stop.{Stop}
 use Rattle.node_session.specs.declared.stop.Stop.TheVariants.{Quit as QuitStop, SinkFault as SinkStop, Memory as MemoryStop, Halted as HaltStop}
 use Rattle.node_session.specs.declared.ended.Ended.{Ended}
 use Rattle.node_session.specs.declared.ended.Ended.TheVariants.{Finish, Quit, SourceFault, SinkFault, Memory, Halted, Long}
-use Rattle.node_session.specs.Run.{Times, Serves, StopsAt, TurnAny}
-use Rattle.node_session.specs.Session.{unended, TakesUp, ServesWhole, StopsAfter, EndsSo, Ran}
+use Rattle.node_session.specs.Turns.{Times, HasTurns, StopsAtLine, TurnAny}
+use Rattle.node_session.specs.Session.{unended, TakesUp, HasWholeTurns, StopsAfter, EndsSo, Ran}
 use Rattle.node_model.specs.Run.{Served, halts, is_halted, times_of, replies_of, node_after_lines}
 use Rattle.node_model.specs.Headline.{IsFrontOf, Gives, is_bye, has_quit, written_text, rest_line}
 use Rattle.node_model.specs.Meaning.{ActsBy, TendsBy, Rests}
@@ -102,7 +102,7 @@ module _ {T : Type 0} (Stands : T → Node → Type 0) (views : T → ℕ → Di
   any_chain rests raw mid then node r new later (inr quits) stands = (quit_chain Stands views Halts told rests mid new then later node raw r quits stands, ap halts quits.farewell)
 
   last_chain : Rests Stands views → (raw : Option (List ℕ)) (mid : T) (then : Times) (node : Node) (sent : List ℕ) (new : T) (later : Times) (stop : Stop)
-      → StopsAt (ActsBy Stands views Halts told) (TendsBy Stands views told) (line_end_of raw) mid then sent new later stop → Stands mid node
+      → StopsAtLine (ActsBy Stands views Halts told) (TendsBy Stands views told) (line_end_of raw) mid then sent new later stop → Stands mid node
       → LastChain raw mid then node sent new later stop
   last_chain rests raw mid then node sent new later QuitStop stops stands = record {
     last = reply.Bye;
@@ -173,7 +173,7 @@ module _ {T : Type 0} (Stands : T → Node → Type 0) (views : T → ℕ → Di
   count_served served raws of = sym (length-map served (λ (s : Served). s.line)) ∙ ap length of
 
   abbrev TurnsOf : List LineEnd → T → Times → List ℕ → T → Times → Type 0
-  TurnsOf ends old times output new later = Serves (ActsBy Stands views Halts told) (TendsBy Stands views told) ends old times output new later
+  TurnsOf ends old times output new later = HasTurns (ActsBy Stands views Halts told) (TendsBy Stands views told) ends old times output new later
 
   -- all whole lines had their turns, and perhaps a rest at the input's end
   all_served : Rests Stands views → (limit : ℕ) (bytes output : List ℕ) (left : Option (List ℕ)) (old new : T) (times later : Times) (node : Node) (result : Ended) (raws unserved : List (Option (List ℕ))) (at_input_end : Bool) (lines : List (List ℕ)) (rest : List ℕ)
@@ -189,7 +189,7 @@ module _ {T : Type 0} (Stands : T → Node → Type 0) (views : T → ℕ → Di
       (not_quit served serves.replies false of_replies (go_bye serves.replies chain.1)) (not_halted served serves.replies false of_replies (go_halted serves.replies chain.1)))
 
   whole_lines : Rests Stands views → (limit : ℕ) (bytes output : List ℕ) (left : Option (List ℕ)) (old new : T) (times later : Times) (node : Node) (result : Ended)
-      → ServesWhole (ActsBy Stands views Halts told) (TendsBy Stands views told) bytes old times output new later → Stands old node
+      → HasWholeTurns (ActsBy Stands views Halts told) (TendsBy Stands views told) bytes old times output new later → Stands old node
       → ((served : List Served) → output ≡ written_text served → has_quit served ≡ false → is_halted served ≡ false → EndsWith limit bytes output false served [] result)
       → Lifted Stands views Halts told limit bytes output left times node old new result
   whole_lines rests limit bytes output left old new times later node result whole stands ends =
@@ -227,7 +227,7 @@ module _ {T : Type 0} (Stands : T → Node → Type 0) (views : T → ℕ → Di
       let mid_node : Node = node_after_lines first.0.served node in
       let last : LastChain parts.raw stops.mid stops.then mid_node stops.sent new later stop =
       last_chain rests parts.raw stops.mid stops.then mid_node stops.sent new later stop
-      (subst (λ (l : LineEnd). StopsAt (ActsBy Stands views Halts told) (TendsBy Stands views told) l stops.mid stops.then stops.sent new later stop) (sym parts.is_end) stops.stops) first.0.stands in
+      (subst (λ (l : LineEnd). StopsAtLine (ActsBy Stands views Halts told) (TendsBy Stands views told) l stops.mid stops.then stops.sent new later stop) (sym parts.is_end) stops.stops) first.0.stands in
       let both : ChainOf Stands views Halts told old times node (map Some stops.lines ++ parts.raw ∷ []) (serves.replies ++ last.last ∷ []) new later =
       chain_then Stands views Halts told old stops.mid new times stops.then later node (map Some stops.lines) (parts.raw ∷ []) serves.replies (last.last ∷ []) first.0 last.chain
       (back_in_halt (Halts new) node first.0.served last.chain.served (omega (arith, count_served last.chain.served (parts.raw ∷ []) last.chain.of_lines)) last.chain.halt) in

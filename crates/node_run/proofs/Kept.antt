@@ -8,7 +8,7 @@ use Rattle.node_session.specs.declared.stop.Stop.{Stop}
 use Rattle.node_session.specs.declared.stop.Stop.TheVariants.{Quit as QuitStop, SinkFault as SinkStop, Memory as MemoryStop, Halted as HaltStop}
 use Rattle.node_session.specs.declared.ended.Ended.{Ended}
 use Rattle.node_session.specs.declared.ended.Ended.TheVariants.{Finish, Quit, SourceFault, SinkFault, Memory, Halted, Long}
-use Rattle.node_session.specs.Run.{Times, Answers, Turn, Turns, TurnAny, StopsAt}
+use Rattle.node_session.specs.Turns.{Times, Answers, WholeTurn, Turns, TurnAny, StopsAtLine}
 use Rattle.node_session.specs.Session.{StopsAfter, EndsSo, Ran}
 
 module _ {T : Type 0} (acts : T → Command → ℕ → Reply → T → Type 0) (tends : T → T → Type 0)
@@ -22,7 +22,7 @@ module _ {T : Type 0} (acts : T → Command → ℕ → Reply → T → Type 0) 
   answer_kept line old times r new later (inl carries) = act_keeps old carries.command _ r new carries.acted
   answer_kept line old times r new later (inr declines) = same_kept old new declines.same_store
 
-  turn_kept : (line : LineEnd) (old : T) (times : Times) (r : Reply) (new : T) (later : Times) → Turn acts tends line old times r new later → Kept old new
+  turn_kept : (line : LineEnd) (old : T) (times : Times) (r : Reply) (new : T) (later : Times) → WholeTurn acts tends line old times r new later → Kept old new
   turn_kept line old times r new later turn = then old turn.answered new (answer_kept line old times r turn.answered later turn.answer) (tend_keeps turn.answered new turn.tended)
 
   any_kept : (line : LineEnd) (old : T) (times : Times) (r : Reply) (new : T) (later : Times) → TurnAny acts tends line old times r new later → Kept old new
@@ -35,7 +35,7 @@ module _ {T : Type 0} (acts : T → Command → ℕ → Reply → T → Type 0) 
   turns_kept [] (r ∷ rs) old times new later turns = absurd turns
   turns_kept (line ∷ lines) [] old times new later turns = absurd turns
 
-  stops_kept : (line : LineEnd) (old : T) (times : Times) (sent : List ℕ) (new : T) (later : Times) (stop : Stop) → StopsAt acts tends line old times sent new later stop → Kept old new
+  stops_kept : (line : LineEnd) (old : T) (times : Times) (sent : List ℕ) (new : T) (later : Times) (stop : Stop) → StopsAtLine acts tends line old times sent new later stop → Kept old new
   stops_kept line old times sent new later QuitStop stops = same_kept old new stops.0.same_store
   stops_kept line old times sent new later SinkStop stops = any_kept line old times stops.0 new later stops.1
   stops_kept line old times sent new later MemoryStop stops = any_kept line old times stops.0 new later stops.1

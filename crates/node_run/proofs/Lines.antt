@@ -13,7 +13,7 @@ use Rattle.line_proto.specs.declared.line_end.LineEnd.TheVariants.{Whole, TooLon
 use Rattle.line_proto.specs.Lines.{line_limit}
 use Rattle.line_proto.specs.Built.{IsLine, IsNoCommand}
 use Rattle.line_proto.specs.Stream.{IsOneLine, ended, line_end, FallInto}
-use Rattle.node_session.specs.Run.{IsCommand, IsNoCommand as IsNoCommandEnd}
+use Rattle.node_session.specs.Turns.{IsCommand, NamesNoCommand}
 use Rattle.node_session.specs.Session.{unended}
 use Rattle.node_model.specs.Headline.{rest_line}
 use Rattle.node_run.specs.Chain.{line_end_of}
@@ -22,8 +22,8 @@ use Rattle.node_run.specs.Chain.{line_end_of}
 whole_of : (line : List ℕ) (limit : ℕ) → length line ≤ limit → cond (leb (length line) limit) (Whole line) TooLong ≡ Whole line
 whole_of line limit short = let test : leb (length line) limit ≡ true = grind (arith, nat_tests) in rw test refl
 
-pub no_command_of : (line : List ℕ) → IsNoCommandEnd (line_end line) → IsNoCommand line
-no_command_of line refused c is = (subst IsNoCommandEnd (whole_of line line_limit is.spelled.short) refused) c is
+pub no_command_of : (line : List ℕ) → NamesNoCommand (line_end line) → IsNoCommand line
+no_command_of line refused c is = (subst NamesNoCommand (whole_of line line_limit is.spelled.short) refused) c is
 
 on_test : (line : List ℕ) (c : Command) (test : Bool) → IsCommand (cond test (Whole line) TooLong) c → IsLine line c
 on_test line c true is = is

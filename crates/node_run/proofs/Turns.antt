@@ -17,10 +17,11 @@ use Rattle.line_proto.specs.declared.reply.Reply.{Reply}
 use Rattle.line_proto.specs.declared.reply.Reply.TheVariants as reply
 use Rattle.line_proto.specs.declared.reply.LineFault.TheVariants as why
 use Rattle.node_model.specs.Commands.{Node, NodeEvent, node_after, Does, IsLegalOn, TendsEach, Outcome, did, stopped, answer_reply, found_reply, meta_reply, one_sum, two_sums}
-use Rattle.node_session.specs.Run.{Times, Turn, Turns, Answers, Quits, IsCommand, IsNoCommand}
+use Rattle.node_session.specs.Turns.{Times, WholeTurn, Turns, Answers, Quits, IsCommand, NamesNoCommand}
 use Rattle.node_model.specs.Run.{ImagesLeft, Served, Serves, AnswersLine, Carries, goes_on, node_or, node_at_reply, node_after_line, node_after_lines, states_while, states_of_lines, times_of, replies_of}
 use Rattle.node_model.specs.Headline.{Gives}
-use Rattle.node_model.specs.Meaning.{left_between, SurvivesOne, LeavesEach, Lacks, ActsFrom, ActsBy, TendsFrom, TendsBy, Rests}
+use Rattle.node_model.specs.Meaning.{left_between, SurvivesOne, LeavesEach, ActsFrom, ActsBy, TendsFrom, TendsBy, Rests}
+use Rattle.node_model.specs.Run.{WantsMemory}
 use Rattle.node_run.specs.Chain.{line_end_of, TicksAll, InHalt, Chain}
 use Rattle.node_run.proofs.States.{setups_of, on_same, lines_setups, reply_setups, states_front, states_back, times_append, after_append, serves_append, serves_more}
 use Rattle.node_run.proofs.Replies.{AllGo}
@@ -86,7 +87,7 @@ does_no_bye node command.Restart now work r other does is = absurd does
 does_no_bye node command.Quit now work r other does is = absurd (other refl)
 
 carried_no_bye : (left : ImagesLeft) (node : Node) (c : Command) (now : ℕ) (work : List NodeEvent) (restarted : Option Node) (r : Reply) → c ≢ command.Quit
-    → Carries left node c now work restarted r ⊎ Lacks work restarted r → r ≢ reply.Bye
+    → Carries left node c now work restarted r ⊎ WantsMemory work restarted r → r ≢ reply.Bye
 carried_no_bye left node c now work restarted r other (inl (inl made)) is = does_no_bye node c now work r other made.1 is
 carried_no_bye left node c now work restarted r other (inl (inr ends)) is = elim ends.1.3 [
   | inl again ↦ two_is_no_bye (did _ _) (sym again.1 ∙ is)
@@ -130,14 +131,14 @@ gives_of (now ∷ given) (time ∷ next ∷ times) later ticks = (ticks.1.0, giv
 -- ---- what a line is answered
 
 answers_of : (left : ImagesLeft) (node : Node) (line : Option (List ℕ)) (c : Command) (now : ℕ) (work : List NodeEvent) (restarted : Option Node) (r : Reply) (tended : List NodeEvent)
-    → IsCommand (line_end_of line) c → Carries left node c (bounded_time now) work restarted r ⊎ Lacks work restarted r
+    → IsCommand (line_end_of line) c → Carries left node c (bounded_time now) work restarted r ⊎ WantsMemory work restarted r
     → AnswersLine left node line (record { line = line; time = Some now; reply = r; work = work; restarted = restarted; tended = tended })
 answers_of left node None c now work restarted r tended is carried = absurd is
 answers_of left node (Some line) c now work restarted r tended is (inl carried) = inl (c, now, command_of line c is, refl, carried)
 answers_of left node (Some line) c now work restarted r tended is (inr lacks) = inr (inr lacks)
 
 declines_of : (left : ImagesLeft) (node : Node) (line : Option (List ℕ)) (r : Reply) (tended : List NodeEvent)
-    → (IsNoCommand (line_end_of line) × (r ≡ reply.Fail why.Line)) ⊎ (r ≡ reply.Fail why.Memory)
+    → (NamesNoCommand (line_end_of line) × (r ≡ reply.Fail why.Line)) ⊎ (r ≡ reply.Fail why.Memory)
     → AnswersLine left node line (record { line = line; time = None; reply = r; work = []; restarted = None; tended = tended })
 declines_of left node None r tended (inl no_command) = inl (refl, refl, refl, no_command.1)
 declines_of left node (Some line) r tended (inl no_command) = inr (inl (no_command_of line no_command.0, (refl, refl, refl, no_command.1)))
@@ -276,7 +277,7 @@ module _ {T : Type 0} (Stands : T → Node → Type 0) (views : T → ℕ → Di
 
   -- a line was declined, and tending followed
   declined_chain : (old new : T) (times : Times) (node : Node) (line : Option (List ℕ)) (r : Reply)
-      → (IsNoCommand (line_end_of line) × (r ≡ reply.Fail why.Line)) ⊎ (r ≡ reply.Fail why.Memory) → goes_on r ≡ true
+      → (NamesNoCommand (line_end_of line) × (r ≡ reply.Fail why.Line)) ⊎ (r ≡ reply.Fail why.Memory) → goes_on r ≡ true
       → TendsFrom Stands views told old node new → ChainOf old times node (line ∷ []) (r ∷ []) new times
   declined_chain old new times node line r why_so goes tend =
       let served : Served = record { line = line; time = None; reply = r; work = []; restarted = None; tended = tend.tended } in
@@ -291,16 +292,16 @@ module _ {T : Type 0} (Stands : T → Node → Type 0) (views : T → ℕ → Di
       (leaves_wider node (λ device. states_while device tend.tended node) (λ device. states_of_lines device (served ∷ []) node) old new (λ P device image h. in_tending P device node served image h) tend.leaves)
       (λ is. absurd (goes_not_halted r goes is))
 
-  fail_is_no_bye : (line : Option (List ℕ)) (r : Reply) → (IsNoCommand (line_end_of line) × (r ≡ reply.Fail why.Line)) ⊎ (r ≡ reply.Fail why.Memory) → r ≢ reply.Bye
+  fail_is_no_bye : (line : Option (List ℕ)) (r : Reply) → (NamesNoCommand (line_end_of line) × (r ≡ reply.Fail why.Line)) ⊎ (r ≡ reply.Fail why.Memory) → r ≢ reply.Bye
   fail_is_no_bye line r (inl no_command) is = let e : r ≡ reply.Fail why.Line = no_command.1 in cc
   fail_is_no_bye line r (inr memory) is = cc
 
-  fail_is_no_halt : (line : Option (List ℕ)) (r : Reply) → (IsNoCommand (line_end_of line) × (r ≡ reply.Fail why.Line)) ⊎ (r ≡ reply.Fail why.Memory) → r ≢ reply.Halted
+  fail_is_no_halt : (line : Option (List ℕ)) (r : Reply) → (NamesNoCommand (line_end_of line) × (r ≡ reply.Fail why.Line)) ⊎ (r ≡ reply.Fail why.Memory) → r ≢ reply.Halted
   fail_is_no_halt line r (inl no_command) is = let e : r ≡ reply.Fail why.Line = no_command.1 in cc
   fail_is_no_halt line r (inr memory) is = cc
 
   abbrev pub TurnOf : Option (List ℕ) → T → Times → Reply → T → Times → Type 0
-  TurnOf line old times r new later = Turn (ActsBy Stands views Halts told) (TendsBy Stands views told) (line_end_of line) old times r new later
+  TurnOf line old times r new later = WholeTurn (ActsBy Stands views Halts told) (TendsBy Stands views told) (line_end_of line) old times r new later
 
   -- a whole turn
   pub turn_chain : (old new : T) (times later : Times) (node : Node) (line : Option (List ℕ)) (r : Reply)

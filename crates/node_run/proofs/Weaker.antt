@@ -8,8 +8,8 @@ use Rattle.node_session.specs.declared.stop.Stop.{Stop}
 use Rattle.node_session.specs.declared.stop.Stop.TheVariants.{Quit as QuitStop, SinkFault as SinkStop, Memory as MemoryStop, Halted as HaltStop}
 use Rattle.node_session.specs.declared.ended.Ended.{Ended}
 use Rattle.node_session.specs.declared.ended.Ended.TheVariants.{Finish, Quit, SourceFault, SinkFault, Memory, Halted, Long}
-use Rattle.node_session.specs.Run.{Times, Answers, Turn, Turns, TurnAny, Serves, StopsAt}
-use Rattle.node_session.specs.Session.{ServesWhole, StopsAfter, EndsSo, Ran}
+use Rattle.node_session.specs.Turns.{Times, Answers, WholeTurn, Turns, TurnAny, HasTurns, StopsAtLine}
+use Rattle.node_session.specs.Session.{HasWholeTurns, StopsAfter, EndsSo, Ran}
 
 module _ {T : Type 0} (acts weak : T → Command → ℕ → Reply → T → Type 0) (tends weakly : T → T → Type 0)
     (act_more : (old : T) (c : Command) (now : ℕ) (r : Reply) (new : T) → acts old c now r new → weak old c now r new)
@@ -25,7 +25,7 @@ module _ {T : Type 0} (acts weak : T → Command → ℕ → Reply → T → Typ
   })
   answers_more line old times r new later (inr declines) = inr declines
 
-  turn_more : (line : LineEnd) (old : T) (times : Times) (r : Reply) (new : T) (later : Times) → Turn acts tends line old times r new later → Turn weak weakly line old times r new later
+  turn_more : (line : LineEnd) (old : T) (times : Times) (r : Reply) (new : T) (later : Times) → WholeTurn acts tends line old times r new later → WholeTurn weak weakly line old times r new later
   turn_more line old times r new later turn = record {
     answered = turn.answered;
     answer = answers_more line old times r turn.answered later turn.answer;
@@ -43,10 +43,10 @@ module _ {T : Type 0} (acts weak : T → Command → ℕ → Reply → T → Typ
   turns_more [] (r ∷ rs) old times new later turns = absurd turns
   turns_more (line ∷ lines) [] old times new later turns = absurd turns
 
-  serves_more : (lines : List LineEnd) (old : T) (times : Times) (output : List ℕ) (new : T) (later : Times) → Serves acts tends lines old times output new later → Serves weak weakly lines old times output new later
+  serves_more : (lines : List LineEnd) (old : T) (times : Times) (output : List ℕ) (new : T) (later : Times) → HasTurns acts tends lines old times output new later → HasTurns weak weakly lines old times output new later
   serves_more lines old times output new later serves = record { replies = serves.replies; turns = turns_more lines serves.replies old times new later serves.turns; told = serves.told }
 
-  stops_more : (line : LineEnd) (old : T) (times : Times) (sent : List ℕ) (new : T) (later : Times) (stop : Stop) → StopsAt acts tends line old times sent new later stop → StopsAt weak weakly line old times sent new later stop
+  stops_more : (line : LineEnd) (old : T) (times : Times) (sent : List ℕ) (new : T) (later : Times) (stop : Stop) → StopsAtLine acts tends line old times sent new later stop → StopsAtLine weak weakly line old times sent new later stop
   stops_more line old times sent new later QuitStop stops = stops
   stops_more line old times sent new later SinkStop stops = (stops.0, any_more line old times stops.0 new later stops.1, stops.2, stops.3)
   stops_more line old times sent new later MemoryStop stops = (stops.0, any_more line old times stops.0 new later stops.1, stops.2)
@@ -71,7 +71,7 @@ module _ {T : Type 0} (acts weak : T → Command → ℕ → Reply → T → Typ
     all = s.all;
   }
 
-  whole_more : (bytes : List ℕ) (old : T) (times : Times) (output : List ℕ) (new : T) (later : Times) → ServesWhole acts tends bytes old times output new later → ServesWhole weak weakly bytes old times output new later
+  whole_more : (bytes : List ℕ) (old : T) (times : Times) (output : List ℕ) (new : T) (later : Times) → HasWholeTurns acts tends bytes old times output new later → HasWholeTurns weak weakly bytes old times output new later
   whole_more bytes old times output new later s = record { lines = s.lines; rest = s.rest; falls = s.falls; serves = serves_more _ old times output new later s.serves }
 
   pub ends_more : (limit : ℕ) (bytes : List ℕ) (left : Option (List ℕ)) (old : T) (times : Times) (output : List ℕ) (new : T) (later : Times) (result : Ended)

@@ -9,10 +9,10 @@ use Rattle.line_proto.specs.declared.reply.Reply.{Reply}
 use Rattle.line_proto.specs.declared.reply.Reply.TheVariants as reply
 use Rattle.node_session.specs.declared.ended.Ended.{Ended}
 use Rattle.node_session.specs.declared.ended.Ended.TheVariants.{Finish, Quit, SourceFault, SinkFault, Memory, Halted, Long}
-use Rattle.node_session.specs.Run.{Times}
+use Rattle.node_session.specs.Turns.{Times}
 use Rattle.node_session.specs.Session.{Ran}
 use Rattle.node_model.specs.Run.{ImagesLeft, Served, IsRun, ClosesEach, EndsOnce, goes_on, halts, is_halted, node_after_line, node_after_lines, last_node, states_from, states_while, states_of_lines, states_of_run}
-use Rattle.node_model.specs.Headline.{IsAnswered, LeavesLast, LeavesSome, ServedAll, AllQuiet, IsQuiet, has_quit, written_text, is_among, RoseOn, RoseInLast, counts_of, Outside, EndsWithCause, input_limit}
+use Rattle.node_model.specs.Headline.{IsAnswered, LeavesLast, LeavesSome, NoneUnserved, AllQuiet, IsQuiet, has_quit, written_text, is_among, RoseOn, RoseInLast, counts_of, Outside, EndsWithCause, input_limit}
 use Rattle.node_model.specs.Meaning.{left_between, LeavesEach, Rests, ActsBy, TendsBy, GoesOn, Enters, ClosesFrom}
 use Rattle.node_run.specs.Chain.{EndsWith, InHalt, Lifted}
 use Rattle.node_run.specs.Whole.{CloseAfter, UnlessHalted, RunsWhole, StatusIs, Concludes}
@@ -36,7 +36,7 @@ never b is none = let e : true ≡ false = sym is ∙ none in cc
 
 module _ (limit status noted : ℕ) (bytes output : List ℕ) (at_end : Bool) (served : List Served) (unserved : List (Option (List ℕ))) (last : Node) where
   abbrev Success : Type 0
-  Success = (output ≡ written_text served) × ServedAll served unserved × IsTrue (at_end || has_quit served) × AllQuiet last
+  Success = (output ≡ written_text served) × NoneUnserved served unserved × IsTrue (at_end || has_quit served) × AllQuiet last
 
   success_of : (result : Ended) → EndsWith limit bytes output at_end served unserved result → StatusIs result status noted last → status ≡ 0 → Success
   success_of (Finish n) ends (inl quiet) is = (ends.0, inl ends.1, or_left at_end (has_quit served) ends.2, quiet.1)
@@ -51,7 +51,7 @@ module _ (limit status noted : ℕ) (bytes output : List ℕ) (at_end : Bool) (s
   success_of Halted ends (inr (inr so)) is = absurd (omega (arith, so))
   success_of (Long n) ends so is = absurd (omega (arith, so))
 
-  source_of : (result : Ended) → EndsWith limit bytes output at_end served unserved result → StatusIs result status noted last → (status ≡ 4) ⊎ (status ≡ 10) → (output ≡ written_text served) × ServedAll served unserved
+  source_of : (result : Ended) → EndsWith limit bytes output at_end served unserved result → StatusIs result status noted last → (status ≡ 4) ⊎ (status ≡ 10) → (output ≡ written_text served) × NoneUnserved served unserved
   source_of SourceFault ends so is = (ends.0, inl ends.1)
   source_of (Long n) ends so is = (ends.0, inl ends.1)
   source_of (Finish n) ends so is = (ends.0, inl ends.1)
@@ -80,7 +80,7 @@ module _ (limit status noted : ℕ) (bytes output : List ℕ) (at_end : Bool) (s
 
   abbrev Fault : Type 0
   Fault = (IsTrue (is_halted served) × (output ≡ written_text served))
-      ⊎ ((output ≡ written_text served) × ServedAll served unserved × IsTrue (at_end || has_quit served) × (IsQuiet (slice_get last noted) → ⊥))
+      ⊎ ((output ≡ written_text served) × NoneUnserved served unserved × IsTrue (at_end || has_quit served) × (IsQuiet (slice_get last noted) → ⊥))
 
   fault_of : (result : Ended) → EndsWith limit bytes output at_end served unserved result → StatusIs result status noted last → status ≡ 3 → Fault
   fault_of Halted ends so is = inl (ends.1, ends.0)

@@ -9,7 +9,7 @@ use Rattle.line_proto.specs.declared.line_end.LineEnd.{LineEnd}
 use Rattle.line_proto.specs.declared.line_end.LineEnd.TheVariants.{TooLong}
 use Rattle.line_proto.specs.Stream.{line_end}
 use Rattle.node_model.specs.Commands.{Node}
-use Rattle.node_session.specs.Run.{Times}
+use Rattle.node_session.specs.Turns.{Times}
 use Rattle.node_session.specs.declared.ended.Ended.{Ended}
 use Rattle.node_session.specs.declared.ended.Ended.TheVariants.{Finish, Quit, SourceFault, SinkFault, Memory, Halted, Long}
 use Rattle.node_model.specs.Run.{Served, ServesAll, EndsOnce, node_after_line, node_after_lines, replies_of, times_of, states_of_lines, is_halted}

@@ -7,7 +7,7 @@ use Rattle.device_model.specs.Book.{Setup}
 use Rattle.node_model.specs.Commands.{Node, NodeEvent, IsNumbered}
 use Rattle.node_session.specs.declared.ended.Ended.{Ended}
 use Rattle.node_session.specs.declared.ended.Ended.TheVariants.{Finish, Quit, SourceFault, SinkFault, Memory, Halted, Long}
-use Rattle.node_session.specs.Run.{Times}
+use Rattle.node_session.specs.Turns.{Times}
 use Rattle.node_model.specs.Run.{IsRun, last_node, states_of_run}
 use Rattle.node_model.specs.Notes.{IsNote}
 use Rattle.node_model.specs.Headline.{AllQuiet, IsQuiet, NoneFell, RoseOn, counts_of, Outside}

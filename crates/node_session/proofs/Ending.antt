@@ -10,8 +10,8 @@ use Rattle.line_proto.specs.Lines.{reply_text}
 use Rattle.io_traits.specs.Source.{IsAtEnd, Shortens}
 use Rattle.node_session.specs.declared.stop.Stop.{Stop}
 use Rattle.node_session.specs.declared.stop.Stop.TheVariants.{Quit as QuitStop, SinkFault as SinkStop, Memory as MemoryStop, Halted as HaltStop}
-use Rattle.node_session.specs.Run.{Times, Turn, Serves, StopsAt}
-use Rattle.node_session.specs.Session.{ServesAll, StopsAfter, EndsSo, ended_of}
+use Rattle.node_session.specs.Turns.{Times, WholeTurn, HasTurns, StopsAtLine}
+use Rattle.node_session.specs.Session.{HasAllTurns, StopsAfter, EndsSo, ended_of}
 use Rattle.node_session.proofs.Running.{serves_on, serves_one}
 use Rattle.node_session.proofs.Sending.{shortens_on}
 
@@ -31,19 +31,19 @@ shortens_end first second third bytes piece none one two = subst (λ (l : List �
 
 module _ {T : Type 0} (acts : T → Command → ℕ → Reply → T → Type 0) (tends : T → T → Type 0) where
   pub finish_whole : (bytes : List ℕ) (left : Option (List ℕ)) (lines : List (List ℕ)) (rest : List ℕ) (n : ℕ) (old : T) (times : Times) (output : List ℕ) (new : T) (later : Times)
-      → FallInto bytes lines rest → length rest ≡ 0 → IsAtEnd left → n ≡ length lines → Serves acts tends (map line_end lines) old times output new later → ServesAll acts tends bytes left n old times output new later
+      → FallInto bytes lines rest → length rest ≡ 0 → IsAtEnd left → n ≡ length lines → HasTurns acts tends (map line_end lines) old times output new later → HasAllTurns acts tends bytes left n old times output new later
   finish_whole bytes left lines [] n old times output new later falls none ends counts serves = record {
     lines = lines;
     rest = [];
     falls = falls;
     at_end = ends;
     counted = omega (arith, counts);
-    serves = subst (λ (l : List LineEnd). Serves acts tends l old times output new later) (sym (append-nil (map line_end lines))) serves;
+    serves = subst (λ (l : List LineEnd). HasTurns acts tends l old times output new later) (sym (append-nil (map line_end lines))) serves;
   }
   finish_whole bytes left lines (byte ∷ rest) n old times output new later falls none ends counts serves = absurd (omega arith)
 
   pub finish_rest : (bytes : List ℕ) (left : Option (List ℕ)) (lines : List (List ℕ)) (rest : List ℕ) (n : ℕ) (old : T) (times : Times) (output : List ℕ) (mid : T) (then : Times) (reply : Reply) (new : T) (later : Times)
-      → FallInto bytes lines rest → 0 < length rest → IsAtEnd left → n ≡ length lines + 1 → Serves acts tends (map line_end lines) old times output mid then → Turn acts tends TooLong mid then reply new later → ServesAll acts tends bytes left n old times (output ++ reply_text reply) new later
+      → FallInto bytes lines rest → 0 < length rest → IsAtEnd left → n ≡ length lines + 1 → HasTurns acts tends (map line_end lines) old times output mid then → WholeTurn acts tends TooLong mid then reply new later → HasAllTurns acts tends bytes left n old times (output ++ reply_text reply) new later
   finish_rest bytes left lines [] n old times output mid then reply new later falls some ends counts serves turn = absurd (omega arith)
   finish_rest bytes left lines (byte ∷ rest) n old times output mid then reply new later falls some ends counts serves turn = record {
     lines = lines;
@@ -55,7 +55,7 @@ module _ {T : Type 0} (acts : T → Command → ℕ → Reply → T → Type 0) 
   }
 
   pub stop_rest : (bytes : List ℕ) (left : Option (List ℕ)) (lines : List (List ℕ)) (rest : List ℕ) (n : ℕ) (old : T) (times : Times) (output : List ℕ) (mid : T) (then : Times) (sent : List ℕ) (new : T) (later : Times) (stop : Stop)
-      → FallInto bytes lines rest → 0 < length rest → IsAtEnd left → n ≡ length lines → Serves acts tends (map line_end lines) old times output mid then → StopsAt acts tends TooLong mid then sent new later stop → StopsAfter acts tends bytes left n old times (output ++ sent) new later stop
+      → FallInto bytes lines rest → 0 < length rest → IsAtEnd left → n ≡ length lines → HasTurns acts tends (map line_end lines) old times output mid then → StopsAtLine acts tends TooLong mid then sent new later stop → StopsAfter acts tends bytes left n old times (output ++ sent) new later stop
   stop_rest bytes left lines rest n old times output mid then sent new later stop falls some ends counts serves stops = record {
     lines = lines;
     rest = rest;

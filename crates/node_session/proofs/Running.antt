@@ -6,7 +6,7 @@ use Rattle.line_proto.specs.declared.reply.Reply.{Reply}
 use Rattle.line_proto.specs.declared.line_end.LineEnd.{LineEnd}
 use Rattle.line_proto.specs.Lines.{reply_text}
 use Rattle.std.proofs.lemmas.Grind.{flat_map-append}
-use Rattle.node_session.specs.Run.{Times, Turn, Turns, Serves}
+use Rattle.node_session.specs.Turns.{Times, WholeTurn, Turns, HasTurns}
 
 module _ {T : Type 0} (acts : T → Command → ℕ → Reply → T → Type 0) (tends : T → T → Type 0) where
   turns_on : (xs ys : List LineEnd) (old : T) (times : Times) (rs ss : List Reply) (mid : T) (then : Times) (new : T) (later : Times)
@@ -16,18 +16,18 @@ module _ {T : Type 0} (acts : T → Command → ℕ → Reply → T → Type 0) 
   turns_on [] ys old times (r ∷ rs) ss mid then new later one two = absurd one
   turns_on (x ∷ xs) ys old times [] ss mid then new later one two = absurd one
 
-  pub serves_none : (old : T) (times : Times) → Serves acts tends [] old times [] old times
+  pub serves_none : (old : T) (times : Times) → HasTurns acts tends [] old times [] old times
   serves_none old times = record { replies = []; turns = (refl, refl); told = refl }
 
   pub serves_on : (xs ys : List LineEnd) (old : T) (times : Times) (a b : List ℕ) (mid : T) (then : Times) (new : T) (later : Times)
-      → Serves acts tends xs old times a mid then → Serves acts tends ys mid then b new later → Serves acts tends (xs ++ ys) old times (a ++ b) new later
+      → HasTurns acts tends xs old times a mid then → HasTurns acts tends ys mid then b new later → HasTurns acts tends (xs ++ ys) old times (a ++ b) new later
   serves_on xs ys old times a b mid then new later one two = record {
     replies = one.replies ++ two.replies;
     turns = turns_on xs ys old times one.replies two.replies mid then new later one.turns two.turns;
     told = (λ i. one.told i ++ two.told i) ∙ sym (flat_map-append reply_text one.replies two.replies);
   }
 
-  pub serves_one : (line : LineEnd) (old : T) (times : Times) (reply : Reply) (new : T) (later : Times) → Turn acts tends line old times reply new later → Serves acts tends (line ∷ []) old times (reply_text reply) new later
+  pub serves_one : (line : LineEnd) (old : T) (times : Times) (reply : Reply) (new : T) (later : Times) → WholeTurn acts tends line old times reply new later → HasTurns acts tends (line ∷ []) old times (reply_text reply) new later
   serves_one line old times reply new later turn = record {
     replies = reply ∷ [];
     turns = (new, later, turn, (refl, refl));

@@ -8,7 +8,7 @@ use Rattle.line_proto.specs.declared.line_end.LineEnd.{LineEnd}
 use Rattle.line_proto.specs.Lines.{reply_text}
 use Rattle.node_session.specs.declared.stop.Stop.{Stop}
 use Rattle.node_session.specs.declared.stop.Stop.TheVariants.{SinkFault as SinkStop, Memory as MemoryStop}
-use Rattle.node_session.specs.Run.{Times, Answers, Quits, TurnAny, StopsAt}
+use Rattle.node_session.specs.Turns.{Times, Answers, Quits, TurnAny, StopsAtLine}
 
 module _ {T : Type 0} (acts : T → Command → ℕ → Reply → T → Type 0) (tends : T → T → Type 0) where
   turn_any : (quits : Bool) (line : LineEnd) (old : T) (times : Times) (reply : Reply) (mid new : T) (later : Times)
@@ -20,8 +20,8 @@ module _ {T : Type 0} (acts : T → Command → ℕ → Reply → T → Type 0) 
   pub stops_at : (quits : Bool) (line : LineEnd) (old : T) (times : Times) (reply : Reply) (mid new : T) (later : Times) (sent unsent : List ℕ) (stop : Stop)
       → MatchBool quits (Quits line old times reply mid later) (Answers acts line old times reply mid later) → MatchBool quits (new ≡ mid) (tends mid new) → reply ≢ Halted
       → reply_text reply ≡ sent ++ unsent → (stop ≡ SinkStop) ⊎ ((stop ≡ MemoryStop) × (sent ≡ []))
-      → StopsAt acts tends line old times sent new later stop
+      → StopsAtLine acts tends line old times sent new later stop
   stops_at quits line old times reply mid new later sent unsent stop answer tended other text (inl sink) =
-      subst (λ (s : Stop). StopsAt acts tends line old times sent new later s) (sym sink) (reply, turn_any quits line old times reply mid new later answer tended other, unsent, text)
+      subst (λ (s : Stop). StopsAtLine acts tends line old times sent new later s) (sym sink) (reply, turn_any quits line old times reply mid new later answer tended other, unsent, text)
   stops_at quits line old times reply mid new later sent unsent stop answer tended other text (inr memory) =
-      subst (λ (s : Stop). StopsAt acts tends line old times sent new later s) (sym memory.0) (reply, turn_any quits line old times reply mid new later answer tended other, memory.1)
+      subst (λ (s : Stop). StopsAtLine acts tends line old times sent new later s) (sym memory.0) (reply, turn_any quits line old times reply mid new later answer tended other, memory.1)

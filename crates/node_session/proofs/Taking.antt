@@ -4,9 +4,9 @@ use Rattle.std.specs.List.{AllByRecursion, flat_map}
 use Rattle.line_proto.specs.declared.command.Command.{Command}
 use Rattle.line_proto.specs.declared.reply.Reply.{Reply}
 use Rattle.line_proto.specs.declared.line_end.LineEnd.{LineEnd}
-use Rattle.line_proto.specs.Stream.{IsOneLine, ended, line_end, FallInto, Kept, StandsFor}
+use Rattle.line_proto.specs.Stream.{IsOneLine, ended, line_end, FallInto, Kept, KeepsBytes}
 use Rattle.node_session.specs.declared.stop.Stop.{Stop}
-use Rattle.node_session.specs.Run.{Times, Serves, StopsIn}
+use Rattle.node_session.specs.Turns.{Times, HasTurns, StopsAmong}
 use Rattle.node_session.specs.Session.{StopsAfter}
 use Rattle.std.proofs.lemmas.Grind.{flat_map-append}
 use Rattle.std.proofs.lemmas.List.{map-append}
@@ -26,7 +26,7 @@ length-map f [] = refl
 length-map f (x ∷ xs) = omega (arith, length-map f xs)
 
 -- what is kept has no more lines than bytes
-pub count_ready : (kept : Kept) (bytes : List ℕ) → StandsFor kept bytes → length kept.ready ≤ length bytes
+pub count_ready : (kept : Kept) (bytes : List ℕ) → KeepsBytes kept bytes → length kept.ready ≤ length bytes
 count_ready kept bytes stands = omega (arith, ap length stands.are_ready, length-map line_end stands.lines, count_of_falls bytes stands.lines stands.rest stands.falls)
 
 no_lf : (line more : List ℕ) → IsOneLine (line ++ 10 ∷ more) → ⊥
@@ -41,7 +41,7 @@ open_size bytes (line ∷ lines) rest size falls one is =
     absurd (no_lf line (flat_map ended lines ++ rest) (subst IsOneLine begins one))
 
 -- where no LF is left, all bytes that are kept are counted
-pub size_of_open : (kept : Kept) (bytes : List ℕ) → StandsFor kept bytes → IsOneLine bytes → kept.size ≡ min (length bytes) (2 ^ 64 - 1)
+pub size_of_open : (kept : Kept) (bytes : List ℕ) → KeepsBytes kept bytes → IsOneLine bytes → kept.size ≡ min (length bytes) (2 ^ 64 - 1)
 size_of_open kept bytes stands one = open_size bytes stands.lines stands.rest kept.size stands.falls one stands.counted
 
 -- a list whose ends are these is parted where they are
@@ -82,24 +82,24 @@ pub record Further {T : Type 0} (acts : T → Command → ℕ → Reply → T �
   pub lines : List (List ℕ)
   pub rest : List ℕ
   pub falls : FallInto bytes lines rest
-  pub serves : Serves acts tends (map line_end lines) old times output new later
-  pub stands : StandsFor (record { ready = []; partial = kept.partial; size = kept.size }) rest
+  pub serves : HasTurns acts tends (map line_end lines) old times output new later
+  pub stands : KeepsBytes (record { ready = []; partial = kept.partial; size = kept.size }) rest
   pub counted : count ≡ length lines
 
-module _ {T : Type 0} (acts : T → Command → ℕ → Reply → T → Type 0) (tends : T → T → Type 0) (bytes piece : List ℕ) (lines : List (List ℕ)) (rest : List ℕ) (falls : FallInto bytes lines rest) (kept : Kept) (stands : StandsFor kept (rest ++ piece)) (old : T) (times : Times) (told : List ℕ) (mid : T) (then : Times) (serves : Serves acts tends (map line_end lines) old times told mid then) where
-  pub further : (output : List ℕ) (new : T) (later : Times) (count : ℕ) → Serves acts tends kept.ready mid then output new later → count ≡ length lines + length kept.ready → Further acts tends (bytes ++ piece) kept count old times (told ++ output) new later
+module _ {T : Type 0} (acts : T → Command → ℕ → Reply → T → Type 0) (tends : T → T → Type 0) (bytes piece : List ℕ) (lines : List (List ℕ)) (rest : List ℕ) (falls : FallInto bytes lines rest) (kept : Kept) (stands : KeepsBytes kept (rest ++ piece)) (old : T) (times : Times) (told : List ℕ) (mid : T) (then : Times) (serves : HasTurns acts tends (map line_end lines) old times told mid then) where
+  pub further : (output : List ℕ) (new : T) (later : Times) (count : ℕ) → HasTurns acts tends kept.ready mid then output new later → count ≡ length lines + length kept.ready → Further acts tends (bytes ++ piece) kept count old times (told ++ output) new later
   further output new later count more counts = record {
     lines = lines ++ stands.lines;
     rest = stands.rest;
     falls = falls_further bytes piece lines rest stands.lines stands.rest falls stands.falls;
     serves =
         let ends : map line_end lines ++ kept.ready ≡ map line_end (lines ++ stands.lines) = ap (λ (l : List LineEnd). map line_end lines ++ l) stands.are_ready ∙ sym (map-append line_end lines stands.lines) in
-        subst (λ (l : List LineEnd). Serves acts tends l old times (told ++ output) new later) ends (serves_on acts tends (map line_end lines) kept.ready old times told output mid then new later serves more);
+        subst (λ (l : List LineEnd). HasTurns acts tends l old times (told ++ output) new later) ends (serves_on acts tends (map line_end lines) kept.ready old times told output mid then new later serves more);
     stands = record { lines = []; rest = stands.rest; falls = record { whole = refl; each = tt; open_line = stands.falls.open_line }; are_ready = refl; counted = stands.counted; is_partial = stands.is_partial };
     counted = omega (arith, counts, ap length stands.are_ready, length-map line_end stands.lines, length-append lines stands.lines);
   }
 
-  pub stops_after : (left : Option (List ℕ)) (output : List ℕ) (new : T) (later : Times) (count : ℕ) (stop : Stop) → StopsIn acts tends kept.ready count mid then output new later stop → StopsAfter acts tends (bytes ++ piece) left (length lines + count) old times (told ++ output) new later stop
+  pub stops_after : (left : Option (List ℕ)) (output : List ℕ) (new : T) (later : Times) (count : ℕ) (stop : Stop) → StopsAmong acts tends kept.ready count mid then output new later stop → StopsAfter acts tends (bytes ++ piece) left (length lines + count) old times (told ++ output) new later stop
   stops_after left output new later count stop stops =
       let at = parted stands.lines stops.before stops.line stops.after (sym stands.are_ready ∙ stops.parts) in
       let whole : bytes ++ piece ≡ flat_map ended (lines ++ stands.lines) ++ stands.rest = (falls_further bytes piece lines rest stands.lines stands.rest falls stands.falls).whole in
@@ -122,7 +122,7 @@ module _ {T : Type 0} (acts : T → Command → ℕ → Reply → T → Type 0) 
         then = stops.then;
         serves =
             let ends : map line_end lines ++ stops.before ≡ map line_end (lines ++ at.first) = ap (λ (l : List LineEnd). map line_end lines ++ l) (sym at.of_first) ∙ sym (map-append line_end lines at.first) in
-            subst (λ (l : List LineEnd). Serves acts tends l old times (told ++ stops.told) stops.mid stops.then) ends (serves_on acts tends (map line_end lines) stops.before old times told stops.told mid then stops.mid stops.then serves stops.serves);
+            subst (λ (l : List LineEnd). HasTurns acts tends l old times (told ++ stops.told) stops.mid stops.then) ends (serves_on acts tends (map line_end lines) stops.before old times told stops.told mid then stops.mid stops.then serves stops.serves);
         line = stops.line;
         takes_up = record { how = inl (at.text, after, refl, all_at IsOneLine at.first at.text at.last each_more, at.of_text) };
         sent = stops.sent;

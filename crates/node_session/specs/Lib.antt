@@ -1,2 +1,2 @@
-pub mod Run
+pub mod Turns
 pub mod Session

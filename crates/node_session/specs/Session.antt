@@ -12,7 +12,7 @@ use Rattle.node_session.specs.declared.stop.Stop.{Stop}
 use Rattle.node_session.specs.declared.stop.Stop.TheVariants.{Quit as QuitStop, SinkFault as SinkStop, Memory as MemoryStop, Halted as HaltStop}
 use Rattle.node_session.specs.declared.ended.Ended.{Ended}
 use Rattle.node_session.specs.declared.ended.Ended.TheVariants.{Finish, Quit, SourceFault, SinkFault, Memory, Halted, Long}
-use Rattle.node_session.specs.Run.{Times, Serves, StopsAt}
+use Rattle.node_session.specs.Turns.{Times, HasTurns, StopsAtLine}
 
 -- What a rest without LF counts as at the end of the input: nothing where it is empty, else a line that is no command.
 abbrev pub unended : List ℕ → List LineEnd
@@ -25,28 +25,28 @@ pub record TakesUp (left : Option (List ℕ)) (bytes : List ℕ) (line : LineEnd
       ⊎ (IsOneLine bytes × (0 < length bytes) × IsAtEnd left × (line ≡ TooLong))
 
 -- All whole lines of the bytes have had their turns.
-pub record ServesWhole {T : Type 0} (acts : T → Command → ℕ → Reply → T → Type 0) (tends : T → T → Type 0) (bytes : List ℕ) (old : T) (times : Times) (output : List ℕ) (new : T) (later : Times) : Type 0 where
+pub record HasWholeTurns {T : Type 0} (acts : T → Command → ℕ → Reply → T → Type 0) (tends : T → T → Type 0) (bytes : List ℕ) (old : T) (times : Times) (output : List ℕ) (new : T) (later : Times) : Type 0 where
   pub lines : List (List ℕ)
   pub rest : List ℕ
   pub falls : FallInto bytes lines rest
-  pub serves : Serves acts tends (map line_end lines) old times output new later
+  pub serves : HasTurns acts tends (map line_end lines) old times output new later
 
 -- All of the bytes have had their turns, up to the end of the input, n of them.
-pub record ServesAll {T : Type 0} (acts : T → Command → ℕ → Reply → T → Type 0) (tends : T → T → Type 0) (bytes : List ℕ) (left : Option (List ℕ)) (n : ℕ) (old : T) (times : Times) (output : List ℕ) (new : T) (later : Times) : Type 0 where
+pub record HasAllTurns {T : Type 0} (acts : T → Command → ℕ → Reply → T → Type 0) (tends : T → T → Type 0) (bytes : List ℕ) (left : Option (List ℕ)) (n : ℕ) (old : T) (times : Times) (output : List ℕ) (new : T) (later : Times) : Type 0 where
   pub lines : List (List ℕ)
   pub rest : List ℕ
   pub falls : FallInto bytes lines rest
   pub at_end : IsAtEnd left
   pub counted : n ≡ length lines + length (unended rest)
-  pub serves : Serves acts tends (map line_end lines ++ unended rest) old times output new later
+  pub serves : HasTurns acts tends (map line_end lines ++ unended rest) old times output new later
 
 -- The first lines of the bytes have had their turns, and no more was begun.
-pub record ServesFirst {T : Type 0} (acts : T → Command → ℕ → Reply → T → Type 0) (tends : T → T → Type 0) (bytes : List ℕ) (old : T) (times : Times) (output : List ℕ) (new : T) (later : Times) : Type 0 where
+pub record HasFirstTurns {T : Type 0} (acts : T → Command → ℕ → Reply → T → Type 0) (tends : T → T → Type 0) (bytes : List ℕ) (old : T) (times : Times) (output : List ℕ) (new : T) (later : Times) : Type 0 where
   pub lines : List (List ℕ)
   pub rest : List ℕ
   pub whole : bytes ≡ flat_map ended lines ++ rest
   pub each : AllByRecursion IsOneLine lines
-  pub serves : Serves acts tends (map line_end lines) old times output new later
+  pub serves : HasTurns acts tends (map line_end lines) old times output new later
 
 -- The first lines of the bytes have had their turns, n of them, and at the next the session stops.
 pub record StopsAfter {T : Type 0} (acts : T → Command → ℕ → Reply → T → Type 0) (tends : T → T → Type 0) (bytes : List ℕ) (left : Option (List ℕ)) (n : ℕ) (old : T) (times : Times) (output : List ℕ) (new : T) (later : Times) (stop : Stop) : Type 0 where
@@ -58,22 +58,22 @@ pub record StopsAfter {T : Type 0} (acts : T → Command → ℕ → Reply → T
   pub told : List ℕ
   pub mid : T
   pub then : Times
-  pub serves : Serves acts tends (map line_end lines) old times told mid then
+  pub serves : HasTurns acts tends (map line_end lines) old times told mid then
   pub line : LineEnd
   pub takes_up : TakesUp left rest line
   pub sent : List ℕ
-  pub stops : StopsAt acts tends line mid then sent new later stop
+  pub stops : StopsAtLine acts tends line mid then sent new later stop
   pub all : output ≡ told ++ sent
 
 -- What each end means.
 abbrev pub EndsSo : {T : Type 0} → (T → Command → ℕ → Reply → T → Type 0) → (T → T → Type 0) → ℕ → List ℕ → Option (List ℕ) → T → Times → List ℕ → T → Times → Ended → Type 0
-EndsSo acts tends limit bytes left old times output new later (Finish n) = (length bytes < limit) × ServesAll acts tends bytes left n old times output new later
+EndsSo acts tends limit bytes left old times output new later (Finish n) = (length bytes < limit) × HasAllTurns acts tends bytes left n old times output new later
 EndsSo acts tends limit bytes left old times output new later (Quit n) = (m : ℕ) × (n ≡ m + 1) × StopsAfter acts tends bytes left m old times output new later QuitStop
-EndsSo acts tends limit bytes left old times output new later SourceFault = (length bytes < limit) × ServesWhole acts tends bytes old times output new later
+EndsSo acts tends limit bytes left old times output new later SourceFault = (length bytes < limit) × HasWholeTurns acts tends bytes old times output new later
 EndsSo acts tends limit bytes left old times output new later SinkFault = (m : ℕ) × StopsAfter acts tends bytes left m old times output new later SinkStop
-EndsSo acts tends limit bytes left old times output new later Memory = ServesFirst acts tends bytes old times output new later ⊎ ((m : ℕ) × StopsAfter acts tends bytes left m old times output new later MemoryStop)
+EndsSo acts tends limit bytes left old times output new later Memory = HasFirstTurns acts tends bytes old times output new later ⊎ ((m : ℕ) × StopsAfter acts tends bytes left m old times output new later MemoryStop)
 EndsSo acts tends limit bytes left old times output new later Halted = (m : ℕ) × StopsAfter acts tends bytes left m old times output new later HaltStop
-EndsSo acts tends limit bytes left old times output new later (Long n) = (n ≡ limit) × (length bytes ≡ limit) × ServesWhole acts tends bytes old times output new later
+EndsSo acts tends limit bytes left old times output new later (Long n) = (n ≡ limit) × (length bytes ≡ limit) × HasWholeTurns acts tends bytes old times output new later
 
 -- A session takes bytes from the source and gives output to the sink, and the one follows from the other through the store and the clock.
 pub record Ran {T : Type 0} (acts : T → Command → ℕ → Reply → T → Type 0) (tends : T → T → Type 0) (limit : ℕ) (taken taken' : List ℕ) (left left' : Option (List ℕ)) (written written' : Option (List ℕ)) (old new : T) (times later : Times) (result : Ended) : Type 0 where

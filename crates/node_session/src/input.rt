@@ -2,7 +2,7 @@
 ghost use Rattle.std.specs.Prelude.{◌≡◌, ◌+◌, ◌<◌, ◌≤◌, ◌^◌, ◌++◌, List, ℕ, [], length, Option, OnOk, IfOk, OnErr, IsErrOf};
 ghost use Rattle.fault_count.specs.Counts.{Rose};
 ghost use Rattle.io_traits.specs.Source.{Shortens, IsAtEnd};
-ghost use Rattle.line_proto.specs.Stream.{StandsFor};
+ghost use Rattle.line_proto.specs.Stream.{KeepsBytes};
 ghost use Rattle.node_session.specs.Session.{Ran, ended_of};
 
 use crate::ended::Ended;
@@ -30,7 +30,7 @@ fn take_piece<L: Source>(link: &mut L, lines: &mut Lines, out: &mut [u8]) -> Res
         × (length piece ≤ length out.old)
         × (IsErrOf result NoPiece.SourceFault → piece ≡ [])
         × IfOk result (λ n. (n ≡ length piece) × (n ≡ 0 → IsAtEnd (L.left link.new))
-        × ((bytes : List ℕ) → StandsFor lines.old bytes → StandsFor lines.new (bytes ++ piece))) }
+        × ((bytes : List ℕ) → KeepsBytes lines.old bytes → KeepsBytes lines.new (bytes ++ piece))) }
     ensures cause { IsErrOf result NoPiece.SourceFault → Rose (L.source_faults link.old) (L.source_faults link.new) }
     ensures later { L.source_faults link.old ≤ L.source_faults link.new }
     ensures written { L.written link.new ≡ L.written link.old }

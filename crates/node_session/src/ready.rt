@@ -2,7 +2,7 @@
 ghost use Rattle.std.specs.Prelude.{◌≡◌, ◌+◌, ◌<◌, ◌≤◌, ◌^◌, List, ℕ, [], length, OnOk, IfErr, IsErrOf};
 ghost use Rattle.fault_count.specs.Counts.{Rose};
 ghost use Rattle.io_traits.specs.Sink.{Extends};
-ghost use Rattle.node_session.specs.Run.{Serves, StopsIn};
+ghost use Rattle.node_session.specs.Turns.{HasTurns, StopsAmong};
 
 use crate::stop::Stop;
 use crate::turn::turn;
@@ -21,12 +21,12 @@ pub fn serve_ready<T: Store, L: Sink, C: Clock>(
 ) -> Result<(), Stop>
     requires { answered.old + length lines.old.ready < 2 ^ 64 }
     ensures done { OnOk result ((output : List ℕ)
-        × Serves T.acts T.tends lines.old.ready store.old (C.times clock.old) output store.new (C.times clock.new)
+        × HasTurns T.acts T.tends lines.old.ready store.old (C.times clock.old) output store.new (C.times clock.new)
         × Extends (L.written link.old) (L.written link.new) output) }
     ensures counted { OnOk result (answered.new ≡ answered.old + length lines.old.ready) }
     ensures lines { OnOk result (lines.new ≡ record lines.old { ready = [] }) }
     ensures stopped { IfErr result (λ stop. (output : List ℕ) × (count : ℕ)
-        × StopsIn T.acts T.tends lines.old.ready count store.old (C.times clock.old) output store.new (C.times clock.new) stop
+        × StopsAmong T.acts T.tends lines.old.ready count store.old (C.times clock.old) output store.new (C.times clock.new) stop
         × Extends (L.written link.old) (L.written link.new) output
         × (answered.new ≡ answered.old + count)) }
     ensures cause { IsErrOf result Stop.SinkFault → Rose (L.sink_faults link.old) (L.sink_faults link.new) }

@@ -4,7 +4,7 @@ ghost use Rattle.fault_count.specs.Counts.{IsCaused, Rose};
 ghost use Rattle.io_traits.specs.Sink.{Extends};
 ghost use Rattle.line_proto.specs.declared.reply.Reply.{Reply};
 ghost use Rattle.line_proto.specs.Lines.{reply_text};
-ghost use Rattle.node_session.specs.Run.{Answers, Quits, Turn, StopsAt, Sends};
+ghost use Rattle.node_session.specs.Turns.{Answers, Quits, WholeTurn, StopsAtLine, Sends};
 
 use crate::stop::Stop;
 use io_traits::{Clock, Sink, SinkFault};
@@ -99,10 +99,10 @@ pub fn turn<T: Store, L: Sink, C: Clock>(
     line: &LineEnd,
 ) -> Result<(), Stop>
     ensures done { OnOk result ((reply : Reply)
-        × Turn T.acts T.tends line.now store.old (C.times clock.old) reply store.new (C.times clock.new)
+        × WholeTurn T.acts T.tends line.now store.old (C.times clock.old) reply store.new (C.times clock.new)
         × Extends (L.written link.old) (L.written link.new) (reply_text reply)) }
     ensures stopped { IfErr result (λ stop. (sent : List ℕ)
-        × StopsAt T.acts T.tends line.now store.old (C.times clock.old) sent store.new (C.times clock.new) stop
+        × StopsAtLine T.acts T.tends line.now store.old (C.times clock.old) sent store.new (C.times clock.new) stop
         × Extends (L.written link.old) (L.written link.new) sent) }
     ensures cause { IsErrOf result Stop.SinkFault → Rose (L.sink_faults link.old) (L.sink_faults link.new) }
     ensures later { L.sink_faults link.old ≤ L.sink_faults link.new }

@@ -15,33 +15,33 @@ use Rattle.rec_format.specs.Versions.{is_later_stamp, stamp_after}
 -- ---- stamps
 
 -- later, as a fact
-abbrev pub IsLater : Stamp → Stamp → Type 0
-IsLater a b = (b.lut < a.lut) ⊎ ((a.lut ≡ b.lut) × (b.gen_ < a.gen_))
+abbrev pub IsLaterStamp : Stamp → Stamp → Type 0
+IsLaterStamp a b = (b.lut < a.lut) ⊎ ((a.lut ≡ b.lut) × (b.gen_ < a.gen_))
 
-pub later_fact : (a b : Stamp) → is_later_stamp a b ≡ true → IsLater a b
+pub later_fact : (a b : Stamp) → is_later_stamp a b ≡ true → IsLaterStamp a b
 later_fact a b e =
     ⊎_elim (λ h. inl (ltb-true b.lut a.lut h)) (λ r. let both = and_parts (a.lut == b.lut) (nat_lt b.gen_ a.gen_) r in inr (eqb-true a.lut b.lut both.0, ltb-true b.gen_ a.gen_ both.1))
     (or_cases (nat_lt b.lut a.lut) (a.lut == b.lut && nat_lt b.gen_ a.gen_) e)
 
-pub later_test : (a b : Stamp) → IsLater a b → is_later_stamp a b ≡ true
+pub later_test : (a b : Stamp) → IsLaterStamp a b → is_later_stamp a b ≡ true
 later_test a b (inl lt) = or_left (nat_lt b.lut a.lut) (a.lut == b.lut && nat_lt b.gen_ a.gen_) (lt-ltb b.lut a.lut lt)
 later_test a b (inr both) =
     or_right (nat_lt b.lut a.lut) (a.lut == b.lut && nat_lt b.gen_ a.gen_) (and_from (a.lut == b.lut) (nat_lt b.gen_ a.gen_) (eq-eqb a.lut b.lut both.0) (lt-ltb b.gen_ a.gen_ both.1))
 
-pub later_trans : (a b c : Stamp) → IsLater a b → IsLater b c → IsLater a c
+pub later_trans : (a b c : Stamp) → IsLaterStamp a b → IsLaterStamp b c → IsLaterStamp a c
 later_trans a b c (inl x) (inl y) = inl (omega arith)
 later_trans a b c (inl x) (inr y) = inl (omega (arith, y.0, y.1))
 later_trans a b c (inr x) (inl y) = inl (omega (arith, x.0, x.1))
 later_trans a b c (inr x) (inr y) = inr (x.0 ∙ y.0, omega (arith, x.1, y.1))
 
 -- the stamp after an entry's is later than it
-pub stamp_after_later : (p : Stamp) (now : ℕ) → IsLater (stamp_after p now) p
+pub stamp_after_later : (p : Stamp) (now : ℕ) → IsLaterStamp (stamp_after p now) p
 stamp_after_later p now = by (nat_lt p.gen_ 65535)
   where
-    by : (b : Bool) → IsLater (cond b (record { lut = max now p.lut; gen_ = p.gen_ + 1 }) (record { lut = max now (p.lut + 1); gen_ = 1 })) p
+    by : (b : Bool) → IsLaterStamp (cond b (record { lut = max now p.lut; gen_ = p.gen_ + 1 }) (record { lut = max now (p.lut + 1); gen_ = 1 })) p
     by true = up (cases_lt p.lut (max now p.lut))
       where
-        up : (p.lut < max now p.lut) ⊎ (max now p.lut ≤ p.lut) → IsLater (record { lut = max now p.lut; gen_ = p.gen_ + 1 }) p
+        up : (p.lut < max now p.lut) ⊎ (max now p.lut ≤ p.lut) → IsLaterStamp (record { lut = max now p.lut; gen_ = p.gen_ + 1 }) p
         up (inl lt) = inl lt
         up (inr le) = inr (omega arith, omega arith)
     by false = inl (omega arith)

@@ -10,12 +10,12 @@ use Rattle.device_model.specs.Book.{Setup, Book, pending_of, with_flushed}
 use Rattle.device_model.specs.Device.{State, history}
 use Rattle.device_model.specs.Steps.{gate_begun, flushed_buffer, after_step}
 use Rattle.block_format.specs.Layout.{Body}
-use Rattle.recovery.specs.Holding.{versions_to, begun_versions, flushed_versions, versions_in, Holds}
+use Rattle.recovery.specs.Holding.{versions_to, begun_versions, flushed_versions, versions_in, Reflects}
 use Rattle.recovery.proofs.Each.{all_map}
 use Rattle.recovery.proofs.Pending.{any_more, begun_at, apart_pending, apart_begun, none_pending}
 use Rattle.recovery.proofs.Members.{first_there, rest_there}
 use Rattle.recovery.proofs.Stages.{stage_from, IsFurther, begun_further}
-use Rattle.recovery.proofs.HeldSteps.{held_after}
+use Rattle.recovery.proofs.HeldSteps.{reflects_after}
 
 -- ---- what went to a buffer
 
@@ -116,10 +116,10 @@ module _ (setup : Setup) (number : ℕ) (book : Book) where
   flushed_only m left = ⊎_elim (λ e. inr e) (λ apart. inl (sym (apart_pending setup number book m apart) ∙ left)) (cases_eq m number)
 
 -- the image has all that went to the buffer
-pub flushed_held : (setup : Setup) (s : State) (number : ℕ) (image : List ℕ) (bodies : List Body) → Holds setup s image bodies
-    → ((digest : Digest) → AllByRecursion (λ v. Contains (versions_in digest bodies) v) (versions_to number (history s digest))) → Holds setup (after_step setup (flushed_buffer number) s) image bodies
+pub flushed_reflects : (setup : Setup) (s : State) (number : ℕ) (image : List ℕ) (bodies : List Body) → Reflects setup s image bodies
+    → ((digest : Digest) → AllByRecursion (λ v. Contains (versions_in digest bodies) v) (versions_to number (history s digest))) → Reflects setup (after_step setup (flushed_buffer number) s) image bodies
 unfolding after_step
-flushed_held setup s number image bodies holds has =
-    held_after setup s (after_step setup (flushed_buffer number) s) image bodies
+flushed_reflects setup s number image bodies holds has =
+    reflects_after setup s (after_step setup (flushed_buffer number) s) image bodies
     (λ e v there. begun_further (pending_of s.book) (pending_of (with_flushed setup number s.book)) (flushed_is_further setup number s.book) (history s e) v there)
     (λ e. flushed_were number (pending_of s.book) (pending_of (with_flushed setup number s.book)) (flushed_only setup number s.book) (λ v. Contains (versions_in e bodies) v) (history s e) (holds.flushed e) (has e)) holds

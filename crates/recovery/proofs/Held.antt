@@ -16,7 +16,7 @@ use Rattle.block_format.specs.Layout.{Body}
 use Rattle.block_format.specs.Copies.{Copy, copies_of, copies_named, later_copy, latest, version_of, cold}
 use Rattle.recovery.specs.Surviving.{Survives, KeepsShown}
 use Rattle.recovery.specs.Orderly.{AreWrites, IsFalling, IsOrderly}
-use Rattle.recovery.specs.Holding.{begun_versions, flushed_versions, versions_in, Holds}
+use Rattle.recovery.specs.Holding.{begun_versions, flushed_versions, versions_in, Reflects}
 use Rattle.recovery.proofs.ColdOrder.{later_one_way, no_later_itself, no_later_trans}
 use Rattle.recovery.proofs.Each.{all_map}
 use Rattle.recovery.proofs.Growing.{all_at, cons_cases}
@@ -138,15 +138,15 @@ none_latest [] e = refl
 none_latest (c ∷ copies) e = cc
 
 -- one of these copies, and none of them is later
-pub record IsLatest (copies : List Copy) (c : Copy) : Type 0 where
+pub record IsNewest (copies : List Copy) (c : Copy) : Type 0 where
   pub there : Contains copies c
   pub last : AllByRecursion (λ x. is_later x.version c.version ≡ false) copies
 
-pub latest_is : (copies : List Copy) → IfSome (latest copies) (IsLatest copies)
+pub latest_is : (copies : List Copy) → IfSome (latest copies) (IsNewest copies)
 latest_is [] = tt
 latest_is (c ∷ copies) = by (latest copies) refl (latest_is copies)
   where
-    later : (d : Copy) → IsLatest copies d → (b : Bool) → is_later d.version c.version ≡ b → IsLatest (c ∷ copies) (cond b d c)
+    later : (d : Copy) → IsNewest copies d → (b : Bool) → is_later d.version c.version ≡ b → IsNewest (c ∷ copies) (cond b d c)
     later d is true e = record { there = rest_there c copies d is.there; last = (later_one_way d.version.stamp c.version.stamp e, is.last) }
     later d is false e = record {
       there = first_there c copies;
@@ -156,7 +156,7 @@ latest_is (c ∷ copies) = by (latest copies) refl (latest_is copies)
       );
     }
 
-    by : (found : Option Copy) → latest copies ≡ found → IfSome found (IsLatest copies) → IsLatest (c ∷ copies) (later_copy c found)
+    by : (found : Option Copy) → latest copies ≡ found → IfSome found (IsNewest copies) → IsNewest (c ∷ copies) (later_copy c found)
     by None none is = record {
       there = first_there c copies;
       last = (no_later_itself c.version.stamp c.version.stamp refl, subst (AllByRecursion (λ (x : Copy). is_later x.version c.version ≡ false)) (sym (none_latest copies none)) tt);
@@ -169,7 +169,7 @@ nothing_in : (versions : List Version) → AllByRecursion (λ v. Contains {X = V
 nothing_in [] all = refl
 nothing_in (v ∷ versions) all = absurd (omega (arith, all.0.1))
 
-module _ (setup : Setup) (s : State) (image : List ℕ) (bodies : List Body) (orderly : IsOrderly s) (h : Holds setup s image bodies) where
+module _ (setup : Setup) (s : State) (image : List ℕ) (bodies : List Body) (orderly : IsOrderly s) (h : Reflects setup s image bodies) where
   abbrev copies : List Copy
   copies = copies_of bodies
 
@@ -181,7 +181,7 @@ module _ (setup : Setup) (s : State) (image : List ℕ) (bodies : List Body) (or
       all_map (λ c. Contains (begun_versions pending (history s c.digest)) c.version) (λ c. Contains (writes_of (history s c.digest)) c.version) copies
       (λ c there. begun_written pending (history s c.digest) c.version there) h.begun
 
-  none_later : (digest : Digest) (c : Copy) → IsLatest (copies_named digest copies) c → NoneLater pending (history s digest) c.version
+  none_later : (digest : Digest) (c : Copy) → IsNewest (copies_named digest copies) c → NoneLater pending (history s digest) c.version
   none_later digest c is =
       all_map (Contains (versions_in digest bodies)) (λ w. is_later w c.version ≡ false) (flushed_versions pending (history s digest))
       (λ w there. let x = map_from (λ (d : Copy). d.version) (copies_named digest copies) w there in
@@ -194,7 +194,7 @@ module _ (setup : Setup) (s : State) (image : List ℕ) (bodies : List Body) (or
       subst (λ (e : Digest). Contains (begun_versions pending (history s e)) c.version) (sym (same_digest_is digest c.digest found.1))
       (all_at (λ d. Contains (begun_versions pending (history s d.digest)) d.version) copies c h.begun found.0)
 
-  reach_found : (digest : Digest) (found : Option Copy) → latest (copies_named digest copies) ≡ found → IfSome found (IsLatest (copies_named digest copies))
+  reach_found : (digest : Digest) (found : Option Copy) → latest (copies_named digest copies) ≡ found → IfSome found (IsNewest (copies_named digest copies))
       → Reaches pending (history s digest) (version_of found)
   reach_found digest None e is = record {
     lost = history s digest;
@@ -215,8 +215,8 @@ module _ (setup : Setup) (s : State) (image : List ℕ) (bodies : List Body) (or
       (r.kept, record { keeps = reached_keeps pending (history s digest) (cold digest copies) r; shown = r.shown })
 
 -- such an image survives: of each digest it shows a write whose flush has begun, and no flushed one is lost
-pub held_survives : (setup : Setup) (s : State) (image : List ℕ) (bodies : List Body) → IsOrderly s → Holds setup s image bodies → Survives setup s image
-held_survives setup s image bodies orderly h = record {
+pub reflection_survives : (setup : Setup) (s : State) (image : List ℕ) (bodies : List Body) → IsOrderly s → Reflects setup s image bodies → Survives setup s image
+reflection_survives setup s image bodies orderly h = record {
   bodies = bodies;
   sound = record {
     shape = h.shape;

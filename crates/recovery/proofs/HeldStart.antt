@@ -12,7 +12,7 @@ use Rattle.block_format.specs.Layout.{Body}
 use Rattle.block_format.specs.Copies.{Copy, copies_of, copies_named}
 use Rattle.recovery.specs.Start.{start_state}
 use Rattle.recovery.specs.Sound.{IsSound}
-use Rattle.recovery.specs.Holding.{begun_versions, flushed_versions, versions_in, Holds}
+use Rattle.recovery.specs.Holding.{begun_versions, flushed_versions, versions_in, Reflects}
 use Rattle.recovery.proofs.Each.{all_map}
 use Rattle.recovery.proofs.Growing.{all_from}
 use Rattle.recovery.proofs.ColdLogs.{as_writes, versions_of}
@@ -37,8 +37,8 @@ each_in digest bodies =
     (λ c there same. map_there (λ (d : Copy). d.version) (copies_named digest (copies_of bodies)) c (filter_there (λ (d : Copy). same_digest digest d.digest) (copies_of bodies) c same there)))
 
 -- after a start from a sound image each copy is flushed
-pub start_held : (setup : Setup) (image : List ℕ) (bodies : List Body) → IsSound setup image bodies → Holds setup (start_state setup bodies) image bodies
-start_held setup image bodies sound = record {
+pub start_reflects : (setup : Setup) (image : List ℕ) (bodies : List Body) → IsSound setup image bodies → Reflects setup (start_state setup bodies) image bodies
+start_reflects setup image bodies sound = record {
   shape = sound.shape;
   is_shape = sound.is_shape;
   readable = sound.readable;

@@ -10,15 +10,15 @@ use Rattle.device_model.specs.Device.{State, history}
 use Rattle.device_model.specs.Steps.{sealed_stream, gate_begun, after_step}
 use Rattle.block_format.specs.Layout.{Body}
 use Rattle.block_format.specs.Copies.{copies_of}
-use Rattle.recovery.specs.Holding.{begun_versions, flushed_versions, versions_in, Holds}
+use Rattle.recovery.specs.Holding.{begun_versions, flushed_versions, versions_in, Reflects}
 use Rattle.recovery.proofs.Each.{all_map}
 use Rattle.recovery.proofs.Pending.{seal_shown, begun_pending, begun_stays}
 use Rattle.recovery.proofs.Stages.{IsFurther, begun_further, flushed_alike}
 
 -- what has begun in one state has begun in another, and what is flushed in that one is among the copies
-pub held_after : (setup : Setup) (s t : State) (image : List ℕ) (bodies : List Body) → ((e : Digest) (v : Version) → Contains (begun_versions (pending_of s.book) (history s e)) v → Contains (begun_versions (pending_of t.book) (history t e)) v)
-    → ((e : Digest) → AllByRecursion (λ v. Contains (versions_in e bodies) v) (flushed_versions (pending_of t.book) (history t e))) → Holds setup s image bodies → Holds setup t image bodies
-held_after setup s t image bodies begins flushed holds = record {
+pub reflects_after : (setup : Setup) (s t : State) (image : List ℕ) (bodies : List Body) → ((e : Digest) (v : Version) → Contains (begun_versions (pending_of s.book) (history s e)) v → Contains (begun_versions (pending_of t.book) (history t e)) v)
+    → ((e : Digest) → AllByRecursion (λ v. Contains (versions_in e bodies) v) (flushed_versions (pending_of t.book) (history t e))) → Reflects setup s image bodies → Reflects setup t image bodies
+reflects_after setup s t image bodies begins flushed holds = record {
   shape = holds.shape;
   is_shape = holds.is_shape;
   readable = holds.readable;
@@ -34,10 +34,10 @@ pub sealed_pending : (setup : Setup) (stream : Stream) (s : State) → pending_o
 unfolding after_step
 sealed_pending setup stream s = seal_shown stream s.book.buffers
 
-pub sealed_held : (setup : Setup) (stream : Stream) (s : State) (image : List ℕ) (bodies : List Body) → Holds setup s image bodies → Holds setup (after_step setup (sealed_stream stream) s) image bodies
+pub sealed_reflects : (setup : Setup) (stream : Stream) (s : State) (image : List ℕ) (bodies : List Body) → Reflects setup s image bodies → Reflects setup (after_step setup (sealed_stream stream) s) image bodies
 unfolding after_step
-sealed_held setup stream s image bodies holds =
-    held_after setup s (after_step setup (sealed_stream stream) s) image bodies
+sealed_reflects setup stream s image bodies holds =
+    reflects_after setup s (after_step setup (sealed_stream stream) s) image bodies
     (λ e v there. subst (λ (p : Pending). Contains (begun_versions p (history s e)) v) (sym (sealed_pending setup stream s)) there)
     (λ e. subst (λ (p : Pending). AllByRecursion (λ v. Contains (versions_in e bodies) v) (flushed_versions p (history s e))) (sym (sealed_pending setup stream s)) (holds.flushed e)) holds
 
@@ -46,10 +46,10 @@ sealed_held setup stream s image bodies holds =
 begun_is_further : (number : ℕ) (book : Book) → IsFurther (pending_of book) (pending_of (with_gate_begun number book))
 begun_is_further number book = record { pending = λ m is. sym (begun_pending number book m) ∙ is; begun = λ m is. inl (begun_stays number book m is) }
 
-pub begun_held : (setup : Setup) (number : ℕ) (s : State) (image : List ℕ) (bodies : List Body) → Holds setup s image bodies → Holds setup (after_step setup (gate_begun number) s) image bodies
+pub begun_reflects : (setup : Setup) (number : ℕ) (s : State) (image : List ℕ) (bodies : List Body) → Reflects setup s image bodies → Reflects setup (after_step setup (gate_begun number) s) image bodies
 unfolding after_step
-begun_held setup number s image bodies holds =
-    held_after setup s (after_step setup (gate_begun number) s) image bodies
+begun_reflects setup number s image bodies holds =
+    reflects_after setup s (after_step setup (gate_begun number) s) image bodies
     (λ e v there. begun_further (pending_of s.book) (pending_of (with_gate_begun number s.book)) (begun_is_further number s.book) (history s e) v there)
     (λ e. subst (AllByRecursion (λ v. Contains (versions_in e bodies) v))
     (sym (flushed_alike (pending_of s.book) (pending_of (with_gate_begun number s.book)) (begun_pending number s.book) (history s e))) (holds.flushed e)) holds

@@ -13,11 +13,11 @@ use Rattle.device_model.specs.Device.{State, history}
 use Rattle.device_model.specs.Steps.{wrote, after_step}
 use Rattle.block_format.specs.Layout.{Body}
 use Rattle.recovery.specs.Orderly.{NumbersBelow, IsOrderly}
-use Rattle.recovery.specs.Holding.{begun_versions, flushed_versions, versions_in, Holds, IsCounted}
+use Rattle.recovery.specs.Holding.{begun_versions, flushed_versions, versions_in, Reflects, HasRisingNumbers}
 use Rattle.recovery.specs.Awaited.{IsAwaited}
 use Rattle.recovery.proofs.Each.{SameBelow, any_same, flushed_same}
 use Rattle.recovery.proofs.Members.{rest_there}
-use Rattle.recovery.proofs.HeldSteps.{held_after}
+use Rattle.recovery.proofs.HeldSteps.{reflects_after}
 use Rattle.recovery.proofs.Placing.{wrote_pending}
 
 -- ---- where of the numbers of a history the same is pending and begun
@@ -65,7 +65,7 @@ wrote_case setup s digest v e P more other =
 
 -- ---- an image without the write
 
-module _ (setup : Setup) (s : State) (digest : Digest) (v : Version) (orderly : IsOrderly s) (counted : IsCounted s.book) where
+module _ (setup : Setup) (s : State) (digest : Digest) (v : Version) (orderly : IsOrderly s) (counted : HasRisingNumbers s.book) where
   abbrev after : State
   after = after_step setup (wrote digest v) s
 
@@ -91,5 +91,5 @@ module _ (setup : Setup) (s : State) (digest : Digest) (v : Version) (orderly : 
       wrote_case setup s digest v e (λ l. AllByRecursion P (flushed_versions (pending_of after.book) l))
       (λ _. subst (AllByRecursion P) (sym (cond-false (is_flushed (pending_of after.book) (placing_number setup client (version_units v) s.book ∷ [])) (v ∷ flushed_versions (pending_of after.book) (history s e)) (flushed_versions (pending_of after.book) (history s e)) unflushed)) now) (λ _. now)
 
-  pub wrote_held : (image : List ℕ) (bodies : List Body) → Holds setup s image bodies → Holds setup (after_step setup (wrote digest v) s) image bodies
-  wrote_held image bodies holds = held_after setup s after image bodies begun_more (λ e. flushed_no_more (λ w. Contains (versions_in e bodies) w) e (holds.flushed e)) holds
+  pub wrote_held : (image : List ℕ) (bodies : List Body) → Reflects setup s image bodies → Reflects setup (after_step setup (wrote digest v) s) image bodies
+  wrote_held image bodies holds = reflects_after setup s after image bodies begun_more (λ e. flushed_no_more (λ w. Contains (versions_in e bodies) w) e (holds.flushed e)) holds

@@ -15,23 +15,23 @@ use Rattle.block_format.specs.Layout.{IsGeometry, IsOpen, IsClosed, gate_sector,
 use Rattle.block_format.specs.Copies.{Copy, IsReadable, copies_from, copies_of, copies_named}
 use Rattle.recovery.specs.Sound.{IsShapeOf, NoStrays}
 use Rattle.recovery.specs.Writes.{DiffersIn}
-use Rattle.recovery.specs.Holding.{begun_versions, flushed_versions, versions_in, Holds, IsHeld}
+use Rattle.recovery.specs.Holding.{begun_versions, flushed_versions, versions_in, Reflects, IsReflection}
 use Rattle.recovery.proofs.Images.{one_shape, readable_elsewhere, Opened, readable_opened}
 use Rattle.recovery.proofs.Each.{all_map}
 use Rattle.recovery.proofs.Writing.{copies_joined}
 
 -- such an image is read in the shape of its setup
-pub held_in_shape : (setup : Setup) (g : Geometry) (s : State) (image : List ℕ) (bodies : List Body) → IsShapeOf setup g → IsGeometry g → Holds setup s image bodies → IsReadable image g bodies
-held_in_shape setup g s image bodies of_g is_g holds =
+pub reflects_in_shape : (setup : Setup) (g : Geometry) (s : State) (image : List ℕ) (bodies : List Body) → IsShapeOf setup g → IsGeometry g → Reflects setup s image bodies → IsReadable image g bodies
+reflects_in_shape setup g s image bodies of_g is_g holds =
     subst (λ (shape : Geometry). IsReadable image shape bodies) (one_shape setup holds.shape g holds.is_shape of_g holds.readable.header.geometry is_g) holds.readable
 
 -- a change within a block whose gate is closed before and after shows nothing
-pub elsewhere_held : (setup : Setup) (g : Geometry) (s : State) (block : ℕ) (old new : List ℕ) (bodies : List Body) → IsShapeOf setup g → IsGeometry g → DiffersIn g block old new
-    → IsClosed (gate_sector g block old) → IsClosed (gate_sector g block new) → Holds setup s old bodies → Holds setup s new bodies
-elsewhere_held setup g s block old new bodies of_g is_g differs closed_old closed_new holds = record {
+pub elsewhere_reflects : (setup : Setup) (g : Geometry) (s : State) (block : ℕ) (old new : List ℕ) (bodies : List Body) → IsShapeOf setup g → IsGeometry g → DiffersIn g block old new
+    → IsClosed (gate_sector g block old) → IsClosed (gate_sector g block new) → Reflects setup s old bodies → Reflects setup s new bodies
+elsewhere_reflects setup g s block old new bodies of_g is_g differs closed_old closed_new holds = record {
   shape = g;
   is_shape = of_g;
-  readable = readable_elsewhere g block old new differs bodies closed_old closed_new (held_in_shape setup g s old bodies of_g is_g holds);
+  readable = readable_elsewhere g block old new differs bodies closed_old closed_new (reflects_in_shape setup g s old bodies of_g is_g holds);
   strays = holds.strays;
   begun = holds.begun;
   flushed = holds.flushed;
@@ -74,11 +74,11 @@ module _ (before behind : List Body) (body : Body) where
       (Contains-append_cases (versions_in digest before) (versions_in digest behind) v (subst (λ (l : List Version). Contains l v) (versions_joined digest before behind) there)))
 
 -- a gate opens before a body of such records
-pub opened_held : (setup : Setup) (g : Geometry) (s : State) (block : ℕ) (old new : List ℕ) (bodies : List Body) (body : Body) → IsShapeOf setup g → IsGeometry g → DiffersIn g block old new → block < g.blocks
+pub opened_reflects : (setup : Setup) (g : Geometry) (s : State) (block : ℕ) (old new : List ℕ) (bodies : List Body) (body : Body) → IsShapeOf setup g → IsGeometry g → DiffersIn g block old new → block < g.blocks
     → IsClosed (gate_sector g block old) → IsOpen (gate_sector g block new) → IsBody (block_capacity g.block_size) (body_bytes g block new) body → body.block ≡ block
     → AllByRecursion (λ r. (device_number setup.devices r.0 ≡ setup.device) × Contains (begun_versions (pending_of s.book) (history s r.0)) r.1) body.records
-    → Holds setup s old bodies → IsHeld setup s new
-opened_held setup g s block old new bodies body of_g is_g differs within closed is_open is_body placed records holds = (
+    → Reflects setup s old bodies → IsReflection setup s new
+opened_reflects setup g s block old new bodies body of_g is_g differs within closed is_open is_body placed records holds = (
   o.before ++ body ∷ o.behind,
   record {
     shape = g;
@@ -97,4 +97,4 @@ opened_held setup g s block old new bodies body of_g is_g differs within closed 
 )
   where
     o : Opened g block old new differs bodies body
-    o = readable_opened g block old new differs bodies body within closed is_open is_body placed (held_in_shape setup g s old bodies of_g is_g holds)
+    o = readable_opened g block old new differs bodies body within closed is_open is_body placed (reflects_in_shape setup g s old bodies of_g is_g holds)

@@ -11,7 +11,7 @@ use Rattle.rec_format.proofs.Laws.{same_digest_is}
 use Rattle.device_model.proofs.Numbers.{next_number_rises}
 use Rattle.recovery.specs.Orderly.{IsOrderlyHistory, IsOrderly}
 use Rattle.recovery.specs.Writes.{MayFollow}
-use Rattle.recovery.specs.Holding.{IsCounted}
+use Rattle.recovery.specs.Holding.{HasRisingNumbers}
 use Rattle.recovery.proofs.Growing.{numbers_rise, history_rises, history_grows}
 use Rattle.recovery.proofs.Placing.{found_is, some_room}
 use Rattle.recovery.proofs.HeldWrites.{written_item, wrote_case}
@@ -22,7 +22,7 @@ put_in_next setup digest units book None = refl
 put_in_next setup digest units book (Some b) = refl
 
 -- the buffer that a placing uses has a number below the next
-pub placing_below : (setup : Setup) (stream : Stream) (digest : Digest) (units : ℕ) (book : Book) → IsCounted book → placing_number setup stream units book < (placed setup stream digest units book).next_number
+pub placing_below : (setup : Setup) (stream : Stream) (digest : Digest) (units : ℕ) (book : Book) → HasRisingNumbers book → placing_number setup stream units book < (placed setup stream digest units book).next_number
 unfolding placed
 placing_below setup stream digest units book counted =
     subst (λ (n : ℕ). placing_number setup stream units book < n) (put_in_next setup digest units (with_room setup stream units book) (filling_buffer stream (with_room setup stream units book).buffers))
@@ -37,11 +37,11 @@ placing_below setup stream digest units book counted =
 
 -- ---- the steps
 
-wrote_below : (setup : Setup) (s : State) (digest : Digest) (v : Version) → IsCounted s.book → placing_number setup client (version_units v) s.book < (after_step setup (wrote digest v) s).book.next_number
+wrote_below : (setup : Setup) (s : State) (digest : Digest) (v : Version) → HasRisingNumbers s.book → placing_number setup client (version_units v) s.book < (after_step setup (wrote digest v) s).book.next_number
 unfolding after_step
 wrote_below setup s digest v counted = placing_below setup client digest (version_units v) s.book counted
 
-pub wrote_orderly : (setup : Setup) (s : State) (digest : Digest) (v : Version) → IsOrderly s → IsCounted s.book → MayFollow setup s digest v → IsOrderly (after_step setup (wrote digest v) s)
+pub wrote_orderly : (setup : Setup) (s : State) (digest : Digest) (v : Version) → IsOrderly s → HasRisingNumbers s.book → MayFollow setup s digest v → IsOrderly (after_step setup (wrote digest v) s)
 wrote_orderly setup s digest v orderly counted may e =
     wrote_case setup s digest v e (λ l. IsOrderlyHistory (after_step setup (wrote digest v) s).book.next_number l)
     (λ same. subst (λ (d : Digest). IsOrderlyHistory (after_step setup (wrote digest v) s).book.next_number (written_item setup s v ∷ history s d)) (sym (same_digest_is e digest same)) own)

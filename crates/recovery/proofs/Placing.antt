@@ -13,7 +13,7 @@ use Rattle.device_model.specs.Histories.{Pending, is_pending, is_begun}
 use Rattle.device_model.specs.Book.{Setup, Buffer, Book, Phase, Stream, client, defrag, filling, sealed, opening, is_filling, is_opening, same_stream, seal_stream, first_block, filling_buffer, fits_in, has_room, with_new_buffer, with_room, put_in, placed, number_or, placing_number, refreshed, pending_of}
 use Rattle.device_model.specs.Device.{State}
 use Rattle.device_model.specs.Steps.{wrote, after_step}
-use Rattle.recovery.specs.Holding.{AreRising, IsCounted}
+use Rattle.recovery.specs.Holding.{AreRising, HasRisingNumbers}
 use Rattle.recovery.specs.Awaited.{IsAwaited}
 use Rattle.recovery.proofs.Each.{all_map}
 use Rattle.recovery.proofs.Pending.{shown, any_map, seal_shown, use_shown}
@@ -117,7 +117,7 @@ room_of setup stream units book = by (has_room setup stream units book) (some_ro
 
 -- ---- a buffer more
 
-module _ (stream : Stream) (book : Book) (counted : IsCounted book) where
+module _ (stream : Stream) (book : Book) (counted : HasRisingNumbers book) where
   new_pending : pending_of (with_new_buffer stream book) ≡ pending_of book ++ (book.next_number, false) ∷ []
   new_pending =
       map-append shown (seal_stream stream book.buffers) ((record { number = book.next_number; block = first_block book.free; stream = stream; used = 0; phase = filling }) ∷ [])
@@ -158,7 +158,7 @@ unfolding refreshed
 put_in_pending setup digest units book None = refl
 put_in_pending setup digest units book (Some b) = use_shown b.number units book.buffers
 
-room_awaited : (setup : Setup) (stream : Stream) (units : ℕ) (book : Book) → IsCounted book → IsAwaited (placing_number setup stream units book) book.next_number (pending_of book) (pending_of (with_room setup stream units book))
+room_awaited : (setup : Setup) (stream : Stream) (units : ℕ) (book : Book) → HasRisingNumbers book → IsAwaited (placing_number setup stream units book) book.next_number (pending_of book) (pending_of (with_room setup stream units book))
 room_awaited setup stream units book counted = by (has_room setup stream units book) (some_room setup.capacity units (filling_buffer stream book.buffers))
   where
     by : (c : Bool) → (c ≡ true → (b : Buffer) × (filling_buffer stream book.buffers ≡ Some b))
@@ -175,14 +175,14 @@ room_awaited setup stream units book counted = by (has_room setup stream units b
         })
     by false some = new_awaited stream book counted
 
-pub placed_awaited : (setup : Setup) (stream : Stream) (digest : Digest) (units : ℕ) (book : Book) → IsCounted book
+pub placed_awaited : (setup : Setup) (stream : Stream) (digest : Digest) (units : ℕ) (book : Book) → HasRisingNumbers book
     → IsAwaited (placing_number setup stream units book) book.next_number (pending_of book) (pending_of (placed setup stream digest units book))
 unfolding placed
 placed_awaited setup stream digest units book counted =
     subst (λ (p : Pending). IsAwaited (placing_number setup stream units book) book.next_number (pending_of book) p)
     (sym (put_in_pending setup digest units (with_room setup stream units book) (filling_buffer stream (with_room setup stream units book).buffers))) (room_awaited setup stream units book counted)
 
-pub wrote_pending : (setup : Setup) (s : State) (digest : Digest) (v : Version) → IsCounted s.book
+pub wrote_pending : (setup : Setup) (s : State) (digest : Digest) (v : Version) → HasRisingNumbers s.book
     → IsAwaited (placing_number setup client (version_units v) s.book) s.book.next_number (pending_of s.book) (pending_of (after_step setup (wrote digest v) s).book)
 unfolding after_step
 wrote_pending setup s digest v counted = placed_awaited setup client digest (version_units v) s.book counted

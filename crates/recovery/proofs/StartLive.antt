@@ -11,7 +11,7 @@ use Rattle.block_format.specs.Layout.{Body}
 use Rattle.block_format.specs.Copies.{Copy, copies_of, copies_named, latest, cold_copy}
 use Rattle.recovery.specs.Start.{live_copy, names_of_copies, cold_copies, start_state, entries_state}
 use Rattle.recovery.proofs.Growing.{cons_cases}
-use Rattle.recovery.proofs.Held.{IsLatest, latest_is}
+use Rattle.recovery.proofs.Held.{IsNewest, latest_is}
 use Rattle.recovery.proofs.Members.{first_there, rest_there, filter_from}
 
 -- the first of some copies that is of a digest
@@ -62,7 +62,7 @@ names_there (x ∷ copies) c there = by (cons_cases x copies c there) (names_the
 found_named : (digest : Digest) (copies : List Copy) → IfSome (cold_copy digest copies) (λ c. Contains copies c × (same_digest digest c.digest ≡ true))
 found_named digest copies = by (latest (copies_named digest copies)) (latest_is (copies_named digest copies))
   where
-    by : (found : Option Copy) → IfSome found (IsLatest (copies_named digest copies)) → IfSome found (λ c. Contains copies c × (same_digest digest c.digest ≡ true))
+    by : (found : Option Copy) → IfSome found (IsNewest (copies_named digest copies)) → IfSome found (λ c. Contains copies c × (same_digest digest c.digest ≡ true))
     by None is = tt
     by (Some c) is = filter_from (λ (x : Copy). same_digest digest x.digest) copies c is.there
 

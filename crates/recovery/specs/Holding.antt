@@ -42,7 +42,7 @@ versions_in digest bodies = map (λ c. c.version) (copies_named digest (copies_o
 
 -- An image that can be read, with these bodies: each of their copies belongs to the device and its flush has begun, and each
 -- flushed version is among them.
-pub record Holds (setup : Setup) (s : State) (image : List ℕ) (bodies : List Body) : Type 0 where
+pub record Reflects (setup : Setup) (s : State) (image : List ℕ) (bodies : List Body) : Type 0 where
   pub shape : Geometry
   pub is_shape : IsShapeOf setup shape
   pub readable : IsReadable image shape bodies
@@ -51,8 +51,8 @@ pub record Holds (setup : Setup) (s : State) (image : List ℕ) (bodies : List B
   pub flushed : (digest : Digest) → AllByRecursion (λ v. Contains (versions_in digest bodies) v) (flushed_versions (pending_of s.book) (history s digest))
 
 -- some bodies are those of such an image
-abbrev pub IsHeld : Setup → State → (image : List ℕ) → Type 0
-IsHeld setup s image = (bodies : List Body) × Holds setup s image bodies
+abbrev pub IsReflection : Setup → State → (image : List ℕ) → Type 0
+IsReflection setup s image = (bodies : List Body) × Reflects setup s image bodies
 
 -- ---- buffers
 
@@ -61,6 +61,6 @@ AreRising [] = Unit {0}
 AreRising (b ∷ bs) = AllByRecursion (λ c. b.number < c.number) bs × AreRising bs
 
 -- the buffers of a book stand in rising number, all below the next
-pub record IsCounted (book : Book) : Type 0 where
+pub record HasRisingNumbers (book : Book) : Type 0 where
   pub rising : AreRising book.buffers
   pub below : AllByRecursion (λ b. b.number < book.next_number) book.buffers

@@ -23,13 +23,13 @@ use Rattle.block_format.specs.Refusals.{IsAsked}
 use Rattle.block_format.proofs.BodyLaws.{one_body}
 use Rattle.block_flusher.specs.Images.{IsShut}
 use Rattle.recovery.specs.Cold.{copies_high}
-use Rattle.recovery.specs.Holding.{IsHeld}
+use Rattle.recovery.specs.Holding.{IsReflection}
 use Rattle.recovery.proofs.Cold.{one_image, covered_is, cover_of}
 use Rattle.recovery.proofs.ColdStart.{start_entry, start_times, start_orderly}
 use Rattle.recovery.proofs.Growing.{all_at}
 use Rattle.recovery.proofs.Held.{latest_is}
 use Rattle.recovery.proofs.Held as latest_copy
-use Rattle.recovery.proofs.HeldStart.{start_held}
+use Rattle.recovery.proofs.HeldStart.{start_reflects}
 use Rattle.recovery.proofs.Images.{one_shape}
 use Rattle.recovery.proofs.Members.{filter_from}
 use Rattle.recovery.proofs.StartLive.{start_live, entries_live}
@@ -69,7 +69,7 @@ own_all setup g (c ∷ copies) shape none =
 cold_there : (d : Digest) (copies : List Copy) → IfSome (cold_copy d copies) (λ c. Contains copies c × (same_digest d c.digest ≡ true))
 cold_there d copies = by (cold_copy d copies) (latest_is (copies_named d copies))
   where
-    by : (o : Option Copy) → IfSome o (latest_copy.IsLatest (copies_named d copies)) → IfSome o (λ c. Contains copies c × (same_digest d c.digest ≡ true))
+    by : (o : Option Copy) → IfSome o (latest_copy.IsNewest (copies_named d copies)) → IfSome o (λ c. Contains copies c × (same_digest d c.digest ≡ true))
     by None is = tt
     by (Some c) is = filter_from (λ (x : Copy). same_digest d x.digest) copies c is.there
 
@@ -213,7 +213,7 @@ module _ {D : Type 0} (disk : D) (g : Geometry) (gates : List Gate) (set : Setti
         placed = shelf_placed disk g gates set bodies finding found count sure look start start_shows view bytes has only;
         safe = record {
           orderly = start_orderly setup bytes bodies sound;
-          images = λ c left. subst (IsHeld setup start) (sym (only.alone c left)) (bodies, start_held setup bytes bodies sound);
+          images = λ c left. subst (IsReflection setup start) (sym (only.alone c left)) (bodies, start_reflects setup bytes bodies sound);
         };
       }
 

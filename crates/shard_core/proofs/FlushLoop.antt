@@ -129,14 +129,14 @@ module _ {D : Type 0} (view : D → DiskView) where
 
 -- ---- no buffer takes records
 
-pub record IsQuiet {D : Type 0} (shelf : ShelfView D) : Type 0 where
+pub record FillsNone {D : Type 0} (shelf : ShelfView D) : Type 0 where
   pub none_filling : AllByRecursion (λ b. is_filling b.phase ≡ false) shelf.buffers
 
 all_behind : {X : Type 0} (P : X → Type 0) (xs : List X) → AllByRecursion P xs → AllByRecursion P (drop 1 xs)
 all_behind P [] all = tt
 all_behind P (x ∷ xs) all = all.1
 
-pub quiet_on : {D : Type 0} (old new : ShelfView D) → IsQuiet old → FirstLeaves old.buffers new.buffers → IsQuiet new
+pub quiet_on : {D : Type 0} (old new : ShelfView D) → FillsNone old → FirstLeaves old.buffers new.buffers → FillsNone new
 quiet_on old new quiet leaves = record { none_filling = subst (AllByRecursion (λ b. is_filling b.phase ≡ false)) leaves.0 (all_behind (λ b. is_filling b.phase ≡ false) old.buffers quiet.none_filling) }
 
 -- where every buffer takes records and none does, there is none

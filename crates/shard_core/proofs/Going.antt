@@ -6,7 +6,7 @@ use Rattle.device_model.specs.Steps.{Step, after_step, after_steps, states_throu
 use Rattle.disk_model.specs.Disk.{Images, DiskView, IsDisk, IsHonest}
 use Rattle.disk_model.specs.Runs.{OneOf, leaves_none, leaves_then, leaves_more}
 use Rattle.recovery.specs.Surviving.{Survives}
-use Rattle.recovery.proofs.Held.{held_survives}
+use Rattle.recovery.proofs.Held.{reflection_survives}
 use Rattle.block_shelf.specs.View.{ShelfView}
 use Rattle.block_shelf.specs.Standing.{StandsFor, IsSafe, IsPlaced}
 use Rattle.block_shelf.specs.Calls.{Goes}
@@ -33,7 +33,7 @@ one_behind setup P (step ∷ first) then s image there = inr (one_behind setup P
 
 -- a safe shelf's images survive its state
 pub safe_survives : {D : Type 0} (setup : Setup) (view : D → DiskView) (shelf : ShelfView D) (s : State) → IsSafe setup view shelf s → (image : List ℕ) → (view shelf.disk).may_leave image → Survives setup s image
-safe_survives setup view shelf s safe image here = let held = safe.images image here in held_survives setup s image held.0 safe.orderly held.1
+safe_survives setup view shelf s safe image here = let held = safe.images image here in reflection_survives setup s image held.0 safe.orderly held.1
 
 module _ {D : Type 0} (view : D → DiskView) (setup : Setup) where
   -- no step

@@ -13,7 +13,7 @@ use Rattle.rec_format.specs.Places.{same_digest, part_number_of}
 use Rattle.rec_format.proofs.Laws.{same_digest_refl, same_digest_is}
 use Rattle.recovery.proofs.Growing.{cons_cases, all_at, all_from}
 use Rattle.recovery.proofs.Members.{first_there, rest_there}
-use Rattle.shard_core.specs.Index.{held, high_of, IsPlaceOf, Holds}
+use Rattle.shard_core.specs.Index.{held, high_of, IsPlaceOf, WithEntry}
 
 abbrev or_else : Option Entry → Option Entry → Option Entry
 or_else None other = other
@@ -89,7 +89,7 @@ high-append devices sprigs part (r ∷ xs) ys = joined (part_number_of devices s
 -- ---- one entry more
 
 -- each entry is the new one, or was there before
-pub held_cases : (e : Entry) (old new : List Entry) → Holds e old new → (x : Entry) → Contains new x → (e ≡ x) ⊎ Contains old x
+pub held_cases : (e : Entry) (old new : List Entry) → WithEntry e old new → (x : Entry) → Contains new x → (e ≡ x) ⊎ Contains old x
 held_cases e old new holds x there = cons_cases e old x (all_at (Contains (e ∷ old)) new x holds.each there)
 
 first_or_rest : (e : Entry) (old : List Entry) (x : Entry) → (e ≡ x) ⊎ Contains old x → Contains (e ∷ old) x
@@ -97,7 +97,7 @@ first_or_rest e old x (inl same) = subst (Contains (e ∷ old)) same (first_ther
 first_or_rest e old x (inr before) = rest_there e old x before
 
 -- at the end, where the digest had none
-pub holds_pushed : (e : Entry) (xs : List Entry) → held e.digest xs ≡ None → Holds e xs (xs ++ e ∷ [])
+pub holds_pushed : (e : Entry) (xs : List Entry) → held e.digest xs ≡ None → WithEntry e xs (xs ++ e ∷ [])
 holds_pushed e xs none = record {
   shown = λ d. held-append d xs (e ∷ []) ∙ shows d (same_digest d e.digest) refl (held d xs) refl;
   high = λ devices sprigs part. high-append devices sprigs part xs (e ∷ []) ∙ highest (part_number_of devices sprigs e.digest == part) (high_of devices sprigs part xs);
@@ -152,7 +152,7 @@ module _ (before after : List Entry) (here e : Entry) (none : held e.digest befo
       (Contains-append_cases before (e ∷ after) x there)
 
 -- in the place of the digest's entry, which is no later
-pub holds_set : (e : Entry) (xs : List Entry) (i : ℕ) → IsPlaceOf e.digest xs i → IfSome (held e.digest xs) (λ before. before.stamp.lut ≤ e.stamp.lut) → Holds e xs (set xs i e)
+pub holds_set : (e : Entry) (xs : List Entry) (i : ℕ) → IsPlaceOf e.digest xs i → IfSome (held e.digest xs) (λ before. before.stamp.lut ≤ e.stamp.lut) → WithEntry e xs (set xs i e)
 holds_set e xs i p later =
     let there = ap (λ (l : List Entry). set l i e) p.parts ∙ set_at p.before p.here p.after e i p.counted in
     let had : IfSome (Some p.here) (λ before. before.stamp.lut ≤ e.stamp.lut) = subst (λ (o : Option Entry). IfSome o (λ before. before.stamp.lut ≤ e.stamp.lut)) (ap (held e.digest) p.parts ∙ held_hit e.digest p.before p.after p.here p.none p.same) later in

@@ -21,7 +21,7 @@ use Rattle.recovery.specs.Cold.{later_one, copies_high}
 use Rattle.recovery.proofs.Cold.{cold_copy_more}
 use Rattle.recovery.proofs.Growing.{all_at, all_from}
 use Rattle.recovery.proofs.Members.{first_there}
-use Rattle.shard_core.specs.Index.{held, high_of, entry_for, Holds}
+use Rattle.shard_core.specs.Index.{held, high_of, entry_for, WithEntry}
 use Rattle.shard_core.specs.Starting.{own_copies}
 use Rattle.shard_core.specs.Finding.{KeepsOne, KeepsAll, IsLatest, is_later_than, later_entry, found_entry}
 use Rattle.shard_core.proofs.IndexLemmas.{held_cases}
@@ -99,7 +99,7 @@ module _ (g : Geometry) (e : Entry) (old : List Entry) where
           omega (arith, at)
 
   -- one that is put, since it is the first or later
-  pub keeps_put : own ≡ true → is_later_than (held e.digest old) e.stamp ≡ true → (new : List Entry) → Holds e old new → KeepsOne g e old new
+  pub keeps_put : own ≡ true → is_later_than (held e.digest old) e.stamp ≡ true → (new : List Entry) → WithEntry e old new → KeepsOne g e old new
   keeps_put mine later new holds = record {
     shown = λ d. holds.shown d ∙ put_shown d (same_digest d e.digest) refl ∙ sym (cond-true own (cond (same_digest d e.digest) (Some (later_entry (held d old) e)) (held d old)) (held d old) mine);
     high = λ sprigs part. holds.high g.devices sprigs part ∙ sym (cond-true own (cond (part_number_of g.devices sprigs e.digest == part) (max e.stamp.lut (high_of g.devices sprigs part old)) (high_of g.devices sprigs part old)) (high_of g.devices sprigs part old) mine);

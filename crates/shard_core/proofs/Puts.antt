@@ -39,7 +39,7 @@ use Rattle.block_shelf.specs.Standing as shelf
 use Rattle.block_shelf.specs.Calls.{Goes, IsPlaceFor, Names, live_at, append_refusal, IsPutRefusal}
 use Rattle.shard_core.specs.declared.refusals.WriteRefusal.{WriteRefusal}
 use Rattle.shard_core.specs.declared.refusals.WriteRefusal.TheVariants as write_refusals
-use Rattle.shard_core.specs.Index.{held, stamp_held, flag_of, live_of_entry, high_of, Holds}
+use Rattle.shard_core.specs.Index.{held, stamp_held, flag_of, live_of_entry, high_of, WithEntry}
 use Rattle.shard_core.specs.View.{ShardView, IsWhole, IsEntryOf, SameShape, setup_of}
 use Rattle.shard_core.specs.Stands.{Lists, Agrees}
 use Rattle.shard_core.specs.Calls.{Makes, FlushesAll, cause_of_write, write_of, write_answer}
@@ -53,7 +53,7 @@ use Rattle.shard_core.proofs.Placed.{copy_in, other_live, wrote_queue, wrote_fil
 
 -- ---- the index behind a write
 
-module _ (setup : Setup) (s : State) (digest : Digest) (v : Version) (old new : List Entry) (e : Entry) (lists : Lists setup old s) (holds : Holds e old new) (named : e.digest ≡ digest) (names : Names e v) (cover : e.cover ≡ v.cover)
+module _ (setup : Setup) (s : State) (digest : Digest) (v : Version) (old new : List Entry) (e : Entry) (lists : Lists setup old s) (holds : WithEntry e old new) (named : e.digest ≡ digest) (names : Names e v) (cover : e.cover ≡ v.cover)
     (live : live_of digest (after_step setup (wrote digest v) s).book.live ≡ Some (live_of_entry e)) where
   abbrev after : State
   after = after_step setup (wrote digest v) s
@@ -190,12 +190,12 @@ module _ {D : Type 0} (view : D → DiskView) (digest : Digest) (v : Version) (p
       least_units : (n : ℕ) → 3 ≤ units_for n
       least_units n = omega arith
 
-  pub entries_stay : (before after : List Entry) → Holds (copied digest v place) before after → IsEntryOf new.geometry (copied digest v place) → AllByRecursion (IsEntryOf old.geometry) before → AllByRecursion (IsEntryOf new.geometry) after
+  pub entries_stay : (before after : List Entry) → WithEntry (copied digest v place) before after → IsEntryOf new.geometry (copied digest v place) → AllByRecursion (IsEntryOf old.geometry) before → AllByRecursion (IsEntryOf new.geometry) after
   entries_stay before after holds one all =
       let both : AllByRecursion (IsEntryOf new.geometry) (copied digest v place ∷ before) = (one, subst (λ (g : Geometry). AllByRecursion (IsEntryOf g) before) (sym geometry) all) in
       all_map (λ e. Contains (copied digest v place ∷ before) e) (IsEntryOf new.geometry) after (λ e there. all_at (IsEntryOf new.geometry) (copied digest v place ∷ before) e both there) holds.each
 
-  pub wrote_by : (shard : ShardView D) (s : State) (index : List Entry) → shard.shelf ≡ old → IsWhole shard → Agrees shard s → Holds (copied digest v place) shard.index index
+  pub wrote_by : (shard : ShardView D) (s : State) (index : List Entry) → shard.shelf ≡ old → IsWhole shard → Agrees shard s → WithEntry (copied digest v place) shard.index index
       → Wrote view shard s digest v place.block (record { shelf = new; set = shard.set; index = index })
   wrote_by shard s index same whole agrees holds =
       let setup : Setup = setup_of shard in

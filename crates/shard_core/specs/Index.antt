@@ -67,7 +67,7 @@ pub record IsPlaceOf (digest : Digest) (entries : List Entry) (at : ℕ) : Type 
   pub same : same_digest digest here.digest ≡ true
 
 -- One entry more: it takes the place of the digest's entry before, and every other stays.
-pub record Holds (e : Entry) (old new : List Entry) : Type 0 where
+pub record WithEntry (e : Entry) (old new : List Entry) : Type 0 where
   pub shown : (d : Digest) → held d new ≡ (if same_digest d e.digest then Some e else held d old)
   pub high : (devices sprigs part : ℕ) → high_of devices sprigs part new
       ≡ (if part_number_of devices sprigs e.digest == part then max e.stamp.lut (high_of devices sprigs part old) else high_of devices sprigs part old)

@@ -7,7 +7,7 @@ ghost use Rattle.block_format.specs.Layout.{IsGeometry, device_end};
 ghost use Rattle.block_format.specs.Copies.{IsFormatted};
 ghost use Rattle.shard_core.specs.Finding.{AllClosed, HasHeaderOf, IsHalfFormatted};
 
-use block_flusher::place_of;
+use block_flusher::start_of_block;
 use block_format::{Geometry, SECTOR_BYTES, write_closed, write_header};
 use disk_model::{Disk, DiskFault, write_synced};
 
@@ -26,7 +26,7 @@ fn close_gates<D: Disk>(disk: &mut D, geometry: &Geometry) -> Result<(), DiskFau
     let mut gate = [0; SECTOR_BYTES];
     write_closed(&mut gate);
     for block in 0..geometry.blocks {
-        disk.write_at(place_of(geometry, block), &gate)?;
+        disk.write_at(start_of_block(geometry, block), &gate)?;
     }
     Ok(())
 }

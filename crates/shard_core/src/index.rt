@@ -1,7 +1,7 @@
 // The primary index: the entry of each digest that has one, in memory.
 ghost use Rattle.std.specs.Prelude.{◌≡◌, ◌+◌, ◌≤◌, [], None, map, IfSome, IfOk, MatchOption, OnOk, OnErr};
 ghost use Rattle.rec_format.specs.Places.{part_number_of};
-ghost use Rattle.shard_core.specs.Index.{held, stamp_held, flag_of, high_of, IsPlaceOf, Holds};
+ghost use Rattle.shard_core.specs.Index.{held, stamp_held, flag_of, high_of, IsPlaceOf, WithEntry};
 
 use block_shelf::Place;
 use partition_map::part_number;
@@ -36,7 +36,7 @@ impl Index {
     pub fn find(&self, digest: &Digest) -> Option<Entry>
         ensures { result ≡ held digest.now self.now.entries }
     {
-        match place_of(&self.entries, digest) {
+        match position_of(&self.entries, digest) {
             Some(at) => Some(self.entries[at]),
             None => None,
         }
@@ -91,9 +91,9 @@ impl Index {
     pub fn put(&mut self, entry: Entry)
         requires room { 1 ≤ self.old.spare }
         requires later { IfSome (held entry.digest self.old.entries) (λ before. before.stamp.lut ≤ entry.stamp.lut) }
-        ensures { Holds entry self.old.entries self.new.entries }
+        ensures { WithEntry entry self.old.entries self.new.entries }
     {
-        match place_of(&self.entries, &entry.digest) {
+        match position_of(&self.entries, &entry.digest) {
             Some(at) => self.entries[at] = entry,
             None => self.entries.push_reserved(entry),
         }
@@ -112,7 +112,7 @@ pub fn place_of_entry(entry: &Entry) -> Place
 }
 
 // Where the digest's entry stands.
-fn place_of(entries: &[Entry], digest: &Digest) -> Option<usize>
+fn position_of(entries: &[Entry], digest: &Digest) -> Option<usize>
     ensures { MatchOption result (held digest.now entries.now ≡ None) (λ at. IsPlaceOf digest.now entries.now at) }
 {
     for (at, entry) in entries.iter().enumerate() {

@@ -125,7 +125,7 @@ impl<D: Disk> Shard<D> {
         let Ok(()) = self.index.reserve() else {
             return Err(WriteRefusal::Memory);
         };
-        let prior = self.place_of(digest);
+        let prior = self.copy_place(digest);
         match self.shelf.append(alloc, digest, version, prior, Class::Put) {
             Ok(place) => {
                 self.index.put(entry_at(digest, version, place));
@@ -136,7 +136,7 @@ impl<D: Disk> Shard<D> {
     }
 
     // Where the digest's copy lies, if it has an entry.
-    fn place_of(&self, digest: &Digest) -> Option<Place> {
+    fn copy_place(&self, digest: &Digest) -> Option<Place> {
         let entry = self.index.find(digest)?;
         Some(place_of_entry(&entry))
     }

@@ -12,7 +12,7 @@ ghost use Rattle.shard_core.specs.Finding.{is_set, IsSure, TellsSector, AreGates
 
 use crate::StartCause;
 use crate::index::Index;
-use block_flusher::place_of;
+use block_flusher::start_of_block;
 use block_format::{
     BodyRefusal, Found, GATE_BYTES, Gate, Geometry, SECTOR_BYTES, is_open, read_body,
 };
@@ -124,7 +124,7 @@ fn read_gates<D: Disk>(
     let mut gates = Vec::new(alloc);
     for block in 0..geometry.blocks {
         let mut gate = [0; GATE_BYTES];
-        let Ok(()) = disk.read_at(place_of(geometry, block), &mut gate) else {
+        let Ok(()) = disk.read_at(start_of_block(geometry, block), &mut gate) else {
             return Err(StartCause::Fault);
         };
         let Ok(()) = gates.push(gate_of(&gate)) else {
@@ -152,7 +152,7 @@ fn read_block<D: Disk>(
     ensures bytes { (D.view disk.old).tells → MatchResult result (λ r. body.new ≡ body_bytes geometry.now block (D.view disk.old).seen) (λ cause. StopsOn geometry.now (D.view disk.old).seen block cause) }
     ensures cause { IfErr result (λ cause. FaultRose cause (D.view disk.old).faults (D.view disk.new).faults) }
 {
-    let place = place_of(geometry, block) + SECTOR_BYTES as u64;
+    let place = start_of_block(geometry, block) + SECTOR_BYTES as u64;
     let Ok(()) = disk.read_at(place, body) else {
         return Err(StartCause::Fault);
     };

@@ -180,19 +180,19 @@ length-without_present d (e ∷ es) order there =
 -- ---- walks
 
 -- each entry is found by its digest, and the next after it is the one at the next place
-place_of : (es : List Entry) (i : ℕ) (e : Entry) → slice_get es i ≡ Some e → IsPlaceOf e.digest es i
-place_of es i e at =
+is_place_of : (es : List Entry) (i : ℕ) (e : Entry) → slice_get es i ≡ Some e → IsPlaceOf e.digest es i
+is_place_of es i e at =
     record {
       in_range = slice_get_within es i e at;
       same = λ d. (λ j. digest_cmp (get_or_from_slice_get es i e d at j).digest e.digest) ∙ tied_itself digest_order e.digest;
     }
 
 pub entry_of-at : (es : List Entry) (i : ℕ) (e : Entry) → IsInDigestOrder es → slice_get es i ≡ Some e → entry_of e.digest es ≡ Some e
-entry_of-at es i e order at = has_entry e.digest es i order (place_of es i e at) e ∙ ap (λ x. Some x) (get_or_from_slice_get es i e e at)
+entry_of-at es i e order at = has_entry e.digest es i order (is_place_of es i e at) e ∙ ap (λ x. Some x) (get_or_from_slice_get es i e e at)
 
 -- The first is the entry after nothing (entry_after-start), and behind the last there is none (slice_get_past).
 pub entry_after-at : (es : List Entry) (i : ℕ) (e : Entry) → IsInDigestOrder es → slice_get es i ≡ Some e → entry_after (Some e.digest) es ≡ slice_get es (i + 1)
-entry_after-at es i e order at = entry_after_place_of e.digest es i order (place_of es i e at)
+entry_after-at es i e order at = entry_after_place_of e.digest es i order (is_place_of es i e at)
 
 -- what a walk has still to come to is the same after an edit of a digest that it has passed
 not_before_of : (d a b : Digest) → digest_before d a ≡ false → same_digest a b ≡ true → digest_before d b ≡ false

@@ -14,8 +14,8 @@ loop-record-init c = (
 pub next_record-requires-clause-used : goal.next_record-requires-clause-used
 next_record-requires-clause-used c = c.loop-record.invariant.1
 
-pub place_of-requires : goal.place_of-requires
-place_of-requires c = omega (arith, c.loop-record.invariant.1)
+pub record_place-requires : goal.record_place-requires
+record_place-requires c = omega (arith, c.loop-record.invariant.1)
 
 pub returns-in_default-clause-refused : goal.returns-in_default-clause-refused
 returns-in_default-clause-refused c = record {
@@ -24,7 +24,7 @@ returns-in_default-clause-refused c = record {
   found = c.loop-record.found.items;
   front = c.loop-record.invariant.0;
   within = c.loop-record.invariant.1;
-  place_is = c.place_of.ensures;
+  place_is = c.record_place.ensures;
   fault = inl (c.loop-record-test.true, c.in_default.ensures.none);
 }
 
@@ -36,8 +36,8 @@ loop-record-preserved c =
       c.in-Some.ensures.next.within,
     )
 
-pub place_of-requires-then-used-head : goal.place_of-requires-then-used-head
-place_of-requires-then-used-head c = omega (arith, c.loop-record.invariant.1)
+pub record_place-requires-then-used-head : goal.record_place-requires-then-used-head
+record_place-requires-then-used-head c = omega (arith, c.loop-record.invariant.1)
 
 pub returns-then-used-head-clause-refused : goal.returns-then-used-head-clause-refused
 returns-then-used-head-clause-refused c =
@@ -48,7 +48,7 @@ returns-then-used-head-clause-refused c =
       found = c.loop-record.found.items;
       front = c.loop-record.invariant.0;
       within = c.loop-record.invariant.1;
-      place_is = c.place_of-then-used-head.ensures;
+      place_is = c.record_place-then-used-head.ensures;
       fault = inr (all, c.if-used-head.true);
     }
 

@@ -1,6 +1,6 @@
 use Rattle.std.proofs.Common.{rules, ◌≡◌, ℕ, ◌+◌, ◌^◌, ◌<◌, List, [], ◌∷◌, ◌++◌, length, refl, sym, ◌∙◌, ap, subst, arith, append_assoc, length-append, length-take}
 use Rattle.std.proofs.lemmas.List.{append-nil}
-use Rattle.line_proto.specs.Stream.{StandsFor}
+use Rattle.line_proto.specs.Stream.{KeepsBytes}
 use Rattle.line_proto.specs.Lines.{reply_text}
 use Rattle.io_traits.specs.Source.{IsAtEnd, Shortens}
 use Rattle.node_session.specs.Session.{StopsAfter}
@@ -41,7 +41,7 @@ returns-then-rest-eq0-clause-run g c =
     let was = c.loop-taken.invariant in
     let piece = c.in-Ok.ensures.piece in
     let none : length piece.0 ≡ 0 = omega (arith, piece.5.0) in
-    let stands = subst (λ (l : List ℕ). StandsFor c.take_piece.new.lines l) (joins_none was.rest piece.0 none) (piece.5.2 was.rest was.stands) in
+    let stands = subst (λ (l : List ℕ). KeepsBytes c.take_piece.new.lines l) (joins_none was.rest piece.0 none) (piece.5.2 was.rest was.stands) in
     let size = size_of_open c.take_piece.new.lines was.rest stands was.falls.open_line in
     let no_rest : length was.rest ≡ 0 = omega (arith, size, c.rest-rest.ensures) in
     record {
@@ -60,7 +60,7 @@ end_of-requires g c =
     let was = c.loop-taken.invariant in
     let piece = c.in-Ok.ensures.piece in
     let none : length piece.0 ≡ 0 = omega (arith, piece.5.0) in
-    let stands = subst (λ (l : List ℕ). StandsFor c.take_piece.new.lines l) (joins_none was.rest piece.0 none) (piece.5.2 was.rest was.stands) in
+    let stands = subst (λ (l : List ℕ). KeepsBytes c.take_piece.new.lines l) (joins_none was.rest piece.0 none) (piece.5.2 was.rest was.stands) in
     let size = size_of_open c.take_piece.new.lines was.rest stands was.falls.open_line in
     omega (arith, c.ranges.limit.fits, size, c.rest-rest.ensures, c.if-rest-eq0.false, count_of_falls was.bytes was.whole was.rest was.falls, was.counted, was.size, was.within)
 
@@ -69,7 +69,7 @@ overflow_add-result g c =
     let was = c.loop-taken.invariant in
     let piece = c.in-Ok.ensures.piece in
     let none : length piece.0 ≡ 0 = omega (arith, piece.5.0) in
-    let stands = subst (λ (l : List ℕ). StandsFor c.take_piece.new.lines l) (joins_none was.rest piece.0 none) (piece.5.2 was.rest was.stands) in
+    let stands = subst (λ (l : List ℕ). KeepsBytes c.take_piece.new.lines l) (joins_none was.rest piece.0 none) (piece.5.2 was.rest was.stands) in
     let size = size_of_open c.take_piece.new.lines was.rest stands was.falls.open_line in
     let small : c.loop-taken.answered + 1 < 2 ^ 64 = omega (arith, c.ranges.limit.fits, size, c.rest-rest.ensures, c.if-rest-eq0.false, count_of_falls was.bytes was.whole was.rest was.falls, was.counted, was.size, was.within) in
     search rules
@@ -79,7 +79,7 @@ returns-in-Err-clause-run g c =
     let was = c.loop-taken.invariant in
     let piece = c.in-Ok.ensures.piece in
     let none : length piece.0 ≡ 0 = omega (arith, piece.5.0) in
-    let stands = subst (λ (l : List ℕ). StandsFor c.take_piece.new.lines l) (joins_none was.rest piece.0 none) (piece.5.2 was.rest was.stands) in
+    let stands = subst (λ (l : List ℕ). KeepsBytes c.take_piece.new.lines l) (joins_none was.rest piece.0 none) (piece.5.2 was.rest was.stands) in
     let size = size_of_open c.take_piece.new.lines was.rest stands was.falls.open_line in
     let some : 0 < length was.rest = omega (arith, size, c.rest-rest.ensures, c.if-rest-eq0.false) in
     let stopped = c.in-Err.ensures.stopped in
@@ -100,7 +100,7 @@ returns-then-count-eq0-clause-run g c =
     let was = c.loop-taken.invariant in
     let piece = c.in-Ok.ensures.piece in
     let none : length piece.0 ≡ 0 = omega (arith, piece.5.0) in
-    let stands = subst (λ (l : List ℕ). StandsFor c.take_piece.new.lines l) (joins_none was.rest piece.0 none) (piece.5.2 was.rest was.stands) in
+    let stands = subst (λ (l : List ℕ). KeepsBytes c.take_piece.new.lines l) (joins_none was.rest piece.0 none) (piece.5.2 was.rest was.stands) in
     let size = size_of_open c.take_piece.new.lines was.rest stands was.falls.open_line in
     let some : 0 < length was.rest = omega (arith, size, c.rest-rest.ensures, c.if-rest-eq0.false) in
     let done = c.in_default.ensures.done in
@@ -159,7 +159,7 @@ loop-taken-preserved g c =
       falls = on.falls;
       serves = on.serves;
       extends = extends_on _ _ _ was.output done.0 (extends_same _ _ _ was.output was.extends c.take_piece.ensures.written) done.2;
-      stands = subst (λ k. StandsFor k on.rest) (sym c.in_default-serve_ready.ensures.lines) on.stands;
+      stands = subst (λ k. KeepsBytes k on.rest) (sym c.in_default-serve_ready.ensures.lines) on.stands;
       counted = on.counted;
       size = omega (arith, was.size, piece.5.0, length-append was.bytes piece.0);
       within = omega (arith, c.min-room.ensures, length-take c.min-room.result c.loop-taken.buffer, piece.5.0, piece.3);

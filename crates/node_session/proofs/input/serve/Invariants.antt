@@ -1,8 +1,8 @@
 use Rattle.std.proofs.Common.{◌≡◌, ◌≤◌, ◌-◌, ℕ, List, ◌++◌, length, map}
 use Rattle.io_traits.specs.Sink.{Extends}
 use Rattle.io_traits.specs.Source.{Shortens}
-use Rattle.line_proto.specs.Stream.{FallInto, StandsFor, line_end}
-use Rattle.node_session.specs.Run.{Serves}
+use Rattle.line_proto.specs.Stream.{FallInto, KeepsBytes, line_end}
+use Rattle.node_session.specs.Turns.{HasTurns}
 use Rattle.node_session.proofs.input.serve.Given as goal
 
 abbrev pub invariant-loop-taken : goal.invariant-loop-taken
@@ -14,9 +14,9 @@ invariant-loop-taken g l = record {
   takes : g.L.Ends.taken l.link ≡ g.L.Ends.taken l.fn.link ++ bytes;
   shortens : Shortens (g.L.Ends.left l.fn.link) (g.L.Ends.left l.link) bytes;
   falls : FallInto bytes whole rest;
-  serves : Serves g.T.Store.acts g.T.Store.tends (map line_end whole) l.fn.store (g.C.Clock.times l.fn.clock) output l.store (g.C.Clock.times l.clock);
+  serves : HasTurns g.T.Store.acts g.T.Store.tends (map line_end whole) l.fn.store (g.C.Clock.times l.fn.clock) output l.store (g.C.Clock.times l.clock);
   extends : Extends (g.L.Ends.written l.fn.link) (g.L.Ends.written l.link) output;
-  stands : StandsFor l.lines rest;
+  stands : KeepsBytes l.lines rest;
   counted : l.answered ≡ length whole;
   size : l.taken ≡ length bytes;
   within : l.taken ≤ l.limit;

@@ -1,7 +1,7 @@
 use Rattle.std.proofs.Common.{◌≡◌, ◌+◌, ◌≤◌, ℕ, List, ◌++◌, length}
 use Rattle.io_traits.specs.Sink.{Extends}
 use Rattle.line_proto.specs.declared.line_end.LineEnd.{LineEnd}
-use Rattle.node_session.specs.Run.{Serves}
+use Rattle.node_session.specs.Turns.{HasTurns}
 use Rattle.node_session.proofs.ready.serve_ready.Given as goal
 
 abbrev pub invariant-loop-line : goal.invariant-loop-line
@@ -11,7 +11,7 @@ invariant-loop-line g l = record {
   parts : l.fn.lines.ready ≡ done ++ l.lines.ready;
   others : l.lines ≡ record l.fn.lines { ready = l.lines.ready };
   counted : l.answered ≡ l.fn.answered + length done;
-  serves : Serves g.T.Store.acts g.T.Store.tends done l.fn.store (g.C.Clock.times l.fn.clock) output l.store (g.C.Clock.times l.clock);
+  serves : HasTurns g.T.Store.acts g.T.Store.tends done l.fn.store (g.C.Clock.times l.fn.clock) output l.store (g.C.Clock.times l.clock);
   extends : Extends (g.L.Ends.written l.fn.link) (g.L.Ends.written l.link) output;
   later : g.L.Ends.sink_faults l.fn.link ≤ g.L.Ends.sink_faults l.link;
   left : g.L.Ends.left l.link ≡ g.L.Ends.left l.fn.link;

@@ -2,7 +2,7 @@ use Rattle.std.proofs.Common.{List, ℕ, sym, ◌∙◌, ap, subst, refl, Some}
 use Rattle.line_proto.specs.Built.{IsLine}
 use Rattle.line_proto.specs.declared.line_end.LineEnd.{LineEnd}
 use Rattle.line_proto.specs.declared.command.Command.TheVariants.{Quit}
-use Rattle.node_session.specs.Run.{IsCommand}
+use Rattle.node_session.specs.Turns.{IsCommand}
 use Rattle.node_session.proofs.turn.answer.Goals as goal
 
 pub returns-in-Quit : goal.returns-in-Quit

@@ -7,7 +7,7 @@ use Rattle.disk_model.specs.Disk.{IsHonest}
 use Rattle.block_shelf.specs.Disks.{IsLater}
 use Rattle.block_shelf.specs.View.{IsSetupOf, SameShape}
 use Rattle.block_shelf.specs.Standing.{StandsFor}
-use Rattle.shard_core.proofs.FlushLoop.{Went, IsQuiet}
+use Rattle.shard_core.proofs.FlushLoop.{Went, FillsNone}
 use Rattle.shard_core.proofs.flush.flush_sealed.Given as goal
 
 abbrev pub invariant-loop-count : goal.invariant-loop-count
@@ -15,7 +15,7 @@ invariant-loop-count g l = record {
   few : (l.count ≡ 0) ⊎ (l.count + length l.shelf.buffers ≤ top_number + 1);
   went : (setup : Setup) (s : State) → IsSetupOf setup l.fn.shelf → StandsFor l.fn.shelf s
       → Went g.D.Disk.view setup l.count l.fn.shelf s l.shelf;
-  quiet : IsQuiet l.fn.shelf → IsQuiet l.shelf;
+  quiet : FillsNone l.fn.shelf → FillsNone l.shelf;
   later : IsLater (g.D.Disk.view l.fn.shelf.disk) (g.D.Disk.view l.shelf.disk);
   honest : IsHonest (g.D.Disk.view l.fn.shelf.disk) → IsHonest (g.D.Disk.view l.shelf.disk);
   shape : SameShape l.fn.shelf l.shelf;

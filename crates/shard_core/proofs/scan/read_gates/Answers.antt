@@ -6,7 +6,7 @@ use Rattle.shard_core.proofs.Reading.{reads_on}
 use Rattle.shard_core.proofs.scan.read_gates.Goals as goal
 
 pub read_at-requires : goal.read_at-requires
-read_at-requires g c = omega (arith, (size_bounds c.args.geometry.now c.requires.geometry).0, c.place_of.ensures.room, c.requires.room, c.loop-block.invariant.read.size)
+read_at-requires g c = omega (arith, (size_bounds c.args.geometry.now c.requires.geometry).0, c.start_of_block.ensures.room, c.requires.room, c.loop-block.invariant.read.size)
 
 pub loop-block-preserved : goal.loop-block-preserved
 loop-block-preserved g c = record {
@@ -16,7 +16,7 @@ loop-block-preserved g c = record {
   gates = λ told.
       let now = c.loop-block.invariant.read.bytes told in
       let bytes = (g.D.Disk.view c.args.disk.now).seen in
-      let same = same_gate c.args.geometry.now c.loop-block.block bytes (g.D.Disk.view c.loop-block.disk).seen c.read_at.new.out c.place_of.result (c.in-Ok.ensures.read now.0) now.1 c.place_of.ensures.place in
+      let same = same_gate c.args.geometry.now c.loop-block.block bytes (g.D.Disk.view c.loop-block.disk).seen c.read_at.new.out c.start_of_block.result (c.in-Ok.ensures.read now.0) now.1 c.start_of_block.ensures.place in
       gates_more c.args.geometry.now bytes c.loop-block.gates.items c.push.new.self.items c.gate_of.result c.loop-block.block c.in-Ok-push.ensures.items c.loop-block.invariant.count (c.loop-block.invariant.gates told)
       (c.gate_of.ensures.told (gate_sector c.args.geometry.now c.loop-block.block bytes) same);
 }

@@ -11,7 +11,7 @@ use Rattle.block_shelf.specs.declared.place.Class.TheVariants as class
 use Rattle.block_shelf.specs.declared.refusals.PutRefusal.{PutRefusal}
 use Rattle.block_shelf.specs.View.{ShelfView}
 use Rattle.block_shelf.specs.Calls.{IsPlaceFor, append_refusal}
-use Rattle.shard_core.specs.Index.{Holds}
+use Rattle.shard_core.specs.Index.{WithEntry}
 use Rattle.shard_core.specs.View.{ShardView, setup_of}
 use Rattle.shard_core.specs.Stands.{Agrees}
 use Rattle.shard_core.specs.Putting.{Wrote, IsUnwritten}
@@ -28,8 +28,8 @@ invariant_of-self-in-Ok-append g c =
     let new : ShelfView g.row.D.Denot = c.append.new.self in
     let appended : Appended g.D.Disk.view digest v (Ok place) old new = subst (λ (r : Result Place PutRefusal). Appended g.D.Disk.view digest v r old new) c.in-Ok-append.is c.append.ensures.appended in
     let lies : IsPlaceFor old.geometry (version_units v) place = subst (λ (r : Result Place PutRefusal). IfOk r (IsPlaceFor old.geometry (version_units v))) c.in-Ok-append.is c.append.ensures.place in
-    let holds : Holds (copied digest v place) c.self.inside.index.entries c.put.new.self.entries = subst (λ (es : List Entry). Holds (copied digest v place) es c.put.new.self.entries) c.reserve.ensures.entries
-    (subst (λ (e : Entry). Holds e c.reserve.new.self.entries c.put.new.self.entries) c.entry_at.ensures.entry c.put.ensures) in
+    let holds : WithEntry (copied digest v place) c.self.inside.index.entries c.put.new.self.entries = subst (λ (es : List Entry). WithEntry (copied digest v place) es c.put.new.self.entries) c.reserve.ensures.entries
+    (subst (λ (e : Entry). WithEntry e c.reserve.new.self.entries c.put.new.self.entries) c.entry_at.ensures.entry c.put.ensures) in
     let one = copied_is_entry g.D.Disk.view digest v place old new c.append.ensures.whole appended lies c.append.ensures.shape.geometry c.entry_at.ensures.named
     (subst (λ (x : ShardView g.row.D.Denot). device_number x.shelf.geometry.devices digest ≡ x.shelf.geometry.device) (sym c.self.view_is) c.requires.named) c.requires.version in
     record {
@@ -48,8 +48,8 @@ returns-in-Ok-append-clause-wrote g c =
     let new : ShelfView g.row.D.Denot = c.append.new.self in
     let appended : Appended g.D.Disk.view digest v (Ok place) old new = subst (λ (r : Result Place PutRefusal). Appended g.D.Disk.view digest v r old new) c.in-Ok-append.is c.append.ensures.appended in
     let lies : IsPlaceFor old.geometry (version_units v) place = subst (λ (r : Result Place PutRefusal). IfOk r (IsPlaceFor old.geometry (version_units v))) c.in-Ok-append.is c.append.ensures.place in
-    let holds : Holds (copied digest v place) c.self.inside.index.entries c.put.new.self.entries = subst (λ (es : List Entry). Holds (copied digest v place) es c.put.new.self.entries) c.reserve.ensures.entries
-    (subst (λ (e : Entry). Holds e c.reserve.new.self.entries c.put.new.self.entries) c.entry_at.ensures.entry c.put.ensures) in
+    let holds : WithEntry (copied digest v place) c.self.inside.index.entries c.put.new.self.entries = subst (λ (es : List Entry). WithEntry (copied digest v place) es c.put.new.self.entries) c.reserve.ensures.entries
+    (subst (λ (e : Entry). WithEntry e c.reserve.new.self.entries c.put.new.self.entries) c.entry_at.ensures.entry c.put.ensures) in
     subst (λ (x : ShardView g.row.D.Denot). (s : State) → Agrees x s → Wrote g.D.Disk.view x s digest v place.block (record { shelf = new; set = c.self.inside.set; index = c.put.new.self.entries })) c.self.view_is
     (λ s agrees. wrote_by g.D.Disk.view digest v place old new c.append.ensures.whole appended lies c.append.ensures.shape.geometry shard s c.put.new.self.entries refl c.self.invariant agrees holds)
 

@@ -10,7 +10,7 @@ use Rattle.line_proto.specs.declared.reply.Reply.TheVariants.{Bye, Fail, Halted}
 use Rattle.line_proto.specs.declared.reply.LineFault.TheVariants.{Line, Memory}
 use Rattle.line_proto.specs.declared.line_end.LineEnd.{LineEnd}
 use Rattle.line_proto.specs.declared.line_end.LineEnd.TheVariants.{Whole, TooLong}
-use Rattle.line_proto.specs.Built.{IsLine, IsNoCommand as IsNoCommandLine}
+use Rattle.line_proto.specs.Built.{IsLine, IsNoCommand}
 use Rattle.line_proto.specs.Lines.{reply_text}
 use Rattle.node_session.specs.declared.stop.Stop.{Stop}
 use Rattle.node_session.specs.declared.stop.Stop.TheVariants.{Quit as QuitStop, SinkFault as SinkStop, Memory as MemoryStop, Halted as HaltStop}
@@ -20,9 +20,9 @@ abbrev pub Times : Type 0
 Times = Option (List ℕ)
 
 -- What is taken up in a line's place is no command: a line outside the grammar, one that is too long, or the input's end without an LF.
-abbrev pub IsNoCommand : LineEnd → Type 0
-IsNoCommand TooLong = Unit {0}
-IsNoCommand (Whole line) = IsNoCommandLine line
+abbrev pub NamesNoCommand : LineEnd → Type 0
+NamesNoCommand TooLong = Unit {0}
+NamesNoCommand (Whole line) = IsNoCommand line
 
 -- it is this command
 abbrev pub IsCommand : LineEnd → Command → Type 0
@@ -42,7 +42,7 @@ pub record CarriesOut {T : Type 0} (acts : T → Command → ℕ → Reply → T
 pub record Declines {T : Type 0} (line : LineEnd) (old : T) (times : Times) (reply : Reply) (new : T) (later : Times) : Type 0 where
   pub same_store : new ≡ old
   pub same_times : later ≡ times
-  pub why : (IsNoCommand line × (reply ≡ Fail Line)) ⊎ (reply ≡ Fail Memory)
+  pub why : (NamesNoCommand line × (reply ≡ Fail Line)) ⊎ (reply ≡ Fail Memory)
 
 -- how a line that isn't `quit` is answered
 abbrev pub Answers : {T : Type 0} → (T → Command → ℕ → Reply → T → Type 0) → LineEnd → T → Times → Reply → T → Times → Type 0
@@ -57,7 +57,7 @@ pub record Quits {T : Type 0} (line : LineEnd) (old : T) (times : Times) (reply 
   pub ticks : Ticks times now later
 
 -- one whole turn: a line is answered, and the store is tended
-pub record Turn {T : Type 0} (acts : T → Command → ℕ → Reply → T → Type 0) (tends : T → T → Type 0) (line : LineEnd) (old : T) (times : Times) (reply : Reply) (new : T) (later : Times) : Type 0 where
+pub record WholeTurn {T : Type 0} (acts : T → Command → ℕ → Reply → T → Type 0) (tends : T → T → Type 0) (line : LineEnd) (old : T) (times : Times) (reply : Reply) (new : T) (later : Times) : Type 0 where
   pub answered : T
   pub answer : Answers acts line old times reply answered later
   pub no_halt : reply ≢ Halted
@@ -66,26 +66,26 @@ pub record Turn {T : Type 0} (acts : T → Command → ℕ → Reply → T → T
 -- The lines are answered one after the other by these replies, the store going from old to new and the clock's times from times to later.
 abbrev pub Turns : {T : Type 0} → (T → Command → ℕ → Reply → T → Type 0) → (T → T → Type 0) → List LineEnd → T → Times → List Reply → T → Times → Type 0
 Turns acts tends [] old times [] new later = (new ≡ old) × (later ≡ times)
-Turns {T} acts tends (line ∷ lines) old times (reply ∷ replies) new later = (mid : T) × (then : Times) × Turn acts tends line old times reply mid then × Turns acts tends lines mid then replies new later
+Turns {T} acts tends (line ∷ lines) old times (reply ∷ replies) new later = (mid : T) × (then : Times) × WholeTurn acts tends line old times reply mid then × Turns acts tends lines mid then replies new later
 Turns acts tends [] old times (reply ∷ replies) new later = ⊥
 Turns acts tends (line ∷ lines) old times [] new later = ⊥
 
 -- The lines have their whole turns, and their replies are the output.
-pub record Serves {T : Type 0} (acts : T → Command → ℕ → Reply → T → Type 0) (tends : T → T → Type 0) (lines : List LineEnd) (old : T) (times : Times) (output : List ℕ) (new : T) (later : Times) : Type 0 where
+pub record HasTurns {T : Type 0} (acts : T → Command → ℕ → Reply → T → Type 0) (tends : T → T → Type 0) (lines : List LineEnd) (old : T) (times : Times) (output : List ℕ) (new : T) (later : Times) : Type 0 where
   pub replies : List Reply
   pub turns : Turns acts tends lines old times replies new later
   pub told : output ≡ flat_map reply_text replies
 
 -- the whole turn of any line; `quit` isn't followed by tending
 abbrev pub TurnAny : {T : Type 0} → (T → Command → ℕ → Reply → T → Type 0) → (T → T → Type 0) → LineEnd → T → Times → Reply → T → Times → Type 0
-TurnAny acts tends line old times reply new later = Turn acts tends line old times reply new later ⊎ Quits line old times reply new later
+TurnAny acts tends line old times reply new later = WholeTurn acts tends line old times reply new later ⊎ Quits line old times reply new later
 
 -- The session stops at a line, with these bytes of its reply written. Only after a halt is the store not tended, and after `quit`.
-abbrev pub StopsAt : {T : Type 0} → (T → Command → ℕ → Reply → T → Type 0) → (T → T → Type 0) → LineEnd → T → Times → List ℕ → T → Times → Stop → Type 0
-StopsAt acts tends line old times sent new later QuitStop = Quits line old times Bye new later × (sent ≡ reply_text Bye)
-StopsAt acts tends line old times sent new later SinkStop = (reply : Reply) × TurnAny acts tends line old times reply new later × (unsent : List ℕ) × (reply_text reply ≡ sent ++ unsent)
-StopsAt acts tends line old times sent new later MemoryStop = (reply : Reply) × TurnAny acts tends line old times reply new later × (sent ≡ [])
-StopsAt acts tends line old times sent new later HaltStop = Answers acts line old times Halted new later × (sent ≡ [])
+abbrev pub StopsAtLine : {T : Type 0} → (T → Command → ℕ → Reply → T → Type 0) → (T → T → Type 0) → LineEnd → T → Times → List ℕ → T → Times → Stop → Type 0
+StopsAtLine acts tends line old times sent new later QuitStop = Quits line old times Bye new later × (sent ≡ reply_text Bye)
+StopsAtLine acts tends line old times sent new later SinkStop = (reply : Reply) × TurnAny acts tends line old times reply new later × (unsent : List ℕ) × (reply_text reply ≡ sent ++ unsent)
+StopsAtLine acts tends line old times sent new later MemoryStop = (reply : Reply) × TurnAny acts tends line old times reply new later × (sent ≡ [])
+StopsAtLine acts tends line old times sent new later HaltStop = Answers acts line old times Halted new later × (sent ≡ [])
 
 -- Of the text the first bytes are written, and at Ok all of them.
 pub record Sends {E : Type 0} (text : List ℕ) (written written' : Option (List ℕ)) (result : Result Unit E) : Type 0 where
@@ -96,7 +96,7 @@ pub record Sends {E : Type 0} (text : List ℕ) (written written' : Option (List
   pub all : OnOk result (unsent ≡ [])
 
 -- The lines before one of these have their whole turns, and the session stops at that line.
-pub record StopsIn {T : Type 0} (acts : T → Command → ℕ → Reply → T → Type 0) (tends : T → T → Type 0) (ready : List LineEnd) (count : ℕ) (old : T) (times : Times) (output : List ℕ) (new : T) (later : Times) (stop : Stop) : Type 0 where
+pub record StopsAmong {T : Type 0} (acts : T → Command → ℕ → Reply → T → Type 0) (tends : T → T → Type 0) (ready : List LineEnd) (count : ℕ) (old : T) (times : Times) (output : List ℕ) (new : T) (later : Times) (stop : Stop) : Type 0 where
   pub before : List LineEnd
   pub line : LineEnd
   pub after : List LineEnd
@@ -105,7 +105,7 @@ pub record StopsIn {T : Type 0} (acts : T → Command → ℕ → Reply → T �
   pub told : List ℕ
   pub mid : T
   pub then : Times
-  pub serves : Serves acts tends before old times told mid then
+  pub serves : HasTurns acts tends before old times told mid then
   pub sent : List ℕ
-  pub stops : StopsAt acts tends line mid then sent new later stop
+  pub stops : StopsAtLine acts tends line mid then sent new later stop
   pub all : output ≡ told ++ sent
