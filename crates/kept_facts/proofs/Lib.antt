@@ -1,0 +1,15 @@
+pub mod Guarded
+pub mod Splitting
+pub mod Surviving
+pub mod Stay
+pub mod Items
+pub mod Raids
+pub mod Kept
+pub mod Starting
+pub mod Restarting
+pub mod Writable
+pub mod Allowed
+pub mod Begun
+pub mod Numbered
+pub mod Reaching
+pub mod Resuming

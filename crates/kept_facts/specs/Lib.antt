@@ -1,0 +1,4 @@
+pub mod Guarded
+pub mod Facts
+pub mod Reaching
+pub mod Asking

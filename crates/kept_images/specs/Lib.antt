@@ -1,0 +1,6 @@
+pub mod Kept
+pub mod Changes
+pub mod Gates
+pub mod Held
+pub mod Scans
+pub mod Courses

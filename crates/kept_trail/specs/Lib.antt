@@ -1,0 +1,4 @@
+pub mod Trail
+pub mod Needs
+pub mod Numbers
+pub mod Within

@@ -1,0 +1,7 @@
+pub mod Fits
+pub mod Sparing
+pub mod Tests
+pub mod Becoming
+pub mod Parts
+pub mod Making
+pub mod Starting

@@ -1,0 +1,39 @@
+-- Crate part_laws. What a start leaves in the sprig of a part.
+use Rattle.std.specs.Prelude.{◌≡◌, ◌==◌, ℕ, List, Option, None, option_map, find, MatchOption, MatchBool, if◌then◌else◌}
+use Rattle.rec_format.specs.declared.version.Digest.{Digest}
+use Rattle.rec_format.specs.declared.entry.Entry.{Entry}
+use Rattle.rec_format.specs.Places.{same_digest}
+use Rattle.rec_format.specs.Versions.{is_later_stamp}
+use Rattle.device_model.specs.Book.{Setup}
+use Rattle.device_model.specs.Device.{part_of}
+use Rattle.block_format.specs.Copies.{Copy, cold_copy}
+use Rattle.recovery.specs.Cold.{copies_high}
+use Rattle.sprig_tree.specs.Entries.{IsInDigestOrder, entry_of}
+use Rattle.sprig_tree.specs.State.{SprigState}
+use Rattle.part_laws.specs.Becoming.{entry_at, Takes}
+
+abbrev pub entry_for : Copy → Entry
+entry_for c = entry_at c.digest c.version c.block c.unit
+
+-- what is chosen of a digest's copies, where the digest is of the part
+abbrev pub entry_chosen : Setup → (part : ℕ) → (Digest → Option Copy) → Digest → Option Entry
+entry_chosen setup part chosen digest = if part_of setup digest == part then option_map entry_for (chosen digest) else None
+
+-- Of each digest of the part the sprig has the entry of the copy that is chosen, and its high time is the greatest of the part's copies.
+pub record HasChosen (setup : Setup) (part : ℕ) (chosen : Digest → Option Copy) (copies : List Copy) (sprig : SprigState) : Type 0 where
+  pub order : IsInDigestOrder sprig.entries
+  pub shown : (digest : Digest) → entry_of digest sprig.entries ≡ entry_chosen setup part chosen digest
+  pub high : sprig.hw ≡ copies_high setup part copies
+
+-- the latest of a digest's copies is chosen
+abbrev pub HasLatest : Setup → (part : ℕ) → List Copy → SprigState → Type 0
+HasLatest setup part copies sprig = HasChosen setup part (λ digest. cold_copy digest copies) copies sprig
+
+-- the first of them
+abbrev pub first_named : List Copy → Digest → Option Copy
+first_named copies digest = find (λ c. same_digest digest c.digest) copies
+
+-- a sprig with one copy more of its part: the entry of a digest that has none, or a later one; else it stays
+abbrev pub TakesCopy : Copy → (old new : SprigState) → Type 0
+TakesCopy c old new = MatchOption (entry_of c.digest old.entries) (Takes (entry_for c) old new)
+    (λ e. MatchBool (is_later_stamp c.version.stamp e.stamp) (Takes (entry_for c) old new) (new ≡ old))
