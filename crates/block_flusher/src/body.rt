@@ -1,6 +1,6 @@
 // The body of a block.
 ghost use Rattle.std.specs.Prelude.{◌≡◌, ◌+◌, ◌-◌, ◌<◌, ◌≤◌, length, OnOk};
-ghost use Rattle.disk_model.specs.Disk.{TornFrom, TellsTorn, IsOnly, IsHonest, IsCall, meanwhile};
+ghost use Rattle.disk_model.specs.Disk.{TornFrom, TellsTorn, IsSettled, IsHonest, IsCall, meanwhile};
 ghost use Rattle.block_format.specs.Layout.{IsGeometry, device_end, block_place, body_bytes};
 ghost use Rattle.block_flusher.specs.Images.{IsShut, HasOneBody, OpensOverOneBody, ChangesNoOther};
 
@@ -23,7 +23,7 @@ pub fn write_body<D: Disk>(
     requires shut { IsHonest (D.view disk.old) → IsShut geometry.now block (D.view disk.old).may_leave }
     ensures body { (D.view disk.old).tells → OnOk result (body_bytes geometry.now block (D.view disk.new).seen ≡ body.now) }
     ensures settled { (D.view disk.old).tells → OnOk result (HasOneBody geometry.now block body.now (D.view disk.new).may_leave) }
-    ensures durable { (D.view disk.old).tells → OnOk result (IsOnly (D.view disk.new).seen (D.view disk.new).may_leave) }
+    ensures durable { (D.view disk.old).tells → OnOk result (IsSettled (D.view disk.new)) }
     ensures bytes { TellsTorn (block_place geometry.now block + 4096) (geometry.now.block_size - 4096) (D.view disk.old) (D.view disk.new) }
     ensures images { IsHonest (D.view disk.old) → TornFrom (block_place geometry.now block + 4096) (geometry.now.block_size - 4096) (D.view disk.old).may_leave (meanwhile (D.view disk.old) (D.view disk.new)) }
     ensures others { IsHonest (D.view disk.old) → ChangesNoOther geometry.now block (D.view disk.old).may_leave (meanwhile (D.view disk.old) (D.view disk.new)) }

@@ -1,6 +1,6 @@
 // The gate of a block.
 ghost use Rattle.std.specs.Prelude.{◌≡◌, ◌<◌, ◌≤◌, IfOk, OnOk};
-ghost use Rattle.disk_model.specs.Disk.{Within, TornFrom, TellsSame, TellsTorn, IsOnly, IsHonest, IsCall, meanwhile};
+ghost use Rattle.disk_model.specs.Disk.{Within, TornFrom, TellsSame, TellsTorn, IsSettled, IsHonest, IsCall, meanwhile};
 ghost use Rattle.block_format.specs.Layout.{IsGeometry, device_end, block_place, body_bytes, gate_sector, closed_sector, open_sector};
 ghost use Rattle.block_flusher.specs.Images.{IsShut, IsOpened, GateIs, HasOneBody, IsBodyOf, OpensOverOneBody, OpensOverBodies, ChangesNoOther};
 
@@ -18,7 +18,7 @@ pub fn close_gate<D: Disk>(disk: &mut D, geometry: &Geometry, block: u32) -> Res
     requires body { IsHonest (D.view disk.old) → IsBodyOf geometry.now block (body_bytes geometry.now block (D.view disk.old).seen) }
     ensures gate { (D.view disk.old).tells → OnOk result (gate_sector geometry.now block (D.view disk.new).seen ≡ closed_sector) }
     ensures shut { (D.view disk.old).tells → OnOk result (IsShut geometry.now block (D.view disk.new).may_leave) }
-    ensures durable { (D.view disk.old).tells → OnOk result (IsOnly (D.view disk.new).seen (D.view disk.new).may_leave) }
+    ensures durable { (D.view disk.old).tells → OnOk result (IsSettled (D.view disk.new)) }
     ensures bytes { TellsTorn (block_place geometry.now block) 4096 (D.view disk.old) (D.view disk.new) }
     ensures images { IsHonest (D.view disk.old) → TornFrom (block_place geometry.now block) 4096 (D.view disk.old).may_leave (meanwhile (D.view disk.old) (D.view disk.new)) }
     ensures others { IsHonest (D.view disk.old) → ChangesNoOther geometry.now block (D.view disk.old).may_leave (meanwhile (D.view disk.old) (D.view disk.new)) }
@@ -41,7 +41,7 @@ pub fn open_gate<D: Disk>(disk: &mut D, geometry: &Geometry, block: u32) -> Resu
     requires settled { IsHonest (D.view disk.old) → HasOneBody geometry.now block (body_bytes geometry.now block (D.view disk.old).seen) (D.view disk.old).may_leave }
     ensures gate { (D.view disk.old).tells → OnOk result (gate_sector geometry.now block (D.view disk.new).seen ≡ open_sector) }
     ensures opened { (D.view disk.old).tells → OnOk result (IsOpened geometry.now block (D.view disk.new).may_leave) }
-    ensures durable { (D.view disk.old).tells → OnOk result (IsOnly (D.view disk.new).seen (D.view disk.new).may_leave) }
+    ensures durable { (D.view disk.old).tells → OnOk result (IsSettled (D.view disk.new)) }
     ensures bytes { TellsTorn (block_place geometry.now block) 4096 (D.view disk.old) (D.view disk.new) }
     ensures images { IsHonest (D.view disk.old) → TornFrom (block_place geometry.now block) 4096 (D.view disk.old).may_leave (meanwhile (D.view disk.old) (D.view disk.new)) }
     ensures others { IsHonest (D.view disk.old) → ChangesNoOther geometry.now block (D.view disk.old).may_leave (meanwhile (D.view disk.old) (D.view disk.new)) }

@@ -1,6 +1,6 @@
 // Where a block stands, and a write within it.
 ghost use Rattle.std.specs.Prelude.{◌≡◌, ◌+◌, ◌<◌, ◌≤◌, length, OnOk};
-ghost use Rattle.disk_model.specs.Disk.{Written, TornFrom, TellsTorn, IsOnly, IsHonest, IsCall, meanwhile};
+ghost use Rattle.disk_model.specs.Disk.{Written, TornFrom, TellsTorn, IsSettled, IsHonest, IsCall, meanwhile};
 ghost use Rattle.block_format.specs.Layout.{IsGeometry, device_end, block_place};
 ghost use Rattle.block_flusher.specs.Images.{ChangesNoOther};
 
@@ -30,7 +30,7 @@ pub fn write_part<D: Disk>(
     requires within { offset + length bytes.now ≤ geometry.now.block_size }
     requires room { device_end geometry.now ≤ (D.view disk.old).extent }
     ensures written { (D.view disk.old).tells → OnOk result (Written (block_place geometry.now block + offset) bytes.now (D.view disk.old).seen (D.view disk.new).seen) }
-    ensures durable { (D.view disk.old).tells → OnOk result (IsOnly (D.view disk.new).seen (D.view disk.new).may_leave) }
+    ensures durable { (D.view disk.old).tells → OnOk result (IsSettled (D.view disk.new)) }
     ensures bytes { TellsTorn (block_place geometry.now block + offset) (length bytes.now) (D.view disk.old) (D.view disk.new) }
     ensures images { IsHonest (D.view disk.old) → TornFrom (block_place geometry.now block + offset) (length bytes.now) (D.view disk.old).may_leave (meanwhile (D.view disk.old) (D.view disk.new)) }
     ensures others { IsHonest (D.view disk.old) → ChangesNoOther geometry.now block (D.view disk.old).may_leave (meanwhile (D.view disk.old) (D.view disk.new)) }

@@ -9,7 +9,7 @@ use Rattle.rec_format.specs.Versions.{version_units}
 use Rattle.rec_format.specs.RecordText.{BeginsWith, CanBeRecorded, record_text}
 use Rattle.rec_format.proofs.RecordFront.{length-text, only_one}
 use Rattle.block_format.specs.declared.geometry.Found.{Found}
-use Rattle.block_format.specs.Layout.{Body, FailsBehind, IsBody, IsFaultAt, IsHead, IsRecordAt, head_text, records_text, units_of_records}
+use Rattle.block_format.specs.Layout.{Body, FailsBehind, IsBody, IsFaultAt, IsHead, IsRecordAt, body_head_text, records_text, units_of_records}
 use Rattle.block_format.specs.declared.geometry.BodyRefusal.{BodyRefusal}
 use Rattle.block_format.specs.declared.geometry.BodyRefusal.TheVariants.{Bad, Memory}
 use Rattle.block_format.specs.Readings.{AreUnreadBy, IsUnreadBy, AtMostOneBody, AtMostOneFault, HasRecords, IsReading, StopsAt, body_capacity}
@@ -182,8 +182,8 @@ pub reading_of : (bytes : List ℕ) (block number count units : ℕ) (found : Li
     → HasRecords bytes count units found → IsReading bytes block number found
 reading_of bytes block number count units found head has =
     let b : Body = record { number = number; block = block; records = has.records } in
-    let text : take 32 bytes ≡ head_text number (length has.records) (units_of_records has.records) block =
-    head.text ∙ (λ i. head_text number (sym has.count_is i) (sym has.used_is i) block) in
+    let text : take 32 bytes ≡ body_head_text number (length has.records) (units_of_records has.records) block =
+    head.text ∙ (λ i. body_head_text number (sym has.count_is i) (sym has.used_is i) block) in
     let behind : List ℕ = drop (16 * units_of_records has.records) (drop 32 bytes) in
     record {
       body = b;
@@ -195,8 +195,8 @@ reading_of bytes block number count units found head has =
         behind = behind;
         text = sym (take-append-drop 32 bytes)
             ∙ ap (λ (t : List ℕ). t ++ drop 32 bytes) text
-            ∙ ap (λ (t : List ℕ). head_text number (length has.records) (units_of_records has.records) block ++ t) (sym (front_is bytes has.records (record { each = has.each; there = has.there })))
-            ∙ sym (append_assoc (head_text number (length has.records) (units_of_records has.records) block) (records_text has.records) behind);
+            ∙ ap (λ (t : List ℕ). body_head_text number (length has.records) (units_of_records has.records) block ++ t) (sym (front_is bytes has.records (record { each = has.each; there = has.there })))
+            ∙ sym (append_assoc (body_head_text number (length has.records) (units_of_records has.records) block) (records_text has.records) behind);
       };
       block_is = refl;
       number_is = refl;

@@ -6,7 +6,7 @@ use Rattle.std.specs.List.{AllByRecursion}
 use Rattle.rec_format.specs.RecordText.{record_text, CanBeRecorded}
 use Rattle.rec_format.specs.declared.version.Digest.{Digest}
 use Rattle.rec_format.specs.declared.version.Version.{Version}
-use Rattle.block_format.specs.Layout.{header_text, head_text, IsFaultAt, gate_text, open_sector, closed_sector}
+use Rattle.block_format.specs.Layout.{header_text, body_head_text, IsFaultAt, gate_text, open_sector, closed_sector}
 
 header : take 32 (header_text (record { block_size = 16384; blocks = 16; device = 0; devices = 1 }))
     ≡ 0x41 ∷ 0x53 ∷ 0x4e ∷ 0x4f ∷ 0x44 ∷ 0x45 ∷ 0x2d ∷ 0x44 ∷ 0x45 ∷ 0x56 ∷ 0x49 ∷ 0x43 ∷ 0x45 ∷ 0x2d ∷ 0x30 ∷ 0x31
@@ -19,7 +19,7 @@ lengths = refl
 gate : gate_text ≡ 0x41 ∷ 0x53 ∷ 0x4e ∷ 0x4f ∷ 0x44 ∷ 0x45 ∷ 0x2d ∷ 0x47 ∷ 0x41 ∷ 0x54 ∷ 0x45 ∷ 0x2d ∷ 0x4f ∷ 0x50 ∷ 0x45 ∷ 0x4e ∷ []
 gate = refl
 
-head : head_text 1 1 4 0
+head : body_head_text 1 1 4 0
     ≡ 0x41 ∷ 0x53 ∷ 0x4e ∷ 0x42 ∷ 0x4f ∷ 0x44 ∷ 0x59 ∷ 0x31 ∷ 1 ∷ 0 ∷ 0 ∷ 0 ∷ 0 ∷ 0 ∷ 0 ∷ 0 ∷ 1 ∷ 0 ∷ 0 ∷ 0 ∷ 4 ∷ 0 ∷ 0 ∷ 0 ∷ 0 ∷ 0 ∷ 0 ∷ 0 ∷ 0 ∷ 0 ∷ 0 ∷ 0 ∷ []
 head = refl
 
@@ -46,14 +46,14 @@ hello_text = record {
 zeros_fault : IsFaultAt 766 (replicate 64 0) 0 0
 zeros_fault = inl (λ number records units head. not_magic number records units head.text, refl)
   where
-    not_magic : (number records units : ℕ) → take 32 (replicate 64 0) ≡ head_text number records units 0 → ⊥
+    not_magic : (number records units : ℕ) → take 32 (replicate 64 0) ≡ body_head_text number records units 0 → ⊥
     not_magic number records units same = cc
 
 abbrev hello : Version
 hello = at 1 false (104 ∷ 101 ∷ 108 ∷ 108 ∷ 111 ∷ [])
 
 -- one record of 4 units, and a head that says 700: behind the record
-units_fault : IsFaultAt 766 (head_text 1 1 700 0 ++ record_text sevens hello ++ replicate 64 0) 0 96
+units_fault : IsFaultAt 766 (body_head_text 1 1 700 0 ++ record_text sevens hello ++ replicate 64 0) 0 96
 units_fault = inr (record {
   number = 1;
   count = 1;
@@ -71,7 +71,7 @@ units_fault = inr (record {
     four same = cc
 
 -- the head says more records than its units hold: at the place of the second
-records_fault : IsFaultAt 766 (head_text 1 4294967295 4 0 ++ record_text sevens hello ++ replicate 64 0) 0 96
+records_fault : IsFaultAt 766 (body_head_text 1 4294967295 4 0 ++ record_text sevens hello ++ replicate 64 0) 0 96
 records_fault = inr (record {
   number = 1;
   count = 4294967295;

@@ -7,7 +7,7 @@ use Rattle.std.specs.Int.{w32, w64}
 use lib.Pointwise.{pointwise, bytes_decides}
 use Rattle.rec_format.specs.Versions.{top_number}
 use Rattle.rec_format.specs.RecordFlaws.{number_at}
-use Rattle.block_format.specs.Layout.{IsHead, head_text}
+use Rattle.block_format.specs.Layout.{IsHead, body_head_text}
 
 -- what is read at the places of the three numbers
 pub record AreFields (bytes : List ℕ) (number records units : ℕ) : Type 0 where
@@ -23,18 +23,18 @@ front bytes text same = sym (take-append-drop 32 bytes) ∙ ap (λ (t : List ℕ
 
 pub number_of_head : (capacity : ℕ) (bytes : List ℕ) (number records units block : ℕ) → IsHead capacity bytes number records units block → number_at w64 8 bytes ≡ number
 number_of_head capacity bytes number records units block head =
-    ap (number_at w64 8) (front bytes (head_text number records units block) head.text) ∙ from_le_bytes-to_le_bytes_8 number (top_fits number head.number_fits)
+    ap (number_at w64 8) (front bytes (body_head_text number records units block) head.text) ∙ from_le_bytes-to_le_bytes_8 number (top_fits number head.number_fits)
 
 pub count_of_head : (capacity : ℕ) (bytes : List ℕ) (number records units block : ℕ) → IsHead capacity bytes number records units block → number_at w32 16 bytes ≡ records
 count_of_head capacity bytes number records units block head =
-    ap (number_at w32 16) (front bytes (head_text number records units block) head.text) ∙ from_le_bytes-to_le_bytes_4 records head.count_fits
+    ap (number_at w32 16) (front bytes (body_head_text number records units block) head.text) ∙ from_le_bytes-to_le_bytes_4 records head.count_fits
 
 pub fields_of_head : (capacity : ℕ) (bytes : List ℕ) (number records units block : ℕ) → capacity < 2 ^ 32 → IsHead capacity bytes number records units block
     → AreFields bytes number records units
 fields_of_head capacity bytes number records units block small head = record {
   number_is = number_of_head capacity bytes number records units block head;
   records_is = count_of_head capacity bytes number records units block head;
-  units_is = ap (number_at w32 20) (front bytes (head_text number records units block) head.text) ∙ from_le_bytes-to_le_bytes_4 units (omega (arith, head.units_fit));
+  units_is = ap (number_at w32 20) (front bytes (body_head_text number records units block) head.text) ∙ from_le_bytes-to_le_bytes_4 units (omega (arith, head.units_fit));
 }
 
 -- ---- a test for equal bytes

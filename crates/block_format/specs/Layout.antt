@@ -78,15 +78,15 @@ pub record Body : Type 0 where
 abbrev pub units_of_records : List (Digest × Version) → ℕ
 units_of_records records = sum_by (λ r. version_units r.1) records
 
-abbrev pub head_text : (number records units block : ℕ) → List ℕ
-head_text number records units block =
+abbrev pub body_head_text : (number records units block : ℕ) → List ℕ
+body_head_text number records units block =
     codes "ASNBODY1" ++ to_le_bytes w64 number ++ to_le_bytes w32 records ++ to_le_bytes w32 units ++ to_le_bytes w32 block ++ to_le_bytes w32 0
 
 abbrev pub records_text : List (Digest × Version) → List ℕ
 records_text records = flat_map (λ r. record_text r.0 r.1) records
 
 abbrev pub body_text : Body → List ℕ
-body_text body = head_text body.number (length body.records) (units_of_records body.records) body.block ++ records_text body.records
+body_text body = body_head_text body.number (length body.records) (units_of_records body.records) body.block ++ records_text body.records
 
 -- These bytes begin with this body, of a block with so many units. What stands behind it is free.
 pub record IsBody (capacity : ℕ) (bytes : List ℕ) (body : Body) : Type 0 where
@@ -104,7 +104,7 @@ pub record IsHead (capacity : ℕ) (bytes : List ℕ) (number records units bloc
   pub number_fits : number ≤ top_number
   pub count_fits : records < 2 ^ 32
   pub units_fit : units ≤ capacity
-  pub text : take 32 bytes ≡ head_text number records units block
+  pub text : take 32 bytes ≡ body_head_text number records units block
 
 abbrev pub HasNoHead : (capacity : ℕ) → List ℕ → (block : ℕ) → Type 0
 HasNoHead capacity bytes block = (number records units : ℕ) → IsHead capacity bytes number records units block → ⊥

@@ -1,6 +1,6 @@
 // The head of a body.
 ghost use Rattle.std.specs.Prelude.{◌≡◌};
-ghost use Rattle.block_format.specs.Layout.{head_text};
+ghost use Rattle.block_format.specs.Layout.{body_head_text};
 
 use byteorder::{ByteOrder, LittleEndian};
 
@@ -9,7 +9,7 @@ pub const BODY_HEAD_BYTES: usize = 32;
 
 /// The head of a body: its buffer number, the number of its records, their units, and its block.
 pub(crate) fn head_of(number: u64, records: u32, units: u32, block: u32) -> [u8; BODY_HEAD_BYTES]
-    ensures { result ≡ head_text number records units block }
+    ensures { result ≡ body_head_text number records units block }
 {
     let mut head = [0; BODY_HEAD_BYTES];
     head[..8].copy_from_slice(b"ASNBODY1");
@@ -28,7 +28,7 @@ pub fn write_head(
     block: u32,
     out: &mut [u8; BODY_HEAD_BYTES],
 )
-    ensures { out.new ≡ head_text number records units block }
+    ensures { out.new ≡ body_head_text number records units block }
 {
     *out = head_of(number, records, units, block);
 }

@@ -24,7 +24,7 @@ use Rattle.shard_core.specs.declared.refusals.WriteRefusal.{WriteRefusal}
 use Rattle.shard_core.specs.declared.refusals.WriteRefusal.TheVariants as write
 use Rattle.block_shelf.specs.declared.refusals.ReadRefusal.{ReadRefusal}
 use Rattle.block_shelf.specs.declared.refusals.ReadRefusal.TheVariants as read
-use Rattle.shard_core.specs.View.{ShardView, SameShape, setup_of, setup_for}
+use Rattle.shard_core.specs.View.{ShardView, SameSetup, setup_of, setup_for}
 use Rattle.shard_core.specs.Stands.{Agrees, IsSafe}
 use Rattle.shard_core.specs.Calls.{Makes, MakesAny, write_answer, read_answer, flush_answer}
 use Rattle.shard_core.proofs.Going.{safe_survives}
@@ -108,7 +108,7 @@ no_more_states (suc n) event faults slot = refl
 
 -- ---- where one event was made
 
-module _ {D : Type 0} (view : D → DiskView) (old new : ShardView D) (shape : SameShape old new)
+module _ {D : Type 0} (view : D → DiskView) (old new : ShardView D) (shape : SameSetup old new)
     (later : IsLater (view old.shelf.disk) (view new.shelf.disk)) (honest : IsHonest (view old.shelf.disk) → IsHonest (view new.shelf.disk)) where
   setups_same : setup_of new ≡ setup_of old
   setups_same = ap (λ g. setup_for g new.set) shape.geometry ∙ ap (λ set. setup_for old.shelf.geometry set) shape.set

@@ -10,20 +10,20 @@ use Rattle.rec_format.specs.declared.entry.Entry.{Entry}
 use Rattle.rec_format.specs.Places.{device_number, same_digest}
 use Rattle.rec_format.specs.Versions.{version_units}
 use Rattle.rec_format.specs.RecordText.{BeginsWith, record_text}
-use Rattle.device_model.specs.Book.{Setup, cold_book, refreshed}
+use Rattle.device_model.specs.Book.{Setup, cold_book, refreshed, live_of_entry}
 use Rattle.device_model.specs.Device.{State, entry}
 use Rattle.rec_format.proofs.RecordFront.{texts_apart}
 use Rattle.rec_format.proofs.Laws.{same_digest_is}
 use Rattle.block_format.specs.Layout.{IsRecordAt, body_bytes}
-use Rattle.block_format.specs.Copies.{Copy, copies_of, copies_named, cold_copy, cold, version_of}
+use Rattle.block_format.specs.Copies.{Copy, copies_of, copies_named, cold_copy, cold, version_of, entry_for}
 use Rattle.recovery.specs.Start.{entries_state}
 use Rattle.recovery.specs.Standing.{CopyStands}
 use Rattle.recovery.proofs.Held.{IsNewest, latest_is}
 use Rattle.recovery.proofs.Members.{filter_from}
 use Rattle.recovery.proofs.Places.{copy_stands}
-use Rattle.block_shelf.specs.Calls.{Names}
+use Rattle.rec_format.specs.Entries.{Names}
 use Rattle.shard_core.specs.declared.settings.Settings.{Settings}
-use Rattle.shard_core.specs.Index.{held, entry_for, live_of_entry}
+use Rattle.shard_core.specs.Index.{held}
 use Rattle.shard_core.specs.View.{ShardView, setup_of}
 use Rattle.shard_core.specs.Starting.{own_copies}
 use Rattle.core_run.specs.OneDevice.{Started}

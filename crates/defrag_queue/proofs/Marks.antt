@@ -12,7 +12,7 @@ use Rattle.std.proofs.lemmas.Map.Keys.{IsDistinct-push, IsDistinct-head, IsDisti
 use Rattle.std.proofs.lemmas.Map.Views.{any-filter_same}
 use Rattle.std.proofs.lemmas.Map.Steps.{length-le_from_distinct_below}
 use Rattle.device_model.specs.Book.{is_in}
-use Rattle.defrag_queue.specs.Queues.{Marked, placed}
+use Rattle.defrag_queue.specs.Queues.{Marked, requeued}
 
 pub true-false : true ≡ false → ⊥
 true-false e = let P : Bool → Type 0 = λ t. cond t (Unit {0}) ⊥ in subst P e tt
@@ -108,15 +108,15 @@ fewer b q m h within out =
     omega (arith, most, length-append q (b ∷ []), length-set m b true)
 
 -- where the mark is what it ought to be, the queue is too
-pub unmoved : (b : ℕ) (q : List ℕ) (t : Bool) → is_in q b ≡ t → placed t b q ≡ q
+pub unmoved : (b : ℕ) (q : List ℕ) (t : Bool) → is_in q b ≡ t → requeued t b q ≡ q
 unmoved b q true e = cond-true (is_in q b) q (q ++ b ∷ []) e
 unmoved b q false e = stays b q e
 
-pub moved_in : (b : ℕ) (q : List ℕ) (t : Bool) → t ≡ true → is_in q b ≡ false → placed t b q ≡ q ++ b ∷ []
-moved_in b q t on out = ap (λ x. placed x b q) on ∙ cond-false (is_in q b) q (q ++ b ∷ []) out
+pub moved_in : (b : ℕ) (q : List ℕ) (t : Bool) → t ≡ true → is_in q b ≡ false → requeued t b q ≡ q ++ b ∷ []
+moved_in b q t on out = ap (λ x. requeued x b q) on ∙ cond-false (is_in q b) q (q ++ b ∷ []) out
 
-pub moved_out : (b : ℕ) (q : List ℕ) (t : Bool) → t ≡ false → placed t b q ≡ without b q
-moved_out b q t off = ap (λ x. placed x b q) off
+pub moved_out : (b : ℕ) (q : List ℕ) (t : Bool) → t ≡ false → requeued t b q ≡ without b q
+moved_out b q t off = ap (λ x. requeued x b q) off
 
 -- the mark that was read
 pub read_mark : (b : ℕ) (q : List ℕ) (m : List Bool) (v : Bool) → Marked q m → b < length m → v ≡ get_or m b v → is_in q b ≡ v

@@ -16,13 +16,13 @@ abbrev pub is_below_mark : (capacity lwm used : ℕ) (flushed : Bool) → Bool
 is_below_mark capacity lwm used flushed = flushed && nat_lt 0 used && nat_lt (used * 100) (lwm * capacity)
 
 -- a block that qualifies keeps its place, or enters at the back; one that doesn't leaves
-abbrev pub placed : (qualifies : Bool) (block : ℕ) → List ℕ → List ℕ
-placed true block queue = if is_in queue block then queue else (queue ++ block ∷ [])
-placed false block queue = filter (λ b. not (b == block)) queue
+abbrev pub requeued : (qualifies : Bool) (block : ℕ) → List ℕ → List ℕ
+requeued true block queue = if is_in queue block then queue else (queue ++ block ∷ [])
+requeued false block queue = filter (λ b. not (b == block)) queue
 
 abbrev pub considered : QueueState → (block used : ℕ) (flushed : Bool) → QueueState
 considered state block used flushed =
-    record state { queue = placed (is_below_mark state.capacity state.lwm used flushed) block state.queue }
+    record state { queue = requeued (is_below_mark state.capacity state.lwm used flushed) block state.queue }
 
 -- each block is in the queue at most once, and the marks tell which are in it
 pub record Marked (queue : List ℕ) (marks : List Bool) : Type 0 where

@@ -3,6 +3,7 @@
 use Rattle.std.specs.Prelude.{ℕ, ◌+◌, ◌*◌, Bool, true, false, not, ◌&&◌, ◌==◌, nat_lt, nat_le, List, [], ◌∷◌, ◌++◌, map, filter, find, sum_by, Option, Some, None, if◌then◌else◌}
 use Rattle.std.specs.List.{list_any, range_with_len}
 use Rattle.rec_format.specs.declared.version.Digest.{Digest}
+use Rattle.rec_format.specs.declared.entry.Entry.{Entry}
 use Rattle.rec_format.specs.Places.{same_digest}
 use Rattle.device_model.specs.Histories.{Pending}
 use Rattle.device_model.specs.Policy.{Policy, free_after, queue_after, unused}
@@ -57,6 +58,9 @@ pub record Live : Type 0 where
   pub block : ℕ
   pub unit : ℕ
   pub units : ℕ
+
+abbrev pub live_of_entry : Entry → Live
+live_of_entry e = record { digest = e.digest; block = e.block; unit = e.unit; units = e.units }
 
 -- Buffers stand in rising number. A hold is the number of a buffer and a block. Free blocks are used, and queued ones
 -- vacated, from the front.

@@ -1,6 +1,7 @@
 -- Crate device_model. How a store uses its blocks, and what is different as long as not all of it is built.
--- The whole store uses a block again when nothing in it is live. What is built so far uses no block twice. All that follows from
--- that stands in this file: a later stage changes `built` and nothing else.
+-- The whole store uses a block again when nothing in it is live. What is built so far uses no block twice. What follows from that
+-- for the book, for steps and for answers is decided by the switches below, and the note of a refused device reads the same one.
+-- docs/DECISIONS.md has what else is different for now.
 use Rattle.std.specs.Prelude.{ℕ, Bool, true, false, not, ◌&&◌, ◌==◌, List, [], filter, if◌then◌else◌}
 use Rattle.std.specs.List.{list_any}
 

@@ -53,6 +53,10 @@ pub record IsHonest (v : DiskView) : Type 0 where
   pub told : v.tells
   pub image : v.may_leave v.seen
 
+-- a crash leaves what a read gives, and nothing else
+abbrev pub IsSettled : DiskView → Type 0
+IsSettled v = IsOnly v.seen v.may_leave
+
 -- Time advances. Each moment up to the old one is kept, and the images since such a moment are the old ones since it, with those
 -- of meanwhile.
 pub record Advances (old new : DiskView) : Type 0 where

@@ -1,9 +1,10 @@
 // A disk in memory, which keeps a record of its moments.
 ghost use Rattle.std.specs.Prelude.{◌≡◌, ◌⊎◌, ◌+◌, ◌-◌, ◌++◌, ◌≤◌, ◌^◌, ◌<◌, None, Some, false, true, ℕ, [], ◌∷◌, List, min, length, replicate, OnOk, OnErr, IfOk, is_err, take, drop, if◌then◌else◌};
 ghost use Rattle.disk_model.specs.Bytes.{range, Torn, overwrite};
-ghost use Rattle.disk_model.specs.Replay.{State, synced, written, after, replay, MayLeave, Records};
-ghost use Rattle.disk_model.specs.Disk.{Written, Within, TornFrom, TellsSame, TellsTorn, Loosens, IsOnly, IsHonest, IsCall, meanwhile};
-ghost use Rattle.disk_model.specs.Faults.{is_asked, IsCounted, IsAskedAfter, IsAskedOf, IsSame, FailsWhere, faults_after, one_more, is_due, flipped};
+ghost use Rattle.disk_model.specs.Replay.{State, synced, after_write, after, replay, MayLeave, RecordsChange};
+ghost use Rattle.disk_model.specs.Disk.{Written, Within, TornFrom, TellsSame, TellsTorn, Loosens, IsOnly, IsSettled, IsHonest, IsCall, meanwhile};
+ghost use Rattle.disk_model.specs.Faults.{is_asked, IsCounted, IsAskedAfter, IsAskedOf, IsSame, FailsWhere, faults_after, is_due, flipped};
+ghost use Rattle.fault_count.specs.Counts.{one_more};
 ghost use Rattle.disk_model.specs.Picked.{picked_of, Tracks};
 ghost use Rattle.disk_model.specs.Past.{bytes_after, recorded, is_disk};
 
@@ -37,7 +38,7 @@ impl MemDisk {
     pub fn new(alloc: Global, len: u64) -> Result<MemDisk, NoMemory>
         ensures zeros { IfOk result (λ disk. (view_of disk).seen ≡ replicate len 0) }
         ensures told { IfOk result (λ disk. IsHonest (view_of disk)) }
-        ensures synced { IfOk result (λ disk. IsOnly (view_of disk).seen (view_of disk).may_leave) }
+        ensures synced { IfOk result (λ disk. IsSettled (view_of disk)) }
         ensures fresh { IfOk result IsFresh }
     {
         let Ok(content) = vec![in alloc; 0; len as usize] else {
@@ -50,7 +51,7 @@ impl MemDisk {
     fn holding(alloc: Global, content: Vec<u8>) -> Result<MemDisk, NoMemory>
         ensures holds { IfOk result (λ disk. (view_of disk).seen ≡ content.items) }
         ensures told { IfOk result (λ disk. IsHonest (view_of disk)) }
-        ensures synced { IfOk result (λ disk. IsOnly (view_of disk).seen (view_of disk).may_leave) }
+        ensures synced { IfOk result (λ disk. IsSettled (view_of disk)) }
         ensures fresh { IfOk result IsFresh }
     {
         let Ok(first) = content.to_vec(alloc) else {
@@ -113,7 +114,7 @@ impl MemDisk {
         ensures image { IfOk result (λ disk. MayLeave (state_of self.now moment) (view_of disk).seen) }
         ensures left { IfOk result (λ disk. (t : ℕ) → t ≤ moment → (view_of self.now).left_since t (view_of disk).seen) }
         ensures told { IfOk result (λ disk. IsHonest (view_of disk)) }
-        ensures synced { IfOk result (λ disk. IsOnly (view_of disk).seen (view_of disk).may_leave) }
+        ensures synced { IfOk result (λ disk. IsSettled (view_of disk)) }
         ensures fresh { IfOk result IsFresh }
     {
         let held = picked_bytes(
@@ -201,7 +202,7 @@ fn note_write(
     bytes: &[u8],
     landed: bool,
 ) -> Result<(), NoMemory>
-    ensures ok { OnOk result (Records changes.old.items changes.new.items (written place bytes.now landed)) }
+    ensures ok { OnOk result (RecordsChange changes.old.items changes.new.items (after_write place bytes.now landed)) }
     ensures err { OnErr result (changes.new.items ≡ changes.old.items) }
 {
     let Ok(bytes) = bytes.to_vec(alloc) else {
@@ -222,7 +223,7 @@ fn note_write(
 
 /// Records a sync.
 fn note_sync(changes: &mut Vec<Change>) -> Result<(), NoMemory>
-    ensures ok { OnOk result (Records changes.old.items changes.new.items (λ s. synced s.bytes)) }
+    ensures ok { OnOk result (RecordsChange changes.old.items changes.new.items (λ s. synced s.bytes)) }
     ensures err { OnErr result (changes.new.items ≡ changes.old.items) }
 {
     if changes.push(Change::Sync).is_err() {
@@ -298,8 +299,8 @@ impl Disk for MemDisk {
         // It fails exactly where it was asked to, or for want of memory for the record.
         ensures fails { FailsWhere (is_asked self.old.writes) self.old.starved self.new.starved result }
         // It is recorded, a failed one too; but for want of memory nothing is done.
-        ensures ok { OnOk result (Records self.old.changes.items self.new.changes.items (written place bytes.now true)) }
-        ensures err { OnErr result (Records self.old.changes.items self.new.changes.items (written place bytes.now false) ⊎ ((self.new.changes.items ≡ self.old.changes.items) × (self.new.starved ≡ one_more self.old.starved))) }
+        ensures ok { OnOk result (RecordsChange self.old.changes.items self.new.changes.items (after_write place bytes.now true)) }
+        ensures err { OnErr result (RecordsChange self.old.changes.items self.new.changes.items (after_write place bytes.now false) ⊎ ((self.new.changes.items ≡ self.old.changes.items) × (self.new.starved ≡ one_more self.old.starved))) }
         ensures writes { IsCounted self.old.writes self.new.writes }
         ensures counts { (self.new.faults ≡ faults_after self.old.faults result) × (self.new.calls ≡ one_more self.old.calls) }
         ensures others { (self.new.first ≡ self.old.first) × (self.new.reads ≡ self.old.reads) × (self.new.syncs ≡ self.old.syncs) × (self.new.lie ≡ self.old.lie) }
@@ -328,7 +329,7 @@ impl Disk for MemDisk {
         ensures call { IsCall (view_of self.old) (view_of self.new) result }
         // It fails exactly where it was asked to, or for want of memory for the record.
         ensures fails { FailsWhere (is_asked self.old.syncs) self.old.starved self.new.starved result }
-        ensures ok { OnOk result (Records self.old.changes.items self.new.changes.items (λ s. synced s.bytes)) }
+        ensures ok { OnOk result (RecordsChange self.old.changes.items self.new.changes.items (λ s. synced s.bytes)) }
         ensures err { OnErr result (self.new.changes.items ≡ self.old.changes.items) }
         ensures syncs { IsCounted self.old.syncs self.new.syncs }
         ensures counts { (self.new.faults ≡ faults_after self.old.faults result) × (self.new.calls ≡ one_more self.old.calls) }

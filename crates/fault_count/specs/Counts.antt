@@ -1,5 +1,5 @@
 -- Crate fault_count. Counts of faults, and when an object may answer that it failed.
-use Rattle.std.specs.Prelude.{ℕ, ◌+◌, ◌<◌, ◌≤◌, ◌^◌, Result, OnErr}
+use Rattle.std.specs.Prelude.{ℕ, ◌+◌, ◌-◌, ◌<◌, ◌≤◌, ◌^◌, min, max, Result, OnErr}
 
 -- A count went up, or stands where a counter of 64 bits ends.
 abbrev pub Rose : ℕ → ℕ → Type 0
@@ -14,3 +14,7 @@ pub record Counted (before now : ℕ) : Type 0 where
 pub record IsCaused {T E : Type 0} (before now : ℕ) (result : Result T E) : Type 0 where
   pub later : before ≤ now
   pub rose : OnErr result (Rose before now)
+
+-- a counter of 64 bits after one more; at its last value it stands still
+abbrev pub one_more : ℕ → ℕ
+one_more count = max count (min (count + 1) (2 ^ 64 - 1))

@@ -2,13 +2,13 @@
 use Rattle.std.proofs.Common.{◌≡◌, ℕ, ◌<◌, false, not, ◌&&◌, ◌||◌, eqb, ap, subst, sym, ◌∙◌, ⊎_elim}
 use Rattle.std.specs.FinSet as set
 use Rattle.std.proofs.lemmas.Bool.{false≢true, and_parts, or_cases, eqb-true}
-use Rattle.hold_book.specs.Holds.{pair_cmp, Holds, HoldsBelow, has_hold, with_hold, without_buffer}
+use Rattle.hold_book.specs.Holds.{pair_cmp, Holds, HoldsBelow, has_hold, with_pair, without_buffer}
 use Rattle.hold_book.proofs.Pairs.{pair_order, pair_exact, same_pair-tied}
 
 pub has_hold-empty : (buffer block : ℕ) → has_hold set.empty buffer block ≡ false
 has_hold-empty buffer block = set.contains-empty pair_cmp (buffer, block)
 
-pub has_hold-with_hold : (holds : Holds) (b k buffer block : ℕ) → has_hold (with_hold holds b k) buffer block ≡ ((eqb buffer b && eqb block k) || has_hold holds buffer block)
+pub has_hold-with_hold : (holds : Holds) (b k buffer block : ℕ) → has_hold (with_pair holds b k) buffer block ≡ ((eqb buffer b && eqb block k) || has_hold holds buffer block)
 has_hold-with_hold holds b k buffer block =
     set.contains-insert pair_order holds (b, k) (buffer, block) ∙ ap (λ x. x || has_hold holds buffer block) (same_pair-tied (buffer, block) (b, k))
 
@@ -19,7 +19,7 @@ has_hold-without_buffer holds b buffer block =
 pub HoldsBelow-empty : (count : ℕ) → HoldsBelow count set.empty
 HoldsBelow-empty count buffer block held = absurd (false≢true (sym (has_hold-empty buffer block) ∙ held))
 
-pub HoldsBelow-with_hold : (count : ℕ) (holds : Holds) (b k : ℕ) → k < count → HoldsBelow count holds → HoldsBelow count (with_hold holds b k)
+pub HoldsBelow-with_hold : (count : ℕ) (holds : Holds) (b k : ℕ) → k < count → HoldsBelow count holds → HoldsBelow count (with_pair holds b k)
 HoldsBelow-with_hold count holds b k within below buffer block held =
     ⊎_elim (λ here. subst (λ n. n < count) (sym (eqb-true block k (and_parts (eqb buffer b) (eqb block k) here).1)) within) (below buffer block)
     (or_cases (eqb buffer b && eqb block k) (has_hold holds buffer block) (sym (has_hold-with_hold holds b k buffer block) ∙ held))

@@ -11,7 +11,7 @@ use Rattle.std.proofs.lemmas.Cmp.{nat_cmp_total, nat_eq_equiv, on_total, then_to
 use Rattle.std.proofs.lemmas.Map.Lookups.{exact_unsigned, exact_pairs}
 use Rattle.std.proofs.lemmas.List.Sums.{sum_by-cons}
 use Rattle.std.proofs.lemmas.List.Sorted.{sum_by-IsPermutation}
-use Rattle.hold_book.specs.Holds.{pair_cmp, IsHeld, with_hold}
+use Rattle.hold_book.specs.Holds.{pair_cmp, IsHeld, with_pair}
 
 pub pair_order : IsTotalOrder pair_cmp
 pair_order = then_total (on_total (λ (p : ℕ × ℕ). p.0) nat_cmp_total) (on_total (λ (p : ℕ × ℕ). p.1) nat_cmp_total)
@@ -48,9 +48,9 @@ true_or true c = refl
 true_or false c = refl
 
 -- one more pair
-pub hold_added : (ks ls : List (ℕ × ℕ)) (p : ℕ × ℕ) → ((q : ℕ × ℕ) → has ls q ≡ cond (same_pair p q) true (has ks q)) → set.from_list {R = pair_cmp} ls ≡ with_hold (set.from_list ks) p.0 p.1
+pub hold_added : (ks ls : List (ℕ × ℕ)) (p : ℕ × ℕ) → ((q : ℕ × ℕ) → has ls q ≡ cond (same_pair p q) true (has ks q)) → set.from_list {R = pair_cmp} ls ≡ with_pair (set.from_list ks) p.0 p.1
 hold_added ks ls p updated =
-    set.same_set pair_order pair_exact (set.from_list ls) (with_hold (set.from_list ks) p.0 p.1)
+    set.same_set pair_order pair_exact (set.from_list ls) (with_pair (set.from_list ks) p.0 p.1)
     (λ q.
     contains-pairs ls q
     ∙ updated q

@@ -24,8 +24,8 @@ abbrev pub HoldsBelow : ℕ → Holds → Type 0
 HoldsBelow count holds = (buffer block : ℕ) → IsTrue (has_hold holds buffer block) → block < count
 
 -- one more hold, and all but those of one buffer
-abbrev pub with_hold : Holds → (buffer block : ℕ) → Holds
-with_hold holds buffer block = set.insert holds (buffer, block)
+abbrev pub with_pair : Holds → (buffer block : ℕ) → Holds
+with_pair holds buffer block = set.insert holds (buffer, block)
 
 abbrev pub without_buffer : Holds → ℕ → Holds
 without_buffer holds buffer = set.retain holds (λ h. not (h.0 == buffer))

@@ -1,7 +1,7 @@
 // The holds of a device as a set of pairs, with the number of holds of each block.
 ghost use Rattle.std.specs.Prelude.{◌≡◌, ◌⊎◌, ◌↔◌, ◌≤◌, ◌<◌, ℕ, length, slice_index_or, false, IsTrue, IsOk, OnOk};
 ghost use Rattle.std.specs.FinSet as set;
-ghost use Rattle.hold_book.specs.Holds.{IsHeld, has_hold, with_hold, without_buffer};
+ghost use Rattle.hold_book.specs.Holds.{IsHeld, has_hold, with_pair, without_buffer};
 
 use crate::NoMemory;
 use crate::counts::{lower_all, raise};
@@ -60,7 +60,7 @@ impl HoldBook {
     /// Lets a buffer hold a block, in room that was reserved.
     pub fn hold(&mut self, buffer: u64, block: u32)
         requires { 1 ≤ self.old.spare }
-        ensures { self.new.holds ≡ with_hold self.old.holds buffer block }
+        ensures { self.new.holds ≡ with_pair self.old.holds buffer block }
     {
         // No block has more holds than there are, so a count of them fits.
         let _holds = self.pairs.len();

@@ -1,9 +1,5 @@
 -- What is seen of the forms in memory.
-use Rattle.std.specs.Prelude.{ℕ, ◌+◌, ◌-◌, ◌^◌, min, max, List, map}
-
--- a counter of 64 bits after one more; at its last value it stands still
-abbrev pub one_more : ℕ → ℕ
-one_more count = max count (min (count + 1) (2 ^ 64 - 1))
+use Rattle.std.specs.Prelude.{ℕ, List, map}
 
 -- A source in memory: the bytes taken and left, the numbers of the calls that are to fail, how many calls were made and how many of them failed.
 pub record SourceState : Type 0 where

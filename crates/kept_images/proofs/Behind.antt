@@ -18,7 +18,7 @@ use Rattle.kept_trail.specs.Trail.{Records, WaitsIn}
 use Rattle.kept_images.specs.Kept.{HaveBegun, possible_in}
 use Rattle.kept_images.specs.Changes.{ShowsRecords}
 use Rattle.kept_images.specs.Gates.{IsBodyWith}
-use Rattle.kept_images.specs.Held.{loosened, IsHeld}
+use Rattle.kept_images.specs.Held.{loosened, IsKeptLoosened}
 use Rattle.kept_images.proofs.Gates.{shows_with}
 use Rattle.kept_images.proofs.Loosening.{loosened_has, one_still}
 use Rattle.kept_images.proofs.Parts.{low, body_stays}
@@ -27,7 +27,7 @@ use Rattle.kept_images.proofs.Reading.{one_behind, shown_there}
 sector_sized : length open_sector ≡ 4096
 sector_sized = refl
 
-module _ (setup : Setup) (g : Geometry) (s : State) (records : Records) (gates : ℕ → Gate) (images : Images) (block : ℕ) (lt : block < g.blocks) (held : IsHeld setup g s records gates images)
+module _ (setup : Setup) (g : Geometry) (s : State) (records : Records) (gates : ℕ → Gate) (images : Images) (block : ℕ) (lt : block < g.blocks) (held : IsKeptLoosened setup g s records gates images)
     (bytes : List ℕ) (own : List (Digest × Version)) (one : HasOneBody g block bytes images) (is_body : IsBodyWith g block bytes own) where
   -- what is possible in the block waits in a pending buffer, or stands behind the gate
   pub behind_only : (digest : Digest) (v : Version) → possible_in g s.book records (loosened g gates images) block digest v → ((number : ℕ) × WaitsIn s.book records number block digest v) ⊎ Contains own (digest, v)

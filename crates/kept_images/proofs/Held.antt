@@ -19,7 +19,7 @@ use Rattle.kept_trail.proofs.Flushing.{one_place}
 use Rattle.kept_images.specs.Kept.{IsKept}
 use Rattle.kept_images.specs.Changes.{BringsNone, IsOpening}
 use Rattle.kept_images.specs.Gates.{GateStands, KnowsGates, IsBodyWith, with_gate}
-use Rattle.kept_images.specs.Held.{loosened, IsHeld, IsSurer, AreSure}
+use Rattle.kept_images.specs.Held.{loosened, IsKeptLoosened, IsSurer, AreSure}
 use Rattle.kept_images.proofs.Changing.{fewer_kept, fewer_brings}
 use Rattle.kept_images.proofs.Gates.{body_call_kept, body_call_brings, closing_call_kept, closing_call_brings, opening_call_kept, gate_torn, over_seen}
 use Rattle.kept_images.proofs.Knowing.{knows_changed}
@@ -40,51 +40,51 @@ shut_not_unsure e = grind (arith, e)
 
 module _ (setup : Setup) (g : Geometry) (s : State) (records : Records) where
   -- the images themselves are kept
-  pub held_kept : (gates : ℕ → Gate) (images : Images) → IsHeld setup g s records gates images → IsKept setup g s records images
+  pub held_kept : (gates : ℕ → Gate) (images : Images) → IsKeptLoosened setup g s records gates images → IsKept setup g s records images
   held_kept gates images held = fewer_kept setup g s records (loosened g gates images) images (loosened_has g gates images) held
 
-  pub held_survives : (gates : ℕ → Gate) (images : Images) → IsHeld setup g s records gates images → (c : List ℕ) → images c → Survives setup s c
+  pub held_survives : (gates : ℕ → Gate) (images : Images) → IsKeptLoosened setup g s records gates images → (c : List ℕ) → images c → Survives setup s c
   held_survives gates images held c image = kept_survives setup g s records (loosened g gates images) held c (loosened_has g gates images c image)
 
   -- where no gate is unsure that is all
-  pub held_sure : (gates : ℕ → Gate) (images : Images) → AreSure g gates → IsKept setup g s records images → IsHeld setup g s records gates images
+  pub held_sure : (gates : ℕ → Gate) (images : Images) → AreSure g gates → IsKept setup g s records images → IsKeptLoosened setup g s records gates images
   held_sure gates images sure kept = fewer_kept setup g s records images (loosened g gates images) (loosened_sure g gates images sure) kept
 
   -- A read, or a sync: no other image comes, and of some gates more may be known.
-  pub held_fewer : (old new : ℕ → Gate) (before now : Images) → IsSurer g old new → Within before now → IsHeld setup g s records old before → IsHeld setup g s records new now
+  pub held_fewer : (old new : ℕ → Gate) (before now : Images) → IsSurer g old new → Within before now → IsKeptLoosened setup g s records old before → IsKeptLoosened setup g s records new now
   held_fewer old new before now surer fewer held =
       fewer_kept setup g s records (loosened g old before) (loosened g new now) (λ c image. loosened_surer g old new before surer c (loosened_fewer g new before now fewer c image)) held
 
   -- A gate was unsure while it was written, and is known then.
-  pub held_known : (gates : ℕ → Gate) (since now : Images) (block : ℕ) (gate : Gate) → Within since now → IsHeld setup g s records (with_gate block Unsure gates) since → IsHeld setup g s records (with_gate block gate gates) now
+  pub held_known : (gates : ℕ → Gate) (since now : Images) (block : ℕ) (gate : Gate) → Within since now → IsKeptLoosened setup g s records (with_gate block Unsure gates) since → IsKeptLoosened setup g s records (with_gate block gate gates) now
   held_known gates since now block gate fewer held = held_fewer (with_gate block Unsure gates) (with_gate block gate gates) since now (surer_since g block gate gates) fewer held
 
 -- ---- the writes of a block
 
-module _ (setup : Setup) (g : Geometry) (s : State) (records : Records) (gates : ℕ → Gate) (before since : Images) (block : ℕ) (lt : block < g.blocks) (held : IsHeld setup g s records gates before) where
+module _ (setup : Setup) (g : Geometry) (s : State) (records : Records) (gates : ℕ → Gate) (before since : Images) (block : ℕ) (lt : block < g.blocks) (held : IsKeptLoosened setup g s records gates before) where
   -- The body is written behind a gate that is shut.
-  pub body_held : gates block ≡ Shut → IsShut g block before → IsShut g block since → TornFrom (block_place g block + 4096) (g.block_size - 4096) before since → IsHeld setup g s records gates since
+  pub body_held : gates block ≡ Shut → IsShut g block before → IsShut g block since → TornFrom (block_place g block + 4096) (g.block_size - 4096) before since → IsKeptLoosened setup g s records gates since
   body_held is shut still torn =
       let sure : gates block ≢ Unsure = λ unsure. shut_not_unsure (sym is ∙ unsure) in
       body_call_kept setup g s records (loosened g gates before) (loosened g gates since) block lt held (shut_still g held.geometry gates before block sure shut) (shut_still g held.geometry gates since block sure still)
       (loosened_torn g gates (block_place g block + 4096) (g.block_size - 4096) before since torn)
 
   -- A gate that is unsure is written, whatever the images show there now.
-  pub unsure_held : gates block ≡ Unsure → TornFrom (block_place g block) 4096 before since → IsHeld setup g s records gates since
+  pub unsure_held : gates block ≡ Unsure → TornFrom (block_place g block) 4096 before since → IsKeptLoosened setup g s records gates since
   unsure_held is torn = fewer_kept setup g s records (loosened g gates before) (loosened g gates since) (loosened_written g gates block before since lt is torn) held
 
   -- where it may be unsure, it is written
-  begun_held : IsHeld setup g s records (with_gate block Unsure gates) before → TornFrom (block_place g block) 4096 before since → IsHeld setup g s records (with_gate block Unsure gates) since
+  begun_held : IsKeptLoosened setup g s records (with_gate block Unsure gates) before → TornFrom (block_place g block) 4096 before since → IsKeptLoosened setup g s records (with_gate block Unsure gates) since
   begun_held is torn =
       fewer_kept setup g s records (loosened g (with_gate block Unsure gates) before) (loosened g (with_gate block Unsure gates) since)
       (loosened_written g (with_gate block Unsure gates) block before since lt (gate_own block block Unsure gates refl) torn) is
 
   -- A gate that isn't shut is closed. If it is set, the block is free, so what stands behind it was possible; if it is unsure, nothing is asked.
   pub close_held : GateStands g before block (gates block) → gates block ≢ Shut → (gates block ≡ Set → Contains s.book.free block) → TornFrom (block_place g block) 4096 before since
-      → IsHeld setup g s records (with_gate block Unsure gates) since
+      → IsKeptLoosened setup g s records (with_gate block Unsure gates) since
   close_held stands not_shut free torn = begun_held (by (gates block) refl stands) torn
     where
-      by : (gate : Gate) → gates block ≡ gate → GateStands g before block gate → IsHeld setup g s records (with_gate block Unsure gates) before
+      by : (gate : Gate) → gates block ≡ gate → GateStands g before block gate → IsKeptLoosened setup g s records (with_gate block Unsure gates) before
       by Shut is at = absurd (not_shut is)
       by Set is at =
           closing_call_kept setup g s records (loosened g gates before) (loosened g (with_gate block Unsure gates) before) block lt held (free is)
@@ -93,7 +93,7 @@ module _ (setup : Setup) (g : Geometry) (s : State) (records : Records) (gates :
 
   -- The gate of a pending buffer is opened over its body, for the first time or again.
   pub open_held : (number : ℕ) (bytes : List ℕ) → IsOpening s.book number block → HasOneBody g block bytes before → IsBodyWith g block bytes (records number) → TornFrom (block_place g block) 4096 before since
-      → IsHeld setup g s records (with_gate block Unsure gates) since
+      → IsKeptLoosened setup g s records (with_gate block Unsure gates) since
   open_held number bytes opening one is_body torn =
       begun_held
       (opening_call_kept setup g s records (loosened g gates before) (loosened g (with_gate block Unsure gates) before) block lt held number bytes opening (one_still g held.geometry gates before block bytes one) is_body

@@ -25,8 +25,8 @@ use Rattle.kept_trail.specs.Trail.{Records, places_of}
 use Rattle.kept_images.specs.Kept.{Shows, possible_in}
 use Rattle.kept_images.specs.Changes.{HasRecord, BringsNone, records_by}
 use Rattle.kept_images.specs.Gates.{GateStands, IsBodyWith}
-use Rattle.kept_images.specs.Held.{loosened, IsHeld, HoldsGates, AreSure}
-use Rattle.kept_images.specs.Scans.{IsRead}
+use Rattle.kept_images.specs.Held.{loosened, IsKeptLoosened, HoldsGates, AreSure}
+use Rattle.kept_images.specs.Scans.{IsScanOf}
 use Rattle.kept_images.specs.Courses.{IsMade, ChangesKept, ChangeBehind}
 use Rattle.kept_images.proofs.Gates.{opens_over}
 use Rattle.kept_images.proofs.Held.{held_kept, held_sure}
@@ -44,12 +44,12 @@ seen_sure : (g : Geometry) (seen : List ℕ) (gates : ℕ → Gate) → ((block 
 seen_sure g seen gates each k lt unsure = subst (IsSeen g seen k) unsure (each k lt)
 
 pub start_held : (setup : Setup) (g : Geometry) → setup.policy.reuses ≡ true → IsShapeOf setup g → IsGeometry g → (image : List ℕ) (bodies : List Body) (gates : ℕ → Gate) (images : Images) → ((c : List ℕ) → images c → c ≡ image)
-    → ((block : ℕ) → block < g.blocks → IsSeen g image block (gates block)) → IsSound setup image bodies → IsHeld setup g (start_state setup bodies) (records_by []) gates images
+    → ((block : ℕ) → block < g.blocks → IsSeen g image block (gates block)) → IsSound setup image bodies → IsKeptLoosened setup g (start_state setup bodies) (records_by []) gates images
 start_held setup g reuses shape is_g image bodies gates images alone each sound =
     held_sure setup g (start_state setup bodies) (records_by []) gates images (seen_sure g image gates each) (start_kept setup g reuses shape is_g image bodies images alone sound)
 
-pub restart_held : (setup : Setup) (g : Geometry) (s new : State) (records : Records) (was gates : ℕ → Gate) (before now : Images) (image : List ℕ) → IsHeld setup g s records was before → before image → Restarts setup s image new
-    → ((c : List ℕ) → now c → c ≡ image) → ((block : ℕ) → block < g.blocks → IsSeen g image block (gates block)) → IsHeld setup g new (records_by []) gates now
+pub restart_held : (setup : Setup) (g : Geometry) (s new : State) (records : Records) (was gates : ℕ → Gate) (before now : Images) (image : List ℕ) → IsKeptLoosened setup g s records was before → before image → Restarts setup s image new
+    → ((c : List ℕ) → now c → c ≡ image) → ((block : ℕ) → block < g.blocks → IsSeen g image block (gates block)) → IsKeptLoosened setup g new (records_by []) gates now
 restart_held setup g s new records was gates before now image held left r alone each =
     held_sure setup g new (records_by []) gates now (seen_sure g image gates each) (restart_kept setup g s new records before now image (held_kept setup g s records was before held) left r alone)
 
@@ -57,25 +57,25 @@ restart_held setup g s new records was gates before now image held left r alone 
 
 module _ (setup : Setup) (g : Geometry) (s : State) (records : Records) (gates : ℕ → Gate) (images : Images) (block : ℕ) (lt : block < g.blocks) (holds : HoldsGates setup g s records gates images) where
   -- of a pending buffer's block its records, if the write of its gate hasn't begun
-  pub waiting_read : (number : ℕ) → Contains (places_of s.book) (number, block) → is_begun (pending_of s.book) number ≡ false → IsRead g s.book records (loosened g gates images) block (records number)
+  pub waiting_read : (number : ℕ) → Contains (places_of s.book) (number, block) → is_begun (pending_of s.book) number ≡ false → IsScanOf g s.book records (loosened g gates images) block (records number)
   waiting_read number placed unbegun =
       read_waiting setup g s records (loosened g gates images) number block holds.held placed
       (λ c image. inl (waiting_shut g s.book (loosened g gates images) gates number block (knows_still g holds.held.geometry gates images s.book holds.knows) lt placed unbegun c image))
 
   -- or if its body stands there
-  pub begun_read : (number : ℕ) (bytes : List ℕ) → Contains (places_of s.book) (number, block) → HasOneBody g block bytes images → IsBodyWith g block bytes (records number) → IsRead g s.book records (loosened g gates images) block (records number)
+  pub begun_read : (number : ℕ) (bytes : List ℕ) → Contains (places_of s.book) (number, block) → HasOneBody g block bytes images → IsBodyWith g block bytes (records number) → IsScanOf g s.book records (loosened g gates images) block (records number)
   begun_read number bytes placed one is_body =
       read_waiting setup g s records (loosened g gates images) number block holds.held placed (opens_over g (loosened g gates images) block bytes (records number) lt (one_still g holds.held.geometry gates images block bytes one) is_body)
 
   -- of a block that is shut nothing; an unsure one is closed and synced first
-  pub shut_read : has_buffer s.book block ≡ false → gates block ≡ Shut → IsRead g s.book records (loosened g gates images) block []
+  pub shut_read : has_buffer s.book block ≡ false → gates block ≡ Shut → IsScanOf g s.book records (loosened g gates images) block []
   shut_read none is = read_shut g s records (loosened g gates images) block none (shut_still g holds.held.geometry gates images block (λ unsure. not_unsure (sym is ∙ unsure)) (subst (GateStands g images block) is (holds.knows.stands block lt)))
     where
       not_unsure : Shut ≢ Unsure
       not_unsure e = grind (arith, e)
 
   -- of a block that is set the body that is seen
-  pub set_read : (seen : List ℕ) (body : Body) → has_buffer s.book block ≡ false → gates block ≡ Set → images seen → Shows g seen body → body.block ≡ block → IsRead g s.book records (loosened g gates images) block body.records
+  pub set_read : (seen : List ℕ) (body : Body) → has_buffer s.book block ≡ false → gates block ≡ Set → images seen → Shows g seen body → body.block ≡ block → IsScanOf g s.book records (loosened g gates images) block body.records
   set_read seen body none is image shows placed =
       let stands = subst (GateStands g images block) is (holds.knows.stands block lt) in
       read_set g s records (loosened g gates images) block none stands.1.0 seen body (one_still g holds.held.geometry gates images block stands.1.0 stands.1.1.one) (loosened_has g gates images seen image) shows placed
@@ -123,18 +123,18 @@ change_behind setup g after records before now (done_part part) change none = (c
 
 -- Each image on the way of a legal list of events survives a state on the way.
 pub run_held : (setup : Setup) (g : Geometry) (records : ℕ → Records) (gates : ℕ → ℕ → Gate) (images : ℕ → Images) (told : Bool) (s : State) (faults : ℕ) (events : List Event) → IsLegal setup told s faults events
-    → IsHeld setup g s (records 0) (gates 0) (images 0) → RunMade setup g records (λ k. loosened g (gates k) (images k)) s 0 events
+    → IsKeptLoosened setup g s (records 0) (gates 0) (images 0) → RunMade setup g records (λ k. loosened g (gates k) (images k)) s 0 events
     → (j : ℕ) → j ≤ length (steps_of events) → (c : List ℕ) → images j c → OneOf (Survives setup) (states_of setup events s) c
 run_held setup g records gates images told s faults events legal held made j le c image =
     run_survives setup g records (λ k. loosened g (gates k) (images k)) told s faults events legal held made j le c (loosened_has g (gates j) (images j) c image)
 
 -- ---- live copies, and what a raid may rely on
 
-pub live_held : (setup : Setup) (g : Geometry) (s : State) (records : Records) (gates : ℕ → Gate) (images : Images) (digest : Digest) (copy : Live) (v : Version) → IsHeld setup g s records gates images → live_of digest s.book.live ≡ Some copy
+pub live_held : (setup : Setup) (g : Geometry) (s : State) (records : Records) (gates : ℕ → Gate) (images : Images) (digest : Digest) (copy : Live) (v : Version) → IsKeptLoosened setup g s records gates images → live_of digest s.book.live ≡ Some copy
     → entry s digest ≡ Some v → has_buffer s.book copy.block ≡ false → (c : List ℕ) → images c → HasRecord g c copy.block digest v
 live_held setup g s records gates images digest copy v held live top none c image = live_shown setup g s records (loosened g gates images) digest copy v held live top none c (loosened_has g gates images c image)
 
-pub held_no_older : (setup : Setup) (g : Geometry) (s : State) (records : Records) (gates : ℕ → Gate) (images : Images) (digest : Digest) (e : Version) → IsHeld setup g s records gates images → entry s digest ≡ Some e
+pub held_no_older : (setup : Setup) (g : Geometry) (s : State) (records : Records) (gates : ℕ → Gate) (images : Images) (digest : Digest) (e : Version) → IsKeptLoosened setup g s records gates images → entry s digest ≡ Some e
     → NoneOlder s (possible_in g s.book records (loosened g gates images)) digest → HasNoOlder setup s images digest e
 held_no_older setup g s records gates images digest e held top none =
     has_no_older setup s images (possible_in g s.book records (loosened g gates images)) digest e top none (λ v possible. possible_somewhere setup g s records (loosened g gates images) digest v held (among v possible))

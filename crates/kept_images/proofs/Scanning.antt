@@ -25,7 +25,7 @@ use Rattle.kept_trail.proofs.Flushing.{one_place}
 use Rattle.kept_trail.proofs.Places.{any_there, buffer_place}
 use Rattle.kept_images.specs.Kept.{Shows, possible_in, IsKept}
 use Rattle.kept_images.specs.Changes.{OpensOver, ShowsRecords}
-use Rattle.kept_images.specs.Scans.{IsRead, FindsAmong, older_among}
+use Rattle.kept_images.specs.Scans.{IsScanOf, FindsAmong, older_among}
 use Rattle.kept_images.proofs.Reading.{one_shown, one_behind}
 use Rattle.kept_images.proofs.Stepping.{plain_kept}
 
@@ -33,7 +33,7 @@ use Rattle.kept_images.proofs.Stepping.{plain_kept}
 
 -- of a pending buffer's block its records, as long as no image shows others there
 pub read_waiting : (setup : Setup) (g : Geometry) (s : State) (records : Records) (images : Images) (number block : ℕ) → IsKept setup g s records images → Contains (places_of s.book) (number, block) → OpensOver g block (records number) images
-    → IsRead g s.book records images block (records number)
+    → IsScanOf g s.book records images block (records number)
 read_waiting setup g s records images number block kept placed opens = record {
   pending = λ m there r has. subst (λ (k : ℕ). Contains (records k) r) (ap (λ (p : ℕ × ℕ). p.0) (one_place (places_of s.book) (m, block) (number, block) kept.order.booked.apart there placed refl)) has;
   stored = λ c image body at shown r has. by c body at shown r has (opens c image);
@@ -50,14 +50,14 @@ module _ (g : Geometry) (s : State) (records : Records) (images : Images) (block
       both_ways (has_buffer s.book block) none (buffer_place s.book block ∙ any_there (λ (p : ℕ × ℕ). p.1 == block) (places_of s.book) (number, block) there (eq-eqb block block refl))
 
   -- of a block that is shut nothing
-  pub read_shut : IsShut g block images → IsRead g s.book records images block []
+  pub read_shut : IsShut g block images → IsScanOf g s.book records images block []
   read_shut shut = record {
     pending = λ number there r has. absurd (no_place number there);
     stored = λ c image body at shown r has. absurd (shut c image (subst (λ (k : ℕ). IsOpen (gate_sector g k c)) at shown.is_open));
   }
 
   -- of another the body that is seen in one image, if each has the same behind its gate
-  pub read_set : (bytes seen : List ℕ) (body : Body) → HasOneBody g block bytes images → images seen → Shows g seen body → body.block ≡ block → IsRead g s.book records images block body.records
+  pub read_set : (bytes seen : List ℕ) (body : Body) → HasOneBody g block bytes images → images seen → Shows g seen body → body.block ≡ block → IsScanOf g s.book records images block body.records
   read_set bytes seen body one image shows placed = record {
     pending = λ number there r has. absurd (no_place number there);
     stored = λ c is other at shown r has.
@@ -69,7 +69,7 @@ module _ (g : Geometry) (s : State) (records : Records) (images : Images) (block
 -- ---- what is found
 
 -- A scan finds what it has to, if all that the block may have was read.
-pub scan_finds : (g : Geometry) (s : State) (records : Records) (images : Images) (block : ℕ) (read : List (Digest × Version)) (copies : List (Digest × Stamp)) → IsRead g s.book records images block read → FindsAmong s read copies
+pub scan_finds : (g : Geometry) (s : State) (records : Records) (images : Images) (block : ℕ) (read : List (Digest × Version)) (copies : List (Digest × Stamp)) → IsScanOf g s.book records images block read → FindsAmong s read copies
     → FindsOlder s (possible_in g s.book records images) block copies
 scan_finds g s records images block read copies is finds digest v marked o =
     finds (digest, v) (there o.may_come) marked (ap (λ e. is_older_than (stamp_of e) v.stamp) o.top ∙ o.later)
@@ -88,13 +88,13 @@ older_found s read r there marked older =
 
 -- so the scan's step may be taken
 pub scan_kept : (setup : Setup) (g : Geometry) (s : State) (records : Records) (images : Images) (block : ℕ) (read : List (Digest × Version)) (copies : List (Digest × Stamp)) → IsKept setup g s records images → s.raid.next ≡ scan_turn block
-    → IsRead g s.book records images block read → FindsAmong s read copies → IsKept setup g (after_step setup (scanned_block copies) s) records images
+    → IsScanOf g s.book records images block read → FindsAmong s read copies → IsKept setup g (after_step setup (scanned_block copies) s) records images
 scan_kept setup g s records images block read copies kept turn is finds =
     plain_kept setup g s records images kept (scanned_block copies) refl (block, turn, scan_finds g s records images block read copies is finds)
 
 -- and an event that is this scan finds all
 pub scans_all : (g : Geometry) (s : State) (records : Records) (images : Images) (event : Event) (block : ℕ) (read : List (Digest × Version)) (copies : List (Digest × Stamp)) → s.raid.next ≡ scan_turn block → event.steps ≡ scanned_block copies ∷ []
-    → IsRead g s.book records images block read → FindsAmong s read copies → ScansAll s (possible_in g s.book records images) event
+    → IsScanOf g s.book records images block read → FindsAmong s read copies → ScansAll s (possible_in g s.book records images) event
 scans_all g s records images event block read copies turn steps is finds other found other_turn other_steps =
     subst (λ (k : ℕ). FindsOlder s (possible_in g s.book records images) k found) same_block (subst (λ (l : List (Digest × Stamp)). FindsOlder s (possible_in g s.book records images) block l) same_copies (scan_finds g s records images block read copies is finds))
   where

@@ -24,7 +24,7 @@ use Rattle.kept_images.specs.Changes.{Appends, IsOpening}
 use Rattle.kept_images.proofs.Stepping.{plain_kept, plain_places}
 use Rattle.kept_images.proofs.Parts.{body_stays}
 use Rattle.kept_images.specs.Gates.{GateStands, KnowsGates, IsBodyWith, with_gate}
-use Rattle.kept_images.specs.Held.{loosened, IsHeld, HoldsGates}
+use Rattle.kept_images.specs.Held.{loosened, IsKeptLoosened, HoldsGates}
 use Rattle.kept_images.proofs.Gates.{opened_call_kept}
 use Rattle.kept_images.proofs.Knowing.{knows_fewer, knows_plain, knows_flushed}
 use Rattle.kept_images.proofs.Loosening.{gate_own, open_still, one_still}
@@ -58,7 +58,7 @@ close_call setup g s records gates before since now block lt holds not_shut free
   closed = λ shut. record { knows = knows_known g s.book gates now block Shut shut known; held = held_known setup g s records gates since now block Shut fewer in_since };
 }
   where
-    in_since : IsHeld setup g s records (with_gate block Unsure gates) since
+    in_since : IsKeptLoosened setup g s records (with_gate block Unsure gates) since
     in_since = close_held setup g s records gates before since block lt holds.held (holds.knows.stands block lt) not_shut free torn
 
     known : KnowsGates g s.book now (with_gate block Unsure gates)
@@ -87,7 +87,7 @@ open_call setup g s records gates before since now number block bytes lt holds o
   };
 }
   where
-    in_since : IsHeld setup g s records (with_gate block Unsure gates) since
+    in_since : IsKeptLoosened setup g s records (with_gate block Unsure gates) since
     in_since = open_held setup g s records gates before since block lt holds.held number bytes opening one is_body torn
 
     known : KnowsGates g s.book now (with_gate block Unsure gates)
@@ -131,13 +131,13 @@ flush_held setup g s records gates before writing between opening now number blo
     begun : State
     begun = after_step setup (gate_begun number) s
 
-    in_writing : IsHeld setup g s records gates writing
+    in_writing : IsKeptLoosened setup g s records gates writing
     in_writing = body_held setup g s records gates before writing block lt holds.held is_shut (subst (GateStands g before block) is_shut (holds.knows.stands block lt)) still torn
 
     known : KnowsGates g s.book writing gates
     known = body_knows g holds.held.geometry s.book gates before writing block lt holds.knows is_shut still torn
 
-    in_between : IsHeld setup g begun records gates between
+    in_between : IsKeptLoosened setup g begun records gates between
     in_between = plain_kept setup g s records (loosened g gates between) (held_fewer setup g s records gates gates writing between (λ k lt unsure. unsure) fewer in_writing) (gate_begun number) refl tt
 
 -- ---- a block is used again

@@ -26,13 +26,13 @@ abbrev pub loosened : Geometry → (gates : ℕ → Gate) → Images → Images
 loosened g gates images c = (d : List ℕ) × images d × DiffersInUnsure g gates d c
 
 -- What is kept, where what stands behind an unsure gate counts as possible, whatever the images show there now.
-abbrev pub IsHeld : Setup → Geometry → State → Records → (gates : ℕ → Gate) → Images → Type 0
-IsHeld setup g s records gates images = IsKept setup g s records (loosened g gates images)
+abbrev pub IsKeptLoosened : Setup → Geometry → State → Records → (gates : ℕ → Gate) → Images → Type 0
+IsKeptLoosened setup g s records gates images = IsKept setup g s records (loosened g gates images)
 
 -- What a shelf has to show of its gates: what it knows of each, and that a set is kept where what stands behind an unsure one counts.
 pub record HoldsGates (setup : Setup) (g : Geometry) (s : State) (records : Records) (gates : ℕ → Gate) (images : Images) : Type 0 where
   pub knows : KnowsGates g s.book images gates
-  pub held : IsHeld setup g s records gates images
+  pub held : IsKeptLoosened setup g s records gates images
 
 -- of these blocks' gates no more are unsure than of those
 abbrev pub IsSurer : Geometry → (old new : ℕ → Gate) → Type 0

@@ -14,7 +14,7 @@ use Rattle.recovery.specs.Sound.{IsShapeOf}
 use Rattle.recovery.specs.Holding.{begun_versions}
 use Rattle.kept_facts.specs.Facts.{Possible, HasFacts}
 use Rattle.kept_trail.specs.Trail.{Records, WaitsIn, IsTrailed, IsBooked}
-use Rattle.kept_trail.specs.Numbers.{IsNumbered, RecordsWritten, RecordsWhole}
+use Rattle.kept_trail.specs.Numbers.{HasNumbers, RecordsWritten, RecordsWhole}
 use Rattle.kept_trail.specs.Within.{IsWithin}
 
 -- ---- one image
@@ -57,7 +57,7 @@ possible_in g book records images block digest v = ((number : ℕ) × WaitsIn bo
 pub record IsInOrder (setup : Setup) (s : State) (records : Records) : Type 0 where
   pub reuses : setup.policy.reuses ≡ true
   pub booked : IsBooked s.book
-  pub numbered : IsNumbered s
+  pub numbered : HasNumbers s
   pub within : IsWithin setup s.book
   pub written : RecordsWritten s records
   pub whole : RecordsWhole s records

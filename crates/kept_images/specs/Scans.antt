@@ -15,7 +15,7 @@ use Rattle.kept_trail.specs.Trail.{Records, places_of}
 use Rattle.kept_images.specs.Kept.{Shows}
 
 -- what a block may have is among these records: those of its pending buffer, and those that an image shows in it
-pub record IsRead (g : Geometry) (book : Book) (records : Records) (images : Images) (block : ℕ) (read : List (Digest × Version)) : Type 0 where
+pub record IsScanOf (g : Geometry) (book : Book) (records : Records) (images : Images) (block : ℕ) (read : List (Digest × Version)) : Type 0 where
   pub pending : (number : ℕ) → Contains (places_of book) (number, block) → (r : Digest × Version) → Contains (records number) r → Contains read r
   pub stored : (c : List ℕ) → images c → (body : Body) → body.block ≡ block → Shows g c body → (r : Digest × Version) → Contains body.records r → Contains read r
 

@@ -11,7 +11,7 @@ use Rattle.device_model.proofs.Laws.{free_qualifies}
 use Rattle.rec_format.proofs.Laws.{same_digest_is}
 use Rattle.recovery.proofs.Growing.{all_at, all_from, cons_cases}
 use Rattle.recovery.proofs.Members.{first_there, rest_there, filter_there}
-use Rattle.kept_trail.specs.Trail.{places_of, AreApart, IsBooked, NotFree}
+use Rattle.kept_trail.specs.Trail.{places_of, HaveOwnBlocks, IsBooked, NotFree}
 use Rattle.kept_trail.proofs.Places.{any_there, hold_held}
 
 -- ---- what isn't free
@@ -89,7 +89,7 @@ none_live digest (m ∷ live) = by (same_digest digest m.digest) refl (none_live
 
 -- ---- after a change
 
-pub refreshed_booked : (setup : Setup) (book : Book) → setup.policy.reuses ≡ true → AreApart (places_of book) → AllByRecursion (λ l. 1 ≤ l.units) book.live → IsBooked (refreshed setup book)
+pub refreshed_booked : (setup : Setup) (book : Book) → setup.policy.reuses ≡ true → HaveOwnBlocks (places_of book) → AllByRecursion (λ l. 1 ≤ l.units) book.live → IsBooked (refreshed setup book)
 unfolding refreshed
 refreshed_booked setup book reuses apart units = record {
   free = all_from (λ b. may_be_free book b ≡ true) (refreshed setup book).free

@@ -12,14 +12,14 @@ use Rattle.recovery.proofs.Growing.{all_at}
 use Rattle.kept_trail.specs.Trail.{Records, places_of, StoredIn, WaitsIn, Trail, stored, first, replaced, moved, moved_found, uncovered_since, LeadsOn, IsTrailed, IsBooked, NotFree, KeepsRecords, KeepsBodies}
 use Rattle.kept_trail.proofs.Books.{held_not_free, live_not_free}
 
-pub record Carries (old new : Book) (old_records new_records : Records) (old_bodies new_bodies : List Body) : Type 0 where
+pub record CarriesTrails (old new : Book) (old_records new_records : Records) (old_bodies new_bodies : List Body) : Type 0 where
   pub places : (p : ℕ × ℕ) → Contains (places_of old) p → Contains (places_of new) p
   pub holds : (h : ℕ × ℕ) → Contains old.holds h → Contains new.holds h
   pub unbuffered : (block : ℕ) → has_buffer old block ≡ false → NotFree old block → has_buffer new block ≡ false
   pub records : KeepsRecords old old_records new_records
   pub bodies : KeepsBodies old old_bodies new_bodies
 
-module _ (old new : Book) (old_records new_records : Records) (old_bodies new_bodies : List Body) (booked : IsBooked old) (carries : Carries old new old_records new_records old_bodies new_bodies) (digest : Digest) where
+module _ (old new : Book) (old_records new_records : Records) (old_bodies new_bodies : List Body) (booked : IsBooked old) (carries : CarriesTrails old new old_records new_records old_bodies new_bodies) (digest : Digest) where
   stored_on : (block : ℕ) (v : Version) → has_buffer old block ≡ false → NotFree old block → StoredIn old_bodies block digest v → StoredIn new_bodies block digest v
   stored_on block v none used is = record {
     body = is.body;

@@ -12,7 +12,7 @@ use Rattle.device_model.specs.Steps.{flushed_buffer, after_step}
 use Rattle.block_format.specs.Layout.{Body}
 use Rattle.recovery.proofs.Growing.{all_at, cons_cases}
 use Rattle.recovery.proofs.Members.{filter_there, filter_from}
-use Rattle.kept_trail.specs.Trail.{Records, places_of, StoredIn, WaitsIn, Trail, stored, first, replaced, moved, moved_found, uncovered_since, LeadsOn, IsTrailed, AreApart, IsBooked, HasBody}
+use Rattle.kept_trail.specs.Trail.{Records, places_of, StoredIn, WaitsIn, Trail, stored, first, replaced, moved, moved_found, uncovered_since, LeadsOn, IsTrailed, HaveOwnBlocks, IsBooked, HasBody}
 use Rattle.kept_trail.proofs.Places.{none_at, none_from, buffer_place}
 use Rattle.kept_trail.proofs.Books.{refreshed_booked}
 use Rattle.kept_trail.proofs.Placing.{place}
@@ -23,14 +23,14 @@ pub all_fewer : {X : Type 0} (P : X → Type 0) (test : X → Bool) (xs : List X
 all_fewer P test [] all = tt
 all_fewer P test (x ∷ xs) all = let rest = all_fewer P test xs all.1 in cond_both (test x) (x ∷ filter test xs) (filter test xs) (AllByRecursion P) (λ _. (all.0, rest)) (λ _. rest)
 
-pub apart_fewer : (test : ℕ × ℕ → Bool) (ps : List (ℕ × ℕ)) → AreApart ps → AreApart (filter test ps)
+pub apart_fewer : (test : ℕ × ℕ → Bool) (ps : List (ℕ × ℕ)) → HaveOwnBlocks ps → HaveOwnBlocks (filter test ps)
 apart_fewer test [] apart = tt
 apart_fewer test (p ∷ ps) apart =
     let rest = apart_fewer test ps apart.1 in
-    cond_both (test p) (p ∷ filter test ps) (filter test ps) AreApart (λ _. (all_fewer (λ (q : ℕ × ℕ). q.1 ≢ p.1) test ps apart.0, rest)) (λ _. rest)
+    cond_both (test p) (p ∷ filter test ps) (filter test ps) HaveOwnBlocks (λ _. (all_fewer (λ (q : ℕ × ℕ). q.1 ≢ p.1) test ps apart.0, rest)) (λ _. rest)
 
 -- of one block there is one
-pub one_place : (ps : List (ℕ × ℕ)) (p q : ℕ × ℕ) → AreApart ps → Contains ps p → Contains ps q → p.1 ≡ q.1 → p ≡ q
+pub one_place : (ps : List (ℕ × ℕ)) (p q : ℕ × ℕ) → HaveOwnBlocks ps → Contains ps p → Contains ps q → p.1 ≡ q.1 → p ≡ q
 one_place [] p q apart in_p in_q same = absurd (omega (arith, in_p.1))
 one_place (x ∷ ps) p q apart in_p in_q same = by (cons_cases x ps p in_p) (cons_cases x ps q in_q) (λ in_p in_q. one_place ps p q apart.1 in_p in_q same)
   where
@@ -100,7 +100,7 @@ module _ (setup : Setup) (number : ℕ) (book : Book) (booked : IsBooked book) w
         buffers = filter (λ b. not (b.number == number)) book.buffers;
         holds = filter (λ h. not (h.0 == number)) book.holds;
         flushed_numbers = book.flushed_numbers ++ number ∷ [];
-      }) reuses (subst AreApart (sym (map_kept place is_other book.buffers)) (apart_fewer is_other (places_of book) booked.apart)) booked.units
+      }) reuses (subst HaveOwnBlocks (sym (map_kept place is_other book.buffers)) (apart_fewer is_other (places_of book) booked.apart)) booked.units
 
   module _ (records : Records) (bodies : List Body) (has : HasBody book records number bodies) (digest : Digest) where
     -- what waits in the flushed buffer is stored, and what waits in another waits on

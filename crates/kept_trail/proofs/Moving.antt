@@ -15,7 +15,7 @@ use Rattle.block_format.specs.Layout.{Body}
 use Rattle.recovery.proofs.Growing.{all_at}
 use Rattle.kept_trail.specs.Trail.{Records, Trail, LeadsOn, IsTrailed, IsBooked, CanPlace}
 use Rattle.kept_trail.proofs.Books.{live_there, live_not_free}
-use Rattle.kept_trail.proofs.Placing.{IsPlaced, placed_is}
+use Rattle.kept_trail.proofs.Placing.{PlacesCopy, placed_is}
 use Rattle.kept_trail.proofs.Carrying.{carried}
 use Rattle.kept_trail.proofs.Writing.{placed_carries, own_live, others_lead, holds_old, move_leads, trail_entry}
 
@@ -42,7 +42,7 @@ module _ (setup : Setup) (s : State) (reuses : setup.policy.reuses ≡ true) (bo
   abbrev new : Book
   new = placed setup defrag digest copy.units s.book
 
-  p : IsPlaced digest number s.book new
+  p : PlacesCopy digest number s.book new
   p = placed_is setup defrag digest copy.units s.book reuses (all_at (λ l. 1 ≤ l.units) s.book.live copy booked.units (live_there digest s.book.live copy live)) booked can
 
   moved_is : after_step setup (moved digest) s ≡ moved_state setup digest (Some copy) s

@@ -21,7 +21,7 @@ use Rattle.recovery.proofs.Growing.{numbers_rise}
 use Rattle.recovery.proofs.Opening.{all_joined}
 use Rattle.recovery.proofs.Orderly.{placing_below}
 use Rattle.recovery.proofs.HeldWrites.{wrote_case}
-use Rattle.kept_trail.specs.Numbers.{IsNumbered}
+use Rattle.kept_trail.specs.Numbers.{HasNumbers}
 use Rattle.kept_trail.proofs.Flushing.{all_fewer}
 use Rattle.kept_trail.proofs.Moving.{other_history}
 use Rattle.kept_trail.proofs.Placing.{sealed_place, used_place, opened_place}
@@ -106,8 +106,8 @@ number_below limit number (cleared ∷ older) lt below = number_below limit numb
 
 -- ---- the steps
 
-module _ (setup : Setup) (s : State) (numbered : IsNumbered s) where
-  wrote_numbered : (digest : Digest) (v : Version) → IsNumbered (after_step setup (wrote digest v) s)
+module _ (setup : Setup) (s : State) (numbered : HasNumbers s) where
+  wrote_numbered : (digest : Digest) (v : Version) → HasNumbers (after_step setup (wrote digest v) s)
   unfolding after_step
   wrote_numbered digest v = record { counted = placed_counted setup client digest (version_units v) s.book numbered.counted; below = below }
     where
@@ -117,7 +117,7 @@ module _ (setup : Setup) (s : State) (numbered : IsNumbered s) where
           wrote_case setup s digest v e (NumbersBelow (placed setup client digest (version_units v) s.book).next_number)
           (λ _. ((placing_below setup client digest (version_units v) s.book numbered.counted, tt), up)) (λ _. up)
 
-  moved_numbered : (digest : Digest) (live : Option Live) → (s.book.next_number ≤ (moved_state setup digest live s).book.next_number) → IsNumbered (moved_state setup digest live s)
+  moved_numbered : (digest : Digest) (live : Option Live) → (s.book.next_number ≤ (moved_state setup digest live s).book.next_number) → HasNumbers (moved_state setup digest live s)
   moved_numbered digest None le = numbered
   moved_numbered digest (Some copy) le = record { counted = placed_counted setup defrag digest copy.units s.book numbered.counted; below = λ e. by e (same_digest e digest) refl }
     where
@@ -138,7 +138,7 @@ module _ (setup : Setup) (s : State) (numbered : IsNumbered s) where
       by e false other = subst (NumbersBelow limit) (sym (other_history digest e number s.log other)) (up e)
 
   item_numbered : (digest : Digest) (item : Item) → ((items : List Item) → NumbersBelow s.book.next_number items → NumbersBelow s.book.next_number (item ∷ items)) → (book : Book) → HasRisingNumbers book → s.book.next_number ≡ book.next_number
-      → IsNumbered (with_item digest item book s)
+      → HasNumbers (with_item digest item book s)
   item_numbered digest item more book counted next = record {
     counted = counted;
     below = λ e. subst (λ (n : ℕ). NumbersBelow n (history (with_item digest item book s) e)) next
@@ -153,12 +153,12 @@ module _ (setup : Setup) (s : State) (numbered : IsNumbered s) where
   unfolding dropped_live refreshed
   gone_next digest = refl
 
-  flush_numbered : (number : ℕ) → IsNumbered (after_step setup (flushed_buffer number) s)
+  flush_numbered : (number : ℕ) → HasNumbers (after_step setup (flushed_buffer number) s)
   unfolding after_step with_flushed refreshed
   flush_numbered number = record { counted = flushed_counted setup number s.book numbered.counted; below = numbered.below }
 
   -- After each step numbers are in order.
-  pub step_numbered : (step : Step) → IsNumbered (after_step setup step s)
+  pub step_numbered : (step : Step) → HasNumbers (after_step setup step s)
   unfolding after_step
   step_numbered (wrote digest v) = wrote_numbered digest v
   step_numbered (moved digest) = moved_numbered digest (live_of digest s.book.live) (next_number_rises setup (moved digest) s)

@@ -14,7 +14,7 @@ use Rattle.block_format.specs.Layout.{Body}
 use Rattle.recovery.proofs.Opening.{all_joined}
 use Rattle.recovery.proofs.Each.{all_map}
 use Rattle.recovery.proofs.Pending.{map_shows}
-use Rattle.kept_trail.specs.Trail.{Records, places_of, uncovered_since, LeadsOn, IsTrailed, AreApart, IsBooked}
+use Rattle.kept_trail.specs.Trail.{Records, places_of, uncovered_since, LeadsOn, IsTrailed, HaveOwnBlocks, IsBooked}
 use Rattle.kept_trail.proofs.Places.{buffer_place}
 use Rattle.kept_trail.proofs.Books.{refreshed_booked, fewer_live, others_live, none_live}
 use Rattle.kept_trail.proofs.Placing.{place, seal_places, opened_place}
@@ -48,7 +48,7 @@ module _ (old new : Book) (places : places_of new ≡ places_of old) (holds : ne
   pub same_booked : AllByRecursion (λ b. may_be_free old b ≡ true) new.free → IsBooked old → IsBooked new
   same_booked free booked = record {
     free = all_map (λ b. may_be_free old b ≡ true) (λ b. may_be_free new b ≡ true) new.free (λ b is. same_free b ∙ is) free;
-    apart = subst AreApart (sym places) booked.apart;
+    apart = subst HaveOwnBlocks (sym places) booked.apart;
     units = subst (AllByRecursion (λ l. 1 ≤ l.units)) (sym live) booked.units;
   }
 

@@ -12,7 +12,7 @@ use Rattle.recovery.proofs.Growing.{all_at, cons_cases}
 use Rattle.recovery.proofs.Members.{first_there, rest_there, map_there}
 use Rattle.recovery.proofs.Pending.{map_shows}
 use Rattle.recovery.proofs.Placing.{room_of}
-use Rattle.kept_trail.specs.Trail.{places_of, AreApart, IsBooked, NotFree, CanPlace}
+use Rattle.kept_trail.specs.Trail.{places_of, HaveOwnBlocks, IsBooked, NotFree, CanPlace}
 use Rattle.kept_trail.proofs.Places.{none_at, buffer_place}
 use Rattle.kept_trail.proofs.Books.{free_has_nothing, refreshed_booked, fewer_live}
 
@@ -55,9 +55,9 @@ record IsReady (book ready : Book) : Type 0 where
   holds : ready.holds ≡ book.holds
   places : (p : ℕ × ℕ) → Contains (places_of book) p → Contains (places_of ready) p
   unbuffered : (block : ℕ) → has_buffer book block ≡ false → NotFree book block → has_buffer ready block ≡ false
-  apart : AreApart (places_of ready)
+  apart : HaveOwnBlocks (places_of ready)
 
-apart_joined : (ps : List (ℕ × ℕ)) (number block : ℕ) → AreApart ps → list_any (λ p. p.1 == block) ps ≡ false → AreApart (ps ++ (number, block) ∷ [])
+apart_joined : (ps : List (ℕ × ℕ)) (number block : ℕ) → HaveOwnBlocks ps → list_any (λ p. p.1 == block) ps ≡ false → HaveOwnBlocks (ps ++ (number, block) ∷ [])
 apart_joined [] number block apart none = (tt, tt)
 apart_joined (p ∷ ps) number block apart none = (
   all_behind ps apart.0,
@@ -96,7 +96,7 @@ new_ready stream book booked some = record {
       buffer_place (with_new_buffer stream book) b ∙ ap (list_any (λ p. p.1 == b)) joined ∙ list_any-append (λ p. p.1 == b) (places_of book) ((book.next_number, block) ∷ [])
       ∙ or_from (list_any (λ p. p.1 == b) (places_of book)) ((block == b) || false) (sym (buffer_place book b) ∙ none)
       (or_from (block == b) false (ne_eqb block b (all_at (λ k. k ≢ b) book.free block other is_free)) refl);
-  apart = subst AreApart (sym joined) (apart_joined (places_of book) book.next_number block booked.apart (sym (buffer_place book block) ∙ (free_has_nothing book block booked is_free).buffer));
+  apart = subst HaveOwnBlocks (sym joined) (apart_joined (places_of book) book.next_number block booked.apart (sym (buffer_place book block) ∙ (free_has_nothing book block booked is_free).buffer));
 }
   where
     block : ℕ
@@ -128,7 +128,7 @@ find_there {X} test (y ∷ xs) x found = by (test y) found (find_there test xs x
 
 -- The copy is live in the block of the buffer of this number, which holds the block of the copy before. Places and holds of before stay,
 -- and no block has a buffer that had none and wasn't free.
-pub record IsPlaced (digest : Digest) (number : ℕ) (book new : Book) : Type 0 where
+pub record PlacesCopy (digest : Digest) (number : ℕ) (book new : Book) : Type 0 where
   pub copy : Live
   pub own : copy.digest ≡ digest
   pub live : new.live ≡ copy ∷ without_live digest book.live
@@ -149,7 +149,7 @@ module _ (setup : Setup) (stream : Stream) (digest : Digest) (units : ℕ) (book
   unfolding refreshed
   put_places b = use_places b.number units ready.buffers
 
-  put_placed : (b : Buffer) → filling_buffer stream ready.buffers ≡ Some b → b.number ≡ number → IsPlaced digest number book (put_in setup digest units ready (Some b))
+  put_placed : (b : Buffer) → filling_buffer stream ready.buffers ≡ Some b → b.number ≡ number → PlacesCopy digest number book (put_in setup digest units ready (Some b))
   unfolding refreshed
   put_placed b found same =
       let is = ready_is setup stream units book booked can in
@@ -169,15 +169,15 @@ module _ (setup : Setup) (stream : Stream) (digest : Digest) (units : ℕ) (book
           live = copy ∷ without_live digest ready.live;
           buffers = map (used_more b.number units) ready.buffers;
           holds = with_hold b.number (live_of digest ready.live) ready.holds;
-        }) reuses (subst AreApart (sym (use_places b.number units ready.buffers)) is.apart)
+        }) reuses (subst HaveOwnBlocks (sym (use_places b.number units ready.buffers)) is.apart)
             (some, subst (λ (l : List Live). AllByRecursion (λ m. 1 ≤ m.units) (without_live digest l)) (sym is.live) (fewer_live _ book.live booked.units));
       }
 
-  pub placed_is : IsPlaced digest number book (placed setup stream digest units book)
+  pub placed_is : PlacesCopy digest number book (placed setup stream digest units book)
   unfolding placed
   placed_is =
       let room = room_of setup stream units book in
-      subst (λ (o : Option Buffer). IsPlaced digest number book (put_in setup digest units ready o)) (sym room.found) (put_placed room.buffer room.found room.same)
+      subst (λ (o : Option Buffer). PlacesCopy digest number book (put_in setup digest units ready o)) (sym room.found) (put_placed room.buffer room.found room.same)
 
 -- the places of before, and where there is no room that of a buffer with the next number in the first free block
 pub placed_places : (setup : Setup) (stream : Stream) (digest : Digest) (units : ℕ) (book : Book) (p : ℕ × ℕ) → Contains (places_of (placed setup stream digest units book)) p

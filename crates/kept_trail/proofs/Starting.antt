@@ -25,7 +25,7 @@ use Rattle.recovery.proofs.ColdVersions.{first_of, first_is_cold}
 use Rattle.recovery.proofs.ColdStart.{start_history, start_orderly}
 use Rattle.recovery.proofs.StartLive.{start_live}
 use Rattle.kept_trail.specs.Trail.{Records, StoredIn, Trail, stored, LeadsOn, IsTrailed, IsBooked}
-use Rattle.kept_trail.specs.Numbers.{IsNumbered}
+use Rattle.kept_trail.specs.Numbers.{HasNumbers}
 use Rattle.kept_trail.proofs.Books.{refreshed_booked}
 use Rattle.kept_trail.proofs.Writing.{takes_room}
 
@@ -139,7 +139,7 @@ restart_trailed setup s image new records r digest =
 
 -- ---- numbers
 
-pub start_numbered : (setup : Setup) (image : List ℕ) (bodies : List Body) → IsSound setup image bodies → IsNumbered (start_state setup bodies)
+pub start_numbered : (setup : Setup) (image : List ℕ) (bodies : List Body) → IsSound setup image bodies → HasNumbers (start_state setup bodies)
 unfolding start_state cold_book refreshed
 start_numbered setup image bodies sound = record {
   counted = record { rising = tt; below = tt };

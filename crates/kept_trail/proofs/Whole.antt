@@ -28,7 +28,7 @@ use Rattle.recovery.proofs.Placing.{placed_awaited, any_none, less_apart}
 use Rattle.recovery.proofs.VersionsTo.{wrote_versions}
 use Rattle.kept_trail.specs.Trail.{Records, places_of, WaitsIn}
 use Rattle.kept_trail.specs.Needs.{IsBacked}
-use Rattle.kept_trail.specs.Numbers.{IsNumbered, RecordsWhole}
+use Rattle.kept_trail.specs.Numbers.{HasNumbers, RecordsWhole}
 use Rattle.kept_trail.proofs.Places.{any_there, some_at, pending_place}
 use Rattle.kept_trail.proofs.Moving.{other_history}
 
@@ -62,7 +62,7 @@ number_more P m number (cleared ∷ older) all own = number_more P m number olde
 
 -- ---- the steps
 
-module _ (setup : Setup) (s : State) (records : Records) (numbered : IsNumbered s) (all : RecordsWhole s records) where
+module _ (setup : Setup) (s : State) (records : Records) (numbered : HasNumbers s) (all : RecordsWhole s records) where
   abbrev HasThose : ℕ → Digest → List Item → Type 0
   HasThose number digest items = AllByRecursion (λ v. Contains (records number) (digest, v)) (versions_to number items)
 

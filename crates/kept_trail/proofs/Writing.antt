@@ -15,8 +15,8 @@ use Rattle.block_format.specs.Layout.{Body}
 use Rattle.recovery.proofs.Members.{first_there, rest_there}
 use Rattle.kept_trail.specs.Trail.{Records, WaitsIn, Trail, stored, first, replaced, moved, moved_found, uncovered_since, LeadsOn, IsTrailed, IsBooked, CanPlace}
 use Rattle.kept_trail.proofs.Books.{others_live, live_not_free}
-use Rattle.kept_trail.proofs.Placing.{IsPlaced, placed_is}
-use Rattle.kept_trail.proofs.Carrying.{Carries, carried, lead_carried, same_records}
+use Rattle.kept_trail.proofs.Placing.{PlacesCopy, placed_is}
+use Rattle.kept_trail.proofs.Carrying.{CarriesTrails, carried, lead_carried, same_records}
 
 held_stays : (number : ℕ) (live : Option Live) (holds : List (ℕ × ℕ)) (h : ℕ × ℕ) → Contains holds h → Contains (with_hold number live holds) h
 held_stays number None holds h there = there
@@ -24,8 +24,8 @@ held_stays number (Some l) holds h there = rest_there (number, l.block) holds h 
 
 -- ---- a placed copy
 
-module _ (digest : Digest) (number : ℕ) (book new : Book) (p : IsPlaced digest number book new) (booked : IsBooked book) (records : Records) (bodies : List Body) where
-  pub placed_carries : Carries book new records records bodies bodies
+module _ (digest : Digest) (number : ℕ) (book new : Book) (p : PlacesCopy digest number book new) (booked : IsBooked book) (records : Records) (bodies : List Body) where
+  pub placed_carries : CarriesTrails book new records records bodies bodies
   placed_carries = record {
     places = p.places;
     holds = λ h there. subst (λ (l : List (ℕ × ℕ)). Contains l h) (sym p.holds) (held_stays number (live_of digest book.live) book.holds h there);
@@ -110,7 +110,7 @@ module _ (setup : Setup) (s : State) (reuses : setup.policy.reuses ≡ true) (bo
       new : Book
       new = placed setup client digest (version_units v) s.book
 
-      p : IsPlaced digest number s.book new
+      p : PlacesCopy digest number s.book new
       p = placed_is setup client digest (version_units v) s.book reuses (takes_room v) booked can
 
       own : same_digest e digest ≡ true → LeadsOn new records bodies e (live_of e new.live) (write v (number ∷ []) ∷ history s e)

@@ -13,7 +13,7 @@ use Rattle.recovery.specs.Holding.{HasRisingNumbers, versions_to}
 use Rattle.kept_trail.specs.Trail.{Records}
 
 -- buffers stand in rising number, and all numbers are below the next
-pub record IsNumbered (s : State) : Type 0 where
+pub record HasNumbers (s : State) : Type 0 where
   pub counted : HasRisingNumbers s.book
   pub below : (digest : Digest) → NumbersBelow s.book.next_number (history s digest)
 

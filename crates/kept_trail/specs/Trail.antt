@@ -76,14 +76,14 @@ IsTrailed s records bodies = (digest : Digest) → LeadsOn s.book records bodies
 -- ---- the book
 
 -- no two of these have one block
-abbrev pub AreApart : List (ℕ × ℕ) → Type 0
-AreApart [] = Unit {0}
-AreApart (p ∷ ps) = AllByRecursion (λ q. q.1 ≢ p.1) ps × AreApart ps
+abbrev pub HaveOwnBlocks : List (ℕ × ℕ) → Type 0
+HaveOwnBlocks [] = Unit {0}
+HaveOwnBlocks (p ∷ ps) = AllByRecursion (λ q. q.1 ≢ p.1) ps × HaveOwnBlocks ps
 
 -- each free block may be free, no two buffers have one block, and each live copy takes room
 pub record IsBooked (book : Book) : Type 0 where
   pub free : AllByRecursion (λ b. may_be_free book b ≡ true) book.free
-  pub apart : AreApart (places_of book)
+  pub apart : HaveOwnBlocks (places_of book)
   pub units : AllByRecursion (λ l. 1 ≤ l.units) book.live
 
 -- this block isn't free

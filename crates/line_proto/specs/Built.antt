@@ -1,5 +1,5 @@
 -- Crate line_proto. Which commands are built so far. A line that asks for another is taken as no command at all, so it is
--- answered `err line`. A later stage changes this file alone.
+-- answered `err line`. A command that is built later is allowed here, read by `read_command`, and carried out by the store.
 use Rattle.std.specs.Prelude.{ℕ, ◌^◌, ◌≤◌, List, length, None, ◌≡◌}
 use Rattle.line_proto.specs.declared.command.Command.{Command}
 use Rattle.line_proto.specs.declared.command.Command.TheVariants as command

@@ -22,26 +22,26 @@ use Rattle.node_model.proofs.Unwritten.{WritesNone, none_flushed, all_flushes, f
 
 -- ---- one event
 
-abbrev Commits : Slot → Event → Type 0
-Commits slot event = IsTrue slot.setup.commit → is_failed (answer_reply event.answer) ≡ false → AllByRecursion (flushed_if_wrote (after_event slot.setup event slot.state)) event.steps
+abbrev CommitsEvent : Slot → Event → Type 0
+CommitsEvent slot event = IsTrue slot.setup.commit → is_failed (answer_reply event.answer) ≡ false → AllByRecursion (flushed_if_wrote (after_event slot.setup event slot.state)) event.steps
 
 not_failed : (event : Event) (cause : Cause) → event.answer ≡ refused cause → is_failed (answer_reply event.answer) ≡ false → ⊥
 not_failed event cause is none = let e : true ≡ false = sym (ap (λ (a : Answer). is_failed (answer_reply a)) is) ∙ none in cc
 
-write_ends : (slot : Slot) (event : Event) (digest : Digest) (v : Version) (ok : Answer) → WriteEnds slot.setup slot.state event digest v ok → Commits slot event
+write_ends : (slot : Slot) (event : Event) (digest : Digest) (v : Version) (ok : Answer) → WriteEnds slot.setup slot.state event digest v ok → CommitsEvent slot event
 write_ends slot event digest v ok (inl done) commit none = write_commits slot.setup slot.state digest v event.steps commit done.1
 write_ends slot event digest v ok (inr fault) commit none = absurd (not_failed event _ fault.0 none)
 
 unless_ends : (slot : Slot) (event : Event) (digest : Digest) (v : Version) (ok : Answer) (cause : Option Cause)
-    → Unless event cause (WriteEnds slot.setup slot.state event digest v ok) → Commits slot event
+    → Unless event cause (WriteEnds slot.setup slot.state event digest v ok) → CommitsEvent slot event
 unless_ends slot event digest v ok None ends = write_ends slot event digest v ok ends
 unless_ends slot event digest v ok (Some cause) ends = λ commit none. absurd (not_failed event cause ends.0 none)
 
-no_steps : (slot : Slot) (event : Event) → event.steps ≡ [] → Commits slot event
+no_steps : (slot : Slot) (event : Event) → event.steps ≡ [] → CommitsEvent slot event
 no_steps slot event is commit none = subst (λ (steps : List Step). AllByRecursion (flushed_if_wrote (after_event slot.setup event slot.state)) steps) (sym is) tt
 
 put_commits : (slot : Slot) (told : Bool) (event : Event) (digest : Digest) (ttl : ℕ) (expect : Option ℕ) (payload : List ℕ) (now : ℕ)
-    → Allowed slot.setup told slot.state event (put_call digest ttl expect payload now) → Commits slot event
+    → Allowed slot.setup told slot.state event (put_call digest ttl expect payload now) → CommitsEvent slot event
 put_commits slot told event digest ttl expect payload now (inl no_memory) = no_steps slot event no_memory.1
 put_commits slot told event digest ttl expect payload now (inr unless) =
     let v : Version = new_put slot.setup slot.state digest ttl payload now in
@@ -52,7 +52,7 @@ read_steps told event None reads = absurd reads
 read_steps told event (Some v) (inl found) = found.2
 read_steps told event (Some v) (inr fails) = fails.1
 
-get_commits : (slot : Slot) (told : Bool) (event : Event) (digest : Digest) (now : ℕ) → Allowed slot.setup told slot.state event (get_call digest now) → Commits slot event
+get_commits : (slot : Slot) (told : Bool) (event : Event) (digest : Digest) (now : ℕ) → Allowed slot.setup told slot.state event (get_call digest now) → CommitsEvent slot event
 get_commits slot told event digest now (inl read) = no_steps slot event read.2
 get_commits slot told event digest now (inr (inl no_memory)) = no_steps slot event no_memory.1
 get_commits slot told event digest now (inr (inr reads)) = no_steps slot event (read_steps told event (seen slot.state now digest) reads)
@@ -70,13 +70,13 @@ none_written failed node new device = of (slice_get node device) (slice_get new 
     of (Some slot) None = λ commit none. tt
     of (Some slot) (Some after) = λ commit none. tt
 
-there : (event : Event) (device : ℕ) (node : Node) → MatchOption (slice_get node device) ⊥ (λ slot. Commits slot event)
+there : (event : Event) (device : ℕ) (node : Node) → MatchOption (slice_get node device) ⊥ (λ slot. CommitsEvent slot event)
     → Waited (is_failed (answer_reply event.answer)) node (at_place device (slot_after event) node) event.steps device
 there event device [] commits = absurd commits
 there event zero (slot ∷ slots) commits = commits
 there event (suc device) (slot ∷ slots) commits = there event device slots commits
 
-event_commits : (event : Event) (n device : ℕ) (node : Node) → MatchOption (slice_get node n) ⊥ (λ slot. Commits slot event)
+event_commits : (event : Event) (n device : ℕ) (node : Node) → MatchOption (slice_get node n) ⊥ (λ slot. CommitsEvent slot event)
     → Waited (is_failed (answer_reply event.answer)) node (at_place n (slot_after event) node) (steps_on device (on_device n event ∷ [])) device
 event_commits event n device node commits = by_device (n == device) refl
   where
@@ -103,7 +103,7 @@ unwritten failed node new work device none = of (slice_get node device) (slice_g
     of (Some slot) (Some after) = λ commit done. none_flushed after.state (steps_on device work) none
 
 one_event : (told : Bool) (node : Node) (n : ℕ) (event : Event) (work : List NodeEvent) (r : Reply) → work ≡ on_device n event ∷ [] → r ≡ answer_reply event.answer
-    → ((slot : Slot) → Follows slot.setup told slot.state slot.faults event → Commits slot event) → IsLegalOn told node work → (device : ℕ)
+    → ((slot : Slot) → Follows slot.setup told slot.state slot.faults event → CommitsEvent slot event) → IsLegalOn told node work → (device : ℕ)
     → Waited (is_failed r) node (node_after work node) (steps_on device work) device
 one_event told node n event work r is reply_is commits legal device =
     subst (λ (b : Reply). Waited (is_failed b) node (node_after work node) (steps_on device work) device) (sym reply_is)

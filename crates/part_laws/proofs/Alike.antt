@@ -7,7 +7,7 @@ use Rattle.rec_format.specs.declared.entry.Entry.{Entry}
 use Rattle.rec_format.specs.Versions.{top_number}
 use Rattle.device_model.specs.Book.{Setup, live_of}
 use Rattle.device_model.specs.Device.{State, RaidState, entry, entry_is_covered, part_of, high_time}
-use Rattle.sprig_tree.specs.Entries.{digests_of, entry_of}
+use Rattle.sprig_tree.specs.Entries.{digests_in, entry_of}
 use Rattle.sprig_tree.specs.State.{SprigState}
 use Rattle.part_laws.specs.Fits.{IsShown, HasNone, HasEntries, is_running, may_be_marked, marks_of, HasMarks}
 
@@ -42,16 +42,16 @@ entries_alike setup part sprig s t same times h = record {
 -- ---- marks
 
 -- the marks of the part stay, and the raid goes on
-pub record GoesOn (setup : Setup) (part : ℕ) (old new : RaidState) : Type 0 where
+pub record RaidGoesOn (setup : Setup) (part : ℕ) (old new : RaidState) : Type 0 where
   pub number : new.number ≡ old.number
   pub runs : is_running new.next ≡ is_running old.next
   pub marks : marks_of setup part new ≡ marks_of setup part old
   pub turn : may_be_marked new.next part ≡ false → may_be_marked old.next part ≡ false
 
-pub marks_alike : (setup : Setup) (part : ℕ) (es : List Entry) (old new : RaidState) → GoesOn setup part old new → HasMarks setup part es old → HasMarks setup part es new
+pub marks_alike : (setup : Setup) (part : ℕ) (es : List Entry) (old new : RaidState) → RaidGoesOn setup part old new → HasMarks setup part es old → HasMarks setup part es new
 marks_alike setup part es old new on h = record {
   most = subst (λ (n : ℕ). AllByRecursion (λ e. e.mark ≤ n) es) (sym on.number) h.most;
-  marked = on.marks ∙ h.marked ∙ (λ i. digests_of (filter (λ (e : Entry). sym on.runs i && (e.mark == sym on.number i)) es));
+  marked = on.marks ∙ h.marked ∙ (λ i. digests_in (filter (λ (e : Entry). sym on.runs i && (e.mark == sym on.number i)) es));
   turn = λ off. on.marks ∙ h.turn (on.turn off);
   begun = λ runs. subst (λ (n : ℕ). 1 ≤ n) (sym on.number) (h.begun (sym on.runs ∙ runs));
   last = subst (λ (n : ℕ). n ≤ top_number) (sym on.number) h.last;

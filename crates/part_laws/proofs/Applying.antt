@@ -16,7 +16,7 @@ use Rattle.sprig_tree.proofs.Laws.{entry_of-digest, entry_of-with_replaced_same,
 use Rattle.sprig_tree.proofs.Order.{order_first, order_rest}
 use Rattle.sprig_tree.proofs.Parted.{entry_of_above}
 use Rattle.part_laws.specs.Fits.{has_mark}
-use Rattle.part_laws.specs.Tests.{has_older_copy, passes}
+use Rattle.part_laws.specs.Tests.{has_older_copy, passes_test}
 use Rattle.part_laws.specs.Becoming.{with_mark, remarked, mark_left}
 use Rattle.part_laws.proofs.Logged.{other_back}
 use Rattle.part_laws.proofs.Marking.{digests_remarked, remarked_of}
@@ -65,7 +65,7 @@ module _ (found : List (Digest × Stamp)) (f : Digest × Stamp) (es : List Entry
       last false = refl
 
   -- where no entry of the digest is later than the copy, nothing changes
-  pub copy_passed : passes (λ e. is_later_stamp e.stamp f.1) (entry_of f.0 so_far) ≡ false → so_far ≡ remarked behind es
+  pub copy_passed : passes_test (λ e. is_later_stamp e.stamp f.1) (entry_of f.0 so_far) ≡ false → so_far ≡ remarked behind es
   copy_passed none = remarked_by behind es so_far order order_so_far (λ d. remarked_of before d es ∙ by d (entry_of d es) refl)
     where
       not_older : (d : Digest) (e : Entry) → entry_of d es ≡ Some e → (b : Bool) → same_digest e.digest f.0 ≡ b → (b && is_later_stamp e.stamp f.1) ≡ false
@@ -73,7 +73,7 @@ module _ (found : List (Digest × Stamp)) (f : Digest × Stamp) (es : List Entry
       not_older d e is true same =
           let name : d ≡ f.0 = sym (entry_of-digest d es e is) ∙ same_digest_is e.digest f.0 same in
           let here : entry_of f.0 so_far ≡ Some (with_mark (before e) e) = remarked_of before f.0 es ∙ ap (option_map (λ (x : Entry). with_mark (before x) x)) (ap (λ (k : Digest). entry_of k es) (sym name) ∙ is) in
-          sym (ap (passes (λ x. is_later_stamp x.stamp f.1)) here) ∙ none
+          sym (ap (passes_test (λ x. is_later_stamp x.stamp f.1)) here) ∙ none
 
       by : (d : Digest) (o : Option Entry) → entry_of d es ≡ o → option_map (λ (x : Entry). with_mark (before x) x) o ≡ option_map (λ (x : Entry). with_mark (behind x) x) o
       by d None is = refl
@@ -155,10 +155,10 @@ count_at p q d (e ∷ es) n order same gain =
 -- One more copy undoes one mark more, if its entry is still marked and later than it.
 pub undone_more : (raid : RaidState) (found : List (Digest × Stamp)) (f : Digest × Stamp) (es : List Entry) → IsInDigestOrder es → ((e : Entry) → e.mark ≡ 0 → has_mark raid e ≡ false)
     → count_by (λ e. has_mark raid e && has_older_copy (found ++ f ∷ []) e) es
-    ≡ count_by (λ e. has_mark raid e && has_older_copy found e) es + one_if (passes (λ e. has_mark raid e && is_later_stamp e.stamp f.1) (entry_of f.0 (remarked (mark_left found) es)))
+    ≡ count_by (λ e. has_mark raid e && has_older_copy found e) es + one_if (passes_test (λ e. has_mark raid e && is_later_stamp e.stamp f.1) (entry_of f.0 (remarked (mark_left found) es)))
 undone_more raid found f es order zero =
-    count_at p q f.0 es (one_if (passes test (entry_of f.0 (remarked (mark_left found) es)))) order apart
-    (subst (λ (o : Option Entry). MatchOption (entry_of f.0 es) (one_if (passes test o) ≡ 0) (λ e. one_if (p e) ≡ one_if (q e) + one_if (passes test o))) (sym (remarked_of (mark_left found) f.0 es)) (by (entry_of f.0 es) refl))
+    count_at p q f.0 es (one_if (passes_test test (entry_of f.0 (remarked (mark_left found) es)))) order apart
+    (subst (λ (o : Option Entry). MatchOption (entry_of f.0 es) (one_if (passes_test test o) ≡ 0) (λ e. one_if (p e) ≡ one_if (q e) + one_if (passes_test test o))) (sym (remarked_of (mark_left found) f.0 es)) (by (entry_of f.0 es) refl))
   where
     p : Entry → Bool
     p e = has_mark raid e && has_older_copy (found ++ f ∷ []) e
@@ -192,8 +192,8 @@ undone_more raid found f es order zero =
         side false = refl
 
     by : (o : Option Entry) → entry_of f.0 es ≡ o
-        → MatchOption o (one_if (passes test (option_map (λ (e : Entry). with_mark (mark_left found e) e) o)) ≡ 0)
-        (λ e. one_if (p e) ≡ one_if (q e) + one_if (passes test (option_map (λ (e : Entry). with_mark (mark_left found e) e) o)))
+        → MatchOption o (one_if (passes_test test (option_map (λ (e : Entry). with_mark (mark_left found e) e) o)) ≡ 0)
+        (λ e. one_if (p e) ≡ one_if (q e) + one_if (passes_test test (option_map (λ (e : Entry). with_mark (mark_left found e) e) o)))
     by None is = refl
     by (Some e) is =
         let name = entry_of-digest f.0 es e is in

@@ -11,13 +11,14 @@ use Rattle.rec_format.specs.declared.entry.Entry.{Entry}
 use Rattle.rec_format.specs.Places.{partition_number, sprig_number, device_number}
 use Rattle.rec_format.specs.Versions.{is_put, is_tombstone}
 use Rattle.device_model.specs.Book.{Setup}
-use Rattle.device_model.specs.Device.{State, entry, entry_is_covered, entry_passes, part_of, digests_of as logged, in_part, put_count, tombstone_count, covered_count}
+use Rattle.device_model.specs.Device.{State, entry, entry_is_covered, entry_passes, part_of, digests_in as logged, in_part, put_count, tombstone_count, covered_count}
 use Rattle.device_model.specs.Steps.{part_total}
 use Rattle.partition_map.proofs.PartLaws.{part_below}
-use Rattle.sprig_tree.specs.Entries.{digests_of}
+use Rattle.sprig_tree.specs.Entries.{digests_in}
 use Rattle.sprig_tree.specs.State.{SprigState}
 use Rattle.part_laws.specs.Fits.{FitsPart}
-use Rattle.part_laws.specs.Tests.{is_put_entry, is_tombstone_entry, is_covered_put}
+use Rattle.part_laws.specs.Tests.{is_put_entry, is_tombstone_entry}
+use Rattle.tomb_rules.specs.Covers.{is_covered_put}
 use Rattle.part_laws.specs.Parts.{FitsParts}
 use Rattle.part_laws.proofs.Showing.{puts_are, tombstones_are, covered_are}
 
@@ -50,7 +51,7 @@ count_none p [] all = refl
 count_none p (x ∷ xs) all = sum_by-cons (λ d. cond (p d) 1 0) x xs ∙ (λ i. cond (all.0 i) 1 0 + count_none p xs all.1 i)
 
 module _ (setup : Setup) (s : State) (test : Digest → Bool) (mine : Entry → Bool)
-    (same : (part : ℕ) (sprig : SprigState) → FitsPart setup part sprig s → in_part setup part test s ≡ digests_of (filter mine sprig.entries)) where
+    (same : (part : ℕ) (sprig : SprigState) → FitsPart setup part sprig s → in_part setup part test s ≡ digests_in (filter mine sprig.entries)) where
   -- of one part
   part_count_is : (part : ℕ) (sprig : SprigState) → FitsPart setup part sprig s → count_by (λ d. (part_of setup d == part) && test d) (logged s.log) ≡ count_by mine sprig.entries
   part_count_is part sprig fits =

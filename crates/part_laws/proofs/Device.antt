@@ -15,7 +15,7 @@ use Rattle.device_model.specs.Legal.{Allowed, Follows, IsLegal, last_faults}
 use Rattle.rec_format.proofs.Laws.{same_digest_is}
 use Rattle.sprig_tree.specs.State.{SprigState}
 use Rattle.part_laws.specs.Fits.{FitsPart}
-use Rattle.part_laws.specs.Tests.{is_among}
+use Rattle.part_laws.specs.Tests.{has_digest}
 use Rattle.part_laws.specs.Making.{digest_named, IsStepOf, AreStepsOf}
 use Rattle.part_laws.specs.Parts.{AreOwn, FitsParts, NamesOwn}
 use Rattle.part_laws.proofs.Events.{steps_are, fits_on}
@@ -31,10 +31,10 @@ each_with P d (x ∷ xs) here all = by (same_digest d x) (digest_before d x) (ea
     by false true rest = (here, all)
     by false false rest = (all.0, rest)
 
-among_each : (P : Digest → Type 0) (d : Digest) (xs : List Digest) → AllByRecursion P xs → is_among xs d ≡ true → P d
+among_each : (P : Digest → Type 0) (d : Digest) (xs : List Digest) → AllByRecursion P xs → has_digest xs d ≡ true → P d
 among_each P d [] all there = absurd (false≢true there)
 among_each P d (x ∷ xs) all there =
-    ⊎_elim (λ same. subst P (sym (same_digest_is d x same)) all.0) (λ more. among_each P d xs all.1 more) (or_cases (same_digest d x) (is_among xs d) there)
+    ⊎_elim (λ same. subst P (sym (same_digest_is d x same)) all.0) (λ more. among_each P d xs all.1 more) (or_cases (same_digest d x) (has_digest xs d) there)
 
 moved_logged : (digest : Digest) (number : ℕ) (log : Log) → logged (log_with_number digest number log) ≡ logged log
 moved_logged digest number [] = refl

@@ -8,7 +8,7 @@ use Rattle.rec_format.specs.declared.entry.Entry.{Entry}
 use Rattle.rec_format.specs.Places.{same_digest, digest_before}
 use Rattle.device_model.specs.Steps.{without_mark}
 use Rattle.rec_format.proofs.Laws.{same_digest_is}
-use Rattle.sprig_tree.specs.Entries.{digests_of, IsInDigestOrder, entry_of, with_entry, with_replaced, without_digest}
+use Rattle.sprig_tree.specs.Entries.{digests_in, IsInDigestOrder, entry_of, with_entry, with_replaced, without_digest}
 use Rattle.sprig_tree.proofs.Order.{order_first, order_rest}
 use Rattle.sprig_tree.proofs.Parted.{entry_of_above}
 
@@ -27,14 +27,14 @@ replaced_absent e (x ∷ xs) absent =
 
 module _ (test : Entry → Bool) where
   abbrev passing : List Entry → List Digest
-  passing es = digests_of (filter test es)
+  passing es = digests_in (filter test es)
 
   pub unmarked_absent : (d : Digest) (es : List Entry) → entry_of d es ≡ None → without_mark d (passing es) ≡ passing es
   unmarked_absent d [] absent = refl
   unmarked_absent d (e ∷ es) absent = by (test e) (absent_cases d e es absent) (λ none. unmarked_absent d es none)
     where
       by : (b : Bool) → (same_digest d e.digest ≡ false) × (entry_of d es ≡ None) → (entry_of d es ≡ None → without_mark d (passing es) ≡ passing es)
-          → without_mark d (digests_of (cond b (e ∷ filter test es) (filter test es))) ≡ digests_of (cond b (e ∷ filter test es) (filter test es))
+          → without_mark d (digests_in (cond b (e ∷ filter test es) (filter test es))) ≡ digests_in (cond b (e ∷ filter test es) (filter test es))
       by true both rest =
           cond-true (not (same_digest d e.digest)) (e.digest ∷ without_mark d (passing es)) (without_mark d (passing es)) (not_from_false (same_digest d e.digest) both.0)
           ∙ ap (λ (l : List Digest). e.digest ∷ l) (rest both.1)
@@ -46,31 +46,31 @@ module _ (test : Entry → Bool) where
   passing_replaced e (x ∷ xs) off = by (same_digest e.digest x.digest) refl (test x) refl (passing_replaced e xs off)
     where
       by : (s : Bool) → same_digest e.digest x.digest ≡ s → (b : Bool) → test x ≡ b → passing (with_replaced e xs) ≡ without_mark e.digest (passing xs)
-          → passing (cond s e x ∷ with_replaced e xs) ≡ without_mark e.digest (digests_of (cond b (x ∷ filter test xs) (filter test xs)))
+          → passing (cond s e x ∷ with_replaced e xs) ≡ without_mark e.digest (digests_in (cond b (x ∷ filter test xs) (filter test xs)))
       by true same true is rest =
-          ap digests_of (cond-false (test e) (e ∷ filter test (with_replaced e xs)) (filter test (with_replaced e xs)) off) ∙ rest
+          ap digests_in (cond-false (test e) (e ∷ filter test (with_replaced e xs)) (filter test (with_replaced e xs)) off) ∙ rest
           ∙ sym (cond-false (not (same_digest e.digest x.digest)) (x.digest ∷ without_mark e.digest (passing xs)) (without_mark e.digest (passing xs)) (not_from_true (same_digest e.digest x.digest) same))
-      by true same false is rest = ap digests_of (cond-false (test e) (e ∷ filter test (with_replaced e xs)) (filter test (with_replaced e xs)) off) ∙ rest
+      by true same false is rest = ap digests_in (cond-false (test e) (e ∷ filter test (with_replaced e xs)) (filter test (with_replaced e xs)) off) ∙ rest
       by false other true is rest =
-          ap digests_of (cond-true (test x) (x ∷ filter test (with_replaced e xs)) (filter test (with_replaced e xs)) is) ∙ ap (λ (l : List Digest). x.digest ∷ l) rest
+          ap digests_in (cond-true (test x) (x ∷ filter test (with_replaced e xs)) (filter test (with_replaced e xs)) is) ∙ ap (λ (l : List Digest). x.digest ∷ l) rest
           ∙ sym (cond-true (not (same_digest e.digest x.digest)) (x.digest ∷ without_mark e.digest (passing xs)) (without_mark e.digest (passing xs)) (not_from_false (same_digest e.digest x.digest) other))
-      by false other false is rest = ap digests_of (cond-false (test x) (x ∷ filter test (with_replaced e xs)) (filter test (with_replaced e xs)) is) ∙ rest
+      by false other false is rest = ap digests_in (cond-false (test x) (x ∷ filter test (with_replaced e xs)) (filter test (with_replaced e xs)) is) ∙ rest
 
   -- one more that doesn't pass
   pub passing_entry : (e : Entry) (es : List Entry) → test e ≡ false → entry_of e.digest es ≡ None → passing (with_entry e es) ≡ without_mark e.digest (passing es)
-  passing_entry e [] off absent = ap digests_of (cond-false (test e) (e ∷ []) [] off)
+  passing_entry e [] off absent = ap digests_in (cond-false (test e) (e ∷ []) [] off)
   passing_entry e (x ∷ xs) off absent = by (digest_before e.digest x.digest) (test x) refl (absent_cases e.digest x xs absent) (λ none. passing_entry e xs off none)
     where
       by : (c b : Bool) → test x ≡ b → (same_digest e.digest x.digest ≡ false) × (entry_of e.digest xs ≡ None) → (entry_of e.digest xs ≡ None → passing (with_entry e xs) ≡ without_mark e.digest (passing xs))
           → passing (cond c (e ∷ x ∷ xs) (x ∷ with_entry e xs)) ≡ without_mark e.digest (passing (x ∷ xs))
-      by true b is both rest = ap digests_of (cond-false (test e) (e ∷ filter test (x ∷ xs)) (filter test (x ∷ xs)) off) ∙ sym (unmarked_absent e.digest (x ∷ xs) absent)
+      by true b is both rest = ap digests_in (cond-false (test e) (e ∷ filter test (x ∷ xs)) (filter test (x ∷ xs)) off) ∙ sym (unmarked_absent e.digest (x ∷ xs) absent)
       by false true is both rest =
-          ap digests_of (cond-true (test x) (x ∷ filter test (with_entry e xs)) (filter test (with_entry e xs)) is) ∙ ap (λ (l : List Digest). x.digest ∷ l) (rest both.1)
-          ∙ sym (ap (λ (l : List Entry). without_mark e.digest (digests_of l)) (cond-true (test x) (x ∷ filter test xs) (filter test xs) is)
+          ap digests_in (cond-true (test x) (x ∷ filter test (with_entry e xs)) (filter test (with_entry e xs)) is) ∙ ap (λ (l : List Digest). x.digest ∷ l) (rest both.1)
+          ∙ sym (ap (λ (l : List Entry). without_mark e.digest (digests_in l)) (cond-true (test x) (x ∷ filter test xs) (filter test xs) is)
           ∙ cond-true (not (same_digest e.digest x.digest)) (x.digest ∷ without_mark e.digest (passing xs)) (without_mark e.digest (passing xs)) (not_from_false (same_digest e.digest x.digest) both.0))
       by false false is both rest =
-          ap digests_of (cond-false (test x) (x ∷ filter test (with_entry e xs)) (filter test (with_entry e xs)) is) ∙ rest both.1
-          ∙ sym (ap (λ (l : List Entry). without_mark e.digest (digests_of l)) (cond-false (test x) (x ∷ filter test xs) (filter test xs) is))
+          ap digests_in (cond-false (test x) (x ∷ filter test (with_entry e xs)) (filter test (with_entry e xs)) is) ∙ rest both.1
+          ∙ sym (ap (λ (l : List Entry). without_mark e.digest (digests_in l)) (cond-false (test x) (x ∷ filter test xs) (filter test xs) is))
 
   -- without the entry of a digest
   pub passing_without : (d : Digest) (es : List Entry) → passing (without_digest d es) ≡ without_mark d (passing es)
@@ -78,14 +78,14 @@ module _ (test : Entry → Bool) where
   passing_without d (x ∷ xs) = by (same_digest d x.digest) refl (test x) refl (passing_without d xs)
     where
       by : (s : Bool) → same_digest d x.digest ≡ s → (b : Bool) → test x ≡ b → passing (without_digest d xs) ≡ without_mark d (passing xs)
-          → passing (cond (not s) (x ∷ without_digest d xs) (without_digest d xs)) ≡ without_mark d (digests_of (cond b (x ∷ filter test xs) (filter test xs)))
+          → passing (cond (not s) (x ∷ without_digest d xs) (without_digest d xs)) ≡ without_mark d (digests_in (cond b (x ∷ filter test xs) (filter test xs)))
       by true same true is rest =
           rest ∙ sym (cond-false (not (same_digest d x.digest)) (x.digest ∷ without_mark d (passing xs)) (without_mark d (passing xs)) (not_from_true (same_digest d x.digest) same))
       by true same false is rest = rest
       by false other true is rest =
-          ap digests_of (cond-true (test x) (x ∷ filter test (without_digest d xs)) (filter test (without_digest d xs)) is) ∙ ap (λ (l : List Digest). x.digest ∷ l) rest
+          ap digests_in (cond-true (test x) (x ∷ filter test (without_digest d xs)) (filter test (without_digest d xs)) is) ∙ ap (λ (l : List Digest). x.digest ∷ l) rest
           ∙ sym (cond-true (not (same_digest d x.digest)) (x.digest ∷ without_mark d (passing xs)) (without_mark d (passing xs)) (not_from_false (same_digest d x.digest) other))
-      by false other false is rest = ap digests_of (cond-false (test x) (x ∷ filter test (without_digest d xs)) (filter test (without_digest d xs)) is) ∙ rest
+      by false other false is rest = ap digests_in (cond-false (test x) (x ∷ filter test (without_digest d xs)) (filter test (without_digest d xs)) is) ∙ rest
 
   -- an entry that passes exactly where the one in whose place it comes does
   pub passing_alike : (e old : Entry) (es : List Entry) → IsInDigestOrder es → entry_of e.digest es ≡ Some old → test e ≡ test old → passing (with_replaced e es) ≡ passing es
@@ -93,17 +93,17 @@ module _ (test : Entry → Bool) where
   passing_alike e old (x ∷ xs) order found same = by (same_digest e.digest x.digest) refl found (λ more. passing_alike e old xs (order_rest x xs order) more same)
     where
       here : (b : Bool) → test e ≡ b → test x ≡ b → e.digest ≡ x.digest → with_replaced e xs ≡ xs
-          → digests_of (cond (test e) (e ∷ filter test (with_replaced e xs)) (filter test (with_replaced e xs))) ≡ digests_of (cond (test x) (x ∷ filter test xs) (filter test xs))
+          → digests_in (cond (test e) (e ∷ filter test (with_replaced e xs)) (filter test (with_replaced e xs))) ≡ digests_in (cond (test x) (x ∷ filter test xs) (filter test xs))
       here true one two name stays =
-          ap digests_of (cond-true (test e) (e ∷ filter test (with_replaced e xs)) (filter test (with_replaced e xs)) one)
+          ap digests_in (cond-true (test e) (e ∷ filter test (with_replaced e xs)) (filter test (with_replaced e xs)) one)
           ∙ (λ i. name i ∷ passing (stays i))
-          ∙ ap digests_of (sym (cond-true (test x) (x ∷ filter test xs) (filter test xs) two))
+          ∙ ap digests_in (sym (cond-true (test x) (x ∷ filter test xs) (filter test xs) two))
       here false one two name stays =
-          ap digests_of (cond-false (test e) (e ∷ filter test (with_replaced e xs)) (filter test (with_replaced e xs)) one)
+          ap digests_in (cond-false (test e) (e ∷ filter test (with_replaced e xs)) (filter test (with_replaced e xs)) one)
           ∙ ap passing stays
-          ∙ ap digests_of (sym (cond-false (test x) (x ∷ filter test xs) (filter test xs) two))
+          ∙ ap digests_in (sym (cond-false (test x) (x ∷ filter test xs) (filter test xs) two))
 
-      behind : (b : Bool) → passing (with_replaced e xs) ≡ passing xs → digests_of (cond b (x ∷ filter test (with_replaced e xs)) (filter test (with_replaced e xs))) ≡ digests_of (cond b (x ∷ filter test xs) (filter test xs))
+      behind : (b : Bool) → passing (with_replaced e xs) ≡ passing xs → digests_in (cond b (x ∷ filter test (with_replaced e xs)) (filter test (with_replaced e xs))) ≡ digests_in (cond b (x ∷ filter test xs) (filter test xs))
       behind true rest = ap (λ (l : List Digest). x.digest ∷ l) rest
       behind false rest = rest
 

@@ -18,7 +18,7 @@ use Rattle.sprig_tree.specs.State.{SprigState}
 use Rattle.recovery.proofs.Opening.{all_joined}
 use Rattle.part_laws.specs.Fits.{FitsPart}
 use Rattle.part_laws.specs.Sparing.{Spares, AllSpare, is_of_book, AreOfBook}
-use Rattle.part_laws.specs.Tests.{is_among}
+use Rattle.part_laws.specs.Tests.{has_digest}
 use Rattle.part_laws.specs.Making.{digest_named, IsStepOf, AreStepsOf}
 use Rattle.part_laws.proofs.Ordered.{first_among}
 use Rattle.part_laws.proofs.Spared.{all_spared}
@@ -145,25 +145,25 @@ all_of_part setup other test (x ∷ xs) = by (part_of setup x == other) refl (te
     by true is false rest = rest
     by false is b rest = rest
 
-all_logged : (setup : Setup) (other : ℕ) (test : Digest → Bool) (s : State) → AllByRecursion (λ d. is_among (logged s.log) d ≡ true) (filter (λ d. (part_of setup d == other) && test d) (logged s.log))
+all_logged : (setup : Setup) (other : ℕ) (test : Digest → Bool) (s : State) → AllByRecursion (λ d. has_digest (logged s.log) d ≡ true) (filter (λ d. (part_of setup d == other) && test d) (logged s.log))
 all_logged setup other test s = each (logged s.log) (λ d there. there)
   where
-    each : (xs : List Digest) → ((d : Digest) → is_among xs d ≡ true → is_among (logged s.log) d ≡ true) → AllByRecursion (λ d. is_among (logged s.log) d ≡ true) (filter (λ d. (part_of setup d == other) && test d) xs)
+    each : (xs : List Digest) → ((d : Digest) → has_digest xs d ≡ true → has_digest (logged s.log) d ≡ true) → AllByRecursion (λ d. has_digest (logged s.log) d ≡ true) (filter (λ d. (part_of setup d == other) && test d) xs)
     each [] there = tt
     each (x ∷ xs) there =
-        cond_both ((part_of setup x == other) && test x) (x ∷ filter (λ d. (part_of setup d == other) && test d) xs) (filter (λ d. (part_of setup d == other) && test d) xs) (AllByRecursion (λ d. is_among (logged s.log) d ≡ true))
-        (λ _. (there x (first_among x xs), each xs (λ d more. there d (or_right (same_digest d x) (is_among xs d) more)))) (λ _. each xs (λ d more. there d (or_right (same_digest d x) (is_among xs d) more)))
+        cond_both ((part_of setup x == other) && test x) (x ∷ filter (λ d. (part_of setup d == other) && test d) xs) (filter (λ d. (part_of setup d == other) && test d) xs) (AllByRecursion (λ d. has_digest (logged s.log) d ≡ true))
+        (λ _. (there x (first_among x xs), each xs (λ d more. there d (or_right (same_digest d x) (has_digest xs d) more)))) (λ _. each xs (λ d more. there d (or_right (same_digest d x) (has_digest xs d) more)))
 
 -- the marked entries of a part go, and then that part is done
 drops_are : (setup : Setup) (first : State) (call : Call) (part : ℕ) → Passes.part_named setup call ≡ Some part → (t : State) (digests : List Digest) → t.raid.next ≡ drop_turn part
-    → AllByRecursion (λ d. part_of setup d ≡ part) digests → AllByRecursion (λ d. is_among (logged first.log) d ≡ true) digests
+    → AllByRecursion (λ d. part_of setup d ≡ part) digests → AllByRecursion (λ d. has_digest (logged first.log) d ≡ true) digests
     → AreStepsOf setup first call t (map (Legal.drop_step first) digests ++ done_part part ∷ [])
 unfolding after_step
 drops_are setup first call part names t [] at all there = ((names, at), tt)
 drops_are setup first call part names t (d ∷ digests) at all there =
     by (entry_passes is_tombstone (entry first d)) (λ next still. drops_are setup first call part names next digests still all.1 there.1)
   where
-    mine : (Passes.part_named setup call ≡ Some (part_of setup d)) × (is_among (logged first.log) d ≡ true)
+    mine : (Passes.part_named setup call ≡ Some (part_of setup d)) × (has_digest (logged first.log) d ≡ true)
     mine = (names ∙ ap Some (sym all.0), there.0)
 
     rest : List Step
@@ -241,7 +241,7 @@ module _ (setup : Setup) (told : Bool) (s : State) (event : Event) (call : Call)
   turn_ends (apply_turn part) now at names ends = subst (AreStepsOf setup s call s) (sym ends.1) ((names, at), tt)
   turn_ends (drop_turn part) now at names ends =
       subst (AreStepsOf setup s call s) (sym ends.1)
-      (drops_are setup s call part names s (Legal.marked_in setup part s) at (all_of_part setup part (is_among s.raid.marked) (logged s.log)) (all_logged setup part (is_among s.raid.marked) s))
+      (drops_are setup s call part names s (Legal.marked_in setup part s) at (all_of_part setup part (has_digest s.raid.marked) (logged s.log)) (all_logged setup part (has_digest s.raid.marked) s))
   turn_ends finished now at names is = no_steps is.1
 
   turns : (number : ℕ) (turn : Turn) (now : ℕ) → Passes.part_named setup call ≡ Passes.turn_part turn → Legal.Allowed setup told s event (turn_call number turn now) → Made

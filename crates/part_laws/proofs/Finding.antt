@@ -9,14 +9,14 @@ use Rattle.rec_format.specs.Versions.{is_later}
 use Rattle.device_model.specs.Book.{Setup}
 use Rattle.device_model.specs.Device.{part_of}
 use Rattle.rec_format.proofs.Laws.{same_digest_is, same_digest_refl}
-use Rattle.block_format.specs.Copies.{Copy, copies_named, latest, cold_copy}
+use Rattle.block_format.specs.Copies.{Copy, copies_named, latest, cold_copy, entry_for}
 use Rattle.recovery.specs.Cold.{copies_high}
 use Rattle.recovery.proofs.Each.{all_map}
 use Rattle.recovery.proofs.Growing.{all_at, all_from}
 use Rattle.recovery.proofs.Held.{IsNewest, latest_is}
 use Rattle.recovery.proofs.Members.{first_there, rest_there, filter_there}
 use Rattle.sprig_tree.specs.State.{SprigState}
-use Rattle.part_laws.specs.Starting.{entry_for, HasChosen, HasLatest, first_named, TakesCopy}
+use Rattle.part_laws.specs.Starting.{HasChosen, HasLatest, first_named, TakesCopy}
 use Rattle.part_laws.proofs.Device.{set_cases}
 use Rattle.part_laws.proofs.Starting.{no_later_time, time_of_copy, other_copy, one_more}
 

@@ -8,12 +8,14 @@ use Rattle.rec_format.specs.Places.{device_number}
 use Rattle.rec_format.specs.Versions.{is_tomb_kind, is_expired, is_expired_put, is_live_put, a_put, void_time, new_stamp}
 use Rattle.device_model.specs.Histories.{if_live}
 use Rattle.device_model.specs.Legal.{seen_generation, the_stamp, new_put}
-use Rattle.device_model.specs.Book.{Setup, live_of}
+use Rattle.device_model.specs.Book.{Setup, live_of, live_of_entry}
 use Rattle.device_model.specs.Device.{State, entry, entry_is_covered, entry_passes, seen, stamp_of, part_of, high_time, next_stamp_of}
 use Rattle.sprig_tree.specs.Entries.{entry_of}
 use Rattle.sprig_tree.specs.State.{SprigState}
-use Rattle.part_laws.specs.Fits.{Names, live_of_entry, HasEntries, FitsPart}
-use Rattle.part_laws.specs.Tests.{is_expired_entry, is_live_entry, passes, stamp_found, cover_found, generation_seen}
+use Rattle.part_laws.specs.Fits.{HasEntries, FitsPart}
+use Rattle.rec_format.specs.Entries.{Names}
+use Rattle.part_laws.specs.Tests.{is_expired_entry, passes_test, stamp_found, cover_found, generation_seen}
+use Rattle.expiry_rule.specs.Seen.{is_live_entry}
 use Rattle.part_laws.specs.Parts.{FitsParts}
 use Rattle.part_laws.proofs.Alike.{Says}
 use Rattle.part_laws.proofs.Counting.{part_exists}
@@ -49,22 +51,22 @@ module _ (setup : Setup) (part : ℕ) (sprig : SprigState) (s : State) (h : HasE
   next_stamp_is now = (λ i. new_stamp (stamp_is i) (high_time setup (mine i) s.log) now) ∙ ap (λ (n : ℕ). new_stamp (stamp_found (entry_of d sprig.entries)) n now) (sym h.high)
 
   -- whether it is an expired put, and whether a reader sees it
-  pub expired_found : (now : ℕ) → entry_passes (is_expired_put now) (entry s d) ≡ passes (is_expired_entry now) (entry_of d sprig.entries)
+  pub expired_found : (now : ℕ) → entry_passes (is_expired_put now) (entry s d) ≡ passes_test (is_expired_entry now) (entry_of d sprig.entries)
   expired_found now = by (entry_of d sprig.entries) (h.shown d)
     where
-      by : (o : Option Entry) → Says setup part s d o → entry_passes (is_expired_put now) (entry s d) ≡ passes (is_expired_entry now) o
+      by : (o : Option Entry) → Says setup part s d o → entry_passes (is_expired_put now) (entry s d) ≡ passes_test (is_expired_entry now) o
       by None says = ap (entry_passes (is_expired_put now)) (says mine).top
       by (Some e) says =
           ap (entry_passes (is_expired_put now)) says.1.top ∙ (λ i. not (is_tomb_kind (sym says.1.names.kind i)) && is_expired now (sym says.1.names.void i))
 
-  pub seen_found : (now : ℕ) → is_some (seen s now d) ≡ passes (is_live_entry now) (entry_of d sprig.entries)
+  pub seen_found : (now : ℕ) → is_some (seen s now d) ≡ passes_test (is_live_entry now) (entry_of d sprig.entries)
   seen_found now = by (entry_of d sprig.entries) (h.shown d)
     where
       told : (b : Bool) (v : Version) → is_some (cond b (Some v) None) ≡ b
       told true v = refl
       told false v = refl
 
-      by : (o : Option Entry) → Says setup part s d o → is_some (seen s now d) ≡ passes (is_live_entry now) o
+      by : (o : Option Entry) → Says setup part s d o → is_some (seen s now d) ≡ passes_test (is_live_entry now) o
       by None says = ap (λ (o : Option Version). is_some (if_live now o)) (says mine).top
       by (Some e) says =
           ap (λ (o : Option Version). is_some (if_live now o)) says.1.top ∙ told (is_live_put now says.1.version) says.1.version

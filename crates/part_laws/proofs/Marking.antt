@@ -14,14 +14,15 @@ use Rattle.rec_format.specs.declared.entry.Entry.{Entry}
 use Rattle.rec_format.specs.Places.{digest_cmp, same_digest}
 use Rattle.rec_format.specs.Versions.{is_later_stamp}
 use Rattle.device_model.specs.Book.{Setup}
-use Rattle.device_model.specs.Device.{State, RaidState, Turn, mark_turn, scan_turn, apply_turn, drop_turn, stamp_of, part_of, digests_of as logged, eligible_in, is_eligible}
+use Rattle.device_model.specs.Device.{State, RaidState, Turn, mark_turn, scan_turn, apply_turn, drop_turn, stamp_of, part_of, digests_in as logged, eligible_in, is_eligible}
 use Rattle.device_model.specs.Steps.{marked_part, compared_part, done_part, after_step, after_drop, has_older, is_older_than, part_total}
 use Rattle.device_model.specs.Legal.{unmarked_by}
-use Rattle.sprig_tree.specs.Entries.{digests_of, entry_of}
+use Rattle.sprig_tree.specs.Entries.{digests_in, entry_of}
 use Rattle.sprig_tree.specs.State.{SprigState}
 use Rattle.sprig_tree.proofs.Laws.{entry_of-digest}
 use Rattle.part_laws.specs.Fits.{IsShown, HasEntries, is_running, has_mark, may_be_marked, marks_of, HasMarks, FitsPart}
-use Rattle.part_laws.specs.Tests.{is_eligible_entry, has_older_copy}
+use Rattle.part_laws.specs.Tests.{has_older_copy}
+use Rattle.tomb_rules.specs.Covers.{is_eligible_entry}
 use Rattle.part_laws.specs.Becoming.{with_mark, remarked, mark_given, mark_left, found_of}
 use Rattle.part_laws.proofs.Alike.{Says, entries_alike}
 use Rattle.part_laws.proofs.Ordered.{each_entry}
@@ -31,7 +32,7 @@ use Rattle.part_laws.proofs.Taking.{swapped, found_shown}
 
 -- ---- other marks
 
-pub digests_remarked : (m : Entry → ℕ) (es : List Entry) → digests_of (remarked m es) ≡ digests_of es
+pub digests_remarked : (m : Entry → ℕ) (es : List Entry) → digests_in (remarked m es) ≡ digests_in es
 digests_remarked m [] = refl
 digests_remarked m (e ∷ es) = ap (λ (l : List Digest). e.digest ∷ l) (digests_remarked m es)
 
@@ -44,12 +45,12 @@ remarked_of m d (e ∷ es) = by (same_digest d e.digest) (remarked_of m d es)
     by true rest = refl
     by false rest = rest
 
-passing_remarked : (test : Entry → Bool) (m : Entry → ℕ) (es : List Entry) → digests_of (filter test (remarked m es)) ≡ digests_of (filter (λ e. test (with_mark (m e) e)) es)
+passing_remarked : (test : Entry → Bool) (m : Entry → ℕ) (es : List Entry) → digests_in (filter test (remarked m es)) ≡ digests_in (filter (λ e. test (with_mark (m e) e)) es)
 passing_remarked test m [] = refl
 passing_remarked test m (e ∷ es) = by (test (with_mark (m e) e)) (passing_remarked test m es)
   where
-    by : (b : Bool) → digests_of (filter test (remarked m es)) ≡ digests_of (filter (λ e. test (with_mark (m e) e)) es)
-        → digests_of (cond b (with_mark (m e) e ∷ filter test (remarked m es)) (filter test (remarked m es))) ≡ digests_of (cond b (e ∷ filter (λ e. test (with_mark (m e) e)) es) (filter (λ e. test (with_mark (m e) e)) es))
+    by : (b : Bool) → digests_in (filter test (remarked m es)) ≡ digests_in (filter (λ e. test (with_mark (m e) e)) es)
+        → digests_in (cond b (with_mark (m e) e ∷ filter test (remarked m es)) (filter test (remarked m es))) ≡ digests_in (cond b (e ∷ filter (λ e. test (with_mark (m e) e)) es) (filter (λ e. test (with_mark (m e) e)) es))
     by true rest = ap (λ (l : List Digest). e.digest ∷ l) rest
     by false rest = rest
 
@@ -62,11 +63,11 @@ each_remarked m n [] all = tt
 each_remarked m n (e ∷ es) all = (all.0, each_remarked m n es all.1)
 
 -- where none passes, each doesn't
-pub all_fail : (test : Entry → Bool) (es : List Entry) → digests_of (filter test es) ≡ [] → AllByRecursion (λ e. test e ≡ false) es
+pub all_fail : (test : Entry → Bool) (es : List Entry) → digests_in (filter test es) ≡ [] → AllByRecursion (λ e. test e ≡ false) es
 all_fail test [] none = tt
 all_fail test (e ∷ es) none = by (test e) refl none (λ rest. all_fail test es rest)
   where
-    by : (b : Bool) → test e ≡ b → digests_of (cond b (e ∷ filter test es) (filter test es)) ≡ [] → (digests_of (filter test es) ≡ [] → AllByRecursion (λ e. test e ≡ false) es)
+    by : (b : Bool) → test e ≡ b → digests_in (cond b (e ∷ filter test es) (filter test es)) ≡ [] → (digests_in (filter test es) ≡ [] → AllByRecursion (λ e. test e ≡ false) es)
         → (test e ≡ false) × AllByRecursion (λ e. test e ≡ false) es
     by true is never more = absurd cc
     by false is rest more = (is, more rest)
@@ -83,7 +84,7 @@ marks_shown s d e n is = record {
 entries_remarked : (setup : Setup) (part : ℕ) (old new : SprigState) (s : State) (raid : RaidState) (m : Entry → ℕ) → new.entries ≡ remarked m old.entries → new.hw ≡ old.hw
     → HasEntries setup part old s → HasEntries setup part new (record s { raid = raid })
 entries_remarked setup part old new s raid m entries high h = record {
-  order = subst (λ (l : List Digest). IsStrictlySortedBy digest_cmp l) (sym (ap digests_of entries ∙ digests_remarked m old.entries)) h.order;
+  order = subst (λ (l : List Digest). IsStrictlySortedBy digest_cmp l) (sym (ap digests_in entries ∙ digests_remarked m old.entries)) h.order;
   shown = λ d. subst (Says setup part t d) (sym (ap (entry_of d) entries ∙ remarked_of m d old.entries)) (by d (entry_of d old.entries) (h.shown d));
   high = high ∙ h.high;
 }
@@ -184,7 +185,7 @@ marked_fits setup part now old new s at entries high fits = fits_remarked setup 
           ∙ part_again setup part (is_eligible setup now s) (logged s.log)
           ∙ eligible_are setup part old s fits.entries now
           ∙ sym (passing_remarked (has_mark r) m old.entries
-          ∙ ap digests_of (filter_alike (λ e. has_mark r (with_mark (m e) e)) eligible old.entries
+          ∙ ap digests_in (filter_alike (λ e. has_mark r (with_mark (m e) e)) eligible old.entries
           (each_of (λ e. has_mark s.raid e ≡ false) (λ e. has_mark r (with_mark (m e) e) ≡ eligible e) old.entries given (none_marked setup part old.entries s.raid at fits.marks))));
       turn = λ off. absurd (both_ways (may_be_marked r.next part) off may);
       begun = λ _. fits.marks.begun was_running;
@@ -201,19 +202,19 @@ marks_made_are setup part now sprig s h =
 
 -- tests of digests and of entries that say the same
 pub digests_filtered : (q : Digest → Bool) (mine p : Entry → Bool) (es : List Entry) → AllByRecursion (λ e. q e.digest ≡ mine e) es
-    → filter q (digests_of (filter p es)) ≡ digests_of (filter (λ e. p e && mine e) es)
+    → filter q (digests_in (filter p es)) ≡ digests_in (filter (λ e. p e && mine e) es)
 digests_filtered q mine p [] all = refl
 digests_filtered q mine p (e ∷ es) all = by (p e) (digests_filtered q mine p es all.1)
   where
     inner : List Entry
     inner = filter (λ e. p e && mine e) es
 
-    kept : (b : Bool) → filter q (digests_of (filter p es)) ≡ digests_of inner → cond b (e.digest ∷ filter q (digests_of (filter p es))) (filter q (digests_of (filter p es))) ≡ digests_of (cond b (e ∷ inner) inner)
+    kept : (b : Bool) → filter q (digests_in (filter p es)) ≡ digests_in inner → cond b (e.digest ∷ filter q (digests_in (filter p es))) (filter q (digests_in (filter p es))) ≡ digests_in (cond b (e ∷ inner) inner)
     kept true rest = ap (λ (l : List Digest). e.digest ∷ l) rest
     kept false rest = rest
 
-    by : (b : Bool) → filter q (digests_of (filter p es)) ≡ digests_of inner → filter q (digests_of (cond b (e ∷ filter p es) (filter p es))) ≡ digests_of (cond (b && mine e) (e ∷ inner) inner)
-    by true rest = ap (λ (c : Bool). cond c (e.digest ∷ filter q (digests_of (filter p es))) (filter q (digests_of (filter p es)))) all.0 ∙ kept (mine e) rest
+    by : (b : Bool) → filter q (digests_in (filter p es)) ≡ digests_in inner → filter q (digests_in (cond b (e ∷ filter p es) (filter p es))) ≡ digests_in (cond (b && mine e) (e ∷ inner) inner)
+    by true rest = ap (λ (c : Bool). cond c (e.digest ∷ filter q (digests_in (filter p es))) (filter q (digests_in (filter p es)))) all.0 ∙ kept (mine e) rest
     by false rest = rest
 
 module _ (setup : Setup) (part : ℕ) (sprig : SprigState) (s : State) (h : HasEntries setup part sprig s) where
@@ -279,7 +280,7 @@ compared_fits setup part old new s at entries high fits = fits_remarked setup pa
           ∙ digests_filtered (λ d. not (has_older s found d)) (λ e. not (has_older_copy found e)) (has_mark s.raid) old.entries
           (each_of (λ e. has_older s found e.digest ≡ has_older_copy found e) (λ e. not (has_older s found e.digest) ≡ not (has_older_copy found e)) old.entries (λ e same. ap not same) (older_same setup part old s fits.entries))
           ∙ sym (passing_remarked (has_mark r) m old.entries
-          ∙ ap digests_of (filter_alike (λ e. has_mark r (with_mark (m e) e)) (λ e. has_mark s.raid e && not (has_older_copy found e)) old.entries
+          ∙ ap digests_in (filter_alike (λ e. has_mark r (with_mark (m e) e)) (λ e. has_mark s.raid e && not (has_older_copy found e)) old.entries
           (each_of (λ e. e.mark ≤ s.raid.number) (λ e. has_mark r (with_mark (m e) e) ≡ (has_mark s.raid e && not (has_older_copy found e))) old.entries (λ e _. keeps e) fits.marks.most)));
       turn = λ off. absurd (both_ways (may_be_marked r.next part) off (scan_open setup part s.raid.scanned left));
       begun = λ _. least;

@@ -13,13 +13,17 @@ use Rattle.rec_format.specs.Places.{digest_cmp, same_digest}
 use Rattle.rec_format.specs.Versions.{is_tomb_kind, is_put, is_tombstone, is_expired, is_expired_put, is_live_put}
 use Rattle.device_model.specs.Histories.{Item, write, dropped, rid, cleared, top_of, is_covered, if_live}
 use Rattle.device_model.specs.Book.{Setup}
-use Rattle.device_model.specs.Device.{State, Log, history, history_of, entry, entry_is_covered, entry_passes, seen, part_of, digests_of as logged, in_part, expired_in, is_eligible, eligible_in, is_old_enough}
+use Rattle.device_model.specs.Device.{State, Log, history, history_of, entry, entry_is_covered, entry_passes, seen, part_of, digests_in as logged, in_part, expired_in, is_eligible, eligible_in, is_old_enough}
 use Rattle.device_model.specs.Legal.{marked_in}
-use Rattle.sprig_tree.specs.Entries.{digests_of, entry_of}
+use Rattle.sprig_tree.specs.Entries.{digests_in, entry_of}
 use Rattle.sprig_tree.specs.State.{SprigState}
 use Rattle.sprig_tree.proofs.Laws.{entry_of-digest}
-use Rattle.part_laws.specs.Fits.{Names, IsShown, HasNone, HasEntries, has_mark, HasMarks}
-use Rattle.part_laws.specs.Tests.{is_among, is_put_entry, is_tombstone_entry, is_covered_put, is_expired_entry, is_live_entry, is_eligible_entry, passes}
+use Rattle.part_laws.specs.Fits.{IsShown, HasNone, HasEntries, has_mark, HasMarks}
+use Rattle.rec_format.specs.Entries.{Names}
+use Rattle.part_laws.specs.Tests.{has_digest, is_put_entry, is_tombstone_entry, is_expired_entry, passes_test}
+use Rattle.expiry_rule.specs.Seen.{is_live_entry}
+use Rattle.tomb_rules.specs.Covers.{is_eligible_entry}
+use Rattle.tomb_rules.specs.Covers.{is_covered_put}
 use Rattle.part_laws.proofs.Ordered.{AreInOrder, one_order, order-with_digest, among-with_digest, among-filter, among_entries, order-filtered, each_entry}
 use Rattle.part_laws.proofs.Alike.{Says}
 
@@ -31,10 +35,10 @@ logged_order [] = tt
 logged_order (e ∷ log) = order-with_digest e.0 (logged log) (logged_order log)
 
 -- a digest that isn't there has no history
-pub unlogged : (d : Digest) (log : Log) → is_among (logged log) d ≡ false → history_of d log ≡ []
+pub unlogged : (d : Digest) (log : Log) → has_digest (logged log) d ≡ false → history_of d log ≡ []
 unlogged d [] none = refl
 unlogged d (e ∷ log) none =
-    let both = or_parts (same_digest d e.0) (is_among (logged log) d) (sym (among-with_digest e.0 d (logged log)) ∙ none) in
+    let both = or_parts (same_digest d e.0) (has_digest (logged log) d) (sym (among-with_digest e.0 d (logged log)) ∙ none) in
     cond-false (same_digest d e.0) (e.1 ∷ history_of d log) (history_of d log) both.0 ∙ unlogged d log both.1
 
 -- ---- what passes a test
@@ -46,9 +50,9 @@ module _ (setup : Setup) (part : ℕ) (sprig : SprigState) (s : State) (h : HasE
     pub none : (d : Digest) → part_of setup d ≡ part → entry_of d sprig.entries ≡ None → HasNone s d → state d ≡ false
 
   -- the digests of the part that pass the one are those of the entries that pass the other
-  pub in_part_is : (state : Digest → Bool) (test : Entry → Bool) → SameTest state test → in_part setup part state s ≡ digests_of (filter test sprig.entries)
+  pub in_part_is : (state : Digest → Bool) (test : Entry → Bool) → SameTest state test → in_part setup part state s ≡ digests_in (filter test sprig.entries)
   in_part_is state test same =
-      one_order (in_part setup part state s) (digests_of (filter test sprig.entries))
+      one_order (in_part setup part state s) (digests_in (filter test sprig.entries))
       (IsStrictlySortedBy-filter digest_cmp (λ d. (part_of setup d == part) && state d) (logged s.log) (logged_order s.log))
       (order-filtered test sprig.entries h.order)
       (λ d. among-filter (λ x. (part_of setup x == part) && state x) d (logged s.log) ∙ by d (entry_of d sprig.entries) refl (h.shown d) ∙ sym (among_entries test d sprig.entries h.order))
@@ -57,15 +61,15 @@ module _ (setup : Setup) (part : ℕ) (sprig : SprigState) (s : State) (h : HasE
       absent d true found is none = same.none d (eqb-true (part_of setup d) part is) found (none (eqb-true (part_of setup d) part is))
       absent d false found is none = refl
 
-      there : (d : Digest) (e : Entry) → IsShown s d e → (b : Bool) → is_among (logged s.log) d ≡ b → (b && ((part_of setup d == part) && test e)) ≡ ((part_of setup d == part) && test e)
+      there : (d : Digest) (e : Entry) → IsShown s d e → (b : Bool) → has_digest (logged s.log) d ≡ b → (b && ((part_of setup d == part) && test e)) ≡ ((part_of setup d == part) && test e)
       there d e is true among = refl
       there d e is false among = let never : None ≡ Some is.version = sym (ap top_of (unlogged d s.log among)) ∙ is.top in absurd cc
 
-      by : (d : Digest) (o : Option Entry) → entry_of d sprig.entries ≡ o → Says setup part s d o → (is_among (logged s.log) d && ((part_of setup d == part) && state d)) ≡ passes test o
-      by d None found says = and_right (is_among (logged s.log) d) ((part_of setup d == part) && state d) (absent d (part_of setup d == part) found refl says)
+      by : (d : Digest) (o : Option Entry) → entry_of d sprig.entries ≡ o → Says setup part s d o → (has_digest (logged s.log) d && ((part_of setup d == part) && state d)) ≡ passes_test test o
+      by d None found says = and_right (has_digest (logged s.log) d) ((part_of setup d == part) && state d) (absent d (part_of setup d == part) found refl says)
       by d (Some e) found says =
-          ap (λ (b : Bool). is_among (logged s.log) d && ((part_of setup d == part) && b)) (same.shown d e says.0 found says.1)
-          ∙ there d e says.1 (is_among (logged s.log) d) refl
+          ap (λ (b : Bool). has_digest (logged s.log) d && ((part_of setup d == part) && b)) (same.shown d e says.0 found says.1)
+          ∙ there d e says.1 (has_digest (logged s.log) d) refl
           ∙ ap (λ (b : Bool). b && test e) (eq-eqb (part_of setup d) part says.0)
 
   -- a test of the entry's version
@@ -90,41 +94,41 @@ module _ (setup : Setup) (part : ℕ) (sprig : SprigState) (s : State) (h : HasE
   }
 
   -- the expired entries of the part, and those that a raid marks, in digest order
-  pub expired_is : (now : ℕ) → expired_in setup now part s ≡ digests_of (filter (is_expired_entry now) sprig.entries)
+  pub expired_is : (now : ℕ) → expired_in setup now part s ≡ digests_in (filter (is_expired_entry now) sprig.entries)
   expired_is now = in_part_is (λ d. entry_passes (is_expired_put now) (entry s d)) (is_expired_entry now) (passing (is_expired_put now) (is_expired_entry now) (expired_same now))
 
-  pub eligible_are : (now : ℕ) → eligible_in setup now part s ≡ digests_of (filter (is_eligible_entry setup.raid_age now) sprig.entries)
+  pub eligible_are : (now : ℕ) → eligible_in setup now part s ≡ digests_in (filter (is_eligible_entry setup.raid_age now) sprig.entries)
   eligible_are now = in_part_is (is_eligible setup now s) (is_eligible_entry setup.raid_age now) (eligible_same now)
 
   -- the records, tombstones and covered records of the part
-  pub puts_are : in_part setup part (λ d. entry_passes is_put (entry s d)) s ≡ digests_of (filter is_put_entry sprig.entries)
+  pub puts_are : in_part setup part (λ d. entry_passes is_put (entry s d)) s ≡ digests_in (filter is_put_entry sprig.entries)
   puts_are = in_part_is (λ d. entry_passes is_put (entry s d)) is_put_entry (passing is_put is_put_entry (kinds (λ k. not (is_tomb_kind k))))
 
-  pub tombstones_are : in_part setup part (λ d. entry_passes is_tombstone (entry s d)) s ≡ digests_of (filter is_tombstone_entry sprig.entries)
+  pub tombstones_are : in_part setup part (λ d. entry_passes is_tombstone (entry s d)) s ≡ digests_in (filter is_tombstone_entry sprig.entries)
   tombstones_are = in_part_is (λ d. entry_passes is_tombstone (entry s d)) is_tombstone_entry (passing is_tombstone is_tombstone_entry (kinds is_tomb_kind))
 
-  pub covered_are : in_part setup part (λ d. entry_passes is_put (entry s d) && entry_is_covered s d) s ≡ digests_of (filter is_covered_put sprig.entries)
+  pub covered_are : in_part setup part (λ d. entry_passes is_put (entry s d) && entry_is_covered s d) s ≡ digests_in (filter is_covered_put sprig.entries)
   covered_are = in_part_is (λ d. entry_passes is_put (entry s d) && entry_is_covered s d) is_covered_put (record {
     shown = λ d e _ _ is. (λ i. entry_passes is_put (is.top i) && sym is.cover i) ∙ (λ i. not (is_tomb_kind (sym is.names.kind i)) && e.cover);
     none = λ d _ _ is. ap (λ (o : Option Version). entry_passes is_put o && entry_is_covered s d) is.top;
   })
 
   -- those that the raid has marked
-  pub marked_are : HasMarks setup part sprig.entries s.raid → marked_in setup part s ≡ digests_of (filter (has_mark s.raid) sprig.entries)
-  marked_are m = in_part_is (is_among s.raid.marked) (has_mark s.raid) (record {
-    shown = λ d e mine found _. known d mine ∙ ap (passes (has_mark s.raid)) found;
-    none = λ d mine found _. known d mine ∙ ap (passes (has_mark s.raid)) found;
+  pub marked_are : HasMarks setup part sprig.entries s.raid → marked_in setup part s ≡ digests_in (filter (has_mark s.raid) sprig.entries)
+  marked_are m = in_part_is (has_digest s.raid.marked) (has_mark s.raid) (record {
+    shown = λ d e mine found _. known d mine ∙ ap (passes_test (has_mark s.raid)) found;
+    none = λ d mine found _. known d mine ∙ ap (passes_test (has_mark s.raid)) found;
   })
     where
       and_true : (b c : Bool) → c ≡ true → b ≡ (b && c)
       and_true true c is = sym is
       and_true false c is = refl
 
-      known : (d : Digest) → part_of setup d ≡ part → is_among s.raid.marked d ≡ passes (has_mark s.raid) (entry_of d sprig.entries)
+      known : (d : Digest) → part_of setup d ≡ part → has_digest s.raid.marked d ≡ passes_test (has_mark s.raid) (entry_of d sprig.entries)
       known d mine =
-          and_true (is_among s.raid.marked d) (part_of setup d == part) (eq-eqb (part_of setup d) part mine)
+          and_true (has_digest s.raid.marked d) (part_of setup d == part) (eq-eqb (part_of setup d) part mine)
           ∙ sym (among-filter (λ x. part_of setup x == part) d s.raid.marked)
-          ∙ ap (λ (l : List Digest). is_among l d) m.marked
+          ∙ ap (λ (l : List Digest). has_digest l d) m.marked
           ∙ among_entries (has_mark s.raid) d sprig.entries h.order
 
   -- ---- one digest of the part

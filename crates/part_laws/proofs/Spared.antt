@@ -11,25 +11,25 @@ use Rattle.rec_format.specs.Places.{same_digest}
 use Rattle.rec_format.specs.Versions.{version_units, top_number}
 use Rattle.device_model.specs.Histories.{Item, write, dropped, rid, cleared, top_of, is_covered}
 use Rattle.device_model.specs.Book.{Setup, Book, Live, client, defrag, live_of, placing_number, placed, dropped_live, with_seal, with_gate_begun, with_flushed, with_first_passed, refreshed}
-use Rattle.device_model.specs.Device.{State, RaidState, Turn, mark_turn, scan_turn, apply_turn, drop_turn, finished, history, entry, stamp_of, part_of, high_time, digests_of as logged, eligible_in, is_eligible}
+use Rattle.device_model.specs.Device.{State, RaidState, Turn, mark_turn, scan_turn, apply_turn, drop_turn, finished, history, entry, stamp_of, part_of, high_time, digests_in as logged, eligible_in, is_eligible}
 use Rattle.device_model.specs.Steps.{Step, wrote, moved, removed, rid_of, uncovered, sealed_stream, gate_begun, flushed_buffer, closing_failed, raid_begun, raid_given_up, marked_part, scanned_block, compared_part, done_part, after_step, after_steps, with_item, without_mark, moved_state, raised, raid_at_begin, raid_at_end, after_scan, turn_with, first_part, has_older, is_older_than, part_total}
 use Rattle.rec_format.proofs.Laws.{same_digest_is}
-use Rattle.sprig_tree.specs.Entries.{digests_of}
+use Rattle.sprig_tree.specs.Entries.{digests_in}
 use Rattle.sprig_tree.specs.State.{SprigState}
 use Rattle.part_laws.specs.Fits.{is_running, has_mark, may_be_marked, HasMarks, FitsPart}
 use Rattle.part_laws.specs.Sparing.{Spares, AllSpare}
 use Rattle.part_laws.proofs.Logged.{other_part, moved_top, moved_covered, moved_times, placed_other, dropped_other}
-use Rattle.part_laws.proofs.Alike.{SaysSame, entries_alike, GoesOn, marks_alike}
+use Rattle.part_laws.proofs.Alike.{SaysSame, entries_alike, RaidGoesOn, marks_alike}
 
 fits_alike : (setup : Setup) (part : ℕ) (sprig : SprigState) (s t : State) → ((digest : Digest) → part_of setup digest ≡ part → SaysSame s t digest)
-    → high_time setup part t.log ≡ high_time setup part s.log → GoesOn setup part s.raid t.raid → FitsPart setup part sprig s → FitsPart setup part sprig t
+    → high_time setup part t.log ≡ high_time setup part s.log → RaidGoesOn setup part s.raid t.raid → FitsPart setup part sprig s → FitsPart setup part sprig t
 fits_alike setup part sprig s t same times on fits = record {
   exists = fits.exists;
   entries = entries_alike setup part sprig s t same times fits.entries;
   marks = marks_alike setup part sprig.entries s.raid t.raid on fits.marks;
 }
 
-stays_on : (setup : Setup) (part : ℕ) (raid : RaidState) → GoesOn setup part raid raid
+stays_on : (setup : Setup) (part : ℕ) (raid : RaidState) → RaidGoesOn setup part raid raid
 stays_on setup part raid = record { number = refl; runs = refl; marks = refl; turn = λ off. off }
 
 -- ---- steps of the book alone
@@ -92,9 +92,9 @@ fits_raid setup part sprig s raid marks fits = record {
   marks = marks;
 }
 
-pub none_pass : (test : Entry → Bool) (es : List Entry) → AllByRecursion (λ e. test e ≡ false) es → [] ≡ digests_of (filter test es)
+pub none_pass : (test : Entry → Bool) (es : List Entry) → AllByRecursion (λ e. test e ≡ false) es → [] ≡ digests_in (filter test es)
 none_pass test [] all = refl
-none_pass test (e ∷ es) all = none_pass test es all.1 ∙ ap digests_of (sym (cond-false (test e) (e ∷ filter test es) (filter test es) all.0))
+none_pass test (e ∷ es) all = none_pass test es all.1 ∙ ap digests_in (sym (cond-false (test e) (e ∷ filter test es) (filter test es) all.0))
 
 pub each_of : (P Q : Entry → Type 0) (es : List Entry) → ((e : Entry) → P e → Q e) → AllByRecursion P es → AllByRecursion Q es
 each_of P Q [] step all = tt
@@ -175,7 +175,7 @@ none_of_part setup part other test (x ∷ xs) apart = by (part_of setup x == oth
     by true is false rest = rest
     by false is b rest = rest
 
-marked_on : (setup : Setup) (part other now : ℕ) (s : State) → part < part_total setup → other ≢ part → s.raid.next ≡ mark_turn other → GoesOn setup part s.raid (after_step setup (marked_part other now) s).raid
+marked_on : (setup : Setup) (part other now : ℕ) (s : State) → part < part_total setup → other ≢ part → s.raid.next ≡ mark_turn other → RaidGoesOn setup part s.raid (after_step setup (marked_part other now) s).raid
 unfolding after_step
 marked_on setup part other now s exists apart at = record {
   number = refl;
@@ -195,7 +195,7 @@ marked_on setup part other now s exists apart at = record {
     turn true off = le-ltb part other (let le = ltb-false part (other + 1) off in omega (arith, le))
     turn false off = absurd (false≢true (sym off))
 
-scanned_on : (setup : Setup) (part block : ℕ) (copies : List (Digest × Stamp)) (s : State) → s.raid.next ≡ scan_turn block → GoesOn setup part s.raid (after_step setup (scanned_block copies) s).raid
+scanned_on : (setup : Setup) (part block : ℕ) (copies : List (Digest × Stamp)) (s : State) → s.raid.next ≡ scan_turn block → RaidGoesOn setup part s.raid (after_step setup (scanned_block copies) s).raid
 unfolding after_step
 scanned_on setup part block copies s at = record {
   number = refl;
@@ -219,7 +219,7 @@ none_found setup part other s (f ∷ found) d apart mine = by (part_of setup f.0
         ap (λ (b : Bool). (b && is_older_than (stamp_of (entry s d)) f.1) || has_older s inner d) (other_part setup part d f.0 mine differs) ∙ rest
     by false is rest = rest
 
-compared_on : (setup : Setup) (part other : ℕ) (s : State) → other ≢ part → s.raid.next ≡ apply_turn other → GoesOn setup part s.raid (after_step setup (compared_part other) s).raid
+compared_on : (setup : Setup) (part other : ℕ) (s : State) → other ≢ part → s.raid.next ≡ apply_turn other → RaidGoesOn setup part s.raid (after_step setup (compared_part other) s).raid
 unfolding after_step
 compared_on setup part other s apart at = record {
   number = refl;

@@ -15,7 +15,7 @@ use Rattle.device_model.specs.Device.{State, Log, history, history_of, entry, en
 use Rattle.device_model.specs.Steps.{part_total}
 use Rattle.rec_format.proofs.Laws.{same_digest_is, later_test}
 use Rattle.block_format.specs.Layout.{Body}
-use Rattle.block_format.specs.Copies.{Copy, copies_of, copies_named, cold_copy, version_of}
+use Rattle.block_format.specs.Copies.{Copy, copies_of, copies_named, cold_copy, version_of, entry_for}
 use Rattle.recovery.specs.Sound.{NoStrays, IsSound}
 use Rattle.recovery.specs.Start.{live_copy, same_write, is_later_item, with_copy, log_of, start_state, entries_state}
 use Rattle.recovery.specs.Cold.{copies_high, later_one}
@@ -28,9 +28,9 @@ use Rattle.recovery.proofs.StartLive.{start_live, entries_live}
 use Rattle.sprig_tree.specs.Entries.{IsInDigestOrder, entry_of}
 use Rattle.sprig_tree.specs.State.{SprigState}
 use Rattle.part_laws.specs.Fits.{IsShown, HasNone, has_mark, HasMarks, FitsPart}
-use Rattle.part_laws.specs.Becoming.{with_put, Takes}
+use Rattle.part_laws.specs.Becoming.{with_put, TakesEntry}
 use Rattle.part_laws.specs.Parts.{FitsParts}
-use Rattle.part_laws.specs.Starting.{entry_for, entry_chosen, HasChosen, HasLatest, first_named, TakesCopy}
+use Rattle.part_laws.specs.Starting.{entry_chosen, HasChosen, HasLatest, first_named, TakesCopy}
 use Rattle.part_laws.proofs.Alike.{Says}
 use Rattle.part_laws.proofs.Device.{each_with}
 use Rattle.part_laws.proofs.Ordered.{each_entry}
@@ -145,7 +145,7 @@ module _ (setup : Setup) (part : ℕ) (copies : List Copy) (c : Copy) (old new :
           subst (λ (n : ℕ). e.stamp.lut ≤ n) (sym h.high) (subst (λ (y : Entry). y.stamp.lut ≤ copies_high setup part copies) x.2 below)
 
   -- its entry is taken where it is what is found then
-  takes_found : later_one (cold_copy c.digest copies) c ≡ c → Takes (entry_for c) old new → HasLatest setup part (copies ++ c ∷ []) new
+  takes_found : later_one (cold_copy c.digest copies) c ≡ c → TakesEntry (entry_for c) old new → HasLatest setup part (copies ++ c ∷ []) new
   takes_found is takes = record {
     order = subst IsInDigestOrder (sym takes.entries) (put_order (entry_for c) old.entries h.order);
     shown = λ d. shown_more d (ap (entry_of d) takes.entries ∙ by d (same_digest d c.digest) refl);
@@ -179,16 +179,16 @@ module _ (setup : Setup) (part : ℕ) (copies : List Copy) (c : Copy) (old new :
       later : (x : Copy) → cold_copy c.digest copies ≡ Some x → is_later c.version x.version ≡ true → later_one (cold_copy c.digest copies) c ≡ c
       later x is is_later_one = ap (λ (o : Option Copy). later_one o c) is ∙ cond-true (is_later c.version x.version) c x is_later_one
 
-      compared : (x : Copy) → cold_copy c.digest copies ≡ Some x → x.version.stamp.lut ≤ old.hw → (b : Bool) → is_later c.version x.version ≡ b → MatchBool b (Takes (entry_for c) old new) (new ≡ old) → HasLatest setup part (copies ++ c ∷ []) new
+      compared : (x : Copy) → cold_copy c.digest copies ≡ Some x → x.version.stamp.lut ≤ old.hw → (b : Bool) → is_later c.version x.version ≡ b → MatchBool b (TakesEntry (entry_for c) old new) (new ≡ old) → HasLatest setup part (copies ++ c ∷ []) new
       compared x is below true is_later_one t = takes_found (later x is is_later_one) t
       compared x is below false none same = stays x is none below same
 
-      by : (o : Option Entry) → entry_of c.digest old.entries ≡ o → MatchOption o (Takes (entry_for c) old new) (λ e. MatchBool (is_later_stamp c.version.stamp e.stamp) (Takes (entry_for c) old new) (new ≡ old)) → HasLatest setup part (copies ++ c ∷ []) new
+      by : (o : Option Entry) → entry_of c.digest old.entries ≡ o → MatchOption o (TakesEntry (entry_for c) old new) (λ e. MatchBool (is_later_stamp c.version.stamp e.stamp) (TakesEntry (entry_for c) old new) (new ≡ old)) → HasLatest setup part (copies ++ c ∷ []) new
       by None is t = takes_found (ap (λ (o : Option Copy). later_one o c) (chosen_none (cold_copy c.digest copies) (sym found_here ∙ is))) t
       by (Some e) is t =
           let x = chosen_some (cold_copy c.digest copies) e (sym found_here ∙ is) in
           compared x.0 x.1 (subst (λ (y : Entry). y.stamp.lut ≤ old.hw) (sym x.2) (below_high c.digest e is)) (is_later c.version x.0.version) refl
-          (subst (λ (y : Entry). MatchBool (is_later_stamp c.version.stamp y.stamp) (Takes (entry_for c) old new) (new ≡ old)) (sym x.2) t)
+          (subst (λ (y : Entry). MatchBool (is_later_stamp c.version.stamp y.stamp) (TakesEntry (entry_for c) old new) (new ≡ old)) (sym x.2) t)
 
 -- an empty sprig has none
 pub none_yet : (setup : Setup) (part spare : ℕ) → HasLatest setup part [] (record { entries = []; hw = 0; spare = spare })

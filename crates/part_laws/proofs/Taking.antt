@@ -10,16 +10,17 @@ use Rattle.rec_format.specs.declared.entry.Entry.{Entry}
 use Rattle.rec_format.specs.Places.{same_digest}
 use Rattle.rec_format.specs.Versions.{version_units}
 use Rattle.device_model.specs.Histories.{Item, write, dropped, rid, cleared, top_of, is_covered}
-use Rattle.device_model.specs.Book.{Setup, Book, Live, client, defrag, live_of, placing_number, placed, dropped_live}
+use Rattle.device_model.specs.Book.{Setup, Book, Live, client, defrag, live_of, placing_number, placed, dropped_live, live_of_entry}
 use Rattle.device_model.specs.Device.{State, RaidState, history, entry, entry_is_covered, part_of, high_time, item_time}
 use Rattle.device_model.specs.Steps.{wrote, moved, removed, rid_of, uncovered, after_step, with_item, without_mark, moved_state}
 use Rattle.rec_format.proofs.Laws.{same_digest_is}
 use Rattle.device_model.proofs.Laws.{history_hit, TimesUpTo, times_of_part}
-use Rattle.sprig_tree.specs.Entries.{digests_of, IsInDigestOrder, entry_of, with_entry, with_replaced, without_digest}
+use Rattle.sprig_tree.specs.Entries.{digests_in, IsInDigestOrder, entry_of, with_entry, with_replaced, without_digest}
 use Rattle.sprig_tree.specs.State.{SprigState}
 use Rattle.sprig_tree.proofs.Laws.{entry_of-with_entry_same, entry_of-with_entry_other, entry_of-with_replaced_same, entry_of-with_replaced_other, entry_of-without_digest_same, entry_of-without_digest_other, entry_of-digest, order-with_entry, order-with_replaced, order-without_digest}
-use Rattle.part_laws.specs.Fits.{IsShown, HasNone, live_of_entry, HasEntries, is_running, has_mark, marks_of, HasMarks, FitsPart}
-use Rattle.part_laws.specs.Becoming.{entry_at, with_put, Takes, Replaces, Loses, moved_to, without_cover}
+use Rattle.part_laws.specs.Fits.{IsShown, HasNone, HasEntries, is_running, has_mark, marks_of, HasMarks, FitsPart}
+use Rattle.part_laws.specs.Becoming.{with_put, TakesEntry, Replaces, Loses, moved_to, without_cover}
+use Rattle.rec_format.specs.Entries.{entry_at}
 use Rattle.part_laws.proofs.Alike.{SaysSame, Says, says_alike}
 use Rattle.part_laws.proofs.Edits.{passing_replaced, passing_entry, passing_without, passing_alike, each_replaced, each_entered, each_without}
 use Rattle.part_laws.proofs.Logged.{moved_top, moved_covered, moved_times, placed_other, dropped_other, dropped_gone}
@@ -51,13 +52,13 @@ module _ (e : Entry) (es : List Entry) where
   put_each : (P : Entry → Type 0) → P e → AllByRecursion P es → AllByRecursion P (with_put e es)
   put_each P here all = put_cases (AllByRecursion P) (λ _. each_entered P e es here all) (λ _. each_replaced P e es here all)
 
-  put_passing : (test : Entry → Bool) → test e ≡ false → digests_of (filter test (with_put e es)) ≡ without_mark e.digest (digests_of (filter test es))
-  put_passing test off = put_cases (λ l. digests_of (filter test l) ≡ without_mark e.digest (digests_of (filter test es))) (passing_entry test e es off) (λ _. passing_replaced test e es off)
+  put_passing : (test : Entry → Bool) → test e ≡ false → digests_in (filter test (with_put e es)) ≡ without_mark e.digest (digests_in (filter test es))
+  put_passing test off = put_cases (λ l. digests_in (filter test l) ≡ without_mark e.digest (digests_in (filter test es))) (passing_entry test e es off) (λ _. passing_replaced test e es off)
 
 -- ---- what is shown then
 
 -- an entry is put that the state shows, and of other digests the same is said as before
-pub entries_take : (setup : Setup) (part : ℕ) (old new : SprigState) (s t : State) (e : Entry) → Takes e old new → part_of setup e.digest ≡ part → IsShown t e.digest e
+pub entries_take : (setup : Setup) (part : ℕ) (old new : SprigState) (s t : State) (e : Entry) → TakesEntry e old new → part_of setup e.digest ≡ part → IsShown t e.digest e
     → ((d : Digest) → same_digest d e.digest ≡ false → SaysSame s t d) → high_time setup part t.log ≡ max (high_time setup part s.log) e.stamp.lut → HasEntries setup part old s → HasEntries setup part new t
 entries_take setup part old new s t e takes mine is others high h = record {
   order = subst IsInDigestOrder (sym takes.entries) (put_order e old.entries h.order);
@@ -104,7 +105,7 @@ swapped p q (x ∷ xs) = by (q x) refl (p x) refl (swapped p q xs)
 
 -- a digest is no longer marked
 pub marks_lose : (setup : Setup) (part : ℕ) (old new : List Entry) (raid : RaidState) (digest : Digest) → AllByRecursion (λ e. e.mark ≤ raid.number) new
-    → digests_of (filter (has_mark raid) new) ≡ without_mark digest (digests_of (filter (has_mark raid) old)) → HasMarks setup part old raid
+    → digests_in (filter (has_mark raid) new) ≡ without_mark digest (digests_in (filter (has_mark raid) old)) → HasMarks setup part old raid
     → HasMarks setup part new (record raid { marked = without_mark digest raid.marked })
 marks_lose setup part old new raid digest most passing h = record {
   most = most;
@@ -149,7 +150,7 @@ same_high setup part s digest item book mine zero = item_high setup part s diges
     none a = omega arith
 
 -- an item with an entry that is shown then, and has no mark
-fits_put : (setup : Setup) (part : ℕ) (old new : SprigState) (s : State) (item : Item) (book : Book) (e : Entry) → part_of setup e.digest ≡ part → e.mark ≡ 0 → Takes e old new
+fits_put : (setup : Setup) (part : ℕ) (old new : SprigState) (s : State) (item : Item) (book : Book) (e : Entry) → part_of setup e.digest ≡ part → e.mark ≡ 0 → TakesEntry e old new
     → IsShown (with_item e.digest item book s) e.digest e → ((d : Digest) → same_digest d e.digest ≡ false → live_of d book.live ≡ live_of d s.book.live)
     → high_time setup part (with_item e.digest item book s).log ≡ max (high_time setup part s.log) e.stamp.lut → FitsPart setup part old s → FitsPart setup part new (with_item e.digest item book s)
 fits_put setup part old new s item book e mine zero takes is live high fits =
@@ -180,7 +181,7 @@ fits_lost setup part old new s digest item mine loses zero gone fits =
 
 -- A version is written: the sprig takes its entry, which isn't marked.
 pub wrote_fits : (setup : Setup) (part : ℕ) (old new : SprigState) (s : State) (digest : Digest) (v : Version) (block unit : ℕ) → part_of setup digest ≡ part
-    → live_of digest (after_step setup (wrote digest v) s).book.live ≡ Some (live_of_entry (entry_at digest v block unit)) → Takes (entry_at digest v block unit) old new
+    → live_of digest (after_step setup (wrote digest v) s).book.live ≡ Some (live_of_entry (entry_at digest v block unit)) → TakesEntry (entry_at digest v block unit) old new
     → FitsPart setup part old s → FitsPart setup part new (after_step setup (wrote digest v) s)
 unfolding after_step
 wrote_fits setup part old new s digest v block unit mine place takes fits =
@@ -234,7 +235,7 @@ time_below setup part sprig s d e h found =
 pub times_below : (setup : Setup) (part : ℕ) (sprig : SprigState) (s : State) → HasEntries setup part sprig s → AllByRecursion (λ e. e.stamp.lut ≤ sprig.hw) sprig.entries
 times_below setup part sprig s h = each_entry (λ e. e.stamp.lut ≤ sprig.hw) sprig.entries h.order (λ d e found. time_below setup part sprig s d e h found)
 
-replaces_takes : (e : Entry) (old new : SprigState) → is_some (entry_of e.digest old.entries) ≡ true → Replaces e old new → Takes e old new
+replaces_takes : (e : Entry) (old new : SprigState) → is_some (entry_of e.digest old.entries) ≡ true → Replaces e old new → TakesEntry e old new
 replaces_takes e old new there r = record { entries = r.entries ∙ sym (cond-true (is_some (entry_of e.digest old.entries)) (with_replaced e old.entries) (with_entry e old.entries) there); high = r.high }
 
 no_higher : (a b : ℕ) → b ≤ a → a ≡ max a b

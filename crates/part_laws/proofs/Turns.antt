@@ -16,7 +16,7 @@ use Rattle.sprig_tree.proofs.Digests.{digest_order, not_before_below, not_before
 use Rattle.sprig_tree.proofs.Lists.{weaker, find_behind, slice_get-drop}
 use Rattle.sprig_tree.proofs.Order.{sides}
 use Rattle.sprig_tree.proofs.Parted.{AllBelow, AllAbove, entry_of_behind, entry_of_here, entry_after_above, with_replaced-between, without_digest_behind, without_digest_here}
-use Rattle.part_laws.specs.Becoming.{with_mark, remarked, ended_entry, ended}
+use Rattle.part_laws.specs.Becoming.{with_mark, remarked, ended_entry, raid_ended}
 use Rattle.part_laws.proofs.Walks.{left_digest}
 
 -- ---- what was gone over stands below the rest
@@ -25,11 +25,11 @@ below_remarked : (m : Entry → ℕ) (d : Digest) (es : List Entry) → AllBelow
 below_remarked m d [] below = tt
 below_remarked m d (e ∷ es) below = (below.0, below_remarked m d es below.1)
 
-below_left : (raid : RaidState) (d : Digest) (es : List Entry) → AllBelow d es → AllBelow d (ended raid es)
+below_left : (raid : RaidState) (d : Digest) (es : List Entry) → AllBelow d es → AllBelow d (raid_ended raid es)
 below_left raid d [] below = tt
 below_left raid d (e ∷ es) below = by (ended_entry raid e) refl (below_left raid d es below.1)
   where
-    by : (o : Option Entry) → ended_entry raid e ≡ o → AllBelow d (ended raid es) → AllBelow d (cons_option o (ended raid es))
+    by : (o : Option Entry) → ended_entry raid e ≡ o → AllBelow d (raid_ended raid es) → AllBelow d (cons_option o (raid_ended raid es))
     by None is rest = rest
     by (Some x) is rest = (ap (λ (k : Digest). digest_cmp k d) (left_digest raid e x is) ∙ below.0, rest)
 
@@ -76,29 +76,29 @@ module _ (front rest : List Entry) (e : Entry) (order : IsInDigestOrder (front +
 
   -- ---- ends
 
-  pub ends_below : (raid : RaidState) → AllBelow e.digest (ended raid front)
+  pub ends_below : (raid : RaidState) → AllBelow e.digest (raid_ended raid front)
   ends_below raid = below_left raid e.digest front (sides front rest e order).0
 
-  ended_more : (raid : RaidState) (o : Option Entry) → ended_entry raid e ≡ o → ended raid (front ++ e ∷ []) ≡ ended raid front ++ cons_option o []
-  ended_more raid o is = filter_map-append (ended_entry raid) front (e ∷ []) ∙ ap (λ (x : Option Entry). ended raid front ++ cons_option x []) is
+  ended_more : (raid : RaidState) (o : Option Entry) → ended_entry raid e ≡ o → raid_ended raid (front ++ e ∷ []) ≡ raid_ended raid front ++ cons_option o []
+  ended_more raid o is = filter_map-append (ended_entry raid) front (e ∷ []) ∙ ap (λ (x : Option Entry). raid_ended raid front ++ cons_option x []) is
 
   -- the next entry goes
-  pub end_goes : (raid : RaidState) → ended_entry raid e ≡ None → without_digest e.digest (ended raid front ++ e ∷ rest) ≡ ended raid (front ++ e ∷ []) ++ rest
+  pub end_goes : (raid : RaidState) → ended_entry raid e ≡ None → without_digest e.digest (raid_ended raid front ++ e ∷ rest) ≡ raid_ended raid (front ++ e ∷ []) ++ rest
   end_goes raid goes =
-      without_digest_behind e.digest (ended raid front) (e ∷ rest) (ends_below raid)
-      ∙ ap (λ (l : List Entry). ended raid front ++ l) (without_digest_here e.digest e rest (itself e.digest) (sides front rest e order).1)
-      ∙ ap (λ (l : List Entry). l ++ rest) (sym (ended_more raid None goes ∙ append-nil (ended raid front)))
+      without_digest_behind e.digest (raid_ended raid front) (e ∷ rest) (ends_below raid)
+      ∙ ap (λ (l : List Entry). raid_ended raid front ++ l) (without_digest_here e.digest e rest (itself e.digest) (sides front rest e order).1)
+      ∙ ap (λ (l : List Entry). l ++ rest) (sym (ended_more raid None goes ∙ append-nil (raid_ended raid front)))
 
   -- or another comes in its place
-  pub end_becomes : (raid : RaidState) (to : Entry) → ended_entry raid e ≡ Some to → with_replaced to (ended raid front ++ e ∷ rest) ≡ ended raid (front ++ e ∷ []) ++ rest
+  pub end_becomes : (raid : RaidState) (to : Entry) → ended_entry raid e ≡ Some to → with_replaced to (raid_ended raid front ++ e ∷ rest) ≡ raid_ended raid (front ++ e ∷ []) ++ rest
   end_becomes raid to is =
-      placed (ended raid front) to (ends_below raid) (left_digest raid e to is)
-      ∙ sym (append_assoc (ended raid front) (to ∷ []) rest)
+      placed (raid_ended raid front) to (ends_below raid) (left_digest raid e to is)
+      ∙ sym (append_assoc (raid_ended raid front) (to ∷ []) rest)
       ∙ ap (λ (l : List Entry). l ++ rest) (sym (ended_more raid (Some to) is))
 
   -- or it stays as it is
-  pub end_stays : (raid : RaidState) → ended_entry raid e ≡ Some e → ended raid front ++ e ∷ rest ≡ ended raid (front ++ e ∷ []) ++ rest
-  end_stays raid is = sym (append_assoc (ended raid front) (e ∷ []) rest) ∙ ap (λ (l : List Entry). l ++ rest) (sym (ended_more raid (Some e) is))
+  pub end_stays : (raid : RaidState) → ended_entry raid e ≡ Some e → raid_ended raid front ++ e ∷ rest ≡ raid_ended raid (front ++ e ∷ []) ++ rest
+  end_stays raid is = sym (append_assoc (raid_ended raid front) (e ∷ []) rest) ∙ ap (λ (l : List Entry). l ++ rest) (sym (ended_more raid (Some e) is))
 
 -- ---- by place
 
@@ -144,32 +144,32 @@ module _ (old : List Entry) (i : ℕ) (e : Entry) (at : slice_get old i ≡ Some
       ∙ slice_get-drop old (i + 1)
 
   -- the same where a drop turn has gone over those before it
-  pub end_found : (raid : RaidState) → entry_of e.digest (ended raid front ++ drop i old) ≡ Some e
+  pub end_found : (raid : RaidState) → entry_of e.digest (raid_ended raid front ++ drop i old) ≡ Some e
   end_found raid =
-      ap (λ (l : List Entry). entry_of e.digest (ended raid front ++ l)) dropped_at
-      ∙ entry_of_behind e.digest (ended raid front) (e ∷ rest) (ends_below front rest e parted_at raid) ∙ entry_of_here e.digest e rest (itself e.digest)
+      ap (λ (l : List Entry). entry_of e.digest (raid_ended raid front ++ l)) dropped_at
+      ∙ entry_of_behind e.digest (raid_ended raid front) (e ∷ rest) (ends_below front rest e parted_at raid) ∙ entry_of_here e.digest e rest (itself e.digest)
 
-  pub goes_at : (raid : RaidState) → ended_entry raid e ≡ None → without_digest e.digest (ended raid front ++ drop i old) ≡ ended raid (take (i + 1) old) ++ rest
+  pub goes_at : (raid : RaidState) → ended_entry raid e ≡ None → without_digest e.digest (raid_ended raid front ++ drop i old) ≡ raid_ended raid (take (i + 1) old) ++ rest
   goes_at raid goes =
-      ap (λ (l : List Entry). without_digest e.digest (ended raid front ++ l)) dropped_at ∙ end_goes front rest e parted_at raid goes ∙ ap (λ (l : List Entry). ended raid l ++ rest) (sym taken_at)
+      ap (λ (l : List Entry). without_digest e.digest (raid_ended raid front ++ l)) dropped_at ∙ end_goes front rest e parted_at raid goes ∙ ap (λ (l : List Entry). raid_ended raid l ++ rest) (sym taken_at)
 
-  pub becomes_at : (raid : RaidState) (to : Entry) → ended_entry raid e ≡ Some to → with_replaced to (ended raid front ++ drop i old) ≡ ended raid (take (i + 1) old) ++ rest
+  pub becomes_at : (raid : RaidState) (to : Entry) → ended_entry raid e ≡ Some to → with_replaced to (raid_ended raid front ++ drop i old) ≡ raid_ended raid (take (i + 1) old) ++ rest
   becomes_at raid to is =
-      ap (λ (l : List Entry). with_replaced to (ended raid front ++ l)) dropped_at ∙ end_becomes front rest e parted_at raid to is ∙ ap (λ (l : List Entry). ended raid l ++ rest) (sym taken_at)
+      ap (λ (l : List Entry). with_replaced to (raid_ended raid front ++ l)) dropped_at ∙ end_becomes front rest e parted_at raid to is ∙ ap (λ (l : List Entry). raid_ended raid l ++ rest) (sym taken_at)
 
-  pub left_at : (raid : RaidState) → ended_entry raid e ≡ Some e → ended raid front ++ drop i old ≡ ended raid (take (i + 1) old) ++ rest
-  left_at raid is = ap (λ (l : List Entry). ended raid front ++ l) dropped_at ∙ end_stays front rest e parted_at raid is ∙ ap (λ (l : List Entry). ended raid l ++ rest) (sym taken_at)
+  pub left_at : (raid : RaidState) → ended_entry raid e ≡ Some e → raid_ended raid front ++ drop i old ≡ raid_ended raid (take (i + 1) old) ++ rest
+  left_at raid is = ap (λ (l : List Entry). raid_ended raid front ++ l) dropped_at ∙ end_stays front rest e parted_at raid is ∙ ap (λ (l : List Entry). raid_ended raid l ++ rest) (sym taken_at)
 
-  pub next_left_at : (raid : RaidState) → entry_after (Some e.digest) (ended raid (take (i + 1) old) ++ rest) ≡ slice_get old (i + 1)
-  next_left_at raid = ap (λ (l : List Entry). entry_after (Some e.digest) (ended raid l ++ rest)) taken_at ∙ by (ended_entry raid e) refl ∙ slice_get-drop old (i + 1)
+  pub next_left_at : (raid : RaidState) → entry_after (Some e.digest) (raid_ended raid (take (i + 1) old) ++ rest) ≡ slice_get old (i + 1)
+  next_left_at raid = ap (λ (l : List Entry). entry_after (Some e.digest) (raid_ended raid l ++ rest)) taken_at ∙ by (ended_entry raid e) refl ∙ slice_get-drop old (i + 1)
     where
-      below : AllBelow e.digest (ended raid front)
+      below : AllBelow e.digest (raid_ended raid front)
       below = ends_below front rest e parted_at raid
 
-      by : (o : Option Entry) → ended_entry raid e ≡ o → entry_after (Some e.digest) (ended raid (front ++ e ∷ []) ++ rest) ≡ slice_get rest 0
+      by : (o : Option Entry) → ended_entry raid e ≡ o → entry_after (Some e.digest) (raid_ended raid (front ++ e ∷ []) ++ rest) ≡ slice_get rest 0
       by None is =
-          ap (λ (l : List Entry). entry_after (Some e.digest) (l ++ rest)) (ended_more front rest e parted_at raid None is ∙ append-nil (ended raid front)) ∙ next_is front rest e parted_at (ended raid front) below
+          ap (λ (l : List Entry). entry_after (Some e.digest) (l ++ rest)) (ended_more front rest e parted_at raid None is ∙ append-nil (raid_ended raid front)) ∙ next_is front rest e parted_at (raid_ended raid front) below
       by (Some to) is =
           ap (λ (l : List Entry). entry_after (Some e.digest) (l ++ rest)) (ended_more front rest e parted_at raid (Some to) is)
-          ∙ ap (entry_after (Some e.digest)) (append_assoc (ended raid front) (to ∷ []) rest)
-          ∙ next_with front rest e parted_at (ended raid front) to below (left_digest raid e to is)
+          ∙ ap (entry_after (Some e.digest)) (append_assoc (raid_ended raid front) (to ∷ []) rest)
+          ∙ next_with front rest e parted_at (raid_ended raid front) to below (left_digest raid e to is)

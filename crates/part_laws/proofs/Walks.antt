@@ -16,14 +16,14 @@ use Rattle.device_model.specs.Device.{State, RaidState, entry, entry_passes}
 use Rattle.device_model.specs.Passes.{is_behind, expired_behind}
 use Rattle.device_model.specs.Legal.{marked_in, marked_tombstones}
 use Rattle.rec_format.proofs.Laws.{same_digest_is, same_digest_refl}
-use Rattle.sprig_tree.specs.Entries.{digests_of, IsInDigestOrder, entry_of}
+use Rattle.sprig_tree.specs.Entries.{digests_in, IsInDigestOrder, entry_of}
 use Rattle.sprig_tree.specs.State.{SprigState}
 use Rattle.sprig_tree.proofs.Order.{order_first, order_rest}
 use Rattle.sprig_tree.proofs.Parted.{entry_of_above}
 use Rattle.sprig_tree.proofs.Laws.{entry_of-digest}
 use Rattle.part_laws.specs.Fits.{HasEntries, has_mark, FitsPart}
-use Rattle.part_laws.specs.Tests.{is_tombstone_entry, is_expired_entry, is_among, passes}
-use Rattle.part_laws.specs.Becoming.{with_mark, without_cover, remarked, ended_entry, ended}
+use Rattle.part_laws.specs.Tests.{is_tombstone_entry, is_expired_entry, has_digest, passes_test}
+use Rattle.part_laws.specs.Becoming.{with_mark, without_cover, remarked, ended_entry, raid_ended}
 use Rattle.part_laws.proofs.Ordered.{AreInOrder, IsBelowAll, one_order, each_entry, among_entries}
 use Rattle.part_laws.proofs.Showing.{expired_is, marked_are}
 use Rattle.part_laws.proofs.Spared.{none_pass}
@@ -39,12 +39,12 @@ found_first : (x : Entry) (xs : List Entry) → entry_of x.digest (x ∷ xs) ≡
 found_first x xs = cond-true (same_digest x.digest x.digest) (Some x) (entry_of x.digest xs) (same_digest_refl x.digest)
 
 -- of a digest that comes before all entries there is none
-none_before : (d : Digest) (es : List Entry) → IsBelowAll d (digests_of es) → entry_of d es ≡ None
+none_before : (d : Digest) (es : List Entry) → IsBelowAll d (digests_in es) → entry_of d es ≡ None
 none_before d [] below = refl
 none_before d (e ∷ es) below = cond-false (same_digest d e.digest) (Some e) (entry_of d es) (ap is_eq below.0) ∙ none_before d es below.1
 
 -- lists with the same digests in which each look-up finds the same are one
-same_entries : (xs ys : List Entry) → IsInDigestOrder xs → IsInDigestOrder ys → ((d : Digest) → entry_of d xs ≡ entry_of d ys) → digests_of xs ≡ digests_of ys → xs ≡ ys
+same_entries : (xs ys : List Entry) → IsInDigestOrder xs → IsInDigestOrder ys → ((d : Digest) → entry_of d xs ≡ entry_of d ys) → digests_in xs ≡ digests_in ys → xs ≡ ys
 same_entries [] [] first second same digests = refl
 same_entries [] (y ∷ ys) first second same digests = absurd cc
 same_entries (x ∷ xs) [] first second same digests = absurd cc
@@ -55,7 +55,7 @@ same_entries (x ∷ xs) (y ∷ ys) first second same digests =
     heads : x.digest ≡ y.digest
     heads = cc
 
-    tails : digests_of xs ≡ digests_of ys
+    tails : digests_in xs ≡ digests_in ys
     tails = cc
 
     rest : (d : Digest) (b : Bool) → same_digest d x.digest ≡ b → entry_of d xs ≡ entry_of d ys
@@ -74,9 +74,9 @@ all_pass (e ∷ es) = ap (λ (l : List Entry). e ∷ l) (all_pass es)
 pub same_lookups : (xs ys : List Entry) → IsInDigestOrder xs → IsInDigestOrder ys → ((d : Digest) → entry_of d xs ≡ entry_of d ys) → xs ≡ ys
 same_lookups xs ys first second same =
     same_entries xs ys first second same
-    (one_order (digests_of xs) (digests_of ys) first second (λ d.
-    ap (λ (l : List Entry). is_among (digests_of l) d) (sym (all_pass xs)) ∙ among_entries (λ e. true) d xs first ∙ ap (passes (λ e. true)) (same d)
-    ∙ sym (among_entries (λ e. true) d ys second) ∙ ap (λ (l : List Entry). is_among (digests_of l) d) (all_pass ys)))
+    (one_order (digests_in xs) (digests_in ys) first second (λ d.
+    ap (λ (l : List Entry). has_digest (digests_in l) d) (sym (all_pass xs)) ∙ among_entries (λ e. true) d xs first ∙ ap (passes_test (λ e. true)) (same d)
+    ∙ sym (among_entries (λ e. true) d ys second) ∙ ap (λ (l : List Entry). has_digest (digests_in l) d) (all_pass ys)))
 
 -- a list whose look-ups find other marks is that list with other marks
 pub remarked_by : (m : Entry → ℕ) (old new : List Entry) → IsInDigestOrder old → IsInDigestOrder new → ((d : Digest) → entry_of d new ≡ option_map (λ (e : Entry). with_mark (m e) e) (entry_of d old)) → new ≡ remarked m old
@@ -98,47 +98,47 @@ left_digest raid e x is = by (has_mark raid e) (is_tombstone_entry e) is
     by true false h = ap (λ (y : Entry). y.digest) (sym (some_entry (without_cover e) x h))
     by false b h = ap (λ (y : Entry). y.digest) (sym (some_entry e x h))
 
-below_ended : (raid : RaidState) (d : Digest) (es : List Entry) → IsBelowAll d (digests_of es) → IsBelowAll d (digests_of (ended raid es))
+below_ended : (raid : RaidState) (d : Digest) (es : List Entry) → IsBelowAll d (digests_in es) → IsBelowAll d (digests_in (raid_ended raid es))
 below_ended raid d [] below = tt
 below_ended raid d (e ∷ es) below = by (ended_entry raid e) refl (below_ended raid d es below.1)
   where
-    by : (o : Option Entry) → ended_entry raid e ≡ o → IsBelowAll d (digests_of (ended raid es)) → IsBelowAll d (digests_of (cons_option o (ended raid es)))
+    by : (o : Option Entry) → ended_entry raid e ≡ o → IsBelowAll d (digests_in (raid_ended raid es)) → IsBelowAll d (digests_in (cons_option o (raid_ended raid es)))
     by None is rest = rest
     by (Some x) is rest = (ap (digest_cmp d) (left_digest raid e x is) ∙ below.0, rest)
 
-ended_order : (raid : RaidState) (es : List Entry) → IsInDigestOrder es → IsInDigestOrder (ended raid es)
+ended_order : (raid : RaidState) (es : List Entry) → IsInDigestOrder es → IsInDigestOrder (raid_ended raid es)
 unfolding IsStrictlySortedBy
 ended_order raid [] order = tt
 ended_order raid (e ∷ es) order = by (ended_entry raid e) refl (ended_order raid es order.1)
   where
-    by : (o : Option Entry) → ended_entry raid e ≡ o → IsInDigestOrder (ended raid es) → IsInDigestOrder (cons_option o (ended raid es))
+    by : (o : Option Entry) → ended_entry raid e ≡ o → IsInDigestOrder (raid_ended raid es) → IsInDigestOrder (cons_option o (raid_ended raid es))
     by None is rest = rest
-    by (Some x) is rest = (subst (λ (k : Digest). IsBelowAll k (digests_of (ended raid es))) (sym (left_digest raid e x is)) (below_ended raid e.digest es order.0), rest)
+    by (Some x) is rest = (subst (λ (k : Digest). IsBelowAll k (digests_in (raid_ended raid es))) (sym (left_digest raid e x is)) (below_ended raid e.digest es order.0), rest)
 
-ended_of : (raid : RaidState) (d : Digest) (es : List Entry) → IsInDigestOrder es → entry_of d (ended raid es) ≡ left_of raid (entry_of d es)
+ended_of : (raid : RaidState) (d : Digest) (es : List Entry) → IsInDigestOrder es → entry_of d (raid_ended raid es) ≡ left_of raid (entry_of d es)
 unfolding IsStrictlySortedBy
 ended_of raid d [] order = refl
 ended_of raid d (e ∷ es) order = by (ended_entry raid e) refl (same_digest d e.digest) refl (ended_of raid d es order.1)
   where
-    gone : same_digest d e.digest ≡ true → entry_of d (ended raid es) ≡ None
-    gone same = none_before d (ended raid es) (subst (λ (k : Digest). IsBelowAll k (digests_of (ended raid es))) (sym (same_digest_is d e.digest same)) (below_ended raid e.digest es order.0))
+    gone : same_digest d e.digest ≡ true → entry_of d (raid_ended raid es) ≡ None
+    gone same = none_before d (raid_ended raid es) (subst (λ (k : Digest). IsBelowAll k (digests_in (raid_ended raid es))) (sym (same_digest_is d e.digest same)) (below_ended raid e.digest es order.0))
 
-    by : (o : Option Entry) → ended_entry raid e ≡ o → (b : Bool) → same_digest d e.digest ≡ b → entry_of d (ended raid es) ≡ left_of raid (entry_of d es)
-        → entry_of d (cons_option o (ended raid es)) ≡ left_of raid (cond b (Some e) (entry_of d es))
+    by : (o : Option Entry) → ended_entry raid e ≡ o → (b : Bool) → same_digest d e.digest ≡ b → entry_of d (raid_ended raid es) ≡ left_of raid (entry_of d es)
+        → entry_of d (cons_option o (raid_ended raid es)) ≡ left_of raid (cond b (Some e) (entry_of d es))
     by None is true same rest = gone same ∙ sym is
     by None is false other rest = rest
-    by (Some x) is true same rest = cond-true (same_digest d x.digest) (Some x) (entry_of d (ended raid es)) (ap (same_digest d) (left_digest raid e x is) ∙ same) ∙ sym is
-    by (Some x) is false other rest = cond-false (same_digest d x.digest) (Some x) (entry_of d (ended raid es)) (ap (same_digest d) (left_digest raid e x is) ∙ other) ∙ rest
+    by (Some x) is true same rest = cond-true (same_digest d x.digest) (Some x) (entry_of d (raid_ended raid es)) (ap (same_digest d) (left_digest raid e x is) ∙ same) ∙ sym is
+    by (Some x) is false other rest = cond-false (same_digest d x.digest) (Some x) (entry_of d (raid_ended raid es)) (ap (same_digest d) (left_digest raid e x is) ∙ other) ∙ rest
 
 -- a list whose look-ups find what a drop turn leaves is what it leaves
-pub ended_by : (raid : RaidState) (old new : List Entry) → IsInDigestOrder old → IsInDigestOrder new → ((d : Digest) → entry_of d new ≡ left_of raid (entry_of d old)) → new ≡ ended raid old
-ended_by raid old new first second finds = same_lookups new (ended raid old) second (ended_order raid old first) (λ d. finds d ∙ sym (ended_of raid d old first))
+pub ended_by : (raid : RaidState) (old new : List Entry) → IsInDigestOrder old → IsInDigestOrder new → ((d : Digest) → entry_of d new ≡ left_of raid (entry_of d old)) → new ≡ raid_ended raid old
+ended_by raid old new first second finds = same_lookups new (raid_ended raid old) second (ended_order raid old first) (λ d. finds d ∙ sym (ended_of raid d old first))
 
 -- ---- what a sweep still finds, and what a drop turn counts
 
 module _ (setup : Setup) (part : ℕ) (sprig : SprigState) (s : State) where
   -- the expired entries of the part behind a digest
-  pub expired_behind_is : (now : ℕ) (last : Option Digest) → HasEntries setup part sprig s → expired_behind setup part now last s ≡ digests_of (filter (λ e. is_expired_entry now e && is_behind last e.digest) sprig.entries)
+  pub expired_behind_is : (now : ℕ) (last : Option Digest) → HasEntries setup part sprig s → expired_behind setup part now last s ≡ digests_in (filter (λ e. is_expired_entry now e && is_behind last e.digest) sprig.entries)
   expired_behind_is now last h =
       ap (filter (is_behind last)) (expired_is setup part sprig s h now)
       ∙ digests_filtered (is_behind last) (λ e. is_behind last e.digest) (is_expired_entry now) sprig.entries (each_entry (λ e. is_behind last e.digest ≡ is_behind last e.digest) sprig.entries h.order (λ d e found. refl))

@@ -4,15 +4,16 @@ use Rattle.std.proofs.lemmas.Bool.{false≢true}
 use Rattle.rec_format.specs.declared.version.Digest.{Digest}
 use Rattle.rec_format.specs.declared.version.Version.{Version}
 use Rattle.rec_format.specs.Versions.{version_units}
-use Rattle.device_model.specs.Book.{Setup, client, live_of, placing_number}
+use Rattle.device_model.specs.Book.{Setup, client, live_of, placing_number, live_of_entry}
 use Rattle.device_model.specs.Device.{State, part_of}
 use Rattle.device_model.specs.Steps.{Step, wrote, moved, removed, rid_of, uncovered, sealed_stream, gate_begun, flushed_buffer, closing_failed, raid_begun, raid_given_up, marked_part, scanned_block, compared_part, done_part, after_step, after_steps}
 use Rattle.device_model.specs.Events.{Event, Answer, after_event}
 use Rattle.device_model.specs.Legal.{WriteEnds, commit_seal, commit_flush}
 use Rattle.sprig_tree.specs.State.{SprigState}
-use Rattle.part_laws.specs.Fits.{live_of_entry, FitsPart}
+use Rattle.part_laws.specs.Fits.{FitsPart}
 use Rattle.part_laws.specs.Sparing.{Spares, is_of_book, AreOfBook}
-use Rattle.part_laws.specs.Becoming.{entry_at, Takes}
+use Rattle.part_laws.specs.Becoming.{TakesEntry}
+use Rattle.rec_format.specs.Entries.{entry_at}
 use Rattle.part_laws.proofs.Spared.{spared}
 use Rattle.part_laws.proofs.Events.{joined, stopped_of_book, commit_of_book, commit_flush_of_book}
 use Rattle.part_laws.proofs.Taking.{wrote_fits}
@@ -45,7 +46,7 @@ untouched_fits setup part sprig s event are fits = book_fits setup part sprig s 
 
 -- A version is written, and then the book alone changes.
 pub writing_fits : (setup : Setup) (part : ℕ) (old new : SprigState) (s : State) (event : Event) (digest : Digest) (v : Version) (block unit : ℕ) (rest : List Step) → event.steps ≡ wrote digest v ∷ rest → AreOfBook rest
-    → part_of setup digest ≡ part → live_of digest (after_step setup (wrote digest v) s).book.live ≡ Some (live_of_entry (entry_at digest v block unit)) → Takes (entry_at digest v block unit) old new
+    → part_of setup digest ≡ part → live_of digest (after_step setup (wrote digest v) s).book.live ≡ Some (live_of_entry (entry_at digest v block unit)) → TakesEntry (entry_at digest v block unit) old new
     → FitsPart setup part old s → FitsPart setup part new (after_event setup event s)
 writing_fits setup part old new s event digest v block unit rest made are mine place takes fits =
     subst (λ (l : List Step). FitsPart setup part new (after_steps setup l s)) (sym made)

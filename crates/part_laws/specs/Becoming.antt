@@ -11,21 +11,8 @@ use Rattle.device_model.specs.Device.{RaidState, part_of}
 use Rattle.sprig_tree.specs.Entries.{entry_of, with_entry, with_replaced, without_digest}
 use Rattle.sprig_tree.specs.State.{SprigState}
 use Rattle.part_laws.specs.Fits.{has_mark}
-use Rattle.part_laws.specs.Tests.{is_tombstone_entry, is_eligible_entry, has_older_copy}
-
--- the entry of a version whose copy lies there; it isn't marked
-abbrev pub entry_at : Digest → Version → (block unit : ℕ) → Entry
-entry_at digest v block unit = record {
-  digest = digest;
-  stamp = v.stamp;
-  void = v.void;
-  kind = v.kind;
-  cover = v.cover;
-  mark = 0;
-  block = block;
-  unit = unit;
-  units = version_units v;
-}
+use Rattle.part_laws.specs.Tests.{is_tombstone_entry, has_older_copy}
+use Rattle.tomb_rules.specs.Covers.{is_eligible_entry}
 
 -- an entry in place of the one of its digest, or one more
 abbrev pub with_put : Entry → List Entry → List Entry
@@ -34,7 +21,7 @@ with_put e entries = if is_some (entry_of e.digest entries) then with_replaced e
 -- ---- one entry
 
 -- an entry was inserted, or put in place of the one of its digest
-pub record Takes (e : Entry) (old new : SprigState) : Type 0 where
+pub record TakesEntry (e : Entry) (old new : SprigState) : Type 0 where
   pub entries : new.entries ≡ with_put e old.entries
   pub high : new.hw ≡ max old.hw e.stamp.lut
 
@@ -77,5 +64,5 @@ mark_left found e = if has_older_copy found e then 0 else e.mark
 abbrev pub ended_entry : RaidState → Entry → Option Entry
 ended_entry raid e = if has_mark raid e then (if is_tombstone_entry e then None else Some (without_cover e)) else Some e
 
-abbrev pub ended : RaidState → List Entry → List Entry
-ended raid entries = filter_map (ended_entry raid) entries
+abbrev pub raid_ended : RaidState → List Entry → List Entry
+raid_ended raid entries = filter_map (ended_entry raid) entries

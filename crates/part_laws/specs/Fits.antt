@@ -4,25 +4,15 @@ use Rattle.std.specs.List.{AllByRecursion}
 use Rattle.rec_format.specs.declared.version.Digest.{Digest}
 use Rattle.rec_format.specs.declared.version.Version.{Version}
 use Rattle.rec_format.specs.declared.entry.Entry.{Entry}
+use Rattle.rec_format.specs.Entries.{Names}
 use Rattle.rec_format.specs.Versions.{version_units, top_number}
 use Rattle.device_model.specs.Book.{Setup, Live, live_of}
 use Rattle.device_model.specs.Device.{State, RaidState, Turn, mark_turn, scan_turn, apply_turn, drop_turn, finished, entry, entry_is_covered, part_of, high_time}
 use Rattle.device_model.specs.Steps.{part_total}
-use Rattle.sprig_tree.specs.Entries.{digests_of, IsInDigestOrder, entry_of}
+use Rattle.sprig_tree.specs.Entries.{digests_in, IsInDigestOrder, entry_of}
 use Rattle.sprig_tree.specs.State.{SprigState}
 
 -- ---- entries
-
--- where the copy of an entry lies
-abbrev pub live_of_entry : Entry → Live
-live_of_entry e = record { digest = e.digest; block = e.block; unit = e.unit; units = e.units }
-
--- an entry of a version
-pub record Names (e : Entry) (v : Version) : Type 0 where
-  pub kind : e.kind ≡ v.kind
-  pub stamp : e.stamp ≡ v.stamp
-  pub void : e.void ≡ v.void
-  pub units : e.units ≡ version_units v
 
 -- The entry is the state's of this digest: of its version, with its cover flag, and its copy lies where the state says.
 pub record IsShown (s : State) (digest : Digest) (e : Entry) : Type 0 where
@@ -73,7 +63,7 @@ marks_of setup part raid = filter (λ d. part_of setup d == part) raid.marked
 -- number, which isn't 0 while a raid runs, so that 0 is no mark.
 pub record HasMarks (setup : Setup) (part : ℕ) (entries : List Entry) (raid : RaidState) : Type 0 where
   pub most : AllByRecursion (λ e. e.mark ≤ raid.number) entries
-  pub marked : marks_of setup part raid ≡ digests_of (filter (has_mark raid) entries)
+  pub marked : marks_of setup part raid ≡ digests_in (filter (has_mark raid) entries)
   pub turn : may_be_marked raid.next part ≡ false → marks_of setup part raid ≡ []
   pub begun : is_running raid.next ≡ true → 1 ≤ raid.number
   pub last : raid.number ≤ top_number

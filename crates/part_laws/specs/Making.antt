@@ -7,7 +7,7 @@ use Rattle.device_model.specs.Device.{State, mark_turn, scan_turn, apply_turn, d
 use Rattle.device_model.specs.Steps.{Step, wrote, moved, removed, rid_of, uncovered, raid_begun, marked_part, scanned_block, compared_part, done_part, after_step}
 use Rattle.device_model.specs.Events.{Call, put_call, bury_call, delete_call, expire_call, get_call, move_call}
 use Rattle.device_model.specs.Passes.{part_named}
-use Rattle.part_laws.specs.Tests.{is_among}
+use Rattle.part_laws.specs.Tests.{has_digest}
 
 -- the digest that a call names
 abbrev pub digest_named : Call → Option Digest
@@ -25,8 +25,8 @@ abbrev pub IsStepOf : Setup → (first : State) → Call → State → Step → 
 IsStepOf setup first call s (wrote digest v) = digest_named call ≡ Some digest
 IsStepOf setup first call s (moved digest) = digest_named call ≡ Some digest
 IsStepOf setup first call s (removed digest) = digest_named call ≡ Some digest
-IsStepOf setup first call s (rid_of digest) = (part_named setup call ≡ Some (part_of setup digest)) × (is_among (digests_of first.log) digest ≡ true)
-IsStepOf setup first call s (uncovered digest) = (part_named setup call ≡ Some (part_of setup digest)) × (is_among (digests_of first.log) digest ≡ true)
+IsStepOf setup first call s (rid_of digest) = (part_named setup call ≡ Some (part_of setup digest)) × (has_digest (digests_of first.log) digest ≡ true)
+IsStepOf setup first call s (uncovered digest) = (part_named setup call ≡ Some (part_of setup digest)) × (has_digest (digests_of first.log) digest ≡ true)
 IsStepOf setup first call s raid_begun = s.raid.number < top_number
 IsStepOf setup first call s (marked_part part now) = (part_named setup call ≡ Some part) × (s.raid.next ≡ mark_turn part)
 IsStepOf setup first call s (scanned_block copies) = (block : ℕ) × (s.raid.next ≡ scan_turn block)

@@ -10,10 +10,8 @@ use Rattle.block_format.specs.Copies.{Copy, cold_copy}
 use Rattle.recovery.specs.Cold.{copies_high}
 use Rattle.sprig_tree.specs.Entries.{IsInDigestOrder, entry_of}
 use Rattle.sprig_tree.specs.State.{SprigState}
-use Rattle.part_laws.specs.Becoming.{entry_at, Takes}
-
-abbrev pub entry_for : Copy → Entry
-entry_for c = entry_at c.digest c.version c.block c.unit
+use Rattle.part_laws.specs.Becoming.{TakesEntry}
+use Rattle.rec_format.specs.Entries.{entry_at}
 
 -- what is chosen of a digest's copies, where the digest is of the part
 abbrev pub entry_chosen : Setup → (part : ℕ) → (Digest → Option Copy) → Digest → Option Entry
@@ -35,5 +33,5 @@ first_named copies digest = find (λ c. same_digest digest c.digest) copies
 
 -- a sprig with one copy more of its part: the entry of a digest that has none, or a later one; else it stays
 abbrev pub TakesCopy : Copy → (old new : SprigState) → Type 0
-TakesCopy c old new = MatchOption (entry_of c.digest old.entries) (Takes (entry_for c) old new)
-    (λ e. MatchBool (is_later_stamp c.version.stamp e.stamp) (Takes (entry_for c) old new) (new ≡ old))
+TakesCopy c old new = MatchOption (entry_of c.digest old.entries) (TakesEntry (entry_for c) old new)
+    (λ e. MatchBool (is_later_stamp c.version.stamp e.stamp) (TakesEntry (entry_for c) old new) (new ≡ old))

@@ -6,6 +6,7 @@ use Rattle.rec_format.specs.declared.version.Stamp.{Stamp}
 use Rattle.rec_format.specs.declared.entry.Entry.{Entry}
 use Rattle.rec_format.specs.Places.{same_digest}
 use Rattle.rec_format.specs.Versions.{is_tomb_kind, is_expired, is_later_stamp}
+use Rattle.expiry_rule.specs.Seen.{is_live_entry}
 
 abbrev pub is_tombstone_entry : Entry → Bool
 is_tombstone_entry e = is_tomb_kind e.kind
@@ -13,31 +14,21 @@ is_tombstone_entry e = is_tomb_kind e.kind
 abbrev pub is_put_entry : Entry → Bool
 is_put_entry e = not (is_tomb_kind e.kind)
 
-abbrev pub is_covered_put : Entry → Bool
-is_covered_put e = is_put_entry e && e.cover
-
 abbrev pub is_expired_entry : ℕ → Entry → Bool
 is_expired_entry now e = is_put_entry e && is_expired now e.void
-
-abbrev pub is_live_entry : ℕ → Entry → Bool
-is_live_entry now e = is_put_entry e && not (is_expired now e.void)
-
--- what a raid marks: a tombstone of at least this age in seconds, and a covered put
-abbrev pub is_eligible_entry : (age now : ℕ) → Entry → Bool
-is_eligible_entry age now e = (is_tombstone_entry e && nat_le (e.stamp.lut + age * 1000) now) || is_covered_put e
 
 -- a found copy of the digest is older than the entry
 abbrev pub has_older_copy : List (Digest × Stamp) → Entry → Bool
 has_older_copy found e = list_any (λ f. same_digest e.digest f.0 && is_later_stamp e.stamp f.1) found
 
 -- an entry, if there is one, passes a test
-abbrev pub passes : (Entry → Bool) → Option Entry → Bool
-passes test None = false
-passes test (Some e) = test e
+abbrev pub passes_test : (Entry → Bool) → Option Entry → Bool
+passes_test test None = false
+passes_test test (Some e) = test e
 
 -- a digest is among these
-abbrev pub is_among : List Digest → Digest → Bool
-is_among digests d = list_any (same_digest d) digests
+abbrev pub has_digest : List Digest → Digest → Bool
+has_digest digests d = list_any (same_digest d) digests
 
 -- what a look-up says of a digest's stamp and of its flag
 abbrev pub stamp_found : Option Entry → Option Stamp

@@ -2,3 +2,4 @@ pub mod Places
 pub mod Versions
 pub mod RecordText
 pub mod RecordFlaws
+pub mod Entries

@@ -16,7 +16,7 @@ use Rattle.block_format.specs.declared.geometry.Geometry.{Geometry}
 use Rattle.block_format.specs.declared.geometry.Gate.{Gate}
 use Rattle.block_format.specs.declared.geometry.Gate.TheVariants.{Shut, Set}
 use Rattle.block_format.specs.Layout.{IsGeometry, IsClosed, gate_sector, Body}
-use Rattle.block_format.specs.Copies.{Copy, HasBodies, copies_of, copies_named, version_of, cold_copy}
+use Rattle.block_format.specs.Copies.{Copy, HasBodies, copies_of, copies_named, version_of, cold_copy, entry_for}
 use Rattle.recovery.specs.Start.{start_state, entries_state, greatest_number, live_copy, cold_copies}
 use Rattle.recovery.specs.Sound.{IsSound, IsShapeOf, NoStrays}
 use Rattle.block_format.specs.Refusals.{IsAsked}
@@ -37,13 +37,13 @@ use Rattle.recovery.proofs.Each.{all_map}
 use Rattle.shard_core.specs.declared.settings.Settings.{Settings}
 use Rattle.shard_core.specs.declared.start.Asked.{Asked}
 use Rattle.shard_core.specs.declared.scan.Finding.{Finding}
-use Rattle.shard_core.specs.Index.{held, flag_of, high_of, entry_for}
+use Rattle.shard_core.specs.Index.{held, flag_of, high_of}
 use Rattle.shard_core.specs.View.{ShardView, setup_for, IsEntryOf}
 use Rattle.shard_core.specs.Stands.{Agrees, IsSafe}
 use Rattle.shard_core.specs.Starting.{Begins, StandsForEntries, own_copies}
 use Rattle.shard_core.specs.Finding.{IsSure, AreGates, LiesBehind, IsFinding, view_with}
 use Rattle.shard_core.proofs.Keeping.{IsOneOf}
-use Rattle.shard_core.proofs.Showing.{Shows, shown_entries, shown_places, free_are, shelf_stands, shelf_placed}
+use Rattle.shard_core.proofs.Showing.{ShowsCopies, shown_entries, shown_places, free_are, shelf_stands, shelf_placed}
 use Rattle.shard_core.proofs.FoundEntries.{gathered, gathered_are, gathered_there, find_copy, found_held, found_top, found_cover, found_high, found_numbers, found_there}
 
 all_true : (xs : List ℕ) → filter (λ b. true) xs ≡ xs
@@ -128,7 +128,7 @@ module _ {D : Type 0} (disk : D) (g : Geometry) (gates : List Gate) (set : Setti
   index_is : index ≡ map entry_for those
   index_is = gathered_are (own_copies g copies) index found.latest.each
 
-  entries_show : Shows bodies index (find_copy those) entries
+  entries_show : ShowsCopies bodies index (find_copy those) entries
   unfolding entries_state
   entries_show = record {
     held_is = λ d. ap (held d) index_is ∙ found_held d those;
@@ -183,7 +183,7 @@ module _ {D : Type 0} (disk : D) (g : Geometry) (gates : List Gate) (set : Setti
       own_are : own_copies g copies ≡ copies
       own_are = own_all setup g copies shape_is sound.strays
 
-      start_shows : Shows bodies index look start
+      start_shows : ShowsCopies bodies index look start
       start_shows = record {
         held_is = λ d. found.latest.shown d ∙ ap (λ (l : List Copy). option_map entry_for (cold_copy d l)) own_are;
         entry_is = start_entry setup bodies sound.twins;

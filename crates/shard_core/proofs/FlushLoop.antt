@@ -19,7 +19,7 @@ use Rattle.write_buffer.specs.declared.phase.Phase.{Phase}
 use Rattle.write_buffer.specs.declared.phase.Phase.TheVariants.{Filling, Sealed, BodyDone, GateBegun}
 use Rattle.write_buffer.specs.Buffers.{BufferState}
 use Rattle.block_shelf.specs.declared.place.ShelfLimits.{ShelfLimits}
-use Rattle.block_shelf.specs.View.{ShelfView, IsShelf, IsBufferOf, StandInOrder, IsSetupOf, SameShape, is_filling}
+use Rattle.block_shelf.specs.View.{ShelfView, IsShelf, IsBufferOf, StandInOrder, IsSetupOf, SameShape, is_unsealed}
 use Rattle.block_shelf.specs.Standing.{StandsFor, book_phase, book_buffer}
 use Rattle.block_shelf.specs.Flushes.{FirstLeaves}
 use Rattle.block_shelf.specs.Calls.{FlushMakes, Goes}
@@ -29,7 +29,7 @@ use Rattle.shard_core.proofs.FlushSteps.{StandRight, flush_all_first, flush_none
 
 -- ---- the order of the buffers
 
-phase_same : (p : Phase) → book.is_filling (book_phase p) ≡ is_filling p
+phase_same : (p : Phase) → book.is_filling (book_phase p) ≡ is_unsealed p
 phase_same Filling = refl
 phase_same Sealed = refl
 phase_same BodyDone = refl
@@ -39,7 +39,7 @@ pub stand_right : (bs : List BufferState) → StandInOrder bs → StandRight (ma
 stand_right [] order = tt
 stand_right (b ∷ bs) order = (each bs order.0, stand_right bs order.1)
   where
-    each : (cs : List BufferState) → AllByRecursion (λ c. (b.number < c.number) × (is_filling b.phase ≡ false)) cs
+    each : (cs : List BufferState) → AllByRecursion (λ c. (b.number < c.number) × (is_unsealed b.phase ≡ false)) cs
         → AllByRecursion (λ c. (b.number < c.number) × (book.is_filling (book_phase b.phase) ≡ false)) (map book_buffer cs)
     each [] all = tt
     each (c ∷ cs) all = ((all.0.0, phase_same b.phase ∙ all.0.1), each cs all.1)
@@ -48,7 +48,7 @@ stand_right (b ∷ bs) order = (each bs order.0, stand_right bs order.1)
 buffers_fit : (bs : List BufferState) (low next : ℕ) → StandInOrder bs → AllByRecursion (λ b. low ≤ b.number) bs → AllByRecursion (λ b. b.number < next) bs → low ≤ next → low + length bs ≤ next
 buffers_fit [] low next order above below le = omega arith
 buffers_fit (b ∷ bs) low next order above below le =
-    let rest : b.number + 1 + length bs ≤ next = buffers_fit bs (b.number + 1) next order.1 (all_map (λ c. (b.number < c.number) × (is_filling b.phase ≡ false)) (λ c. b.number + 1 ≤ c.number) bs (λ c h. omega (arith, h.0)) order.0) below.1 (omega (arith, below.0)) in
+    let rest : b.number + 1 + length bs ≤ next = buffers_fit bs (b.number + 1) next order.1 (all_map (λ c. (b.number < c.number) × (is_unsealed b.phase ≡ false)) (λ c. b.number + 1 ≤ c.number) bs (λ c h. omega (arith, h.0)) order.0) below.1 (omega (arith, below.0)) in
     omega (arith, rest, above.0)
 
 few_buffers : {D : Type 0} (view : D → DiskView) (shelf : ShelfView D) → IsShelf view shelf → length shelf.buffers ≤ shelf.next_number
@@ -130,17 +130,17 @@ module _ {D : Type 0} (view : D → DiskView) where
 -- ---- no buffer takes records
 
 pub record FillsNone {D : Type 0} (shelf : ShelfView D) : Type 0 where
-  pub none_filling : AllByRecursion (λ b. is_filling b.phase ≡ false) shelf.buffers
+  pub none_filling : AllByRecursion (λ b. is_unsealed b.phase ≡ false) shelf.buffers
 
 all_behind : {X : Type 0} (P : X → Type 0) (xs : List X) → AllByRecursion P xs → AllByRecursion P (drop 1 xs)
 all_behind P [] all = tt
 all_behind P (x ∷ xs) all = all.1
 
 pub quiet_on : {D : Type 0} (old new : ShelfView D) → FillsNone old → FirstLeaves old.buffers new.buffers → FillsNone new
-quiet_on old new quiet leaves = record { none_filling = subst (AllByRecursion (λ b. is_filling b.phase ≡ false)) leaves.0 (all_behind (λ b. is_filling b.phase ≡ false) old.buffers quiet.none_filling) }
+quiet_on old new quiet leaves = record { none_filling = subst (AllByRecursion (λ b. is_unsealed b.phase ≡ false)) leaves.0 (all_behind (λ b. is_unsealed b.phase ≡ false) old.buffers quiet.none_filling) }
 
 -- where every buffer takes records and none does, there is none
-pub none_left : (bs : List BufferState) → AllByRecursion (λ b. is_filling b.phase ≡ true) bs → AllByRecursion (λ b. is_filling b.phase ≡ false) bs → bs ≡ []
+pub none_left : (bs : List BufferState) → AllByRecursion (λ b. is_unsealed b.phase ≡ true) bs → AllByRecursion (λ b. is_unsealed b.phase ≡ false) bs → bs ≡ []
 none_left [] all none = refl
 none_left (b ∷ bs) all none = absurd (false≢true (sym none.0 ∙ all.0))
 

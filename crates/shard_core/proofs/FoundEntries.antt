@@ -8,10 +8,10 @@ use Rattle.rec_format.specs.Places.{same_digest}
 use Rattle.device_model.specs.Histories.{write, top_of, is_covered}
 use Rattle.device_model.specs.Book.{Setup}
 use Rattle.device_model.specs.Device.{Log, history_of, high_time, part_of}
-use Rattle.block_format.specs.Copies.{Copy, version_of}
+use Rattle.block_format.specs.Copies.{Copy, version_of, entry_for}
 use Rattle.recovery.specs.Orderly.{NumbersBelow}
 use Rattle.recovery.proofs.Placing.{found_is}
-use Rattle.shard_core.specs.Index.{held, flag_of, high_of, entry_for}
+use Rattle.shard_core.specs.Index.{held, flag_of, high_of}
 use Rattle.shard_core.proofs.Keeping.{IsOneOf}
 
 -- ---- the copies of entries

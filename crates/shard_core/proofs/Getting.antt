@@ -12,7 +12,7 @@ use Rattle.rec_format.specs.declared.entry.Entry.{Entry}
 use Rattle.rec_format.specs.Places.{same_digest}
 use Rattle.rec_format.specs.Versions.{is_tomb_kind, is_expired, is_live_put}
 use Rattle.device_model.specs.Histories.{if_live}
-use Rattle.device_model.specs.Book.{Setup, live_of}
+use Rattle.device_model.specs.Book.{Setup, live_of, live_of_entry}
 use Rattle.device_model.specs.Device as device
 use Rattle.device_model.specs.Device.{State}
 use Rattle.device_model.specs.Events.{Event, get_call, found_version}
@@ -29,9 +29,10 @@ use Rattle.block_shelf.specs.declared.refusals.ReadRefusal.TheVariants as read
 use Rattle.block_shelf.specs.View.{ShelfView, SameBuffers}
 use Rattle.block_shelf.specs.Disks.{OnlyRead}
 use Rattle.block_shelf.specs.Standing.{StandsFor, IsPlaced}
-use Rattle.block_shelf.specs.Calls.{Goes, Names, live_at, IsUndamaged}
-use Rattle.shard_core.specs.Index.{held, live_of_entry}
-use Rattle.shard_core.specs.View.{ShardView, SameShape, setup_of}
+use Rattle.block_shelf.specs.Calls.{Goes, live_at, IsUndamaged}
+use Rattle.rec_format.specs.Entries.{Names}
+use Rattle.shard_core.specs.Index.{held}
+use Rattle.shard_core.specs.View.{ShardView, SameSetup, setup_of}
 use Rattle.shard_core.specs.Stands.{Lists, Agrees}
 use Rattle.shard_core.specs.Calls.{Makes, read_answer}
 use Rattle.shard_core.proofs.Going.{goes_none, safe_survives}
@@ -147,7 +148,7 @@ module _ {D : Type 0} (view : D → DiskView)
           → Allowed (setup_of old) told s (record { call = get_call digest now; answer = found_version None; steps = []; faults_before = (view old.shelf.disk).faults; faults_after = (view old.shelf.disk).faults }) (get_call digest now)
       found told nothing = inl (None, refl, refl, subst (λ (o : Option Version). Reads told o None) (sym nothing) refl)
 
-  module _ (e : Entry) (is : SeenIs s now digest old.index e) (result : Result Version ReadRefusal) (shape : SameShape old new) (same : SameBuffers old.shelf new.shelf) (index : new.index ≡ old.index)
+  module _ (e : Entry) (is : SeenIs s now digest old.index e) (result : Result Version ReadRefusal) (shape : SameSetup old new) (same : SameBuffers old.shelf new.shelf) (index : new.index ≡ old.index)
       (only : OnlyRead (view old.shelf.disk) (view new.shelf.disk)) (has_now : IsDisk (view new.shelf.disk))
       (names : IfOk result (Names e)) (cause : IfErr result (λ refusal. refusal ≡ read.Fault → Rose (view old.shelf.disk).faults (view new.shelf.disk).faults))
       (written : IsHonest (view old.shelf.disk) → IsPlaced view old.shelf s → MatchResult result (λ v. v ≡ is.version) IsUndamaged) where

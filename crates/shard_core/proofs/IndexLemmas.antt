@@ -13,7 +13,7 @@ use Rattle.rec_format.specs.Places.{same_digest, part_number_of}
 use Rattle.rec_format.proofs.Laws.{same_digest_refl, same_digest_is}
 use Rattle.recovery.proofs.Growing.{cons_cases, all_at, all_from}
 use Rattle.recovery.proofs.Members.{first_there, rest_there}
-use Rattle.shard_core.specs.Index.{held, high_of, IsPlaceOf, WithEntry}
+use Rattle.shard_core.specs.Index.{held, high_of, IsPositionOf, WithEntry}
 
 abbrev or_else : Option Entry → Option Entry → Option Entry
 or_else None other = other
@@ -63,11 +63,11 @@ module _ (d : Digest) (xs : List Entry) (i : ℕ) (other : Entry) (lt : i < leng
   parted = sym (take-append-drop i xs) ∙ ap (λ (l : List Entry). take i xs ++ l) (drop_more xs i other lt)
 
   -- it is the digest's
-  pub stops : (eq : Bool) → eq ≡ pointwise nat_eq here.digest.0 d.0 → eq ≡ true → IsPlaceOf d xs i
+  pub stops : (eq : Bool) → eq ≡ pointwise nat_eq here.digest.0 d.0 → eq ≡ true → IsPositionOf d xs i
   stops eq e same = record { before = take i xs; here = here; after = drop (i + 1) xs; parts = parted; counted = length-take-le i xs (omega arith); none = none; same = same_here eq e same }
 
 -- at the place stands the digest's entry
-pub finds : (d : Digest) (xs : List Entry) (i : ℕ) (other : Entry) → IsPlaceOf d xs i → Some (get_or xs i other) ≡ held d xs
+pub finds : (d : Digest) (xs : List Entry) (i : ℕ) (other : Entry) → IsPositionOf d xs i → Some (get_or xs i other) ≡ held d xs
 finds d xs i other p =
     ap Some (ap (λ (l : List Entry). get_or l i other) p.parts ∙ get_or_at p.before p.here p.after other i p.counted) ∙ sym (ap (held d) p.parts ∙ held_hit d p.before p.after p.here p.none p.same)
 
@@ -152,7 +152,7 @@ module _ (before after : List Entry) (here e : Entry) (none : held e.digest befo
       (Contains-append_cases before (e ∷ after) x there)
 
 -- in the place of the digest's entry, which is no later
-pub holds_set : (e : Entry) (xs : List Entry) (i : ℕ) → IsPlaceOf e.digest xs i → IfSome (held e.digest xs) (λ before. before.stamp.lut ≤ e.stamp.lut) → WithEntry e xs (set xs i e)
+pub holds_set : (e : Entry) (xs : List Entry) (i : ℕ) → IsPositionOf e.digest xs i → IfSome (held e.digest xs) (λ before. before.stamp.lut ≤ e.stamp.lut) → WithEntry e xs (set xs i e)
 holds_set e xs i p later =
     let there = ap (λ (l : List Entry). set l i e) p.parts ∙ set_at p.before p.here p.after e i p.counted in
     let had : IfSome (Some p.here) (λ before. before.stamp.lut ≤ e.stamp.lut) = subst (λ (o : Option Entry). IfSome o (λ before. before.stamp.lut ≤ e.stamp.lut)) (ap (held e.digest) p.parts ∙ held_hit e.digest p.before p.after p.here p.none p.same) later in

@@ -16,12 +16,12 @@ use Rattle.rec_format.proofs.Laws.{same_digest_is, later_test}
 use Rattle.block_format.specs.declared.geometry.Geometry.{Geometry}
 use Rattle.block_format.specs.Layout.{Body}
 use Rattle.block_format.specs.Readings.{found_from}
-use Rattle.block_format.specs.Copies.{Copy, copies_from, copies_of, cold_copy}
+use Rattle.block_format.specs.Copies.{Copy, copies_from, copies_of, cold_copy, entry_for}
 use Rattle.recovery.specs.Cold.{later_one, copies_high}
 use Rattle.recovery.proofs.Cold.{cold_copy_more}
 use Rattle.recovery.proofs.Growing.{all_at, all_from}
 use Rattle.recovery.proofs.Members.{first_there}
-use Rattle.shard_core.specs.Index.{held, high_of, entry_for, WithEntry}
+use Rattle.shard_core.specs.Index.{held, high_of, WithEntry}
 use Rattle.shard_core.specs.Starting.{own_copies}
 use Rattle.shard_core.specs.Finding.{KeepsOne, KeepsAll, IsLatest, is_later_than, later_entry, found_entry}
 use Rattle.shard_core.proofs.IndexLemmas.{held_cases}

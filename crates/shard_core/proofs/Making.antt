@@ -16,11 +16,12 @@ use Rattle.disk_model.specs.Disk.{DiskView, IsHonest}
 use Rattle.recovery.proofs.Opening.{all_joined, all_parted}
 use Rattle.block_shelf.specs.View.{IsSetupOf}
 use Rattle.block_shelf.specs.Standing as shelf
-use Rattle.block_shelf.specs.Calls.{Goes, Names}
+use Rattle.block_shelf.specs.Calls.{Goes}
+use Rattle.rec_format.specs.Entries.{Names}
 use Rattle.block_format.specs.declared.geometry.Geometry.{Geometry}
 use Rattle.shard_core.specs.declared.settings.Settings.{Settings}
 use Rattle.shard_core.specs.Index.{held}
-use Rattle.shard_core.specs.View.{ShardView, IsWhole, SameShape, setup_for, setup_of}
+use Rattle.shard_core.specs.View.{ShardView, IsWhole, SameSetup, setup_for, setup_of}
 use Rattle.shard_core.specs.Stands.{Lists, Agrees, IsSafe}
 use Rattle.shard_core.specs.Calls.{Makes, FlushesAll, flush_answer}
 use Rattle.block_shelf.specs.declared.place.ShelfLimits.{ShelfLimits}
@@ -107,7 +108,7 @@ setup_is shard whole = record {
   policy = refl;
 }
 
-pub setup_same : {D : Type 0} (old new : ShardView D) → SameShape old new → setup_of old ≡ setup_of new
+pub setup_same : {D : Type 0} (old new : ShardView D) → SameSetup old new → setup_of old ≡ setup_of new
 setup_same old new shape = ap (λ (g : Geometry). setup_for g old.set) (sym shape.geometry) ∙ ap (λ (set : Settings). setup_for new.shelf.geometry set) (sym shape.set)
 
 -- ---- the event
@@ -117,7 +118,7 @@ module _ {D : Type 0} (view : D → DiskView)
   abbrev pub event_of : Event
   event_of = record { call = call; answer = answer; steps = steps; faults_before = (view old.shelf.disk).faults; faults_after = (view new.shelf.disk).faults }
 
-  pub makes_by : SameShape old new → (view old.shelf.disk).faults ≤ (view new.shelf.disk).faults → Goes view (setup_of old) steps old.shelf s new.shelf
+  pub makes_by : SameSetup old new → (view old.shelf.disk).faults ≤ (view new.shelf.disk).faults → Goes view (setup_of old) steps old.shelf s new.shelf
       → Allowed (setup_of old) false s event_of call → (IsHonest (view old.shelf.disk) → IsSafe view old s → Allowed (setup_of old) true s event_of call)
       → Lists (setup_of old) new.index (after_steps (setup_of old) steps s) → (after_steps (setup_of old) steps s).book.queue ≡ []
       → Makes view call answer old s new
@@ -141,7 +142,7 @@ module _ {D : Type 0} (view : D → DiskView)
 
 -- what sealing and flushing make of a shard, with an event that ends so
 module _ {D : Type 0} (view : D → DiskView)
-    (old new : ShardView D) (s : State) (agrees : Agrees old s) (shape : SameShape old new) (index : new.index ≡ old.index) (up : (view old.shelf.disk).faults ≤ (view new.shelf.disk).faults) where
+    (old new : ShardView D) (s : State) (agrees : Agrees old s) (shape : SameSetup old new) (index : new.index ≡ old.index) (up : (view old.shelf.disk).faults ≤ (view new.shelf.disk).faults) where
   pub makes_flush : {E : Type 0} (result : Result ℕ E) (call : Call) (first steps : List Step) → AllByRecursion IsFlushing first
       → let rest = flush_all (after_steps (setup_of old) first s).book in FlushesAll result rest steps → OnErr result (Rose (view old.shelf.disk).faults (view new.shelf.disk).faults)
       → ((event : Event) (told : Bool) → FlushEnds event first rest → Allowed (setup_of old) told s event call)

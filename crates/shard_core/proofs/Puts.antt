@@ -12,7 +12,7 @@ use Rattle.rec_format.specs.declared.entry.Entry.{Entry}
 use Rattle.rec_format.specs.Places.{IsDigest, same_digest, device_number, part_number_of}
 use Rattle.rec_format.specs.Versions.{is_later, is_later_stamp, is_put, a_put, units_for, version_units, new_stamp, wanted_stamp, top_number, block_capacity, IsVersion}
 use Rattle.device_model.specs.Histories.{Item, write, dropped, rid, cleared, top_of, is_covered, writes_of}
-use Rattle.device_model.specs.Book.{Setup, Book, Buffer, Live, client, placing_number, live_of}
+use Rattle.device_model.specs.Book.{Setup, Book, Buffer, Live, client, placing_number, live_of, live_of_entry}
 use Rattle.device_model.specs.Device.{State, history, entry, entry_is_covered, stamp_of, next_stamp_of, part_of, high_time}
 use Rattle.device_model.specs.Steps.{Step, wrote, sealed_stream, after_step, after_steps}
 use Rattle.device_model.specs.Events.{Event, Call, Answer, put_call, stamp_given, refused, Cause, too_big, spent, disk_fault}
@@ -36,11 +36,12 @@ use Rattle.write_buffer.specs.Buffers.{BufferState}
 use Rattle.block_shelf.specs.View.{ShelfView, IsShelf, IsBufferOf, IsSetupOf}
 use Rattle.block_shelf.specs.Standing.{book_buffer}
 use Rattle.block_shelf.specs.Standing as shelf
-use Rattle.block_shelf.specs.Calls.{Goes, IsPlaceFor, Names, live_at, append_refusal, IsPutRefusal}
+use Rattle.block_shelf.specs.Calls.{Goes, IsPlaceFor, live_at, append_refusal, IsPutRefusal}
+use Rattle.rec_format.specs.Entries.{Names}
 use Rattle.shard_core.specs.declared.refusals.WriteRefusal.{WriteRefusal}
 use Rattle.shard_core.specs.declared.refusals.WriteRefusal.TheVariants as write_refusals
-use Rattle.shard_core.specs.Index.{held, stamp_held, flag_of, live_of_entry, high_of, WithEntry}
-use Rattle.shard_core.specs.View.{ShardView, IsWhole, IsEntryOf, SameShape, setup_of}
+use Rattle.shard_core.specs.Index.{held, stamp_held, flag_of, high_of, WithEntry}
+use Rattle.shard_core.specs.View.{ShardView, IsWhole, IsEntryOf, SameSetup, setup_of}
 use Rattle.shard_core.specs.Stands.{Lists, Agrees}
 use Rattle.shard_core.specs.Calls.{Makes, FlushesAll, cause_of_write, write_of, write_answer}
 use Rattle.shard_core.specs.Putting.{given_stamp, IsNewPut, IsUngiven, Wrote, IsUnwritten, Commits}
@@ -358,7 +359,7 @@ module _ {D : Type 0} (view : D → DiskView)
     abbrev rest_if : Bool → List Step
     rest_if on = if on then flush_between 0 number (after_steps (setup_of old) (first_if on) s).book else []
 
-    pub makes_waiting : old.set.commit ≡ false → SameShape old mid → MakesPut (write_answer (Ok v.stamp)) mid
+    pub makes_waiting : old.set.commit ≡ false → SameSetup old mid → MakesPut (write_answer (Ok v.stamp)) mid
     makes_waiting off shape =
         let event : Event = record { call = call; answer = stamp_given v.stamp; steps = wrote digest v ∷ []; faults_before = (view old.shelf.disk).faults; faults_after = (view mid.shelf.disk).faults } in
         let steps : wrote digest v ∷ [] ≡ first_if (setup_of old).commit ++ rest_if (setup_of old).commit = ap (λ (on : Bool). first_if on ++ rest_if on) (sym off) in
@@ -366,7 +367,7 @@ module _ {D : Type 0} (view : D → DiskView)
         makes_by view old mid s call (stamp_given v.stamp) (wrote digest v ∷ []) shape (subst (λ (d : D). (view old.shelf.disk).faults ≤ (view d).faults) (sym disk) (le_refl (view old.shelf.disk).faults))
         goes_wrote (may false) (λ honest safe. may true) wrote_it.lists (wrote_queue (setup_of old) s digest v refl)
 
-    module _ (on : old.set.commit ≡ true) (new : ShardView D) (shape : SameShape old new) (index : new.index ≡ mid.index) (up : (view old.shelf.disk).faults ≤ (view new.shelf.disk).faults) (r : Result (Unit {0}) WriteRefusal) (steps : List Step)
+    module _ (on : old.set.commit ≡ true) (new : ShardView D) (shape : SameSetup old new) (index : new.index ≡ mid.index) (up : (view old.shelf.disk).faults ≤ (view new.shelf.disk).faults) (r : Result (Unit {0}) WriteRefusal) (steps : List Step)
         (commits : Commits r (flush_all (after_step (setup_of old) (sealed_stream client) written_state).book) steps)
         (goes : Goes view (setup_of old) (sealed_stream client ∷ steps) mid.shelf written_state new.shelf) where
       abbrev all_steps : List Step

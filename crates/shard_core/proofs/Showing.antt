@@ -10,29 +10,29 @@ use Rattle.rec_format.specs.declared.version.Version.{Version}
 use Rattle.rec_format.specs.declared.entry.Entry.{Entry}
 use Rattle.rec_format.specs.Places.{same_digest}
 use Rattle.device_model.specs.Policy.{built, unused}
-use Rattle.device_model.specs.Book.{Live, live_of}
+use Rattle.device_model.specs.Book.{Live, live_of, live_of_entry}
 use Rattle.device_model.specs.Device.{State, entry, history}
 use Rattle.rec_format.proofs.Laws.{same_digest_is}
 use Rattle.block_format.specs.declared.geometry.Geometry.{Geometry}
 use Rattle.block_format.specs.declared.geometry.Gate.{Gate}
 use Rattle.block_format.specs.declared.geometry.Gate.TheVariants.{Set}
 use Rattle.block_format.specs.Layout.{IsRecordAt, body_bytes, Body}
-use Rattle.block_format.specs.Copies.{Copy, HasBodies, copies_of, version_of}
+use Rattle.block_format.specs.Copies.{Copy, HasBodies, copies_of, version_of, entry_for}
 use Rattle.recovery.specs.Start.{live_copy}
 use Rattle.recovery.specs.Orderly.{NumbersBelow}
 use Rattle.recovery.proofs.Growing.{all_at}
 use Rattle.recovery.proofs.Places.{copy_stands}
 use Rattle.block_shelf.specs.View.{ShelfView, shut_blocks}
 use Rattle.block_shelf.specs.Standing.{IsLive, IsPlaced, StandsFor}
-use Rattle.block_shelf.specs.Calls.{Names}
+use Rattle.rec_format.specs.Entries.{Names}
 use Rattle.shard_core.specs.declared.settings.Settings.{Settings}
 use Rattle.shard_core.specs.declared.scan.Finding.{Finding}
-use Rattle.shard_core.specs.Index.{held, live_of_entry, entry_for}
+use Rattle.shard_core.specs.Index.{held}
 use Rattle.shard_core.specs.Finding.{IsSure, LiesBehind, IsFinding, set_blocks, view_with}
 use Rattle.shard_core.proofs.Gates.{opened_not_free, shut_are_left}
 
 -- of each digest the index has the entry of a copy, the state its version, and the book its place
-pub record Shows (bodies : List Body) (index : List Entry) (look : Digest → Option Copy) (s : State) : Type 0 where
+pub record ShowsCopies (bodies : List Body) (index : List Entry) (look : Digest → Option Copy) (s : State) : Type 0 where
   pub held_is : (d : Digest) → held d index ≡ option_map entry_for (look d)
   pub entry_is : (d : Digest) → entry s d ≡ version_of (look d)
   pub live_is : (d : Digest) → live_of d s.book.live ≡ option_map live_copy (look d)
@@ -45,7 +45,7 @@ pub record IsCopyOf (bodies : List Body) (d : Digest) (l : Live) (v : Version) (
   pub listed : Contains (copies_of bodies) c
   pub named : d ≡ c.digest
 
-module _ (bodies : List Body) (index : List Entry) (look : Digest → Option Copy) (s : State) (shows : Shows bodies index look s) where
+module _ (bodies : List Body) (index : List Entry) (look : Digest → Option Copy) (s : State) (shows : ShowsCopies bodies index look s) where
   names_at : (o : Option Copy) (found : Option Version) → found ≡ version_of o → MatchOption (option_map entry_for o) (found ≡ None) (λ e. (v : Version) × (found ≡ Some v) × Names e v)
   names_at None found is = is
   names_at (Some c) found is = (c.version, is, record { kind = refl; stamp = refl; void = refl; units = refl })
@@ -101,7 +101,7 @@ module _ {D : Type 0} (disk : D) (g : Geometry) (gates : List Gate) (set : Setti
       lies : LiesBehind g gates c
       lies = all_at (LiesBehind g gates) (copies_of bodies) c found.lie is.listed
 
-  module _ (look : Digest → Option Copy) (s : State) (shows : Shows bodies finding.index.entries look s) where
+  module _ (look : Digest → Option Copy) (s : State) (shows : ShowsCopies bodies finding.index.entries look s) where
     pub shelf_stands : s.book.buffers ≡ [] → s.book.free ≡ shut_blocks 0 gates → s.book.next_number ≡ finding.greatest + 1 → ((d : Digest) → NumbersBelow s.book.next_number (history s d)) → StandsFor shelf s
     shelf_stands buffers free next numbers = record {
       buffers = buffers;

@@ -14,7 +14,7 @@ use Rattle.block_format.specs.declared.geometry.Gate.{Gate}
 use Rattle.block_format.specs.declared.geometry.Gate.TheVariants.{Shut, Set, Unsure}
 use Rattle.block_format.specs.declared.geometry.Found.{Found}
 use Rattle.block_format.specs.Layout.{IsOpen, IsClosed, gate_sector, body_bytes, Body, IsBody, IsFaultAt}
-use Rattle.block_format.specs.Copies.{Copy, copies_from, copies_of, cold_copy}
+use Rattle.block_format.specs.Copies.{Copy, copies_from, copies_of, cold_copy, entry_for}
 use Rattle.recovery.specs.Start.{greatest_number}
 use Rattle.block_format.specs.Refusals.{IsDamagedAt}
 use Rattle.recovery.specs.Cold.{copies_high}
@@ -24,7 +24,7 @@ use Rattle.shard_core.specs.declared.start.StartCause.{StartCause}
 use Rattle.shard_core.specs.declared.start.StartCause.TheVariants.{NotFormatted, OtherGeometry, DamagedBlock, Memory, Fault}
 use Rattle.shard_core.specs.declared.settings.Settings.{Settings}
 use Rattle.shard_core.specs.View.{ShardView, limits_of}
-use Rattle.shard_core.specs.Index.{held, high_of, entry_for}
+use Rattle.shard_core.specs.Index.{held, high_of}
 use Rattle.shard_core.specs.Starting.{own_copies}
 
 -- ---- gates

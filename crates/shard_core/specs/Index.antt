@@ -29,9 +29,6 @@ abbrev pub flag_of : Option Entry → Bool
 flag_of None = false
 flag_of (Some e) = e.cover
 
-abbrev pub live_of_entry : Entry → Live
-live_of_entry e = record { digest = e.digest; block = e.block; unit = e.unit; units = e.units }
-
 -- the greatest last update time of the entries of a sprig, 0 where it has none
 abbrev pub high_of : (devices sprigs part : ℕ) → List Entry → ℕ
 high_of devices sprigs part [] = 0
@@ -39,25 +36,8 @@ high_of devices sprigs part (e ∷ entries) =
     if part_number_of devices sprigs e.digest == part then max e.stamp.lut (high_of devices sprigs part entries)
     else high_of devices sprigs part entries
 
--- the entry of a version whose copy lies there; it isn't marked
-abbrev pub entry_at : Digest → Version → (block unit : ℕ) → Entry
-entry_at digest v block unit = record {
-  digest = digest;
-  stamp = v.stamp;
-  void = v.void;
-  kind = v.kind;
-  cover = v.cover;
-  mark = 0;
-  block = block;
-  unit = unit;
-  units = version_units v;
-}
-
-abbrev pub entry_for : Copy → Entry
-entry_for c = entry_at c.digest c.version c.block c.unit
-
 -- the first entry of a digest stands at this place
-pub record IsPlaceOf (digest : Digest) (entries : List Entry) (at : ℕ) : Type 0 where
+pub record IsPositionOf (digest : Digest) (entries : List Entry) (at : ℕ) : Type 0 where
   pub before : List Entry
   pub here : Entry
   pub after : List Entry

@@ -3,12 +3,12 @@ use Rattle.std.specs.Prelude.{◌≡◌, ℕ, List, [], Some, None, option_map, 
 use Rattle.rec_format.specs.declared.version.Digest.{Digest}
 use Rattle.rec_format.specs.declared.version.Version.{Version}
 use Rattle.rec_format.specs.declared.entry.Entry.{Entry}
-use Rattle.device_model.specs.Book.{Setup, live_of}
+use Rattle.device_model.specs.Book.{Setup, live_of, live_of_entry}
 use Rattle.device_model.specs.Device.{State, entry, entry_is_covered, high_time}
 use Rattle.disk_model.specs.Disk.{DiskView}
 use Rattle.block_shelf.specs.Standing as shelf
-use Rattle.block_shelf.specs.Calls.{Names}
-use Rattle.shard_core.specs.Index.{held, flag_of, live_of_entry, high_of}
+use Rattle.rec_format.specs.Entries.{Names}
+use Rattle.shard_core.specs.Index.{held, flag_of, high_of}
 use Rattle.shard_core.specs.View.{ShardView, setup_of}
 
 -- The index has the state's entries, with their cover flags and the places of their copies, and the sprigs' high times are its own.

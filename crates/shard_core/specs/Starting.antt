@@ -8,13 +8,13 @@ use Rattle.rec_format.specs.Places.{device_number}
 use Rattle.device_model.specs.Policy.{built, unused}
 use Rattle.block_format.specs.declared.geometry.Geometry.{Geometry}
 use Rattle.block_format.specs.Layout.{Body}
-use Rattle.block_format.specs.Copies.{Copy, HasBodies, copies_of, cold_copy}
+use Rattle.block_format.specs.Copies.{Copy, HasBodies, copies_of, cold_copy, entry_for}
 use Rattle.recovery.specs.Start.{start_state, entries_state, greatest_number}
 use Rattle.recovery.specs.Sound.{IsSound}
 use Rattle.block_format.specs.Refusals.{IsRefusedFor, IsAsked, not_formatted, other_shape, damaged_block}
 use Rattle.shard_core.specs.View.{ShardView, setup_of}
 use Rattle.block_shelf.specs.Standing.{IsPlaced}
-use Rattle.shard_core.specs.Index.{held, entry_for}
+use Rattle.shard_core.specs.Index.{held}
 use Rattle.shard_core.specs.Stands.{Agrees}
 use Rattle.shard_core.specs.declared.start.Asked.{Asked}
 use Rattle.shard_core.specs.declared.start.StartCause.{StartCause}

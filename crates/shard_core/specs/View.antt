@@ -62,6 +62,6 @@ pub record IsWhole {D : Type 0} (shard : ShardView D) : Type 0 where
   pub entries : AllByRecursion (IsEntryOf shard.shelf.geometry) shard.index
 
 -- The shape and the settings stay.
-pub record SameShape {D : Type 0} (old new : ShardView D) : Type 0 where
+pub record SameSetup {D : Type 0} (old new : ShardView D) : Type 0 where
   pub geometry : new.shelf.geometry ≡ old.shelf.geometry
   pub set : new.set ≡ old.set

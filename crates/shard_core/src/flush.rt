@@ -9,11 +9,11 @@ ghost use Rattle.device_model.specs.Steps.{Step};
 ghost use Rattle.device_model.specs.Events.{flush_call, flush_sealed_call};
 ghost use Rattle.device_model.specs.Legal.{flush_all};
 ghost use Rattle.block_shelf.specs.Disks.{IsLater};
-ghost use Rattle.block_shelf.specs.View.{IsSetupOf, is_filling};
+ghost use Rattle.block_shelf.specs.View.{IsSetupOf, is_unsealed};
 ghost use Rattle.block_shelf.specs.View as shelf_view;
 ghost use Rattle.block_shelf.specs.Standing.{StandsFor};
 ghost use Rattle.block_shelf.specs.Calls.{Goes};
-ghost use Rattle.shard_core.specs.View.{SameShape};
+ghost use Rattle.shard_core.specs.View.{SameSetup};
 ghost use Rattle.shard_core.specs.Stands.{Agrees};
 ghost use Rattle.shard_core.specs.Calls.{Makes, MakesAny, flush_answer, FlushesAll};
 
@@ -25,7 +25,7 @@ use disk_model::{Disk, DiskFault};
 pub(crate) fn flush_sealed<D: Disk>(shelf: &mut Shelf<D>) -> Result<u64, DiskFault>
     ensures flushed { (setup : Setup) (s : State) → IsSetupOf setup shelf.old → StandsFor shelf.old s
         → (steps : List Step) × FlushesAll result (flush_all s.book) steps × Goes D.view setup steps shelf.old s shelf.new }
-    ensures quiet { AllByRecursion (λ b. is_filling b.phase ≡ false) shelf.old.buffers → OnOk result (shelf.new.buffers ≡ []) }
+    ensures quiet { AllByRecursion (λ b. is_unsealed b.phase ≡ false) shelf.old.buffers → OnOk result (shelf.new.buffers ≡ []) }
     ensures left { OnErr result (shelf.new.buffers ≢ []) }
     ensures cause { OnErr result (Rose (D.view shelf.old.disk).faults (D.view shelf.new.disk).faults) }
     ensures later { IsLater (D.view shelf.old.disk) (D.view shelf.new.disk) }
@@ -48,7 +48,7 @@ impl<D: Disk> Shard<D> {
         ensures left { OnErr result (self.new.shelf.buffers ≢ []) }
         ensures later { IsLater (D.view self.old.shelf.disk) (D.view self.new.shelf.disk) }
         ensures honest { IsHonest (D.view self.old.shelf.disk) → IsHonest (D.view self.new.shelf.disk) }
-        ensures shape { SameShape self.old self.new }
+        ensures shape { SameSetup self.old self.new }
     {
         self.shelf.seal_streams();
         flush_sealed(&mut self.shelf)
@@ -59,7 +59,7 @@ impl<D: Disk> Shard<D> {
         ensures makes { (s : State) → Agrees self.old s → MakesAny D.view flush_sealed_call self.old s self.new }
         ensures later { IsLater (D.view self.old.shelf.disk) (D.view self.new.shelf.disk) }
         ensures honest { IsHonest (D.view self.old.shelf.disk) → IsHonest (D.view self.new.shelf.disk) }
-        ensures shape { SameShape self.old self.new }
+        ensures shape { SameSetup self.old self.new }
     {
         let _ = flush_sealed(&mut self.shelf);
     }

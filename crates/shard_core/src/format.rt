@@ -1,7 +1,7 @@
 // How a disk is made a device: every gate is closed, and then the header is written.
 ghost use Rattle.std.specs.Prelude.{◌≡◌, ◌≤◌, ◌^◌, OnOk, OnErr};
 ghost use Rattle.fault_count.specs.Counts.{Rose};
-ghost use Rattle.disk_model.specs.Disk.{IsOnly, IsHonest, Advances};
+ghost use Rattle.disk_model.specs.Disk.{IsSettled, IsHonest, Advances};
 ghost use Rattle.disk_model.specs.Runs.{Leaves};
 ghost use Rattle.block_format.specs.Layout.{IsGeometry, device_end};
 ghost use Rattle.block_format.specs.Copies.{IsFormatted};
@@ -38,7 +38,7 @@ pub fn format_disk<D: Disk>(disk: &mut D, geometry: &Geometry) -> Result<(), Dis
     requires geometry { IsGeometry geometry.now }
     requires room { device_end geometry.now ≤ (D.view disk.old).extent }
     ensures formatted { (D.view disk.old).tells → OnOk result (IsFormatted geometry.now (D.view disk.new).seen) }
-    ensures durable { (D.view disk.old).tells → OnOk result (IsOnly (D.view disk.new).seen (D.view disk.new).may_leave) }
+    ensures durable { (D.view disk.old).tells → OnOk result (IsSettled (D.view disk.new)) }
     ensures told { (D.view disk.old).tells → (D.view disk.new).tells }
     ensures honest { IsHonest (D.view disk.old) → IsHonest (D.view disk.new) }
     ensures time { Advances (D.view disk.old) (D.view disk.new) }

@@ -12,7 +12,7 @@ ghost use Rattle.block_shelf.specs.Disks.{OnlyRead};
 ghost use Rattle.block_shelf.specs.Standing.{IsPlaced};
 ghost use Rattle.block_shelf.specs.Calls.{IsUndamaged};
 ghost use Rattle.shard_core.specs.Index.{held};
-ghost use Rattle.shard_core.specs.View.{SameShape};
+ghost use Rattle.shard_core.specs.View.{SameSetup};
 ghost use Rattle.shard_core.specs.Stands.{Agrees};
 ghost use Rattle.shard_core.specs.Calls.{Makes, read_answer};
 
@@ -43,7 +43,7 @@ impl<D: Disk> Shard<D> {
         // Over an honest disk nothing is damaged.
         ensures undamaged { IsHonest (D.view self.old.shelf.disk) → (s : State) → Agrees self.old s → IsPlaced D.view self.old.shelf s → IfErr result IsUndamaged }
         ensures disk { OnlyRead (D.view self.old.shelf.disk) (D.view self.new.shelf.disk) }
-        ensures shape { SameShape self.old self.new }
+        ensures shape { SameSetup self.old self.new }
     {
         let found = self.index.find(digest);
         let Some(entry) = seen(found.as_ref(), now) else {

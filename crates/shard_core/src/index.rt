@@ -1,7 +1,7 @@
 // The primary index: the entry of each digest that has one, in memory.
 ghost use Rattle.std.specs.Prelude.{◌≡◌, ◌+◌, ◌≤◌, [], None, map, IfSome, IfOk, MatchOption, OnOk, OnErr};
 ghost use Rattle.rec_format.specs.Places.{part_number_of};
-ghost use Rattle.shard_core.specs.Index.{held, stamp_held, flag_of, high_of, IsPlaceOf, WithEntry};
+ghost use Rattle.shard_core.specs.Index.{held, stamp_held, flag_of, high_of, IsPositionOf, WithEntry};
 
 use block_shelf::Place;
 use partition_map::part_number;
@@ -113,7 +113,7 @@ pub fn place_of_entry(entry: &Entry) -> Place
 
 // Where the digest's entry stands.
 fn position_of(entries: &[Entry], digest: &Digest) -> Option<usize>
-    ensures { MatchOption result (held digest.now entries.now ≡ None) (λ at. IsPlaceOf digest.now entries.now at) }
+    ensures { MatchOption result (held digest.now entries.now ≡ None) (λ at. IsPositionOf digest.now entries.now at) }
 {
     for (at, entry) in entries.iter().enumerate() {
         if entry.digest == *digest {

@@ -13,7 +13,7 @@ ghost use Rattle.block_shelf.specs.Disks.{IsLater};
 ghost use Rattle.block_shelf.specs.Standing.{StandsFor};
 ghost use Rattle.block_shelf.specs.Calls.{Goes, append_refusal};
 ghost use Rattle.shard_core.specs.Index.{held, flag_of};
-ghost use Rattle.shard_core.specs.View.{SameShape, setup_of};
+ghost use Rattle.shard_core.specs.View.{SameSetup, setup_of};
 ghost use Rattle.shard_core.specs.Stands.{Agrees};
 ghost use Rattle.shard_core.specs.Calls.{Makes, write_answer};
 ghost use Rattle.shard_core.specs.Putting.{given_stamp, IsNewPut, IsUngiven, Wrote, IsUnwritten, Commits};
@@ -55,7 +55,7 @@ impl<D: Disk> Shard<D> {
         ensures refused { IfErr result (λ refusal. ((refusal ≡ WriteRefusal.Fault) × (self.old.set.commit ≡ true)) ⊎ (self.new ≡ self.old)) }
         ensures later { IsLater (D.view self.old.shelf.disk) (D.view self.new.shelf.disk) }
         ensures honest { IsHonest (D.view self.old.shelf.disk) → IsHonest (D.view self.new.shelf.disk) }
-        ensures shape { SameShape self.old self.new }
+        ensures shape { SameSetup self.old self.new }
     {
         let version = self.version_for(alloc, digest, payload, now)?;
         let stamp = version.stamp;
@@ -120,7 +120,7 @@ impl<D: Disk> Shard<D> {
             (λ refusal. IsUnwritten refusal (append_refusal (setup_of self.old) Class.Put (version_units version.now) s.book)) }
         ensures refused { OnErr result (self.new ≡ self.old) }
         ensures disk { self.new.shelf.disk ≡ self.old.shelf.disk }
-        ensures shape { SameShape self.old self.new }
+        ensures shape { SameSetup self.old self.new }
     {
         let Ok(()) = self.index.reserve() else {
             return Err(WriteRefusal::Memory);
@@ -151,7 +151,7 @@ impl<D: Disk> Shard<D> {
         ensures cause { OnErr result (Rose (D.view self.old.shelf.disk).faults (D.view self.new.shelf.disk).faults) }
         ensures later { IsLater (D.view self.old.shelf.disk) (D.view self.new.shelf.disk) }
         ensures honest { IsHonest (D.view self.old.shelf.disk) → IsHonest (D.view self.new.shelf.disk) }
-        ensures shape { SameShape self.old self.new }
+        ensures shape { SameSetup self.old self.new }
     {
         self.shelf.seal_for(block);
         match flush_sealed(&mut self.shelf) {

@@ -11,17 +11,17 @@ use Rattle.rec_format.specs.declared.version.Digest.{Digest}
 use Rattle.rec_format.specs.declared.entry.Entry.{Entry}
 use Rattle.rec_format.specs.Places.{digest_cmp, same_digest}
 use Rattle.rec_format.proofs.Laws.{same_digest_is}
-use Rattle.sprig_tree.specs.Entries.{digests_of, IsInDigestOrder, with_replaced}
+use Rattle.sprig_tree.specs.Entries.{digests_in, IsInDigestOrder, with_replaced}
 use Rattle.sprig_tree.proofs.Digests.{digest_order, greater_back, less_back}
 use Rattle.sprig_tree.proofs.Lists.{both_parts, front_part, back_part}
 use Rattle.sprig_tree.proofs.Parted.{AllBelow, AllAbove}
 
 -- a digest is below those of all later entries
-above_first : (digest : Digest) (es : List Entry) → AllByRecursion (λ y. digest_cmp digest y ≡ Less) (digests_of es) → AllAbove digest es
+above_first : (digest : Digest) (es : List Entry) → AllByRecursion (λ y. digest_cmp digest y ≡ Less) (digests_in es) → AllAbove digest es
 above_first digest [] h = tt
 above_first digest (e ∷ es) h = (greater_back digest e.digest h.0, above_first digest es h.1)
 
-first_below : (digest : Digest) (es : List Entry) → AllAbove digest es → AllByRecursion (λ y. digest_cmp digest y ≡ Less) (digests_of es)
+first_below : (digest : Digest) (es : List Entry) → AllAbove digest es → AllByRecursion (λ y. digest_cmp digest y ≡ Less) (digests_in es)
 first_below digest [] h = tt
 first_below digest (e ∷ es) h = (less_back e.digest digest h.0, first_below digest es h.1)
 
@@ -66,19 +66,19 @@ order_without (x ∷ xs) rest e h =
     order-cons x (xs ++ rest) (both_parts P xs rest (front_part P xs (e ∷ rest) old) after.1) (order_without xs rest e (order_rest x (xs ++ e ∷ rest) h))
 
 -- a replacement keeps each digest
-pub digests_of-with_replaced : (entry : Entry) (es : List Entry) → digests_of (with_replaced entry es) ≡ digests_of es
-digests_of-with_replaced entry [] = refl
-digests_of-with_replaced entry (e ∷ es) =
+pub digests_in-with_replaced : (entry : Entry) (es : List Entry) → digests_in (with_replaced entry es) ≡ digests_in es
+digests_in-with_replaced entry [] = refl
+digests_in-with_replaced entry (e ∷ es) =
     let same = cond_both (same_digest entry.digest e.digest) entry e (λ z. z.digest ≡ e.digest) (same_digest_is entry.digest e.digest) (λ _. refl) in
-    λ i. same i ∷ digests_of-with_replaced entry es i
+    λ i. same i ∷ digests_in-with_replaced entry es i
 
 pub order_replaced : (entry : Entry) (es : List Entry) → IsInDigestOrder es → IsInDigestOrder (with_replaced entry es)
-order_replaced entry es h = subst (IsStrictlySortedBy digest_cmp) (sym (digests_of-with_replaced entry es)) h
+order_replaced entry es h = subst (IsStrictlySortedBy digest_cmp) (sym (digests_in-with_replaced entry es)) h
 
 -- what a search by halving asks: the comparisons with a digest rise along the list
 neighbours : (es : List Entry) → IsInDigestOrder es → IsSortedBy (λ a b. is_lt (digest_cmp a.digest b.digest)) es
 neighbours es h k d low within =
-    let ds = digests_of es in
+    let ds = digests_in es in
     let size = length-map es (λ (e : Entry). e.digest) in
     let less = Less-from_sorted digest_cmp ds k (k + 1) d.digest h (omega arith) (omega arith) in
     let one = get_or-map (λ (e : Entry). e.digest) es k d d.digest (omega arith) in

@@ -5,12 +5,12 @@ use Rattle.rec_format.specs.declared.version.Digest.{Digest}
 use Rattle.rec_format.specs.declared.entry.Entry.{Entry}
 use Rattle.rec_format.specs.Places.{digest_cmp, same_digest, digest_before}
 
-abbrev pub digests_of : List Entry → List Digest
-digests_of entries = map (λ e. e.digest) entries
+abbrev pub digests_in : List Entry → List Digest
+digests_in entries = map (λ e. e.digest) entries
 
 -- each digest comes before those of all later entries, so none stands twice
 abbrev pub IsInDigestOrder : List Entry → Type 0
-IsInDigestOrder entries = IsStrictlySortedBy digest_cmp (digests_of entries)
+IsInDigestOrder entries = IsStrictlySortedBy digest_cmp (digests_in entries)
 
 -- the entry of a digest
 abbrev pub entry_of : Digest → List Entry → Option Entry

@@ -1,6 +1,6 @@
 // The live copies of all blocks of a device.
 ghost use Rattle.std.specs.Prelude.{◌≡◌, ◌+◌, ◌-◌, ◌≤◌, ◌<◌, [], ◌∷◌, ◌++◌, ◌==◌, length, filter, sum_by, replicate, None, IsSomeAnd, IsOk, IfOk, OnOk, OnErr};
-ghost use Rattle.unit_ledger.specs.Rolls.{empty_roll, copies_of, spare_of, use_of, copy_at, without_unit, live_from, with_roll, GainsRoom};
+ghost use Rattle.unit_ledger.specs.Rolls.{empty_roll, copies_in, spare_of, rolled_use, copy_at, without_unit, live_from, with_roll, GainsRoom};
 
 use crate::NoMemory;
 use crate::roll::{LiveCopy, Roll};
@@ -53,10 +53,10 @@ impl Ledger {
     pub fn add(&mut self, block: u32, unit: u32, units: u32, digest: &Digest)
         requires in_range { block < length self.old }
         requires room { 1 ≤ spare_of block self.old }
-        requires absent { copy_at unit (copies_of block self.old) ≡ None }
-        requires fits { use_of block self.old + units ≤ 65278 }
+        requires absent { copy_at unit (copies_in block self.old) ≡ None }
+        requires fits { rolled_use block self.old + units ≤ 65278 }
         ensures { self.new ≡ with_roll block (record {
-          copies = copies_of block self.old ++ (record { digest = digest.now; unit = unit; units = units }) ∷ [];
+          copies = copies_in block self.old ++ (record { digest = digest.now; unit = unit; units = units }) ∷ [];
           spare = spare_of block self.old - 1;
         }) self.old }
     {
@@ -70,10 +70,10 @@ impl Ledger {
     /// Takes the live copy at a unit out of its block, and answers the use that is left of it.
     pub fn drop_live(&mut self, block: u32, unit: u32, units: u32) -> u32
         requires in_range { block < length self.old }
-        requires live { IsSomeAnd (copy_at unit (copies_of block self.old)) (λ c. c.units ≡ units) }
-        ensures left { result ≡ use_of block self.new }
+        requires live { IsSomeAnd (copy_at unit (copies_in block self.old)) (λ c. c.units ≡ units) }
+        ensures left { result ≡ rolled_use block self.new }
         ensures rest { self.new ≡ with_roll block (record {
-          copies = without_unit unit (copies_of block self.old);
+          copies = without_unit unit (copies_in block self.old);
           spare = spare_of block self.old + 1;
         }) self.old }
     {
@@ -83,7 +83,7 @@ impl Ledger {
     /// The use of a block: the units of its live copies.
     pub fn used(&self, block: u32) -> u32
         requires { block < length self.now }
-        ensures value { result ≡ use_of block self.now }
+        ensures value { result ≡ rolled_use block self.now }
 
         // That is the sum over all live copies that are in the block.
         ensures sum { result ≡ sum_by (λ l. l.units) (filter (λ l. l.block == block) (live_from 0 self.now)) }

@@ -5,14 +5,14 @@ use Rattle.rec_format.specs.declared.version.Digest.{Digest}
 use Rattle.rec_format.specs.declared.version.Version.{Version}
 use Rattle.rec_format.specs.Versions.{top_number, version_units}
 use Rattle.rec_format.specs.RecordText.{CanBeRecorded, record_text}
-use Rattle.block_format.specs.Layout.{IsBody, head_text, records_text, units_of_records}
+use Rattle.block_format.specs.Layout.{IsBody, body_head_text, records_text, units_of_records}
 use Rattle.block_format.proofs.BodyRecords.{AllRecorded, recorded_push, text-push, units-push}
 use Rattle.block_format.proofs.BodyLaws.{length-records}
 use Rattle.write_buffer.specs.Buffers.{BufferState, KeepsBody, body_in, bytes_of, empty_buffer, records_in, seen, used_units, with_record}
 use Rattle.write_buffer.proofs.Reading.{count_within, read_back}
 
 abbrev head_in : BufferState → List ℕ
-head_in b = head_text b.number (length b.records) (units_of_records b.records) b.block
+head_in b = body_head_text b.number (length b.records) (units_of_records b.records) b.block
 
 abbrev zeros_in : BufferState → List ℕ
 zeros_in b = replicate (16 * (b.capacity - used_units b)) 0
@@ -67,7 +67,7 @@ module _ (b : BufferState) (used : ℕ) (bytes : List ℕ) (keeps : KeepsBody b 
   -- the record behind the others, and a new head over the old one
   pub text_next : (place count units : ℕ) (one two : List ℕ) → place ≡ 32 + 16 * used → count ≡ length b.records + 1 → units ≡ used_units b + version_units v
       → one ≡ take place bytes ++ (record_text d v ++ drop (16 * version_units v) (drop place bytes))
-      → two ≡ head_text b.number count units b.block ++ drop 32 one → two ≡ bytes_of next
+      → two ≡ body_head_text b.number count units b.block ++ drop 32 one → two ≡ bytes_of next
   text_next place count units one two place_is count_is units_are one_is two_is =
       let front : List ℕ = head_in b ++ records_text b.records in
       let at : length front ≡ place = length-front b keeps.each ∙ ap (λ (k : ℕ). 32 + 16 * k) (sym keeps.used_is) ∙ sym place_is in
@@ -80,8 +80,8 @@ module _ (b : BufferState) (used : ℕ) (bytes : List ℕ) (keeps : KeepsBody b 
       let behind : drop 32 one ≡ records_text next.records ++ zeros_in next =
       ap (drop 32) one_at ∙ sym (append_assoc (records_text b.records) (record_text d v) (zeros_in next))
       ∙ ap (λ (t : List ℕ). t ++ zeros_in next) (sym (text-push b.records (d, v))) in
-      let head : head_text b.number count units b.block ≡ head_in next =
-      λ i. head_text b.number ((count_is ∙ sym (length_push b.records (d, v))) i) ((units_are ∙ sym units_next) i) b.block in
+      let head : body_head_text b.number count units b.block ≡ head_in next =
+      λ i. body_head_text b.number ((count_is ∙ sym (length_push b.records (d, v))) i) ((units_are ∙ sym units_next) i) b.block in
       two_is ∙ (λ i. head i ++ behind i) ∙ sym (append_assoc (head_in next) (records_text next.records) (zeros_in next))
 
   pub keeps_next : (units : ℕ) (two : List ℕ) → units ≡ used_units b + version_units v → two ≡ bytes_of next → KeepsBody next units two
@@ -101,12 +101,12 @@ module _ (b : BufferState) (used : ℕ) (bytes : List ℕ) (keeps : KeepsBody b 
 -- ---- no record yet
 
 -- a head of no records, and zeros
-pub empty_text : (number block capacity size : ℕ) (bytes made : List ℕ) → 32 + 16 * capacity ≡ size → bytes ≡ replicate size 0 → made ≡ head_text number 0 0 block ++ drop 32 bytes
+pub empty_text : (number block capacity size : ℕ) (bytes made : List ℕ) → 32 + 16 * capacity ≡ size → bytes ≡ replicate size 0 → made ≡ body_head_text number 0 0 block ++ drop 32 bytes
     → made ≡ bytes_of (empty_buffer number block capacity)
 empty_text number block capacity size bytes made size_is bytes_are made_is =
     let rest : size - 32 ≡ 16 * (capacity - 0) = omega arith in
     let zeros : drop 32 bytes ≡ replicate (16 * (capacity - 0)) 0 = ap (drop 32) bytes_are ∙ drop-replicate 32 size 0 ∙ ap (λ (k : ℕ). replicate k 0) rest in
-    made_is ∙ ap (λ (l : List ℕ). head_text number 0 0 block ++ l) zeros
+    made_is ∙ ap (λ (l : List ℕ). body_head_text number 0 0 block ++ l) zeros
 
 pub keeps_empty : (number block capacity : ℕ) (made : List ℕ) → number ≤ top_number → capacity ≤ 65278 → made ≡ bytes_of (empty_buffer number block capacity)
     → KeepsBody (empty_buffer number block capacity) 0 made

@@ -2,7 +2,7 @@
 ghost use Rattle.std.specs.Prelude.{◌≡◌, ◌+◌, ◌*◌, ◌≤◌, ◌^◌, ◌++◌, length, take, drop};
 ghost use Rattle.rec_format.specs.Versions.{IsVersion, version_units};
 ghost use Rattle.rec_format.specs.RecordText.{CanBeRecorded, record_text};
-ghost use Rattle.block_format.specs.Layout.{head_text};
+ghost use Rattle.block_format.specs.Layout.{body_head_text};
 
 use block_format::{BODY_HEAD_BYTES, write_head};
 use rec_format::{Digest, Version, pack_into};
@@ -10,7 +10,7 @@ use rec_format::{Digest, Version, pack_into};
 /// Writes the head of a body over the front of some bytes. What stands behind it stays.
 pub(crate) fn put_head(bytes: &mut [u8], number: u64, records: u32, units: u32, block: u32)
     requires { BODY_HEAD_BYTES ≤ length bytes.old }
-    ensures { bytes.new ≡ head_text number records units block ++ drop 32 bytes.old }
+    ensures { bytes.new ≡ body_head_text number records units block ++ drop 32 bytes.old }
 {
     let mut head = [0; BODY_HEAD_BYTES];
     write_head(number, records, units, block, &mut head);

@@ -1,12 +1,12 @@
 -- The bytes are the head of the fields that are read in them, or of no fields.
 use Rattle.std.proofs.Common.{◌≡◌, ◌∙◌, ℕ, ◌^◌, ◌<◌, take, ap, sym, arith, Some, Option, subst}
 use Rattle.block_format.specs.declared.body.BodyHead.{BodyHead}
-use Rattle.block_format.specs.Layout.{IsHead, head_text}
+use Rattle.block_format.specs.Layout.{IsHead, body_head_text}
 use Rattle.block_format.proofs.HeadFields.{agree, differ, fields_of_head}
 use Rattle.block_format.proofs.body.read_head.Goals as goal
 
-same_text : {n n' r r' u u' : ℕ} (block : ℕ) → n ≡ n' → r ≡ r' → u ≡ u' → head_text n r u block ≡ head_text n' r' u' block
-same_text block en er eu = λ i. head_text (en i) (er i) (eu i) block
+same_text : {n n' r r' u u' : ℕ} (block : ℕ) → n ≡ n' → r ≡ r' → u ≡ u' → body_head_text n r u block ≡ body_head_text n' r' u' block
+same_text block en er eu = λ i. body_head_text (en i) (er i) (eu i) block
 
 same_head : {n n' r r' u u' : ℕ} → n ≡ n' → r ≡ r' → u ≡ u' → let a : BodyHead = record { number = n; records = r; units = u } in let b : BodyHead = record { number = n'; records = r'; units = u' } in a ≡ b
 same_head en er eu = λ i. record { number = en i; records = er i; units = eu i }

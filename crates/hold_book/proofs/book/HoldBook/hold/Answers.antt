@@ -1,7 +1,7 @@
 use Rattle.std.proofs.Common.{true, Ok, IfOk, OnOk, ap, subst, ◌∙◌, arith}
 use Rattle.std.specs.HashSet.{PutsKey, Updates}
 use Rattle.std.proofs.lemmas.List.Sums.{count_by-le-length}
-use Rattle.hold_book.specs.Holds.{HoldState, with_hold}
+use Rattle.hold_book.specs.Holds.{HoldState, with_pair}
 use Rattle.hold_book.specs.Counts.{count_of}
 use Rattle.hold_book.proofs.Pairs.{names, same_pair, count_added, hold_added}
 use Rattle.hold_book.proofs.book.HoldBook.hold.Goals as goal
@@ -25,10 +25,10 @@ pub returns-then-unwrap : goal.returns-then-unwrap
 returns-then-unwrap c =
     let updated = subst (λ r. OnOk r (Updates same_pair c.self.inside.pairs c.insert-added.new.self (c.args.buffer, c.args.block) true)) c.unwrap.ensures c.insert-added.ensures.updates in
     hold_added c.self.inside.pairs.keys c.insert-added.new.self.keys (c.args.buffer, c.args.block) updated.0
-    ∙ ap (λ (s : HoldState). with_hold s.holds c.args.buffer c.args.block) c.self.view_is
+    ∙ ap (λ (s : HoldState). with_pair s.holds c.args.buffer c.args.block) c.self.view_is
 
 pub returns-else-unwrap : goal.returns-else-unwrap
 returns-else-unwrap c =
     let updated = subst (λ r. OnOk r (Updates same_pair c.self.inside.pairs c.insert-added.new.self (c.args.buffer, c.args.block) true)) c.unwrap.ensures c.insert-added.ensures.updates in
     hold_added c.self.inside.pairs.keys c.insert-added.new.self.keys (c.args.buffer, c.args.block) updated.0
-    ∙ ap (λ (s : HoldState). with_hold s.holds c.args.buffer c.args.block) c.self.view_is
+    ∙ ap (λ (s : HoldState). with_pair s.holds c.args.buffer c.args.block) c.self.view_is

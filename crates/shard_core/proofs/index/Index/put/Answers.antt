@@ -1,7 +1,7 @@
 use Rattle.std.proofs.Common.{◌≡◌, sym, ◌∙◌, ap, subst, List, [], ◌∷◌, ◌++◌, set}
 use Rattle.std.specs.Prelude.{None}
 use Rattle.rec_format.specs.declared.entry.Entry.{Entry}
-use Rattle.shard_core.specs.Index.{IndexView, IsPlaceOf, WithEntry, held}
+use Rattle.shard_core.specs.Index.{IndexView, IsPositionOf, WithEntry, held}
 use Rattle.shard_core.proofs.IndexLemmas.{holds_pushed, holds_set}
 use Rattle.shard_core.proofs.index.Index.put.Goals as goal
 
@@ -9,7 +9,7 @@ pub returns-in-Some : goal.returns-in-Some
 returns-in-Some c =
     let before = ap (λ (v : IndexView). v.entries) c.self.view_is in
     let there = c.deref.ensures.value ∙ before in
-    let placed = subst (λ (l : List Entry). IsPlaceOf c.args.entry.digest l c.in-Some.at) there c.in-Some.ensures in
+    let placed = subst (λ (l : List Entry). IsPositionOf c.args.entry.digest l c.in-Some.at) there c.in-Some.ensures in
     subst (λ (l : List Entry). WithEntry c.args.entry c.args.self.now.entries (set l c.in-Some.at c.args.entry)) (sym before)
     (holds_set c.args.entry c.args.self.now.entries c.in-Some.at placed c.requires.later)
 

@@ -13,7 +13,7 @@ use Rattle.block_shelf.specs.Calls.{Goes}
 use Rattle.shard_core.specs.declared.settings.Settings.{Settings}
 use Rattle.shard_core.specs.declared.refusals.WriteRefusal.{WriteRefusal}
 use Rattle.shard_core.specs.declared.refusals.WriteRefusal.TheVariants as write
-use Rattle.shard_core.specs.View.{ShardView, SameShape, setup_of}
+use Rattle.shard_core.specs.View.{ShardView, SameSetup, setup_of}
 use Rattle.shard_core.specs.Calls.{Makes, write_answer}
 use Rattle.shard_core.specs.Putting.{Wrote, Commits}
 use Rattle.shard_core.proofs.Making.{setup_same}
@@ -79,7 +79,7 @@ returns-in_err-commit-clause-makes g c = λ s agrees.
     (subst (λ (x : Setup). (steps : List Step) × Commits c.commit.result (flush_all (after_step x (sealed_stream client) t).book) steps
     × Goes g.D.Disk.view x (sealed_stream client ∷ steps) mid.shelf t new.shelf) (sym (setup_same old mid c.write.ensures.shape))
     (c.commit.ensures.committed t it.buffer it.stands it.filling it.there)) in
-    let shape : SameShape old new = record { geometry = c.commit.ensures.shape.geometry ∙ c.write.ensures.shape.geometry; set = c.commit.ensures.shape.set ∙ c.write.ensures.shape.set } in
+    let shape : SameSetup old new = record { geometry = c.commit.ensures.shape.geometry ∙ c.write.ensures.shape.geometry; set = c.commit.ensures.shape.set ∙ c.write.ensures.shape.set } in
     let up : (g.D.Disk.view old.shelf.disk).faults ≤ (g.D.Disk.view new.shelf.disk).faults = subst (λ (d : g.row.D.Denot). (g.D.Disk.view d).faults ≤ (g.D.Disk.view new.shelf.disk).faults) c.write.ensures.disk c.commit.ensures.later.count in
     let refusal : WriteRefusal = c.in_err-commit.field-0.0 in
     let p = err_from_is_err_and c.from_residual-in_err-commit.result c.from_residual-in_err-commit.ensures.1 in
@@ -106,7 +106,7 @@ returns-clause-makes g c = λ s agrees.
     (subst (λ (x : Setup). (steps : List Step) × Commits c.commit.result (flush_all (after_step x (sealed_stream client) t).book) steps
     × Goes g.D.Disk.view x (sealed_stream client ∷ steps) mid.shelf t new.shelf) (sym (setup_same old mid c.write.ensures.shape))
     (c.commit.ensures.committed t it.buffer it.stands it.filling it.there)) in
-    let shape : SameShape old new = record { geometry = c.commit.ensures.shape.geometry ∙ c.write.ensures.shape.geometry; set = c.commit.ensures.shape.set ∙ c.write.ensures.shape.set } in
+    let shape : SameSetup old new = record { geometry = c.commit.ensures.shape.geometry ∙ c.write.ensures.shape.geometry; set = c.commit.ensures.shape.set ∙ c.write.ensures.shape.set } in
     let up : (g.D.Disk.view old.shelf.disk).faults ≤ (g.D.Disk.view new.shelf.disk).faults = subst (λ (d : g.row.D.Denot). (g.D.Disk.view d).faults ≤ (g.D.Disk.view new.shelf.disk).faults) c.write.ensures.disk c.commit.ensures.later.count in
     subst (λ (ttl : ℕ). Makes g.D.Disk.view (put_call c.args.digest.now ttl c.args.expect c.args.payload.now c.args.now) (write_answer (Ok v.stamp)) old s new) (sym c.requires.ttl)
     (subst (λ (expect : Option ℕ). Makes g.D.Disk.view (put_call c.args.digest.now 0 expect c.args.payload.now c.args.now) (write_answer (Ok v.stamp)) old s new) (sym c.requires.expect)

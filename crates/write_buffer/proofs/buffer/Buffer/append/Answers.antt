@@ -2,7 +2,7 @@
 use Rattle.std.proofs.Common.{◌≡◌, ℕ, ◌+◌, ◌*◌, ◌≤◌, List, ◌++◌, length, take, drop, refl, sym, ap, ◌∙◌, subst, arith}
 use Rattle.rec_format.specs.Versions.{units_for, version_units}
 use Rattle.rec_format.specs.RecordText.{record_text}
-use Rattle.block_format.specs.Layout.{head_text}
+use Rattle.block_format.specs.Layout.{body_head_text}
 use Rattle.write_buffer.specs.Buffers.{BufferState, KeepsBody, bytes_of, seen, used_units, with_record}
 use Rattle.write_buffer.proofs.Reading.{count_within, length-records_in}
 use Rattle.write_buffer.proofs.Appending.{keeps_next, length-bytes, seen_next, text_next, whole}
@@ -57,7 +57,7 @@ text_after c =
     c.put_record.ensures.text
     ∙ ap (λ (l : List ℕ). take (32 + 16 * c.self.inside.used) l ++ (record_text c.args.digest.now c.args.version.now ++ drop (16 * version_units c.args.version.now) (drop (32 + 16 * c.self.inside.used) l))) c.deref_mut.ensures.value in
     let two_is = c.put_head.ensures
-    ∙ ap (λ (l : List ℕ). head_text c.self.inside.number (c.self.inside.count + 1) (c.self.inside.used + c.units_of.result) c.self.inside.block ++ drop 32 l) middle in
+    ∙ ap (λ (l : List ℕ). body_head_text c.self.inside.number (c.self.inside.count + 1) (c.self.inside.used + c.units_of.result) c.self.inside.block ++ drop 32 l) middle in
     let written = text_next (before c) c.self.inside.used old c.self.invariant c.args.digest.now c.args.version.now c.put_record.ensures.recordable (room_before c)
     (32 + 16 * c.self.inside.used) (c.self.inside.count + 1) (c.self.inside.used + c.units_of.result) one c.put_head.new.bytes refl (count_after c) (units_after c) one_is two_is in
     let head_size = c.put_head.auto.bytes ∙ ap length c.deref_mut-2.ensures.value in
