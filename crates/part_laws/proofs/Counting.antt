@@ -11,7 +11,7 @@ use Rattle.rec_format.specs.declared.entry.Entry.{Entry}
 use Rattle.rec_format.specs.Places.{partition_number, sprig_number, device_number}
 use Rattle.rec_format.specs.Versions.{is_put, is_tombstone}
 use Rattle.device_model.specs.Book.{Setup}
-use Rattle.device_model.specs.Device.{State, entry, entry_is_covered, entry_passes, part_of, digests_in as logged, in_part, put_count, tombstone_count, covered_count}
+use Rattle.device_model.specs.Device.{State, entry, entry_is_covered, entry_passes, part_of, digests_of as logged, in_part, put_count, tombstone_count, covered_count}
 use Rattle.device_model.specs.Steps.{part_total}
 use Rattle.partition_map.proofs.PartLaws.{part_below}
 use Rattle.sprig_tree.specs.Entries.{digests_in}

@@ -14,7 +14,7 @@ use Rattle.rec_format.specs.declared.entry.Entry.{Entry}
 use Rattle.rec_format.specs.Places.{digest_cmp, same_digest}
 use Rattle.rec_format.specs.Versions.{is_later_stamp}
 use Rattle.device_model.specs.Book.{Setup}
-use Rattle.device_model.specs.Device.{State, RaidState, Turn, mark_turn, scan_turn, apply_turn, drop_turn, stamp_of, part_of, digests_in as logged, eligible_in, is_eligible}
+use Rattle.device_model.specs.Device.{State, RaidState, Turn, mark_turn, scan_turn, apply_turn, drop_turn, stamp_of, part_of, digests_of as logged, eligible_in, is_eligible}
 use Rattle.device_model.specs.Steps.{marked_part, compared_part, done_part, after_step, after_drop, has_older, is_older_than, part_total}
 use Rattle.device_model.specs.Legal.{unmarked_by}
 use Rattle.sprig_tree.specs.Entries.{digests_in, entry_of}

@@ -13,7 +13,7 @@ use Rattle.rec_format.specs.Places.{digest_cmp, same_digest}
 use Rattle.rec_format.specs.Versions.{is_tomb_kind, is_put, is_tombstone, is_expired, is_expired_put, is_live_put}
 use Rattle.device_model.specs.Histories.{Item, write, dropped, rid, cleared, top_of, is_covered, if_live}
 use Rattle.device_model.specs.Book.{Setup}
-use Rattle.device_model.specs.Device.{State, Log, history, history_of, entry, entry_is_covered, entry_passes, seen, part_of, digests_in as logged, in_part, expired_in, is_eligible, eligible_in, is_old_enough}
+use Rattle.device_model.specs.Device.{State, Log, history, history_of, entry, entry_is_covered, entry_passes, seen, part_of, digests_of as logged, in_part, expired_in, is_eligible, eligible_in, is_old_enough}
 use Rattle.device_model.specs.Legal.{marked_in}
 use Rattle.sprig_tree.specs.Entries.{digests_in, entry_of}
 use Rattle.sprig_tree.specs.State.{SprigState}

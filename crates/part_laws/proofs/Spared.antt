@@ -11,7 +11,7 @@ use Rattle.rec_format.specs.Places.{same_digest}
 use Rattle.rec_format.specs.Versions.{version_units, top_number}
 use Rattle.device_model.specs.Histories.{Item, write, dropped, rid, cleared, top_of, is_covered}
 use Rattle.device_model.specs.Book.{Setup, Book, Live, client, defrag, live_of, placing_number, placed, dropped_live, with_seal, with_gate_begun, with_flushed, with_first_passed, refreshed}
-use Rattle.device_model.specs.Device.{State, RaidState, Turn, mark_turn, scan_turn, apply_turn, drop_turn, finished, history, entry, stamp_of, part_of, high_time, digests_in as logged, eligible_in, is_eligible}
+use Rattle.device_model.specs.Device.{State, RaidState, Turn, mark_turn, scan_turn, apply_turn, drop_turn, finished, history, entry, stamp_of, part_of, high_time, digests_of as logged, eligible_in, is_eligible}
 use Rattle.device_model.specs.Steps.{Step, wrote, moved, removed, rid_of, uncovered, sealed_stream, gate_begun, flushed_buffer, closing_failed, raid_begun, raid_given_up, marked_part, scanned_block, compared_part, done_part, after_step, after_steps, with_item, without_mark, moved_state, raised, raid_at_begin, raid_at_end, after_scan, turn_with, first_part, has_older, is_older_than, part_total}
 use Rattle.rec_format.proofs.Laws.{same_digest_is}
 use Rattle.sprig_tree.specs.Entries.{digests_in}

@@ -5,8 +5,8 @@ use Rattle.rec_format.specs.declared.version.Digest.{Digest}
 use Rattle.rec_format.specs.declared.version.Version.{Version}
 use Rattle.rec_format.specs.declared.entry.Entry.{Entry}
 use Rattle.rec_format.specs.Entries.{Names}
-use Rattle.rec_format.specs.Versions.{version_units, top_number}
-use Rattle.device_model.specs.Book.{Setup, Live, live_of}
+use Rattle.rec_format.specs.Versions.{top_number}
+use Rattle.device_model.specs.Book.{Setup, live_of, live_of_entry}
 use Rattle.device_model.specs.Device.{State, RaidState, Turn, mark_turn, scan_turn, apply_turn, drop_turn, finished, entry, entry_is_covered, part_of, high_time}
 use Rattle.device_model.specs.Steps.{part_total}
 use Rattle.sprig_tree.specs.Entries.{digests_in, IsInDigestOrder, entry_of}

@@ -6,7 +6,7 @@ use Rattle.rec_format.specs.Places.{same_digest}
 use Rattle.rec_format.specs.Versions.{is_later_stamp}
 use Rattle.device_model.specs.Book.{Setup}
 use Rattle.device_model.specs.Device.{part_of}
-use Rattle.block_format.specs.Copies.{Copy, cold_copy}
+use Rattle.block_format.specs.Copies.{Copy, entry_for, cold_copy}
 use Rattle.recovery.specs.Cold.{copies_high}
 use Rattle.sprig_tree.specs.Entries.{IsInDigestOrder, entry_of}
 use Rattle.sprig_tree.specs.State.{SprigState}
