@@ -1,5 +1,5 @@
 -- Worked values: what a crash may leave of a history.
-use Rattle.std.proofs.Common.{◌≡◌, ◌^◌, true, false, [], ◌∷◌, refl}
+use Rattle.std.proofs.Common.{◌≡◌, true, false, [], ◌∷◌, refl}
 use Rattle.rec_format.specs.Versions.{a_put}
 use Rattle.std.proofs.Common.{⊎_elim}
 use Rattle.rec_format.specs.declared.version.Version.{Version}

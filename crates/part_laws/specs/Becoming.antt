@@ -3,9 +3,7 @@ use Rattle.std.specs.Prelude.{◌≡◌, ℕ, max, false, List, map, filter, ◌
 use Rattle.std.specs.List.{filter_map}
 use Rattle.rec_format.specs.declared.version.Digest.{Digest}
 use Rattle.rec_format.specs.declared.version.Stamp.{Stamp}
-use Rattle.rec_format.specs.declared.version.Version.{Version}
 use Rattle.rec_format.specs.declared.entry.Entry.{Entry}
-use Rattle.rec_format.specs.Versions.{version_units}
 use Rattle.device_model.specs.Book.{Setup}
 use Rattle.device_model.specs.Device.{RaidState, part_of}
 use Rattle.sprig_tree.specs.Entries.{entry_of, with_entry, with_replaced, without_digest}

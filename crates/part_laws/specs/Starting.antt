@@ -11,7 +11,6 @@ use Rattle.recovery.specs.Cold.{copies_high}
 use Rattle.sprig_tree.specs.Entries.{IsInDigestOrder, entry_of}
 use Rattle.sprig_tree.specs.State.{SprigState}
 use Rattle.part_laws.specs.Becoming.{TakesEntry}
-use Rattle.rec_format.specs.Entries.{entry_at}
 
 -- what is chosen of a digest's copies, where the digest is of the part
 abbrev pub entry_chosen : Setup → (part : ℕ) → (Digest → Option Copy) → Digest → Option Entry

@@ -2,7 +2,7 @@
 use Rattle.std.proofs.Common.{replicate, false, ◌≡◌, [], ◌∷◌, refl}
 use Rattle.rec_format.specs.Versions.{a_put, a_tombstone}
 use Rattle.recovery.specs.Audit.{check_counts}
-use Rattle.std.proofs.Common.{Bool, true, ℕ, List, ◌+◌, ◌/◌, ◌++◌, ◌<◌, ◌≤◌}
+use Rattle.std.proofs.Common.{Bool, true, ℕ, List}
 use Rattle.rec_format.specs.declared.version.Digest.{Digest}
 use Rattle.rec_format.specs.declared.version.Version.{Version}
 use Rattle.device_model.specs.Policy.{whole}

@@ -1,5 +1,5 @@
 -- Crate recovery. Which images are sound.
-use Rattle.std.specs.Prelude.{ℕ, ◌+◌, Bool, true, ◌&&◌, ◌==◌, List, ◌∷◌, ◌≡◌, ◌⊎◌, if◌then◌else◌, IsTrue}
+use Rattle.std.specs.Prelude.{ℕ, Bool, true, ◌&&◌, List, ◌≡◌, IsTrue}
 use Rattle.std.specs.List.{AllByRecursion}
 use Rattle.rec_format.specs.Places.{same_digest, device_number}
 use Rattle.rec_format.specs.Versions.{is_later, is_put, is_tombstone, block_capacity}

@@ -1,5 +1,5 @@
 -- Crate recovery. The state after a start from an image.
-use Rattle.std.specs.Prelude.{ℕ, ◌+◌, max, Bool, false, ◌&&◌, ◌==◌, List, [], ◌∷◌, map, ◌≡◌, ◌⊎◌, if◌then◌else◌, Contains}
+use Rattle.std.specs.Prelude.{ℕ, ◌+◌, max, Bool, false, ◌&&◌, ◌==◌, List, [], ◌∷◌, map, ◌≡◌, if◌then◌else◌, Contains}
 use Rattle.std.specs.List.{AllByRecursion, filter_map}
 use Rattle.rec_format.specs.declared.version.Digest.{Digest}
 use Rattle.rec_format.specs.Places.{same_digest, with_digest}

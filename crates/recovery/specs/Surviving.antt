@@ -1,5 +1,5 @@
 -- Crate recovery. Which images a state of a device allows, and which copies a start from one of them may find.
-use Rattle.std.specs.Prelude.{ℕ, ◌+◌, false, ◌&&◌, ◌==◌, List, [], ◌∷◌, map, ◌≡◌, ◌⊎◌, if◌then◌else◌, Contains}
+use Rattle.std.specs.Prelude.{ℕ, false, List, [], ◌∷◌, map, ◌≡◌, ◌⊎◌, if◌then◌else◌, Contains}
 use Rattle.std.specs.List.{AllByRecursion, list_any}
 use Rattle.rec_format.specs.declared.version.Digest.{Digest}
 use Rattle.rec_format.specs.declared.version.Version.{Version}
