@@ -25,3 +25,8 @@ bytes_of pairs = map (λ pair. pair.0) pairs
 pub record InputState : Type 0 where
   pub gone : List ℕ
   pub faults : ℕ
+
+-- What is seen of the standard output: the bytes that the system took, and how many writes failed.
+pub record OutputState : Type 0 where
+  pub written : List ℕ
+  pub faults : ℕ

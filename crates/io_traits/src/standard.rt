@@ -1,5 +1,6 @@
-// The standard streams as a source and a sink. No clause tells what they hold.
-ghost use Rattle.std.specs.Prelude.{◌≡◌, [], ◌++◌, None};
+// The standard streams as a source and a sink. Which bytes went through them is kept for clauses alone, in histories that take no
+// memory. No clause tells what the input holds, or what becomes of the output.
+ghost use Rattle.std.specs.Prelude.{◌≡◌, [], ◌++◌, None, Some};
 ghost use Rattle.io_traits.specs.Memory.{bytes_of};
 
 use crate::{Ends, Sink, SinkFault, Source, SourceFault};
@@ -8,7 +9,7 @@ use std::io::{Print, Read};
 use std::marker::Model;
 use std::rt::{Stdin, Stdout};
 
-/// The standard input. Which bytes were taken from it is kept for clauses alone, in a history that takes no memory.
+/// The standard input, with the history of the bytes taken.
 #[derive(Drop)]
 pub struct StandardInput {
     stream: Stdin,
@@ -49,11 +50,11 @@ impl Ends for StandardInput {
 }
 
 // The history goes on with these bytes.
-fn remember(gone: &mut Log<u8, ()>, piece: &[u8])
-    ensures { bytes_of gone.new.items ≡ bytes_of gone.old.items ++ piece.now }
+fn remember(past: &mut Log<u8, ()>, piece: &[u8])
+    ensures { bytes_of past.new.items ≡ bytes_of past.old.items ++ piece.now }
 {
     for byte in piece {
-        *gone = gone.and(byte, &());
+        *past = past.and(byte, &());
     }
 }
 
@@ -68,26 +69,31 @@ impl Source for StandardInput {
     }
 }
 
-/// The standard output, which keeps nothing back: what was written is handed on.
+/// The standard output, with the history of the bytes that the system took. It keeps nothing back.
 #[derive(Drop)]
 pub struct StandardOutput {
     stream: Stdout,
+    written: Log<u8, ()>,
     faults: u64,
 }
 
 impl Model for StandardOutput {
-    ghost use Rattle.std.specs.Prelude.{ℕ};
+    ghost use Rattle.io_traits.specs.Memory.{OutputState, bytes_of};
 
-    ghost Value = { ℕ };
+    ghost Value = { OutputState };
 
-    ghost view = { λ s. s.faults };
+    ghost view = { λ s. record { written = bytes_of s.written.items; faults = s.faults } };
 }
 
 impl StandardOutput {
     pub fn new(stream: Stdout) -> Self
-        ensures { result ≡ 0 }
+        ensures { result ≡ record { written = []; faults = 0 } }
     {
-        StandardOutput { stream, faults: 0 }
+        StandardOutput {
+            stream,
+            written: Log::new(),
+            faults: 0,
+        }
     }
 }
 
@@ -98,15 +104,18 @@ impl Ends for StandardOutput {
 
     ghost source_faults = { λ _. 0 };
 
-    ghost written = { λ _. None };
+    ghost written = { λ s. Some s.written };
 
-    ghost sink_faults = { λ faults. faults };
+    ghost sink_faults = { λ s. s.faults };
 }
 
 impl Sink for StandardOutput {
     fn write_some(&mut self, bytes: &[u8]) -> Result<usize, SinkFault> {
         match self.stream.write_some(bytes) {
-            Ok(count) if count > 0 || bytes.is_empty() => Ok(count),
+            Ok(count) if count > 0 || bytes.is_empty() => {
+                remember(&mut self.written, &bytes[..count]);
+                Ok(count)
+            }
             _ => {
                 self.faults = self.faults.saturating_add(1);
                 Err(SinkFault)
