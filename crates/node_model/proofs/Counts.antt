@@ -1,13 +1,17 @@
 -- The counts of faults of a run never fall, and an answer of a fault raises one of them.
-use Rattle.std.proofs.Common.{◌≡◌, ℕ, zero, suc, ◌+◌, ◌≤◌, Bool, List, [], ◌∷◌, refl, inl, inr, arith, subst, sym, ◌∙◌}
+use Rattle.std.proofs.Common.{◌≡◌, ℕ, zero, suc, ◌+◌, ◌<◌, ◌≤◌, Bool, List, [], ◌∷◌, refl, inl, inr, arith, subst, sym, ◌∙◌}
 use Rattle.std.specs.List.{AllByRecursion}
 use Rattle.device_model.specs.Book.{Setup}
-use Rattle.std.specs.Prelude.{◌⊎◌, Option, Some, None, MatchOption, slice_get}
+use Rattle.std.specs.Prelude.{◌⊎◌, ◌^◌, Option, Some, None, MatchOption, slice_get}
 use Rattle.device_model.specs.Events.{Event}
 use Rattle.device_model.specs.Legal.{Follows}
 use Rattle.node_model.specs.Commands.{Node, NodeEvent, at_place, slot_after, node_after, IsLegalOn}
 use Rattle.node_model.specs.Run.{ImagesLeft, Served, RestartsEach, SameStates, Serves, ServesAll, IsRun, node_or, node_at_reply, node_after_line, node_after_lines, last_node, AnswersLine}
-use Rattle.node_model.specs.Headline.{NoneFell, counts_of, Outside, HoldsReplies}
+use Rattle.node_model.specs.declared.run_end.RunEnd.{RunEnd}
+use Rattle.node_model.specs.declared.run_end.RunEnd.TheVariants as end
+use Rattle.node_model.specs.Outside.{NoneFell, counts_of, Outside, RoseOn, RoseInLast}
+use Rattle.node_model.specs.RunEnd.{HasCause}
+use Rattle.node_model.specs.Headline.{HoldsReplies}
 
 pub none_fell_refl : (xs : List ℕ) → NoneFell xs xs
 none_fell_refl [] = refl
@@ -131,3 +135,49 @@ nothing_rose Starts told setups o since h same =
     subst (λ (xs : List ℕ). NoneFell xs (counts_of h.first)) (sym (h.counts_last ∙ same)) h.counts_first in
     lines_rose since told h.first h.lines h.is_run.serves
     (none_fell_then _ _ _ (events_keep told (node_after_lines h.lines h.first) h.closing h.is_run.legal) back)
+
+-- ---- the device whose fault ended a run
+
+-- a count that rose behind others that didn't fall
+rose_behind : (device : ℕ) (xs ys zs : List ℕ) → NoneFell xs ys → RoseOn device ys zs → RoseOn device xs zs
+rose_behind device [] ys zs kept rose = subst (λ (l : List ℕ). RoseOn device l zs) kept rose
+rose_behind device (x ∷ xs) [] zs kept rose = absurd kept
+rose_behind zero (x ∷ xs) (y ∷ ys) [] kept rose = absurd rose
+rose_behind zero (x ∷ xs) (y ∷ ys) (z ∷ zs) kept rose = λ below. let higher : y < z = rose below in omega (arith, kept.0)
+rose_behind (suc n) (x ∷ xs) (y ∷ ys) [] kept rose = rose_behind n xs ys [] kept.1 rose
+rose_behind (suc n) (x ∷ xs) (y ∷ ys) (z ∷ zs) kept rose = rose_behind n xs ys zs kept.1 rose
+
+-- and before such
+rose_before : (device : ℕ) (xs ys zs : List ℕ) → RoseOn device xs ys → NoneFell ys zs → RoseOn device xs zs
+rose_before device [] ys zs rose kept = absurd rose
+rose_before device (x ∷ xs) [] zs rose kept = subst (λ (l : List ℕ). RoseOn device (x ∷ xs) l) (sym kept) rose
+rose_before device (x ∷ xs) (y ∷ ys) [] rose kept = absurd kept
+rose_before zero (x ∷ xs) (y ∷ ys) (z ∷ zs) rose kept = λ below. let low : y + 1 < 2 ^ 64 = omega (arith, kept.0) in let higher : x < y = rose low in omega (arith, kept.0)
+rose_before (suc n) (x ∷ xs) (y ∷ ys) (z ∷ zs) rose kept = rose_before n xs ys zs rose kept.1
+
+rose_in_lines : (left : ImagesLeft) (told : Bool) (device : ℕ) (node : Node) (lines : List Served) → ServesAll left told node lines
+    → RoseInLast device node lines → RoseOn device (counts_of node) (counts_of (node_after_lines lines node))
+rose_in_lines left told device node [] serves rose = absurd rose
+rose_in_lines left told device node (served ∷ []) serves rose = rose
+rose_in_lines left told device node (served ∷ next ∷ lines) serves rose =
+    rose_behind device (counts_of node) (counts_of (node_after_line served node)) (counts_of (node_after_lines (next ∷ lines) (node_after_line served node)))
+    (line_keeps left told node served serves.0)
+    (rose_in_lines left told device (node_after_line served node) (next ∷ lines) serves.1 rose)
+
+rose_in_run : (left : ImagesLeft) (told : Bool) (device : ℕ) (o : Outside) (first : Node) (lines : List Served) (unserved : List (Option (List ℕ))) (closing : List NodeEvent)
+    → IsRun left told first lines closing → HasCause (end.DeviceFault device) o first lines unserved closing
+    → RoseOn device (counts_of first) (counts_of (last_node first lines closing))
+rose_in_run left told device o first lines unserved closing run (inl closes) =
+    rose_behind device _ (counts_of (node_after_lines lines first)) _ (lines_keep left told first lines run.serves) closes.1.rose
+rose_in_run left told device o first lines unserved closing run (inr halts) =
+    rose_before device _ (counts_of (node_after_lines lines first)) _ (rose_in_lines left told device first lines run.serves halts.1)
+    (events_keep told (node_after_lines lines first) closing run.legal)
+
+-- Where a run ended by a device's fault, the count of this device rose in it.
+pub device_rose : (Starts : Node → Type 0) (told : Bool) (setups : List Setup) (o : Outside) (since : ImagesLeft) (h : HoldsReplies Starts told setups o since)
+    (device : ℕ) → o.end ≡ end.DeviceFault device → RoseOn device o.before.disks o.after.disks
+device_rose Starts told setups o since h device is =
+    subst (λ (xs : List ℕ). RoseOn device o.before.disks xs) h.counts_last
+    (rose_behind device _ (counts_of h.first) _ h.counts_first
+    (rose_in_run since told device o h.first h.lines h.unserved h.closing h.is_run
+    (subst (λ (e : RunEnd). HasCause e o h.first h.lines h.unserved h.closing) is h.cause)))

@@ -1,8 +1,7 @@
 -- Crate node_model. The texts of a command besides replies: the note on how it ended, and what is written of each device.
 -- What is written stands as a line, with an LF behind it; a note has none.
-use Rattle.std.specs.Prelude.{ℕ, List, [], ◌∷◌, ◌++◌, length, codes, decimal, ◌≡◌, MatchBool, MatchOption, slice_get}
+use Rattle.std.specs.Prelude.{ℕ, List, [], ◌∷◌, ◌++◌, codes, decimal, ◌≡◌}
 use Rattle.hex.specs.Hex.{encode_lower}
-use Rattle.device_model.specs.Policy.{built}
 use Rattle.recovery.specs.Audit.{Verdict, all_sound, stray, twins, bare}
 use Rattle.block_format.specs.Refusals.{Refusal, not_formatted, other_shape, damaged_block, IsRefusedFor}
 use Rattle.line_proto.specs.Lines.{words_line}
@@ -33,18 +32,6 @@ pub record IsRefusalNote (device devices : ℕ) (reads note : List ℕ) : Type 0
   pub why : Refusal
   pub is_refused : IsRefusedFor device devices reads why
   pub text : note ≡ refusal_note device why
-
--- the note of a run that ended with this status, over devices that read so in the end
-pub record IsNote (status noted : ℕ) (reads : List (List ℕ)) (note : List ℕ) : Type 0 where
-  pub none : status ≡ 0 → note ≡ []
-  pub words : status ≡ 2 → note ≡ codes "words refused"
-  pub disk : status ≡ 3 → note ≡ fault_note noted
-  pub source : status ≡ 4 → note ≡ codes "source fault"
-  pub sink : status ≡ 5 → note ≡ codes "sink fault"
-  pub memory : status ≡ 6 → note ≡ codes "no memory"
-  pub refused : status ≡ 7 → MatchBool built.reuses (MatchOption (slice_get reads noted) ⊥ (λ bytes. IsRefusalNote noted (length reads) bytes note)) (note ≡ refused_note noted)
-  pub door : status ≡ 8 → note ≡ codes "door fault"
-  pub long : status ≡ 10 → note ≡ codes "input too long"
 
 -- ---- what is written of devices
 

@@ -1,3 +1,9 @@
-//! The model of a node: what a command does on its devices, what a run of lines is, and what a run promises; with laws of them.
-//! The crate has no code.
+//! The model of a node: what a command does on its devices, what a run of lines is, how a run ends, and what it promises; with laws of
+//! them. Its code is the ends of a run alone.
 #![tactic(auto)]
+
+mod note;
+mod run_end;
+
+pub use note::Note;
+pub use run_end::RunEnd;

@@ -1,5 +1,5 @@
 -- A session over a started device, and the closing flush behind it, are a run, with its promises.
-use Rattle.std.proofs.Common.{◌≡◌, ◌≢◌, ℕ, zero, suc, ◌<◌, ◌≤◌, Bool, true, false, List, [], ◌∷◌, refl, inl, subst, sym, ap, ◌∙◌, arith}
+use Rattle.std.proofs.Common.{◌≡◌, ◌≢◌, ℕ, zero, suc, ◌≤◌, Bool, true, false, List, [], ◌∷◌, refl, inl, subst, sym, ap, ◌∙◌}
 use Rattle.std.specs.Prelude.{Option, Result, ◌^◌}
 use Rattle.fault_count.specs.Counts.{Rose}
 use Rattle.disk_model.specs.Disk.{DiskView, IsDisk, IsOnly, IsHonest, meanwhile}
@@ -9,7 +9,7 @@ use Rattle.recovery.specs.Start.{start_state, entries_state}
 use Rattle.recovery.specs.Sound.{IsSound}
 use Rattle.line_proto.specs.declared.command.Command.{Command}
 use Rattle.line_proto.specs.declared.reply.Reply.{Reply}
-use Rattle.node_model.specs.Commands.{Node}
+use Rattle.node_model.specs.Commands.{Node, NodeEvent}
 use Rattle.node_session.specs.declared.ended.Ended.{Ended}
 use Rattle.node_session.specs.declared.ended.Ended.TheVariants.{SourceFault, SinkFault, Halted}
 use Rattle.node_session.specs.Turns.{Times}
@@ -18,8 +18,11 @@ use Rattle.block_shelf.specs.Disks.{IsLater}
 use Rattle.shard_core.specs.declared.settings.Settings.{Settings}
 use Rattle.shard_core.specs.View.{ShardView, setup_of}
 use Rattle.shard_core.specs.Stands.{Agrees}
-use Rattle.node_model.specs.Run.{last_node, states_while}
-use Rattle.node_model.specs.Headline.{Outside, StartsFrom, HoldsReplies, HoldsThroughout, counts_of, input_limit}
+use Rattle.node_model.specs.declared.run_end.RunEnd.{RunEnd}
+use Rattle.node_model.specs.Run.{Served, node_after_lines, last_node, states_while}
+use Rattle.node_model.specs.Outside.{Outside, counts_of}
+use Rattle.node_model.specs.RunEnd.{input_limit}
+use Rattle.node_model.specs.Headline.{StartsFrom, HoldsReplies, HoldsThroughout}
 use Rattle.node_model.specs.Meaning.{ActsBy, TendsBy, Rests, Enters, SurvivesOne}
 use Rattle.core_run.specs.OneDevice.{StandsAlone, StandsSafely, views_of, ActsAlone, TendsAlone, ClosesAlone, ClosedSo, unknown, NeverHalts, Started}
 use Rattle.shard_core.proofs.Going.{safe_survives}
@@ -32,13 +35,9 @@ use Rattle.node_run.proofs.Weaker.{ran_more}
 use Rattle.node_run.proofs.Kept.{ran_keeps}
 use Rattle.node_run.proofs.Closed.{closed_run, never_halts, says_last}
 use Rattle.node_run.proofs.Holds.{run_replies, run_holds}
-use Rattle.node_prog.specs.Concluding.{ended_status, ended_note}
+use Rattle.node_prog.specs.Concluding.{session_end}
 use Rattle.node_prog.specs.Promises.{Ends, StartsFound, IsServed, disk_of, outside}
-use Rattle.node_prog.proofs.Ending.{note_of, rose_of, status_of}
-
--- a count that was lower before has risen too
-rose_before : (a b c : ℕ) → a ≤ b → Rose b c → Rose a c
-rose_before a b c up rose = λ below. let higher : b < c = rose below in omega arith
+use Rattle.node_prog.proofs.Ending.{concludes_so}
 
 module _ {D : Type 0} (view : D → DiskView) where
   abbrev first_of : ShardView D → State → Node
@@ -89,7 +88,7 @@ module _ {D : Type 0} (view : D → DiskView) where
         (ran_keeps Acts Tends LaterDisk (λ store. none store.shelf.disk) (λ o m n. later_then view o.shelf.disk m.shelf.disk n.shelf.disk) (λ o c now r n acts. acts.0) (λ o n tends. tends.0)
         _ _ _ _ _ _ _ old new times later result ran)
 
-  -- under the status and the note that it ends with
+  -- how it ends
   module _ (is_disk : (disk : D) → IsDisk (view disk))
       {E : Type 0} (before after : Ends) (set : Settings) (disk : D) (old new end : ShardView D) (times later : Times) (result : Ended) (closed : Result ℕ E)
       (ran : Ran Acts Tends (2 ^ 40) before.taken after.taken before.left after.left before.written after.written old new times later result)
@@ -109,32 +108,25 @@ module _ {D : Type 0} (view : D → DiskView) where
     Says = ClosedSo closed (view new.shelf.disk).faults (view end.shelf.disk).faults
 
     abbrev OutsideOf : (ended : Bool) → (images : List (List ℕ)) → Outside
-    OutsideOf ended images = outside (ended_status result closed) (ended_note result closed) ran.bytes ran.output ended times before after images
+    OutsideOf ended images = outside (session_end result closed) ran.bytes ran.output ended times before after images
 
-    rose : (last : Node) → Says last → ended_status result closed ≡ 3 → Rose before.disk after.disk
-    rose last says is =
-        subst (λ (n : ℕ). Rose n after.disk) (sym at_first) (subst (λ (n : ℕ). Rose (view disk).faults n) (sym at_last)
-        (rose_before (view disk).faults (view new.shelf.disk).faults (view end.shelf.disk).faults up_to_closing.count (rose_of result closed goes (view new.shelf.disk).faults (view end.shelf.disk).faults last says is)))
-
-    frames : (Starts : Node → Type 0) (ended : Bool) (images : List (List ℕ)) (s : State) (last : Node) → Starts (first_of old s) → IsOne end last → Says last
-        → Frames Starts (setup_of old ∷ []) (OutsideOf ended images) 0 (first_of old s) last
-    frames Starts ended images s last starts one says = record {
+    frames : (Starts : Node → Type 0) (ended : Bool) (images : List (List ℕ)) (s : State) (last : Node) → Starts (first_of old s) → IsOne end last
+        → Frames Starts (setup_of old ∷ []) (OutsideOf ended images) (first_of old s) last
+    frames Starts ended images s last starts one = record {
       set = refl;
       numbered = (started.device_is, started.devices_is, tt);
       starts = starts;
       counts_first = (subst (λ (n : ℕ). n ≤ (view old.shelf.disk).faults) (sym at_first) started.read.later, refl);
       counts_last = counted end last one ∙ ap (λ (n : ℕ). n ∷ []) (sym at_last);
-      note = note_of result closed goes;
-      disk = rose last says;
     }
 
-    concludes : (ended : Bool) (images : List (List ℕ)) (last : Node) → Says last → Concludes (λ a b. ⊥) (OutsideOf ended images) 0 last result
-    concludes ended images last says = record {
-      status = status_of result closed goes (view new.shelf.disk).faults (view end.shelf.disk).faults last says;
-      restart = λ is a b halts. absurd halts;
-      source = source;
-      sink = sink;
-    }
+    concludes : (ended : Bool) (images : List (List ℕ)) (first : Node) (lines : List Served) (closing : List NodeEvent)
+        → IsOne new (node_after_lines lines first) → IsOne end (last_node first lines closing) → Says (last_node first lines closing)
+        → Concludes (λ a b. ⊥) (OutsideOf ended images) first lines closing result
+    concludes ended images first lines closing at_closing at_end says =
+        concludes_so first lines closing (view new.shelf.disk).faults (view end.shelf.disk).faults
+        (counted new (node_after_lines lines first) at_closing) (counted end (last_node first lines closing) at_end)
+        result closed goes says ran.bytes ran.output ended times before after images source sink
 
     -- the promises on replies, over any disk
     replies_from : (Starts : Node → Type 0) (images : List (List ℕ)) (s : State) → Agrees old s → Starts (first_of old s)
@@ -147,9 +139,10 @@ module _ {D : Type 0} (view : D → DiskView) where
         let last : Node = last_node (first_of old s) w.lifted.served w.closing in
         let says : Says last = says_last Says last result goes w.says in (
           w.lifted.ended,
-          run_replies (StandsAlone view) unknown NeverHalts false Says Starts (setup_of old ∷ []) (OutsideOf w.lifted.ended images) 0
+          run_replies (StandsAlone view) unknown NeverHalts false Says Starts (setup_of old ∷ []) (OutsideOf w.lifted.ended images)
               (unknown old) (first_of old s) old new end result w refl
-              (frames Starts w.lifted.ended images s last starts (any_is_one end last w.stands) says) (concludes w.lifted.ended images last says)
+              (frames Starts w.lifted.ended images s last starts (any_is_one end last w.stands))
+              (concludes w.lifted.ended images (first_of old s) w.lifted.served w.closing (any_is_one new _ w.lifted.stands) (any_is_one end last w.stands) says)
               (λ (device : ℕ). (nothing_left old old (first_of old s) (λ n. []) device).time),
         )
 
@@ -198,16 +191,17 @@ module _ {D : Type 0} (view : D → DiskView) where
           let last : Node = last_node (first_of old Start) w.lifted.served w.closing in
           let says : Says last = says_last Says last result goes w.says in (
             w.lifted.ended,
-            run_holds (StandsSafely view) (views_of view) NeverHalts Says rests_safe (setup_of old ∷ []) (OutsideOf w.lifted.ended ((view disk).seen ∷ [])) 0
+            run_holds (StandsSafely view) (views_of view) NeverHalts Says rests_safe (setup_of old ∷ []) (OutsideOf w.lifted.ended ((view disk).seen ∷ []))
                 (λ device. view disk) (λ device. (view end.shelf.disk).may_leave) (first_of old Start) old new end result w refl
-                (frames (StartsFrom ((view disk).seen ∷ [])) w.lifted.ended ((view disk).seen ∷ []) Start last (from_it bodies sound) (safe_is_one end last w.stands) says)
-                (concludes w.lifted.ended ((view disk).seen ∷ []) last says) enters
+                (frames (StartsFrom ((view disk).seen ∷ [])) w.lifted.ended ((view disk).seen ∷ []) Start last (from_it bodies sound) (safe_is_one end last w.stands))
+                (concludes w.lifted.ended ((view disk).seen ∷ []) (first_of old Start) w.lifted.served w.closing (safe_is_one new _ w.lifted.stands) (safe_is_one end last w.stands) says)
+                enters
                 (λ device image left. (is_disk end.shelf.disk).now_since (view end.shelf.disk).moment image (is_disk end.shelf.disk).now_had left),
           )
 
     -- ---- all together
 
-    serving : IsServed old.set (disk_of (view disk) (view end.shelf.disk)) (ended_status result closed) (ended_note result closed) times before after
+    serving : IsServed old.set (disk_of (view disk) (view end.shelf.disk)) (session_end result closed) times before after
     serving = record {
       geometry = old.shelf.geometry;
       place = (started.device_is, started.devices_is);
@@ -233,9 +227,7 @@ module _ {D : Type 0} (view : D → DiskView) where
       throughout = holds;
     }
 
-    pub is_served : (status : ℕ) (note : List ℕ) → status ≡ ended_status result closed → note ≡ ended_note result closed
-        → IsServed set (disk_of (view disk) (view end.shelf.disk)) status note times before after
-    is_served status note status_is note_is =
-        subst (λ (s : Settings). IsServed s (disk_of (view disk) (view end.shelf.disk)) status note times before after) started.set_is
-        (subst (λ (n : ℕ). IsServed old.set (disk_of (view disk) (view end.shelf.disk)) n note times before after) (sym status_is)
-        (subst (λ (text : List ℕ). IsServed old.set (disk_of (view disk) (view end.shelf.disk)) (ended_status result closed) text times before after) (sym note_is) serving))
+    pub is_served : (how : RunEnd) → how ≡ session_end result closed → IsServed set (disk_of (view disk) (view end.shelf.disk)) how times before after
+    is_served how is =
+        subst (λ (s : Settings). IsServed s (disk_of (view disk) (view end.shelf.disk)) how times before after) started.set_is
+        (subst (λ (e : RunEnd). IsServed old.set (disk_of (view disk) (view end.shelf.disk)) e times before after) (sym is) serving)

@@ -1,3 +1,3 @@
 pub mod Asking
-pub mod Promises
 pub mod Concluding
+pub mod Promises

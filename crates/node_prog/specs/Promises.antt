@@ -1,5 +1,5 @@
 -- Crate node_prog. What a run over one device promises.
-use Rattle.std.specs.Prelude.{◌≡◌, ◌⊎◌, ℕ, Bool, false, List, [], ◌∷◌, ◌++◌, codes, Option}
+use Rattle.std.specs.Prelude.{◌≡◌, ◌⊎◌, ℕ, Bool, false, List, [], ◌∷◌, ◌++◌, Option}
 use Rattle.disk_model.specs.Disk.{Images, DiskView, IsOnly, IsHonest, meanwhile}
 use Rattle.rec_format.specs.declared.version.Digest.{Digest}
 use Rattle.device_model.specs.Book.{Setup}
@@ -13,14 +13,14 @@ use Rattle.io_traits.specs.Sink.{Extends}
 use Rattle.io_traits.specs.Source.{Shortens}
 use Rattle.node_model.specs.Commands.{Node}
 use Rattle.shard_core.specs.declared.settings.Settings.{Settings}
-use Rattle.shard_core.specs.declared.start.StartCause.{StartCause}
-use Rattle.shard_core.specs.declared.start.StartCause.TheVariants as why
 use Rattle.shard_core.specs.View.{setup_for}
 use Rattle.block_shelf.specs.Disks.{IsLater, OnlyRead}
-use Rattle.shard_core.specs.Starting.{Passes, own_copies, IsRefused, FaultRose}
+use Rattle.shard_core.specs.Starting.{Passes, own_copies}
 use Rattle.core_run.specs.OneDevice.{the_only}
-use Rattle.node_model.specs.Notes.{fault_note, refused_note}
-use Rattle.node_model.specs.Headline.{Outside, StartsFrom, HoldsReplies, HoldsThroughout}
+use Rattle.node_model.specs.declared.run_end.RunEnd.{RunEnd}
+use Rattle.node_model.specs.Outside.{Outside}
+use Rattle.node_model.specs.RunEnd.{status_of, note_of, HasStartCause}
+use Rattle.node_model.specs.Headline.{StartsFrom, HoldsReplies, HoldsThroughout}
 
 -- The first node of a run, over any disk: the device with this setup, as a start from the entries that were found leaves it. Where
 -- the disk tells its bytes, sound or not, the entry of each digest is its latest copy behind the open gates.
@@ -39,13 +39,9 @@ pub record Ends : Type 0 where
   pub sink : ℕ
   pub disk : ℕ
 
--- how a refused start ends, by its cause: with 3 only where the disk's count rose
-abbrev pub EndsRefused : (device : ℕ) → StartCause → (status : ℕ) → (note : List ℕ) → Type 0
-EndsRefused device why.Memory status note = (status ≡ 6) × (note ≡ codes "no memory")
-EndsRefused device why.Fault status note = (status ≡ 3) × (note ≡ fault_note device)
-EndsRefused device (why.NotFormatted first) status note = (status ≡ 7) × (note ≡ refused_note device)
-EndsRefused device (why.OtherGeometry kept asked size) status note = (status ≡ 7) × (note ≡ refused_note device)
-EndsRefused device (why.DamagedBlock block place) status note = (status ≡ 7) × (note ≡ refused_note device)
+-- the status and the note tell this end
+abbrev pub IsTold : RunEnd → (status : ℕ) → (note : List ℕ) → Type 0
+IsTold end status note = (status ≡ status_of end) × (note ≡ note_of end)
 
 -- What is known of the disk that was handed in, and of the one handed back: whether it tells its bytes, what it reads, and whether it
 -- is honest; that the second is the first at a later time, and that nothing was written to it in between; and which images a crash
@@ -72,22 +68,17 @@ disk_of old new = record {
   now = new.may_leave;
 }
 
--- The device wasn't taken into use. Nothing was taken and nothing written, the disk was read alone, and what a disk that tells
--- its bytes reads is the cause.
-pub record NeverServed (d : DiskOf) (status : ℕ) (note : List ℕ) (before after : Ends) : Type 0 where
-  pub cause : StartCause
-  pub ends : EndsRefused 0 cause status note
-  pub bytes : d.tells → IsRefused the_only d.reads cause
-  pub rose : FaultRose cause before.disk after.disk
+-- The device wasn't taken into use. Nothing was taken and nothing written, and the disk was read alone.
+pub record NeverServed (d : DiskOf) (end : RunEnd) (before after : Ends) : Type 0 where
+  pub cause : HasStartCause end d.tells (d.reads ∷ []) (before.disk ∷ []) (after.disk ∷ [])
   pub taken : after.taken ≡ before.taken
   pub written : after.written ≡ before.written
   pub disk : d.read_alone
 
 -- what is known of a run from outside
-abbrev pub outside : (status : ℕ) → (note bytes output : List ℕ) → (ended : Bool) → (times : Option (List ℕ)) → (before after : Ends) → (images : List (List ℕ)) → Outside
-outside status note bytes output ended times before after images = record {
-  status = status;
-  note = note;
+abbrev pub outside : RunEnd → (bytes output : List ℕ) → (ended : Bool) → (times : Option (List ℕ)) → (before after : Ends) → (images : List (List ℕ)) → Outside
+outside end bytes output ended times before after images = record {
+  end = end;
   taken = bytes;
   written = output;
   ended = ended;
@@ -96,7 +87,6 @@ outside status note bytes output ended times before after images = record {
   before = record { disks = before.disk ∷ []; source = before.source; sink = before.sink };
   after = record { disks = after.disk ∷ []; source = after.source; sink = after.sink };
   images = images;
-  reads = [];
 }
 
 -- The device was taken into use, and the bytes written are the front of the reply texts of a run over the bytes taken.
@@ -105,7 +95,7 @@ outside status note bytes output ended times before after images = record {
 -- `err damaged`, since the disk isn't known to be honest. Over an honest disk whose one image is sound the run keeps all promises:
 -- no read finds damage, each image that a crash might have left since the entry survives some state of the run, each that one may
 -- leave now survives the last, and what was answered as done with commit on is flushed.
-pub record IsServed (set : Settings) (d : DiskOf) (status : ℕ) (note : List ℕ) (times : Option (List ℕ)) (before after : Ends) : Type 0 where
+pub record IsServed (set : Settings) (d : DiskOf) (end : RunEnd) (times : Option (List ℕ)) (before after : Ends) : Type 0 where
   pub geometry : Geometry
   pub place : (geometry.device ≡ 0) × (geometry.devices ≡ 1)
   pub disk : d.same_later
@@ -116,14 +106,16 @@ pub record IsServed (set : Settings) (d : DiskOf) (status : ℕ) (note : List �
   pub shortens : Shortens before.left after.left bytes
   pub extends : Extends before.written after.written output
   pub replies : (ended : Bool) × HoldsReplies (StartsFound (setup_for geometry set) geometry d.tells d.reads) false (setup_for geometry set ∷ [])
-      (outside status note bytes output ended times before after []) (λ device image. ⊥)
+      (outside end bytes output ended times before after []) (λ device image. ⊥)
   pub from_image : d.tells → (bodies : List Body) → IsSound (setup_for geometry set) d.reads bodies
       → (ended : Bool) × HoldsReplies (StartsFrom (d.reads ∷ [])) false (setup_for geometry set ∷ [])
-      (outside status note bytes output ended times before after (d.reads ∷ [])) (λ device image. ⊥)
+      (outside end bytes output ended times before after (d.reads ∷ [])) (λ device image. ⊥)
   pub throughout : d.honest → IsOnly d.reads d.at_entry → (bodies : List Body) → IsSound (setup_for geometry set) d.reads bodies
       → (ended : Bool) × HoldsThroughout (setup_for geometry set ∷ [])
-      (outside status note bytes output ended times before after (d.reads ∷ [])) (λ device. d.since) (λ device. d.now)
+      (outside end bytes output ended times before after (d.reads ∷ [])) (λ device. d.since) (λ device. d.now)
 
--- the promise of a run
-abbrev pub Runs : Settings → DiskOf → (status : ℕ) → (note : List ℕ) → Option (List ℕ) → (before after : Ends) → Type 0
-Runs set d status note times before after = NeverServed d status note before after ⊎ IsServed set d status note times before after
+-- The promise of a run: its status and its note tell how it ended, and what has to hold where it ended so holds.
+pub record Runs (set : Settings) (d : DiskOf) (status : ℕ) (note : List ℕ) (times : Option (List ℕ)) (before after : Ends) : Type 0 where
+  pub end : RunEnd
+  pub told : IsTold end status note
+  pub kept : NeverServed d end before after ⊎ IsServed set d end times before after

@@ -2,7 +2,6 @@
 #![tactic(auto)]
 
 mod memory;
-mod note;
 mod outcome;
 mod run;
 #[cfg(test)]
@@ -11,10 +10,10 @@ mod top;
 mod words;
 
 use crate::memory::{formatted_disk, still_clock};
-use crate::note::Note;
 use crate::top::node_top;
 use disk_model::NoMemory;
 use io_traits::{Both, StandardInput, StandardOutput};
+use node_model::{Note, RunEnd};
 use std::alloc::AllocError;
 use std::env::args;
 use std::io::ErrorKind;
@@ -44,7 +43,8 @@ fn serve(rt: &HostRuntime) -> Result<(u8, Note), NoMemory> {
 }
 
 fn main(rt: HostRuntime) -> ExitCode {
-    let (status, note) = serve(&rt).unwrap_or((6, Note::new("no memory")));
+    let want = RunEnd::NoMemory;
+    let (status, note) = serve(&rt).unwrap_or((want.status(), want.note()));
     if status != 0 {
         let _ = eprintln!(rt; "{}", note.as_str());
     }

@@ -1,11 +1,11 @@
 // What a run ends with.
-ghost use Rattle.std.specs.Prelude.{◌≡◌, ◌≢◌, [], codes};
+ghost use Rattle.std.specs.Prelude.{◌≡◌, ◌≢◌};
 ghost use Rattle.node_session.specs.declared.ended.Ended.{Ended};
-ghost use Rattle.node_prog.specs.Concluding.{closed_status, closed_note, ended_status, ended_note};
-ghost use Rattle.node_prog.specs.Promises.{EndsRefused};
+ghost use Rattle.node_prog.specs.Concluding.{session_end, closed_end, refusal_end};
+ghost use Rattle.node_prog.specs.Promises.{IsTold};
 
-use crate::note::Note;
 use disk_model::DiskFault;
+use node_model::{Note, RunEnd};
 use node_session::Ended;
 use shard_core::StartCause;
 
@@ -17,41 +17,53 @@ pub struct Outcome<D> {
     pub disks: Vec<D>,
 }
 
-/// The status of a run whose session ended so and whose closing flush went so, with its note. A failed closing is told where the
-/// session went well. No session over a node of this stage halts.
-pub fn after_session(ended: Ended, closed: Result<u64, DiskFault>) -> (u8, Note)
+impl<D> Outcome<D> {
+    /// What a run that ended so is left with.
+    pub fn new(end: RunEnd, disks: Vec<D>) -> Self
+        ensures end { IsTold end result.status result.note }
+        ensures disks { result.disks.items ≡ disks.items }
+    {
+        Outcome {
+            status: end.status(),
+            note: end.note(),
+            disks,
+        }
+    }
+}
+
+/// The end of a run whose session ended so and whose closing flush went so. A failed closing is told where the session went well. No
+/// session over a node of this stage halts.
+pub fn after_session(ended: Ended, closed: Result<u64, DiskFault>) -> RunEnd
     requires { ended ≢ Ended.Halted }
-    ensures status { result.0 ≡ ended_status ended closed }
-    ensures note { result.1 ≡ ended_note ended closed }
+    ensures { result ≡ session_end ended closed }
 {
     match ended {
         Ended::Finish { .. } | Ended::Quit { .. } => after_closing(closed),
-        Ended::SourceFault => (4, Note::new("source fault")),
-        Ended::SinkFault => (5, Note::new("sink fault")),
-        Ended::Memory => (6, Note::new("no memory")),
-        Ended::Long { .. } => (10, Note::new("input too long")),
+        Ended::SourceFault => RunEnd::SourceFault,
+        Ended::SinkFault => RunEnd::SinkFault,
+        Ended::Memory => RunEnd::NoMemory,
+        Ended::Long { .. } => RunEnd::InputTooLong,
         Ended::Halted => unreachable!(),
     }
 }
 
-// The status of a run that went well up to its closing flush.
-fn after_closing(closed: Result<u64, DiskFault>) -> (u8, Note)
-    ensures status { result.0 ≡ closed_status closed }
-    ensures note { result.1 ≡ closed_note closed }
+// The end of a run that went well up to its closing flush.
+fn after_closing(closed: Result<u64, DiskFault>) -> RunEnd
+    ensures { result ≡ closed_end closed }
 {
     match closed {
-        Ok(_) => (0, Note::new("")),
-        Err(_) => (3, Note::new("device 0 fault")),
+        Ok(_) => RunEnd::Served,
+        Err(_) => RunEnd::DeviceFault { device: 0 },
     }
 }
 
-/// The status of a run whose first device wasn't taken into use, with its note.
-pub fn after_refusal(cause: &StartCause) -> (u8, Note)
-    ensures { EndsRefused 0 cause.now result.0 result.1 }
+/// The end of a run of which this device wasn't taken into use.
+pub fn after_refusal(device: u16, cause: &StartCause) -> RunEnd
+    ensures { result ≡ refusal_end device cause.now }
 {
     match cause {
-        StartCause::Memory => (6, Note::new("no memory")),
-        StartCause::Fault => (3, Note::new("device 0 fault")),
-        _ => (7, Note::new("device 0 refused")),
+        StartCause::Memory => RunEnd::NoMemory,
+        StartCause::Fault => RunEnd::DeviceFault { device },
+        _ => RunEnd::DeviceRefused { device },
     }
 }

@@ -34,26 +34,15 @@ pub fn run_with<D: Disk, L: Source + Sink, C: Clock>(
         Ok(mut node) => {
             let ended = session(alloc, &mut node, link, clock, INPUT_LIMIT);
             let closed = node.flush_device(0);
-            let (status, note) = after_session(ended, closed);
-            Outcome {
-                status,
-                note,
-                disks: node.stop(),
-            }
+            let end = after_session(ended, closed);
+            Outcome::new(end, node.stop())
         }
         Err(
             NodeRefusal {
-                device: _,
+                device,
                 cause,
                 disks,
             },
-        ) => {
-            let (status, note) = after_refusal(&cause);
-            Outcome {
-                status,
-                note,
-                disks,
-            }
-        }
+        ) => Outcome::new(after_refusal(device, &cause), disks),
     }
 }

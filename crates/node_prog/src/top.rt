@@ -1,18 +1,18 @@
 // The top call.
-ghost use Rattle.std.specs.Prelude.{◌≡◌, ◌∷◌, [], vec_len, map, codes, string_bytes};
+ghost use Rattle.std.specs.Prelude.{◌≡◌, ◌∷◌, [], vec_len, map, string_bytes};
 ghost use Rattle.node_prog.specs.Asking.{AsksToRun, run_settings};
-ghost use Rattle.node_prog.specs.Promises.{Runs, disk_of};
+ghost use Rattle.node_prog.specs.Promises.{Runs, IsTold, disk_of};
 
-use crate::note::Note;
 use crate::outcome::Outcome;
 use crate::run::run_with;
 use crate::words::{asks_to_run, run_settings};
 use disk_model::Disk;
 use io_traits::{Clock, Sink, Source};
+use node_model::RunEnd;
 use std::alloc::Global;
 
 /// Does what the words ask for, which don't have the program's name among them: `run NAME` serves the lines of the link over
-/// the disk. Other words end with status 2, and leave the disks and the link as they were.
+/// the disk. Other words are refused, and leave the disks and the link as they were.
 pub fn node_top<D: Disk, L: Source + Sink, C: Clock>(
     alloc: Global,
     words: &[String],
@@ -21,7 +21,7 @@ pub fn node_top<D: Disk, L: Source + Sink, C: Clock>(
     clock: &mut C,
 ) -> Outcome<D>
     requires disks { AsksToRun (map string_bytes words.now) → vec_len disks ≡ 1 }
-    ensures refused { (AsksToRun (map string_bytes words.now) → ⊥) → (result.status ≡ 2) × (result.note ≡ codes "words refused")
+    ensures refused { (AsksToRun (map string_bytes words.now) → ⊥) → IsTold RunEnd.WordsRefused result.status result.note
         × (result.disks.items ≡ disks.items) × (link.new ≡ link.old) × (clock.new ≡ clock.old) }
     ensures replies { AsksToRun (map string_bytes words.now) → (disk : D) → disks.items ≡ disk ∷ [] → (new : D) × (result.disks.items ≡ new ∷ [])
         × Runs run_settings (disk_of (D.view disk) (D.view new)) result.status result.note (C.times clock.old)
@@ -29,11 +29,7 @@ pub fn node_top<D: Disk, L: Source + Sink, C: Clock>(
         (record { taken = L.taken link.new; left = L.left link.new; written = L.written link.new; source = L.source_faults link.new; sink = L.sink_faults link.new; disk = (D.view new).faults }) }
 {
     if !asks_to_run(words) {
-        return Outcome {
-            status: 2,
-            note: Note::new("words refused"),
-            disks,
-        };
+        return Outcome::new(RunEnd::WordsRefused, disks);
     }
     run_with(alloc, run_settings(), disks, link, clock)
 }

@@ -7,11 +7,14 @@ use Rattle.io_traits.specs.Source.{IsAtEnd}
 use Rattle.node_model.specs.Commands.{Node}
 use Rattle.node_session.specs.declared.ended.Ended.{Ended}
 use Rattle.node_model.specs.Run.{ImagesLeft, last_node}
-use Rattle.node_model.specs.Headline.{StartsFrom, IsAnswered, EndsWithCause, Outside, HoldsReplies, HoldsThroughout, input_limit}
+use Rattle.node_model.specs.Outside.{Outside, TakesLines}
+use Rattle.node_model.specs.RunEnd.{input_limit}
+use Rattle.node_model.specs.Headline.{StartsFrom, HoldsReplies, HoldsThroughout}
 use Rattle.node_model.specs.Meaning.{left_between, Rests, GoesOn, Enters}
 use Rattle.node_model.proofs.Commits.{commits_all}
+use Rattle.node_run.specs.Chain.{EndsWith}
 use Rattle.node_run.specs.Whole.{RunsWhole, Frames, Concludes}
-use Rattle.node_run.proofs.Whole.{is_answered, is_caused, run_since, images_since, last_images}
+use Rattle.node_run.proofs.Whole.{cause_of, run_since, images_since, last_images}
 
 at_end_of : (left : Option (List ℕ)) → IsAtEnd left → IfSome left (λ bytes. bytes ≡ [])
 at_end_of None h = tt
@@ -22,18 +25,18 @@ module _ {T : Type 0} (Stands : T → Node → Type 0) (views : T → ℕ → Di
   WholeOf o node old new end result = RunsWhole Stands views Halts told Says input_limit o.taken o.written o.left o.times node old new end result
 
   -- The promises on replies.
-  pub run_replies : (Starts : Node → Type 0) (setups : List Setup) (o : Outside) (noted : ℕ) (entry : ℕ → DiskView) (node : Node) (old new end : T) (result : Ended)
+  pub run_replies : (Starts : Node → Type 0) (setups : List Setup) (o : Outside) (entry : ℕ → DiskView) (node : Node) (old new end : T) (result : Ended)
       → (w : WholeOf o node old new end result) → o.ended ≡ w.lifted.ended
-      → Frames Starts setups o noted node (last_node node w.lifted.served w.closing) → Concludes (Halts new) o noted (last_node node w.lifted.served w.closing) result
+      → Frames Starts setups o node (last_node node w.lifted.served w.closing) → Concludes (Halts new) o node w.lifted.served w.closing result
       → GoesOn views entry old
       → HoldsReplies Starts told setups o (λ device. meanwhile (entry device) (views end device))
-  run_replies Starts setups o noted entry node old new end result w ended f c time =
+  run_replies Starts setups o entry node old new end result w ended f c time =
       let l = w.lifted in
       record {
         first = node;
         lines = l.served;
+        unserved = l.unserved;
         closing = w.closing;
-        noted = noted;
         set = f.set;
         numbered = f.numbered;
         starts = f.starts;
@@ -42,24 +45,24 @@ module _ {T : Type 0} (Stands : T → Node → Type 0) (views : T → ℕ → Di
         is_run = run_since Stands views Halts told Says entry node old end l.served w.closing time w.leaves w.is_run;
         clock = l.clock;
         at_end = λ is. at_end_of o.left (l.at_end (subst IsTrue ended is));
-        answered = subst (λ (b : Bool). IsAnswered o.status noted o.taken o.written b node l.served w.closing) (sym ended)
-            (is_answered Stands views Halts told Says input_limit o.status noted o.taken o.written o.left o.times node old new end result w c.status);
-        cause = subst (λ (b : Bool). EndsWithCause o.status noted o.taken b o.before o.after node l.served) (sym ended)
-            (is_caused Stands views Halts told Says o noted o.left o.times node old new end result w c f.disk);
-        note = f.note;
+        within = w.within;
+        takes = subst (λ (b : Bool). TakesLines o.taken b l.served l.unserved) (sym ended) l.takes;
+        front = l.front;
+        cause = cause_of (Halts new) o node l.served l.unserved w.closing result
+            (subst (λ (b : Bool). EndsWith input_limit o.taken o.written b l.served l.unserved result) (sym ended) l.ends) l.once l.halt c;
       }
 
 module _ {T : Type 0} (Stands : T → Node → Type 0) (views : T → ℕ → DiskView) (Halts : T → (before after : Node) → Type 0) (Says : Node → Type 0) where
   -- All of the promises, over disks that tell what they hold.
-  pub run_holds : Rests Stands views → (setups : List Setup) (o : Outside) (noted : ℕ) (entry : ℕ → DiskView) (may_leave : ImagesLeft) (node : Node) (old new end : T) (result : Ended)
+  pub run_holds : Rests Stands views → (setups : List Setup) (o : Outside) (entry : ℕ → DiskView) (may_leave : ImagesLeft) (node : Node) (old new end : T) (result : Ended)
       → (w : WholeOf Stands views Halts true Says o node old new end result) → o.ended ≡ w.lifted.ended
-      → Frames (StartsFrom o.images) setups o noted node (last_node node w.lifted.served w.closing) → Concludes (Halts new) o noted (last_node node w.lifted.served w.closing) result
+      → Frames (StartsFrom o.images) setups o node (last_node node w.lifted.served w.closing) → Concludes (Halts new) o node w.lifted.served w.closing result
       → Enters views entry node old
       → ((device : ℕ) (image : List ℕ) → may_leave device image → meanwhile (views end device) (views end device) image)
       → HoldsThroughout setups o (λ device. meanwhile (entry device) (views end device)) may_leave
   unfolding run_replies
-  run_holds rests setups o noted entry may_leave node old new end result w ended f c enters law = record {
-    replies = run_replies Stands views Halts true Says (StartsFrom o.images) setups o noted entry node old new end result w ended f c enters.time;
+  run_holds rests setups o entry may_leave node old new end result w ended f c enters law = record {
+    replies = run_replies Stands views Halts true Says (StartsFrom o.images) setups o entry node old new end result w ended f c enters.time;
     left_now = last_images Stands views Halts true Says rests may_leave end (last_node node w.lifted.served w.closing) w.stands law;
     left_since = images_since Stands views Halts true Says entry node old end w.lifted.served w.closing enters w.leaves;
     committed = commits_all (left_between views old end) true node w.lifted.served w.is_run.serves;

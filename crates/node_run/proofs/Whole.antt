@@ -1,6 +1,6 @@
 -- A whole run: the start, the session, the closing flush.
-use Rattle.std.proofs.Common.{◌≡◌, ℕ, ◌<◌, ◌≤◌, Bool, true, false, List, [], ◌∷◌, length, refl, sym, ◌∙◌, subst, inl, inr, arith}
-use Rattle.std.specs.Prelude.{◌⊎◌, ◌||◌, Option, Some, None, MatchOption, MatchBool, IsTrue, slice_get}
+use Rattle.std.proofs.Common.{◌≡◌, ℕ, ◌≤◌, Bool, true, false, List, [], ◌∷◌, length, refl, sym, ◌∙◌, subst, inl, inr}
+use Rattle.std.specs.Prelude.{◌||◌, Option, Some, None, MatchOption, MatchBool, IsTrue, slice_get}
 use Rattle.disk_model.specs.Disk.{DiskView, meanwhile}
 use Rattle.disk_model.specs.Runs.{OneOf, one_of_front, one_of_back}
 use Rattle.recovery.specs.Surviving.{Survives}
@@ -12,152 +12,18 @@ use Rattle.node_session.specs.declared.ended.Ended.TheVariants.{Finish, Quit, So
 use Rattle.node_session.specs.Turns.{Times}
 use Rattle.node_session.specs.Session.{Ran}
 use Rattle.node_model.specs.Run.{ImagesLeft, Served, IsRun, ClosesEach, EndsOnce, goes_on, halts, is_halted, node_after_line, node_after_lines, last_node, states_from, states_while, states_of_lines, states_of_run}
-use Rattle.node_model.specs.Headline.{IsAnswered, LeavesLast, LeavesSome, NoneUnserved, AllQuiet, IsQuiet, has_quit, written_text, is_among, RoseOn, RoseInLast, counts_of, Outside, EndsWithCause, input_limit}
+use Rattle.node_model.specs.declared.run_end.RunEnd.{RunEnd}
+use Rattle.node_model.specs.declared.run_end.RunEnd.TheVariants as end
+use Rattle.node_model.specs.Outside.{Outside, RoseOn, RoseInLast, counts_of}
+use Rattle.node_model.specs.RunEnd.{HasCause, IsServedThrough, EndsAtRestart, input_limit}
+use Rattle.node_model.specs.Headline.{LeavesLast, LeavesSome}
 use Rattle.node_model.specs.Meaning.{left_between, LeavesEach, Rests, ActsBy, TendsBy, GoesOn, Enters, ClosesFrom}
 use Rattle.node_run.specs.Chain.{EndsWith, InHalt, Lifted}
-use Rattle.node_run.specs.Whole.{CloseAfter, UnlessHalted, RunsWhole, StatusIs, Concludes}
+use Rattle.node_run.specs.Whole.{CloseAfter, UnlessHalted, RunsWhole, ClosesWith, HaltsWith, Concludes}
 use Rattle.node_run.proofs.Ends.{ran_lifts}
 use Rattle.node_run.proofs.States.{lines_setups, on_same, first_of_lines, serves_more}
 use Rattle.node_run.proofs.Replies.{match_true, match_false}
 use Rattle.node_run.proofs.Turns.{leaves_both, leaves_wider}
-
--- ---- the status
-
-or_right : (a b : Bool) → IsTrue b → IsTrue (a || b)
-or_right true b is = refl
-or_right false b is = is
-
-or_left : (a b : Bool) → IsTrue a → IsTrue (a || b)
-or_left true b is = refl
-or_left false b is = let e : false ≡ true = is in cc
-
-never : (b : Bool) → IsTrue b → b ≡ false → ⊥
-never b is none = let e : true ≡ false = sym is ∙ none in cc
-
-module _ (limit status noted : ℕ) (bytes output : List ℕ) (at_end : Bool) (served : List Served) (unserved : List (Option (List ℕ))) (last : Node) where
-  abbrev Success : Type 0
-  Success = (output ≡ written_text served) × NoneUnserved served unserved × IsTrue (at_end || has_quit served) × AllQuiet last
-
-  success_of : (result : Ended) → EndsWith limit bytes output at_end served unserved result → StatusIs result status noted last → status ≡ 0 → Success
-  success_of (Finish n) ends (inl quiet) is = (ends.0, inl ends.1, or_left at_end (has_quit served) ends.2, quiet.1)
-  success_of (Finish n) ends (inr fault) is = absurd (omega (arith, fault.0))
-  success_of (Quit n) ends (inl quiet) is = (ends.0, inr ends.1, or_right at_end (has_quit served) ends.1, quiet.1)
-  success_of (Quit n) ends (inr fault) is = absurd (omega (arith, fault.0))
-  success_of SourceFault ends so is = absurd (omega (arith, so))
-  success_of SinkFault ends so is = absurd (omega (arith, so))
-  success_of Memory ends so is = absurd (omega (arith, so))
-  success_of Halted ends (inl so) is = absurd (omega (arith, so))
-  success_of Halted ends (inr (inl so)) is = absurd (omega (arith, so))
-  success_of Halted ends (inr (inr so)) is = absurd (omega (arith, so))
-  success_of (Long n) ends so is = absurd (omega (arith, so))
-
-  source_of : (result : Ended) → EndsWith limit bytes output at_end served unserved result → StatusIs result status noted last → (status ≡ 4) ⊎ (status ≡ 10) → (output ≡ written_text served) × NoneUnserved served unserved
-  source_of SourceFault ends so is = (ends.0, inl ends.1)
-  source_of (Long n) ends so is = (ends.0, inl ends.1)
-  source_of (Finish n) ends so is = (ends.0, inl ends.1)
-  source_of (Quit n) ends so is = (ends.0, inr ends.1)
-  source_of SinkFault ends so (inl is) = absurd (omega (arith, so))
-  source_of SinkFault ends so (inr is) = absurd (omega (arith, so))
-  source_of Memory ends so (inl is) = absurd (omega (arith, so))
-  source_of Memory ends so (inr is) = absurd (omega (arith, so))
-  source_of Halted ends (inl so) (inl is) = absurd (omega (arith, so))
-  source_of Halted ends (inl so) (inr is) = absurd (omega (arith, so))
-  source_of Halted ends (inr (inl so)) (inl is) = absurd (omega (arith, so))
-  source_of Halted ends (inr (inl so)) (inr is) = absurd (omega (arith, so))
-  source_of Halted ends (inr (inr so)) (inl is) = absurd (omega (arith, so))
-  source_of Halted ends (inr (inr so)) (inr is) = absurd (omega (arith, so))
-
-  refused_of : (result : Ended) → EndsWith limit bytes output at_end served unserved result → StatusIs result status noted last → status ≡ 7 → IsTrue (is_halted served) × (output ≡ written_text served)
-  refused_of Halted ends so is = (ends.1, ends.0)
-  refused_of (Finish n) ends (inl so) is = absurd (omega (arith, so.0))
-  refused_of (Finish n) ends (inr so) is = absurd (omega (arith, so.0))
-  refused_of (Quit n) ends (inl so) is = absurd (omega (arith, so.0))
-  refused_of (Quit n) ends (inr so) is = absurd (omega (arith, so.0))
-  refused_of SourceFault ends so is = absurd (omega (arith, so))
-  refused_of SinkFault ends so is = absurd (omega (arith, so))
-  refused_of Memory ends so is = absurd (omega (arith, so))
-  refused_of (Long n) ends so is = absurd (omega (arith, so))
-
-  abbrev Fault : Type 0
-  Fault = (IsTrue (is_halted served) × (output ≡ written_text served))
-      ⊎ ((output ≡ written_text served) × NoneUnserved served unserved × IsTrue (at_end || has_quit served) × (IsQuiet (slice_get last noted) → ⊥))
-
-  fault_of : (result : Ended) → EndsWith limit bytes output at_end served unserved result → StatusIs result status noted last → status ≡ 3 → Fault
-  fault_of Halted ends so is = inl (ends.1, ends.0)
-  fault_of (Finish n) ends (inl so) is = absurd (omega (arith, so.0))
-  fault_of (Finish n) ends (inr so) is = inr (ends.0, inl ends.1, or_left at_end (has_quit served) ends.2, so.1)
-  fault_of (Quit n) ends (inl so) is = absurd (omega (arith, so.0))
-  fault_of (Quit n) ends (inr so) is = inr (ends.0, inr ends.1, or_right at_end (has_quit served) ends.1, so.1)
-  fault_of SourceFault ends so is = absurd (omega (arith, so))
-  fault_of SinkFault ends so is = absurd (omega (arith, so))
-  fault_of Memory ends so is = absurd (omega (arith, so))
-  fault_of (Long n) ends so is = absurd (omega (arith, so))
-
-  at_four : (result : Ended) → StatusIs result status noted last → status ≡ 4 → result ≡ SourceFault
-  at_four SourceFault so is = refl
-  at_four (Finish n) (inl so) is = absurd (omega (arith, so.0))
-  at_four (Finish n) (inr so) is = absurd (omega (arith, so.0))
-  at_four (Quit n) (inl so) is = absurd (omega (arith, so.0))
-  at_four (Quit n) (inr so) is = absurd (omega (arith, so.0))
-  at_four SinkFault so is = absurd (omega (arith, so))
-  at_four Memory so is = absurd (omega (arith, so))
-  at_four Halted (inl so) is = absurd (omega (arith, so))
-  at_four Halted (inr (inl so)) is = absurd (omega (arith, so))
-  at_four Halted (inr (inr so)) is = absurd (omega (arith, so))
-  at_four (Long n) so is = absurd (omega (arith, so))
-
-  at_five : (result : Ended) → StatusIs result status noted last → status ≡ 5 → result ≡ SinkFault
-  at_five SinkFault so is = refl
-  at_five (Finish n) (inl so) is = absurd (omega (arith, so.0))
-  at_five (Finish n) (inr so) is = absurd (omega (arith, so.0))
-  at_five (Quit n) (inl so) is = absurd (omega (arith, so.0))
-  at_five (Quit n) (inr so) is = absurd (omega (arith, so.0))
-  at_five SourceFault so is = absurd (omega (arith, so))
-  at_five Memory so is = absurd (omega (arith, so))
-  at_five Halted (inl so) is = absurd (omega (arith, so))
-  at_five Halted (inr (inl so)) is = absurd (omega (arith, so))
-  at_five Halted (inr (inr so)) is = absurd (omega (arith, so))
-  at_five (Long n) so is = absurd (omega (arith, so))
-
-  long_of : (result : Ended) → EndsWith limit bytes output at_end served unserved result → StatusIs result status noted last → status ≡ 10 → (length bytes ≡ limit) × (at_end ≡ false) × (has_quit served ≡ false)
-  long_of (Long n) ends so is = (ends.5, ends.2, ends.3)
-  long_of SourceFault ends so is = absurd (omega (arith, so))
-  long_of SinkFault ends so is = absurd (omega (arith, so))
-  long_of Memory ends so is = absurd (omega (arith, so))
-  long_of (Finish n) ends (inl so) is = absurd (omega (arith, so.0))
-  long_of (Finish n) ends (inr so) is = absurd (omega (arith, so.0))
-  long_of (Quit n) ends (inl so) is = absurd (omega (arith, so.0))
-  long_of (Quit n) ends (inr so) is = absurd (omega (arith, so.0))
-  long_of Halted ends (inl so) is = absurd (omega (arith, so))
-  long_of Halted ends (inr (inl so)) is = absurd (omega (arith, so))
-  long_of Halted ends (inr (inr so)) is = absurd (omega (arith, so))
-
-  not_long_of : (result : Ended) → EndsWith limit bytes output at_end served unserved result → StatusIs result status noted last → status ≡ 4 → length bytes < limit
-  not_long_of result ends so is = (subst (λ (r : Ended). EndsWith limit bytes output at_end served unserved r) (at_four result so is) ends).5
-
-  halted_of : (result : Ended) → EndsWith limit bytes output at_end served unserved result → StatusIs result status noted last → IsTrue (is_halted served) → IsTrue (is_among (3 ∷ 6 ∷ 7 ∷ []) status)
-  halted_of Halted ends (inl so) is = rw so refl
-  halted_of Halted ends (inr (inl so)) is = rw so refl
-  halted_of Halted ends (inr (inr so)) is = rw so refl
-  halted_of (Finish n) ends so is = absurd (never (is_halted served) is ends.4)
-  halted_of (Quit n) ends so is = absurd (never (is_halted served) is ends.3)
-  halted_of SourceFault ends so is = absurd (never (is_halted served) is ends.4)
-  halted_of SinkFault ends so is = absurd (never (is_halted served) is ends)
-  halted_of Memory ends so is = absurd (never (is_halted served) is ends)
-  halted_of (Long n) ends so is = absurd (never (is_halted served) is ends.4)
-
-  pub known_of : (result : Ended) → StatusIs result status noted last → IsTrue (is_among (0 ∷ 3 ∷ 4 ∷ 5 ∷ 6 ∷ 7 ∷ 10 ∷ []) status)
-  known_of (Finish n) (inl so) = rw so.0 refl
-  known_of (Finish n) (inr so) = rw so.0 refl
-  known_of (Quit n) (inl so) = rw so.0 refl
-  known_of (Quit n) (inr so) = rw so.0 refl
-  known_of SourceFault so = rw so refl
-  known_of SinkFault so = rw so refl
-  known_of Memory so = rw so refl
-  known_of Halted (inl so) = rw so refl
-  known_of Halted (inr (inl so)) = rw so refl
-  known_of Halted (inr (inr so)) = rw so refl
-  known_of (Long n) so = rw so refl
 
 one_state : (device : ℕ) (slot : Option Slot) (image : List ℕ) → MatchOption slot (Unit {0}) (λ s. OneOf (Survives s.setup) (states_from device [] slot) image) → MatchOption slot (Unit {0}) (λ s. Survives s.setup s.state image)
 one_state device None image h = tt
@@ -211,6 +77,44 @@ in_halt_more : (P Q : Node → Node → Type 0) → ((a b : Node) → P a b → 
 in_halt_more P Q more node [] h = tt
 in_halt_more P Q more node (served ∷ []) h = λ is. more node (node_after_line served node) (h is)
 in_halt_more P Q more node (served ∷ next ∷ lines) h = in_halt_more P Q more (node_after_line served node) (next ∷ lines) h
+
+-- The end has its cause.
+module _ (Halts : (before after : Node) → Type 0) (o : Outside) (first : Node) (served : List Served) (unserved : List (Option (List ℕ))) (closing : List NodeEvent) where
+  abbrev Cause : RunEnd → Type 0
+  Cause e = HasCause e o first served unserved closing
+
+  closed_cause : (e : RunEnd) → IsServedThrough o served unserved → ClosesWith e first served closing → Cause e
+  closed_cause end.Served out closes = (out, closes)
+  closed_cause (end.DeviceFault device) out closes = inl (out, closes)
+  closed_cause end.WordsRefused out closes = absurd closes
+  closed_cause end.SourceFault out closes = absurd closes
+  closed_cause end.SinkFault out closes = absurd closes
+  closed_cause end.NoMemory out closes = absurd closes
+  closed_cause (end.DeviceRefused device) out closes = absurd closes
+  closed_cause end.InputTooLong out closes = absurd closes
+
+  halted_cause : (e : RunEnd) → EndsAtRestart o served → EndsOnce served → InHalt Halts first served → HaltsWith e Halts first → Cause e
+  halted_cause (end.DeviceFault device) ends once halt so =
+      inr (ends, rose_in_last device first served once ends.halted (in_halt_more Halts (λ a b. RoseOn device (counts_of a) (counts_of b)) so first served halt))
+  halted_cause (end.DeviceRefused device) ends once halt so = (ends, so)
+  halted_cause end.NoMemory ends once halt so = tt
+  halted_cause end.Served ends once halt so = absurd so
+  halted_cause end.WordsRefused ends once halt so = absurd so
+  halted_cause end.SourceFault ends once halt so = absurd so
+  halted_cause end.SinkFault ends once halt so = absurd so
+  halted_cause end.InputTooLong ends once halt so = absurd so
+
+  pub cause_of : (result : Ended) → EndsWith input_limit o.taken o.written o.ended served unserved result → EndsOnce served → InHalt Halts first served
+      → Concludes Halts o first served closing result → Cause o.end
+  cause_of (Finish n) ends once halt so = closed_cause o.end (record { written = ends.0; up_to = inr (ends.1, ends.2); goes = ends.4 }) so
+  cause_of (Quit n) ends once halt so = closed_cause o.end (record { written = ends.0; up_to = inl ends.1; goes = ends.3 }) so
+  cause_of SourceFault ends once halt so =
+      subst Cause (sym so.0) (record { written = ends.0; all = ends.1; no_quit = ends.3; no_end = ends.2; goes = ends.4 }, so.1, ends.5)
+  cause_of SinkFault ends once halt so = subst Cause (sym so.0) so.1
+  cause_of Memory ends once halt so = subst Cause (sym so) tt
+  cause_of Halted ends once halt so = halted_cause o.end (record { written = ends.0; halted = ends.1 }) once halt so
+  cause_of (Long n) ends once halt so =
+      subst Cause (sym so) (record { written = ends.0; all = ends.1; no_quit = ends.3; no_end = ends.2; goes = ends.4 }, ends.5)
 
 module _ {T : Type 0} (Stands : T → Node → Type 0) (views : T → ℕ → DiskView) (Halts : T → (before after : Node) → Type 0) (told : Bool) (Says : Node → Type 0) where
   -- ---- the session, and the closing of each device
@@ -331,42 +235,3 @@ module _ {T : Type 0} (Stands : T → Node → Type 0) (views : T → ℕ → Di
       → ((device : ℕ) (image : List ℕ) → may_leave device image → meanwhile (views end device) (views end device) image) → LeavesLast may_leave last
   last_images rests may_leave end last stands law device image left =
       one_state device (slice_get last device) image ((rests end last stands device).each image (law device image left))
-
-  -- ---- the replies and the causes
-
-  pub is_answered : (limit status noted : ℕ) (bytes output : List ℕ) (left : Option (List ℕ)) (times : Times) (node : Node) (old new end : T) (result : Ended)
-      → (w : RunsWhole Stands views Halts told Says limit bytes output left times node old new end result) → StatusIs result status noted (last_node node w.lifted.served w.closing)
-      → IsAnswered status noted bytes output w.lifted.ended node w.lifted.served w.closing
-  is_answered limit status noted bytes output left times node old new end result w so =
-      let l = w.lifted in
-      let last : Node = last_node node l.served w.closing in
-      record {
-        unserved = l.unserved;
-        takes = l.takes;
-        front = l.front;
-        success = success_of limit status noted bytes output l.ended l.served l.unserved last result l.ends so;
-        source = source_of limit status noted bytes output l.ended l.served l.unserved last result l.ends so;
-        refused = λ is. inr (refused_of limit status noted bytes output l.ended l.served l.unserved last result l.ends so is);
-        disk = λ is. inr (fault_of limit status noted bytes output l.ended l.served l.unserved last result l.ends so is);
-      }
-
-  -- the status has its cause, where the session's own faults and the disks' have theirs
-  pub is_caused : (o : Outside) (noted : ℕ) (left : Option (List ℕ)) (times : Times) (node : Node) (old new end : T) (result : Ended)
-      → (w : RunsWhole Stands views Halts told Says input_limit o.taken o.written left times node old new end result)
-      → Concludes (Halts new) o noted (last_node node w.lifted.served w.closing) result
-      → (o.status ≡ 3 → RoseOn noted o.before.disks o.after.disks)
-      → EndsWithCause o.status noted o.taken w.lifted.ended o.before o.after node w.lifted.served
-  is_caused o noted left times node old new end result w c disk =
-      let l = w.lifted in
-      let last : Node = last_node node l.served w.closing in
-      record {
-        known = known_of input_limit o.status noted o.taken o.written l.ended l.served l.unserved last result c.status;
-        disk = disk;
-        restart = λ is halted. rose_in_last noted node l.served l.once halted (in_halt_more (Halts new) (λ a b. RoseOn noted (counts_of a) (counts_of b)) (c.restart is) node l.served l.halt);
-        source = λ is. c.source (at_four input_limit o.status noted o.taken o.written l.ended l.served l.unserved last result c.status is);
-        sink = λ is. c.sink (at_five input_limit o.status noted o.taken o.written l.ended l.served l.unserved last result c.status is);
-        within = w.within;
-        long = long_of input_limit o.status noted o.taken o.written l.ended l.served l.unserved last result l.ends c.status;
-        not_long = not_long_of input_limit o.status noted o.taken o.written l.ended l.served l.unserved last result l.ends c.status;
-        halted = halted_of input_limit o.status noted o.taken o.written l.ended l.served l.unserved last result l.ends c.status;
-      }

@@ -1,6 +1,6 @@
--- Crate node_run. A whole run over a store: its session, the closing of each device behind it, the status that it ends with, and
--- what is known of it besides.
-use Rattle.std.specs.Prelude.{◌≡◌, ◌⊎◌, ℕ, ◌≤◌, Bool, List, Option, length, map, slice_get}
+-- Crate node_run. A whole run over a store: its session, the closing of each device behind it, how it ends, and what is known of it
+-- besides.
+use Rattle.std.specs.Prelude.{◌≡◌, ℕ, ◌<◌, ◌≤◌, Bool, List, Option, length, map}
 use Rattle.fault_count.specs.Counts.{Rose}
 use Rattle.disk_model.specs.Disk.{DiskView}
 use Rattle.device_model.specs.Book.{Setup}
@@ -8,9 +8,11 @@ use Rattle.node_model.specs.Commands.{Node, NodeEvent, IsNumbered}
 use Rattle.node_session.specs.declared.ended.Ended.{Ended}
 use Rattle.node_session.specs.declared.ended.Ended.TheVariants.{Finish, Quit, SourceFault, SinkFault, Memory, Halted, Long}
 use Rattle.node_session.specs.Turns.{Times}
-use Rattle.node_model.specs.Run.{IsRun, last_node, states_of_run}
-use Rattle.node_model.specs.Notes.{IsNote}
-use Rattle.node_model.specs.Headline.{AllQuiet, IsQuiet, NoneFell, RoseOn, counts_of, Outside}
+use Rattle.node_model.specs.declared.run_end.RunEnd.{RunEnd}
+use Rattle.node_model.specs.declared.run_end.RunEnd.TheVariants as end
+use Rattle.node_model.specs.Run.{Served, IsRun, last_node, states_of_run}
+use Rattle.node_model.specs.Outside.{Outside, NoneFell, RoseOn, counts_of}
+use Rattle.node_model.specs.RunEnd.{AllQuiet, FailsToClose}
 use Rattle.node_model.specs.Meaning.{left_between, LeavesEach, ClosesBy}
 use Rattle.node_run.specs.Chain.{Lifted}
 
@@ -44,33 +46,33 @@ pub record RunsWhole {T : Type 0} (Stands : T → Node → Type 0) (views : T �
   pub leaves : LeavesEach views node (λ device. states_of_run device node lifted.served closing) old end
   pub says : UnlessHalted Says (last_node node lifted.served closing) result
 
--- success where nothing is pending, and else a disk's fault of a device with a buffer left
-abbrev pub ClosesWith : (status noted : ℕ) → Node → Type 0
-ClosesWith status noted last = ((status ≡ 0) × AllQuiet last) ⊎ ((status ≡ 3) × (IsQuiet (slice_get last noted) → ⊥))
+-- How a run may end behind a session that went well: nothing is pending, or a device failed in the closing flush.
+abbrev pub ClosesWith : RunEnd → (first : Node) → List Served → List NodeEvent → Type 0
+ClosesWith end.Served first lines closing = AllQuiet (last_node first lines closing)
+ClosesWith (end.DeviceFault device) first lines closing = FailsToClose device first lines closing
+ClosesWith _ first lines closing = ⊥
 
--- the status of a run whose session ended so
-abbrev pub StatusIs : Ended → (status noted : ℕ) → Node → Type 0
-StatusIs (Finish n) status noted last = ClosesWith status noted last
-StatusIs (Quit n) status noted last = ClosesWith status noted last
-StatusIs SourceFault status noted last = status ≡ 4
-StatusIs SinkFault status noted last = status ≡ 5
-StatusIs Memory status noted last = status ≡ 6
-StatusIs Halted status noted last = (status ≡ 3) ⊎ (status ≡ 6) ⊎ (status ≡ 7)
-StatusIs (Long n) status noted last = status ≡ 10
+-- And behind one in which a restart was refused: where a device failed, its count rose in the restart.
+abbrev pub HaltsWith : RunEnd → (Halts : (before after : Node) → Type 0) → (first : Node) → Type 0
+HaltsWith (end.DeviceFault device) Halts first = (before after : Node) → Halts before after → RoseOn device (counts_of before) (counts_of after)
+HaltsWith (end.DeviceRefused device) Halts first = device < length first
+HaltsWith end.NoMemory Halts first = Unit {0}
+HaltsWith _ Halts first = ⊥
 
--- The settings and numbers of the first node and how it started, the counts at entry and exit, the note.
-pub record Frames (Starts : Node → Type 0) (setups : List Setup) (o : Outside) (noted : ℕ) (first last : Node) : Type 0 where
+-- How a run may end whose session ended so.
+abbrev pub Concludes : (Halts : (before after : Node) → Type 0) → Outside → (first : Node) → List Served → List NodeEvent → Ended → Type 0
+Concludes Halts o first lines closing (Finish n) = ClosesWith o.end first lines closing
+Concludes Halts o first lines closing (Quit n) = ClosesWith o.end first lines closing
+Concludes Halts o first lines closing SourceFault = (o.end ≡ end.SourceFault) × Rose o.before.source o.after.source
+Concludes Halts o first lines closing SinkFault = (o.end ≡ end.SinkFault) × Rose o.before.sink o.after.sink
+Concludes Halts o first lines closing Memory = o.end ≡ end.NoMemory
+Concludes Halts o first lines closing Halted = HaltsWith o.end Halts first
+Concludes Halts o first lines closing (Long n) = o.end ≡ end.InputTooLong
+
+-- The settings and numbers of the first node and how it started, and the counts at entry and exit.
+pub record Frames (Starts : Node → Type 0) (setups : List Setup) (o : Outside) (first last : Node) : Type 0 where
   pub set : map (λ slot. slot.setup) first ≡ setups
   pub numbered : IsNumbered 0 (length first) first
   pub starts : Starts first
   pub counts_first : NoneFell o.before.disks (counts_of first)
   pub counts_last : counts_of last ≡ o.after.disks
-  pub note : IsNote o.status noted o.reads o.note
-  pub disk : o.status ≡ 3 → RoseOn noted o.before.disks o.after.disks
-
--- The status by the session's end and the last state, and a risen count behind each fault: of the device whose restart was refused, of the source, of the sink.
-pub record Concludes (Halts : (before after : Node) → Type 0) (o : Outside) (noted : ℕ) (last : Node) (result : Ended) : Type 0 where
-  pub status : StatusIs result o.status noted last
-  pub restart : o.status ≡ 3 → (before after : Node) → Halts before after → RoseOn noted (counts_of before) (counts_of after)
-  pub source : result ≡ SourceFault → Rose o.before.source o.after.source
-  pub sink : result ≡ SinkFault → Rose o.before.sink o.after.sink

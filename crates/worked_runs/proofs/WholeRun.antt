@@ -18,10 +18,13 @@ use Rattle.hex.proofs.OnLiterals.{hex_on_literals}
 use Rattle.line_proto.specs.Lines.{IsCommandLine, IsDigestText}
 use Rattle.node_model.specs.Commands.{NodeEvent, on_device}
 use Rattle.node_model.specs.Run.{Served, Serves, IsRun, ImagesLeft, node_after_line}
-use Rattle.node_model.specs.Notes.{IsNote}
-use Rattle.node_model.specs.Headline.{written_text, IsAnswered, Faults, EndsWithCause, CommitsAt, StartsFrom, Outside, HoldsReplies, HoldsThroughout, RoseOn, is_among, run_statuses}
-use Rattle.std.specs.Prelude.{IsTrue}
-use Rattle.std.proofs.Common.{lit<, zero, suc, subst, sym, ◌∙◌, arith}
+use Rattle.node_model.specs.declared.run_end.RunEnd.{RunEnd}
+use Rattle.node_model.specs.declared.run_end.RunEnd.TheVariants as end
+use Rattle.node_model.specs.Outside.{Outside, Faults, TakesLines, IsFrontOf, written_text, RoseOn}
+use Rattle.node_model.specs.RunEnd.{HasCause, status_of}
+use Rattle.node_model.specs.Headline.{CommitsAt, StartsFrom, HoldsReplies, HoldsThroughout}
+use Rattle.node_model.proofs.Counts.{device_rose}
+use Rattle.std.proofs.Common.{zero, suc, subst, sym, ◌∙◌, arith}
 use Rattle.recovery.specs.Sound.{IsSound}
 use Rattle.worked_runs.proofs.RunTools.{device, event, d1, stamp, state_at}
 
@@ -116,42 +119,40 @@ no_feed (b ∷ bytes) e =
     rest_none true h = absurd (false≢true (sym h))
     rest_none false h = h
 
--- a run that ends well: all lines are served, all replies written, and nothing is pending
-all_is_well : IsAnswered 0 0 (put_bytes ++ 10 ∷ get_bytes ++ 10 ∷ codes "quit" ++ 10 ∷ []) (written_text lines) false start0 lines closing
-unfolding refreshed dropped_live placed with_flushed cold_book after_step start_state hex_on_literals digits
-all_is_well = record {
-  unserved = [];
-  takes = record { lines = put_bytes ∷ get_bytes ∷ codes "quit" ∷ []; rest = []; falls = record { whole = refl; each = (no_feed put_bytes refl, (no_feed get_bytes refl, (no_feed (codes "quit") refl, tt))); open_line = tt }; in_order = refl };
-  front = ([], refl);
-  success = λ _. (refl, inl refl, refl, (refl, tt));
-  source = λ h. (refl, inl refl);
-  refused = λ h. cc;
-  disk = λ h. cc;
-}
-
 -- ---- all promises of this run, over a disk that had a sound image without copies
 
 abbrev no_faults : Faults
 no_faults = record { disks = 0 ∷ []; source = 0; sink = 0 }
 
-cause : EndsWithCause 0 0 (put_bytes ++ 10 ∷ get_bytes ++ 10 ∷ codes "quit" ++ 10 ∷ []) false no_faults no_faults start0 lines
-cause = record {
-  known = refl;
-  disk = λ h. cc;
-  restart = λ h halts. cc;
-  source = λ h. cc;
-  sink = λ h. cc;
-  within = lit≤ tt;
-  long = λ h. cc;
-  not_long = λ h. lit< tt;
-  halted = λ h. cc;
+abbrev outside : List ℕ → Outside
+outside image = record {
+  end = end.Served;
+  taken = put_bytes ++ 10 ∷ get_bytes ++ 10 ∷ codes "quit" ++ 10 ∷ [];
+  written = written_text lines;
+  ended = false;
+  left = Some [];
+  times = Some (1000 ∷ []);
+  before = no_faults;
+  after = no_faults;
+  images = image ∷ [];
 }
 
-note : (reads : List (List ℕ)) → IsNote 0 0 reads []
-note reads = record { none = λ h. refl; words = λ h. cc; disk = λ h. cc; source = λ h. cc; sink = λ h. cc; memory = λ h. cc; refused = λ h. absurd (not_seven h); door = λ h. cc; long = λ h. cc }
-  where
-    not_seven : ◌≡◌ {A = ℕ} 0 7 → ⊥
-    not_seven h = cc
+takes : (image : List ℕ) → TakesLines (outside image).taken false lines []
+takes image = record {
+  lines = put_bytes ∷ get_bytes ∷ codes "quit" ∷ [];
+  rest = [];
+  falls = record { whole = refl; each = (no_feed put_bytes refl, (no_feed get_bytes refl, (no_feed (codes "quit") refl, tt))); open_line = tt };
+  in_order = refl;
+}
+
+front : IsFrontOf (written_text lines) (written_text lines)
+unfolding hex_on_literals digits
+front = ([], refl)
+
+-- it ends well: all lines are served up to `quit`, all replies written, and nothing is pending
+all_is_well : (image : List ℕ) → HasCause end.Served (outside image) start0 lines [] closing
+unfolding refreshed dropped_live placed with_flushed cold_book after_step start_state
+all_is_well image = (record { written = refl; up_to = inl refl; goes = refl }, (refl, tt))
 
 -- with commit off nothing is asked of what was written
 not_set : false ≡ true → ⊥
@@ -171,28 +172,13 @@ unfolding refreshed dropped_live placed with_flushed cold_book after_step start_
 third_commits zero = λ h e. absurd (not_set h)
 third_commits (suc n) = tt
 
-abbrev outside : List ℕ → Outside
-outside image = record {
-  status = 0;
-  note = [];
-  taken = put_bytes ++ 10 ∷ get_bytes ++ 10 ∷ codes "quit" ++ 10 ∷ [];
-  written = written_text lines;
-  ended = false;
-  left = Some [];
-  times = Some (1000 ∷ []);
-  before = no_faults;
-  after = no_faults;
-  images = image ∷ [];
-  reads = image ∷ [];
-}
-
 replies_hold : (image : List ℕ) → IsSound (device 16 0 16 false 86400) image [] → HoldsReplies (StartsFrom (image ∷ [])) true ((device 16 0 16 false 86400) ∷ []) (outside image) nothing_left
 unfolding refreshed dropped_live placed with_flushed cold_book after_step start_state
 replies_hold image sound = record {
   first = start0;
   lines = lines;
+  unserved = [];
   closing = closing;
-  noted = 0;
   set = refl;
   numbered = (refl, refl, tt);
   starts = (([], sound, refl), refl);
@@ -201,9 +187,10 @@ replies_hold image sound = record {
   is_run = run;
   clock = (refl, (refl, (refl, tt)));
   at_end = λ h. refl;
-  answered = all_is_well;
-  cause = cause;
-  note = note (image ∷ []);
+  within = lit≤ tt;
+  takes = takes image;
+  front = front;
+  cause = all_is_well image;
 }
 
 holds : (image : List ℕ) → IsSound (device 16 0 16 false 86400) image [] → HoldsThroughout ((device 16 0 16 false 86400) ∷ []) (outside image) nothing_left nothing_left
@@ -215,19 +202,24 @@ holds image sound = record {
   committed = (first_commits, (second_commits, (third_commits, tt)));
 }
 
--- a run doesn't end with a status that has no cause
-no_other_status : (Starts : Node → Type 0) (told : Bool) (setups : List Setup) (o : Outside) (since : ImagesLeft) → HoldsReplies Starts told setups o since → o.status ≡ 1 → ⊥
-no_other_status Starts told setups o since h is = not_one (subst (λ (s : ℕ). IsTrue (is_among run_statuses s)) is h.cause.known)
-  where
-    not_one : false ≡ true → ⊥
-    not_one e = cc
+-- no run ends with a status that isn't there
+no_other_status : (e : RunEnd) → status_of e ≡ 1 → ⊥
+no_other_status end.Served is = cc
+no_other_status end.WordsRefused is = cc
+no_other_status (end.DeviceFault device) is = cc
+no_other_status end.SourceFault is = cc
+no_other_status end.SinkFault is = cc
+no_other_status end.NoMemory is = cc
+no_other_status (end.DeviceRefused device) is = cc
+no_other_status end.InputTooLong is = cc
 
 -- nor of itself with a disk's fault where no disk has failed
 no_fault_of_itself : (Starts : Node → Type 0) (told : Bool) (setups : List Setup) (o : Outside) (since : ImagesLeft) → HoldsReplies Starts told setups o since
-    → o.before ≡ no_faults → o.after ≡ no_faults → o.status ≡ 3 → ⊥
-no_fault_of_itself Starts told setups o since h before after is = none h.noted
-    (subst (λ (f : Faults). RoseOn h.noted no_faults.disks f.disks) after (subst (λ (f : Faults). RoseOn h.noted f.disks o.after.disks) before (h.cause.disk is)))
+    → o.before ≡ no_faults → o.after ≡ no_faults → (device : ℕ) → o.end ≡ end.DeviceFault device → ⊥
+no_fault_of_itself Starts told setups o since h before after device is = none device
+    (subst (λ (f : Faults). RoseOn device no_faults.disks f.disks) after (subst (λ (f : Faults). RoseOn device f.disks o.after.disks) before
+    (device_rose Starts told setups o since h device is)))
   where
-    none : (device : ℕ) → RoseOn device no_faults.disks no_faults.disks → ⊥
+    none : (d : ℕ) → RoseOn d no_faults.disks no_faults.disks → ⊥
     none zero rose = omega (arith, rose)
     none (suc n) rose = rose
