@@ -26,11 +26,11 @@ use Rattle.block_shelf.specs.declared.refusals.ReadRefusal.{ReadRefusal}
 use Rattle.block_shelf.specs.declared.refusals.ReadRefusal.TheVariants as read
 use Rattle.shard_core.specs.View.{ShardView, SameSetup, setup_of, setup_for}
 use Rattle.shard_core.specs.Stands.{Agrees, IsSafe}
-use Rattle.shard_core.specs.Calls.{Makes, MakesAny, write_answer, read_answer, flush_answer}
+use Rattle.shard_core.specs.Calls.{Makes, MakesAny, GetsStored, write_answer, read_answer, flush_answer}
 use Rattle.shard_core.proofs.Going.{safe_survives}
 use Rattle.node_model.specs.Run.{states_while}
 use Rattle.node_model.specs.Meaning.{ActsFrom, TendsFrom, ClosesFrom, LeavesEach, SurvivesOne, Rests}
-use Rattle.core_run.specs.OneDevice.{StandsAlone, StandsSafely, views_of, unknown, NeverHalts, ActsAlone, TendsAlone, ClosesAlone, ClosedSo, flush_outcome}
+use Rattle.core_run.specs.OneDevice.{StandsAlone, StandsSafely, views_of, unknown, NeverHalts, RepliesStored, ActsAlone, TendsAlone, ClosesAlone, ClosedSo, flush_outcome}
 use Rattle.core_run.proofs.Closing.{closed_so}
 
 -- one device has every digest
@@ -156,7 +156,7 @@ module _ {D : Type 0} (view : D → DiskView) (old new : ShardView D) (shape : S
 
   module _ (call : Call) (answer : Answer) (c : Command) (now : ℕ) (r : Reply)
       (does : (slot : Slot) (event : Event) → event.call ≡ call → event.answer ≡ answer → Does (slot ∷ []) c now (on_device 0 event ∷ []) r) (goes : r ≡ reply.Halted → ⊥)
-      (makes : (s : State) → Agrees old s → MakesOne call answer s) where
+      (makes : (s : State) → Agrees old s → MakesOne call answer s) (stored : RepliesStored view old c now r) where
     -- however the node stands, and whatever is left
     acts_one : (Stands : ShardView D → Node → Type 0) (views : ShardView D → ℕ → DiskView) (told : Bool) (s : State) (m : MakesOne call answer s)
         → Follows (setup_of old) told s (view old.shelf.disk).faults m.event → Stands new (After m.event s)
@@ -173,7 +173,7 @@ module _ {D : Type 0} (view : D → DiskView) (old new : ShardView D) (shape : S
     }
 
     acts : ActsAlone view old c now r new
-    acts = (later, over_any, over_honest)
+    acts = (later, over_any, over_honest, stored)
       where
         over_any : (node : Node) → StandsAlone view old node → ActsFrom (StandsAlone view) unknown NeverHalts false old node c now r new
         over_any node stands =
@@ -195,21 +195,21 @@ module _ {D : Type 0} (view : D → DiskView) (old new : ShardView D) (shape : S
   acts_put digest ttl expect payload now r result is makes =
       acts (put_call digest ttl expect payload now) (write_answer result) (command.Put digest ttl expect payload) now r
       (λ slot. digest_does slot digest (put_call digest ttl expect payload now) (write_answer result) (command.Put digest ttl expect payload) now r (λ event work at is_call given. (event, at, is_call, given)) is)
-      (λ h. written_goes_on result (sym is ∙ h)) makes
+      (λ h. written_goes_on result (sym is ∙ h)) makes tt
 
   pub acts_get : (digest : Digest) (now : ℕ) (r : Reply) (result : Result (Option Version) ReadRefusal) → r ≡ answer_reply (read_answer result)
-      → ((s : State) → Agrees old s → MakesOne (get_call digest now) (read_answer result) s)
+      → ((s : State) → Agrees old s → MakesOne (get_call digest now) (read_answer result) s) → GetsStored view old digest now result
       → ActsAlone view old (command.Get digest) now r new
-  acts_get digest now r result is makes =
+  acts_get digest now r result is makes stored =
       acts (get_call digest now) (read_answer result) (command.Get digest) now r
       (λ slot. digest_does slot digest (get_call digest now) (read_answer result) (command.Get digest) now r (λ event work at is_call given. (event, at, is_call, given)) is)
-      (λ h. read_goes_on result (sym is ∙ h)) makes
+      (λ h. read_goes_on result (sym is ∙ h)) makes (result, is, stored)
 
   pub acts_flush : {E : Type 0} (now : ℕ) (r : Reply) (flushed : Result ℕ E) → r ≡ one_sum (flush_outcome flushed)
       → ((s : State) → Agrees old s → MakesOne flush_call (flush_answer flushed) s)
       → ActsAlone view old command.Flush now r new
   acts_flush now r flushed is makes =
-      acts flush_call (flush_answer flushed) command.Flush now r (λ slot event. flush_does flushed slot now r is event) (λ h. flushed_goes_on flushed (sym is ∙ h)) makes
+      acts flush_call (flush_answer flushed) command.Flush now r (λ slot event. flush_does flushed slot now r is event) (λ h. flushed_goes_on flushed (sym is ∙ h)) makes tt
 
   -- ---- a tending
 

@@ -15,7 +15,7 @@ use Rattle.shard_core.specs.Stands.{Agrees}
 use Rattle.shard_core.specs.Calls.{flush_answer}
 use Rattle.core_run.specs.OneDevice.{ClosedSo}
 
-pub none_mapped : (buffers : List BufferState) → map book_buffer buffers ≡ [] → buffers ≡ []
+none_mapped : (buffers : List BufferState) → map book_buffer buffers ≡ [] → buffers ≡ []
 none_mapped [] none = refl
 none_mapped (b ∷ buffers) none = cc
 

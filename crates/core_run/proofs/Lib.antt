@@ -1,4 +1,3 @@
 pub mod Later
 pub mod Acting
 pub mod Closing
-pub mod Found

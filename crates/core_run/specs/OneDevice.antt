@@ -1,22 +1,26 @@
 -- Crate core_run. For which nodes of the model a node over one device stands, and what its calls mean by that.
-use Rattle.std.specs.Prelude.{◌≡◌, ℕ, true, false, List, [], ◌∷◌, Result, Ok, Err, slice_get}
+use Rattle.std.specs.Prelude.{◌≡◌, ℕ, true, false, List, [], ◌∷◌, Option, Result, Ok, Err, slice_get}
 use Rattle.fault_count.specs.Counts.{Rose}
 use Rattle.disk_model.specs.Disk.{DiskView, IsOnly, IsHonest}
+use Rattle.rec_format.specs.declared.version.Version.{Version}
 use Rattle.device_model.specs.Device.{State}
 use Rattle.device_model.specs.Events.{disk_fault}
 use Rattle.line_proto.specs.declared.command.Command.{Command}
+use Rattle.line_proto.specs.declared.command.Command.TheVariants.{Get}
 use Rattle.line_proto.specs.declared.reply.Reply.{Reply}
-use Rattle.node_model.specs.Commands.{Node, Outcome, did, stopped}
+use Rattle.node_model.specs.Commands.{Node, Outcome, did, stopped, answer_reply}
 use Rattle.block_shelf.specs.Disks.{IsLater, OnlyRead}
 use Rattle.shard_core.specs.View.{ShardView, setup_of}
 use Rattle.shard_core.specs.Stands.{Agrees, IsSafe}
+use Rattle.shard_core.specs.Calls.{GetsStored, read_answer}
+use Rattle.block_shelf.specs.declared.refusals.ReadRefusal.{ReadRefusal}
 use Rattle.block_format.specs.Layout.{Body}
 use Rattle.recovery.specs.Start.{start_state}
 use Rattle.recovery.specs.Sound.{IsSound}
 use Rattle.shard_core.specs.declared.settings.Settings.{Settings}
 use Rattle.shard_core.specs.declared.start.Asked.{Asked}
 use Rattle.shard_core.specs.declared.start.StartCause.{StartCause}
-use Rattle.shard_core.specs.Starting.{StandsForEntries, Begins, IsRefused, FaultRose}
+use Rattle.shard_core.specs.Starting.{StandsForBodies, Begins, IsRefused, FaultRose}
 use Rattle.node_model.specs.Headline.{IsQuiet, AllQuiet}
 use Rattle.node_model.specs.Meaning.{ActsBy, TendsBy, ClosesBy}
 
@@ -51,13 +55,20 @@ views_of view shard device = view shard.shelf.disk
 
 -- ---- calls
 
+-- A get is replied as its record is stored: the reply is that of an answer which is what stands at the record's place, on a disk that
+-- tells its bytes, and `err damaged` comes exactly where no head of the record stands there.
+abbrev pub RepliesStored : {D : Type 0} → (view : D → DiskView) → ShardView D → Command → ℕ → Reply → Type 0
+RepliesStored view old (Get digest) now r = (got : Result (Option Version) ReadRefusal) × (r ≡ answer_reply (read_answer got)) × GetsStored view old digest now got
+RepliesStored view old _ now r = Unit {0}
+
 -- Each command is carried out from each state for which the node stood: over every disk, where what is read may be anything, and over
--- an honest one, with what a crash leaves meanwhile. The disk is the same, later.
+-- an honest one, with what a crash leaves meanwhile. The disk is the same, later. A get is replied as its record is stored.
 abbrev pub ActsAlone : {D : Type 0} → (view : D → DiskView) → ShardView D → Command → ℕ → Reply → ShardView D → Type 0
 ActsAlone view old c now r new =
     IsLater (view old.shelf.disk) (view new.shelf.disk)
     × ActsBy (StandsAlone view) unknown NeverHalts false old c now r new
     × ActsBy (StandsSafely view) (views_of view) NeverHalts true old c now r new
+    × RepliesStored view old c now r
 
 abbrev pub TendsAlone : {D : Type 0} → (view : D → DiskView) → (old new : ShardView D) → Type 0
 TendsAlone view old new =
@@ -89,11 +100,11 @@ ClosesAlone view flushed old new =
 abbrev pub the_only : Asked
 the_only = record { device = 0; devices = 1 }
 
--- A disk was taken into use, and nothing was written. Over any disk the shard stands for a start from the entries that were found;
--- over one that tells its bytes it begins with what they have, and a crash leaves just these. Over an honest one whose image is sound
--- it is safe.
+-- A disk was taken into use, and nothing was written. Over any disk the shard stands for the state behind a start from the bodies that
+-- were read; over one that tells its bytes it begins with what they have, and a crash leaves just these. Over an honest one whose image
+-- is sound it is safe.
 pub record Started {D : Type 0} (view : D → DiskView) (set : Settings) (disk : D) (shard : ShardView D) : Type 0 where
-  pub stands : StandsForEntries view (IsHonest (view disk)) shard
+  pub stands : StandsForBodies view the_only (view disk) shard
   pub begins : (view disk).tells → Begins the_only (view disk).seen shard
   pub only : (view disk).tells → IsOnly (view disk).seen (view shard.shelf.disk).may_leave
   pub safe : IsHonest (view disk) → (bodies : List Body) → IsSound (setup_of shard) (view disk).seen bodies → IsSafe view shard (start_state (setup_of shard) bodies)

@@ -5,7 +5,7 @@ use Rattle.fault_count.specs.Counts.{Rose}
 use Rattle.disk_model.specs.Disk.{DiskView, IsDisk, IsOnly, IsHonest, meanwhile}
 use Rattle.device_model.specs.Device.{State}
 use Rattle.block_format.specs.Layout.{Body}
-use Rattle.recovery.specs.Start.{start_state, entries_state}
+use Rattle.recovery.specs.Start.{start_state}
 use Rattle.recovery.specs.Sound.{IsSound}
 use Rattle.line_proto.specs.declared.command.Command.{Command}
 use Rattle.line_proto.specs.declared.reply.Reply.{Reply}
@@ -18,6 +18,7 @@ use Rattle.block_shelf.specs.Disks.{IsLater}
 use Rattle.shard_core.specs.declared.settings.Settings.{Settings}
 use Rattle.shard_core.specs.View.{ShardView, setup_of}
 use Rattle.shard_core.specs.Stands.{Agrees}
+use Rattle.shard_core.specs.Starting.{found_state}
 use Rattle.node_model.specs.declared.run_end.RunEnd.{RunEnd}
 use Rattle.node_model.specs.Run.{Served, node_after_lines, last_node, states_while}
 use Rattle.node_model.specs.Outside.{Outside, counts_of}
@@ -29,7 +30,6 @@ use Rattle.shard_core.proofs.Going.{safe_survives}
 use Rattle.shard_core.proofs.Later.{later_none, later_then}
 use Rattle.core_run.proofs.Later.{later_read}
 use Rattle.core_run.proofs.Acting.{slot_of, nothing_left, rests_safely}
-use Rattle.core_run.proofs.Found.{found_entries}
 use Rattle.node_run.specs.Whole.{RunsWhole, Frames, Concludes}
 use Rattle.node_run.proofs.Weaker.{ran_more}
 use Rattle.node_run.proofs.Kept.{ran_keeps}
@@ -78,7 +78,7 @@ module _ {D : Type 0} (view : D → DiskView) where
 
     pub goes_on : result ≢ Halted
     goes_on =
-        let s : State = entries_state (setup_of old) started.stands.opened started.stands.found started.stands.next in
+        let s : State = found_state (setup_of old) started.stands.bodies in
         never_halts (StandsAlone view) unknown NeverHalts false (λ store before after h. h) rests_any _ _ _ _ _ _ _ old new times later (first_of old s) result ran_any
         (record { state = s; is_one = refl; agrees = started.stands.agrees })
 
@@ -213,15 +213,8 @@ module _ {D : Type 0} (view : D → DiskView) where
       shortens = ran.shortens;
       extends = ran.extends;
       replies = let found = started.stands in
-          replies_from (StartsFound (setup_of old) old.shelf.geometry (view disk).tells (view disk).seen) [] (entries_state (setup_of old) found.opened found.found found.next) found.agrees (
-            found.opened,
-            found.found,
-            found.next,
-            (view old.shelf.disk).faults,
-            refl,
-            λ told. let begins = started.begins told in
-                (begins.bodies, begins.passes, found_entries view set disk old started told),
-          );
+          replies_from (StartsFound (setup_of old) old.shelf.geometry (view disk).tells (view disk).seen) [] (found_state (setup_of old) found.bodies) found.agrees
+          (found.bodies, (view old.shelf.disk).faults, refl, found.passes);
       from_image = λ told bodies sound.
           replies_from (StartsFrom ((view disk).seen ∷ [])) ((view disk).seen ∷ []) (start_state (setup_of old) bodies) ((started.begins told).sound bodies sound) (from_it bodies sound);
       throughout = holds;

@@ -1,13 +1,9 @@
 -- Crate node_prog. What a run over one device promises.
 use Rattle.std.specs.Prelude.{◌≡◌, ◌⊎◌, ℕ, Bool, false, List, [], ◌∷◌, ◌++◌, Option}
 use Rattle.disk_model.specs.Disk.{Images, DiskView, IsOnly, IsHonest, meanwhile}
-use Rattle.rec_format.specs.declared.version.Digest.{Digest}
 use Rattle.device_model.specs.Book.{Setup}
-use Rattle.device_model.specs.Device.{entry}
 use Rattle.block_format.specs.declared.geometry.Geometry.{Geometry}
 use Rattle.block_format.specs.Layout.{Body}
-use Rattle.block_format.specs.Copies.{Copy, copies_of, cold}
-use Rattle.recovery.specs.Start.{entries_state}
 use Rattle.recovery.specs.Sound.{IsSound}
 use Rattle.io_traits.specs.Sink.{Extends}
 use Rattle.io_traits.specs.Source.{Shortens}
@@ -15,20 +11,18 @@ use Rattle.node_model.specs.Commands.{Node}
 use Rattle.shard_core.specs.declared.settings.Settings.{Settings}
 use Rattle.shard_core.specs.View.{setup_for}
 use Rattle.block_shelf.specs.Disks.{IsLater, OnlyRead}
-use Rattle.shard_core.specs.Starting.{Passes, own_copies}
+use Rattle.shard_core.specs.Starting.{Passes, found_state}
 use Rattle.core_run.specs.OneDevice.{the_only}
 use Rattle.node_model.specs.declared.run_end.RunEnd.{RunEnd}
 use Rattle.node_model.specs.Outside.{Outside}
 use Rattle.node_model.specs.RunEnd.{status_of, note_of, HasStartCause}
 use Rattle.node_model.specs.Headline.{StartsFrom, HoldsReplies, HoldsThroughout}
 
--- The first node of a run, over any disk: the device with this setup, as a start from the entries that were found leaves it. Where
--- the disk tells its bytes, sound or not, the entry of each digest is its latest copy behind the open gates.
+-- The first node of a run, over any disk: the device with this setup, as a start from some bodies leaves it. Where the disk tells its
+-- bytes, sound or not, these are the bodies behind its open gates.
 abbrev pub StartsFound : Setup → Geometry → (tells : Type 0) → (reads : List ℕ) → Node → Type 0
-StartsFound setup g tells reads node = (opened : List ℕ) × (found : List Copy) × (next faults : ℕ)
-    × (node ≡ (record { setup = setup; state = entries_state setup opened found next; faults = faults }) ∷ [])
-    × (tells → (bodies : List Body) × Passes the_only reads g bodies
-    × ((digest : Digest) → entry (entries_state setup opened found next) digest ≡ cold digest (own_copies g (copies_of bodies))))
+StartsFound setup g tells reads node = (bodies : List Body) × (faults : ℕ)
+    × (node ≡ (record { setup = setup; state = found_state setup bodies; faults = faults }) ∷ []) × (tells → Passes the_only reads g bodies)
 
 -- What is seen of the link and of the disk's count of faults, before a run and after it.
 pub record Ends : Type 0 where
@@ -90,8 +84,8 @@ outside end bytes output ended times before after images = record {
 }
 
 -- The device was taken into use, and the bytes written are the front of the reply texts of a run over the bytes taken.
--- Over any disk it is a run from the entries that the start found, which are those of its bytes where it tells them; over one
--- whose bytes are a sound image it is a run from the start state of that image. In both a get is answered by what was read, or by
+-- Over any disk it is a run from what the start found, which is what its bytes have where it tells them; over one whose bytes are a
+-- sound image it is a run from the start state of that image. In both a get is answered by what was read, or by
 -- `err damaged`, since the disk isn't known to be honest. Over an honest disk whose one image is sound the run keeps all promises:
 -- no read finds damage, each image that a crash might have left since the entry survives some state of the run, each that one may
 -- leave now survives the last, and what was answered as done with commit on is flushed.

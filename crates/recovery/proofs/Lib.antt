@@ -13,6 +13,7 @@ pub mod Places
 pub mod Held
 pub mod HeldStart
 pub mod StartLive
+pub mod ColdTimes
 pub mod Pending
 pub mod Stages
 pub mod HeldSteps

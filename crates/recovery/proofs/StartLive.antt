@@ -2,7 +2,7 @@
 use Rattle.std.proofs.Common.{◌≡◌, ◌⊎◌, inl, inr, ⊎_elim, ℕ, Bool, true, false, cond, List, [], ◌∷◌, map, Option, Some, None, refl, sym, ◌∙◌, ap, subst, arith}
 use Rattle.std.proofs.lemmas.Bool.{cond-true, cond-false, both_ways}
 use Rattle.std.specs.Prelude.{Contains, IfSome, find, option_map}
-use Rattle.std.specs.List.{filter_map, cons_option}
+use Rattle.std.specs.List.{AllByRecursion, filter_map, cons_option}
 use Rattle.rec_format.specs.declared.version.Digest.{Digest}
 use Rattle.rec_format.specs.Places.{same_digest, digest_before, with_digest}
 use Rattle.device_model.specs.Book.{Setup, live_of, refreshed, cold_book}
@@ -111,14 +111,30 @@ find_cold digest copies (e ∷ names) there = by (same_digest digest e) refl the
         same_taken digest e copies others (cold_copy e copies) (found_named e copies) is (λ none. rest (inl (same ∙ none)) ∙ same ∙ none) ∙ sym same
     by false other more rest = other_passed digest e copies others (cold_copy e copies) (found_named e copies) other ∙ rest (fewer other more)
 
+-- of the copies that a start finds the first of a digest is what is found of it
+pub found_first : (digest : Digest) (copies : List Copy) → find (λ c. same_digest digest c.digest) (cold_copies copies) ≡ cold_copy digest copies
+found_first digest copies = find_cold digest copies (names_of_copies copies) (none_or_named digest copies)
+
+found_of_names : (copies : List Copy) (names : List Digest) → AllByRecursion (Contains copies) (filter_map (λ d. cold_copy d copies) names)
+found_of_names copies [] = tt
+found_of_names copies (e ∷ names) = by (cold_copy e copies) (found_named e copies) (found_of_names copies names)
+  where
+    by : (found : Option Copy) → IfSome found (λ c. Contains copies c × (same_digest e c.digest ≡ true)) → AllByRecursion (Contains copies) (filter_map (λ d. cold_copy d copies) names)
+        → AllByRecursion (Contains copies) (cons_option found (filter_map (λ d. cold_copy d copies) names))
+    by None is rest = rest
+    by (Some c) is rest = (is.0, rest)
+
+-- they are some of all copies
+pub found_among : (copies : List Copy) → AllByRecursion (Contains copies) (cold_copies copies)
+found_among copies = found_of_names copies (names_of_copies copies)
+
 -- ---- the states
 
 -- after a start the live copy of a digest is what was found of it
 pub start_live : (setup : Setup) (bodies : List Body) (digest : Digest) → live_of digest (start_state setup bodies).book.live ≡ option_map live_copy (cold_copy digest (copies_of bodies))
 unfolding start_state cold_book refreshed
 start_live setup bodies digest =
-    live_named digest (cold_copies (copies_of bodies))
-    ∙ ap (option_map live_copy) (find_cold digest (copies_of bodies) (names_of_copies (copies_of bodies)) (none_or_named digest (copies_of bodies)))
+    live_named digest (cold_copies (copies_of bodies)) ∙ ap (option_map live_copy) (found_first digest (copies_of bodies))
 
 -- and so it is where these entries were found
 pub entries_live : (setup : Setup) (opened : List ℕ) (found : List Copy) (next : ℕ) (digest : Digest)

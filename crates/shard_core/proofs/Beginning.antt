@@ -32,19 +32,20 @@ use Rattle.recovery.proofs.Held as latest_copy
 use Rattle.recovery.proofs.HeldStart.{start_reflects}
 use Rattle.recovery.proofs.Images.{one_shape}
 use Rattle.recovery.proofs.Members.{filter_from}
-use Rattle.recovery.proofs.StartLive.{start_live, entries_live}
+use Rattle.recovery.proofs.ColdTimes.{cold_high}
+use Rattle.recovery.proofs.StartLive.{found_first, start_live, entries_live}
 use Rattle.recovery.proofs.Each.{all_map}
 use Rattle.shard_core.specs.declared.settings.Settings.{Settings}
 use Rattle.shard_core.specs.declared.start.Asked.{Asked}
 use Rattle.shard_core.specs.declared.scan.Finding.{Finding}
-use Rattle.shard_core.specs.Index.{held, flag_of, high_of}
+use Rattle.shard_core.specs.Index.{flag_of}
 use Rattle.shard_core.specs.View.{ShardView, setup_for, IsEntryOf}
 use Rattle.shard_core.specs.Stands.{Agrees, IsSafe}
-use Rattle.shard_core.specs.Starting.{Begins, StandsForEntries, own_copies}
+use Rattle.shard_core.specs.Starting.{Passes, Begins, StandsForBodies, own_copies, found_state}
 use Rattle.shard_core.specs.Finding.{IsSure, AreGates, LiesBehind, IsFinding, view_with}
 use Rattle.shard_core.proofs.Keeping.{IsOneOf}
 use Rattle.shard_core.proofs.Showing.{ShowsCopies, shown_entries, shown_places, free_are, shelf_stands, shelf_placed}
-use Rattle.shard_core.proofs.FoundEntries.{gathered, gathered_are, gathered_there, find_copy, found_held, found_top, found_cover, found_high, found_numbers, found_there}
+use Rattle.shard_core.proofs.FoundEntries.{find_copy, found_top, found_cover, found_times, found_numbers}
 
 all_true : (xs : List ℕ) → filter (λ b. true) xs ≡ xs
 all_true [] = refl
@@ -55,13 +56,13 @@ unfolding cold_book refreshed
 cold_free g set opened live next = all_true (unused built opened (range_with_len 0 g.blocks))
 
 -- a copy of a digest of the device is one of all copies
-own_there : (g : Geometry) (copies : List Copy) (c : Copy) → Contains (own_copies g copies) c → Contains copies c × (device_number g.devices c.digest ≡ g.device)
+own_there : (g : Geometry) (copies : List Copy) (c : Copy) → Contains (own_copies g.device g.devices copies) c → Contains copies c × (device_number g.devices c.digest ≡ g.device)
 own_there g copies c there = let kept = filter_from (λ (x : Copy). device_number g.devices x.digest == g.device) copies c there in (kept.0, eqb-true _ _ kept.1)
 
-own_all : (setup : Setup) (g : Geometry) (copies : List Copy) → IsShapeOf setup g → NoStrays setup copies → own_copies g copies ≡ copies
+own_all : (setup : Setup) (g : Geometry) (copies : List Copy) → IsShapeOf setup g → NoStrays setup copies → own_copies g.device g.devices copies ≡ copies
 own_all setup g [] shape none = refl
 own_all setup g (c ∷ copies) shape none =
-    cond-true (device_number g.devices c.digest == g.device) (c ∷ own_copies g copies) (own_copies g copies)
+    cond-true (device_number g.devices c.digest == g.device) (c ∷ own_copies g.device g.devices copies) (own_copies g.device g.devices copies)
     (eq-eqb (device_number g.devices c.digest) g.device (ap (λ (n : ℕ). device_number n c.digest) (sym shape.devices) ∙ none.0 ∙ shape.device))
     ∙ ap (λ (l : List Copy). c ∷ l) (own_all setup g copies shape none.1)
 
@@ -98,7 +99,7 @@ module _ {D : Type 0} (disk : D) (g : Geometry) (gates : List Gate) (set : Setti
   units_enough : (n : ℕ) → 3 ≤ units_for n
   units_enough n = omega arith
 
-  entry_of : (e : Entry) → IsOneOf (own_copies g copies) e → IsEntryOf g e
+  entry_of : (e : Entry) → IsOneOf (own_copies g.device g.devices copies) e → IsEntryOf g e
   entry_of e one =
       let own = own_there g copies one.0 one.1 in
       let lies = all_at (LiesBehind g gates) copies one.0 found.lie own.0 in
@@ -112,52 +113,61 @@ module _ {D : Type 0} (disk : D) (g : Geometry) (gates : List Gate) (set : Setti
       })
 
   pub entries_of : AllByRecursion (IsEntryOf g) index
-  entries_of = all_map (IsOneOf (own_copies g copies)) (IsEntryOf g) index entry_of found.latest.each
+  entries_of = all_map (IsOneOf (own_copies g.device g.devices copies)) (IsEntryOf g) index entry_of found.latest.each
 
-  -- ---- from the entries, over any disk
+  -- ---- from what was found, over any disk
+
+  abbrev own : List Copy
+  own = own_copies g.device g.devices copies
 
   abbrev those : List Copy
-  those = gathered (own_copies g copies) index found.latest.each
+  those = cold_copies own
 
-  abbrev entries : State
-  entries = entries_state setup opened those (finding.greatest + 1)
+  abbrev found_here : State
+  found_here = found_state setup bodies
 
-  those_there : AllByRecursion (Contains copies) those
-  those_there = all_map (Contains (own_copies g copies)) (Contains copies) those (λ c there. (own_there g copies c there).0) (gathered_there (own_copies g copies) index found.latest.each)
+  found_is : (d : Digest) → find_copy those d ≡ cold_copy d own
+  found_is d = found_first d own
 
-  index_is : index ≡ map entry_for those
-  index_is = gathered_are (own_copies g copies) index found.latest.each
+  own_found : (d : Digest) → IfSome (cold_copy d own) (λ c. Contains copies c × (same_digest d c.digest ≡ true))
+  own_found d = by (cold_copy d own) (cold_there d own)
+    where
+      by : (o : Option Copy) → IfSome o (λ c. Contains own c × (same_digest d c.digest ≡ true)) → IfSome o (λ c. Contains copies c × (same_digest d c.digest ≡ true))
+      by None there = tt
+      by (Some c) there = ((own_there g copies c there.0).0, there.1)
 
-  entries_show : ShowsCopies bodies index (find_copy those) entries
+  found_shows : ShowsCopies bodies index (λ d. cold_copy d own) found_here
   unfolding entries_state
-  entries_show = record {
-    held_is = λ d. ap (held d) index_is ∙ found_held d those;
-    entry_is = λ d. found_top d those;
-    live_is = λ d. entries_live setup opened those (finding.greatest + 1) d;
-    there = λ d. found_there (Contains copies) d those those_there;
+  found_shows = record {
+    held_is = found.latest.shown;
+    entry_is = λ d. found_top d those ∙ ap version_of (found_is d);
+    live_is = λ d. entries_live setup opened those (greatest_number bodies + 1) d ∙ ap (option_map live_copy) (found_is d);
+    there = own_found;
   }
 
-  entries_agree : Agrees shard entries
+  found_agrees : Agrees shard found_here
   unfolding entries_state cold_book refreshed
-  entries_agree = record {
+  found_agrees = record {
     index = record {
-      entries = shown_entries bodies index (find_copy those) entries entries_show;
-      covers = λ d. found_cover d those ∙ ap (λ (l : List Entry). flag_of (held d l)) (sym index_is);
-      places = shown_places bodies index (find_copy those) entries entries_show;
-      times = λ part. found_high setup part those ∙ ap (high_of g.devices set.sprigs part) (sym index_is);
+      entries = shown_entries bodies index (λ d. cold_copy d own) found_here found_shows;
+      covers = λ d. found_cover d those ∙ ap (λ (o : Option Copy). cover_of (version_of o)) (found_is d) ∙ flag_is (cold_copy d own) ∙ ap flag_of (sym (found.latest.shown d));
+      places = shown_places bodies index (λ d. cold_copy d own) found_here found_shows;
+      times = λ part. found_times setup part those ∙ cold_high setup part own ∙ sym (found.latest.high setup part refl);
     };
-    shelf = shelf_stands disk g gates set bodies finding found count sure (find_copy those) entries entries_show refl
-        (cold_free g set opened (map live_copy those) (finding.greatest + 1) ∙ sym (free_are disk g gates set bodies finding found count sure)) refl (λ d. found_numbers (finding.greatest + 1) d those);
+    shelf = shelf_stands disk g gates set bodies finding found count sure (λ d. cold_copy d own) found_here found_shows refl
+        (cold_free g set opened (map live_copy those) (greatest_number bodies + 1) ∙ sym (free_are disk g gates set bodies finding found count sure))
+        (ap (λ (n : ℕ). n + 1) (sym found.number)) (λ d. found_numbers (greatest_number bodies + 1) d those);
     queue = refl;
   }
 
-  pub stands_behind : (view : D → DiskView) (Honest : Type 0) (bytes : List ℕ) → (Honest → HasBodies g bytes (range_with_len 0 g.blocks) bodies × IsOnly bytes (view disk).may_leave) → StandsForEntries view Honest shard
-  stands_behind view Honest bytes told = record {
-    opened = opened;
-    found = those;
-    next = finding.greatest + 1;
-    agrees = entries_agree;
-    placed = λ honest. shelf_placed disk g gates set bodies finding found count sure (find_copy those) entries entries_show view bytes (told honest).0 (told honest).1;
+  pub stands_behind : (view : D → DiskView) (asked : Asked) (was : DiskView) → (was.tells → Passes asked was.seen g bodies) → (was.tells → IsOnly was.seen (view disk).may_leave)
+      → StandsForBodies view asked was shard
+  stands_behind view asked was passes only = record {
+    bodies = bodies;
+    agrees = found_agrees;
+    shows = found_shows.entry_is;
+    passes = passes;
+    placed = λ honest. shelf_placed disk g gates set bodies finding found count sure (λ d. cold_copy d own) found_here found_shows view was.seen (passes honest.told).blocks (only honest.told);
   }
 
   -- ---- from a sound image
@@ -180,7 +190,7 @@ module _ {D : Type 0} (disk : D) (g : Geometry) (gates : List Gate) (set : Setti
       abbrev look : Digest → Option Copy
       look d = cold_copy d copies
 
-      own_are : own_copies g copies ≡ copies
+      own_are : own ≡ copies
       own_are = own_all setup g copies shape_is sound.strays
 
       start_shows : ShowsCopies bodies index look start

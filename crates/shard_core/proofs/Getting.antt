@@ -29,12 +29,12 @@ use Rattle.block_shelf.specs.declared.refusals.ReadRefusal.TheVariants as read
 use Rattle.block_shelf.specs.View.{ShelfView, SameBuffers}
 use Rattle.block_shelf.specs.Disks.{OnlyRead}
 use Rattle.block_shelf.specs.Standing.{StandsFor, IsPlaced}
-use Rattle.block_shelf.specs.Calls.{Goes, live_at, IsUndamaged}
+use Rattle.block_shelf.specs.Calls.{Goes, live_at, HasRead, IsUndamaged}
 use Rattle.rec_format.specs.Entries.{Names}
-use Rattle.shard_core.specs.Index.{held}
+use Rattle.shard_core.specs.Index.{held, place_of}
 use Rattle.shard_core.specs.View.{ShardView, SameSetup, setup_of}
 use Rattle.shard_core.specs.Stands.{Lists, Agrees}
-use Rattle.shard_core.specs.Calls.{Makes, read_answer}
+use Rattle.shard_core.specs.Calls.{Makes, HasGot, read_answer}
 use Rattle.shard_core.proofs.Going.{goes_none, safe_survives}
 use Rattle.shard_core.proofs.Making.{makes_by}
 
@@ -181,9 +181,6 @@ seen_held now (Some x) e is = by (is_live_entry now x) is
     by true here = here
     by false here = absurd (cc)
 
-abbrev pub place_of : Entry → Place
-place_of e = record { block = e.block; unit = e.unit; units = e.units }
-
 -- the live copy of an entry that is held
 pub record LiveIs (s : State) (e : Entry) (v : Version) (place : Place) : Type 0 where
   pub live : live_of e.digest s.book.live ≡ Some (live_at e.digest place)
@@ -198,6 +195,15 @@ live_is setup s now digest index e place lists is same at =
           (lists.places digest ∙ ap (option_map live_of_entry) is.held_is ∙ ap (λ (p : Place). Some (live_at e.digest p)) (sym at));
       entry_is = subst (λ (d : Digest). device.entry s d ≡ Some is.version) one is.entry_is;
     }
+
+-- what a read gave is what is shown
+pub shown_got : (e : Entry) (bytes : List ℕ) (r : Result Version ReadRefusal) → HasRead e bytes r → HasGot e bytes (shown r)
+shown_got e bytes (Ok v) is = is
+shown_got e bytes (Err refusal) is = is
+
+pub shown_is : (o : Option Version) (v : Version) (Q : ReadRefusal → Type 0) (r : Result Version ReadRefusal) → o ≡ Some v → MatchResult r (λ w. w ≡ v) Q → MatchResult (shown r) (λ found. found ≡ o) Q
+shown_is o v Q (Ok w) some is = ap Some is ∙ sym some
+shown_is o v Q (Err refusal) some q = q
 
 pub shown_err : (P : Version → Type 0) (Q : ReadRefusal → Type 0) (r : Result Version ReadRefusal) → MatchResult r P Q → IfErr (shown r) Q
 shown_err P Q (Ok v) p = tt

@@ -1,24 +1,24 @@
 -- What an index keeps of copies, one after another.
 use Rattle.std.proofs.Common.{◌≡◌, inl, inr, ⊎_elim, ℕ, ◌+◌, ◌≤◌, max, Bool, true, false, cond, List, [], ◌∷◌, ◌++◌, refl, sym, ◌∙◌, ap, subst, arith, append_assoc}
 use Rattle.std.specs.Prelude.{Option, Some, None, Contains, map, option_map, ◌==◌}
-use Rattle.std.proofs.lemmas.Bool.{false≢true, cond-true, cond-false, eq-eqb, eqb-true, cases_lt}
+use Rattle.std.proofs.lemmas.Bool.{false≢true, cond-true, cond-false, eq-eqb, eqb-true}
 use Rattle.std.proofs.lemmas.List.{append-nil}
 use Rattle.std.proofs.lemmas.List.Elements.{filter-append, Contains-append_left, Contains-append_right}
 use Rattle.rec_format.specs.declared.version.Digest.{Digest}
-use Rattle.rec_format.specs.declared.version.Stamp.{Stamp}
 use Rattle.rec_format.specs.declared.version.Version.{Version}
 use Rattle.rec_format.specs.declared.entry.Entry.{Entry}
 use Rattle.rec_format.specs.Places.{same_digest, device_number, part_number_of}
 use Rattle.rec_format.specs.Versions.{is_later, is_later_stamp, version_units}
 use Rattle.device_model.specs.Book.{Setup}
 use Rattle.device_model.specs.Device.{part_of}
-use Rattle.rec_format.proofs.Laws.{same_digest_is, later_test}
+use Rattle.rec_format.proofs.Laws.{same_digest_is}
 use Rattle.block_format.specs.declared.geometry.Geometry.{Geometry}
 use Rattle.block_format.specs.Layout.{Body}
 use Rattle.block_format.specs.Readings.{found_from}
 use Rattle.block_format.specs.Copies.{Copy, copies_from, copies_of, cold_copy, entry_for}
 use Rattle.recovery.specs.Cold.{later_one, copies_high}
 use Rattle.recovery.proofs.Cold.{cold_copy_more}
+use Rattle.recovery.proofs.ColdOrder.{not_later}
 use Rattle.recovery.proofs.Growing.{all_at, all_from}
 use Rattle.recovery.proofs.Members.{first_there}
 use Rattle.shard_core.specs.Index.{held, high_of, WithEntry}
@@ -27,13 +27,6 @@ use Rattle.shard_core.specs.Finding.{KeepsOne, KeepsAll, IsLatest, is_later_than
 use Rattle.shard_core.proofs.IndexLemmas.{held_cases}
 
 -- ---- one entry
-
--- a stamp that isn't later has no later time
-not_later : (a b : Stamp) → is_later_stamp a b ≡ false → a.lut ≤ b.lut
-not_later a b is = elim (cases_lt b.lut a.lut) [
-  | inl lt ↦ let e : true ≡ false = sym (later_test a b (inl lt)) ∙ is in cc
-  | inr le ↦ le
-]
 
 abbrev entry_or : Entry → Option Entry → Entry
 entry_or other None = other
@@ -153,42 +146,42 @@ abbrev pub IsOneOf : List Copy → Entry → Type 0
 IsOneOf copies e = (c : Copy) × Contains copies c × (e ≡ entry_for c)
 
 module _ (g : Geometry) (copies : List Copy) (c : Copy) (old new : List Entry) (latest : IsLatest g copies old) (keeps : KeepsOne g (entry_for c) old new) where
-  own_more : own_copies g (copies ++ c ∷ []) ≡ own_copies g copies ++ cond (device_number g.devices c.digest == g.device) (c ∷ []) []
+  own_more : own_copies g.device g.devices (copies ++ c ∷ []) ≡ own_copies g.device g.devices copies ++ cond (device_number g.devices c.digest == g.device) (c ∷ []) []
   own_more = filter-append (λ (x : Copy). device_number g.devices x.digest == g.device) copies (c ∷ [])
 
-  own_last : device_number g.devices c.digest ≡ g.device → Contains (own_copies g (copies ++ c ∷ [])) c
+  own_last : device_number g.devices c.digest ≡ g.device → Contains (own_copies g.device g.devices (copies ++ c ∷ [])) c
   own_last mine =
       let kept = cond-true (device_number g.devices c.digest == g.device) (c ∷ []) [] (eq-eqb _ _ mine) in
-      subst (λ (l : List Copy). Contains l c) (sym (own_more ∙ ap (λ (l : List Copy). own_copies g copies ++ l) kept)) (Contains-append_right (own_copies g copies) (c ∷ []) c (first_there c []))
+      subst (λ (l : List Copy). Contains l c) (sym (own_more ∙ ap (λ (l : List Copy). own_copies g.device g.devices copies ++ l) kept)) (Contains-append_right (own_copies g.device g.devices copies) (c ∷ []) c (first_there c []))
 
-  own_before : (x : Copy) → Contains (own_copies g copies) x → Contains (own_copies g (copies ++ c ∷ [])) x
-  own_before x there = subst (λ (l : List Copy). Contains l x) (sym own_more) (Contains-append_left (own_copies g copies) (cond (device_number g.devices c.digest == g.device) (c ∷ []) []) x there)
+  own_before : (x : Copy) → Contains (own_copies g.device g.devices copies) x → Contains (own_copies g.device g.devices (copies ++ c ∷ [])) x
+  own_before x there = subst (λ (l : List Copy). Contains l x) (sym own_more) (Contains-append_left (own_copies g.device g.devices copies) (cond (device_number g.devices c.digest == g.device) (c ∷ []) []) x there)
 
   latest_one : IsLatest g (copies ++ c ∷ []) new
   latest_one = record {
     shown = λ d. keeps.shown d ∙ shown_by d (device_number g.devices c.digest == g.device) ∙ ap (λ (l : List Copy). option_map entry_for (cold_copy d l)) (sym own_more);
     high = λ setup part same. keeps.high setup.sprigs part ∙ high_by setup part same (device_number g.devices c.digest == g.device) ∙ ap (copies_high setup part) (sym own_more);
-    each = all_from (IsOneOf (own_copies g (copies ++ c ∷ []))) new (λ x there. ⊎_elim (λ (last : (x ≡ entry_for c) × (device_number g.devices c.digest ≡ g.device)). (c, own_last last.1, last.0)) (λ (before : Contains old x). of_before x (all_at (IsOneOf (own_copies g copies)) old x latest.each before)) (keeps.each x there));
+    each = all_from (IsOneOf (own_copies g.device g.devices (copies ++ c ∷ []))) new (λ x there. ⊎_elim (λ (last : (x ≡ entry_for c) × (device_number g.devices c.digest ≡ g.device)). (c, own_last last.1, last.0)) (λ (before : Contains old x). of_before x (all_at (IsOneOf (own_copies g.device g.devices copies)) old x latest.each before)) (keeps.each x there));
   }
     where
-      of_before : (x : Entry) → IsOneOf (own_copies g copies) x → IsOneOf (own_copies g (copies ++ c ∷ [])) x
+      of_before : (x : Entry) → IsOneOf (own_copies g.device g.devices copies) x → IsOneOf (own_copies g.device g.devices (copies ++ c ∷ [])) x
       of_before x one = (one.0, own_before one.0 one.1, one.2)
 
-      shown_by : (d : Digest) (own : Bool) → cond own (cond (same_digest d c.digest) (Some (later_entry (held d old) (entry_for c))) (held d old)) (held d old) ≡ option_map entry_for (cold_copy d (own_copies g copies ++ cond own (c ∷ []) []))
-      shown_by d false = latest.shown d ∙ ap (λ (l : List Copy). option_map entry_for (cold_copy d l)) (sym (append-nil (own_copies g copies)))
+      shown_by : (d : Digest) (own : Bool) → cond own (cond (same_digest d c.digest) (Some (later_entry (held d old) (entry_for c))) (held d old)) (held d old) ≡ option_map entry_for (cold_copy d (own_copies g.device g.devices copies ++ cond own (c ∷ []) []))
+      shown_by d false = latest.shown d ∙ ap (λ (l : List Copy). option_map entry_for (cold_copy d l)) (sym (append-nil (own_copies g.device g.devices copies)))
       shown_by d true =
           ap (λ (o : Option Entry). cond (same_digest d c.digest) (Some (later_entry o (entry_for c))) o) (latest.shown d)
-          ∙ entry_after (same_digest d c.digest) (cold_copy d (own_copies g copies)) c
-          ∙ ap (option_map entry_for) (sym (cold_copy_more d (own_copies g copies) c))
+          ∙ entry_after (same_digest d c.digest) (cold_copy d (own_copies g.device g.devices copies)) c
+          ∙ ap (option_map entry_for) (sym (cold_copy_more d (own_copies g.device g.devices copies) c))
 
       high_by : (setup : Setup) (part : ℕ) → setup.devices ≡ g.devices → (own : Bool)
           → cond own (cond (part_number_of g.devices setup.sprigs c.digest == part) (max c.version.stamp.lut (high_of g.devices setup.sprigs part old)) (high_of g.devices setup.sprigs part old)) (high_of g.devices setup.sprigs part old)
-          ≡ copies_high setup part (own_copies g copies ++ cond own (c ∷ []) [])
-      high_by setup part same false = latest.high setup part same ∙ ap (copies_high setup part) (sym (append-nil (own_copies g copies)))
+          ≡ copies_high setup part (own_copies g.device g.devices copies ++ cond own (c ∷ []) [])
+      high_by setup part same false = latest.high setup part same ∙ ap (copies_high setup part) (sym (append-nil (own_copies g.device g.devices copies)))
       high_by setup part same true =
           ap (λ (n : ℕ). cond (part_number_of g.devices setup.sprigs c.digest == part) (max c.version.stamp.lut n) n) (latest.high setup part same)
-          ∙ ap (λ (n : ℕ). cond (part_number_of n setup.sprigs c.digest == part) (max c.version.stamp.lut (copies_high setup part (own_copies g copies))) (copies_high setup part (own_copies g copies))) (sym same)
-          ∙ sym (high_more setup part (own_copies g copies) c)
+          ∙ ap (λ (n : ℕ). cond (part_number_of n setup.sprigs c.digest == part) (max c.version.stamp.lut (copies_high setup part (own_copies g.device g.devices copies))) (copies_high setup part (own_copies g.device g.devices copies))) (sym same)
+          ∙ sym (high_more setup part (own_copies g.device g.devices copies) c)
 
 pub latest_all : (g : Geometry) (more copies : List Copy) (old new : List Entry) → IsLatest g copies old → KeepsAll g (map entry_for more) old new → IsLatest g (copies ++ more) new
 latest_all g [] copies old new latest same =

@@ -1,21 +1,28 @@
 -- Crate shard_core. What the calls of a shard answer, as the definitions see it.
-use Rattle.std.specs.Prelude.{◌≡◌, ℕ, true, false, List, Option, Result, Ok, Err}
+use Rattle.std.specs.Prelude.{◌≡◌, ◌≢◌, ℕ, true, false, List, Option, Some, None, Result, Ok, Err, Contains, MatchResult}
+use Rattle.std.specs.List.{AllByRecursion}
+use Rattle.rec_format.specs.declared.version.Digest.{Digest}
 use Rattle.rec_format.specs.declared.version.Stamp.{Stamp}
 use Rattle.rec_format.specs.declared.version.Version.{Version}
-use Rattle.device_model.specs.Device.{State}
+use Rattle.rec_format.specs.declared.entry.Entry.{Entry}
+use Rattle.device_model.specs.Device.{State, seen}
 use Rattle.device_model.specs.Steps.{Step, states_through}
 use Rattle.device_model.specs.Events.{Event, Call, Answer, stamp_given, found_version, counted, refused, Cause, too_big, wrong_generation, spent, overload, no_space, damaged, no_memory, disk_fault, after_event}
 use Rattle.device_model.specs.Legal.{Follows, flush_count, StopsIn}
 use Rattle.disk_model.specs.Disk.{DiskView, IsHonest}
 use Rattle.disk_model.specs.Runs.{OneOf, Leaves}
 use Rattle.recovery.specs.Surviving.{Survives}
+use Rattle.expiry_rule.specs.Seen.{seen_entry}
+use Rattle.write_buffer.specs.Buffers.{BufferState}
 use Rattle.block_shelf.specs.declared.refusals.PutRefusal.{PutRefusal}
 use Rattle.block_shelf.specs.declared.refusals.PutRefusal.TheVariants as put
 use Rattle.block_shelf.specs.declared.refusals.ReadRefusal.{ReadRefusal}
 use Rattle.block_shelf.specs.declared.refusals.ReadRefusal.TheVariants as read
 use Rattle.block_shelf.specs.Standing.{IsPlaced}
+use Rattle.block_shelf.specs.Calls.{copy_bytes, IsRead, HasRead}
 use Rattle.shard_core.specs.declared.refusals.WriteRefusal.{WriteRefusal}
 use Rattle.shard_core.specs.declared.refusals.WriteRefusal.TheVariants as write
+use Rattle.shard_core.specs.Index.{held, place_of}
 use Rattle.shard_core.specs.View.{ShardView, setup_of}
 use Rattle.shard_core.specs.Stands.{Agrees, IsSafe}
 
@@ -78,3 +85,20 @@ MakesAny view call old s new = (answer : Answer) × Makes view call answer old s
 abbrev pub FlushesAll : {E : Type 0} → Result ℕ E → (whole steps : List Step) → Type 0
 FlushesAll (Ok count) whole steps = (steps ≡ whole) × (count ≡ flush_count whole)
 FlushesAll (Err fault) whole steps = StopsIn whole steps
+
+-- ---- what a get answers
+
+-- an answer of a get is what a read of these bytes gives
+abbrev pub HasGot : Entry → (bytes : List ℕ) → Result (Option Version) ReadRefusal → Type 0
+HasGot e bytes (Ok None) = ⊥
+HasGot e bytes (Ok (Some v)) = IsRead e bytes v
+HasGot e bytes (Err refusal) = HasRead e bytes (Err refusal)
+
+-- A record is got as it is stored. Where its block has a write buffer, the answer is what was put, over any disk, or want of memory.
+-- Where it has none, the answer is what stands at the place of its entry, on a disk that tells its bytes: it is damaged exactly where no
+-- head of the entry's record stands there.
+pub record GetsStored {D : Type 0} (view : D → DiskView) (shard : ShardView D) (digest : Digest) (now : ℕ) (result : Result (Option Version) ReadRefusal) : Type 0 where
+  pub buffered : (s : State) → Agrees shard s → (e : Entry) (b : BufferState) → held digest shard.index ≡ Some e → Contains shard.shelf.buffers b → b.block ≡ e.block
+      → MatchResult result (λ found. found ≡ seen s now digest) (λ refusal. refusal ≡ read.Memory)
+  pub placed : (view shard.shelf.disk).tells → (e : Entry) → seen_entry now (held digest shard.index) ≡ Some e → AllByRecursion (λ b. b.block ≢ e.block) shard.shelf.buffers
+      → HasGot e (copy_bytes shard.shelf.geometry (place_of e) (view shard.shelf.disk).seen) result

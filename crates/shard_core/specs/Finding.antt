@@ -111,9 +111,9 @@ KeepsAll g (e ∷ entries) old new = (mid : List Entry) × KeepsOne g e old mid 
 -- Of each digest of the device the index has the entry of the latest of these copies, of each sprig the greatest time among them,
 -- and nothing else.
 pub record IsLatest (g : Geometry) (copies : List Copy) (entries : List Entry) : Type 0 where
-  pub shown : (d : Digest) → held d entries ≡ option_map entry_for (cold_copy d (own_copies g copies))
-  pub high : (setup : Setup) (part : ℕ) → setup.devices ≡ g.devices → high_of g.devices setup.sprigs part entries ≡ copies_high setup part (own_copies g copies)
-  pub each : AllByRecursion (λ e. (c : Copy) × Contains (own_copies g copies) c × (e ≡ entry_for c)) entries
+  pub shown : (d : Digest) → held d entries ≡ option_map entry_for (cold_copy d (own_copies g.device g.devices copies))
+  pub high : (setup : Setup) (part : ℕ) → setup.devices ≡ g.devices → high_of g.devices setup.sprigs part entries ≡ copies_high setup part (own_copies g.device g.devices copies)
+  pub each : AllByRecursion (λ e. (c : Copy) × Contains (own_copies g.device g.devices copies) c × (e ≡ entry_for c)) entries
 
 -- ---- block by block
 

@@ -3,12 +3,9 @@ use Rattle.std.specs.Prelude.{◌≡◌, ℕ, max, ◌==◌, Bool, true, false, 
 use Rattle.std.specs.List.{AllByRecursion}
 use Rattle.rec_format.specs.declared.version.Digest.{Digest}
 use Rattle.rec_format.specs.declared.version.Stamp.{Stamp}
-use Rattle.rec_format.specs.declared.version.Version.{Version}
 use Rattle.rec_format.specs.declared.entry.Entry.{Entry}
 use Rattle.rec_format.specs.Places.{same_digest, part_number_of}
-use Rattle.rec_format.specs.Versions.{version_units}
-use Rattle.device_model.specs.Book.{Live}
-use Rattle.block_format.specs.Copies.{Copy}
+use Rattle.block_shelf.specs.declared.place.Place.{Place}
 
 -- the entries, and for how many more there is room
 pub record IndexView : Type 0 where
@@ -28,6 +25,9 @@ stamp_held (Some e) = Some e.stamp
 abbrev pub flag_of : Option Entry → Bool
 flag_of None = false
 flag_of (Some e) = e.cover
+
+abbrev pub place_of : Entry → Place
+place_of e = record { block = e.block; unit = e.unit; units = e.units }
 
 -- the greatest last update time of the entries of a sprig, 0 where it has none
 abbrev pub high_of : (devices sprigs part : ℕ) → List Entry → ℕ

@@ -2,14 +2,16 @@
 use Rattle.std.specs.Prelude.{◌≡◌, ℕ, ◌+◌, ◌==◌, List, map, filter, option_map}
 use Rattle.std.specs.List.{range_with_len}
 use Rattle.fault_count.specs.Counts.{Rose}
-use Rattle.disk_model.specs.Disk.{DiskView}
+use Rattle.disk_model.specs.Disk.{DiskView, IsHonest}
 use Rattle.rec_format.specs.declared.version.Digest.{Digest}
 use Rattle.rec_format.specs.Places.{device_number}
 use Rattle.device_model.specs.Policy.{built, unused}
+use Rattle.device_model.specs.Book.{Setup}
+use Rattle.device_model.specs.Device.{State, entry}
 use Rattle.block_format.specs.declared.geometry.Geometry.{Geometry}
 use Rattle.block_format.specs.Layout.{Body}
-use Rattle.block_format.specs.Copies.{Copy, HasBodies, copies_of, cold_copy, entry_for}
-use Rattle.recovery.specs.Start.{start_state, entries_state, greatest_number}
+use Rattle.block_format.specs.Copies.{Copy, HasBodies, copies_of, cold_copy, cold, entry_for}
+use Rattle.recovery.specs.Start.{start_state, entries_state, cold_copies, greatest_number}
 use Rattle.recovery.specs.Sound.{IsSound}
 use Rattle.block_format.specs.Refusals.{IsRefusedFor, IsAsked, not_formatted, other_shape, damaged_block}
 use Rattle.shard_core.specs.View.{ShardView, setup_of}
@@ -33,28 +35,35 @@ pub record Passes (asked : Asked) (bytes : List ℕ) (g : Geometry) (bodies : Li
   pub is_asked : IsAsked asked.device asked.devices bytes g
   pub blocks : HasBodies g bytes (range_with_len 0 g.blocks) bodies
 
--- the copies of digests that belong to the device; others are passed over
-abbrev pub own_copies : Geometry → List Copy → List Copy
-own_copies g copies = filter (λ c. device_number g.devices c.digest == g.device) copies
+-- the copies of digests that belong to this device of so many; others are passed over
+abbrev pub own_copies : (device devices : ℕ) → List Copy → List Copy
+own_copies device devices copies = filter (λ c. device_number devices c.digest == device) copies
+
+-- The state behind a start from these bodies, sound or not: of each digest of the device its latest copy was found, and nothing older;
+-- their blocks were open, and the next number is one above the greatest of them.
+abbrev pub found_state : Setup → List Body → State
+found_state setup bodies =
+    entries_state setup (map (λ b. b.block) bodies) (cold_copies (own_copies setup.device setup.devices (copies_of bodies))) (greatest_number bodies + 1)
 
 -- What is there behind a start from these bytes, sound or not: the latest copy of each digest of the device and where it lies; the
 -- blocks whose gate was closed are free. From a sound image the shard stands for the start state of that image.
 pub record Begins {D : Type 0} (asked : Asked) (bytes : List ℕ) (shard : ShardView D) : Type 0 where
   pub bodies : List Body
   pub passes : Passes asked bytes shard.shelf.geometry bodies
-  pub entries : (digest : Digest) → held digest shard.index ≡ option_map entry_for (cold_copy digest (own_copies shard.shelf.geometry (copies_of bodies)))
+  pub entries : (digest : Digest) → held digest shard.index ≡ option_map entry_for (cold_copy digest (own_copies shard.shelf.geometry.device shard.shelf.geometry.devices (copies_of bodies)))
   pub free : shard.shelf.free ≡ unused built (map (λ b. b.block) bodies) (range_with_len 0 shard.shelf.geometry.blocks)
   pub next : shard.shelf.next_number ≡ greatest_number bodies + 1
   pub sound : (all : List Body) → IsSound (setup_of shard) bytes all → Agrees shard (start_state (setup_of shard) all)
 
--- Over any disk: these blocks were open and these entries were found, and the shard stands for a start from them. Over an honest
--- one their copies are where they were found.
-pub record StandsForEntries {D : Type 0} (view : D → DiskView) (Honest : Type 0) (shard : ShardView D) : Type 0 where
-  pub opened : List ℕ
-  pub found : List Copy
-  pub next : ℕ
-  pub agrees : Agrees shard (entries_state (setup_of shard) opened found next)
-  pub placed : Honest → IsPlaced view shard.shelf (entries_state (setup_of shard) opened found next)
+-- Over any disk: these bodies were read, and the shard stands for the state behind a start from them, whose entries are the latest
+-- copies. On a disk that tells its bytes they are what stands behind its open gates; over an honest one the copies are where they were
+-- found.
+pub record StandsForBodies {D : Type 0} (view : D → DiskView) (asked : Asked) (disk : DiskView) (shard : ShardView D) : Type 0 where
+  pub bodies : List Body
+  pub agrees : Agrees shard (found_state (setup_of shard) bodies)
+  pub shows : (digest : Digest) → entry (found_state (setup_of shard) bodies) digest ≡ cold digest (own_copies shard.shelf.geometry.device shard.shelf.geometry.devices (copies_of bodies))
+  pub passes : disk.tells → Passes asked disk.seen shard.shelf.geometry bodies
+  pub placed : IsHonest disk → IsPlaced view shard.shelf (found_state (setup_of shard) bodies)
 
 -- a fault is answered only where the count rose
 abbrev pub FaultRose : StartCause → (before after : ℕ) → Type 0

@@ -14,7 +14,7 @@ ghost use Rattle.block_shelf.specs.Calls.{IsUndamaged};
 ghost use Rattle.shard_core.specs.Index.{held};
 ghost use Rattle.shard_core.specs.View.{SameSetup};
 ghost use Rattle.shard_core.specs.Stands.{Agrees};
-ghost use Rattle.shard_core.specs.Calls.{Makes, read_answer};
+ghost use Rattle.shard_core.specs.Calls.{Makes, GetsStored, read_answer};
 
 use crate::index::place_of_entry;
 use crate::{ReadRefusal, Shard};
@@ -25,7 +25,7 @@ use std::alloc::Global;
 
 impl<D: Disk> Shard<D> {
     /// The record that is seen of a digest: its version, if it is a put that isn't expired. It is read from its write buffer without a
-    /// call of the disk, or from its block with one.
+    /// call of the disk, or from its block with one; it is damaged where the head of the entry's record doesn't stand there.
     pub fn get(
         &mut self,
         alloc: Global,
@@ -39,6 +39,9 @@ impl<D: Disk> Shard<D> {
         // A record whose block has a write buffer is read without a call of the disk.
         ensures buffered { (s : State) → Agrees self.old s → (e : Entry) (b : BufferState) → held digest.now self.old.index ≡ Some e → Contains self.old.shelf.buffers b → b.block ≡ e.block
             → (self.new ≡ self.old) × IfErr result (λ refusal. refusal ≡ ReadRefusal.Memory) }
+
+        // It is what was put there; another is what stands at its place, on a disk that tells its bytes.
+        ensures stored { GetsStored D.view self.old digest.now now result }
 
         // Over an honest disk nothing is damaged.
         ensures undamaged { IsHonest (D.view self.old.shelf.disk) → (s : State) → Agrees self.old s → IsPlaced D.view self.old.shelf s → IfErr result IsUndamaged }

@@ -1,7 +1,7 @@
 // The primary index: the entry of each digest that has one, in memory.
 ghost use Rattle.std.specs.Prelude.{◌≡◌, ◌+◌, ◌≤◌, [], None, map, IfSome, IfOk, MatchOption, OnOk, OnErr};
 ghost use Rattle.rec_format.specs.Places.{part_number_of};
-ghost use Rattle.shard_core.specs.Index.{held, stamp_held, flag_of, high_of, IsPositionOf, WithEntry};
+ghost use Rattle.shard_core.specs.Index.{held, stamp_held, flag_of, place_of, high_of, IsPositionOf, WithEntry};
 
 use block_shelf::Place;
 use partition_map::part_number;
@@ -69,7 +69,7 @@ impl Index {
 
     /// Where the copy of each digest lies.
     pub fn live(&self, alloc: Global) -> Result<Vec<(Digest, Place)>, NoMemory>
-        ensures { IfOk result (λ live. live.items ≡ map (λ e. (e.digest, record { block = e.block; unit = e.unit; units = e.units })) self.now.entries) }
+        ensures { IfOk result (λ live. live.items ≡ map (λ e. (e.digest, place_of e)) self.now.entries) }
     {
         let mut live = Vec::with_capacity(alloc, self.entries.len())?;
         for entry in &self.entries {
@@ -102,7 +102,7 @@ impl Index {
 
 /// Where the copy of an entry lies.
 pub fn place_of_entry(entry: &Entry) -> Place
-    ensures { result ≡ record { block = entry.now.block; unit = entry.now.unit; units = entry.now.units } }
+    ensures { result ≡ place_of entry.now }
 {
     Place {
         block: entry.block,

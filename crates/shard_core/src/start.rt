@@ -14,7 +14,7 @@ ghost use Rattle.block_flusher.specs.Images.{IsShut};
 ghost use Rattle.block_shelf.specs.Disks.{OnlyRead};
 ghost use Rattle.shard_core.specs.View.{IsSettings, IsEntryOf, setup_of};
 ghost use Rattle.shard_core.specs.Stands.{IsSafe};
-ghost use Rattle.shard_core.specs.Starting.{Begins, StandsForEntries, IsRefused, FaultRose};
+ghost use Rattle.shard_core.specs.Starting.{Begins, StandsForBodies, IsRefused, FaultRose};
 ghost use Rattle.shard_core.specs.Finding.{IsSure, AreGates, IsFinding, view_with};
 
 use crate::scan::{Finding, scan};
@@ -201,7 +201,7 @@ impl<D: Disk> Shard<D> {
         set: Settings,
     ) -> Result<Shard<D>, StartRefusal<D>>
         requires { IsSettings set }
-        ensures stands { IfOk result (StandsForEntries D.view (IsHonest (D.view disk))) }
+        ensures stands { IfOk result (StandsForBodies D.view asked (D.view disk)) }
         ensures begins { (D.view disk).tells → MatchResult result (λ shard. Begins asked (D.view disk).seen shard) (λ refusal. IsRefused asked (D.view disk).seen refusal.cause) }
         ensures safe { IsHonest (D.view disk) → IfOk result (λ shard. (bodies : List Body) → IsSound (setup_of shard) (D.view disk).seen bodies
             → IsSafe D.view shard (start_state (setup_of shard) bodies)) }

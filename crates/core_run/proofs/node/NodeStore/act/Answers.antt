@@ -23,7 +23,7 @@ returns-in-Get g c =
     (subst (λ (command : Command). ActsAlone d.view c.self.inside.shard command c.args.now c.read_reply.result c.get.new.self) (sym c.in-Get.is)
     (acts_get d.view c.self.inside.shard c.get.new.self c.get.ensures.shape
     (later_read d.view c.self.inside.shard.shelf.disk c.get.new.self.shelf.disk c.get.ensures.disk) c.get.ensures.disk.honest
-    c.in-Get.digest c.args.now c.read_reply.result c.get.result c.read_reply.ensures c.get.ensures.makes))
+    c.in-Get.digest c.args.now c.read_reply.result c.get.result c.read_reply.ensures c.get.ensures.makes c.get.ensures.stored))
 
 pub returns-in-Flush : goal.returns-in-Flush
 returns-in-Flush g c =

@@ -1,10 +1,12 @@
-use Rattle.std.proofs.Common.{◌≡◌, sym, refl, ap, ◌∙◌, subst, arith}
+use Rattle.std.proofs.Common.{◌≡◌, ◌≢◌, ℕ, sym, refl, ap, ◌∙◌, subst, arith}
+use Rattle.std.specs.List.{AllByRecursion}
 use Rattle.std.specs.Prelude.{Option, Some, None, Result, Ok, IfErr, Contains}
 use Rattle.std.specs.Option.{option_copied}
 use Rattle.rec_format.specs.declared.version.Digest.{Digest}
 use Rattle.rec_format.specs.declared.version.Version.{Version}
 use Rattle.rec_format.specs.declared.entry.Entry.{Entry}
 use Rattle.device_model.specs.Device.{State}
+use Rattle.device_model.specs.Device as device
 use Rattle.device_model.specs.Events.{get_call}
 use Rattle.disk_model.specs.Disk.{IsHonest}
 use Rattle.expiry_rule.specs.Seen.{seen_entry}
@@ -14,12 +16,12 @@ use Rattle.block_shelf.specs.declared.refusals.ReadRefusal.{ReadRefusal}
 use Rattle.block_shelf.specs.declared.refusals.ReadRefusal.TheVariants as read
 use Rattle.block_shelf.specs.View.{ShelfView}
 use Rattle.block_shelf.specs.Standing.{IsPlaced}
-use Rattle.block_shelf.specs.Calls.{IsUndamaged}
-use Rattle.shard_core.specs.Index.{held}
+use Rattle.block_shelf.specs.Calls.{copy_bytes, HasRead, IsUndamaged}
+use Rattle.shard_core.specs.Index.{held, place_of}
 use Rattle.shard_core.specs.View.{ShardView, IsEntryOf, setup_of}
 use Rattle.shard_core.specs.Stands.{Agrees}
-use Rattle.shard_core.specs.Calls.{Makes, read_answer}
-use Rattle.shard_core.proofs.Getting.{held_is, seen_some, seen_held, live_is, shown, shown_err, makes_unseen, makes_read}
+use Rattle.shard_core.specs.Calls.{Makes, GetsStored, read_answer}
+use Rattle.shard_core.proofs.Getting.{held_is, seen_none, seen_some, seen_held, live_is, shown, shown_got, shown_is, shown_err, makes_unseen, makes_read}
 use Rattle.shard_core.proofs.shard.Shard.get.Goals.{in-Ok, in-Err}
 use Rattle.shard_core.proofs.shard.Shard.get.Goals as goal
 
@@ -30,6 +32,16 @@ returns-in_default-clause-makes g c =
     (λ s agrees. makes_unseen g.D.Disk.view old old s c.args.digest.now c.args.now agrees
     (g.met.D.Disk.is_disk old.shelf.disk)
     (ap (seen_entry c.args.now) (sym (c.as_ref.ensures.value ∙ c.find-found.ensures)) ∙ sym c.seen.ensures ∙ ap option_copied c.in_default.is))
+
+pub returns-in_default-clause-stored : goal.returns-in_default-clause-stored
+returns-in_default-clause-stored g c =
+    let old : ShardView g.row.D.Denot = record { shelf = c.self.inside.shelf; set = c.self.inside.set; index = c.self.inside.index.entries } in
+    let digest : Digest = c.args.digest.now in
+    let unseen : seen_entry c.args.now (held digest old.index) ≡ None = ap (seen_entry c.args.now) (sym (c.as_ref.ensures.value ∙ c.find-found.ensures)) ∙ sym c.seen.ensures ∙ ap option_copied c.in_default.is in
+    subst (λ (v : ShardView g.row.D.Denot). GetsStored g.D.Disk.view v digest c.args.now (Ok None)) c.self.view_is (record {
+      buffered = λ s agrees e b is there at. sym (seen_none (setup_of old) s c.args.now digest old.index agrees.index unseen);
+      placed = λ told e is none. let clash : Some e ≡ None = sym is ∙ unseen in absurd (cc);
+    })
 
 pub read-requires-clause-block : goal.read-requires-clause-block
 read-requires-clause-block g c =
@@ -91,6 +103,35 @@ returns-clause-buffered g c =
       ap (λ (sh : ShelfView g.row.D.Denot). let y : ShardView g.row.D.Denot = record { shelf = sh; set = old.set; index = old.index } in y) got.0,
       subst (λ (r : Result (Option Version) ReadRefusal). IfErr r (λ refusal. refusal ≡ read.Memory)) (sym answered) (shown_err (λ v. v ≡ seen_is.version) (λ refusal. refusal ≡ read.Memory) c.read.result got.1),
     ))
+
+pub returns-clause-stored : goal.returns-clause-stored
+returns-clause-stored g c =
+    let old : ShardView g.row.D.Denot = record { shelf = c.self.inside.shelf; set = c.self.inside.set; index = c.self.inside.index.entries } in
+    let e : Entry = c.in-Some.entry.now in
+    let digest : Digest = c.args.digest.now in
+    let answered : c.match-read.result ≡ shown c.read.result = elim c.match-read.branch [ in-Ok w ↦ w.result-is ∙ sym (ap shown w.in-Ok.is) | in-Err w ↦ w.result-is ∙ sym (ap shown w.in-Err.is) ] in
+    let seen : seen_entry c.args.now (held digest old.index) ≡ Some e = ap (seen_entry c.args.now) (sym (c.as_ref.ensures.value ∙ c.find-found.ensures)) ∙ sym c.seen.ensures ∙ ap option_copied c.in-Some.is in
+    let here = held_is digest (IsEntryOf old.shelf.geometry) old.index e c.self.invariant.entries (seen_held c.args.now (held digest old.index) e seen) in
+    let at_place = ap (λ (p : Place). p.block) c.place_of_entry.ensures in
+    subst (λ (v : ShardView g.row.D.Denot). GetsStored g.D.Disk.view v digest c.args.now c.match-read.result) c.self.view_is
+    (subst (λ (r : Result (Option Version) ReadRefusal). GetsStored g.D.Disk.view old digest c.args.now r) (sym answered) (record {
+      buffered = λ s agrees x b is there at.
+          let seen_is = seen_some (setup_of old) s c.args.now digest old.index agrees.index e seen in
+          let live = live_is (setup_of old) s c.args.now digest old.index e c.place_of_entry.result agrees.index seen_is here.same c.place_of_entry.ensures in
+          let one : Some x ≡ Some e = sym is ∙ seen_is.held_is in
+          let same : x ≡ e = cc in
+          let got = c.read.ensures.buffered s seen_is.version b agrees.shelf live.live live.entry_is seen_is.names there (at ∙ ap (λ (y : Entry). y.block) same ∙ sym at_place) in
+          shown_is (device.seen s c.args.now digest) seen_is.version (λ refusal. refusal ≡ read.Memory) c.read.result seen_is.seen got.1;
+      placed = λ told x is none.
+          let one : Some x ≡ Some e = sym is ∙ seen in
+          let same : x ≡ e = cc in
+          let place : c.place_of_entry.result ≡ place_of x = c.place_of_entry.ensures ∙ ap place_of (sym same) in
+          let bytes = (g.D.Disk.view old.shelf.disk).seen in
+          shown_got x (copy_bytes old.shelf.geometry (place_of x) bytes) c.read.result
+          (subst (λ (p : Place). HasRead x (copy_bytes old.shelf.geometry p bytes) c.read.result) place
+          (subst (λ (y : Entry). HasRead y (copy_bytes old.shelf.geometry c.place_of_entry.result bytes) c.read.result) (sym same)
+          (c.read.ensures.read told (subst (λ (block : ℕ). AllByRecursion (λ b. b.block ≢ block) old.shelf.buffers) (sym (ap (λ (p : Place). p.block) place)) none))));
+    }))
 
 pub returns-clause-undamaged : goal.returns-clause-undamaged
 returns-clause-undamaged g c =

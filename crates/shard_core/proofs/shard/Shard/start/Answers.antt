@@ -1,13 +1,12 @@
 use Rattle.std.proofs.Common.{◌≡◌, sym, subst}
 use Rattle.std.specs.Prelude.{List, Result, Ok, Err, IfOk, MatchResult}
 use Rattle.std.proofs.lemmas.Result.{MatchResult-weaker}
-use Rattle.disk_model.specs.Disk.{IsHonest}
 use Rattle.block_format.specs.Layout.{Body}
 use Rattle.recovery.specs.Start.{start_state}
 use Rattle.recovery.specs.Sound.{IsSound}
 use Rattle.shard_core.specs.View.{setup_of}
 use Rattle.shard_core.specs.Stands.{IsSafe}
-use Rattle.shard_core.specs.Starting.{StandsForEntries, Begins, IsRefused}
+use Rattle.shard_core.specs.Starting.{StandsForBodies, Begins, IsRefused}
 use Rattle.shard_core.specs.Finding.{view_with}
 use Rattle.shard_core.proofs.Beginning.{entries_of, shut_behind, begins, stands_behind, sound_safe}
 use Rattle.shard_core.proofs.shard.Shard.start.Goals as goal
@@ -30,9 +29,10 @@ begun-requires-clause-entries g c =
 pub returns-in-Ok-clause-stands : goal.returns-in-Ok-clause-stands
 returns-in-Ok-clause-stands g c =
     let found = c.in-Ok.ensures.found in
-    if_made c.begun.result (view_with c.examine.new.disk c.in-Ok.geometry c.in-Ok.gates.items c.args.set c.in-Ok.finding) _ (StandsForEntries g.D.Disk.view (IsHonest (g.D.Disk.view c.args.disk))) c.begun.ensures
-    (stands_behind c.examine.new.disk c.in-Ok.geometry c.in-Ok.gates.items c.args.set found.0 c.in-Ok.finding found.1 c.in-Ok.ensures.all c.in-Ok.ensures.sure g.D.Disk.view (IsHonest (g.D.Disk.view c.args.disk)) (g.D.Disk.view c.args.disk).seen
-    (λ honest. (found.2 honest.told, c.in-Ok.ensures.only honest.told)))
+    let was = g.D.Disk.view c.args.disk in
+    if_made c.begun.result (view_with c.examine.new.disk c.in-Ok.geometry c.in-Ok.gates.items c.args.set c.in-Ok.finding) _ (StandsForBodies g.D.Disk.view c.args.asked was) c.begun.ensures
+    (stands_behind c.examine.new.disk c.in-Ok.geometry c.in-Ok.gates.items c.args.set found.0 c.in-Ok.finding found.1 c.in-Ok.ensures.all c.in-Ok.ensures.sure g.D.Disk.view c.args.asked was
+    (λ told. record { is_asked = c.in-Ok.ensures.asked told; blocks = found.2 told }) c.in-Ok.ensures.only)
 
 pub returns-in-Ok-clause-begins : goal.returns-in-Ok-clause-begins
 returns-in-Ok-clause-begins g c = λ told.
