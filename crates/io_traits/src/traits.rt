@@ -1,4 +1,4 @@
-ghost use Rattle.std.specs.Prelude.{◌≡◌, ◌<◌, ◌≤◌, List, ℕ, length, Option, IfOk};
+ghost use Rattle.std.specs.Prelude.{◌≡◌, ◌<◌, ◌≤◌, List, ℕ, length, Option, OnOk, IfOk};
 ghost use Rattle.fault_count.specs.Counts.{IsCaused};
 ghost use Rattle.io_traits.specs.Source.{ReadGives};
 ghost use Rattle.io_traits.specs.Sink.{WriteGives};
@@ -34,11 +34,12 @@ pub trait Ends: Drop {
 }
 
 pub trait Source: Ends {
-    /// Takes some bytes. None is the end of the input.
+    /// Takes some bytes. None is the end of the input. The count of faults rises where the read failed, and else it stays.
     fn read_some(&mut self, out: &mut [u8]) -> Result<usize, SourceFault>
         requires { 0 < length out.old }
         ensures bytes { ReadGives (Self.taken self.old) (Self.taken self.new) (Self.left self.old) (Self.left self.new) out.new result }
         ensures cause { IsCaused (Self.source_faults self.old) (Self.source_faults self.new) result }
+        ensures quiet { OnOk result (Self.source_faults self.new ≡ Self.source_faults self.old) }
         ensures sink { Self.written self.new ≡ Self.written self.old }
         ensures sink_faults { Self.sink_faults self.new ≡ Self.sink_faults self.old };
 }

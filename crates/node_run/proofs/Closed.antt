@@ -22,8 +22,18 @@ none_halts Halts none node (served ∷ next ∷ lines) once is h =
     let more = goes_more served.reply (EndsOnce (next ∷ lines)) (next ∷ lines) next lines once refl in
     none_halts Halts none (node_after_line served node) (next ∷ lines) more.0 (or_goes (halts served.reply) (is_halted (next ∷ lines)) more.1 is) h
 
+-- what isn't true is false
+not_so : (b : Bool) → (IsTrue b → ⊥) → b ≡ false
+not_so true never = absurd (never refl)
+not_so false never = refl
+
 module _ {T : Type 0} (Stands : T → Node → Type 0) (views : T → ℕ → DiskView) (Halts : T → (before after : Node) → Type 0) (told : Bool)
     (none : (store : T) (before after : Node) → Halts store before after → ⊥) where
+  -- no line halted
+  pub none_halted : (limit : ℕ) (bytes output : List ℕ) (left : Option (List ℕ)) (times : Times) (node : Node) (old new : T) (result : Ended)
+      → (l : Lifted Stands views Halts told limit bytes output left times node old new result) → is_halted l.served ≡ false
+  none_halted limit bytes output left times node old new result l = not_so (is_halted l.served) (λ is. none_halts (Halts new) (none new) node l.served l.once is l.halt)
+
   no_halt : (limit : ℕ) (bytes output : List ℕ) (left : Option (List ℕ)) (times : Times) (node : Node) (old new : T)
       → Lifted Stands views Halts told limit bytes output left times node old new Halted → ⊥
   no_halt limit bytes output left times node old new l = none_halts (Halts new) (none new) node l.served l.once l.ends.1 l.halt
@@ -56,6 +66,7 @@ module _ {T : Type 0} (Stands : T → Node → Type 0) (views : T → ℕ → Di
       → RunsWhole Stands views Halts told Says limit ran.bytes ran.output left' times node old new end result
   closed_run rests limit taken taken' left left' written written' old new end times later node result ran stands closes =
       ran_whole Stands views Halts told Says rests limit taken taken' left left' written written' old new end times later node result ran stands
+      (λ l is. none_halted Stands views Halts told none limit ran.bytes ran.output left' times node old new result l)
       (close_after Stands views told Says new end result
       (never_halts Stands views Halts told none rests limit taken taken' left left' written written' old new times later node result ran stands) closes)
 

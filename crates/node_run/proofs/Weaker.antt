@@ -5,11 +5,11 @@ use Rattle.line_proto.specs.declared.command.Command.{Command}
 use Rattle.line_proto.specs.declared.reply.Reply.{Reply}
 use Rattle.line_proto.specs.declared.line_end.LineEnd.{LineEnd}
 use Rattle.node_session.specs.declared.stop.Stop.{Stop}
-use Rattle.node_session.specs.declared.stop.Stop.TheVariants.{Quit as QuitStop, SinkFault as SinkStop, Memory as MemoryStop, Halted as HaltStop}
+use Rattle.node_session.specs.declared.stop.Stop.TheVariants.{Quit as QuitStop, Memory as MemoryStop, Halted as HaltStop}
 use Rattle.node_session.specs.declared.ended.Ended.{Ended}
 use Rattle.node_session.specs.declared.ended.Ended.TheVariants.{Finish, Quit, SourceFault, SinkFault, Memory, Halted, Long}
 use Rattle.node_session.specs.Turns.{Times, Answers, WholeTurn, Turns, TurnAny, HasTurns, StopsAtLine}
-use Rattle.node_session.specs.Session.{HasWholeTurns, StopsAfter, EndsSo, Ran}
+use Rattle.node_session.specs.Session.{HasWholeTurns, HasAllTurns, HasFirstTurns, HasSomeTurns, StopsAfter, EndsSo, Ran}
 
 module _ {T : Type 0} (acts weak : T → Command → ℕ → Reply → T → Type 0) (tends weakly : T → T → Type 0)
     (act_more : (old : T) (c : Command) (now : ℕ) (r : Reply) (new : T) → acts old c now r new → weak old c now r new)
@@ -46,11 +46,10 @@ module _ {T : Type 0} (acts weak : T → Command → ℕ → Reply → T → Typ
   serves_more : (lines : List LineEnd) (old : T) (times : Times) (output : List ℕ) (new : T) (later : Times) → HasTurns acts tends lines old times output new later → HasTurns weak weakly lines old times output new later
   serves_more lines old times output new later serves = record { replies = serves.replies; turns = turns_more lines serves.replies old times new later serves.turns; told = serves.told }
 
-  stops_more : (line : LineEnd) (old : T) (times : Times) (sent : List ℕ) (new : T) (later : Times) (stop : Stop) → StopsAtLine acts tends line old times sent new later stop → StopsAtLine weak weakly line old times sent new later stop
-  stops_more line old times sent new later QuitStop stops = stops
-  stops_more line old times sent new later SinkStop stops = (stops.0, any_more line old times stops.0 new later stops.1, stops.2, stops.3)
-  stops_more line old times sent new later MemoryStop stops = (stops.0, any_more line old times stops.0 new later stops.1, stops.2)
-  stops_more line old times sent new later HaltStop stops = (answers_more line old times _ new later stops.0, stops.1)
+  stops_more : (line : LineEnd) (old : T) (times : Times) (last : List ℕ) (new : T) (later : Times) (stop : Stop) → StopsAtLine acts tends line old times last new later stop → StopsAtLine weak weakly line old times last new later stop
+  stops_more line old times last new later QuitStop stops = stops
+  stops_more line old times last new later MemoryStop stops = (stops.0, any_more line old times stops.0 new later stops.1, stops.2)
+  stops_more line old times last new later HaltStop stops = (answers_more line old times _ new later stops.0, stops.1)
 
   after_more : (bytes : List ℕ) (left : Option (List ℕ)) (n : ℕ) (old : T) (times : Times) (output : List ℕ) (new : T) (later : Times) (stop : Stop)
       → StopsAfter acts tends bytes left n old times output new later stop → StopsAfter weak weakly bytes left n old times output new later stop
@@ -66,21 +65,34 @@ module _ {T : Type 0} (acts weak : T → Command → ℕ → Reply → T → Typ
     serves = serves_more _ old times s.told s.mid s.then s.serves;
     line = s.line;
     takes_up = s.takes_up;
-    sent = s.sent;
-    stops = stops_more s.line s.mid s.then s.sent new later stop s.stops;
+    last = s.last;
+    stops = stops_more s.line s.mid s.then s.last new later stop s.stops;
     all = s.all;
   }
 
   whole_more : (bytes : List ℕ) (old : T) (times : Times) (output : List ℕ) (new : T) (later : Times) → HasWholeTurns acts tends bytes old times output new later → HasWholeTurns weak weakly bytes old times output new later
   whole_more bytes old times output new later s = record { lines = s.lines; rest = s.rest; falls = s.falls; serves = serves_more _ old times output new later s.serves }
 
+  all_more : (bytes : List ℕ) (left : Option (List ℕ)) (n : ℕ) (old : T) (times : Times) (output : List ℕ) (new : T) (later : Times)
+      → HasAllTurns acts tends bytes left n old times output new later → HasAllTurns weak weakly bytes left n old times output new later
+  all_more bytes left n old times output new later s = record { lines = s.lines; rest = s.rest; falls = s.falls; at_end = s.at_end; counted = s.counted; serves = serves_more _ old times output new later s.serves }
+
+  first_more : (bytes : List ℕ) (old : T) (times : Times) (output : List ℕ) (new : T) (later : Times) → HasFirstTurns acts tends bytes old times output new later → HasFirstTurns weak weakly bytes old times output new later
+  first_more bytes old times output new later s = record { lines = s.lines; rest = s.rest; whole = s.whole; each = s.each; serves = serves_more _ old times output new later s.serves }
+
+  some_more : (bytes : List ℕ) (left : Option (List ℕ)) (old : T) (times : Times) (output : List ℕ) (new : T) (later : Times)
+      → HasSomeTurns acts tends bytes left old times output new later → HasSomeTurns weak weakly bytes left old times output new later
+  some_more bytes left old times output new later (inl s) = inl (first_more bytes old times output new later s)
+  some_more bytes left old times output new later (inr (inl s)) = inr (inl (s.0, all_more bytes left s.0 old times output new later s.1))
+  some_more bytes left old times output new later (inr (inr s)) = inr (inr (s.0, s.1, after_more bytes left s.0 old times output new later s.1 s.2))
+
   pub ends_more : (limit : ℕ) (bytes : List ℕ) (left : Option (List ℕ)) (old : T) (times : Times) (output : List ℕ) (new : T) (later : Times) (result : Ended)
       → EndsSo acts tends limit bytes left old times output new later result → EndsSo weak weakly limit bytes left old times output new later result
-  ends_more limit bytes left old times output new later (Finish n) (short, s) = (short, record { lines = s.lines; rest = s.rest; falls = s.falls; at_end = s.at_end; counted = s.counted; serves = serves_more _ old times output new later s.serves })
+  ends_more limit bytes left old times output new later (Finish n) (short, s) = (short, all_more bytes left n old times output new later s)
   ends_more limit bytes left old times output new later (Quit n) (m, is, s) = (m, is, after_more bytes left m old times output new later QuitStop s)
   ends_more limit bytes left old times output new later SourceFault (short, s) = (short, whole_more bytes old times output new later s)
-  ends_more limit bytes left old times output new later SinkFault (m, s) = (m, after_more bytes left m old times output new later SinkStop s)
-  ends_more limit bytes left old times output new later Memory (inl s) = inl (record { lines = s.lines; rest = s.rest; whole = s.whole; each = s.each; serves = serves_more _ old times output new later s.serves })
+  ends_more limit bytes left old times output new later SinkFault (text, short, s) = (text, short, some_more bytes left old times text new later s)
+  ends_more limit bytes left old times output new later Memory (inl s) = inl (first_more bytes old times output new later s)
   ends_more limit bytes left old times output new later Memory (inr s) = inr (s.0, after_more bytes left s.0 old times output new later MemoryStop s.1)
   ends_more limit bytes left old times output new later Halted (m, s) = (m, after_more bytes left m old times output new later HaltStop s)
   ends_more limit bytes left old times output new later (Long n) (is, count, s) = (is, count, whole_more bytes old times output new later s)

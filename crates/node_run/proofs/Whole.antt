@@ -170,39 +170,42 @@ module _ {T : Type 0} (Stands : T → Node → Type 0) (views : T → ℕ → Di
   }
 
   run_ends : (limit : ℕ) (bytes output : List ℕ) (left : Option (List ℕ)) (times : Times) (node : Node) (old new end : T) (result : Ended)
-      → Lifted Stands views Halts told limit bytes output left times node old new result → length bytes ≤ limit
+      → (l : Lifted Stands views Halts told limit bytes output left times node old new result) → length bytes ≤ limit
+      → (result ≡ SinkFault → is_halted l.served ≡ false)
       → CloseAfter Stands views told Says new end result
       → RunsWhole Stands views Halts told Says limit bytes output left times node old new end result
-  run_ends limit bytes output left times node old new end (Finish n) l within close =
+  run_ends limit bytes output left times node old new end (Finish n) l within goes close =
       let c : ClosesFrom Stands views told Says new (node_after_lines l.served node) end = close (node_after_lines l.served node) l.stands in
       run_closes limit bytes output left times node old new end (Finish n) l within l.ends.4 c c.says
-  run_ends limit bytes output left times node old new end (Quit n) l within close =
+  run_ends limit bytes output left times node old new end (Quit n) l within goes close =
       let c : ClosesFrom Stands views told Says new (node_after_lines l.served node) end = close (node_after_lines l.served node) l.stands in
       run_closes limit bytes output left times node old new end (Quit n) l within l.ends.3 c c.says
-  run_ends limit bytes output left times node old new end SourceFault l within close =
+  run_ends limit bytes output left times node old new end SourceFault l within goes close =
       let c : ClosesFrom Stands views told Says new (node_after_lines l.served node) end = close (node_after_lines l.served node) l.stands in
       run_closes limit bytes output left times node old new end SourceFault l within l.ends.4 c c.says
-  run_ends limit bytes output left times node old new end SinkFault l within close =
+  run_ends limit bytes output left times node old new end SinkFault l within goes close =
       let c : ClosesFrom Stands views told Says new (node_after_lines l.served node) end = close (node_after_lines l.served node) l.stands in
-      run_closes limit bytes output left times node old new end SinkFault l within l.ends c c.says
-  run_ends limit bytes output left times node old new end Memory l within close =
+      run_closes limit bytes output left times node old new end SinkFault l within (goes refl) c c.says
+  run_ends limit bytes output left times node old new end Memory l within goes close =
       let c : ClosesFrom Stands views told Says new (node_after_lines l.served node) end = close (node_after_lines l.served node) l.stands in
       run_closes limit bytes output left times node old new end Memory l within l.ends c c.says
-  run_ends limit bytes output left times node old new end Halted l within close =
+  run_ends limit bytes output left times node old new end Halted l within goes close =
       subst (λ (e : T). RunsWhole Stands views Halts told Says limit bytes output left times node old new e Halted) (sym close)
       (run_halts limit bytes output left times node old new l within l.ends.1)
-  run_ends limit bytes output left times node old new end (Long n) l within close =
+  run_ends limit bytes output left times node old new end (Long n) l within goes close =
       let c : ClosesFrom Stands views told Says new (node_after_lines l.served node) end = close (node_after_lines l.served node) l.stands in
       run_closes limit bytes output left times node old new end (Long n) l within l.ends.4 c c.says
 
-  -- A session over a store, and what is done behind it, are a run of each node that the store stood for.
+  -- A session over a store, and what is done behind it, are a run of each node that the store stood for, where no store halted whose
+  -- last replies couldn't be written.
   pub ran_whole : Rests Stands views → (limit : ℕ) (taken taken' : List ℕ) (left left' : Option (List ℕ)) (written written' : Option (List ℕ)) (old new end : T) (times later : Times) (node : Node) (result : Ended)
       → (ran : Ran (ActsBy Stands views Halts told) (TendsBy Stands views told) limit taken taken' left left' written written' old new times later result) → Stands old node
+      → ((l : Lifted Stands views Halts told limit ran.bytes ran.output left' times node old new result) → result ≡ SinkFault → is_halted l.served ≡ false)
       → CloseAfter Stands views told Says new end result
       → RunsWhole Stands views Halts told Says limit ran.bytes ran.output left' times node old new end result
-  ran_whole rests limit taken taken' left left' written written' old new end times later node result ran stands close =
-      run_ends limit ran.bytes ran.output left' times node old new end result
-      (ran_lifts Stands views Halts told rests limit taken taken' left left' written written' old new times later node result ran stands) ran.within close
+  ran_whole rests limit taken taken' left left' written written' old new end times later node result ran stands goes close =
+      let l = ran_lifts Stands views Halts told rests limit taken taken' left left' written written' old new times later node result ran stands in
+      run_ends limit ran.bytes ran.output left' times node old new end result l ran.within (goes l) close
 
   -- ---- since the entry
 

@@ -43,12 +43,13 @@ pub record Chain {T : Type 0} (Stands : T → Node → Type 0) (views : T → �
   pub leaves : LeavesEach views node (λ device. states_of_lines device served node) old new
   pub halt : InHalt (Halts new) node served
 
--- How much was served and written, by how the session ended.
+-- How much was served and written, by how the session ended. At a fault of the sink no more is known than that the output is the front
+-- of the replies; the last line may be one at which the store halted.
 abbrev pub EndsWith : (limit : ℕ) → (bytes output : List ℕ) → (ended : Bool) → List Served → List (Option (List ℕ)) → Ended → Type 0
 EndsWith limit bytes output ended served unserved (Finish n) = (output ≡ written_text served) × (unserved ≡ []) × (ended ≡ true) × (n ≡ length served) × (is_halted served ≡ false)
 EndsWith limit bytes output ended served unserved (Quit n) = (output ≡ written_text served) × IsTrue (has_quit served) × (n ≡ length served) × (is_halted served ≡ false)
 EndsWith limit bytes output ended served unserved SourceFault = (output ≡ written_text served) × (unserved ≡ []) × (ended ≡ false) × (has_quit served ≡ false) × (is_halted served ≡ false) × (length bytes < limit)
-EndsWith limit bytes output ended served unserved SinkFault = is_halted served ≡ false
+EndsWith limit bytes output ended served unserved SinkFault = Unit {0}
 EndsWith limit bytes output ended served unserved Memory = is_halted served ≡ false
 EndsWith limit bytes output ended served unserved Halted = (output ≡ written_text served) × IsTrue (is_halted served)
 EndsWith limit bytes output ended served unserved (Long n) = (output ≡ written_text served) × (unserved ≡ []) × (ended ≡ false) × (has_quit served ≡ false) × (is_halted served ≡ false) × (length bytes ≡ limit)

@@ -1,4 +1,5 @@
 pub mod Sending
+pub mod Collecting
 pub mod Running
 pub mod Stopping
 pub mod Taking

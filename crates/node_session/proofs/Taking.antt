@@ -1,13 +1,13 @@
 -- The lines of the bytes taken so far, and those of one more piece.
-use Rattle.std.proofs.Common.{Option, ◌≡◌, ℕ, ◌+◌, ◌-◌, ◌^◌, ◌≤◌, min, List, [], ◌∷◌, ◌++◌, length, map, refl, sym, ◌∙◌, ap, subst, inl, arith, append_assoc, length-append}
+use Rattle.std.proofs.Common.{Option, ◌≡◌, ℕ, ◌+◌, ◌-◌, ◌^◌, ◌≤◌, min, List, [], ◌∷◌, ◌++◌, length, map, refl, sym, ◌∙◌, ap, subst, inl, inr, arith, append_assoc, length-append}
 use Rattle.std.specs.List.{AllByRecursion, flat_map}
 use Rattle.line_proto.specs.declared.command.Command.{Command}
 use Rattle.line_proto.specs.declared.reply.Reply.{Reply}
 use Rattle.line_proto.specs.declared.line_end.LineEnd.{LineEnd}
 use Rattle.line_proto.specs.Stream.{IsOneLine, ended, line_end, FallInto, Kept, KeepsBytes}
 use Rattle.node_session.specs.declared.stop.Stop.{Stop}
-use Rattle.node_session.specs.Turns.{Times, HasTurns, StopsAmong}
-use Rattle.node_session.specs.Session.{StopsAfter}
+use Rattle.node_session.specs.Turns.{Times, HasTurns, StopsAmong, GoesThrough, ServesSome}
+use Rattle.node_session.specs.Session.{HasFirstTurns, HasSomeTurns, StopsAfter}
 use Rattle.std.proofs.lemmas.Grind.{flat_map-append}
 use Rattle.std.proofs.lemmas.List.{map-append}
 use Rattle.line_proto.proofs.Falling.{all_append, falls_further}
@@ -69,6 +69,26 @@ parted (text ∷ texts) (end ∷ before) line after is =
       of_text = rest.of_text;
     }
 
+-- and one whose ends are in two parts
+record Halved (texts : List (List ℕ)) (before after : List LineEnd) : Type 0 where
+  first : List (List ℕ)
+  last : List (List ℕ)
+  parts : texts ≡ first ++ last
+  of_first : map line_end first ≡ before
+
+halved : (texts : List (List ℕ)) (before after : List LineEnd) → map line_end texts ≡ before ++ after → Halved texts before after
+halved texts [] after is = record { first = []; last = texts; parts = refl; of_first = refl }
+halved [] (end ∷ before) after is = cc
+halved (text ∷ texts) (end ∷ before) after is =
+    let rest = halved texts before after cc in
+    let head : line_end text ≡ end = cc in
+    record {
+      first = text ∷ rest.first;
+      last = rest.last;
+      parts = ap (λ (l : List (List ℕ)). text ∷ l) rest.parts;
+      of_first = λ i. head i ∷ rest.of_first i;
+    }
+
 all_first : {X : Type 0} (P : X → Type 0) (xs ys : List X) → AllByRecursion P (xs ++ ys) → AllByRecursion P xs
 all_first P [] ys all = tt
 all_first P (x ∷ xs) ys all = (all.0, all_first P xs ys all.1)
@@ -125,7 +145,27 @@ module _ {T : Type 0} (acts : T → Command → ℕ → Reply → T → Type 0) 
             subst (λ (l : List LineEnd). HasTurns acts tends l old times (told ++ stops.told) stops.mid stops.then) ends (serves_on acts tends (map line_end lines) stops.before old times told stops.told mid then stops.mid stops.then serves stops.serves);
         line = stops.line;
         takes_up = record { how = inl (at.text, after, refl, all_at IsOneLine at.first at.text at.last each_more, at.of_text) };
-        sent = stops.sent;
+        last = stops.last;
         stops = stops.stops;
-        all = ap (λ (l : List ℕ). told ++ l) stops.all ∙ sym (append_assoc told stops.told stops.sent);
+        all = ap (λ (l : List ℕ). told ++ l) stops.all ∙ sym (append_assoc told stops.told stops.last);
       }
+
+  -- the first of the lines that are ready had their turns
+  first_turns : (output : List ℕ) (new : T) (later : Times) → GoesThrough acts tends kept.ready mid then output new later → HasFirstTurns acts tends (bytes ++ piece) old times (told ++ output) new later
+  first_turns output new later through =
+      let at = halved stands.lines through.before through.after (sym stands.are_ready ∙ through.parts) in
+      let falls_all = falls_further bytes piece lines rest stands.lines stands.rest falls stands.falls in
+      let order : lines ++ stands.lines ≡ (lines ++ at.first) ++ at.last = ap (λ (l : List (List ℕ)). lines ++ l) at.parts ∙ sym (append_assoc lines at.first at.last) in
+      let ends : map line_end lines ++ through.before ≡ map line_end (lines ++ at.first) = ap (λ (l : List LineEnd). map line_end lines ++ l) (sym at.of_first) ∙ sym (map-append line_end lines at.first) in
+      record {
+        lines = lines ++ at.first;
+        rest = flat_map ended at.last ++ stands.rest;
+        whole = falls_all.whole ∙ ap (λ (l : List (List ℕ)). flat_map ended l ++ stands.rest) order ∙ ap (λ (l : List ℕ). l ++ stands.rest) (flat_map-append ended (lines ++ at.first) at.last)
+            ∙ append_assoc (flat_map ended (lines ++ at.first)) (flat_map ended at.last) stands.rest;
+        each = all_first IsOneLine (lines ++ at.first) at.last (subst (AllByRecursion IsOneLine) order falls_all.each);
+        serves = subst (λ (l : List LineEnd). HasTurns acts tends l old times (told ++ output) new later) ends (serves_on acts tends (map line_end lines) through.before old times told output mid then new later serves through.serves);
+      }
+
+  pub some_turns : (left : Option (List ℕ)) (output : List ℕ) (new : T) (later : Times) → ServesSome acts tends kept.ready mid then output new later → HasSomeTurns acts tends (bytes ++ piece) left old times (told ++ output) new later
+  some_turns left output new later (inl through) = inl (first_turns output new later through)
+  some_turns left output new later (inr stopped) = inr (inr (length lines + stopped.0, stopped.1, stops_after left output new later stopped.0 stopped.1 stopped.2))

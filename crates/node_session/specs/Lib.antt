@@ -1,2 +1,3 @@
+pub mod HandedOn
 pub mod Turns
 pub mod Session

@@ -9,10 +9,12 @@ use Rattle.line_proto.specs.declared.line_end.LineEnd.{LineEnd}
 use Rattle.line_proto.specs.declared.line_end.LineEnd.TheVariants.{TooLong}
 use Rattle.line_proto.specs.Stream.{IsOneLine, ended, line_end, FallInto}
 use Rattle.node_session.specs.declared.stop.Stop.{Stop}
-use Rattle.node_session.specs.declared.stop.Stop.TheVariants.{Quit as QuitStop, SinkFault as SinkStop, Memory as MemoryStop, Halted as HaltStop}
+use Rattle.node_session.specs.declared.stop.Stop.TheVariants.{Quit as QuitStop, Memory as MemoryStop, Halted as HaltStop}
 use Rattle.node_session.specs.declared.ended.Ended.{Ended}
 use Rattle.node_session.specs.declared.ended.Ended.TheVariants.{Finish, Quit, SourceFault, SinkFault, Memory, Halted, Long}
-use Rattle.node_session.specs.Turns.{Times, HasTurns, StopsAtLine}
+use Rattle.line_proto.specs.Lines.{reply_text}
+use Rattle.node_session.specs.HandedOn.{FallsShort}
+use Rattle.node_session.specs.Turns.{Times, WholeTurn, HasTurns, StopsAtLine}
 
 -- What a rest without LF counts as at the end of the input: nothing where it is empty, else a line that is no command.
 abbrev pub unended : List ℕ → List LineEnd
@@ -61,16 +63,24 @@ pub record StopsAfter {T : Type 0} (acts : T → Command → ℕ → Reply → T
   pub serves : HasTurns acts tends (map line_end lines) old times told mid then
   pub line : LineEnd
   pub takes_up : TakesUp left rest line
-  pub sent : List ℕ
-  pub stops : StopsAtLine acts tends line mid then sent new later stop
-  pub all : output ≡ told ++ sent
+  pub last : List ℕ
+  pub stops : StopsAtLine acts tends line mid then last new later stop
+  pub all : output ≡ told ++ last
 
--- What each end means.
+-- Some lines of the bytes have had their turns, from the first on: whole ones, or all up to the end of the input, or up to one at
+-- which the session stops.
+abbrev pub HasSomeTurns : {T : Type 0} → (T → Command → ℕ → Reply → T → Type 0) → (T → T → Type 0) → List ℕ → Option (List ℕ) → T → Times → List ℕ → T → Times → Type 0
+HasSomeTurns acts tends bytes left old times output new later =
+    HasFirstTurns acts tends bytes old times output new later
+    ⊎ ((n : ℕ) × HasAllTurns acts tends bytes left n old times output new later)
+    ⊎ ((n : ℕ) × (stop : Stop) × StopsAfter acts tends bytes left n old times output new later stop)
+
+-- What each end means. At a fault of the sink the output is the front of the replies, else it is all of them.
 abbrev pub EndsSo : {T : Type 0} → (T → Command → ℕ → Reply → T → Type 0) → (T → T → Type 0) → ℕ → List ℕ → Option (List ℕ) → T → Times → List ℕ → T → Times → Ended → Type 0
 EndsSo acts tends limit bytes left old times output new later (Finish n) = (length bytes < limit) × HasAllTurns acts tends bytes left n old times output new later
 EndsSo acts tends limit bytes left old times output new later (Quit n) = (m : ℕ) × (n ≡ m + 1) × StopsAfter acts tends bytes left m old times output new later QuitStop
 EndsSo acts tends limit bytes left old times output new later SourceFault = (length bytes < limit) × HasWholeTurns acts tends bytes old times output new later
-EndsSo acts tends limit bytes left old times output new later SinkFault = (m : ℕ) × StopsAfter acts tends bytes left m old times output new later SinkStop
+EndsSo acts tends limit bytes left old times output new later SinkFault = (text : List ℕ) × FallsShort text output × HasSomeTurns acts tends bytes left old times text new later
 EndsSo acts tends limit bytes left old times output new later Memory = HasFirstTurns acts tends bytes old times output new later ⊎ ((m : ℕ) × StopsAfter acts tends bytes left m old times output new later MemoryStop)
 EndsSo acts tends limit bytes left old times output new later Halted = (m : ℕ) × StopsAfter acts tends bytes left m old times output new later HaltStop
 EndsSo acts tends limit bytes left old times output new later (Long n) = (n ≡ limit) × (length bytes ≡ limit) × HasWholeTurns acts tends bytes old times output new later
@@ -88,6 +98,11 @@ pub record Ran {T : Type 0} (acts : T → Command → ℕ → Reply → T → Ty
 -- the end of a session that stops at a line, after so many whole turns
 abbrev pub ended_of : Stop → ℕ → Ended
 ended_of QuitStop answered = Quit (answered + 1)
-ended_of SinkStop answered = SinkFault
 ended_of MemoryStop answered = Memory
 ended_of HaltStop answered = Halted
+
+-- A rest without LF has its turn, as the line after so many others, and the session would end so.
+abbrev pub EndsAtRest : {T : Type 0} → (T → Command → ℕ → Reply → T → Type 0) → (T → T → Type 0) → (answered : ℕ) → T → Times → List ℕ → T → Times → Ended → Type 0
+EndsAtRest acts tends answered old times text new later ended =
+    ((reply : Reply) × WholeTurn acts tends TooLong old times reply new later × (text ≡ reply_text reply) × (ended ≡ Finish (answered + 1)))
+    ⊎ ((stop : Stop) × StopsAtLine acts tends TooLong old times text new later stop × (ended ≡ ended_of stop answered))

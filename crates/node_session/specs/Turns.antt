@@ -1,8 +1,7 @@
 -- Crate node_session. What a session does: each line taken gets its reply, in order, from the store as the lines before it left it.
-use Rattle.std.specs.Prelude.{◌≡◌, ◌≢◌, ◌⊎◌, ℕ, ◌^◌, min, List, [], ◌∷◌, ◌++◌, length, Option, Result, OnOk}
+use Rattle.std.specs.Prelude.{◌≡◌, ◌≢◌, ◌⊎◌, ℕ, ◌^◌, min, List, [], ◌∷◌, ◌++◌, length, Option}
 use Rattle.std.specs.List.{flat_map}
 use Rattle.io_traits.specs.Clock.{Ticks}
-use Rattle.io_traits.specs.Sink.{Extends}
 use Rattle.line_proto.specs.declared.command.Command.{Command}
 use Rattle.line_proto.specs.declared.command.Command.TheVariants.{Quit}
 use Rattle.line_proto.specs.declared.reply.Reply.{Reply}
@@ -13,7 +12,7 @@ use Rattle.line_proto.specs.declared.line_end.LineEnd.TheVariants.{Whole, TooLon
 use Rattle.line_proto.specs.Built.{IsLine, IsNoCommand}
 use Rattle.line_proto.specs.Lines.{reply_text}
 use Rattle.node_session.specs.declared.stop.Stop.{Stop}
-use Rattle.node_session.specs.declared.stop.Stop.TheVariants.{Quit as QuitStop, SinkFault as SinkStop, Memory as MemoryStop, Halted as HaltStop}
+use Rattle.node_session.specs.declared.stop.Stop.TheVariants.{Quit as QuitStop, Memory as MemoryStop, Halted as HaltStop}
 
 -- the times that a clock tells, where it tells them
 abbrev pub Times : Type 0
@@ -80,22 +79,13 @@ pub record HasTurns {T : Type 0} (acts : T → Command → ℕ → Reply → T �
 abbrev pub TurnAny : {T : Type 0} → (T → Command → ℕ → Reply → T → Type 0) → (T → T → Type 0) → LineEnd → T → Times → Reply → T → Times → Type 0
 TurnAny acts tends line old times reply new later = WholeTurn acts tends line old times reply new later ⊎ Quits line old times reply new later
 
--- The session stops at a line, with these bytes of its reply written. Only after a halt is the store not tended, and after `quit`.
+-- The session stops at a line, of whose reply this is the text that is told. Only after a halt is the store not tended, and after `quit`.
 abbrev pub StopsAtLine : {T : Type 0} → (T → Command → ℕ → Reply → T → Type 0) → (T → T → Type 0) → LineEnd → T → Times → List ℕ → T → Times → Stop → Type 0
-StopsAtLine acts tends line old times sent new later QuitStop = Quits line old times Bye new later × (sent ≡ reply_text Bye)
-StopsAtLine acts tends line old times sent new later SinkStop = (reply : Reply) × TurnAny acts tends line old times reply new later × (unsent : List ℕ) × (reply_text reply ≡ sent ++ unsent)
-StopsAtLine acts tends line old times sent new later MemoryStop = (reply : Reply) × TurnAny acts tends line old times reply new later × (sent ≡ [])
-StopsAtLine acts tends line old times sent new later HaltStop = Answers acts line old times Halted new later × (sent ≡ [])
+StopsAtLine acts tends line old times last new later QuitStop = Quits line old times Bye new later × (last ≡ reply_text Bye)
+StopsAtLine acts tends line old times last new later MemoryStop = (reply : Reply) × TurnAny acts tends line old times reply new later × (last ≡ [])
+StopsAtLine acts tends line old times last new later HaltStop = Answers acts line old times Halted new later × (last ≡ [])
 
--- Of the text the first bytes are written, and at Ok all of them.
-pub record Sends {E : Type 0} (text : List ℕ) (written written' : Option (List ℕ)) (result : Result Unit E) : Type 0 where
-  pub sent : List ℕ
-  pub unsent : List ℕ
-  pub parts : text ≡ sent ++ unsent
-  pub extends : Extends written written' sent
-  pub all : OnOk result (unsent ≡ [])
-
--- The lines before one of these have their whole turns, and the session stops at that line.
+-- The lines before one of these have their whole turns, and the session stops at that line. The output is the text of their replies.
 pub record StopsAmong {T : Type 0} (acts : T → Command → ℕ → Reply → T → Type 0) (tends : T → T → Type 0) (ready : List LineEnd) (count : ℕ) (old : T) (times : Times) (output : List ℕ) (new : T) (later : Times) (stop : Stop) : Type 0 where
   pub before : List LineEnd
   pub line : LineEnd
@@ -106,6 +96,19 @@ pub record StopsAmong {T : Type 0} (acts : T → Command → ℕ → Reply → T
   pub mid : T
   pub then : Times
   pub serves : HasTurns acts tends before old times told mid then
-  pub sent : List ℕ
-  pub stops : StopsAtLine acts tends line mid then sent new later stop
-  pub all : output ≡ told ++ sent
+  pub last : List ℕ
+  pub stops : StopsAtLine acts tends line mid then last new later stop
+  pub all : output ≡ told ++ last
+
+-- The first of these lines have their whole turns.
+pub record GoesThrough {T : Type 0} (acts : T → Command → ℕ → Reply → T → Type 0) (tends : T → T → Type 0) (ready : List LineEnd) (old : T) (times : Times) (output : List ℕ) (new : T) (later : Times) : Type 0 where
+  pub before : List LineEnd
+  pub after : List LineEnd
+  pub parts : ready ≡ before ++ after
+  pub serves : HasTurns acts tends before old times output new later
+
+-- Some of these lines have their turns, from the first on: whole ones, or up to one at which the session stops.
+abbrev pub ServesSome : {T : Type 0} → (T → Command → ℕ → Reply → T → Type 0) → (T → T → Type 0) → List LineEnd → T → Times → List ℕ → T → Times → Type 0
+ServesSome acts tends ready old times output new later =
+    GoesThrough acts tends ready old times output new later
+    ⊎ ((count : ℕ) × (stop : Stop) × StopsAmong acts tends ready count old times output new later stop)

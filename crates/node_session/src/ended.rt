@@ -7,11 +7,11 @@ pub enum Ended {
     Quit { lines: u64 },
     /// The source failed, and each whole line before was answered.
     SourceFault,
-    /// The sink failed in the midst of a reply.
+    /// The sink failed while replies were handed on, and no further line was served.
     SinkFault,
-    /// There was no memory for a piece of the input, or to print a reply.
+    /// There was no memory for a piece of the input, or to print a reply. The replies before were written.
     Memory,
-    /// The store halted, and its last line got no reply.
+    /// The store halted, and its last line got no reply. Those before did.
     Halted,
     /// As many bytes as the limit were taken, and each whole line among them was answered.
     Long { taken: u64 },

@@ -1,15 +1,19 @@
 // The loop over the input.
-ghost use Rattle.std.specs.Prelude.{◌≡◌, ◌+◌, ◌<◌, ◌≤◌, ◌^◌, ◌++◌, List, ℕ, [], length, Option, OnOk, IfOk, OnErr, IsErrOf};
+ghost use Rattle.std.specs.Prelude.{◌≡◌, ◌≢◌, ◌⊎◌, ◌+◌, ◌<◌, ◌≤◌, ◌^◌, ◌++◌, List, ℕ, [], length, IfOk, IsErrOf};
 ghost use Rattle.fault_count.specs.Counts.{Rose};
 ghost use Rattle.io_traits.specs.Source.{Shortens, IsAtEnd};
 ghost use Rattle.line_proto.specs.Stream.{KeepsBytes};
-ghost use Rattle.node_session.specs.Session.{Ran, ended_of};
+ghost use Rattle.io_traits.specs.Sink.{Extends};
+ghost use Rattle.node_session.specs.HandedOn.{FallsShort};
+ghost use Rattle.node_session.specs.declared.ended.Ended.{Ended};
+ghost use Rattle.node_session.specs.Session.{Ran, EndsAtRest, ended_of};
 
 use crate::ended::Ended;
 use crate::ready::serve_ready;
+use crate::replies::Replies;
 use crate::stop::Stop;
 use crate::turn::turn;
-use io_traits::{Clock, Sink, Source};
+use io_traits::{Clock, Sink, SinkFault, Source};
 use line_proto::{LineEnd, Lines, Store};
 use std::alloc::Global;
 
@@ -32,6 +36,7 @@ fn take_piece<L: Source>(link: &mut L, lines: &mut Lines, out: &mut [u8]) -> Res
         × IfOk result (λ n. (n ≡ length piece) × (n ≡ 0 → IsAtEnd (L.left link.new))
         × ((bytes : List ℕ) → KeepsBytes lines.old bytes → KeepsBytes lines.new (bytes ++ piece))) }
     ensures cause { IsErrOf result NoPiece.SourceFault → Rose (L.source_faults link.old) (L.source_faults link.new) }
+    ensures quiet { (IsErrOf result NoPiece.SourceFault → ⊥) → L.source_faults link.new ≡ L.source_faults link.old }
     ensures later { L.source_faults link.old ≤ L.source_faults link.new }
     ensures written { L.written link.new ≡ L.written link.old }
     ensures sink_faults { L.sink_faults link.new ≡ L.sink_faults link.old }
@@ -53,9 +58,40 @@ fn end_of(stop: Stop, answered: u64) -> Ended
         Stop::Quit => Ended::Quit {
             lines: answered + 1,
         },
-        Stop::SinkFault => Ended::SinkFault,
         Stop::Memory => Ended::Memory,
         Stop::Halted => Ended::Halted,
+    }
+}
+
+// The rest without LF at the end of the input is the last line. It has its turn, and its reply is handed on.
+fn serve_rest<T: Store, L: Sink, C: Clock>(
+    alloc: Global,
+    store: &mut T,
+    link: &mut L,
+    clock: &mut C,
+    answered: u64,
+) -> Ended
+    requires { answered + 1 < 2 ^ 64 }
+    ensures ends { (text : List ℕ) × (output : List ℕ) × (ended : Ended)
+        × EndsAtRest T.acts T.tends answered store.old (C.times clock.old) text store.new (C.times clock.new) ended
+        × Extends (L.written link.old) (L.written link.new) output
+        × (((result ≡ ended) × (output ≡ text)) ⊎ ((result ≡ Ended.SinkFault) × FallsShort text output)) }
+    ensures cause { result ≡ Ended.SinkFault → Rose (L.sink_faults link.old) (L.sink_faults link.new) }
+    ensures later { L.sink_faults link.old ≤ L.sink_faults link.new }
+    ensures left { L.left link.new ≡ L.left link.old }
+    ensures taken { L.taken link.new ≡ L.taken link.old }
+    ensures source_faults { L.source_faults link.new ≡ L.source_faults link.old }
+{
+    let mut replies = Replies::new(alloc);
+    let stopped = turn(alloc, store, clock, &LineEnd::TooLong, &mut replies);
+    if replies.hand_on(link).is_err() {
+        return Ended::SinkFault;
+    }
+    match stopped {
+        Some(stop) => end_of(stop, answered),
+        None => Ended::Finish {
+            lines: answered + 1,
+        },
     }
 }
 
@@ -71,6 +107,9 @@ fn serve<T: Store, L: Source + Sink, C: Clock>(
     requires { 0 < length buffer.old }
     ensures run { Ran T.acts T.tends limit (L.taken link.old) (L.taken link.new) (L.left link.old) (L.left link.new)
         (L.written link.old) (L.written link.new) store.old store.new (C.times clock.old) (C.times clock.new) result }
+    ensures none_waits { result ≡ Ended.SourceFault → (at : L) × (L.source_faults at ≡ L.source_faults link.old)
+        × (L.taken at ≡ L.taken link.new) × (L.written at ≡ L.written link.new) }
+    ensures none_passed_over { result ≢ Ended.SourceFault → L.source_faults link.new ≡ L.source_faults link.old }
     ensures source_fault { result ≡ Ended.SourceFault → Rose (L.source_faults link.old) (L.source_faults link.new) }
     ensures sink_fault { result ≡ Ended.SinkFault → Rose (L.sink_faults link.old) (L.sink_faults link.new) }
     ensures source_later { L.source_faults link.old ≤ L.source_faults link.new }
@@ -91,24 +130,22 @@ fn serve<T: Store, L: Source + Sink, C: Clock>(
             if rest == 0 {
                 return Ended::Finish { lines: answered };
             }
-            if let Err(stop) = turn(alloc, store, link, clock, &LineEnd::TooLong) {
-                return end_of(stop, answered);
-            }
-            return Ended::Finish {
-                lines: answered + 1,
-            };
+            return serve_rest(alloc, store, link, clock, answered);
         }
         taken += count as u64;
-        if let Err(stop) = serve_ready(alloc, store, link, clock, &mut lines, &mut answered) {
-            return end_of(stop, answered);
+        match serve_ready(alloc, store, link, clock, &mut lines, &mut answered) {
+            Ok(None) => {}
+            Ok(Some(stop)) => return end_of(stop, answered),
+            Err(SinkFault) => return Ended::SinkFault,
         }
     }
     Ended::Long { taken }
 }
 
 /// Carries out the lines of the link's source until it ends, `quit` comes, the store halts, a fault or want of memory stops
-/// it, or `limit` bytes were taken. Each line is answered in order, the link is flushed after each reply, and the store is
-/// tended after each line but `quit` and one that it halted at, also where the reply could not be written.
+/// it, or `limit` bytes were taken. Each line is answered in order, and the store is tended after each line but `quit` and one
+/// that it halted at, also where the reply could not be printed. The replies are handed on together, which is that they are
+/// written and the link is flushed: before more is read, at the end, and as soon as they have 65,536 bytes.
 pub fn session<T: Store, L: Source + Sink, C: Clock>(
     alloc: Global,
     store: &mut T,
@@ -119,6 +156,12 @@ pub fn session<T: Store, L: Source + Sink, C: Clock>(
     // The output follows from the bytes taken, through the store and the clock.
     ensures run { Ran T.acts T.tends limit (L.taken link.old) (L.taken link.new) (L.left link.old) (L.left link.new)
         (L.written link.old) (L.written link.new) store.old store.new (C.times clock.old) (C.times clock.new) result }
+
+    // No reply waits while more is read. A read may fail at any time, and no fault of the source is passed over; where one comes,
+    // all was written at a moment before it.
+    ensures none_waits { result ≡ Ended.SourceFault → (at : L) × (L.source_faults at ≡ L.source_faults link.old)
+        × (L.taken at ≡ L.taken link.new) × (L.written at ≡ L.written link.new) }
+    ensures none_passed_over { result ≢ Ended.SourceFault → L.source_faults link.new ≡ L.source_faults link.old }
 
     // It doesn't give up by itself.
     ensures source_fault { result ≡ Ended.SourceFault → Rose (L.source_faults link.old) (L.source_faults link.new) }

@@ -4,6 +4,7 @@
 mod ended;
 mod input;
 mod ready;
+mod replies;
 mod stop;
 mod turn;
 

@@ -1,16 +1,20 @@
 // The turns of all lines that are ready.
-ghost use Rattle.std.specs.Prelude.{◌≡◌, ◌+◌, ◌<◌, ◌≤◌, ◌^◌, List, ℕ, [], length, OnOk, IfErr, IsErrOf};
-ghost use Rattle.fault_count.specs.Counts.{Rose};
+ghost use Rattle.std.specs.Prelude.{◌≡◌, ◌+◌, ◌<◌, ◌≤◌, ◌^◌, List, ℕ, [], length, IsErr};
+ghost use Rattle.fault_count.specs.Counts.{IsCaused};
 ghost use Rattle.io_traits.specs.Sink.{Extends};
-ghost use Rattle.node_session.specs.Turns.{HasTurns, StopsAmong};
+ghost use Rattle.node_session.specs.HandedOn.{FallsShort};
+ghost use Rattle.node_session.specs.Turns.{HasTurns, StopsAmong, ServesSome};
+ghost use Rattle.node_session.specs.declared.stop.Stop.{Stop};
 
+use crate::replies::Replies;
 use crate::stop::Stop;
 use crate::turn::turn;
-use io_traits::{Clock, Sink};
+use io_traits::{Clock, Sink, SinkFault};
 use line_proto::{Lines, Store};
 use std::alloc::Global;
 
-/// Each line that is ready has its turn, in order. At `Ok` none is left.
+/// Each line that is ready has its turn, in order, up to one at which the session stops; that is answered. The replies are handed
+/// on together, and none waits then.
 pub fn serve_ready<T: Store, L: Sink, C: Clock>(
     alloc: Global,
     store: &mut T,
@@ -18,26 +22,34 @@ pub fn serve_ready<T: Store, L: Sink, C: Clock>(
     clock: &mut C,
     lines: &mut Lines,
     answered: &mut u64,
-) -> Result<(), Stop>
+) -> Result<Option<Stop>, SinkFault>
     requires { answered.old + length lines.old.ready < 2 ^ 64 }
-    ensures done { OnOk result ((output : List ℕ)
+    ensures done { result ≡ Ok None → (output : List ℕ)
         × HasTurns T.acts T.tends lines.old.ready store.old (C.times clock.old) output store.new (C.times clock.new)
-        × Extends (L.written link.old) (L.written link.new) output) }
-    ensures counted { OnOk result (answered.new ≡ answered.old + length lines.old.ready) }
-    ensures lines { OnOk result (lines.new ≡ record lines.old { ready = [] }) }
-    ensures stopped { IfErr result (λ stop. (output : List ℕ) × (count : ℕ)
+        × Extends (L.written link.old) (L.written link.new) output }
+    ensures counted { result ≡ Ok None → answered.new ≡ answered.old + length lines.old.ready }
+    ensures lines { result ≡ Ok None → lines.new ≡ record lines.old { ready = [] } }
+    ensures stopped { (stop : Stop) → result ≡ Ok (Some stop) → (output : List ℕ) × (count : ℕ)
         × StopsAmong T.acts T.tends lines.old.ready count store.old (C.times clock.old) output store.new (C.times clock.new) stop
         × Extends (L.written link.old) (L.written link.new) output
-        × (answered.new ≡ answered.old + count)) }
-    ensures cause { IsErrOf result Stop.SinkFault → Rose (L.sink_faults link.old) (L.sink_faults link.new) }
-    ensures later { L.sink_faults link.old ≤ L.sink_faults link.new }
+        × (answered.new ≡ answered.old + count) }
+    ensures failed { IsErr result → (text : List ℕ) × (output : List ℕ) × FallsShort text output
+        × ServesSome T.acts T.tends lines.old.ready store.old (C.times clock.old) text store.new (C.times clock.new)
+        × Extends (L.written link.old) (L.written link.new) output }
+    ensures cause { IsCaused (L.sink_faults link.old) (L.sink_faults link.new) result }
     ensures left { L.left link.new ≡ L.left link.old }
     ensures taken { L.taken link.new ≡ L.taken link.old }
     ensures source_faults { L.source_faults link.new ≡ L.source_faults link.old }
 {
+    let mut replies = Replies::new(alloc);
     while let Some(line) = lines.next_line() {
-        turn(alloc, store, link, clock, &line)?;
+        if let Some(stop) = turn(alloc, store, clock, &line, &mut replies) {
+            replies.hand_on(link)?;
+            return Ok(Some(stop));
+        }
         *answered += 1;
+        replies.make_room(link)?;
     }
-    Ok(())
+    replies.hand_on(link)?;
+    Ok(None)
 }

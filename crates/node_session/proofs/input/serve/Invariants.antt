@@ -20,7 +20,7 @@ invariant-loop-taken g l = record {
   counted : l.answered ≡ length whole;
   size : l.taken ≡ length bytes;
   within : l.taken ≤ l.limit;
-  source_later : g.L.Ends.source_faults l.fn.link ≤ g.L.Ends.source_faults l.link;
+  source_same : g.L.Ends.source_faults l.link ≡ g.L.Ends.source_faults l.fn.link;
   sink_later : g.L.Ends.sink_faults l.fn.link ≤ g.L.Ends.sink_faults l.link;
 }
 

@@ -1,18 +1,17 @@
-use Rattle.std.proofs.Common.{◌≡◌, ◌+◌, ◌≤◌, ℕ, List, ◌++◌, length}
-use Rattle.io_traits.specs.Sink.{Extends}
+use Rattle.std.proofs.Common.{◌≡◌, ◌+◌, ◌<◌, ◌≤◌, List, ◌++◌, length}
 use Rattle.line_proto.specs.declared.line_end.LineEnd.{LineEnd}
-use Rattle.node_session.specs.Turns.{HasTurns}
+use Rattle.node_session.specs.HandedOn.{reply_room}
+use Rattle.node_session.proofs.Collecting.{Collected}
 use Rattle.node_session.proofs.ready.serve_ready.Given as goal
 
 abbrev pub invariant-loop-line : goal.invariant-loop-line
 invariant-loop-line g l = record {
   done : List LineEnd;
-  output : List ℕ;
   parts : l.fn.lines.ready ≡ done ++ l.lines.ready;
   others : l.lines ≡ record l.fn.lines { ready = l.lines.ready };
   counted : l.answered ≡ l.fn.answered + length done;
-  serves : HasTurns g.T.Store.acts g.T.Store.tends done l.fn.store (g.C.Clock.times l.fn.clock) output l.store (g.C.Clock.times l.clock);
-  extends : Extends (g.L.Ends.written l.fn.link) (g.L.Ends.written l.link) output;
+  collected : Collected g.T.Store.acts g.T.Store.tends l.fn.store (g.C.Clock.times l.fn.clock) (g.L.Ends.written l.fn.link) done l.replies (g.L.Ends.written l.link) l.store (g.C.Clock.times l.clock);
+  room : length l.replies < reply_room;
   later : g.L.Ends.sink_faults l.fn.link ≤ g.L.Ends.sink_faults l.link;
   left : g.L.Ends.left l.link ≡ g.L.Ends.left l.fn.link;
   taken : g.L.Ends.taken l.link ≡ g.L.Ends.taken l.fn.link;

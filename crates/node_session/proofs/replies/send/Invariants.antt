@@ -1,6 +1,6 @@
 use Rattle.std.proofs.Common.{◌≡◌, ◌≤◌, ℕ, List, ◌++◌, length}
 use Rattle.io_traits.specs.Sink.{Extends}
-use Rattle.node_session.proofs.turn.send.Given as goal
+use Rattle.node_session.proofs.replies.send.Given as goal
 
 abbrev pub invariant-loop-rest : goal.invariant-loop-rest
 invariant-loop-rest g l = record {

@@ -1,6 +1,6 @@
 use Rattle.std.proofs.Common.{◌++◌, take, arith, ◌∙◌}
 use Rattle.node_session.proofs.Sending.{extends_on, parts_on}
-use Rattle.node_session.proofs.turn.send.Goals as goal
+use Rattle.node_session.proofs.replies.send.Goals as goal
 
 pub loop-rest-preserved : goal.loop-rest-preserved
 loop-rest-preserved g c =

@@ -1,0 +1,103 @@
+// The replies that wait to be handed on.
+ghost use Rattle.std.specs.Prelude.{◌≡◌, ◌≢◌, ◌<◌, ◌≤◌, [], ◌++◌, length, IsOk, OnOk, OnErr};
+ghost use Rattle.fault_count.specs.Counts.{IsCaused};
+ghost use Rattle.line_proto.specs.declared.reply.Reply.{Reply};
+ghost use Rattle.line_proto.specs.Lines.{reply_text};
+ghost use Rattle.node_session.specs.HandedOn.{Sends, reply_room};
+
+use io_traits::{Sink, SinkFault};
+use line_proto::{NoMemory, Reply, print_reply};
+use std::alloc::Global;
+use std::marker::Model;
+
+// How many bytes are collected before they are handed on.
+const REPLY_ROOM: usize = 65_536;
+
+/// The texts of replies, one behind the other, that are to be handed on together.
+#[derive(Drop)]
+pub struct Replies {
+    text: Vec<u8>,
+}
+
+impl Model for Replies {
+    ghost use Rattle.std.specs.Prelude.{List, ℕ};
+
+    ghost Value = { List ℕ };
+
+    ghost view = { λ r. r.text.items };
+}
+
+impl Replies {
+    pub fn new(alloc: Global) -> Self
+        ensures { result ≡ [] }
+    {
+        Replies {
+            text: Vec::new(alloc),
+        }
+    }
+
+    /// Adds the text of a reply. An `Err` changes nothing.
+    pub fn add(&mut self, alloc: Global, reply: &Reply) -> Result<(), NoMemory>
+        requires { reply.now ≢ Reply.Halted }
+        ensures ok { OnOk result (self.new ≡ self.old ++ reply_text reply.now) }
+        ensures err { OnErr result (self.new ≡ self.old) }
+    {
+        print_reply(alloc, reply, &mut self.text)
+    }
+
+    /// Writes all of the text, and flushes the link; where there is none, nothing is done. At `Ok` collecting begins anew.
+    pub fn hand_on<K: Sink>(&mut self, link: &mut K) -> Result<(), SinkFault>
+        ensures bytes { Sends self.old self.new (K.written link.old) (K.written link.new) result }
+        ensures ok { OnOk result (self.new ≡ []) }
+        ensures err { OnErr result (self.new ≡ self.old) }
+        ensures nothing { self.old ≡ [] → IsOk result × (link.new ≡ link.old) }
+        ensures cause { IsCaused (K.sink_faults link.old) (K.sink_faults link.new) result }
+        ensures left { K.left link.new ≡ K.left link.old }
+        ensures taken { K.taken link.new ≡ K.taken link.old }
+        ensures source_faults { K.source_faults link.new ≡ K.source_faults link.old }
+    {
+        if self.text.is_empty() {
+            return Ok(());
+        }
+        send(link, &self.text)?;
+        self.text.clear();
+        Ok(())
+    }
+
+    /// Hands on all of the text where that is 65,536 bytes or more, so that there is room.
+    pub fn make_room<K: Sink>(&mut self, link: &mut K) -> Result<(), SinkFault>
+        ensures bytes { Sends self.old self.new (K.written link.old) (K.written link.new) result }
+        ensures ok { OnOk result (length self.new < reply_room) }
+        ensures err { OnErr result (self.new ≡ self.old) }
+        ensures room { length self.old < reply_room → IsOk result × (self.new ≡ self.old) × (link.new ≡ link.old) }
+        ensures full { reply_room ≤ length self.old → OnOk result (self.new ≡ []) }
+        ensures cause { IsCaused (K.sink_faults link.old) (K.sink_faults link.new) result }
+        ensures left { K.left link.new ≡ K.left link.old }
+        ensures taken { K.taken link.new ≡ K.taken link.old }
+        ensures source_faults { K.source_faults link.new ≡ K.source_faults link.old }
+    {
+        if self.text.len() < REPLY_ROOM {
+            return Ok(());
+        }
+        self.hand_on(link)
+    }
+}
+
+// Writes all of the text, in as many calls as the sink wants, and flushes it.
+fn send<K: Sink>(link: &mut K, text: &[u8]) -> Result<(), SinkFault>
+    ensures bytes { Sends text.now [] (K.written link.old) (K.written link.new) result }
+    ensures cause { IsCaused (K.sink_faults link.old) (K.sink_faults link.new) result }
+    ensures left { K.left link.new ≡ K.left link.old }
+    ensures taken { K.taken link.new ≡ K.taken link.old }
+    ensures source_faults { K.source_faults link.new ≡ K.source_faults link.old }
+{
+    let mut rest = text;
+    while !rest.is_empty() {
+        let count = link.write_some(rest)?;
+        if count == 0 {
+            return Err(SinkFault);
+        }
+        rest = rest.split_at(count).1;
+    }
+    link.flush()
+}
