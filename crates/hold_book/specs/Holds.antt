@@ -1,5 +1,6 @@
 -- Which buffer holds which block.
-use Rattle.std.specs.Prelude.{ℕ, ◌<◌, Bool, not, ◌==◌, IsTrue, refl}
+use Rattle.std.specs.Prelude.{ℕ, ◌<◌, ◌≡◌, ◌↔◌, Bool, not, ◌==◌, nat_eq, List, length, Contains, IsTrue, refl}
+use Rattle.std.specs.List.{IsDistinct}
 use Rattle.std.specs.declared.cmp.Ordering.{Ordering}
 use Rattle.std.specs.Ordering.{nat_cmp, ordering_then}
 use Rattle.std.specs.Coded.{Coded, code_by, coded×, coded_ℕ}
@@ -18,6 +19,13 @@ has_hold holds buffer block = set.contains holds (buffer, block)
 -- some buffer holds the block
 abbrev pub IsHeld : Holds → ℕ → Type 0
 IsHeld holds block = (buffer : ℕ) × IsTrue (has_hold holds buffer block)
+
+-- so many blocks are held, each counted once
+pub record CountsHeld (holds : Holds) (count : ℕ) : Type 0 where
+  pub blocks : List ℕ
+  pub differ : IsDistinct nat_eq blocks
+  pub held : (block : ℕ) → Contains blocks block ↔ IsHeld holds block
+  pub size : length blocks ≡ count
 
 -- only blocks below this number are held
 abbrev pub HoldsBelow : ℕ → Holds → Type 0

@@ -1,7 +1,7 @@
 // The holds of a device as a set of pairs, with the number of holds of each block.
 ghost use Rattle.std.specs.Prelude.{◌≡◌, ◌⊎◌, ◌↔◌, ◌≤◌, ◌<◌, ℕ, length, slice_index_or, false, IsTrue, IsOk, OnOk};
 ghost use Rattle.std.specs.FinSet as set;
-ghost use Rattle.hold_book.specs.Holds.{IsHeld, has_hold, with_pair, without_buffer};
+ghost use Rattle.hold_book.specs.Holds.{IsHeld, CountsHeld, has_hold, with_pair, without_buffer};
 
 use crate::NoMemory;
 use crate::counts::{lower_all, raise};
@@ -75,6 +75,13 @@ impl HoldBook {
         ensures { IsTrue result ↔ IsHeld self.now.holds block }
     {
         self.counts.contains_key(&block)
+    }
+
+    /// How many blocks are held.
+    pub fn held_count(&self) -> u64
+        ensures { CountsHeld self.now.holds result }
+    {
+        self.counts.len() as u64
     }
 
     /// Whether this buffer holds the block.

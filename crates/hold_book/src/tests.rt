@@ -41,6 +41,7 @@ fn blocks_are_held_until_their_buffers_are_released(rt: HostRuntime) -> Result<(
         (true, false, true)
     );
     assert_eq!(rt; (book.holds(2, 0), book.holds(2, 3)), (true, false));
+    assert_eq!(rt; book.held_count(), 2);
     let mut visit = [false; 4];
     release(&mut book, 1, &mut visit);
     assert_eq!(rt; visit, [false, false, false, true]);
