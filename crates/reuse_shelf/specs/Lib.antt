@@ -1,0 +1,11 @@
+pub mod View
+pub mod Standing
+pub mod Calls
+pub mod Changes
+pub mod Disks
+pub mod Appends
+pub mod Reads
+pub mod Memory
+pub mod Flushes
+pub mod Starting
+pub mod Low
