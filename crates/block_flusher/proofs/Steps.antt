@@ -1,15 +1,14 @@
 -- What a write of a block's gate sector, or of its body, leaves of the block.
-use Rattle.std.proofs.Common.{refl, Bool, true, false, ◌≡◌, ℕ, ◌+◌, ◌-◌, ◌≤◌, List, take, length, replicate, inl, inr, ⊎_elim, sym, ◌∙◌, ap, subst, arith}
-use Rattle.std.specs.Prelude.{◌↔◌, IsTrue, ◌≢◌, ◌⊎◌, Result, Ok, Err, OnOk}
+use Rattle.std.proofs.Common.{◌≡◌, ℕ, ◌+◌, ◌-◌, ◌≤◌, List, take, length, replicate, inl, inr, ⊎_elim, sym, ◌∙◌, ap, subst, arith}
+use Rattle.std.specs.Prelude.{◌≢◌, ◌⊎◌, Result, Ok, Err, OnOk}
 use Rattle.std.proofs.Math.Pow.{pow_mono}
 use Rattle.std.proofs.Math.Nat.{mul-le-mul_right}
-use Rattle.std.proofs.lemmas.List.{take-take, take-replicate, drop-replicate}
-use Rattle.std.proofs.lemmas.Bool.{false≢true}
+use Rattle.std.proofs.lemmas.List.{take-replicate, drop-replicate}
 use Rattle.disk_model.specs.Bytes.{range, Torn}
 use Rattle.disk_model.specs.Disk.{Images, TornFrom, Written, IsOnly}
 use Rattle.block_format.specs.declared.geometry.Geometry.{Geometry}
-use Rattle.block_format.specs.Layout.{IsGeometry, IsOpen, IsClosed, block_place, gate_sector, gate_text, open_sector, closed_sector}
-use Rattle.block_flusher.specs.Images.{IsShut, IsOpened, GateIs, OpensOverOneBody, StaysElsewhere, ChangesNoOther}
+use Rattle.block_format.specs.Layout.{IsGeometry, IsClosed, block_place, gate_sector, gate_text, open_sector, closed_sector}
+use Rattle.block_flusher.specs.Images.{IsShut, IsOpened, OpensOverOneBody, StaysElsewhere, ChangesNoOther}
 
 -- a block has from 16 KiB to 1 MiB
 pub size_bounds : (g : Geometry) → IsGeometry g → (16384 ≤ g.block_size) × (g.block_size ≤ 1048576)
@@ -66,18 +65,6 @@ module _ (g : Geometry) (block : ℕ) where
   pub alone_opened : {T E : Type 0} (r : Result T E) (bytes : List ℕ) (images : Images) → OnOk r (gate_sector g block bytes ≡ open_sector) → OnOk r (IsOnly bytes images) → OnOk r (IsOpened g block images)
   alone_opened (Ok x) bytes images gate only = λ c image. ap (take 16) (ap (gate_sector g block) (only.alone c image) ∙ gate)
   alone_opened (Err e) bytes images gate only = tt
-
--- the gate that was read is that of each image
-pub gate_read : (g : Geometry) (block place : ℕ) (is_open : Bool) (before bytes gate : List ℕ) (images : Images) → place ≡ block_place g block → (IsTrue is_open ↔ IsOpen gate) → gate ≡ range place 16 bytes
-    → bytes ≡ before → ((c : List ℕ) → images c → c ≡ before) → GateIs is_open g block images
-gate_read g block place is_open before bytes gate images starts says read same only = by is_open says
-  where
-    front : take 16 gate ≡ take 16 (gate_sector g block bytes)
-    front = ap (λ (l : List ℕ). take 16 l) (read ∙ ap (λ (p : ℕ). range p 16 bytes) starts) ∙ take-take 16 16 _ (omega arith) ∙ sym (take-take 16 4096 _ (omega arith))
-
-    by : (r : Bool) → (IsTrue r ↔ IsOpen gate) → GateIs r g block images
-    by true open_ = λ c image. subst (λ (x : List ℕ). take 16 (gate_sector g block x) ≡ gate_text) (same ∙ sym (only c image)) (sym front ∙ open_.0 refl)
-    by false open_ = λ c image is. false≢true (open_.1 (front ∙ subst (λ (x : List ℕ). take 16 (gate_sector g block x) ≡ gate_text) (only c image ∙ sym same) is))
 
 -- ---- all other bytes
 

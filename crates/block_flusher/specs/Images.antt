@@ -1,5 +1,5 @@
 -- Crate block_flusher. What the images that a crash may leave say of a block.
-use Rattle.std.specs.Prelude.{ℕ, ◌≡◌, ◌≢◌, Bool, List, take, MatchBool}
+use Rattle.std.specs.Prelude.{ℕ, ◌≡◌, ◌≢◌, List, take}
 use Rattle.rec_format.specs.Versions.{block_capacity}
 use Rattle.disk_model.specs.Bytes.{range}
 use Rattle.disk_model.specs.Disk.{Images}
@@ -13,10 +13,6 @@ IsShut g block images = (c : List ℕ) → images c → IsClosed (gate_sector g 
 -- it is open in each image
 abbrev pub IsOpened : Geometry → (block : ℕ) → Images → Type 0
 IsOpened g block images = (c : List ℕ) → images c → IsOpen (gate_sector g block c)
-
--- it is open in each image, or closed in each
-abbrev pub GateIs : (is_open : Bool) → Geometry → (block : ℕ) → Images → Type 0
-GateIs is_open g block images = MatchBool is_open (IsOpened g block images) (IsShut g block images)
 
 -- each image has these bytes as the block's body
 abbrev pub HasOneBody : Geometry → (block : ℕ) → (body : List ℕ) → Images → Type 0

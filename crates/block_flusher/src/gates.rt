@@ -1,11 +1,11 @@
 // The gate of a block.
 ghost use Rattle.std.specs.Prelude.{◌≡◌, ◌<◌, ◌≤◌, IfOk, OnOk};
-ghost use Rattle.disk_model.specs.Disk.{Within, TornFrom, TellsSame, TellsTorn, IsSettled, IsHonest, IsCall, meanwhile};
+ghost use Rattle.disk_model.specs.Disk.{TornFrom, TellsTorn, IsSettled, IsHonest, IsCall, meanwhile};
 ghost use Rattle.block_format.specs.Layout.{IsGeometry, device_end, block_place, body_bytes, gate_sector, closed_sector, open_sector};
-ghost use Rattle.block_flusher.specs.Images.{IsShut, IsOpened, GateIs, HasOneBody, IsBodyOf, OpensOverOneBody, OpensOverBodies, ChangesNoOther};
+ghost use Rattle.block_flusher.specs.Images.{IsShut, IsOpened, HasOneBody, IsBodyOf, OpensOverOneBody, OpensOverBodies, ChangesNoOther};
 
 use crate::place::{start_of_block, write_part};
-use block_format::{GATE_BYTES, Geometry, SECTOR_BYTES, is_open, write_closed, write_open};
+use block_format::{Geometry, SECTOR_BYTES, write_closed, write_open};
 use disk_model::{Disk, DiskFault};
 
 /// Closes the gate of a block, and syncs. The block has one body in every image, in the body grammar, and keeps it at each
@@ -52,26 +52,4 @@ pub fn open_gate<D: Disk>(disk: &mut D, geometry: &Geometry, block: u32) -> Resu
     let mut opened = [0; SECTOR_BYTES];
     write_open(&mut opened);
     write_part(disk, geometry, block, 0, &opened)
-}
-
-/// Syncs, and tells whether the gate of a block is open. After `Ok` it is so in every image, or closed in every one. No other image
-/// comes up.
-pub fn is_gate_open<D: Disk>(
-    disk: &mut D,
-    geometry: &Geometry,
-    block: u32,
-) -> Result<bool, DiskFault>
-    requires geometry { IsGeometry geometry.now }
-    requires block { block < geometry.now.blocks }
-    requires room { device_end geometry.now ≤ (D.view disk.old).extent }
-    ensures gate { (D.view disk.old).tells → IfOk result (λ is_open. GateIs is_open geometry.now block (D.view disk.new).may_leave) }
-    ensures bytes { TellsSame (D.view disk.old) (D.view disk.new) }
-    ensures images { IsHonest (D.view disk.old) → Within (D.view disk.old).may_leave (meanwhile (D.view disk.old) (D.view disk.new)) }
-    ensures call { IsCall (D.view disk.old) (D.view disk.new) result }
-{
-    let place = start_of_block(geometry, block);
-    disk.sync()?;
-    let mut gate = [0; GATE_BYTES];
-    disk.read_at(place, &mut gate)?;
-    Ok(is_open(&gate))
 }

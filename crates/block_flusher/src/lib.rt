@@ -1,5 +1,4 @@
 //! The three writes that a block takes: its gate is closed, its body is written, and its gate is opened. Each is one write and one sync.
-//! And a look at a gate, behind a sync.
 #![tactic(auto)]
 
 mod body;
@@ -7,7 +6,7 @@ mod gates;
 mod place;
 
 pub use body::write_body;
-pub use gates::{close_gate, is_gate_open, open_gate};
+pub use gates::{close_gate, open_gate};
 pub use place::start_of_block;
 
 #[cfg(test)]

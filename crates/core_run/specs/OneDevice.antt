@@ -55,8 +55,8 @@ views_of view shard device = view shard.shelf.disk
 
 -- ---- calls
 
--- A get is replied as its record is stored: the reply is that of an answer which is what stands at the record's place, on a disk that
--- tells its bytes, and `err damaged` comes exactly where no head of the record stands there.
+-- A get is replied as its record is stored: as it was put, where its block has a write buffer, and else as it stands at its place, on a
+-- disk that tells its bytes; `err damaged` comes then exactly where no head of the record stands there.
 abbrev pub RepliesStored : {D : Type 0} → (view : D → DiskView) → ShardView D → Command → ℕ → Reply → Type 0
 RepliesStored view old (Get digest) now r = (got : Result (Option Version) ReadRefusal) × (r ≡ answer_reply (read_answer got)) × GetsStored view old digest now got
 RepliesStored view old _ now r = Unit {0}

@@ -31,9 +31,13 @@ pub struct NodeRefusal<D> {
 
 impl<D: Disk> Model for Node<D> {
     ghost use Rattle.std.specs.Prelude.{◌≡◌, ◌≤◌, vec_len, vec_capacity};
+    ghost use Rattle.std.specs.Coded.{codes};
+    ghost use Rattle.hold_book.specs.Holds.{hold_state_code};
     ghost use Rattle.shard_core.specs.View.{ShardView};
 
     ghost Value = { ShardView D };
+
+    ghost coded = { Prim.hlevel (codes, hold_state_code) };
 
     ghost view = { λ n. n.shard };
 

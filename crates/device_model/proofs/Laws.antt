@@ -3,7 +3,7 @@ use Rattle.std.proofs.Common.{◌≡◌, ◌⊎◌, inl, inr, ⊎_elim, ℕ, ◌
 use Rattle.std.proofs.lemmas.List.{append-nil}
 use Rattle.std.proofs.lemmas.Bool.{and_parts, and_from, or_cases, or_left, or_right, not-true, not_from_false, both_ways, false≢true, ltb-true, eqb-true, eq-eqb, cond-true, cond-false}
 use Rattle.std.proofs.lemmas.List.Folds.{list_any-append}
-use Rattle.std.specs.Prelude.{Option, Some, None, map, filter, nat_lt, nat_le, ◌==◌, if◌then◌else◌}
+use Rattle.std.specs.Prelude.{Option, Some, None, map, filter, nat_lt, nat_le, ◌==◌}
 use Rattle.std.specs.List.{list_any}
 use Rattle.rec_format.specs.declared.version.Digest.{Digest}
 use Rattle.rec_format.specs.declared.version.Stamp.{Stamp}
@@ -131,24 +131,12 @@ updated_qualifies q old all b e =
 clash : (n : ℕ) → (n == 0) ≡ true → nat_lt 0 n ≡ true → ⊥
 clash n z m = omega (arith, eqb-true n 0 z, ltb-true 0 n m)
 
--- where blocks are used again, what stands in free qualifies
-reused_free : (setup : Setup) (book : Book) (b : ℕ) → setup.policy.reuses ≡ true → is_in (refreshed setup book).free b ≡ true → is_in (updated (may_be_free book) book.free (all_blocks setup)) b ≡ true
-unfolding refreshed
-reused_free setup book b whole e =
-    ap (λ (l : List ℕ). is_in l b) (sym (cond-true setup.policy.reuses (updated (may_be_free book) book.free (all_blocks setup)) (filter (λ c. not (has_buffer book c)) book.free) whole)) ∙ e
-
--- what is queued is among those that come or stay
-still_queued : (reuses : Bool) (queued : List ℕ) (b : ℕ) → is_in (if reuses then queued else []) b ≡ true → is_in queued b ≡ true
-still_queued true queued b e = e
-still_queued false queued b e = absurd (false≢true e)
-
 -- no block is both free and queued
-pub free_not_queued : (setup : Setup) (book : Book) (b : ℕ) → setup.policy.reuses ≡ true → is_in (refreshed setup book).free b ≡ true → is_in (refreshed setup book).queue b ≡ true → ⊥
+pub free_not_queued : (setup : Setup) (book : Book) (b : ℕ) → is_in (refreshed setup book).free b ≡ true → is_in (refreshed setup book).queue b ≡ true → ⊥
 unfolding refreshed
-free_not_queued setup book b whole free queued =
-    let f = updated_qualifies (may_be_free book) book.free (all_blocks setup) b (reused_free setup book b whole free) in
-    let q = updated_qualifies (may_be_queued setup book) book.queue (all_blocks setup) b
-    (still_queued setup.policy.reuses (updated (may_be_queued setup book) book.queue (all_blocks setup)) b queued) in
+free_not_queued setup book b free queued =
+    let f = updated_qualifies (may_be_free book) book.free (all_blocks setup) b free in
+    let q = updated_qualifies (may_be_queued setup book) book.queue (all_blocks setup) b queued in
     let f2 = and_parts (not (has_buffer book b) && (use_of book b == 0)) (not (is_held book b)) f in
     let f3 = and_parts (not (has_buffer book b)) (use_of book b == 0) f2.0 in
     let q2 = and_parts (not (has_buffer book b) && nat_lt 0 (use_of book b)) (nat_lt (use_of book b * 100) (setup.lwm * setup.capacity)) q in
@@ -425,11 +413,10 @@ history_miss d e item log ne = cond-false (same_digest d e) (item ∷ history_of
 -- ---- free blocks
 
 -- a block in free qualifies, whatever the list was before
-pub free_qualifies : (setup : Setup) (book : Book) (b : ℕ) → setup.policy.reuses ≡ true → is_in (refreshed setup book).free b ≡ true → may_be_free book b ≡ true
-free_qualifies setup book b whole e = updated_qualifies (may_be_free book) book.free (all_blocks setup) b (reused_free setup book b whole e)
+pub free_qualifies : (setup : Setup) (book : Book) (b : ℕ) → is_in (refreshed setup book).free b ≡ true → may_be_free book b ≡ true
+unfolding refreshed
+free_qualifies setup book b e = updated_qualifies (may_be_free book) book.free (all_blocks setup) b e
 
 pub queue_qualifies : (setup : Setup) (book : Book) (b : ℕ) → is_in (refreshed setup book).queue b ≡ true → may_be_queued setup book b ≡ true
 unfolding refreshed
-queue_qualifies setup book b e =
-    updated_qualifies (may_be_queued setup book) book.queue (all_blocks setup) b
-    (still_queued setup.policy.reuses (updated (may_be_queued setup book) book.queue (all_blocks setup)) b e)
+queue_qualifies setup book b e = updated_qualifies (may_be_queued setup book) book.queue (all_blocks setup) b e

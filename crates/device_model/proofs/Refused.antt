@@ -4,7 +4,6 @@ use Rattle.std.specs.Prelude.{Option, Some, None}
 use Rattle.rec_format.specs.declared.version.Digest.{Digest}
 use Rattle.rec_format.specs.declared.version.Version.{Version}
 use Rattle.rec_format.specs.Versions.{a_put}
-use Rattle.device_model.specs.Policy.{whole}
 use Rattle.device_model.specs.Book.{Setup, refreshed, dropped_live, placed, with_flushed, cold_book, client}
 use Rattle.device_model.specs.Device.{State, no_raid}
 use Rattle.device_model.specs.Steps.{Step, wrote, after_step, after_steps, sealed_stream, gate_begun, flushed_buffer}
@@ -12,13 +11,13 @@ use Rattle.device_model.specs.Events.{Event, Call, Answer, put_call, delete_call
 use Rattle.device_model.specs.Legal.{Allowed, Reads}
 
 abbrev setup : Setup
-setup = record { capacity = 766; blocks = 16; device = 0; devices = 1; sprigs = 16; lwm = 0; pending_limit = 16; commit = false; raid_age = 86400; policy = whole }
+setup = record { capacity = 766; blocks = 16; device = 0; devices = 1; sprigs = 16; lwm = 0; pending_limit = 16; commit = false; raid_age = 86400 }
 
 abbrev d1 : Digest
 d1 = record { 0 = 0 ∷ 1 ∷ 2 ∷ 3 ∷ 4 ∷ 5 ∷ 6 ∷ 7 ∷ 8 ∷ 9 ∷ 10 ∷ 11 ∷ 12 ∷ 13 ∷ 14 ∷ 15 ∷ 16 ∷ 17 ∷ 18 ∷ 19 ∷ [] }
 
 abbrev empty : State
-empty = record { log = []; book = cold_book setup [] [] 1; raid = no_raid }
+empty = record { log = []; book = cold_book setup [] 1; raid = no_raid }
 
 abbrev v1 : Version
 v1 = a_put (record { lut = 1000; gen_ = 1 }) 0 false (170 ∷ [])

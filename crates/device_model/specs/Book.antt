@@ -6,9 +6,8 @@ use Rattle.rec_format.specs.declared.version.Digest.{Digest}
 use Rattle.rec_format.specs.declared.entry.Entry.{Entry}
 use Rattle.rec_format.specs.Places.{same_digest}
 use Rattle.device_model.specs.Histories.{Pending}
-use Rattle.device_model.specs.Policy.{Policy, free_after, queue_after, unused}
 
--- what stays the same through a run: the device's shape and place, the settings, and how blocks are used
+-- what stays the same through a run: the device's shape and place, and the settings
 pub record Setup : Type 0 where
   pub capacity : ℕ
   pub blocks : ℕ
@@ -19,7 +18,6 @@ pub record Setup : Type 0 where
   pub pending_limit : ℕ
   pub commit : Bool
   pub raid_age : ℕ
-  pub policy : Policy
 
 -- puts and tombstones go to the client stream, moved records to the other
 pub data Stream : Type 0 where
@@ -107,8 +105,8 @@ updated qualifies old all = filter qualifies old ++ filter (λ b. qualifies b &&
 -- free and queue after a change of the rest
 unfoldable pub refreshed : Setup → Book → Book
 refreshed setup book = record book {
-  free = free_after setup.policy (updated (may_be_free book) book.free (all_blocks setup)) (has_buffer book) book.free;
-  queue = queue_after setup.policy (updated (may_be_queued setup book) book.queue (all_blocks setup));
+  free = updated (may_be_free book) book.free (all_blocks setup);
+  queue = updated (may_be_queued setup book) book.queue (all_blocks setup);
 }
 
 -- ---- live copies
@@ -235,13 +233,13 @@ abbrev pub holds_dead : Book → Option Buffer → Bool
 holds_dead book None = false
 holds_dead book (Some buffer) = list_any (λ h. h.0 == buffer.number && (use_of book h.1 == 0)) book.holds
 
--- the book after a start: these blocks were open, these copies are live, and nothing else is known
-unfoldable pub cold_book : Setup → (opened : List ℕ) → List Live → ℕ → Book
-cold_book setup opened live next_number = refreshed setup (record {
+-- the book after a start: these copies are live, each block in which none is live is free, and nothing else is known
+unfoldable pub cold_book : Setup → List Live → ℕ → Book
+cold_book setup live next_number = refreshed setup (record {
   live = live;
   buffers = [];
   holds = [];
-  free = unused setup.policy opened (all_blocks setup);
+  free = [];
   queue = [];
   flushed_numbers = [];
   next_number = next_number;

@@ -7,7 +7,6 @@ use Rattle.rec_format.specs.declared.version.Stamp.{Stamp}
 use Rattle.rec_format.specs.declared.version.Version.{Version}
 use Rattle.rec_format.specs.Places.{same_digest}
 use Rattle.rec_format.specs.Versions.{units_for, version_units, void_time, is_tombstone, is_expired_put, a_put, a_tombstone, top_number}
-use Rattle.device_model.specs.Policy.{reserve, seals_low}
 use Rattle.device_model.specs.Book.{Setup, Book, Buffer, Live, Stream, client, defrag, Phase, filling, sealed, opening, is_filling, filling_buffer, has_room, live_of, placing_number, holds_dead}
 use Rattle.device_model.specs.Device.{State, Turn, mark_turn, scan_turn, apply_turn, drop_turn, finished, entry, entry_is_covered, entry_passes, seen, next_stamp_of, eligible_in, in_part}
 use Rattle.device_model.specs.Steps.{Step, wrote, moved, removed, rid_of, uncovered, sealed_stream, gate_begun, flushed_buffer, closing_failed, raid_begun, raid_given_up, marked_part, scanned_block, compared_part, done_part, after_step, after_steps}
@@ -26,7 +25,7 @@ seal_all book =
 -- where at most 6 blocks are free, seals each stream whose buffer holds a block without live units
 abbrev pub seal_low : Setup → Book → List Step
 seal_low setup book =
-    let low = seals_low setup.policy (nat_le (length book.free) 6) in
+    let low = nat_le (length book.free) 6 in
     seal_if (low && holds_dead book (filling_buffer client book.buffers)) client
     ++ seal_if (low && holds_dead book (filling_buffer defrag book.buffers)) defrag
 
@@ -88,7 +87,7 @@ abbrev pub no_new_buffer : Setup → (kept : ℕ) → Book → Option Cause
 no_new_buffer setup kept book =
     if nat_lt top_number book.next_number then Some spent
     else if nat_le setup.pending_limit (length book.buffers) then Some (overload (length book.buffers))
-    else if nat_le (length book.free) (reserve setup.policy kept) then Some (no_space (length book.free))
+    else if nat_le (length book.free) kept then Some (no_space (length book.free))
     else None
 
 abbrev pub no_place : Setup → Stream → (kept units : ℕ) → Book → Option Cause
@@ -116,7 +115,7 @@ WriteEnds setup s event digest v ok =
     let rest = commit_flush setup (placing_number setup client units s.book) (after_steps setup first s) in
     ((event.answer ≡ ok) × (event.steps ≡ first ++ rest))
     ⊎ ((event.answer ≡ refused disk_fault) × Rose event.faults_before event.faults_after
-    × (((setup.policy.reuses ≡ true) × (has_room setup client units s.book ≡ false) × (event.steps ≡ closing_failed ∷ []))
+    × (((has_room setup client units s.book ≡ false) × (event.steps ≡ closing_failed ∷ []))
     ⊎ ((some : List Step) × (event.steps ≡ first ++ some) × StopsIn rest some)))
 
 -- no step, and this answer

@@ -1,4 +1,3 @@
-pub mod Policy
 pub mod Histories
 pub mod Book
 pub mod Device

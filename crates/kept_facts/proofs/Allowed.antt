@@ -140,7 +140,7 @@ write_ends setup s possible event digest v ok may ends = by ends
 
     by : Legal.WriteEnds setup s event digest v ok → MayTakeAll setup s possible 0 event.steps
     by (inl done) = written rest rest_free done.1
-    by (inr failed) = ⊎_elim (λ closing. all_free setup s possible 0 event.steps (subst AreFree (sym closing.2) (refl, tt)))
+    by (inr failed) = ⊎_elim (λ closing. all_free setup s possible 0 event.steps (subst AreFree (sym closing.1) (refl, tt)))
         (λ stops. written stops.0 (stopped_free rest stops.0 stops.2 rest_free) stops.1) failed.2
 
 none_steps : (setup : Setup) (s : State) (possible : ℕ → Possible) (event : Event) → event.steps ≡ [] → MayTakeAll setup s possible 0 event.steps

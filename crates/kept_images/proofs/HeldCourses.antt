@@ -1,6 +1,6 @@
 -- Starts, scans, events and runs, where what stands behind an unsure gate counts as possible.
 use Rattle.std.proofs.Common.{◌≡◌, ◌≢◌, inl, inr, ℕ, ◌<◌, ◌≤◌, Bool, List, [], length, refl, sym, ◌∙◌, subst, arith}
-use Rattle.std.specs.Prelude.{Contains, Some, true, false}
+use Rattle.std.specs.Prelude.{Contains, Some, false}
 use Rattle.disk_model.specs.Disk.{Images}
 use Rattle.disk_model.specs.Runs.{OneOf}
 use Rattle.rec_format.specs.declared.version.Digest.{Digest}
@@ -43,10 +43,10 @@ use Rattle.kept_images.proofs.Starting.{start_kept, restart_kept}
 seen_sure : (g : Geometry) (seen : List ℕ) (gates : ℕ → Gate) → ((block : ℕ) → block < g.blocks → IsSeen g seen block (gates block)) → AreSure g gates
 seen_sure g seen gates each k lt unsure = subst (IsSeen g seen k) unsure (each k lt)
 
-pub start_held : (setup : Setup) (g : Geometry) → setup.policy.reuses ≡ true → IsShapeOf setup g → IsGeometry g → (image : List ℕ) (bodies : List Body) (gates : ℕ → Gate) (images : Images) → ((c : List ℕ) → images c → c ≡ image)
+pub start_held : (setup : Setup) (g : Geometry) → IsShapeOf setup g → IsGeometry g → (image : List ℕ) (bodies : List Body) (gates : ℕ → Gate) (images : Images) → ((c : List ℕ) → images c → c ≡ image)
     → ((block : ℕ) → block < g.blocks → IsSeen g image block (gates block)) → IsSound setup image bodies → IsKeptLoosened setup g (start_state setup bodies) (records_by []) gates images
-start_held setup g reuses shape is_g image bodies gates images alone each sound =
-    held_sure setup g (start_state setup bodies) (records_by []) gates images (seen_sure g image gates each) (start_kept setup g reuses shape is_g image bodies images alone sound)
+start_held setup g shape is_g image bodies gates images alone each sound =
+    held_sure setup g (start_state setup bodies) (records_by []) gates images (seen_sure g image gates each) (start_kept setup g shape is_g image bodies images alone sound)
 
 pub restart_held : (setup : Setup) (g : Geometry) (s new : State) (records : Records) (was gates : ℕ → Gate) (before now : Images) (image : List ℕ) → IsKeptLoosened setup g s records was before → before image → Restarts setup s image new
     → ((c : List ℕ) → now c → c ≡ image) → ((block : ℕ) → block < g.blocks → IsSeen g image block (gates block)) → IsKeptLoosened setup g new (records_by []) gates now

@@ -63,11 +63,11 @@ unfolding start_state cold_book refreshed
 no_buffers setup bodies = refl
 
 -- Each gate is as it is seen, so none is unsure.
-pub start_holds : (setup : Setup) (g : Geometry) → setup.policy.reuses ≡ true → IsShapeOf setup g → IsGeometry g → (image : List ℕ) (bodies : List Body) (gates : ℕ → Gate) (images : Images) → ((c : List ℕ) → images c → c ≡ image)
+pub start_holds : (setup : Setup) (g : Geometry) → IsShapeOf setup g → IsGeometry g → (image : List ℕ) (bodies : List Body) (gates : ℕ → Gate) (images : Images) → ((c : List ℕ) → images c → c ≡ image)
     → ((block : ℕ) → block < g.blocks → IsSeen g image block (gates block)) → IsSound setup image bodies → HoldsGates setup g (start_state setup bodies) (records_by []) gates images
-start_holds setup g reuses shape is_g image bodies gates images alone each sound = record {
+start_holds setup g shape is_g image bodies gates images alone each sound = record {
   knows = knows_seen g (start_state setup bodies).book image images gates alone (no_buffers setup bodies) each;
-  held = start_held setup g reuses shape is_g image bodies gates images alone each sound;
+  held = start_held setup g shape is_g image bodies gates images alone each sound;
 }
 
 pub restart_holds : (setup : Setup) (g : Geometry) (s new : State) (records : Records) (was gates : ℕ → Gate) (before now : Images) (image : List ℕ) → HoldsGates setup g s records was before → before image → (r : Restarts setup s image new)

@@ -1,15 +1,14 @@
 -- After a start from a sound image, and after a restart within a run, the image that was read is a set that is kept.
-use Rattle.std.proofs.Common.{◌≡◌, ◌⊎◌, inl, inr, ℕ, ◌+◌, ◌<◌, Bool, true, false, not, cond, List, [], ◌∷◌, map, refl, sym, ◌∙◌, ap, subst, arith}
+use Rattle.std.proofs.Common.{◌≡◌, ◌⊎◌, inl, inr, ℕ, ◌+◌, ◌<◌, Bool, true, false, cond, List, [], ◌∷◌, map, refl, sym, ◌∙◌, ap, subst, arith}
 use Rattle.std.proofs.lemmas.Bool.{false≢true}
-use Rattle.std.specs.Prelude.{Contains, ◌==◌, filter}
-use Rattle.std.specs.List.{AllByRecursion, list_any}
+use Rattle.std.specs.Prelude.{Contains}
+use Rattle.std.specs.List.{AllByRecursion}
 use Rattle.rec_format.specs.declared.version.Digest.{Digest}
 use Rattle.rec_format.specs.declared.version.Version.{Version}
 use Rattle.rec_format.specs.Versions.{version_units}
 use Rattle.rec_format.specs.Places.{same_digest}
-use Rattle.device_model.specs.Policy.{unused}
 use Rattle.device_model.specs.Histories.{Item, write, is_pending}
-use Rattle.device_model.specs.Book.{Setup, Book, cold_book, refreshed, all_blocks, pending_of}
+use Rattle.device_model.specs.Book.{Setup, Book, cold_book, refreshed, pending_of}
 use Rattle.device_model.specs.Device.{State, history, history_of}
 use Rattle.disk_model.specs.Disk.{Images}
 use Rattle.block_format.specs.declared.geometry.Geometry.{Geometry}
@@ -117,11 +116,10 @@ whole_at_start : (setup : Setup) (bodies : List Body) (t : State) → t.book ≡
 unfolding start_state cold_book refreshed
 whole_at_start setup bodies t same number is digest = absurd (false≢true (ap (λ (b : Book). is_pending (pending_of b) number) (sym same) ∙ is))
 
-module _ (setup : Setup) (g : Geometry) (reuses : setup.policy.reuses ≡ true) (shape : IsShapeOf setup g) (is_g : IsGeometry g) where
+module _ (setup : Setup) (g : Geometry) (shape : IsShapeOf setup g) (is_g : IsGeometry g) where
   pub start_in_order : (image : List ℕ) (bodies : List Body) → IsSound setup image bodies → IsInOrder setup (start_state setup bodies) (records_by [])
   start_in_order image bodies sound = record {
-    reuses = reuses;
-    booked = start_booked setup bodies reuses;
+    booked = start_booked setup bodies;
     numbered = start_numbered setup image bodies sound;
     within = start_within setup bodies (bodies_within setup g image bodies shape (read_in setup g image bodies shape is_g sound));
     written = none_written (start_state setup bodies);
@@ -148,8 +146,7 @@ restart_kept setup g s new records before now image kept was r alone =
 
     order : IsInOrder setup new (records_by [])
     order = record {
-      reuses = kept.order.reuses;
-      booked = restart_booked setup s image new kept.order.reuses r;
+      booked = restart_booked setup s image new r;
       numbered = record { counted = subst HasRisingNumbers (sym r.book) (start_numbered setup image r.bodies r.sound).counted; below = restart_numbered setup s new image r };
       within = subst (IsWithin setup) (sym r.book) (start_within setup r.bodies (bodies_within setup g image r.bodies kept.shape readable));
       written = none_written new;
@@ -187,18 +184,17 @@ live_within : (limit : ℕ) (found : List Copy) → AllByRecursion (λ c. c.bloc
 live_within limit [] all = tt
 live_within limit (c ∷ found) all = (all.0, live_within limit found all.1)
 
-pub entries_in_order : (setup : Setup) (opened : List ℕ) (found : List Copy) (next_number : ℕ) → setup.policy.reuses ≡ true → AllByRecursion (λ c. c.block < setup.blocks) found → IsInOrder setup (entries_state setup opened found next_number) (records_by [])
+pub entries_in_order : (setup : Setup) (found : List Copy) (next_number : ℕ) → AllByRecursion (λ c. c.block < setup.blocks) found → IsInOrder setup (entries_state setup found next_number) (records_by [])
 unfolding entries_state cold_book refreshed
-entries_in_order setup opened found next_number reuses within = record {
-  reuses = reuses;
-  booked = refreshed_booked setup bare reuses tt (units_taken found);
+entries_in_order setup found next_number within = record {
+  booked = refreshed_booked setup bare tt (units_taken found);
   numbered = record { counted = record { rising = tt; below = tt }; below = λ digest. numberless next_number digest found };
   within = refreshed_within setup bare (record {
-    free = subst (λ (b : Bool). AllByRecursion (λ k. k < setup.blocks) (cond b [] (filter (λ b. not (list_any (λ o. o == b) opened)) (all_blocks setup)))) (sym reuses) tt;
+    free = tt;
     places = tt;
     live = live_within setup.blocks found within;
   });
-  written = none_written (entries_state setup opened found next_number);
+  written = none_written (entries_state setup found next_number);
   whole = λ number is digest. absurd (false≢true is);
   ahead = λ number le. refl;
 }
@@ -208,7 +204,7 @@ entries_in_order setup opened found next_number reuses within = record {
       live = map live_copy found;
       buffers = [];
       holds = [];
-      free = unused setup.policy opened (all_blocks setup);
+      free = [];
       queue = [];
       flushed_numbers = [];
       next_number = next_number;

@@ -70,8 +70,7 @@ WaitedOrCame setup g s after old new images = (number block : ℕ) (digest : Dig
 pub step_in_order : (setup : Setup) (s : State) (old new : Records) (step : Step) → IsInOrder setup s old → HasRoomFor setup s step → AddsPlaced setup s step old new → RecordsWhole (after_step setup step s) new
     → ((number : ℕ) → (after_step setup step s).book.next_number ≤ number → new number ≡ []) → IsInOrder setup (after_step setup step s) new
 step_in_order setup s old new step order room adds whole ahead = record {
-  reuses = order.reuses;
-  booked = step_booked setup s order.reuses order.booked step room;
+  booked = step_booked setup s order.booked step room;
   numbered = step_numbered setup s order.numbered step;
   within = step_within setup s order.within step room;
   written = step_written setup s old new order.written step adds;
@@ -97,7 +96,7 @@ step_kept setup g s old new images step kept room may keeps order backed comes =
         bodies = u.bodies;
         readable = u.readable;
         begun = all_map (λ b. HaveBegun s b.records) (λ b. HaveBegun after b.records) u.bodies (λ b all. more b.records all) u.begun;
-        trailed = step_trailed setup s kept.order.reuses kept.order.booked new u.bodies (records_kept s old new u.bodies kept.order.booked keeps u.trailed) step room (backed c image u.bodies u.readable);
+        trailed = step_trailed setup s kept.order.booked new u.bodies (records_kept s old new u.bodies kept.order.booked keeps u.trailed) step room (backed c image u.bodies u.readable);
       };
 }
   where
@@ -126,7 +125,6 @@ whole_kept s old new keeps whole n is digest =
 -- Records may be forgotten where no pending buffer has them.
 pub forgotten_in_order : (setup : Setup) (s : State) (old new : Records) → KeepsRecords s.book old new → AddsNone old new → IsInOrder setup s old → IsInOrder setup s new
 forgotten_in_order setup s old new keeps none order = record {
-  reuses = order.reuses;
   booked = order.booked;
   numbered = order.numbered;
   within = order.within;

@@ -1,5 +1,5 @@
 -- Crate kept_images. What a device and the set of its images keep: the images are those that a crash may leave now.
-use Rattle.std.specs.Prelude.{ℕ, ◌<◌, ◌≤◌, true, List, [], ◌≡◌, ◌⊎◌, Contains}
+use Rattle.std.specs.Prelude.{ℕ, ◌<◌, ◌≤◌, List, [], ◌≡◌, ◌⊎◌, Contains}
 use Rattle.std.specs.List.{AllByRecursion}
 use Rattle.rec_format.specs.declared.version.Digest.{Digest}
 use Rattle.rec_format.specs.declared.version.Version.{Version}
@@ -55,7 +55,6 @@ possible_in g book records images block digest v = ((number : ℕ) × WaitsIn bo
 
 -- What the book, the histories and the records of buffers keep, over every disk. Buffers that are to come have no records.
 pub record IsInOrder (setup : Setup) (s : State) (records : Records) : Type 0 where
-  pub reuses : setup.policy.reuses ≡ true
   pub booked : IsBooked s.book
   pub numbered : HasNumbers s
   pub within : IsWithin setup s.book

@@ -1,4 +1,4 @@
--- What a book that uses blocks again keeps of its blocks: what is live or held isn't free, and after each change what is free may be so.
+-- What a book keeps of its blocks: what is live or held isn't free, and after each change what is free may be so.
 use Rattle.std.proofs.Common.{◌≡◌, ◌≢◌, ⊎_elim, ℕ, ◌≤◌, Bool, true, false, not, cond, ◌&&◌, List, [], ◌∷◌, Option, Some, None, refl, sym, ◌∙◌, ap, subst, arith}
 use Rattle.std.proofs.lemmas.Bool.{and_parts, both_ways, not-true, eq-eqb, eqb-true, cond_both, cond-false}
 use Rattle.std.proofs.lemmas.List.Sums.{sum_by-cons}
@@ -89,11 +89,11 @@ none_live digest (m ∷ live) = by (same_digest digest m.digest) refl (none_live
 
 -- ---- after a change
 
-pub refreshed_booked : (setup : Setup) (book : Book) → setup.policy.reuses ≡ true → HaveOwnBlocks (places_of book) → AllByRecursion (λ l. 1 ≤ l.units) book.live → IsBooked (refreshed setup book)
+pub refreshed_booked : (setup : Setup) (book : Book) → HaveOwnBlocks (places_of book) → AllByRecursion (λ l. 1 ≤ l.units) book.live → IsBooked (refreshed setup book)
 unfolding refreshed
-refreshed_booked setup book reuses apart units = record {
+refreshed_booked setup book apart units = record {
   free = all_from (λ b. may_be_free book b ≡ true) (refreshed setup book).free
-      (λ b there. free_qualifies setup book b reuses (any_there (λ k. k == b) (refreshed setup book).free b there (eq-eqb b b refl)));
+      (λ b there. free_qualifies setup book b (any_there (λ k. k == b) (refreshed setup book).free b there (eq-eqb b b refl)));
   apart = apart;
   units = units;
 }

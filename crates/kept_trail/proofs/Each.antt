@@ -1,5 +1,5 @@
 -- Trails are kept by each step.
-use Rattle.std.proofs.Common.{◌≡◌, List, Option, Some, None, refl, true}
+use Rattle.std.proofs.Common.{◌≡◌, List, Option, Some, None, refl}
 use Rattle.std.specs.Prelude.{MatchOption, Contains}
 use Rattle.rec_format.specs.declared.version.Digest.{Digest}
 use Rattle.rec_format.specs.declared.version.Version.{Version}
@@ -14,7 +14,7 @@ use Rattle.kept_trail.proofs.Moving.{moved_booked, moved_trailed}
 use Rattle.kept_trail.proofs.Flushing.{flushed_booked, flushed_trailed}
 use Rattle.kept_trail.proofs.Others.{removed_booked, rid_booked, sealed_booked, begun_booked, passed_booked, removed_trailed, rid_trailed, uncovered_trailed, sealed_trailed, begun_trailed, passed_trailed}
 
-module _ (setup : Setup) (s : State) (reuses : setup.policy.reuses ≡ true) (booked : IsBooked s.book) where
+module _ (setup : Setup) (s : State) (booked : IsBooked s.book) where
   -- a move of what isn't live does nothing
   unmoved : (digest : Digest) → live_of digest s.book.live ≡ None → after_step setup (moved digest) s ≡ s
   unfolding after_step
@@ -22,18 +22,18 @@ module _ (setup : Setup) (s : State) (reuses : setup.policy.reuses ≡ true) (bo
 
   move_booked : (digest : Digest) (live : Option Live) → live_of digest s.book.live ≡ live → MatchOption live (Unit {0}) (λ copy. CanPlace setup defrag copy.units s.book) → IsBooked (after_step setup (moved digest) s).book
   move_booked digest None is can = rw (unmoved digest is) booked
-  move_booked digest (Some copy) is can = moved_booked setup s reuses booked digest copy is can
+  move_booked digest (Some copy) is can = moved_booked setup s booked digest copy is can
 
   pub step_booked : (step : Step) → HasRoomFor setup s step → IsBooked (after_step setup step s).book
   unfolding after_step
-  step_booked (wrote digest v) can = wrote_booked setup s reuses booked digest v can
+  step_booked (wrote digest v) can = wrote_booked setup s booked digest v can
   step_booked (moved digest) can = move_booked digest (live_of digest s.book.live) refl can
-  step_booked (removed digest) can = removed_booked setup s digest booked reuses
-  step_booked (rid_of digest) can = rid_booked setup s digest booked reuses
+  step_booked (removed digest) can = removed_booked setup s digest booked
+  step_booked (rid_of digest) can = rid_booked setup s digest booked
   step_booked (uncovered digest) can = booked
   step_booked (sealed_stream stream) can = sealed_booked setup s booked stream
   step_booked (gate_begun number) can = begun_booked setup s booked number
-  step_booked (flushed_buffer number) can = flushed_booked setup number s.book booked reuses
+  step_booked (flushed_buffer number) can = flushed_booked setup number s.book booked
   step_booked closing_failed can = passed_booked setup s booked
   step_booked raid_begun can = booked
   step_booked raid_given_up can = booked
@@ -47,12 +47,12 @@ module _ (setup : Setup) (s : State) (reuses : setup.policy.reuses ≡ true) (bo
         → MatchOption live (Unit {0}) (λ copy. (v : Version) → entry s digest ≡ Some v → Contains (records (placing_number setup defrag copy.units s.book)) (digest, v))
         → IsTrailed (after_step setup (moved digest) s) records bodies
     move_trailed digest None is can has = rw (unmoved digest is) trailed
-    move_trailed digest (Some copy) is can has = moved_trailed setup s reuses booked digest copy is can records bodies has trailed
+    move_trailed digest (Some copy) is can has = moved_trailed setup s booked digest copy is can records bodies has trailed
 
     -- After a step that has room and is backed trails lead on as before.
     pub step_trailed : (step : Step) → HasRoomFor setup s step → IsBacked setup s records bodies step → IsTrailed (after_step setup step s) records bodies
     unfolding after_step
-    step_trailed (wrote digest v) can has = wrote_trailed setup s reuses booked records bodies digest v can has trailed
+    step_trailed (wrote digest v) can has = wrote_trailed setup s booked records bodies digest v can has trailed
     step_trailed (moved digest) can has = move_trailed digest (live_of digest s.book.live) refl can has
     step_trailed (removed digest) can has = removed_trailed setup s digest booked records bodies trailed
     step_trailed (rid_of digest) can has = rid_trailed setup s digest booked records bodies trailed

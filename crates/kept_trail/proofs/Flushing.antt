@@ -93,14 +93,14 @@ module _ (setup : Setup) (number : ℕ) (book : Book) (booked : IsBooked book) w
       let one = one_place (places_of book) p (number, block) booked.apart found.0 was (eqb-true p.1 block same) in
       both_ways (p.0 == number) (not-true (p.0 == number) found.1) (eq-eqb p.0 number (ap (λ (q : ℕ × ℕ). q.0) one))))
 
-  pub flushed_booked : setup.policy.reuses ≡ true → IsBooked new
+  pub flushed_booked : IsBooked new
   unfolding with_flushed
-  flushed_booked reuses =
+  flushed_booked =
       refreshed_booked setup (record book {
         buffers = filter (λ b. not (b.number == number)) book.buffers;
         holds = filter (λ h. not (h.0 == number)) book.holds;
         flushed_numbers = book.flushed_numbers ++ number ∷ [];
-      }) reuses (subst HaveOwnBlocks (sym (map_kept place is_other book.buffers)) (apart_fewer is_other (places_of book) booked.apart)) booked.units
+      }) (subst HaveOwnBlocks (sym (map_kept place is_other book.buffers)) (apart_fewer is_other (places_of book) booked.apart)) booked.units
 
   module _ (records : Records) (bodies : List Body) (has : HasBody book records number bodies) (digest : Digest) where
     -- what waits in the flushed buffer is stored, and what waits in another waits on

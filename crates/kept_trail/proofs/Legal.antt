@@ -7,7 +7,6 @@ use Rattle.rec_format.specs.declared.version.Digest.{Digest}
 use Rattle.rec_format.specs.declared.version.Stamp.{Stamp}
 use Rattle.rec_format.specs.declared.version.Version.{Version}
 use Rattle.rec_format.specs.Versions.{version_units, is_tombstone, is_expired_put, units_for, a_tombstone, top_number}
-use Rattle.device_model.specs.Policy.{seals_low}
 use Rattle.device_model.specs.Book.{Setup, Buffer, Book, Live, Stream, client, defrag, Phase, filling, sealed, opening, is_filling, has_room, placing_number, live_of, filling_buffer, holds_dead}
 use Rattle.device_model.specs.Device.{State, Turn, mark_turn, scan_turn, apply_turn, drop_turn, finished, entry, entry_passes, entry_is_covered, seen, next_stamp_of}
 use Rattle.device_model.specs.Steps.{Step, wrote, moved, removed, rid_of, uncovered, sealed_stream, gate_begun, flushed_buffer, closing_failed, raid_begun, raid_given_up, marked_part, scanned_block, compared_part, done_part, after_step, after_steps}
@@ -75,7 +74,7 @@ first_none (b ∷ buffers) = cond_both (is_filling b.phase) (first_sealed buffer
 
 seal_low_none : (setup : Setup) (book : Book) → PlaceNone (seal_low setup book)
 seal_low_none setup book =
-    let low = seals_low setup.policy (nat_le (length book.free) 6) in
+    let low = nat_le (length book.free) 6 in
     let one = low && holds_dead book (filling_buffer client book.buffers) in
     let other = low && holds_dead book (filling_buffer defrag book.buffers) in
     both_none (seal_if one client) (seal_if other defrag) (seal_none one client) (seal_none other defrag)
@@ -144,7 +143,7 @@ module _ (setup : Setup) (s : State) (event : Event) where
 
       by : WriteEnds setup s event digest v ok → IsRoomy
       by (inl whole) = goes_on rest rest_none whole.1
-      by (inr failed) = ⊎_elim (λ closing. none_steps (closing_failed ∷ []) closing.2 (refl, tt)) (λ part. goes_on part.0 (stops_none rest part.0 rest_none part.2) part.1) failed.2
+      by (inr failed) = ⊎_elim (λ closing. none_steps (closing_failed ∷ []) closing.1 (refl, tt)) (λ part. goes_on part.0 (stops_none rest part.0 rest_none part.2) part.1) failed.2
 
   entombs_room : (digest : Digest) (now : ℕ) (ok : Stamp → Answer) → Entombs setup s event digest now ok → IsRoomy
   entombs_room digest now ok (inl none) = only_room (refused no_memory) none
@@ -267,16 +266,16 @@ module _ (setup : Setup) (s : State) (event : Event) where
 
 -- ---- the book through steps
 
-pub steps_booked : (setup : Setup) (steps : List Step) (s : State) → setup.policy.reuses ≡ true → HasRoomThrough setup steps s → IsBooked s.book → IsBooked (after_steps setup steps s).book
-steps_booked setup [] s reuses room booked = booked
-steps_booked setup (step ∷ steps) s reuses room booked = steps_booked setup steps (after_step setup step s) reuses room.1 (step_booked setup s reuses booked step room.0)
+pub steps_booked : (setup : Setup) (steps : List Step) (s : State) → HasRoomThrough setup steps s → IsBooked s.book → IsBooked (after_steps setup steps s).book
+steps_booked setup [] s room booked = booked
+steps_booked setup (step ∷ steps) s room booked = steps_booked setup steps (after_step setup step s) room.1 (step_booked setup s booked step room.0)
 
 -- After a legal event the book is one as before.
-pub event_booked : (setup : Setup) (told : Bool) (s : State) (faults : ℕ) (event : Event) → setup.policy.reuses ≡ true → Follows setup told s faults event → IsBooked s.book → IsBooked (after_event setup event s).book
-event_booked setup told s faults event reuses follows booked = steps_booked setup event.steps s reuses (legal_room setup s event told event.call follows.allowed) booked
+pub event_booked : (setup : Setup) (told : Bool) (s : State) (faults : ℕ) (event : Event) → Follows setup told s faults event → IsBooked s.book → IsBooked (after_event setup event s).book
+event_booked setup told s faults event follows booked = steps_booked setup event.steps s (legal_room setup s event told event.call follows.allowed) booked
 
 -- and after a legal run
-pub run_booked : (setup : Setup) (told : Bool) (events : List Event) (s : State) (faults : ℕ) → setup.policy.reuses ≡ true → IsLegal setup told s faults events → IsBooked s.book → IsBooked (after_events setup events s).book
-run_booked setup told [] s faults reuses legal booked = booked
-run_booked setup told (event ∷ events) s faults reuses legal booked =
-    run_booked setup told events (after_event setup event s) event.faults_after reuses legal.1 (event_booked setup told s faults event reuses legal.0 booked)
+pub run_booked : (setup : Setup) (told : Bool) (events : List Event) (s : State) (faults : ℕ) → IsLegal setup told s faults events → IsBooked s.book → IsBooked (after_events setup events s).book
+run_booked setup told [] s faults legal booked = booked
+run_booked setup told (event ∷ events) s faults legal booked =
+    run_booked setup told events (after_event setup event s) event.faults_after legal.1 (event_booked setup told s faults event legal.0 booked)

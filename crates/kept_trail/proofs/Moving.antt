@@ -35,7 +35,7 @@ other_history digest e number (x ∷ log) other = by (same_digest digest x.0 && 
         ∙ sym (cond-false (same_digest e x.0) (x.1 ∷ history_of e log) (history_of e log) apart)
     by false is rest = ap (λ (l : List Item). cond (same_digest e x.0) (x.1 ∷ l) l) rest
 
-module _ (setup : Setup) (s : State) (reuses : setup.policy.reuses ≡ true) (booked : IsBooked s.book) (digest : Digest) (copy : Live) (live : live_of digest s.book.live ≡ Some copy) (can : CanPlace setup defrag copy.units s.book) where
+module _ (setup : Setup) (s : State) (booked : IsBooked s.book) (digest : Digest) (copy : Live) (live : live_of digest s.book.live ≡ Some copy) (can : CanPlace setup defrag copy.units s.book) where
   abbrev number : ℕ
   number = placing_number setup defrag copy.units s.book
 
@@ -43,7 +43,7 @@ module _ (setup : Setup) (s : State) (reuses : setup.policy.reuses ≡ true) (bo
   new = placed setup defrag digest copy.units s.book
 
   p : PlacesCopy digest number s.book new
-  p = placed_is setup defrag digest copy.units s.book reuses (all_at (λ l. 1 ≤ l.units) s.book.live copy booked.units (live_there digest s.book.live copy live)) booked can
+  p = placed_is setup defrag digest copy.units s.book (all_at (λ l. 1 ≤ l.units) s.book.live copy booked.units (live_there digest s.book.live copy live)) booked can
 
   moved_is : after_step setup (moved digest) s ≡ moved_state setup digest (Some copy) s
   unfolding after_step

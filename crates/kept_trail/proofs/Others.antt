@@ -55,17 +55,17 @@ module _ (old new : Book) (places : places_of new ≡ places_of old) (holds : ne
 -- ---- removals
 
 module _ (setup : Setup) (s : State) (digest : Digest) (booked : IsBooked s.book) where
-  gone_booked : setup.policy.reuses ≡ true → IsBooked (dropped_live setup digest s.book)
+  gone_booked : IsBooked (dropped_live setup digest s.book)
   unfolding dropped_live
-  gone_booked reuses = refreshed_booked setup (record s.book { live = without_live digest s.book.live }) reuses booked.apart (fewer_live (λ l. not (same_digest digest l.digest)) s.book.live booked.units)
+  gone_booked = refreshed_booked setup (record s.book { live = without_live digest s.book.live }) booked.apart (fewer_live (λ l. not (same_digest digest l.digest)) s.book.live booked.units)
 
-  pub removed_booked : setup.policy.reuses ≡ true → IsBooked (after_step setup (removed digest) s).book
+  pub removed_booked : IsBooked (after_step setup (removed digest) s).book
   unfolding after_step
-  removed_booked reuses = gone_booked reuses
+  removed_booked = gone_booked
 
-  pub rid_booked : setup.policy.reuses ≡ true → IsBooked (after_step setup (rid_of digest) s).book
+  pub rid_booked : IsBooked (after_step setup (rid_of digest) s).book
   unfolding after_step
-  rid_booked reuses = gone_booked reuses
+  rid_booked = gone_booked
 
   module _ (records : Records) (bodies : List Body) (trailed : IsTrailed s records bodies) where
     gone_trailed : (item : Item) → ((items : List Item) → top_of (item ∷ items) ≡ None) → IsTrailed (with_item digest item (dropped_live setup digest s.book) s) records bodies

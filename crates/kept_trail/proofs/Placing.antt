@@ -138,7 +138,7 @@ pub record PlacesCopy (digest : Digest) (number : ℕ) (book new : Book) : Type 
   pub unbuffered : (block : ℕ) → has_buffer book block ≡ false → NotFree book block → has_buffer new block ≡ false
   pub booked : IsBooked new
 
-module _ (setup : Setup) (stream : Stream) (digest : Digest) (units : ℕ) (book : Book) (reuses : setup.policy.reuses ≡ true) (some : 1 ≤ units) (booked : IsBooked book) (can : CanPlace setup stream units book) where
+module _ (setup : Setup) (stream : Stream) (digest : Digest) (units : ℕ) (book : Book) (some : 1 ≤ units) (booked : IsBooked book) (can : CanPlace setup stream units book) where
   abbrev ready : Book
   ready = with_room setup stream units book
 
@@ -169,7 +169,7 @@ module _ (setup : Setup) (stream : Stream) (digest : Digest) (units : ℕ) (book
           live = copy ∷ without_live digest ready.live;
           buffers = map (used_more b.number units) ready.buffers;
           holds = with_hold b.number (live_of digest ready.live) ready.holds;
-        }) reuses (subst HaveOwnBlocks (sym (use_places b.number units ready.buffers)) is.apart)
+        }) (subst HaveOwnBlocks (sym (use_places b.number units ready.buffers)) is.apart)
             (some, subst (λ (l : List Live). AllByRecursion (λ m. 1 ≤ m.units) (without_live digest l)) (sym is.live) (fewer_live _ book.live booked.units));
       }
 

@@ -4,7 +4,6 @@ use Rattle.std.proofs.lemmas.Bool.{leb-false}
 use Rattle.std.specs.Prelude.{nat_lt, nat_le}
 use Rattle.rec_format.specs.declared.version.Stamp.{Stamp}
 use Rattle.rec_format.specs.Versions.{top_number}
-use Rattle.device_model.specs.Policy.{reserve}
 use Rattle.device_model.specs.Book.{Setup, Book, Stream, client, has_room}
 use Rattle.device_model.specs.Device.{State}
 use Rattle.device_model.specs.Events.{spent, overload, no_space}
@@ -12,14 +11,14 @@ use Rattle.device_model.specs.Legal.{no_new_buffer, no_place, no_write}
 use Rattle.kept_trail.specs.Trail.{CanPlace}
 
 some_free : (setup : Setup) (kept : ℕ) (book : Book) → no_new_buffer setup kept book ≡ None → 1 ≤ length book.free
-some_free setup kept book none = by (nat_lt top_number book.next_number) (nat_le setup.pending_limit (length book.buffers)) (nat_le (length book.free) (reserve setup.policy kept)) refl none
+some_free setup kept book none = by (nat_lt top_number book.next_number) (nat_le setup.pending_limit (length book.buffers)) (nat_le (length book.free) kept) refl none
   where
-    by : (a b c : Bool) → nat_le (length book.free) (reserve setup.policy kept) ≡ c
+    by : (a b c : Bool) → nat_le (length book.free) kept ≡ c
         → cond a (Some spent) (cond b (Some (overload (length book.buffers))) (cond c (Some (no_space (length book.free))) None)) ≡ None → 1 ≤ length book.free
     by true b c is e = absurd (cc)
     by false true c is e = absurd (cc)
     by false false true is e = absurd (cc)
-    by false false false is e = let more = leb-false (length book.free) (reserve setup.policy kept) is in omega arith
+    by false false false is e = let more = leb-false (length book.free) kept is in omega arith
 
 -- a place that isn't refused is there
 pub place_there : (setup : Setup) (stream : Stream) (kept units : ℕ) (book : Book) → no_place setup stream kept units book ≡ None → CanPlace setup stream units book

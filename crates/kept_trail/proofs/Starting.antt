@@ -9,8 +9,7 @@ use Rattle.rec_format.specs.declared.version.Version.{Version}
 use Rattle.rec_format.specs.Places.{same_digest}
 use Rattle.rec_format.specs.Versions.{version_units}
 use Rattle.device_model.specs.Histories.{Item, write, dropped, rid, cleared, Pending, ends_well, top_of, last_write, without_numbers}
-use Rattle.device_model.specs.Book.{Setup, Book, Live, cold_book, refreshed, live_of, all_blocks}
-use Rattle.device_model.specs.Policy.{unused}
+use Rattle.device_model.specs.Book.{Setup, Book, Live, cold_book, refreshed, live_of}
 use Rattle.device_model.specs.Device.{State, history}
 use Rattle.rec_format.proofs.Laws.{same_digest_is}
 use Rattle.block_format.specs.Layout.{Body}
@@ -71,17 +70,17 @@ pub units_taken : (copies : List Copy) → AllByRecursion (λ l. 1 ≤ l.units) 
 units_taken [] = tt
 units_taken (c ∷ copies) = (takes_room c.version, units_taken copies)
 
-pub start_booked : (setup : Setup) (bodies : List Body) → setup.policy.reuses ≡ true → IsBooked (start_state setup bodies).book
+pub start_booked : (setup : Setup) (bodies : List Body) → IsBooked (start_state setup bodies).book
 unfolding start_state cold_book
-start_booked setup bodies reuses = refreshed_booked setup (record {
+start_booked setup bodies = refreshed_booked setup (record {
   live = map live_copy (cold_copies (copies_of bodies));
   buffers = [];
   holds = [];
-  free = unused setup.policy (map (λ b. b.block) bodies) (all_blocks setup);
+  free = [];
   queue = [];
   flushed_numbers = [];
   next_number = greatest_number bodies + 1;
-}) reuses tt (units_taken (cold_copies (copies_of bodies)))
+}) tt (units_taken (cold_copies (copies_of bodies)))
 
 -- a history that begins with what was found of the digest, or with no entry where nothing was
 abbrev BeginsWith : Option Copy → List Item → Type 0
@@ -126,8 +125,8 @@ begins_kept pending (dropped ∷ older) found well is = absurd (false≢true wel
 begins_kept pending (rid ∷ older) found well is = absurd (false≢true well)
 begins_kept pending (cleared ∷ older) found well is = absurd (false≢true well)
 
-pub restart_booked : (setup : Setup) (s : State) (image : List ℕ) (new : State) → setup.policy.reuses ≡ true → Restarts setup s image new → IsBooked new.book
-restart_booked setup s image new reuses r = subst IsBooked (sym r.book) (start_booked setup r.bodies reuses)
+pub restart_booked : (setup : Setup) (s : State) (image : List ℕ) (new : State) → Restarts setup s image new → IsBooked new.book
+restart_booked setup s image new r = subst IsBooked (sym r.book) (start_booked setup r.bodies)
 
 pub restart_trailed : (setup : Setup) (s : State) (image : List ℕ) (new : State) (records : Records) → (r : Restarts setup s image new) → IsTrailed new records r.bodies
 restart_trailed setup s image new records r digest =

@@ -1,14 +1,13 @@
 -- Books keep to the blocks of the device.
 use Rattle.std.proofs.Common.{◌≡◌, ◌⊎◌, inl, inr, ℕ, zero, suc, ◌+◌, ◌<◌, ◌≤◌, Bool, true, false, not, cond, ◌&&◌, List, [], ◌∷◌, ◌++◌, length, map, Option, Some, None, sym, subst, arith}
-use Rattle.std.proofs.lemmas.Bool.{cond_both, false≢true}
+use Rattle.std.proofs.lemmas.Bool.{false≢true}
 use Rattle.std.specs.Prelude.{◌==◌, filter, MatchOption, IfSome}
-use Rattle.std.specs.List.{AllByRecursion, list_any, range_with_len, filter_map, cons_option}
+use Rattle.std.specs.List.{AllByRecursion, range_with_len, filter_map, cons_option}
 use Rattle.rec_format.specs.declared.version.Digest.{Digest}
 use Rattle.rec_format.specs.Places.{same_digest}
 use Rattle.rec_format.specs.Versions.{version_units}
-use Rattle.device_model.specs.Policy.{unused}
 use Rattle.rec_format.specs.declared.version.Version.{Version}
-use Rattle.device_model.specs.Book.{Setup, Buffer, Book, Live, Stream, client, defrag, same_stream, is_filling, with_hold, has_buffer, may_be_free, is_in, updated, all_blocks, refreshed, has_room, with_new_buffer, with_room, first_block, filling_buffer, put_in, placed, used_more, dropped_live, without_live, with_flushed, first_to_back, live_of, cold_book}
+use Rattle.device_model.specs.Book.{Setup, Buffer, Book, Live, Stream, client, defrag, same_stream, is_filling, with_hold, may_be_free, is_in, all_blocks, refreshed, has_room, with_new_buffer, with_room, first_block, filling_buffer, put_in, placed, used_more, dropped_live, without_live, with_flushed, first_to_back, live_of, cold_book}
 use Rattle.device_model.specs.Device.{State}
 use Rattle.device_model.specs.Steps.{Step, wrote, moved, removed, rid_of, uncovered, sealed_stream, gate_begun, flushed_buffer, closing_failed, raid_begun, raid_given_up, marked_part, scanned_block, compared_part, done_part, moved_state, after_step}
 use Rattle.block_format.specs.Layout.{Body}
@@ -38,10 +37,8 @@ device_blocks setup = range_below 0 setup.blocks setup.blocks (omega arith)
 free_kept : (setup : Setup) (book : Book) → AllByRecursion (λ b. b < setup.blocks) book.free → AllByRecursion (λ b. b < setup.blocks) (refreshed setup book).free
 unfolding refreshed
 free_kept setup book free =
-    cond_both setup.policy.reuses (updated (may_be_free book) book.free (all_blocks setup)) (filter (λ b. not (has_buffer book b)) book.free) (AllByRecursion (λ b. b < setup.blocks))
-    (λ _. all_joined (λ b. b < setup.blocks) (filter (may_be_free book) book.free) (filter (λ b. may_be_free book b && not (is_in book.free b)) (all_blocks setup))
-    (all_fewer (λ b. b < setup.blocks) (may_be_free book) book.free free) (all_fewer (λ b. b < setup.blocks) (λ b. may_be_free book b && not (is_in book.free b)) (all_blocks setup) (device_blocks setup)))
-    (λ _. all_fewer (λ b. b < setup.blocks) (λ b. not (has_buffer book b)) book.free free)
+    all_joined (λ b. b < setup.blocks) (filter (may_be_free book) book.free) (filter (λ b. may_be_free book b && not (is_in book.free b)) (all_blocks setup))
+    (all_fewer (λ b. b < setup.blocks) (may_be_free book) book.free free) (all_fewer (λ b. b < setup.blocks) (λ b. may_be_free book b && not (is_in book.free b)) (all_blocks setup) (device_blocks setup))
 
 pub refreshed_within : (setup : Setup) (book : Book) → IsWithin setup book → IsWithin setup (refreshed setup book)
 unfolding refreshed
@@ -180,13 +177,12 @@ start_within setup bodies all = refreshed_within setup (record {
   live = map live_copy (cold_copies (copies_of bodies));
   buffers = [];
   holds = [];
-  free = unused setup.policy (map (λ b. b.block) bodies) (all_blocks setup);
+  free = [];
   queue = [];
   flushed_numbers = [];
   next_number = greatest_number bodies + 1;
 }) (record {
-  free = cond_both setup.policy.reuses [] (filter (λ b. not (list_any (λ o. o == b) (map (λ b. b.block) bodies))) (all_blocks setup)) (AllByRecursion (λ b. b < setup.blocks))
-      (λ _. tt) (λ _. all_fewer (λ b. b < setup.blocks) (λ b. not (list_any (λ o. o == b) (map (λ b. b.block) bodies))) (all_blocks setup) (device_blocks setup));
+  free = tt;
   places = tt;
   live = found_within setup.blocks (copies_of bodies) (names_of_copies (copies_of bodies)) (all_copies_within setup.blocks bodies all);
 })

@@ -6,7 +6,6 @@ use Rattle.rec_format.specs.declared.version.Digest.{Digest}
 use Rattle.rec_format.specs.declared.version.Version.{Version}
 use Rattle.rec_format.specs.Versions.{a_put}
 use Rattle.device_model.specs.Histories.{write}
-use Rattle.device_model.specs.Policy.{whole}
 use Rattle.device_model.specs.Book.{Setup, filling, opening, client, defrag, refreshed, cold_book, placed, with_flushed}
 use Rattle.device_model.specs.Device.{State, history}
 use Rattle.device_model.specs.Steps.{wrote, moved, sealed_stream, gate_begun, flushed_buffer, after_step, after_steps}
@@ -23,7 +22,7 @@ use Rattle.kept_trail.proofs.Each.{step_booked, step_trailed}
 use Rattle.kept_trail.proofs.Bodies.{body_comes}
 
 abbrev setup : Setup
-setup = record { capacity = 100; blocks = 6; device = 0; devices = 1; sprigs = 1; lwm = 50; pending_limit = 4; commit = false; raid_age = 0; policy = whole }
+setup = record { capacity = 100; blocks = 6; device = 0; devices = 1; sprigs = 1; lwm = 50; pending_limit = 4; commit = false; raid_age = 0 }
 
 abbrev d : Digest
 d = record { 0 = 7 ∷ [] }
@@ -74,7 +73,7 @@ no_twins : NoTwins (copies_of (found ∷ []))
 no_twins = ((λ same stamp. refl, tt), tt)
 
 booked0 : IsBooked s0.book
-booked0 = start_booked setup (found ∷ []) refl
+booked0 = start_booked setup (found ∷ [])
 
 trailed0 : IsTrailed s0 records (found ∷ [])
 trailed0 = start_trailed setup records (found ∷ []) no_twins
@@ -88,10 +87,10 @@ unfolding start_state cold_book refreshed
 backed1 v is = let same : old_version ≡ v = cc in subst (λ (w : Version). Contains (records 2) (d, w)) same (first_there {X = Digest × Version} (d, old_version) [])
 
 booked1 : IsBooked s1.book
-booked1 = step_booked setup s0 refl booked0 (moved d) room1
+booked1 = step_booked setup s0 booked0 (moved d) room1
 
 trailed1 : IsTrailed s1 records (found ∷ [])
-trailed1 = step_trailed setup s0 refl booked0 records (found ∷ []) trailed0 (moved d) room1 backed1
+trailed1 = step_trailed setup s0 booked0 records (found ∷ []) trailed0 (moved d) room1 backed1
 
 room2 : HasRoomFor setup s1 (wrote d new_version)
 unfolding start_state cold_book refreshed after_step placed
@@ -102,19 +101,19 @@ unfolding start_state cold_book refreshed after_step placed
 backed2 = first_there (d, new_version) []
 
 booked2 : IsBooked s2.book
-booked2 = step_booked setup s1 refl booked1 (wrote d new_version) room2
+booked2 = step_booked setup s1 booked1 (wrote d new_version) room2
 
 trailed2 : IsTrailed s2 records (found ∷ [])
-trailed2 = step_trailed setup s1 refl booked1 records (found ∷ []) trailed1 (wrote d new_version) room2 backed2
+trailed2 = step_trailed setup s1 booked1 records (found ∷ []) trailed1 (wrote d new_version) room2 backed2
 
 booked4 : IsBooked s4.book
 booked4 =
-    step_booked setup (after_step setup (sealed_stream client) s2) refl (step_booked setup s2 refl booked2 (sealed_stream client) tt) (gate_begun 3) tt
+    step_booked setup (after_step setup (sealed_stream client) s2) (step_booked setup s2 booked2 (sealed_stream client) tt) (gate_begun 3) tt
 
 trailed4 : IsTrailed s4 records (found ∷ [])
 trailed4 =
-    step_trailed setup (after_step setup (sealed_stream client) s2) refl (step_booked setup s2 refl booked2 (sealed_stream client) tt) records (found ∷ [])
-    (step_trailed setup s2 refl booked2 records (found ∷ []) trailed2 (sealed_stream client) tt tt) (gate_begun 3) tt tt
+    step_trailed setup (after_step setup (sealed_stream client) s2) (step_booked setup s2 booked2 (sealed_stream client) tt) records (found ∷ [])
+    (step_trailed setup s2 booked2 records (found ∷ []) trailed2 (sealed_stream client) tt tt) (gate_begun 3) tt tt
 
 places4 : places_of s4.book ≡ (2, 1) ∷ (3, 2) ∷ []
 unfolding start_state cold_book refreshed after_step placed
@@ -133,7 +132,7 @@ block_is block there = by (cons_cases {X = ℕ × ℕ} (2, 1) ((3, 2) ∷ []) (3
 
 -- the body of the second buffer comes, and it is flushed
 trailed5 : IsTrailed s5 records (found ∷ written ∷ [])
-trailed5 = step_trailed setup s4 refl booked4 records (found ∷ written ∷ []) (body_comes s4 records booked4 (found ∷ []) [] written trailed4) (flushed_buffer 3) tt has
+trailed5 = step_trailed setup s4 booked4 records (found ∷ written ∷ []) (body_comes s4 records booked4 (found ∷ []) [] written trailed4) (flushed_buffer 3) tt has
   where
     has : IsBacked setup s4 records (found ∷ written ∷ []) (flushed_buffer 3)
     has block there = (

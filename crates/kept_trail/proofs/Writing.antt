@@ -94,10 +94,10 @@ trail_entry book records bodies digest (uncovered_since rest) = trail_entry book
 pub takes_room : (v : Version) → 1 ≤ version_units v
 takes_room v = omega arith
 
-module _ (setup : Setup) (s : State) (reuses : setup.policy.reuses ≡ true) (booked : IsBooked s.book) where
+module _ (setup : Setup) (s : State) (booked : IsBooked s.book) where
   pub wrote_booked : (digest : Digest) (v : Version) → CanPlace setup client (version_units v) s.book → IsBooked (after_step setup (wrote digest v) s).book
   unfolding after_step
-  wrote_booked digest v can = (placed_is setup client digest (version_units v) s.book reuses (takes_room v) booked can).booked
+  wrote_booked digest v can = (placed_is setup client digest (version_units v) s.book (takes_room v) booked can).booked
 
   pub wrote_trailed : (records : Records) (bodies : List Body) (digest : Digest) (v : Version) → CanPlace setup client (version_units v) s.book → Contains (records (placing_number setup client (version_units v) s.book)) (digest, v)
       → IsTrailed s records bodies → IsTrailed (after_step setup (wrote digest v) s) records bodies
@@ -111,7 +111,7 @@ module _ (setup : Setup) (s : State) (reuses : setup.policy.reuses ≡ true) (bo
       new = placed setup client digest (version_units v) s.book
 
       p : PlacesCopy digest number s.book new
-      p = placed_is setup client digest (version_units v) s.book reuses (takes_room v) booked can
+      p = placed_is setup client digest (version_units v) s.book (takes_room v) booked can
 
       own : same_digest e digest ≡ true → LeadsOn new records bodies e (live_of e new.live) (write v (number ∷ []) ∷ history s e)
       own same =

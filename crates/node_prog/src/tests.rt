@@ -153,31 +153,40 @@ fn put_line(alloc: Global, digest: &[u8], bytes: usize) -> Result<Vec<u8>, Fail>
 
 const ALL_F: &[u8] = b"ffffffffffffffffffffffffffffffffffffffff";
 
-// Each of the 16 blocks is filled by one record.
+/// Each record fills a block. Put again and again it takes one block after the other, and is never refused.
 #[test]
-fn a_block_and_the_device_have_their_room(rt: HostRuntime) -> Result<(), Fail> {
+fn a_block_is_used_again(rt: HostRuntime) -> Result<(), Fail> {
     let alloc = rt.alloc();
     let mut input = put_line(alloc, ALL_F, 12_209)?;
     let whole = put_line(alloc, ALL_F, 12_208)?;
-    for _ in 0..17 {
+    for _ in 0..20 {
         input.extend_from_slice(&whole)?;
     }
     input.extend_from_slice(&put_line(alloc, ALL_F, 1)?)?;
     input.extend_from_slice(b"get ffffffffffffffffffffffffffffffffffffffff\n")?;
-    let mut text = b"err big\nok 1 1000\nok 2 1000\nok 3 1000\nok 4 1000\nok 5 1000\n"
-        .as_slice()
-        .to_vec(alloc)?;
-    text.extend_from_slice(
-        b"ok 6 1000\nok 7 1000\nok 8 1000\nok 9 1000\nok 10 1000\nok 11 1000\n",
-    )?;
-    text.extend_from_slice(b"ok 12 1000\nok 13 1000\nok 14 1000\nok 15 1000\nok 16 1000\n")?;
-    text.extend_from_slice(b"err space\nerr space\nval 16 1000 0 ")?;
-    for _ in 0..12_208 {
-        text.extend_from_slice(b"aa")?;
-    }
-    text.push(b'\n')?;
+    let text =
+        b"err big\nok 1 1000\nok 2 1000\nok 3 1000\nok 4 1000\nok 5 1000\nok 6 1000\nok 7 1000\nok 8 1000\nok 9 1000\nok 10 1000\nok 11 1000\nok 12 1000\nok 13 1000\nok 14 1000\nok 15 1000\nok 16 1000\nok 17 1000\nok 18 1000\nok 19 1000\nok 20 1000\nok 21 1000\nval 21 1000 0 aa\n";
     let ending = serve_text(alloc, &input, &[], &[])?;
-    assert!(rt; is_so(&ending, 0, "", &text));
+    assert!(rt; is_so(&ending, 0, "", text));
+    Ok(())
+}
+
+/// Of 16 blocks 4 have to stay free where a put takes one: 12 records that each fill a block find room, and the next doesn't, nor one of
+/// those again.
+#[test]
+fn a_put_leaves_blocks_free(rt: HostRuntime) -> Result<(), Fail> {
+    let alloc = rt.alloc();
+    let mut input: Vec<u8> = Vec::new(alloc);
+    for &digit in b"0123456789abc" {
+        let mut digest = vec![in alloc; b'0'; 40]?;
+        digest[0] = digit;
+        input.extend_from_slice(&put_line(alloc, &digest, 12_208)?)?;
+    }
+    input.extend_from_slice(&put_line(alloc, b"1000000000000000000000000000000000000000", 1)?)?;
+    let text =
+        b"ok 1 1000\nok 1 1000\nok 1 1000\nok 1 1000\nok 1 1000\nok 1 1000\nok 1 1000\nok 1 1000\nok 1 1000\nok 1 1000\nok 1 1000\nok 1 1000\nerr space\nerr space\n";
+    let ending = serve_text(alloc, &input, &[], &[])?;
+    assert!(rt; is_so(&ending, 0, "", text));
     Ok(())
 }
 

@@ -214,7 +214,7 @@ module _ (setup : Setup) (told : Bool) (s : State) (event : Event) (call : Call)
 
       by : Legal.WriteEnds setup s event digest v ok → Made
       by (inl done) = written rest rest_of_book done.1
-      by (inr failed) = ⊎_elim (λ closing. by_book (subst AreOfBook (sym closing.2) (refl, tt))) (λ stops. written stops.0 (stopped_of_book rest stops.0 stops.2 rest_of_book) stops.1) failed.2
+      by (inr failed) = ⊎_elim (λ closing. by_book (subst AreOfBook (sym closing.1) (refl, tt))) (λ stops. written stops.0 (stopped_of_book rest stops.0 stops.2 rest_of_book) stops.1) failed.2
 
   entombs : (digest : Digest) (now : ℕ) (ok : Stamp → Answer) → digest_named call ≡ Some digest → Legal.Entombs setup s event digest now ok → Made
   entombs digest now ok names (inl memory) = no_steps memory.1

@@ -296,21 +296,21 @@ found_times : (setup : Setup) (part : ℕ) (found : List Copy) → high_time set
 found_times setup part [] = refl
 found_times setup part (c ∷ found) = ap (λ (n : ℕ). cond (part_of setup c.digest == part) (max c.version.stamp.lut n) n) (found_times setup part found)
 
-entries_show : (setup : Setup) (opened : List ℕ) (found : List Copy) (next : ℕ) → ShowsChosen setup (first_named found) found (entries_state setup opened found next)
+entries_show : (setup : Setup) (found : List Copy) (next : ℕ) → ShowsChosen setup (first_named found) found (entries_state setup found next)
 unfolding entries_state
-entries_show setup opened found next = record {
+entries_show setup found next = record {
   top = λ d. first_top d found;
   cover = λ d. first_covered d found;
-  place = entries_live setup opened found next;
+  place = entries_live setup found next;
   high = λ part. found_times setup part found;
   raid = refl;
 }
 
 -- The sprig that has these entries of its part fits a start from them.
-pub entries_fit : (setup : Setup) (opened : List ℕ) (found : List Copy) (next part : ℕ) (sprig : SprigState) → part < part_total setup → HasChosen setup part (first_named found) found sprig
-    → FitsPart setup part sprig (entries_state setup opened found next)
-entries_fit setup opened found next part sprig exists h =
-    chosen_fits setup part (first_named found) found sprig (entries_state setup opened found next) exists h (entries_show setup opened found next)
+pub entries_fit : (setup : Setup) (found : List Copy) (next part : ℕ) (sprig : SprigState) → part < part_total setup → HasChosen setup part (first_named found) found sprig
+    → FitsPart setup part sprig (entries_state setup found next)
+entries_fit setup found next part sprig exists h =
+    chosen_fits setup part (first_named found) found sprig (entries_state setup found next) exists h (entries_show setup found next)
 
 -- ---- the whole device
 
@@ -355,11 +355,11 @@ start_parts setup image bodies sprigs sound count each = record {
 }
 
 -- and those that have these entries fit a start from them
-pub entries_parts : (setup : Setup) (opened : List ℕ) (found : List Copy) (next : ℕ) (sprigs : List SprigState) → NoStrays setup found → length sprigs ≡ part_total setup
-    → ((part : ℕ) (sprig : SprigState) → slice_get sprigs part ≡ Some sprig → HasChosen setup part (first_named found) found sprig) → FitsParts setup sprigs (entries_state setup opened found next)
+pub entries_parts : (setup : Setup) (found : List Copy) (next : ℕ) (sprigs : List SprigState) → NoStrays setup found → length sprigs ≡ part_total setup
+    → ((part : ℕ) (sprig : SprigState) → slice_get sprigs part ≡ Some sprig → HasChosen setup part (first_named found) found sprig) → FitsParts setup sprigs (entries_state setup found next)
 unfolding entries_state
-entries_parts setup opened found next sprigs own count each = record {
+entries_parts setup found next sprigs own count each = record {
   count = count;
-  each = λ part sprig at. entries_fit setup opened found next part sprig (let lt = within sprigs part sprig at in omega (arith, lt, count)) (each part sprig at);
+  each = λ part sprig at. entries_fit setup found next part sprig (let lt = within sprigs part sprig at in omega (arith, lt, count)) (each part sprig at);
   own = logged_own setup (map (λ c. (c.digest, write c.version [])) found) (found_own setup found own);
 }

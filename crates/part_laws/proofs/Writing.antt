@@ -66,5 +66,5 @@ write_ends setup s event digest v ok ends = by ends
     by : WriteEnds setup s event digest v ok → ((more : List Step) × (event.steps ≡ wrote digest v ∷ more) × AreOfBook more) ⊎ AreOfBook event.steps
     by (inl done) = inl (commit_seal setup ++ rest, done.1, joined (commit_seal setup) rest (commit_of_book setup) rest_are)
     by (inr failed) =
-        ⊎_elim (λ closing. inr (subst AreOfBook (sym closing.2) (refl, tt)))
+        ⊎_elim (λ closing. inr (subst AreOfBook (sym closing.1) (refl, tt)))
         (λ stops. inl (commit_seal setup ++ stops.0, stops.1, joined (commit_seal setup) stops.0 (commit_of_book setup) (stopped_of_book rest stops.0 stops.2 rest_are))) failed.2

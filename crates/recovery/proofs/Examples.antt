@@ -5,7 +5,6 @@ use Rattle.recovery.specs.Audit.{check_counts}
 use Rattle.std.proofs.Common.{Bool, true, ℕ, List}
 use Rattle.rec_format.specs.declared.version.Digest.{Digest}
 use Rattle.rec_format.specs.declared.version.Version.{Version}
-use Rattle.device_model.specs.Policy.{whole}
 use Rattle.device_model.specs.Book.{Setup}
 use Rattle.block_format.specs.Copies.{Copy}
 use Rattle.recovery.specs.Audit.{verdict, all_sound, stray, twins, bare}
@@ -18,7 +17,7 @@ counted = refl
 -- ---- verdicts
 
 abbrev one_device : Setup
-one_device = record { capacity = 766; blocks = 16; device = 0; devices = 1; sprigs = 16; lwm = 0; pending_limit = 16; commit = false; raid_age = 0; policy = whole }
+one_device = record { capacity = 766; blocks = 16; device = 0; devices = 1; sprigs = 16; lwm = 0; pending_limit = 16; commit = false; raid_age = 0 }
 
 abbrev sevens : Digest
 sevens = record { 0 = replicate 20 7 }

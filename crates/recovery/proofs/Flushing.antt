@@ -1,51 +1,18 @@
--- When a buffer is flushed, what was written to it is flushed: an image that has it all has what the new state demands.
-use Rattle.std.proofs.Common.{◌≡◌, ◌⊎◌, inl, inr, ⊎_elim, ℕ, Bool, true, false, not, cond, List, [], ◌∷◌, refl, sym, ◌∙◌, ap, subst}
-use Rattle.std.proofs.lemmas.Bool.{or_cases, or_left, or_right, eqb-true, eq-eqb, cases_eq, both_ways, not-true, not_from_false, false≢true, cond_both, cond-false}
-use Rattle.std.specs.Prelude.{◌==◌, Contains}
+-- What the flush of a buffer makes of what is pending and of what is flushed.
+use Rattle.std.proofs.Common.{◌≡◌, ◌⊎◌, inl, inr, ⊎_elim, ℕ, Bool, true, false, not, cond, List, [], ◌∷◌, refl, sym, ◌∙◌, ap}
+use Rattle.std.proofs.lemmas.Bool.{or_cases, or_left, or_right, eq-eqb, cases_eq, both_ways, not-true, not_from_false, false≢true, cond_both}
+use Rattle.std.specs.Prelude.{◌==◌}
 use Rattle.std.specs.List.{AllByRecursion, list_any}
-use Rattle.rec_format.specs.declared.version.Digest.{Digest}
 use Rattle.rec_format.specs.declared.version.Version.{Version}
-use Rattle.device_model.specs.Histories.{Item, write, dropped, rid, cleared, Pending, is_pending, is_begun, is_flushed, is_waiting, stage_of}
+use Rattle.device_model.specs.Histories.{Item, write, dropped, rid, cleared, Pending, is_pending, is_begun, is_flushed}
 use Rattle.device_model.specs.Book.{Setup, Book, pending_of, with_flushed}
-use Rattle.device_model.specs.Device.{State, history}
-use Rattle.device_model.specs.Steps.{gate_begun, flushed_buffer, after_step}
-use Rattle.block_format.specs.Layout.{Body}
-use Rattle.recovery.specs.Holding.{versions_to, begun_versions, flushed_versions, versions_in, Reflects}
-use Rattle.recovery.proofs.Each.{all_map}
-use Rattle.recovery.proofs.Pending.{any_more, begun_at, apart_pending, apart_begun, none_pending}
-use Rattle.recovery.proofs.Members.{first_there, rest_there}
-use Rattle.recovery.proofs.Stages.{stage_from, IsFurther, begun_further}
-use Rattle.recovery.proofs.HeldSteps.{reflects_after}
+use Rattle.device_model.specs.Device.{State}
+use Rattle.device_model.specs.Steps.{gate_begun, after_step}
+use Rattle.recovery.specs.Holding.{versions_to, flushed_versions}
+use Rattle.recovery.proofs.Pending.{begun_at, apart_pending, apart_begun, none_pending}
+use Rattle.recovery.proofs.Stages.{IsFurther}
 
 -- ---- what went to a buffer
-
--- what went to a buffer whose flush has begun is among the versions that have begun
-pub begun_versions_to : (number : ℕ) (pending : Pending) (items : List Item) → is_begun pending number ≡ true → AllByRecursion (λ v. Contains (begun_versions pending items) v) (versions_to number items)
-begun_versions_to number pending [] begun = tt
-begun_versions_to number pending (write v numbers ∷ items) begun = by (list_any (λ n. n == number) numbers) refl (begun_versions_to number pending items begun)
-  where
-    all : List Version
-    all = cond (is_waiting (stage_of pending numbers)) (begun_versions pending items) (v ∷ begun_versions pending items)
-
-    behind : AllByRecursion (λ w. Contains (begun_versions pending items) w) (versions_to number items) → AllByRecursion (λ w. Contains all w) (versions_to number items)
-    behind rest = all_map (λ w. Contains (begun_versions pending items) w) (λ w. Contains all w) (versions_to number items)
-        (λ w there. cond_both (is_waiting (stage_of pending numbers)) (begun_versions pending items) (v ∷ begun_versions pending items) (λ (l : List Version). Contains l w) (λ _. there) (λ _. rest_there v (begun_versions pending items) w there)) rest
-
-    moving : list_any (λ n. n == number) numbers ≡ true → is_waiting (stage_of pending numbers) ≡ false
-    moving went =
-        stage_from (is_flushed pending numbers) (list_any (is_begun pending) numbers)
-        (inr (any_more (λ n. n == number) (is_begun pending) (λ n same. subst (λ (m : ℕ). is_begun pending m ≡ true) (sym (eqb-true n number same)) begun) numbers went))
-
-    by : (b : Bool) → list_any (λ n. n == number) numbers ≡ b → AllByRecursion (λ w. Contains (begun_versions pending items) w) (versions_to number items)
-        → AllByRecursion (λ w. Contains all w) (cond b (v ∷ versions_to number items) (versions_to number items))
-    by true went rest = (
-      subst (λ (l : List Version). Contains l v) (sym (cond-false (is_waiting (stage_of pending numbers)) (begun_versions pending items) (v ∷ begun_versions pending items) (moving went))) (first_there v (begun_versions pending items)),
-      behind rest,
-    )
-    by false went rest = behind rest
-begun_versions_to number pending (dropped ∷ items) begun = begun_versions_to number pending items begun
-begun_versions_to number pending (rid ∷ items) begun = begun_versions_to number pending items begun
-begun_versions_to number pending (cleared ∷ items) begun = begun_versions_to number pending items begun
 
 -- a buffer of this number has begun
 pub begun_is : (setup : Setup) (s : State) (number : ℕ) → list_any (λ b. b.number == number) s.book.buffers ≡ true → is_begun (pending_of (after_step setup (gate_begun number) s).book) number ≡ true
@@ -114,12 +81,3 @@ module _ (setup : Setup) (number : ℕ) (book : Book) where
 
   flushed_only : (m : ℕ) → is_pending (pending_of (with_flushed setup number book)) m ≡ false → (is_pending (pending_of book) m ≡ false) ⊎ (m ≡ number)
   flushed_only m left = ⊎_elim (λ e. inr e) (λ apart. inl (sym (apart_pending setup number book m apart) ∙ left)) (cases_eq m number)
-
--- the image has all that went to the buffer
-pub flushed_reflects : (setup : Setup) (s : State) (number : ℕ) (image : List ℕ) (bodies : List Body) → Reflects setup s image bodies
-    → ((digest : Digest) → AllByRecursion (λ v. Contains (versions_in digest bodies) v) (versions_to number (history s digest))) → Reflects setup (after_step setup (flushed_buffer number) s) image bodies
-unfolding after_step
-flushed_reflects setup s number image bodies holds has =
-    reflects_after setup s (after_step setup (flushed_buffer number) s) image bodies
-    (λ e v there. begun_further (pending_of s.book) (pending_of (with_flushed setup number s.book)) (flushed_is_further setup number s.book) (history s e) v there)
-    (λ e. flushed_were number (pending_of s.book) (pending_of (with_flushed setup number s.book)) (flushed_only setup number s.book) (λ v. Contains (versions_in e bodies) v) (history s e) (holds.flushed e) (has e)) holds

@@ -105,10 +105,6 @@ numbers_rise n m (dropped ∷ items) up below = numbers_rise n m items up below
 numbers_rise n m (rid ∷ items) up below = numbers_rise n m items up below
 numbers_rise n m (cleared ∷ items) up below = numbers_rise n m items up below
 
--- a history stays orderly where other digests are written
-pub history_rises : (n m : ℕ) (items : List Item) → n ≤ m → IsOrderlyHistory n items → IsOrderlyHistory m items
-history_rises n m items up h = record { writes = h.writes; falling = h.falling; numbers = numbers_rise n m items up h.numbers; covered = h.covered; versions = h.versions }
-
 module _ (n : ℕ) (items : List Item) (v : Version) (h : IsOrderlyHistory n items) (version : IsVersion v) (put : is_put v ≡ true) (later : AllByRecursion (λ w. is_later v w ≡ true) (writes_of items)) (cover : v.cover ≡ is_covered items) where
   is_older : (w : Version) → Contains (writes_of items) w → is_later v w ≡ true
   is_older w there = all_at (λ u. is_later v u ≡ true) (writes_of items) w later there

@@ -1,14 +1,12 @@
 pub mod Images
 pub mod Each
 pub mod Growing
-pub mod Writing
 pub mod ColdOrder
 pub mod Cold
 pub mod ColdLogs
 pub mod ColdVersions
 pub mod ColdStart
 pub mod Members
-pub mod Named
 pub mod Places
 pub mod Held
 pub mod HeldStart

@@ -7,12 +7,8 @@ use Rattle.std.proofs.lemmas.Bool.{and_parts, and_left, and_right, or_left, or_r
 use Rattle.std.specs.Prelude.{Option, Some, None, ◌==◌, find}
 use Rattle.std.specs.List.{AllByRecursion, list_any}
 use Rattle.rec_format.specs.declared.version.Digest.{Digest}
-use Rattle.rec_format.specs.declared.version.Version.{Version}
-use Rattle.rec_format.specs.Versions.{version_units}
 use Rattle.device_model.specs.Histories.{Pending, is_pending, is_begun}
 use Rattle.device_model.specs.Book.{Setup, Buffer, Book, Phase, Stream, client, defrag, filling, sealed, opening, is_filling, is_opening, same_stream, seal_stream, first_block, filling_buffer, fits_in, has_room, with_new_buffer, with_room, put_in, placed, number_or, placing_number, refreshed, pending_of}
-use Rattle.device_model.specs.Device.{State}
-use Rattle.device_model.specs.Steps.{wrote, after_step}
 use Rattle.recovery.specs.Holding.{AreRising, HasRisingNumbers}
 use Rattle.recovery.specs.Awaited.{IsAwaited}
 use Rattle.recovery.proofs.Each.{all_map}
@@ -181,8 +177,3 @@ unfolding placed
 placed_awaited setup stream digest units book counted =
     subst (λ (p : Pending). IsAwaited (placing_number setup stream units book) book.next_number (pending_of book) p)
     (sym (put_in_pending setup digest units (with_room setup stream units book) (filling_buffer stream (with_room setup stream units book).buffers))) (room_awaited setup stream units book counted)
-
-pub wrote_pending : (setup : Setup) (s : State) (digest : Digest) (v : Version) → HasRisingNumbers s.book
-    → IsAwaited (placing_number setup client (version_units v) s.book) s.book.next_number (pending_of s.book) (pending_of (after_step setup (wrote digest v) s).book)
-unfolding after_step
-wrote_pending setup s digest v counted = placed_awaited setup client digest (version_units v) s.book counted

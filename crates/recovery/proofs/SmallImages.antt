@@ -3,7 +3,6 @@ use Rattle.std.proofs.Common.{◌≡◌, inl, inr, ℕ, Bool, true, false, List,
 use Rattle.rec_format.specs.declared.version.Digest.{Digest}
 use Rattle.rec_format.specs.declared.version.Version.{Version}
 use Rattle.rec_format.specs.Versions.{a_put}
-use Rattle.device_model.specs.Policy.{whole}
 use Rattle.device_model.specs.Book.{Setup}
 use Rattle.block_format.specs.declared.geometry.Geometry.{Geometry}
 use Rattle.std.proofs.Common.{cond, ⊎_elim, Some, None, sym, ap, ◌∙◌}
@@ -27,7 +26,7 @@ is_geometry : IsGeometry small
 is_geometry = record { block_size = (14, lit≤ tt, lit≤ tt, refl); blocks = (lit≤ tt, lit≤ tt); device = lit< tt; devices = lit≤ tt }
 
 abbrev setup : Setup
-setup = record { capacity = 766; blocks = 8; device = 0; devices = 1; sprigs = 16; lwm = 0; pending_limit = 16; commit = false; raid_age = 86400; policy = whole }
+setup = record { capacity = 766; blocks = 8; device = 0; devices = 1; sprigs = 16; lwm = 0; pending_limit = 16; commit = false; raid_age = 86400 }
 
 abbrev fresh : List ℕ
 fresh = header_text small ++ replicate 131072 0

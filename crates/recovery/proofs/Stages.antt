@@ -1,11 +1,11 @@
 -- What a change of the pending buffers makes of the versions of a history that have begun or are flushed.
-use Rattle.std.proofs.Common.{◌≡◌, ◌⊎◌, inl, inr, ⊎_elim, ℕ, Bool, true, false, not, cond, ◌||◌, List, [], ◌∷◌, refl, sym, ◌∙◌, ap, subst}
+use Rattle.std.proofs.Common.{◌≡◌, ◌⊎◌, inl, inr, ⊎_elim, ℕ, Bool, true, false, not, cond, List, [], ◌∷◌, refl, sym, subst}
 use Rattle.std.proofs.lemmas.Bool.{or_cases, or_left, or_right, both_ways, false≢true, not-true, not_from_false, cond_both, cond-false}
 use Rattle.std.specs.Prelude.{Contains}
 use Rattle.std.specs.List.{list_any}
 use Rattle.rec_format.specs.declared.version.Version.{Version}
 use Rattle.device_model.specs.Histories.{Item, write, dropped, rid, cleared, Pending, waiting, begun, flushed, is_pending, is_begun, is_flushed, is_waiting, stage_of}
-use Rattle.recovery.specs.Holding.{begun_versions, flushed_versions}
+use Rattle.recovery.specs.Holding.{begun_versions}
 use Rattle.recovery.proofs.Growing.{cons_cases}
 use Rattle.recovery.proofs.Members.{first_there, rest_there}
 use Rattle.recovery.proofs.Pending.{any_more}
@@ -83,21 +83,3 @@ module _ (old new : Pending) (further : IsFurther old new) where
   begun_further (dropped ∷ items) v there = begun_further items v there
   begun_further (rid ∷ items) v there = begun_further items v there
   begun_further (cleared ∷ items) v there = begun_further items v there
-
--- where the same numbers are pending, the same versions are flushed
-pub flushed_alike : (old new : Pending) → ((m : ℕ) → is_pending new m ≡ is_pending old m) → (items : List Item) → flushed_versions new items ≡ flushed_versions old items
-flushed_alike old new same [] = refl
-flushed_alike old new same (write v numbers ∷ items) =
-    ap (λ (b : Bool). cond b (v ∷ flushed_versions new items) (flushed_versions new items)) (numbers_alike numbers)
-    ∙ ap (λ (l : List Version). cond (is_flushed old numbers) (v ∷ l) l) (flushed_alike old new same items)
-  where
-    any_alike : (numbers : List ℕ) → list_any (λ m. not (is_pending new m)) numbers ≡ list_any (λ m. not (is_pending old m)) numbers
-    any_alike [] = refl
-    any_alike (n ∷ numbers) = ap (λ (b : Bool). not b || list_any (λ m. not (is_pending new m)) numbers) (same n) ∙ ap (λ (b : Bool). not (is_pending old n) || b) (any_alike numbers)
-
-    numbers_alike : (numbers : List ℕ) → is_flushed new numbers ≡ is_flushed old numbers
-    numbers_alike [] = refl
-    numbers_alike (n ∷ numbers) = any_alike (n ∷ numbers)
-flushed_alike old new same (dropped ∷ items) = flushed_alike old new same items
-flushed_alike old new same (rid ∷ items) = flushed_alike old new same items
-flushed_alike old new same (cleared ∷ items) = flushed_alike old new same items

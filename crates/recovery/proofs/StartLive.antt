@@ -137,7 +137,7 @@ start_live setup bodies digest =
     live_named digest (cold_copies (copies_of bodies)) ∙ ap (option_map live_copy) (found_first digest (copies_of bodies))
 
 -- and so it is where these entries were found
-pub entries_live : (setup : Setup) (opened : List ℕ) (found : List Copy) (next : ℕ) (digest : Digest)
-    → live_of digest (entries_state setup opened found next).book.live ≡ option_map live_copy (find (λ c. same_digest digest c.digest) found)
+pub entries_live : (setup : Setup) (found : List Copy) (next : ℕ) (digest : Digest)
+    → live_of digest (entries_state setup found next).book.live ≡ option_map live_copy (find (λ c. same_digest digest c.digest) found)
 unfolding entries_state cold_book refreshed
-entries_live setup opened found next digest = live_named digest found
+entries_live setup found next digest = live_named digest found

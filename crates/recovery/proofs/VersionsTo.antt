@@ -1,20 +1,15 @@
 -- What of each history went to a buffer: a write adds one version to its own buffer's, and nothing has gone to the next number.
-use Rattle.std.proofs.Common.{◌≡◌, ℕ, ◌<◌, Bool, true, false, cond, ◌&&◌, ◌||◌, List, [], ◌∷◌, refl, sym, ◌∙◌, ap, ⊎_elim}
-use Rattle.std.proofs.lemmas.Bool.{cases_eq, eq-eqb, ne_eqb, cond-false}
+use Rattle.std.proofs.Common.{◌≡◌, ℕ, Bool, true, false, cond, ◌&&◌, ◌||◌, ◌∷◌, refl, sym, ◌∙◌, ap, ⊎_elim}
+use Rattle.std.proofs.lemmas.Bool.{cases_eq, eq-eqb, ne_eqb}
 use Rattle.std.specs.Prelude.{◌==◌}
-use Rattle.std.specs.List.{AllByRecursion, list_any}
 use Rattle.rec_format.specs.declared.version.Digest.{Digest}
 use Rattle.rec_format.specs.declared.version.Version.{Version}
 use Rattle.rec_format.specs.Places.{same_digest}
 use Rattle.rec_format.specs.Versions.{version_units}
-use Rattle.device_model.specs.Histories.{Item, write, dropped, rid, cleared}
 use Rattle.device_model.specs.Book.{Setup, client, placing_number}
 use Rattle.device_model.specs.Device.{State, history}
 use Rattle.device_model.specs.Steps.{wrote, after_step}
-use Rattle.recovery.specs.Orderly.{NumbersBelow}
 use Rattle.recovery.specs.Holding.{versions_to}
-use Rattle.recovery.proofs.Each.{all_map}
-use Rattle.recovery.proofs.Placing.{any_none, less_apart}
 use Rattle.recovery.proofs.HeldWrites.{written_item, wrote_history}
 
 either_way : (m n : ℕ) → (n == m) ≡ (m == n)
@@ -36,18 +31,3 @@ wrote_versions setup s digest v e m = ap (versions_to m) (wrote_history setup s 
     by : (same : Bool) → versions_to m (cond same (written_item setup s v ∷ history s e) (history s e)) ≡ cond (same && m == n) (v ∷ versions_to m (history s e)) (versions_to m (history s e))
     by true = ap (λ (b : Bool). cond b (v ∷ versions_to m (history s e)) (versions_to m (history s e))) (or_nothing (n == m) ∙ either_way m n)
     by false = refl
-
-none_at : (n : ℕ) (numbers : List ℕ) → AllByRecursion (λ k. k < n) numbers → list_any (λ k. k == n) numbers ≡ false
-none_at n numbers below = any_none (λ k. k == n) numbers (all_map (λ k. k < n) (λ k. (k == n) ≡ false) numbers (λ k lt. ne_eqb k n (less_apart k n lt)) below)
-
-none_to : (n : ℕ) (items : List Item) → NumbersBelow n items → versions_to n items ≡ []
-none_to n [] below = refl
-none_to n (write v numbers ∷ items) below =
-    cond-false (list_any (λ k. k == n) numbers) (v ∷ versions_to n items) (versions_to n items) (none_at n numbers below.0) ∙ none_to n items below.1
-none_to n (dropped ∷ items) below = none_to n items below
-none_to n (rid ∷ items) below = none_to n items below
-none_to n (cleared ∷ items) below = none_to n items below
-
--- nothing has gone to the next number
-pub new_number_free : (s : State) (e : Digest) → NumbersBelow s.book.next_number (history s e) → versions_to s.book.next_number (history s e) ≡ []
-new_number_free s e below = none_to s.book.next_number (history s e) below

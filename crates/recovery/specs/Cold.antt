@@ -1,21 +1,11 @@
 -- Crate recovery. What is found of a digest, copy by copy.
 use Rattle.std.specs.Prelude.{ℕ, max, ◌==◌, List, [], ◌∷◌, Option, Some, None, if◌then◌else◌}
 use Rattle.rec_format.specs.declared.version.Digest.{Digest}
-use Rattle.rec_format.specs.declared.version.Version.{Version}
 use Rattle.rec_format.specs.Places.{same_digest}
 use Rattle.rec_format.specs.Versions.{is_later}
 use Rattle.device_model.specs.Book.{Setup}
 use Rattle.device_model.specs.Device.{part_of}
 use Rattle.block_format.specs.Copies.{Copy}
-
--- the later of two versions, of equal ones the first
-abbrev pub later_of : Option Version → Version → Version
-later_of None v = v
-later_of (Some found) v = if is_later v found then v else found
-
--- what is found of a digest behind one copy more
-abbrev pub cold_after : Digest → Option Version → Copy → Option Version
-cold_after digest found c = if same_digest digest c.digest then Some (later_of found c.version) else found
 
 -- the same of copies
 abbrev pub later_one : Option Copy → Copy → Copy

@@ -1,5 +1,5 @@
--- Crate recovery. What an image has of the histories of a device, as long as no block is used twice: each version that is
--- flushed, and none whose flush hasn't begun.
+-- Crate recovery. What an image may have of the histories of a device: each version that is flushed, and none whose flush
+-- hasn't begun. So it is behind a start, and where buffers are flushed to blocks whose gates were closed.
 use Rattle.std.specs.Prelude.{ℕ, ◌<◌, ◌==◌, List, [], ◌∷◌, map, if◌then◌else◌, Contains}
 use Rattle.std.specs.List.{AllByRecursion, list_any}
 use Rattle.rec_format.specs.declared.version.Digest.{Digest}
@@ -49,10 +49,6 @@ pub record Reflects (setup : Setup) (s : State) (image : List ℕ) (bodies : Lis
   pub strays : NoStrays setup (copies_of bodies)
   pub begun : AllByRecursion (λ c. Contains (begun_versions (pending_of s.book) (history s c.digest)) c.version) (copies_of bodies)
   pub flushed : (digest : Digest) → AllByRecursion (λ v. Contains (versions_in digest bodies) v) (flushed_versions (pending_of s.book) (history s digest))
-
--- some bodies are those of such an image
-abbrev pub IsReflection : Setup → State → (image : List ℕ) → Type 0
-IsReflection setup s image = (bodies : List Body) × Reflects setup s image bodies
 
 -- ---- buffers
 

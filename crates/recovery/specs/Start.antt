@@ -52,16 +52,15 @@ greatest_number (b ∷ bodies) = max b.number (greatest_number bodies)
 unfoldable pub start_state : Setup → List Body → State
 start_state setup bodies = record {
   log = log_of (copies_of bodies);
-  book = cold_book setup (map (λ b. b.block) bodies) (map live_copy (cold_copies (copies_of bodies))) (greatest_number bodies + 1);
+  book = cold_book setup (map live_copy (cold_copies (copies_of bodies))) (greatest_number bodies + 1);
   raid = no_raid;
 }
 
--- From an image that isn't sound, or a disk that doesn't tell its bytes: these blocks were open, and these entries were found,
--- one write each.
-unfoldable pub entries_state : Setup → (opened : List ℕ) → (found : List Copy) → (next_number : ℕ) → State
-entries_state setup opened found next_number = record {
+-- From an image that isn't sound, or a disk that doesn't tell its bytes: these entries were found, one write each.
+unfoldable pub entries_state : Setup → (found : List Copy) → (next_number : ℕ) → State
+entries_state setup found next_number = record {
   log = map (λ c. (c.digest, write c.version [])) found;
-  book = cold_book setup opened (map live_copy found) next_number;
+  book = cold_book setup (map live_copy found) next_number;
   raid = no_raid;
 }
 

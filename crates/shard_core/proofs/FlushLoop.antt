@@ -1,6 +1,6 @@
 -- A flush of all sealed buffers, one after another: what each step adds, and how it ends.
 use Rattle.std.proofs.Common.{inl, inr, ◌≡◌, ℕ, ◌+◌, ◌<◌, ◌≤◌, true, false, List, [], ◌∷◌, ◌++◌, map, length, refl, sym, ◌∙◌, ap, subst, arith, append_assoc}
-use Rattle.std.specs.Prelude.{◌⊎◌, drop, Option, Some, None, Result, Ok, Err, IfOk, OnErr, MatchOption}
+use Rattle.std.specs.Prelude.{◌⊎◌, Option, Some, None, Result, Ok, Err, IfOk, OnErr, MatchOption}
 use Rattle.std.specs.List.{AllByRecursion}
 use Rattle.std.proofs.lemmas.Bool.{false≢true}
 use Rattle.std.proofs.lemmas.List.{append-nil}
@@ -21,8 +21,8 @@ use Rattle.write_buffer.specs.Buffers.{BufferState}
 use Rattle.block_shelf.specs.declared.place.ShelfLimits.{ShelfLimits}
 use Rattle.block_shelf.specs.View.{ShelfView, IsShelf, IsBufferOf, StandInOrder, IsSetupOf, SameShape, is_unsealed}
 use Rattle.block_shelf.specs.Standing.{StandsFor, book_phase, book_buffer}
-use Rattle.block_shelf.specs.Flushes.{FirstLeaves}
-use Rattle.block_shelf.specs.Calls.{FlushMakes, Goes}
+use Rattle.block_shelf.specs.Flushes.{FirstLeaves, FlushMakes}
+use Rattle.block_shelf.specs.Calls.{Goes}
 use Rattle.shard_core.specs.Calls.{FlushesAll}
 use Rattle.shard_core.proofs.Going.{after_both, goes_then}
 use Rattle.shard_core.proofs.FlushSteps.{StandRight, flush_all_first, flush_none, flush_is_one, count_both, stops_in_front, stops_behind}
@@ -69,7 +69,7 @@ pub setup_stays : {D : Type 0} (setup : Setup) (old new : ShelfView D) → SameS
 setup_stays setup old new same is = record {
   shape = subst (IsShapeOf setup) (sym same.geometry) is.shape;
   pending = is.pending ∙ ap (λ (l : ShelfLimits). l.pending) (sym same.limits);
-  policy = is.policy;
+  lwm = is.lwm ∙ ap (λ (l : ShelfLimits). l.lwm) (sym same.limits);
 }
 
 module _ {D : Type 0} (view : D → DiskView) where
@@ -85,7 +85,7 @@ module _ {D : Type 0} (view : D → DiskView) where
 
   -- a flush of the first sealed buffer
   abbrev pub Stepped : {E : Type 0} → Result (Option ℕ) E → (old new : ShelfView D) → Type 0
-  Stepped result old new = (setup : Setup) (s : State) → IsSetupOf setup old → StandsFor old s → (steps : List Step) × FlushMakes result (flush_first s.book) steps × Going setup steps old s new
+  Stepped result old new = (setup : Setup) (s : State) → IsSetupOf setup old → StandsFor setup old s → (steps : List Step) × FlushMakes result (flush_first s.book) steps × Going setup steps old s new
 
   module _ (setup : Setup) (count : ℕ) (old mid new : ShelfView D) (s : State) (is : IsSetupOf setup mid) (went : Went setup count old s mid) (kept : IsShelf view mid)
       (honest : IsHonest (view old.disk) → IsHonest (view mid.disk)) where
@@ -132,12 +132,13 @@ module _ {D : Type 0} (view : D → DiskView) where
 pub record FillsNone {D : Type 0} (shelf : ShelfView D) : Type 0 where
   pub none_filling : AllByRecursion (λ b. is_unsealed b.phase ≡ false) shelf.buffers
 
-all_behind : {X : Type 0} (P : X → Type 0) (xs : List X) → AllByRecursion P xs → AllByRecursion P (drop 1 xs)
-all_behind P [] all = tt
-all_behind P (x ∷ xs) all = all.1
+pub quiet_on : {D : Type 0} (number : ℕ) (old new : ShelfView D) → FillsNone old → FirstLeaves number old new → FillsNone new
+quiet_on number old new quiet leaves =
+    let all : AllByRecursion (λ b. is_unsealed b.phase ≡ false) (leaves.first ∷ new.buffers) = subst (AllByRecursion (λ b. is_unsealed b.phase ≡ false)) leaves.parts quiet.none_filling in
+    record { none_filling = all.1 }
 
-pub quiet_on : {D : Type 0} (old new : ShelfView D) → FillsNone old → FirstLeaves old.buffers new.buffers → FillsNone new
-quiet_on old new quiet leaves = record { none_filling = subst (AllByRecursion (λ b. is_unsealed b.phase ≡ false)) leaves.0 (all_behind (λ b. is_unsealed b.phase ≡ false) old.buffers quiet.none_filling) }
+pub one_fewer : {D : Type 0} {number : ℕ} {old new : ShelfView D} → FirstLeaves number old new → length old.buffers ≡ length new.buffers + 1
+one_fewer {new} leaves = let count = ap length leaves.parts in omega (arith, count)
 
 -- where every buffer takes records and none does, there is none
 pub none_left : (bs : List BufferState) → AllByRecursion (λ b. is_unsealed b.phase ≡ true) bs → AllByRecursion (λ b. is_unsealed b.phase ≡ false) bs → bs ≡ []
@@ -146,7 +147,7 @@ none_left (b ∷ bs) all none = absurd (false≢true (sym none.0 ∙ all.0))
 
 -- each buffer that is flushed leaves
 abbrev pub Fewer : {D E : Type 0} → Result (Option ℕ) E → (old new : ShelfView D) → Type 0
-Fewer result old new = IfOk result (λ number. MatchOption number (new ≡ old) (λ n. FirstLeaves old.buffers new.buffers))
+Fewer result old new = IfOk result (λ number. MatchOption number (new ≡ old) (λ n. FirstLeaves n old new))
 
 pub where_err : {E : Type 0} (result : Result ℕ E) (whole steps : List Step) → IsErr result → StopsIn whole steps → FlushesAll result whole steps
 where_err (Ok n) whole steps is stops = absurd (false≢true is)

@@ -8,7 +8,6 @@ use Rattle.device_model.specs.Book.{Setup}
 use Rattle.device_model.specs.Device.{Log, history_of, high_time, part_of}
 use Rattle.block_format.specs.Copies.{Copy, version_of}
 use Rattle.recovery.specs.Cold.{copies_high}
-use Rattle.recovery.specs.Orderly.{NumbersBelow}
 use Rattle.recovery.proofs.Cold.{cover_of}
 
 abbrev log_of_found : List Copy → Log
@@ -38,11 +37,3 @@ found_cover d (c ∷ found) = by (same_digest d c.digest) (found_cover d found)
 pub found_times : (setup : Setup) (part : ℕ) (found : List Copy) → high_time setup part (log_of_found found) ≡ copies_high setup part found
 found_times setup part [] = refl
 found_times setup part (c ∷ found) = ap (λ (n : ℕ). cond (part_of setup c.digest == part) (max c.version.stamp.lut n) n) (found_times setup part found)
-
-pub found_numbers : (limit : ℕ) (d : Digest) (found : List Copy) → NumbersBelow limit (history_of d (log_of_found found))
-found_numbers limit d [] = tt
-found_numbers limit d (c ∷ found) = by (same_digest d c.digest) (found_numbers limit d found)
-  where
-    by : (b : Bool) → NumbersBelow limit (history_of d (log_of_found found)) → NumbersBelow limit (cond b (write c.version [] ∷ history_of d (log_of_found found)) (history_of d (log_of_found found)))
-    by true rest = (tt, rest)
-    by false rest = rest

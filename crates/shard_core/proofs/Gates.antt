@@ -1,16 +1,15 @@
 -- What the gates of a device tell, gate by gate.
-use Rattle.std.proofs.Common.{◌≡◌, ◌≢◌, ◌⊎◌, inl, inr, ℕ, ◌+◌, ◌<◌, suc, zero, Bool, true, false, not, cond, List, [], ◌∷◌, ◌++◌, length, take, drop, refl, sym, ◌∙◌, ap, subst, arith}
-use Rattle.std.specs.Prelude.{Option, Some, None, ◌==◌, ◌||◌, filter, slice_get, option_map}
-use Rattle.std.specs.List.{AllByRecursion, range_with_len, list_any}
-use Rattle.std.proofs.lemmas.Bool.{false≢true, eq-eqb, ne_eqb}
-use Rattle.std.proofs.lemmas.List.{append_assoc, take-take}
-use Rattle.device_model.specs.Policy.{built, unused}
+use Rattle.std.proofs.Common.{◌≡◌, ◌≢◌, ◌⊎◌, inl, inr, ℕ, ◌+◌, ◌<◌, suc, zero, Bool, true, false, cond, List, [], ◌∷◌, ◌++◌, length, take, drop, refl, sym, ◌∙◌, ap, subst, arith}
+use Rattle.std.specs.Prelude.{Option, Some, None, slice_get, option_map}
+use Rattle.std.specs.List.{AllByRecursion}
+use Rattle.std.proofs.lemmas.Bool.{false≢true}
+use Rattle.std.proofs.lemmas.List.{take-take}
 use Rattle.block_format.specs.declared.geometry.Geometry.{Geometry}
 use Rattle.block_format.specs.declared.geometry.Gate.{Gate}
 use Rattle.block_format.specs.declared.geometry.Gate.TheVariants.{Shut, Set, Unsure}
 use Rattle.block_format.specs.Layout.{gate_sector, block_place}
 use Rattle.recovery.proofs.Opening.{all_joined}
-use Rattle.block_shelf.specs.View.{shut_blocks}
+use Rattle.block_shelf.specs.View.{AreApart}
 use Rattle.shard_core.specs.Finding.{is_set, IsSure, TellsSector, AreGates, set_blocks}
 
 -- ---- read one after another
@@ -94,88 +93,18 @@ set_more gates k opened is =
     let here : 0 + k ≡ k = omega arith in
     ap (λ (n : ℕ). set_blocks 0 (take n gates)) next ∙ set_from 0 gates k at.0 at.1 ∙ ap (λ (b : Bool). set_blocks 0 (take k gates) ++ end_of b (0 + k)) at.2 ∙ ap (λ (n : ℕ). set_blocks 0 (take k gates) ++ end_of opened n) here
 
--- ---- the blocks that they leave
-
-any_joined : (k : ℕ) (xs ys : List ℕ) → list_any (λ o. o == k) (xs ++ ys) ≡ list_any (λ o. o == k) xs || list_any (λ o. o == k) ys
-any_joined k [] ys = refl
-any_joined k (x ∷ xs) ys = ap (λ (t : Bool). (x == k) || t) (any_joined k xs ys) ∙ grouped (x == k) (list_any (λ o. o == k) xs) (list_any (λ o. o == k) ys)
-  where
-    grouped : (p q r : Bool) → (p || (q || r)) ≡ ((p || q) || r)
-    grouped true q r = refl
-    grouped false q r = refl
-
-none_of : (k : ℕ) (xs : List ℕ) → AllByRecursion (λ x. x ≢ k) xs → list_any (λ o. o == k) xs ≡ false
-none_of k [] all = refl
-none_of k (x ∷ xs) all = ap (λ (t : Bool). t || list_any (λ o. o == k) xs) (ne_eqb x k all.0) ∙ none_of k xs all.1
-
-set_above : (k b : ℕ) (gates : List Gate) → k < b → AllByRecursion (λ x. x ≢ k) (set_blocks b gates)
+set_above : (k b : ℕ) (gates : List Gate) → k < b → AllByRecursion (λ x. k ≢ x) (set_blocks b gates)
 set_above k b [] lt = tt
 set_above k b (Shut ∷ gates) lt = set_above k (b + 1) gates (omega arith)
 set_above k b (Set ∷ gates) lt = (λ same. apart b same lt, set_above k (b + 1) gates (omega arith))
   where
-    apart : (c : ℕ) → c ≡ k → k < c → ⊥
+    apart : (c : ℕ) → k ≡ c → k < c → ⊥
     apart c same less = omega arith
 set_above k b (Unsure ∷ gates) lt = set_above k (b + 1) gates (omega arith)
 
-below_next : (b : ℕ) (front : List ℕ) → AllByRecursion (λ x. x < b) front → AllByRecursion (λ x. x < b + 1) front
-below_next b [] all = tt
-below_next b (x ∷ front) all = (step x all.0, below_next b front all.1)
-  where
-    step : (n : ℕ) → n < b → n < b + 1
-    step n lt = omega arith
-
-below_apart : (b : ℕ) (front : List ℕ) → AllByRecursion (λ x. x < b) front → AllByRecursion (λ x. x ≢ b) front
-below_apart b [] all = tt
-below_apart b (x ∷ front) all = (λ same. apart x same all.0, below_apart b front all.1)
-  where
-    apart : (n : ℕ) → n ≡ b → n < b → ⊥
-    apart n same lt = omega arith
-
-abbrev left : List ℕ → ℕ → Bool
-left opened k = not (list_any (λ o. o == k) opened)
-
-shut_from : (b : ℕ) (gates : List Gate) (front : List ℕ) → AllByRecursion IsSure gates → AllByRecursion (λ x. x < b) front → shut_blocks b gates ≡ filter (left (front ++ set_blocks b gates)) (range_with_len b (length gates))
-shut_from b [] front sure below = refl
-shut_from b (Shut ∷ gates) front sure below =
-    let kept : left (front ++ set_blocks (b + 1) gates) b ≡ true = ap not (any_joined b front (set_blocks (b + 1) gates) ∙ ap (λ (t : Bool). t || list_any (λ o. o == b) (set_blocks (b + 1) gates)) (none_of b front (below_apart b front below)) ∙ none_of b (set_blocks (b + 1) gates) (set_above b (b + 1) gates (omega arith))) in
-    ap (λ (l : List ℕ). b ∷ l) (shut_from (b + 1) gates front sure.1 (below_next b front below))
-    ∙ sym (ap (λ (t : Bool). cond t (b ∷ filter (left (front ++ set_blocks (b + 1) gates)) (range_with_len (b + 1) (length gates))) (filter (left (front ++ set_blocks (b + 1) gates)) (range_with_len (b + 1) (length gates)))) kept)
-shut_from b (Set ∷ gates) front sure below =
-    let gone : left (front ++ b ∷ set_blocks (b + 1) gates) b ≡ false = ap not (any_joined b front (b ∷ set_blocks (b + 1) gates) ∙ ap (λ (t : Bool). list_any (λ o. o == b) front || (t || list_any (λ o. o == b) (set_blocks (b + 1) gates))) (eq-eqb b b refl) ∙ or_true (list_any (λ o. o == b) front)) in
-    shut_from (b + 1) gates (front ++ b ∷ []) sure.1 (all_joined (λ x. x < b + 1) front (b ∷ []) (below_next b front below) (omega arith, tt))
-    ∙ ap (λ (l : List ℕ). filter (left l) (range_with_len (b + 1) (length gates))) (append_assoc front (b ∷ []) (set_blocks (b + 1) gates))
-    ∙ sym (ap (λ (t : Bool). cond t (b ∷ filter (left (front ++ b ∷ set_blocks (b + 1) gates)) (range_with_len (b + 1) (length gates))) (filter (left (front ++ b ∷ set_blocks (b + 1) gates)) (range_with_len (b + 1) (length gates)))) gone)
-  where
-    or_true : (t : Bool) → (t || true) ≡ true
-    or_true true = refl
-    or_true false = refl
-shut_from b (Unsure ∷ gates) front sure below = absurd sure.0
-
--- the blocks whose gate is closed are those that aren't opened
-pub shut_are_left : (gates : List Gate) (blocks : ℕ) → AllByRecursion IsSure gates → length gates ≡ blocks → shut_blocks 0 gates ≡ unused built (set_blocks 0 gates) (range_with_len 0 blocks)
-shut_are_left gates blocks sure count = shut_from 0 gates [] sure tt ∙ ap (λ (n : ℕ). filter (left (set_blocks 0 gates)) (range_with_len 0 n)) count
-
--- none of them has an open gate
-shut_not_set : (b : ℕ) (gates : List Gate) (k : ℕ) → slice_get gates k ≡ Some Set → AllByRecursion (λ x. x ≢ b + k) (shut_blocks b gates)
-shut_not_set b [] k is = tt
-shut_not_set b (Shut ∷ gates) zero is = cc
-shut_not_set b (Shut ∷ gates) (suc k) is = (λ same. apart same, subst (λ (n : ℕ). AllByRecursion (λ x. x ≢ n) (shut_blocks (b + 1) gates)) (omega arith) (shut_not_set (b + 1) gates k is))
-  where
-    apart : b ≡ b + suc k → ⊥
-    apart same = omega arith
-shut_not_set b (Set ∷ gates) zero is = shut_above (b + 0) (b + 1) gates (omega arith)
-  where
-    shut_above : (n c : ℕ) (rest : List Gate) → n < c → AllByRecursion (λ x. x ≢ n) (shut_blocks c rest)
-    shut_above n c [] lt = tt
-    shut_above n c (Shut ∷ rest) lt = (λ same. less c same lt, shut_above n (c + 1) rest (omega arith))
-      where
-        less : (m : ℕ) → m ≡ n → n < m → ⊥
-        less m same below = omega arith
-    shut_above n c (Set ∷ rest) lt = shut_above n (c + 1) rest (omega arith)
-    shut_above n c (Unsure ∷ rest) lt = shut_above n (c + 1) rest (omega arith)
-shut_not_set b (Set ∷ gates) (suc k) is = subst (λ (n : ℕ). AllByRecursion (λ x. x ≢ n) (shut_blocks (b + 1) gates)) (omega arith) (shut_not_set (b + 1) gates k is)
-shut_not_set b (Unsure ∷ gates) zero is = cc
-shut_not_set b (Unsure ∷ gates) (suc k) is = subst (λ (n : ℕ). AllByRecursion (λ x. x ≢ n) (shut_blocks (b + 1) gates)) (omega arith) (shut_not_set (b + 1) gates k is)
-
-pub opened_not_free : (gates : List Gate) (k : ℕ) → slice_get gates k ≡ Some Set → AllByRecursion (λ x. x ≢ k) (shut_blocks 0 gates)
-opened_not_free gates k is = let here : 0 + k ≡ k = omega arith in subst (λ (n : ℕ). AllByRecursion (λ x. x ≢ n) (shut_blocks 0 gates)) here (shut_not_set 0 gates k is)
+-- each of them once
+pub opened_apart : (b : ℕ) (gates : List Gate) → AreApart (set_blocks b gates)
+opened_apart b [] = tt
+opened_apart b (Shut ∷ gates) = opened_apart (b + 1) gates
+opened_apart b (Set ∷ gates) = (set_above b (b + 1) gates (omega arith), opened_apart (b + 1) gates)
+opened_apart b (Unsure ∷ gates) = opened_apart (b + 1) gates

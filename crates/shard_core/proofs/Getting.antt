@@ -20,16 +20,15 @@ use Rattle.device_model.specs.Legal.{Allowed, Reads, ReadInstead, WhereReads}
 use Rattle.rec_format.proofs.Laws.{same_digest_is}
 use Rattle.disk_model.specs.Disk.{DiskView, IsDisk, IsHonest}
 use Rattle.expiry_rule.specs.Seen.{seen_entry, is_live_entry}
-use Rattle.block_format.specs.declared.geometry.Geometry.{Geometry}
-use Rattle.write_buffer.specs.Buffers.{BufferState}
+use Rattle.kept_images.proofs.Holding.{fewer_holds}
 use Rattle.block_shelf.specs.declared.place.Place.{Place}
-use Rattle.block_shelf.specs.declared.place.ShelfLimits.{ShelfLimits}
 use Rattle.block_shelf.specs.declared.refusals.ReadRefusal.{ReadRefusal}
 use Rattle.block_shelf.specs.declared.refusals.ReadRefusal.TheVariants as read
-use Rattle.block_shelf.specs.View.{ShelfView, SameBuffers}
+use Rattle.block_shelf.specs.View.{ShelfView, records_of, gate_at}
 use Rattle.block_shelf.specs.Disks.{OnlyRead}
 use Rattle.block_shelf.specs.Standing.{StandsFor, IsPlaced}
-use Rattle.block_shelf.specs.Calls.{Goes, live_at, HasRead, IsUndamaged}
+use Rattle.block_shelf.specs.Calls.{Goes, copy_live}
+use Rattle.block_shelf.specs.Reads.{HasRead, IsUndamaged}
 use Rattle.rec_format.specs.Entries.{Names}
 use Rattle.shard_core.specs.Index.{held, place_of}
 use Rattle.shard_core.specs.View.{ShardView, SameSetup, setup_of}
@@ -40,31 +39,25 @@ use Rattle.shard_core.proofs.Making.{makes_by}
 
 -- ---- a disk that was only read
 
-same_view : {D : Type 0} (old new : ShelfView D) → SameBuffers old new → record old { disk = new.disk } ≡ new
-same_view {D} old new same =
-    ap (λ (g : Geometry). record { disk = new.disk; geometry = g; limits = old.limits; buffers = old.buffers; free = old.free; next_number = old.next_number }) (sym same.geometry)
-    ∙ ap (λ (l : ShelfLimits). record { disk = new.disk; geometry = new.geometry; limits = l; buffers = old.buffers; free = old.free; next_number = old.next_number }) (sym same.limits)
-    ∙ ap (λ (b : List BufferState). record { disk = new.disk; geometry = new.geometry; limits = new.limits; buffers = b; free = old.free; next_number = old.next_number }) (sym same.buffers)
-    ∙ ap (λ (f : List ℕ). record { disk = new.disk; geometry = new.geometry; limits = new.limits; buffers = new.buffers; free = f; next_number = old.next_number }) (sym same.free)
-    ∙ ap (λ (n : ℕ). record { disk = new.disk; geometry = new.geometry; limits = new.limits; buffers = new.buffers; free = new.free; next_number = n }) (sym same.next_number)
-
-stands_over : {D : Type 0} (old : ShelfView D) (disk : D) (s : State) → StandsFor old s → StandsFor (record old { disk = disk }) s
-stands_over old disk s stands = record {
+pub stands_over : {D : Type 0} (setup : Setup) (old : ShelfView D) (disk : D) (s : State) → StandsFor setup old s → StandsFor setup (record old { disk = disk }) s
+stands_over setup old disk s stands = record {
   buffers = stands.buffers;
   free = stands.free;
   next = stands.next;
-  numbers = stands.numbers;
-  records = stands.records;
-  live = λ d l v is there. let here = stands.live d l v is there in record { units = here.units; block = here.block; within = here.within; used = here.used; buffered = here.buffered };
+  holds = stands.holds;
+  lives = stands.lives;
+  listed = stands.listed;
+  order = stands.order;
+  entries = stands.entries;
 }
 
 module _ {D : Type 0} (view : D → DiskView) where
-  pub goes_read : (setup : Setup) (old new : ShelfView D) (s : State) → SameBuffers old new → OnlyRead (view old.disk) (view new.disk) → IsDisk (view new.disk)
-      → StandsFor old s → Goes view setup [] old s new
-  goes_read setup old new s same only now stands = subst (λ (v : ShelfView D). Goes view setup [] old s v) (same_view old new same) (record {
-    stands = stands_over old new.disk s stands;
+  pub goes_read : (setup : Setup) (old new : ShelfView D) (s : State) → new ≡ record old { disk = new.disk } → OnlyRead (view old.disk) (view new.disk) → IsDisk (view new.disk)
+      → StandsFor setup old s → Goes view setup [] old s new
+  goes_read setup old new s same only now stands = subst (λ (v : ShelfView D). Goes view setup [] old s v) (sym same) (record {
+    stands = stands_over setup old new.disk s stands;
     placed = λ honest placed. record { there = λ d l v is there none c left. placed.there d l v is there none c (within honest c left) };
-    safe = λ honest safe. record { orderly = safe.orderly; images = λ c left. safe.images c (within honest c left) };
+    safe = λ honest safe. fewer_holds setup old.geometry s (records_of old.buffers) (gate_at old.gates) (view old.disk).may_leave safe (view new.disk).may_leave (within honest);
     leaves = λ honest safe. record { time = only.time; each = λ c left. inl (safe_survives setup view old s safe c (only.images honest c left)) };
   })
     where
@@ -148,7 +141,7 @@ module _ {D : Type 0} (view : D → DiskView)
           → Allowed (setup_of old) told s (record { call = get_call digest now; answer = found_version None; steps = []; faults_before = (view old.shelf.disk).faults; faults_after = (view old.shelf.disk).faults }) (get_call digest now)
       found told nothing = inl (None, refl, refl, subst (λ (o : Option Version). Reads told o None) (sym nothing) refl)
 
-  module _ (e : Entry) (is : SeenIs s now digest old.index e) (result : Result Version ReadRefusal) (shape : SameSetup old new) (same : SameBuffers old.shelf new.shelf) (index : new.index ≡ old.index)
+  module _ (e : Entry) (is : SeenIs s now digest old.index e) (result : Result Version ReadRefusal) (shape : SameSetup old new) (same : new.shelf ≡ record old.shelf { disk = new.shelf.disk }) (index : new.index ≡ old.index)
       (only : OnlyRead (view old.shelf.disk) (view new.shelf.disk)) (has_now : IsDisk (view new.shelf.disk))
       (names : IfOk result (Names e)) (cause : IfErr result (λ refusal. refusal ≡ read.Fault → Rose (view old.shelf.disk).faults (view new.shelf.disk).faults))
       (written : IsHonest (view old.shelf.disk) → IsPlaced view old.shelf s → MatchResult result (λ v. v ≡ is.version) IsUndamaged) where
@@ -183,7 +176,7 @@ seen_held now (Some x) e is = by (is_live_entry now x) is
 
 -- the live copy of an entry that is held
 pub record LiveIs (s : State) (e : Entry) (v : Version) (place : Place) : Type 0 where
-  pub live : live_of e.digest s.book.live ≡ Some (live_at e.digest place)
+  pub live : live_of e.digest s.book.live ≡ Some (copy_live e.digest place)
   pub entry_is : device.entry s e.digest ≡ Some v
 
 pub live_is : (setup : Setup) (s : State) (now : ℕ) (digest : Digest) (index : List Entry) (e : Entry) (place : Place) → Lists setup index s → (is : SeenIs s now digest index e) → same_digest digest e.digest ≡ true → place ≡ place_of e
@@ -191,8 +184,8 @@ pub live_is : (setup : Setup) (s : State) (now : ℕ) (digest : Digest) (index :
 live_is setup s now digest index e place lists is same at =
     let one : digest ≡ e.digest = same_digest_is digest e.digest same in
     record {
-      live = subst (λ (d : Digest). live_of d s.book.live ≡ Some (live_at e.digest place)) one
-          (lists.places digest ∙ ap (option_map live_of_entry) is.held_is ∙ ap (λ (p : Place). Some (live_at e.digest p)) (sym at));
+      live = subst (λ (d : Digest). live_of d s.book.live ≡ Some (copy_live e.digest place)) one
+          (lists.places digest ∙ ap (option_map live_of_entry) is.held_is ∙ ap (λ (p : Place). Some (copy_live e.digest p)) (sym at));
       entry_is = subst (λ (d : Digest). device.entry s d ≡ Some is.version) one is.entry_is;
     }
 

@@ -6,8 +6,8 @@ use Rattle.device_model.specs.Steps.{Step, after_step, after_steps, states_throu
 use Rattle.disk_model.specs.Disk.{Images, DiskView, IsDisk, IsHonest}
 use Rattle.disk_model.specs.Runs.{OneOf, leaves_none, leaves_then, leaves_more}
 use Rattle.recovery.specs.Surviving.{Survives}
-use Rattle.recovery.proofs.Held.{reflection_survives}
-use Rattle.block_shelf.specs.View.{ShelfView}
+use Rattle.kept_images.proofs.Held.{held_survives}
+use Rattle.block_shelf.specs.View.{ShelfView, records_of, gate_at}
 use Rattle.block_shelf.specs.Standing.{StandsFor, IsSafe, IsPlaced}
 use Rattle.block_shelf.specs.Calls.{Goes}
 
@@ -33,11 +33,11 @@ one_behind setup P (step ∷ first) then s image there = inr (one_behind setup P
 
 -- a safe shelf's images survive its state
 pub safe_survives : {D : Type 0} (setup : Setup) (view : D → DiskView) (shelf : ShelfView D) (s : State) → IsSafe setup view shelf s → (image : List ℕ) → (view shelf.disk).may_leave image → Survives setup s image
-safe_survives setup view shelf s safe image here = let held = safe.images image here in reflection_survives setup s image held.0 safe.orderly held.1
+safe_survives setup view shelf s safe image here = held_survives setup shelf.geometry s (records_of shelf.buffers) (gate_at shelf.gates) (view shelf.disk).may_leave safe.held image here
 
 module _ {D : Type 0} (view : D → DiskView) (setup : Setup) where
   -- no step
-  pub goes_none : (shelf : ShelfView D) (s : State) → IsDisk (view shelf.disk) → StandsFor shelf s → Goes view setup [] shelf s shelf
+  pub goes_none : (shelf : ShelfView D) (s : State) → IsDisk (view shelf.disk) → StandsFor setup shelf s → Goes view setup [] shelf s shelf
   goes_none shelf s now stands = record {
     stands = stands;
     placed = λ honest placed. placed;
@@ -49,7 +49,7 @@ module _ {D : Type 0} (view : D → DiskView) (setup : Setup) where
       → Goes view setup first old s mid → Goes view setup then mid (after_steps setup first s) new
       → Goes view setup (first ++ then) old s new
   goes_then first then old mid new s honest one two = record {
-    stands = subst (λ (t : State). StandsFor new t) both two.stands;
+    stands = subst (λ (t : State). StandsFor setup new t) both two.stands;
     placed = λ was placed. subst (λ (t : State). IsPlaced view new t) both (two.placed (honest was) (one.placed was placed));
     safe = λ was safe. subst (λ (t : State). IsSafe setup view new t) both (two.safe (honest was) (one.safe was safe));
     leaves = λ was safe. leaves_then

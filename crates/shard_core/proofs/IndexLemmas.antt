@@ -3,7 +3,8 @@ use Rattle.std.proofs.Common.{◌≡◌, ◌≢◌, ◌⊎◌, inl, inr, ⊎_eli
 use Rattle.std.specs.Prelude.{Option, Some, None, IfSome, Contains, nat_eq, ◌==◌}
 use Rattle.std.specs.Cmp.Lexicographic.{pointwise}
 use Rattle.std.specs.Ordering.{ord_max, nat_cmp}
-use Rattle.std.proofs.lemmas.Bool.{cond-true, cond-false, eq-eqb, ne_eqb}
+use Rattle.std.specs.List.{AllByRecursion}
+use Rattle.std.proofs.lemmas.Bool.{cond-true, cond-false, both_ways, eq-eqb, ne_eqb}
 use Rattle.std.proofs.lemmas.List.{set_at, take_more, drop_more, take-append-drop, length-take-le, get_or_at}
 use Rattle.std.proofs.lemmas.List.Elements.{Contains-append_cases, Contains-append_left, Contains-append_right}
 use lib.Pointwise.{bytes_decides}
@@ -13,7 +14,8 @@ use Rattle.rec_format.specs.Places.{same_digest, part_number_of}
 use Rattle.rec_format.proofs.Laws.{same_digest_refl, same_digest_is}
 use Rattle.recovery.proofs.Growing.{cons_cases, all_at, all_from}
 use Rattle.recovery.proofs.Members.{first_there, rest_there}
-use Rattle.shard_core.specs.Index.{held, high_of, IsPositionOf, WithEntry}
+use Rattle.recovery.proofs.Opening.{all_joined, all_parted}
+use Rattle.shard_core.specs.Index.{HaveOwnDigests, held, high_of, IsPositionOf, WithEntry}
 
 abbrev or_else : Option Entry → Option Entry → Option Entry
 or_else None other = other
@@ -37,7 +39,7 @@ held_hit : (d : Digest) (xs ys : List Entry) (r : Entry) → held d xs ≡ None 
 held_hit d xs ys r none same = held-append d xs (r ∷ ys) ∙ ap (λ (o : Option Entry). or_else o (held d (r ∷ ys))) none ∙ cond-true (same_digest d r.digest) (Some r) (held d ys) same
 
 -- two tests that follow from one another are one
-same_tests : (p q : Bool) → (p ≡ true → q ≡ true) → (q ≡ true → p ≡ true) → p ≡ q
+pub same_tests : (p q : Bool) → (p ≡ true → q ≡ true) → (q ≡ true → p ≡ true) → p ≡ q
 same_tests true q f g = sym (f refl)
 same_tests false true f g = g refl
 same_tests false false f g = refl
@@ -164,7 +166,64 @@ holds_set e xs i p later =
           (each_at p.before p.after p.here e p.none p.same x (subst (λ (l : List Entry). Contains l x) there in_new))));
     }
 
--- an entry more, in a walk over them
+-- ---- digests of their own
+
+other_way : (a b : Digest) → same_digest a b ≡ false → same_digest b a ≡ false
+other_way a b other = by (same_digest b a) refl
+  where
+    by : (t : Bool) → same_digest b a ≡ t → t ≡ false
+    by false is = refl
+    by true is = absurd (both_ways (same_digest a b) other (ap (same_digest a) (same_digest_is b a is) ∙ same_digest_refl a))
+
+none_same : (d : Digest) (xs : List Entry) → held d xs ≡ None → AllByRecursion (λ x. same_digest d x.digest ≡ false) xs
+none_same d [] none = tt
+none_same d (x ∷ xs) none = by (same_digest d x.digest) refl none (none_same d xs)
+  where
+    by : (b : Bool) → same_digest d x.digest ≡ b → cond b (Some x) (held d xs) ≡ None → (held d xs ≡ None → AllByRecursion (λ y. same_digest d y.digest ≡ false) xs) → AllByRecursion (λ y. same_digest d y.digest ≡ false) (x ∷ xs)
+    by true is some rest = absurd (cc)
+    by false is none rest = (is, rest none)
+
+own_joined : (e : Entry) (xs : List Entry) → AllByRecursion (λ x. same_digest e.digest x.digest ≡ false) xs → HaveOwnDigests xs → HaveOwnDigests (xs ++ e ∷ [])
+own_joined e [] other own = (tt, tt)
+own_joined e (x ∷ xs) other own = (all_joined (λ y. same_digest x.digest y.digest ≡ false) xs (e ∷ []) own.0 (other_way e.digest x.digest other.0, tt), own_joined e xs other.1 own.1)
+
+-- no digest has two entries where one more is put at the end
+pub own_pushed : (e : Entry) (xs : List Entry) → held e.digest xs ≡ None → HaveOwnDigests xs → HaveOwnDigests (xs ++ e ∷ [])
+own_pushed e xs none own = own_joined e xs (none_same e.digest xs none) own
+
+own_at : (before after : List Entry) (prior e : Entry) → e.digest ≡ prior.digest → HaveOwnDigests (before ++ prior ∷ after) → HaveOwnDigests (before ++ e ∷ after)
+own_at [] after prior e same own = (subst (λ (d : Digest). AllByRecursion (λ x. same_digest d x.digest ≡ false) after) (sym same) own.0, own.1)
+own_at (b ∷ before) after prior e same own =
+    let parts = all_parted (λ x. same_digest b.digest x.digest ≡ false) before (prior ∷ after) own.0 in
+    (all_joined (λ x. same_digest b.digest x.digest ≡ false) before (e ∷ after) parts.0 (ap (same_digest b.digest) same ∙ parts.1.0, parts.1.1), own_at before after prior e same own.1)
+
+-- nor where it takes the place of the digest's entry
+pub own_set : (e : Entry) (xs : List Entry) (i : ℕ) → IsPositionOf e.digest xs i → HaveOwnDigests xs → HaveOwnDigests (set xs i e)
+own_set e xs i p own =
+    let there = ap (λ (l : List Entry). set l i e) p.parts ∙ set_at p.before p.here p.after e i p.counted in
+    subst HaveOwnDigests (sym there) (own_at p.before p.after p.here e (same_digest_is e.digest p.here.digest p.same) (subst HaveOwnDigests p.parts own))
+
+-- an entry of an index is what it has of its digest
+pub held_own : (xs : List Entry) (e : Entry) → HaveOwnDigests xs → Contains xs e → held e.digest xs ≡ Some e
+held_own [] e own there = absurd (omega (arith, there.1))
+held_own (x ∷ xs) e own there = by (cons_cases x xs e there) (held_own xs e own.1)
+  where
+    by : (x ≡ e) ⊎ Contains xs e → (Contains xs e → held e.digest xs ≡ Some e) → held e.digest (x ∷ xs) ≡ Some e
+    by (inl same) rest = cond-true (same_digest e.digest x.digest) (Some x) (held e.digest xs) (ap (λ (y : Entry). same_digest e.digest y.digest) same ∙ same_digest_refl e.digest) ∙ ap Some same
+    by (inr more) rest = cond-false (same_digest e.digest x.digest) (Some x) (held e.digest xs) (other_way x.digest e.digest (all_at (λ y. same_digest x.digest y.digest ≡ false) xs e own.0 more)) ∙ rest more
+
+-- what an index has of a digest is one of its entries
+pub held_there : (d : Digest) (xs : List Entry) (e : Entry) → held d xs ≡ Some e → Contains xs e
+held_there d [] e is = absurd (cc)
+held_there d (x ∷ xs) e is = by (same_digest d x.digest) is (held_there d xs e)
+  where
+    by : (b : Bool) → cond b (Some x) (held d xs) ≡ Some e → (held d xs ≡ Some e → Contains xs e) → Contains (x ∷ xs) e
+    by true at rest = let same : x ≡ e = cc in subst (Contains (x ∷ xs)) same (first_there x xs)
+    by false at rest = rest_there x xs e (rest at)
+
+-- ---- a walk over them
+
+-- an entry more
 pub high_step : (devices sprigs part : ℕ) (xs : List Entry) (i : ℕ) (other : Entry) → i < length xs → (number : ℕ) → number ≡ part_number_of devices sprigs (get_or xs i other).digest → (high next : ℕ)
     → high ≡ high_of devices sprigs part (take i xs) → ((number ≡ part) × (next ≡ max high (get_or xs i other).stamp.lut)) ⊎ ((number ≢ part) × (next ≡ high)) → next ≡ high_of devices sprigs part (take (i + 1) xs)
 high_step devices sprigs part xs i other lt number numbered high next so_far step =

@@ -6,6 +6,9 @@ pub mod Reading
 pub mod Keeping
 pub mod Gates
 pub mod Scans
+pub mod GatesKnown
+pub mod CopyPlaces
+pub mod FoundCopies
 pub mod Showing
 pub mod FoundEntries
 pub mod Beginning
@@ -15,5 +18,6 @@ pub mod FlushLoop
 pub mod Later
 pub mod Making
 pub mod Getting
+pub mod Priors
 pub mod Placed
 pub mod Puts

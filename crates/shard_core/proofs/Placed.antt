@@ -8,7 +8,6 @@ use Rattle.rec_format.specs.declared.version.Digest.{Digest}
 use Rattle.rec_format.specs.declared.version.Version.{Version}
 use Rattle.rec_format.specs.Places.{same_digest}
 use Rattle.rec_format.specs.Versions.{version_units}
-use Rattle.device_model.specs.Policy.{built}
 use Rattle.device_model.specs.Book.{Setup, Book, Buffer, Live, client, sealed, is_filling, same_stream, filling_buffer, has_room, sealed_if, seal_stream, with_new_buffer, with_room, used_more, put_in, placed, refreshed, number_or, placing_number, live_of, without_live}
 use Rattle.device_model.specs.Device.{State}
 use Rattle.device_model.specs.Steps.{wrote, sealed_stream, after_step}
@@ -82,8 +81,8 @@ module _ (setup : Setup) (digest : Digest) (units : ℕ) (book : Book) where
   unfolding refreshed
   live_are = ap (λ (b : Book). b.live) put_is ∙ ap (λ (l : List Live). copy_in digest units room.buffer ∷ without_live digest l) (room_live setup units book)
 
-  queue_is : setup.policy ≡ built → (placed setup client digest units book).queue ≡ []
-  queue_is policy = ap (λ (b : Book). b.queue) put_is ∙ refreshed_queue setup policy _
+  queue_is : setup.lwm ≡ 0 → (placed setup client digest units book).queue ≡ []
+  queue_is low = ap (λ (b : Book). b.queue) put_is ∙ refreshed_queue setup low _
 
   filling_is : filling_buffer client (placed setup client digest units book).buffers ≡ Some (used_more room.buffer.number units room.buffer)
   filling_is = ap (filling_buffer client) buffers_are ∙ used_found room.buffer.number units ready.buffers room.buffer room.found
@@ -186,8 +185,8 @@ module _ (setup : Setup) (s : State) (digest : Digest) (v : Version) where
   other_live d other = ap (λ (b : Book). live_of d b.live) book_is ∙ ap (live_of d) (live_are setup digest (version_units v) s.book)
       ∙ ap (λ (c : Bool). cond c (Some (copy_in digest (version_units v) own_taker)) (live_of d (without_live digest s.book.live))) other ∙ live_stays d digest s.book.live other
 
-  pub wrote_queue : setup.policy ≡ built → after.book.queue ≡ []
-  wrote_queue policy = ap (λ (b : Book). b.queue) book_is ∙ queue_is setup digest (version_units v) s.book policy
+  pub wrote_queue : setup.lwm ≡ 0 → after.book.queue ≡ []
+  wrote_queue low = ap (λ (b : Book). b.queue) book_is ∙ queue_is setup digest (version_units v) s.book low
 
   -- the buffer that is filled is in the block of the copy
   pub record Filled : Type 0 where

@@ -1,6 +1,6 @@
 -- A put makes one event that may follow, and the shard stands for the state after it.
 use Rattle.std.proofs.Common.{◌≡◌, inl, inr, ℕ, ◌+◌, ◌<◌, ◌≤◌, max, Bool, true, false, cond, List, [], ◌∷◌, ◌++◌, length, refl, sym, ◌∙◌, ap, subst, arith}
-use Rattle.std.specs.Prelude.{◌⊎◌, Option, Some, None, MatchOption, MatchResult, IfSome, Contains, map, Result, Ok, Err, option_map, nat_lt, nat_le, ◌==◌, if◌then◌else◌}
+use Rattle.std.specs.Prelude.{◌⊎◌, Option, Some, None, MatchOption, IfSome, Contains, map, Result, Ok, Err, option_map, nat_lt, nat_le, ◌==◌, if◌then◌else◌}
 use Rattle.std.specs.List.{AllByRecursion}
 use Rattle.std.proofs.Math.Nat.{le_refl}
 use Rattle.std.proofs.lemmas.Bool.{false≢true, le-ltb, lt-ltb, ltb-true, leb-true}
@@ -10,20 +10,20 @@ use Rattle.rec_format.specs.declared.version.Stamp.{Stamp}
 use Rattle.rec_format.specs.declared.version.Version.{Version}
 use Rattle.rec_format.specs.declared.entry.Entry.{Entry}
 use Rattle.rec_format.specs.Places.{IsDigest, same_digest, device_number, part_number_of}
-use Rattle.rec_format.specs.Versions.{is_later, is_later_stamp, is_put, a_put, units_for, version_units, new_stamp, wanted_stamp, top_number, block_capacity, IsVersion}
-use Rattle.device_model.specs.Histories.{Item, write, dropped, rid, cleared, top_of, is_covered, writes_of}
-use Rattle.device_model.specs.Book.{Setup, Book, Buffer, Live, client, placing_number, live_of, live_of_entry}
+use Rattle.rec_format.specs.Versions.{a_put, units_for, version_units, new_stamp, wanted_stamp, top_number, block_capacity, IsVersion}
+use Rattle.device_model.specs.Histories.{Item, top_of, is_covered}
+use Rattle.device_model.specs.Book.{Setup, Book, Buffer, Live, client, has_room, placing_number, live_of, live_of_entry}
 use Rattle.device_model.specs.Device.{State, history, entry, entry_is_covered, stamp_of, next_stamp_of, part_of, high_time}
-use Rattle.device_model.specs.Steps.{Step, wrote, sealed_stream, after_step, after_steps}
-use Rattle.device_model.specs.Events.{Event, Call, Answer, put_call, stamp_given, refused, Cause, too_big, spent, disk_fault}
+use Rattle.device_model.specs.Steps.{Step, wrote, sealed_stream, after_step, after_steps, states_through}
+use Rattle.device_model.specs.Events.{Event, Call, Answer, put_call, stamp_given, refused, Cause, too_big, spent, overload, no_space, disk_fault}
 use Rattle.device_model.specs.Legal.{Allowed, Unless, WriteEnds, NoMemory, the_stamp, new_put, put_refusal, put_reserve, no_write, no_place, first_cause, flush_between, flush_all, flush_count, StopsIn}
-use Rattle.device_model.proofs.Laws.{wanted_later, later_than_all}
 use Rattle.rec_format.proofs.Laws.{same_digest_is}
 use Rattle.disk_model.specs.Disk.{DiskView, IsDisk, IsHonest}
-use Rattle.disk_model.specs.Runs.{OneOf, Leaves, leaves_none}
+use Rattle.disk_model.specs.Runs.{OneOf, Leaves}
 use Rattle.recovery.specs.Surviving.{Survives}
-use Rattle.recovery.specs.Orderly.{AreWrites, IsFalling, IsOrderly}
-use Rattle.recovery.specs.Writes.{MayFollow}
+use Rattle.kept_facts.specs.Facts.{Possible, HasFacts}
+use Rattle.kept_facts.specs.Asking.{MayBeWritten}
+use Rattle.kept_facts.proofs.Writable.{put_may}
 use Rattle.recovery.proofs.Each.{all_map}
 use Rattle.recovery.proofs.Growing.{all_at}
 use Rattle.recovery.proofs.HeldWrites.{written_item, wrote_history}
@@ -36,17 +36,18 @@ use Rattle.write_buffer.specs.Buffers.{BufferState}
 use Rattle.block_shelf.specs.View.{ShelfView, IsShelf, IsBufferOf, IsSetupOf}
 use Rattle.block_shelf.specs.Standing.{book_buffer}
 use Rattle.block_shelf.specs.Standing as shelf
-use Rattle.block_shelf.specs.Calls.{Goes, IsPlaceFor, live_at, append_refusal, IsPutRefusal}
+use Rattle.block_shelf.specs.Calls.{Goes, copy_live, prior_live}
+use Rattle.block_shelf.specs.Appends.{IsPlaceFor, IsRefusedFor, Takes, append_refusal, refused_steps}
 use Rattle.rec_format.specs.Entries.{Names}
 use Rattle.shard_core.specs.declared.refusals.WriteRefusal.{WriteRefusal}
 use Rattle.shard_core.specs.declared.refusals.WriteRefusal.TheVariants as write_refusals
-use Rattle.shard_core.specs.Index.{held, stamp_held, flag_of, high_of, WithEntry}
-use Rattle.shard_core.specs.View.{ShardView, IsWhole, IsEntryOf, SameSetup, setup_of}
-use Rattle.shard_core.specs.Stands.{Lists, Agrees}
-use Rattle.shard_core.specs.Calls.{Makes, FlushesAll, cause_of_write, write_of, write_answer}
+use Rattle.shard_core.specs.Index.{held, stamp_held, flag_of, place_of, high_of, WithEntry}
+use Rattle.shard_core.specs.View.{ShardView, IsEntryOf, SameSetup, setup_of}
+use Rattle.shard_core.specs.Stands.{Lists, Agrees, IsWhole}
+use Rattle.shard_core.specs.Calls.{IsRefusedWrite, Makes, FlushesAll, cause_of_write, write_of, write_answer}
 use Rattle.shard_core.specs.Putting.{given_stamp, IsNewPut, IsUngiven, Wrote, IsUnwritten, Commits}
-use Rattle.shard_core.proofs.Going.{goes_none, goes_then, safe_survives}
-use Rattle.shard_core.proofs.Making.{Stays, IsFlushing, flushes_flushing, steps_stay, lists_stay, setup_is, makes_by}
+use Rattle.shard_core.proofs.Going.{goes_none, goes_then}
+use Rattle.shard_core.proofs.Making.{Stays, IsFlushing, flushes_flushing, steps_stay, lists_stay, setup_is, setup_same, makes_by}
 use Rattle.shard_core.proofs.FlushSteps.{StandRight}
 use Rattle.shard_core.proofs.FlushLoop.{stand_right}
 use Rattle.shard_core.proofs.Getting.{held_is}
@@ -105,23 +106,6 @@ pub given_is : (b : Bool) (wanted stamp : Stamp) → cond b (Some wanted) None �
 given_is true wanted stamp e = (refl, cc)
 given_is false wanted stamp e = absurd (cc)
 
--- what is later than a write is later than all behind it
-falls_behind : (v w : Version) (older : List Version) → is_later v w ≡ true → AllByRecursion (λ u. is_later w u ≡ true) older → AllByRecursion (λ u. is_later v u ≡ true) older
-falls_behind v w older e all = all_map (λ u. is_later w u ≡ true) (λ u. is_later v u ≡ true) older (λ u h. (later_than_all v.stamp w.stamp (write u [] ∷ []) e (h, tt)).0) all
-
--- the stamp after an entry's is later than the whole history, which falls
-later_than_history : (items : List Item) (high now : ℕ) (v : Version) → new_stamp (stamp_of (top_of items)) high now ≡ Some v.stamp → AreWrites items → IsFalling (writes_of items)
-    → AllByRecursion (λ w. is_later v w ≡ true) (writes_of items)
-later_than_history [] high now v e all falls = tt
-later_than_history (write w numbers ∷ older) high now v e all falls =
-    let wanted = (given_is (nat_le (wanted_stamp (Some w.stamp) high now).lut top_number) (wanted_stamp (Some w.stamp) high now) v.stamp e).1 in
-    let after = (wanted_later (write w numbers ∷ []) w.stamp.lut now (tt, tt) (le_refl w.stamp.lut, tt)).0 in
-    let later : is_later v w ≡ true = subst (λ (s : Stamp). is_later_stamp s w.stamp ≡ true) wanted after in
-    (later, falls_behind v w (writes_of older) later falls.0)
-later_than_history (dropped ∷ older) high now v e all falls = absurd all
-later_than_history (rid ∷ older) high now v e all falls = absurd all
-later_than_history (cleared ∷ older) high now v e all falls = absurd all
-
 -- a stamp that may be given behind an entry
 record IsFine (o : Option Entry) (stamp : Stamp) : Type 0 where
   time : (1 ≤ stamp.lut) × (stamp.lut ≤ top_number)
@@ -160,23 +144,35 @@ new_put_is {D} shard digest payload now stamp cover v entries fits given flag is
     timed None same = tt
     timed (Some e) same = (held_is digest (IsEntryOf shard.shelf.geometry) shard.index e entries same).holds.time
 
+pub new_units : {D : Type 0} (shard : ShardView D) (digest : Digest) (payload : List ℕ) (now : ℕ) (v : Version) → IsNewPut shard digest payload now v → version_units v ≡ units_for (length payload)
+new_units shard digest payload now v is = ap version_units is.put
+
 -- ---- the copy
 
 abbrev pub copied : Digest → Version → Place → Entry
 copied digest v place = record { digest = digest; stamp = v.stamp; void = v.void; kind = v.kind; cover = v.cover; mark = 0; block = place.block; unit = place.unit; units = place.units }
 
 -- what the shelf says of a copy that was appended
-abbrev pub Appended : {D : Type 0} → (view : D → DiskView) → Digest → Version → Result Place PutRefusal → (old new : ShelfView D) → Type 0
-Appended view digest v result old new = (setup : Setup) (s : State) → IsSetupOf setup old → shelf.StandsFor old s → MatchResult result
-    (λ place. (append_refusal setup class.Put (version_units v) s.book ≡ None)
-    × (live_of digest (after_step setup (wrote digest v) s).book.live ≡ Some (live_at digest place))
-    × shelf.StandsFor new (after_step setup (wrote digest v) s)
-    × (shelf.IsPlaced view old s → shelf.IsPlaced view new (after_step setup (wrote digest v) s))
-    × (MayFollow setup s digest v → shelf.IsSafe setup view old s → shelf.IsSafe setup view new (after_step setup (wrote digest v) s)))
-    (λ refusal. IsPutRefusal refusal (append_refusal setup class.Put (version_units v) s.book))
+abbrev pub Appended : {D : Type 0} → (view : D → DiskView) → Digest → Version → Place → (prior : Option Place) → (old new : ShelfView D) → Type 0
+Appended view digest v place prior old new = (setup : Setup) (s : State) → IsSetupOf setup old → shelf.StandsFor setup old s → live_of digest s.book.live ≡ prior_live digest prior
+    → (append_refusal setup class.Put (version_units v) s.book ≡ None) × Takes view setup digest v old s new place
+
+-- the copy before is that of the entry
+pub prior_is : (digest : Digest) (index : List Entry) (live : List Live) → live_of digest live ≡ option_map live_of_entry (held digest index) → live_of digest live ≡ prior_live digest (option_map place_of (held digest index))
+prior_is digest index live places = places ∙ by (held digest index) refl
+  where
+    by : (o : Option Entry) → held digest index ≡ o → option_map live_of_entry o ≡ prior_live digest (option_map place_of o)
+    by None is = refl
+    by (Some e) is =
+        let own : digest ≡ e.digest = same_digest_is digest e.digest (held_is digest (λ x. Unit {0}) index e (all_alike index) is).same in
+        ap (λ (d : Digest). Some (copy_live d (place_of e))) (sym own)
+      where
+        all_alike : (es : List Entry) → AllByRecursion (λ x. Unit {0}) es
+        all_alike [] = tt
+        all_alike (x ∷ es) = (tt, all_alike es)
 
 module _ {D : Type 0} (view : D → DiskView) (digest : Digest) (v : Version) (place : Place) (old new : ShelfView D)
-    (kept : IsShelf view old) (appended : Appended view digest v (Ok place) old new) (lies : IsPlaceFor old.geometry (version_units v) place) (geometry : new.geometry ≡ old.geometry) where
+    (lies : IsPlaceFor old.geometry (version_units v) place) (geometry : new.geometry ≡ old.geometry) where
   -- the entry of it is one of the device
   pub copied_is_entry : IsDigest digest → device_number old.geometry.devices digest ≡ old.geometry.device → IsVersion v → IsEntryOf new.geometry (copied digest v place)
   copied_is_entry named own version = subst (λ (g : Geometry). IsEntryOf g (copied digest v place)) (sym geometry) (record {
@@ -196,20 +192,23 @@ module _ {D : Type 0} (view : D → DiskView) (digest : Digest) (v : Version) (p
       let both : AllByRecursion (IsEntryOf new.geometry) (copied digest v place ∷ before) = (one, subst (λ (g : Geometry). AllByRecursion (IsEntryOf g) before) (sym geometry) all) in
       all_map (λ e. Contains (copied digest v place ∷ before) e) (IsEntryOf new.geometry) after (λ e there. all_at (IsEntryOf new.geometry) (copied digest v place ∷ before) e both there) holds.each
 
-  pub wrote_by : (shard : ShardView D) (s : State) (index : List Entry) → shard.shelf ≡ old → IsWhole shard → Agrees shard s → WithEntry (copied digest v place) shard.index index
-      → Wrote view shard s digest v place.block (record { shelf = new; set = shard.set; index = index })
-  wrote_by shard s index same whole agrees holds =
+  pub wrote_by : (shard : ShardView D) (s : State) (index : List Entry) → shard.shelf ≡ old → IsShelf view old → Appended view digest v place (option_map place_of (held digest shard.index)) old new → IsWhole shard → Agrees shard s
+      → WithEntry (copied digest v place) shard.index index → Wrote view shard s digest v place.block (record { shelf = new; set = shard.set; index = index })
+  wrote_by shard s index same kept appended whole agrees holds =
       let setup : Setup = setup_of shard in
-      let all = appended setup s (subst (IsSetupOf setup) same (setup_is shard whole)) (subst (λ (x : ShelfView D). shelf.StandsFor x s) same agrees.shelf) in
+      let all = appended setup s (subst (IsSetupOf setup) same (setup_is shard whole)) (subst (λ (x : ShelfView D). shelf.StandsFor setup x s) same agrees.shelf) (prior_is digest shard.index s.book.live (agrees.index.places digest)) in
+      let takes = all.1 in
       let filled = wrote_filling setup s digest v in
-      let lives : Some (copy_in digest (version_units v) filled.taker) ≡ Some (live_at digest place) = sym filled.live ∙ all.1 in
+      let lives : Some (copy_in digest (version_units v) filled.taker) ≡ Some (copy_live digest place) = sym filled.live ∙ takes.live in
       let book_right : StandRight s.book.buffers = subst StandRight (sym agrees.shelf.buffers) (subst (λ (x : ShelfView D). StandRight (map book_buffer x.buffers)) (sym same) (stand_right old.buffers kept.order)) in
       record {
         allowed = all.0;
-        lists = lists_wrote setup s digest v shard.index index (copied digest v place) agrees.index holds refl (record { kind = refl; stamp = refl; void = refl; units = lies.0 }) refl all.1;
-        stands = all.2;
-        placed = λ placed. all.3 (subst (λ (x : ShelfView D). shelf.IsPlaced view x s) same placed);
-        safe = λ may safe. all.4 may (subst (λ (x : ShelfView D). shelf.IsSafe setup view x s) same safe);
+        lists = lists_wrote setup s digest v shard.index index (copied digest v place) agrees.index holds refl (record { kind = refl; stamp = refl; void = refl; units = lies.0 }) refl takes.live;
+        stands = takes.stands;
+        placed = λ honest placed. takes.placed (over (λ x. IsHonest (view x.disk)) honest) (over (λ x. shelf.IsPlaced view x s) placed);
+        safe = λ honest may safe. takes.safe (over (λ x. IsHonest (view x.disk)) honest) may (over (λ x. shelf.IsSafe setup view x s) safe);
+        leaves = λ honest safe. subst (λ (x : ShelfView D). Leaves (OneOf (Survives setup) (states_through setup (wrote digest v ∷ []) s)) (view x.disk) (view new.disk)) (sym same)
+            (takes.leaves (over (λ x. IsHonest (view x.disk)) honest) (over (λ x. shelf.IsSafe setup view x s) safe));
         buffer = filled.buffer;
         filling = filled.found;
         there = filled.block ∙ live_block lives;
@@ -218,6 +217,9 @@ module _ {D : Type 0} (view : D → DiskView) (digest : Digest) (v : Version) (p
             (subst (λ (x : ShelfView D). AllByRecursion (λ b. b.number < x.next_number) (map book_buffer x.buffers)) (sym same) (book_below old.buffers (all_map (IsBufferOf old.geometry old.next_number) (λ b. b.number < old.next_number) old.buffers (λ b h. h.number) kept.buffers)))));
       }
     where
+      over : (P : ShelfView D → Type 0) → P shard.shelf → P old
+      over P p = subst P same p
+
       live_block : {a b : Live} → Some a ≡ Some b → a.block ≡ b.block
       live_block {a} {b} e = let one : a ≡ b = cc in ap (λ (l : Live). l.block) one
 
@@ -274,35 +276,51 @@ module _ {D : Type 0} (old : ShardView D) (s : State) (digest : Digest) (payload
         ap (λ (o : Option Stamp). a_put (the_stamp o) 0 (entry_is_covered s digest) payload) (stamps_same ∙ is.stamp)
         ∙ ap (λ (c : Bool). a_put v.stamp 0 c payload) (agrees.index.covers digest) ∙ sym is.put
 
-    pub may_follow : device_number old.shelf.geometry.devices digest ≡ old.shelf.geometry.device → IsOrderly s → MayFollow (setup_of old) s digest v
-    may_follow own orderly = record {
-      own = own;
-      version = is.version;
-      put = ap is_put is.put;
-      later = later_than_history (history s digest) (high_time (setup_of old) (part_of (setup_of old) digest) s.log) now v (stamps_same ∙ is.stamp) (orderly digest).writes (orderly digest).falling;
-      cover = ap (λ (w : Version). w.cover) is.put ∙ sym (agrees.index.covers digest);
-    }
+    pub may_write : (possible : Possible) → device_number old.shelf.geometry.devices digest ≡ old.shelf.geometry.device → HasFacts (setup_of old) s possible → MayBeWritten (setup_of old) s digest v
+    may_write possible own facts =
+        let next = stamps_same ∙ is.stamp in
+        subst (MayBeWritten (setup_of old) s digest) version_is
+        (put_may (setup_of old) s possible digest 0 now payload own (next ∙ ap (λ (o : Option Stamp). Some (the_stamp o)) (sym next)) facts)
 
-unwritten_by : (why : PutRefusal) (cause : Option Cause) → IsPutRefusal why cause → (write_of why ≡ write_refusals.Memory) ⊎ (cause ≡ Some (cause_of_write (write_of why)))
-unwritten_by (put.Big units capacity) cause is = inr is
-unwritten_by put.Spent cause is = inr is
-unwritten_by (put.Load pending) cause is = inr is
-unwritten_by (put.Space free) cause is = inr is
-unwritten_by put.Memory cause is = inl refl
-unwritten_by put.Fault cause is = absurd is
+-- it leaves the shard as it was
+pub ungiven_left : {D : Type 0} (shard : ShardView D) (digest : Digest) (payload : List ℕ) (now : ℕ) (refusal : WriteRefusal) → IsUngiven shard digest payload now refusal → IsRefusedWrite shard shard refusal
+ungiven_left shard digest payload now (write_refusals.Big units capacity) is = record { why = put.Big units capacity; is_for = refl; left = refl; index = refl }
+ungiven_left shard digest payload now (write_refusals.Gen seen) is = absurd is
+ungiven_left shard digest payload now write_refusals.Spent is = record { why = put.Spent; is_for = refl; left = refl; index = refl }
+ungiven_left shard digest payload now (write_refusals.Load pending) is = absurd is
+ungiven_left shard digest payload now (write_refusals.Space free) is = absurd is
+ungiven_left shard digest payload now write_refusals.Memory is = record { why = put.Memory; is_for = refl; left = record { rest = refl; size = refl; copies = λ k. refl; holds = refl }; index = refl }
+ungiven_left shard digest payload now write_refusals.Fault is = absurd is
 
-unwritten : (refusal : WriteRefusal) (cause : Option Cause) → IsUnwritten refusal cause → (refusal ≡ write_refusals.Memory) ⊎ (cause ≡ Some (cause_of_write refusal))
-unwritten refusal cause is = subst (λ (r : WriteRefusal). (r ≡ write_refusals.Memory) ⊎ (cause ≡ Some (cause_of_write r))) (sym is.1) (unwritten_by is.0 cause is.2)
+-- behind a write the shard stands for the state after it
+pub wrote_agrees : {D : Type 0} (view : D → DiskView) (old new : ShardView D) (s : State) (digest : Digest) (v : Version) (block : ℕ) → SameSetup old new → old.set.lwm ≡ 0 → Wrote view old s digest v block new
+    → Agrees new (after_step (setup_of old) (wrote digest v) s)
+wrote_agrees view old new s digest v block shape low it =
+    let same : setup_of old ≡ setup_of new = setup_same old new shape in
+    let after : State = after_step (setup_of old) (wrote digest v) s in
+    record { index = subst (λ (x : Setup). Lists x new.index after) same it.lists; shelf = subst (λ (x : Setup). shelf.StandsFor x new.shelf after) same it.stands; queue = wrote_queue (setup_of old) s digest v low }
 
-commits_flushing : (r : Result (Unit {0}) WriteRefusal) (book : Book) (steps : List Step) → Commits r (flush_all book) steps → AllByRecursion IsFlushing steps
+-- where there was no memory nothing is written
+pub unwritten_memory : {D : Type 0} (view : D → DiskView) (old new : ShardView D) (s : State) (units : ℕ) → IsDisk (view old.shelf.disk) → new.shelf ≡ old.shelf → Agrees old s → IsUnwritten view old s units write_refusals.Memory new
+unwritten_memory view old new s units has_now same agrees = record {
+  why = put.Memory;
+  is_for = refl;
+  cause = tt;
+  closing = λ fault. absurd (cc);
+  goes = subst (Goes view (setup_of old) [] old.shelf s) (sym same) (goes_none view (setup_of old) old.shelf s has_now agrees.shelf);
+}
+
+pub commits_flushing : (r : Result (Unit {0}) WriteRefusal) (book : Book) (steps : List Step) → Commits r (flush_all book) steps → AllByRecursion IsFlushing steps
 commits_flushing (Ok done) book steps is = flushes_flushing {E = WriteRefusal} (Ok (flush_count (flush_all book))) book steps (is, refl)
 commits_flushing (Err refusal) book steps is = flushes_flushing {E = WriteRefusal} (Err refusal) book steps is.1
 
-pub refused_write : {D : Type 0} (old : ShardView D) (s : State) (digest : Digest) (payload : List ℕ) (now : ℕ) → Agrees old s → (v : Version) → IsNewPut old digest payload now v → (refusal : WriteRefusal)
-    → IsUnwritten refusal (append_refusal (setup_of old) class.Put (version_units v) s.book) → (refusal ≡ write_refusals.Memory) ⊎ (put_refusal (setup_of old) s digest None payload now ≡ Some (cause_of_write refusal))
-refused_write old s digest payload now agrees v is refusal why =
-    subst (λ (cause : Option Cause). (refusal ≡ write_refusals.Memory) ⊎ (cause ≡ Some (cause_of_write refusal))) (sym (refusal_same old s digest payload now agrees v is))
-    (unwritten refusal (append_refusal (setup_of old) class.Put (version_units v) s.book) why)
+pub refused_flushing : (why : PutRefusal) → AllByRecursion IsFlushing (refused_steps why)
+refused_flushing (put.Big units capacity) = tt
+refused_flushing put.Spent = tt
+refused_flushing (put.Load pending) = tt
+refused_flushing (put.Space free) = tt
+refused_flushing put.Memory = tt
+refused_flushing put.Fault = (tt, tt)
 
 -- ---- the event
 
@@ -327,8 +345,52 @@ module _ {D : Type 0} (view : D → DiskView)
       allowed told (inl memory) = inl (ap (λ (r : WriteRefusal). refused (cause_of_write r)) memory, refl)
       allowed told (inr cause) = inr (subst (λ (o : Option Cause). Unless (refused_event refusal) o (let w = new_put (setup_of old) s digest 0 payload now in WriteEnds (setup_of old) s (refused_event refusal) digest w (stamp_given w.stamp))) (sym cause) (refl, refl))
 
-  module _ (v : Version) (is : IsNewPut old digest payload now v) (block : ℕ) (mid : ShardView D) (wrote_it : Wrote view old s digest v block mid) (disk : mid.shelf.disk ≡ old.shelf.disk)
-      (own : device_number old.shelf.geometry.devices digest ≡ old.shelf.geometry.device) where
+  module _ (v : Version) (is : IsNewPut old digest payload now v) where
+    -- what may follow where nothing stands against the write, by how it ends
+    allowed_by : (told : Bool) (event : Event) → append_refusal (setup_of old) class.Put (version_units v) s.book ≡ None → WriteEnds (setup_of old) s event digest v (stamp_given v.stamp)
+        → NoMemory event ⊎ Unless event (put_refusal (setup_of old) s digest None payload now)
+        (let w = new_put (setup_of old) s digest 0 payload now in WriteEnds (setup_of old) s event digest w (stamp_given w.stamp))
+    allowed_by told event none ends =
+        inr (subst (λ (o : Option Cause). Unless event o (let w = new_put (setup_of old) s digest 0 payload now in WriteEnds (setup_of old) s event digest w (stamp_given w.stamp)))
+        (sym (refusal_same old s digest payload now agrees v is ∙ none))
+        (subst (λ (w : Version). WriteEnds (setup_of old) s event digest w (stamp_given w.stamp)) (sym (version_is old s digest payload now agrees v is)) ends))
+
+    -- ---- a write that the shelf refused
+
+    module _ (new : ShardView D) (shape : SameSetup old new) (index : new.index ≡ old.index) (up : (view old.shelf.disk).faults ≤ (view new.shelf.disk).faults) where
+      abbrev unwritten_event : PutRefusal → Event
+      unwritten_event why = record { call = call; answer = refused (cause_of_write (write_of why)); steps = refused_steps why; faults_before = (view old.shelf.disk).faults; faults_after = (view new.shelf.disk).faults }
+
+      stands_against : (told : Bool) (why : PutRefusal) (cause : Cause) → append_refusal (setup_of old) class.Put (version_units v) s.book ≡ Some cause
+          → (unwritten_event why).answer ≡ refused cause → (unwritten_event why).steps ≡ [] → Allowed (setup_of old) told s (unwritten_event why) call
+      stands_against told why cause at answer none =
+          inr (subst (λ (o : Option Cause). Unless (unwritten_event why) o (let w = new_put (setup_of old) s digest 0 payload now in WriteEnds (setup_of old) s (unwritten_event why) digest w (stamp_given w.stamp)))
+          (sym (refusal_same old s digest payload now agrees v is ∙ at)) (answer, none))
+
+      may_be_unwritten : (told : Bool) (why : PutRefusal) → IsRefusedFor (append_refusal (setup_of old) class.Put (version_units v) s.book) why → (why ≡ put.Fault → has_room (setup_of old) client (version_units v) s.book ≡ false)
+          → (why ≡ put.Fault → Rose (view old.shelf.disk).faults (view new.shelf.disk).faults) → Allowed (setup_of old) told s (unwritten_event why) call
+      may_be_unwritten told (put.Big units capacity) cause closing rose = stands_against told (put.Big units capacity) (too_big units capacity) cause refl refl
+      may_be_unwritten told put.Spent cause closing rose = stands_against told put.Spent spent cause refl refl
+      may_be_unwritten told (put.Load pending) cause closing rose = stands_against told (put.Load pending) (overload pending) cause refl refl
+      may_be_unwritten told (put.Space free) cause closing rose = stands_against told (put.Space free) (no_space free) cause refl refl
+      may_be_unwritten told put.Memory cause closing rose = inl (refl, refl)
+      may_be_unwritten told put.Fault cause closing rose = allowed_by told (unwritten_event put.Fault) cause (inr (refl, rose refl, inl (closing refl, refl)))
+
+      pub makes_unwritten : old.set.lwm ≡ 0 → (refusal : WriteRefusal) → IsUnwritten view old s (version_units v) refusal new → (refusal ≡ write_refusals.Fault → Rose (view old.shelf.disk).faults (view new.shelf.disk).faults)
+          → MakesPut (write_answer (Err refusal)) new
+      makes_unwritten low refusal un rose =
+          let may = λ (told : Bool). may_be_unwritten told un.why un.cause un.closing (λ fault. rose (un.is_for ∙ ap write_of fault)) in
+          let stays = steps_stay (setup_of old) low (refused_steps un.why) s (refused_flushing un.why) in
+          subst (λ (r : WriteRefusal). MakesPut (write_answer (Err r)) new) (sym un.is_for)
+          (makes_by view old new s call (refused (cause_of_write (write_of un.why))) (refused_steps un.why) shape up un.goes (may false) (λ honest safe. may true)
+          (subst (λ (entries : List Entry). Lists (setup_of old) entries (after_steps (setup_of old) (refused_steps un.why) s)) (sym index)
+          (lists_stay (setup_of old) old.index s (after_steps (setup_of old) (refused_steps un.why) s) stays agrees.index))
+          (stays.queue agrees.queue))
+
+  -- ---- a write
+
+  module _ (v : Version) (is : IsNewPut old digest payload now v) (block : ℕ) (mid : ShardView D) (wrote_it : Wrote view old s digest v block mid) (low : old.set.lwm ≡ 0)
+      (honest : IsHonest (view old.shelf.disk) → IsHonest (view mid.shelf.disk)) (own : device_number old.shelf.geometry.devices digest ≡ old.shelf.geometry.device) where
     abbrev written_state : State
     written_state = after_step (setup_of old) (wrote digest v) s
 
@@ -338,19 +400,10 @@ module _ {D : Type 0} (view : D → DiskView)
     goes_wrote : Goes view (setup_of old) (wrote digest v ∷ []) old.shelf s mid.shelf
     goes_wrote = record {
       stands = wrote_it.stands;
-      placed = λ honest placed. wrote_it.placed placed;
-      safe = λ honest safe. wrote_it.safe (may_follow old s digest payload now agrees v is own safe.orderly) safe;
-      leaves = λ honest safe. subst (λ (d : D). Leaves (OneOf (Survives (setup_of old)) (s ∷ written_state ∷ [])) (view old.shelf.disk) (view d)) (sym disk)
-          (leaves_none (OneOf (Survives (setup_of old)) (s ∷ written_state ∷ [])) (view old.shelf.disk) has_now (λ image here. inl (safe_survives (setup_of old) view old.shelf s safe image here)));
+      placed = wrote_it.placed;
+      safe = λ was safe. wrote_it.safe was (may_write old s digest payload now agrees v is _ own safe.held.facts) safe;
+      leaves = wrote_it.leaves;
     }
-
-    -- what may follow, by how the write ends
-    allowed_by : (told : Bool) (event : Event) → WriteEnds (setup_of old) s event digest v (stamp_given v.stamp) → NoMemory event ⊎ Unless event (put_refusal (setup_of old) s digest None payload now)
-        (let w = new_put (setup_of old) s digest 0 payload now in WriteEnds (setup_of old) s event digest w (stamp_given w.stamp))
-    allowed_by told event ends =
-        inr (subst (λ (o : Option Cause). Unless event o (let w = new_put (setup_of old) s digest 0 payload now in WriteEnds (setup_of old) s event digest w (stamp_given w.stamp)))
-        (sym (refusal_same old s digest payload now agrees v is ∙ wrote_it.allowed))
-        (subst (λ (w : Version). WriteEnds (setup_of old) s event digest w (stamp_given w.stamp)) (sym (version_is old s digest payload now agrees v is)) ends))
 
     -- the steps with commit on or off
     abbrev first_if : Bool → List Step
@@ -359,13 +412,13 @@ module _ {D : Type 0} (view : D → DiskView)
     abbrev rest_if : Bool → List Step
     rest_if on = if on then flush_between 0 number (after_steps (setup_of old) (first_if on) s).book else []
 
-    pub makes_waiting : old.set.commit ≡ false → SameSetup old mid → MakesPut (write_answer (Ok v.stamp)) mid
-    makes_waiting off shape =
+    pub makes_waiting : old.set.commit ≡ false → SameSetup old mid → (view old.shelf.disk).faults ≤ (view mid.shelf.disk).faults → MakesPut (write_answer (Ok v.stamp)) mid
+    makes_waiting off shape up =
         let event : Event = record { call = call; answer = stamp_given v.stamp; steps = wrote digest v ∷ []; faults_before = (view old.shelf.disk).faults; faults_after = (view mid.shelf.disk).faults } in
         let steps : wrote digest v ∷ [] ≡ first_if (setup_of old).commit ++ rest_if (setup_of old).commit = ap (λ (on : Bool). first_if on ++ rest_if on) (sym off) in
-        let may = λ (told : Bool). allowed_by told event (inl (refl, steps)) in
-        makes_by view old mid s call (stamp_given v.stamp) (wrote digest v ∷ []) shape (subst (λ (d : D). (view old.shelf.disk).faults ≤ (view d).faults) (sym disk) (le_refl (view old.shelf.disk).faults))
-        goes_wrote (may false) (λ honest safe. may true) wrote_it.lists (wrote_queue (setup_of old) s digest v refl)
+        let may = λ (told : Bool). allowed_by v is told event wrote_it.allowed (inl (refl, steps)) in
+        makes_by view old mid s call (stamp_given v.stamp) (wrote digest v ∷ []) shape up
+        goes_wrote (may false) (λ honest safe. may true) wrote_it.lists (wrote_queue (setup_of old) s digest v low)
 
     module _ (on : old.set.commit ≡ true) (new : ShardView D) (shape : SameSetup old new) (index : new.index ≡ mid.index) (up : (view old.shelf.disk).faults ≤ (view new.shelf.disk).faults) (r : Result (Unit {0}) WriteRefusal) (steps : List Step)
         (commits : Commits r (flush_all (after_step (setup_of old) (sealed_stream client) written_state).book) steps)
@@ -375,10 +428,10 @@ module _ {D : Type 0} (view : D → DiskView)
 
       goes_all : Goes view (setup_of old) all_steps old.shelf s new.shelf
       goes_all = goes_then view (setup_of old) (wrote digest v ∷ []) (sealed_stream client ∷ steps) old.shelf mid.shelf new.shelf s
-          (λ honest. subst (λ (d : D). IsHonest (view d)) (sym disk) honest) goes_wrote goes
+          honest goes_wrote goes
 
       stays : Stays written_state (after_steps (setup_of old) (sealed_stream client ∷ steps) written_state)
-      stays = steps_stay (setup_of old) refl (sealed_stream client ∷ steps) written_state (tt, commits_flushing r (after_step (setup_of old) (sealed_stream client) written_state).book steps commits)
+      stays = steps_stay (setup_of old) low (sealed_stream client ∷ steps) written_state (tt, commits_flushing r (after_step (setup_of old) (sealed_stream client) written_state).book steps commits)
 
       lists : Lists (setup_of old) new.index (after_steps (setup_of old) all_steps s)
       lists = subst (λ (entries : List Entry). Lists (setup_of old) entries (after_steps (setup_of old) all_steps s)) (sym index)
@@ -398,9 +451,9 @@ module _ {D : Type 0} (view : D → DiskView)
 
       pub makes_ended : (answer : Answer) → WriteEnds (setup_of old) s (event_of answer) digest v (stamp_given v.stamp) → MakesPut answer new
       makes_ended answer ends =
-          let may = λ (told : Bool). allowed_by told (event_of answer) ends in
+          let may = λ (told : Bool). allowed_by v is told (event_of answer) wrote_it.allowed ends in
           makes_by view old new s call answer all_steps shape up goes_all (may false) (λ honest safe. may true) lists
-          (stays.queue (wrote_queue (setup_of old) s digest v refl))
+          (stays.queue (wrote_queue (setup_of old) s digest v low))
 
       pub ends_done : steps ≡ flush_all (after_step (setup_of old) (sealed_stream client) written_state).book → MakesPut (write_answer (Ok v.stamp)) new
       ends_done done = makes_ended (stamp_given v.stamp) (inl (
@@ -424,6 +477,6 @@ abbrev pub committed : {E : Type 0} → Result ℕ E → Result (Unit {0}) Write
 committed (Ok n) = Ok tt
 committed (Err e) = Err write_refusals.Fault
 
-pub commits_from : {E : Type 0} (r : Result ℕ E) (whole steps : List Step) → FlushesAll r whole steps → Commits (committed r) whole steps
-commits_from (Ok n) whole steps is = is.0
-commits_from (Err e) whole steps is = (refl, is)
+pub commits_from : {E : Type 0} (r : Result ℕ E) (full steps : List Step) → FlushesAll r full steps → Commits (committed r) full steps
+commits_from (Ok n) full steps is = is.0
+commits_from (Err e) full steps is = (refl, is)

@@ -79,7 +79,7 @@ bodies_open g image (b ∷ blocks) bodies k body (inr first) opens is at =
     inr (first.0, first.1, first.2 ++ body ∷ [], first.3, first.4, ap (λ (l : List Body). l ++ body ∷ []) first.5, bodies_open g image blocks first.2 k body first.6 opens is at)
 
 -- each of these blocks is closed or has a body
-each_block : (g : Geometry) (image : List ℕ) (a n : ℕ) (bodies : List Body) → HasBodies g image (range_with_len a n) bodies → (k : ℕ) → a ≤ k → k < a + n → IsBlock g image k
+pub each_block : (g : Geometry) (image : List ℕ) (a n : ℕ) (bodies : List Body) → HasBodies g image (range_with_len a n) bodies → (k : ℕ) → a ≤ k → k < a + n → IsBlock g image k
 each_block g image a zero bodies has k from to = absurd (omega arith)
 each_block g image a (suc n) bodies (inl shut) k from to = elim (cases_eq k a) [
   | inl same ↦ inl (subst (λ (b : ℕ). IsClosed (gate_sector g b image)) (sym same) shut.0)

@@ -1,56 +1,43 @@
--- A shard behind a start stands for a state whose entries are copies that were found.
-use Rattle.std.proofs.Common.{◌≡◌, ℕ, ◌+◌, ◌*◌, ◌<◌, true, List, [], length, take, refl, sym, ◌∙◌, ap, subst}
-use Rattle.std.specs.Prelude.{Option, Some, None, IfSome, MatchOption, Contains, map, option_map}
-use Rattle.std.specs.List.{AllByRecursion, range_with_len}
-use Rattle.std.proofs.lemmas.Option.{slice_get_within}
-use Rattle.std.proofs.Math.Seq.{take-length}
-use Rattle.disk_model.specs.Disk.{DiskView, IsOnly}
+-- The index of a start lists what the state behind it has.
+use Rattle.std.proofs.Common.{◌≡◌, ℕ, ◌+◌, List, [], ◌∷◌, refl, sym, ◌∙◌, ap, subst}
+use Rattle.std.specs.Prelude.{Option, Some, None, MatchOption, option_map, ◌==◌}
+use Rattle.std.proofs.lemmas.Bool.{cond-true, eq-eqb}
 use Rattle.rec_format.specs.declared.version.Digest.{Digest}
 use Rattle.rec_format.specs.declared.version.Version.{Version}
 use Rattle.rec_format.specs.declared.entry.Entry.{Entry}
-use Rattle.rec_format.specs.Places.{same_digest}
-use Rattle.device_model.specs.Policy.{built, unused}
-use Rattle.device_model.specs.Book.{Live, live_of, live_of_entry}
-use Rattle.device_model.specs.Device.{State, entry, history}
-use Rattle.rec_format.proofs.Laws.{same_digest_is}
-use Rattle.block_format.specs.declared.geometry.Geometry.{Geometry}
-use Rattle.block_format.specs.declared.geometry.Gate.{Gate}
-use Rattle.block_format.specs.declared.geometry.Gate.TheVariants.{Set}
-use Rattle.block_format.specs.Layout.{IsRecordAt, body_bytes, Body}
-use Rattle.block_format.specs.Copies.{Copy, HasBodies, copies_of, version_of, entry_for}
-use Rattle.recovery.specs.Start.{live_copy}
-use Rattle.recovery.specs.Orderly.{NumbersBelow}
-use Rattle.recovery.proofs.Growing.{all_at}
-use Rattle.recovery.proofs.Places.{copy_stands}
-use Rattle.block_shelf.specs.View.{ShelfView, shut_blocks}
-use Rattle.block_shelf.specs.Standing.{IsLive, IsPlaced, StandsFor}
 use Rattle.rec_format.specs.Entries.{Names}
-use Rattle.shard_core.specs.declared.settings.Settings.{Settings}
-use Rattle.shard_core.specs.declared.scan.Finding.{Finding}
-use Rattle.shard_core.specs.Index.{held}
-use Rattle.shard_core.specs.Finding.{IsSure, LiesBehind, IsFinding, set_blocks, view_with}
-use Rattle.shard_core.proofs.Gates.{opened_not_free, shut_are_left}
+use Rattle.rec_format.specs.Places.{device_number}
+use Rattle.device_model.specs.Book.{Setup, live_of, live_of_entry, cold_book}
+use Rattle.device_model.specs.Device.{State, entry, history}
+use Rattle.block_format.specs.declared.geometry.Geometry.{Geometry}
+use Rattle.block_format.specs.Layout.{Body}
+use Rattle.block_format.specs.Copies.{Copy, copies_of, version_of, cold_copy, cold, entry_for}
+use Rattle.recovery.specs.Start.{start_state, entries_state, greatest_number, live_copy, cold_copies}
+use Rattle.recovery.specs.Sound.{IsSound, NoStrays}
+use Rattle.recovery.specs.Cold.{copies_high}
+use Rattle.recovery.proofs.Cold.{covered_is, cover_of}
+use Rattle.recovery.proofs.ColdStart.{start_entry, start_times, start_orderly}
+use Rattle.recovery.proofs.ColdTimes.{cold_high}
+use Rattle.recovery.proofs.StartLive.{found_first, start_live, entries_live}
+use Rattle.shard_core.specs.Index.{held, flag_of, high_of}
+use Rattle.shard_core.specs.Stands.{Lists}
+use Rattle.shard_core.specs.Starting.{own_copies, found_state}
+use Rattle.shard_core.specs.Finding.{IsLatest}
+use Rattle.shard_core.proofs.Making.{refreshed_queue}
+use Rattle.shard_core.proofs.FoundEntries.{found_top, found_cover, found_times}
 
 -- of each digest the index has the entry of a copy, the state its version, and the book its place
-pub record ShowsCopies (bodies : List Body) (index : List Entry) (look : Digest → Option Copy) (s : State) : Type 0 where
-  pub held_is : (d : Digest) → held d index ≡ option_map entry_for (look d)
-  pub entry_is : (d : Digest) → entry s d ≡ version_of (look d)
-  pub live_is : (d : Digest) → live_of d s.book.live ≡ option_map live_copy (look d)
-  pub there : (d : Digest) → IfSome (look d) (λ c. Contains (copies_of bodies) c × (same_digest d c.digest ≡ true))
+record ShowsCopies (index : List Entry) (look : Digest → Option Copy) (s : State) : Type 0 where
+  held_is : (d : Digest) → held d index ≡ option_map entry_for (look d)
+  entry_is : (d : Digest) → entry s d ≡ version_of (look d)
+  live_is : (d : Digest) → live_of d s.book.live ≡ option_map live_copy (look d)
 
--- a live copy and its version are those of one copy
-pub record IsCopyOf (bodies : List Body) (d : Digest) (l : Live) (v : Version) (c : Copy) : Type 0 where
-  pub live_is : live_copy c ≡ l
-  pub version_is : c.version ≡ v
-  pub listed : Contains (copies_of bodies) c
-  pub named : d ≡ c.digest
-
-module _ (bodies : List Body) (index : List Entry) (look : Digest → Option Copy) (s : State) (shows : ShowsCopies bodies index look s) where
+module _ (index : List Entry) (look : Digest → Option Copy) (s : State) (shows : ShowsCopies index look s) where
   names_at : (o : Option Copy) (found : Option Version) → found ≡ version_of o → MatchOption (option_map entry_for o) (found ≡ None) (λ e. (v : Version) × (found ≡ Some v) × Names e v)
   names_at None found is = is
   names_at (Some c) found is = (c.version, is, record { kind = refl; stamp = refl; void = refl; units = refl })
 
-  pub shown_entries : (d : Digest) → MatchOption (held d index) (entry s d ≡ None) (λ e. (v : Version) × (entry s d ≡ Some v) × Names e v)
+  shown_entries : (d : Digest) → MatchOption (held d index) (entry s d ≡ None) (λ e. (v : Version) × (entry s d ≡ Some v) × Names e v)
   shown_entries d =
       subst (λ (o : Option Entry). MatchOption o (entry s d ≡ None) (λ e. (v : Version) × (entry s d ≡ Some v) × Names e v)) (sym (shows.held_is d)) (names_at (look d) (entry s d) (shows.entry_is d))
 
@@ -58,69 +45,94 @@ module _ (bodies : List Body) (index : List Entry) (look : Digest → Option Cop
   same_places None = refl
   same_places (Some c) = refl
 
-  pub shown_places : (d : Digest) → live_of d s.book.live ≡ option_map live_of_entry (held d index)
+  shown_places : (d : Digest) → live_of d s.book.live ≡ option_map live_of_entry (held d index)
   shown_places d = shows.live_is d ∙ same_places (look d) ∙ ap (option_map live_of_entry) (sym (shows.held_is d))
 
-  copy_at : (d : Digest) (l : Live) (v : Version) (o : Option Copy) → option_map live_copy o ≡ Some l → version_of o ≡ Some v → IfSome o (λ c. Contains (copies_of bodies) c × (same_digest d c.digest ≡ true))
-      → (c : Copy) × IsCopyOf bodies d l v c
-  copy_at d l v None live version there = cc
-  copy_at d l v (Some c) live version there =
-      (c, record { live_is = ap (live_or (live_copy c)) live; version_is = ap (version_or c.version) version; listed = there.0; named = same_digest_is d c.digest there.1 })
-    where
-      live_or : Live → Option Live → Live
-      live_or other None = other
-      live_or other (Some m) = m
+  flag_is : (o : Option Copy) → cover_of (version_of o) ≡ flag_of (option_map entry_for o)
+  flag_is None = refl
+  flag_is (Some c) = refl
 
-      version_or : Version → Option Version → Version
-      version_or other None = other
-      version_or other (Some w) = w
+  shown_flags : (d : Digest) → cover_of (version_of (look d)) ≡ flag_of (held d index)
+  shown_flags d = flag_is (look d) ∙ ap flag_of (sym (shows.held_is d))
 
-  shown_copy : (d : Digest) (l : Live) (v : Version) → live_of d s.book.live ≡ Some l → entry s d ≡ Some v → (c : Copy) × IsCopyOf bodies d l v c
-  shown_copy d l v live version = copy_at d l v (look d) (sym (shows.live_is d) ∙ live) (sym (shows.entry_is d) ∙ version) (shows.there d)
+-- ---- from what was found, over any disk
 
-module _ {D : Type 0} (disk : D) (g : Geometry) (gates : List Gate) (set : Settings) (bodies : List Body) (finding : Finding) (found : IsFinding g gates g.blocks bodies finding) (count : length gates ≡ g.blocks) (sure : AllByRecursion IsSure gates) where
-  abbrev shelf : ShelfView D
-  shelf = (view_with disk g gates set finding).shelf
+module _ (setup : Setup) (bodies : List Body) where
+  abbrev own : List Copy
+  own = own_copies setup.device setup.devices (copies_of bodies)
 
-  -- the blocks whose gate was closed are free
-  pub free_are : shut_blocks 0 gates ≡ unused built (map (λ b. b.block) bodies) (range_with_len 0 g.blocks)
-  free_are =
-      shut_are_left gates g.blocks sure count
-      ∙ ap (λ (l : List ℕ). unused built l (range_with_len 0 g.blocks)) (sym (found.opened ∙ ap (λ (n : ℕ). set_blocks 0 (take n gates)) (sym count) ∙ ap (set_blocks 0) (take-length gates)))
+  abbrev found_here : State
+  found_here = found_state setup bodies
 
-  copy_live : (d : Digest) (l : Live) (v : Version) (c : Copy) → IsCopyOf bodies d l v c → IsLive shelf d v l
-  copy_live d l v c is =
-      subst (λ (m : Live). IsLive shelf d v m) is.live_is (subst (λ (w : Version). IsLive shelf d w (live_copy c)) is.version_is (record {
-        units = refl;
-        block = subst (λ (n : ℕ). c.block < n) count (slice_get_within gates c.block Set lies.gate);
-        within = lies.within;
-        used = opened_not_free gates c.block lies.gate;
-        buffered = tt;
-      }))
-    where
-      lies : LiesBehind g gates c
-      lies = all_at (LiesBehind g gates) (copies_of bodies) c found.lie is.listed
+  -- the versions are those of the latest copies
+  pub found_entry : (d : Digest) → entry found_here d ≡ cold d own
+  unfolding entries_state
+  found_entry d = found_top d (cold_copies own) ∙ ap version_of (found_first d own)
 
-  module _ (look : Digest → Option Copy) (s : State) (shows : ShowsCopies bodies finding.index.entries look s) where
-    pub shelf_stands : s.book.buffers ≡ [] → s.book.free ≡ shut_blocks 0 gates → s.book.next_number ≡ finding.greatest + 1 → ((d : Digest) → NumbersBelow s.book.next_number (history s d)) → StandsFor shelf s
-    shelf_stands buffers free next numbers = record {
-      buffers = buffers;
-      free = free;
-      next = next;
-      numbers = numbers;
-      records = λ d. tt;
-      live = λ d l v live version. let copy = shown_copy bodies finding.index.entries look s shows d l v live version in copy_live d l v copy.0 copy.1;
+  pub found_queue : setup.lwm ≡ 0 → found_here.book.queue ≡ []
+  unfolding entries_state cold_book
+  found_queue low = refreshed_queue setup low _
+
+  module _ (g : Geometry) (index : List Entry) (device : setup.device ≡ g.device) (devices : setup.devices ≡ g.devices) (latest : IsLatest g (copies_of bodies) index) where
+    own_is : own_copies g.device g.devices (copies_of bodies) ≡ own
+    own_is = λ i. own_copies (sym device i) (sym devices i) (copies_of bodies)
+
+    held_latest : (d : Digest) → held d index ≡ option_map entry_for (cold_copy d own)
+    held_latest d = latest.shown d ∙ ap (λ (l : List Copy). option_map entry_for (cold_copy d l)) own_is
+
+    high_latest : (part : ℕ) → copies_high setup part own ≡ high_of setup.devices setup.sprigs part index
+    high_latest part = ap (copies_high setup part) (sym own_is) ∙ sym (latest.high setup part devices) ∙ ap (λ (n : ℕ). high_of n setup.sprigs part index) (sym devices)
+
+    found_shows : ShowsCopies index (λ d. cold_copy d own) found_here
+    found_shows = record {
+      held_is = held_latest;
+      entry_is = found_entry;
+      live_is = λ d. entries_live setup (cold_copies own) (greatest_number bodies + 1) d ∙ ap (option_map live_copy) (found_first d own);
     }
 
-    -- over a disk with one image the copies are where they were found
-    pub shelf_placed : (view : D → DiskView) (bytes : List ℕ) → HasBodies g bytes (range_with_len 0 g.blocks) bodies → IsOnly bytes (view disk).may_leave → IsPlaced view shelf s
-    shelf_placed view bytes has only = record {
-      there = λ d l v live version none image left.
-          let copy = shown_copy bodies finding.index.entries look s shows d l v live version in
-          let c = copy.0 in
-          let stands = copy_stands g bytes (range_with_len 0 g.blocks) bodies has c copy.1.listed in
-          subst (λ (b : List ℕ). IsRecordAt (body_bytes g l.block b) (32 + 16 * l.unit) d v) (sym (only.alone image left))
-          (subst (λ (m : Live). IsRecordAt (body_bytes g m.block bytes) (32 + 16 * m.unit) d v) copy.1.live_is
-          (subst (λ (w : Version). IsRecordAt (body_bytes g c.block bytes) (32 + 16 * c.unit) d w) copy.1.version_is
-          (subst (λ (e : Digest). IsRecordAt (body_bytes g c.block bytes) (32 + 16 * c.unit) e c.version) (sym copy.1.named) stands.there)));
+    pub found_lists : Lists setup index found_here
+    unfolding entries_state
+    found_lists = record {
+      entries = shown_entries index (λ d. cold_copy d own) found_here found_shows;
+      covers = λ d. found_cover d (cold_copies own) ∙ ap (λ (o : Option Copy). cover_of (version_of o)) (found_first d own) ∙ shown_flags index (λ e. cold_copy e own) found_here found_shows d;
+      places = shown_places index (λ d. cold_copy d own) found_here found_shows;
+      times = λ part. found_times setup part (cold_copies own) ∙ cold_high setup part own ∙ high_latest part;
+    }
+
+-- ---- from a sound image
+
+all_own : (setup : Setup) (copies : List Copy) → NoStrays setup copies → own_copies setup.device setup.devices copies ≡ copies
+all_own setup [] none = refl
+all_own setup (c ∷ copies) none =
+    cond-true (device_number setup.devices c.digest == setup.device) (c ∷ own_copies setup.device setup.devices copies) (own_copies setup.device setup.devices copies) (eq-eqb _ _ none.0)
+    ∙ ap (λ (l : List Copy). c ∷ l) (all_own setup copies none.1)
+
+module _ (setup : Setup) (image : List ℕ) (bodies : List Body) (sound : IsSound setup image bodies) where
+  abbrev start : State
+  start = start_state setup bodies
+
+  abbrev look : Digest → Option Copy
+  look d = cold_copy d (copies_of bodies)
+
+  pub sound_own : own_copies setup.device setup.devices (copies_of bodies) ≡ copies_of bodies
+  sound_own = all_own setup (copies_of bodies) sound.strays
+
+  pub start_queue : setup.lwm ≡ 0 → start.book.queue ≡ []
+  unfolding start_state cold_book
+  start_queue low = refreshed_queue setup low _
+
+  module _ (g : Geometry) (index : List Entry) (device : setup.device ≡ g.device) (devices : setup.devices ≡ g.devices) (latest : IsLatest g (copies_of bodies) index) where
+    start_shows : ShowsCopies index look start
+    start_shows = record {
+      held_is = λ d. held_latest setup bodies g index device devices latest d ∙ ap (λ (l : List Copy). option_map entry_for (cold_copy d l)) sound_own;
+      entry_is = start_entry setup bodies sound.twins;
+      live_is = start_live setup bodies;
+    }
+
+    pub start_lists : Lists setup index start
+    start_lists = record {
+      entries = shown_entries index look start start_shows;
+      covers = λ d. covered_is (history start d) (start_orderly setup image bodies sound d).writes ∙ ap cover_of (start_shows.entry_is d) ∙ shown_flags index look start start_shows d;
+      places = shown_places index look start start_shows;
+      times = λ part. start_times setup bodies part ∙ ap (copies_high setup part) (sym sound_own) ∙ high_latest setup bodies g index device devices latest part;
     }

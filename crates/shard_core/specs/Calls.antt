@@ -19,7 +19,8 @@ use Rattle.block_shelf.specs.declared.refusals.PutRefusal.TheVariants as put
 use Rattle.block_shelf.specs.declared.refusals.ReadRefusal.{ReadRefusal}
 use Rattle.block_shelf.specs.declared.refusals.ReadRefusal.TheVariants as read
 use Rattle.block_shelf.specs.Standing.{IsPlaced}
-use Rattle.block_shelf.specs.Calls.{copy_bytes, IsRead, HasRead}
+use Rattle.block_shelf.specs.Appends.{IsLeft}
+use Rattle.block_shelf.specs.Reads.{copy_bytes, IsRead, HasRead}
 use Rattle.shard_core.specs.declared.refusals.WriteRefusal.{WriteRefusal}
 use Rattle.shard_core.specs.declared.refusals.WriteRefusal.TheVariants as write
 use Rattle.shard_core.specs.Index.{held, place_of}
@@ -43,6 +44,13 @@ write_of (put.Load pending) = write.Load pending
 write_of (put.Space free) = write.Space free
 write_of put.Memory = write.Memory
 write_of put.Fault = write.Fault
+
+-- A refused write leaves the index as it was, and the shelf as a refused append leaves it.
+pub record IsRefusedWrite {D : Type 0} (old new : ShardView D) (refusal : WriteRefusal) : Type 0 where
+  pub why : PutRefusal
+  pub is_for : refusal ≡ write_of why
+  pub left : IsLeft old.shelf new.shelf why
+  pub index : new.index ≡ old.index
 
 abbrev pub write_answer : Result Stamp WriteRefusal → Answer
 write_answer (Ok stamp) = stamp_given stamp

@@ -8,24 +8,28 @@ use Rattle.rec_format.specs.Places.{IsDigest, same_digest, device_number, part_n
 use Rattle.rec_format.specs.Versions.{is_later_stamp, version_units, top_number, block_capacity}
 use Rattle.device_model.specs.Book.{Setup}
 use Rattle.disk_model.specs.Bytes.{range}
-use Rattle.disk_model.specs.Disk.{Images}
+use Rattle.disk_model.specs.Disk.{Images, DiskView, IsHonest, IsOnly}
 use Rattle.block_format.specs.declared.geometry.Geometry.{Geometry}
 use Rattle.block_format.specs.declared.geometry.Gate.{Gate}
 use Rattle.block_format.specs.declared.geometry.Gate.TheVariants.{Shut, Set, Unsure}
 use Rattle.block_format.specs.declared.geometry.Found.{Found}
 use Rattle.block_format.specs.Layout.{IsOpen, IsClosed, gate_sector, body_bytes, Body, IsBody, IsFaultAt}
 use Rattle.block_format.specs.Copies.{Copy, copies_from, copies_of, cold_copy, entry_for}
-use Rattle.recovery.specs.Start.{greatest_number}
+use Rattle.recovery.specs.Start.{start_state, cold_copies, greatest_number}
+use Rattle.recovery.specs.Sound.{IsSound}
 use Rattle.block_format.specs.Refusals.{IsDamagedAt}
 use Rattle.recovery.specs.Cold.{copies_high}
-use Rattle.block_shelf.specs.View.{shut_blocks}
+use Rattle.block_shelf.specs.Starting.{AllHave}
+use Rattle.block_shelf.specs.Standing.{IsPlaced}
 use Rattle.shard_core.specs.declared.scan.Finding.{Finding}
 use Rattle.shard_core.specs.declared.start.StartCause.{StartCause}
 use Rattle.shard_core.specs.declared.start.StartCause.TheVariants.{NotFormatted, OtherGeometry, DamagedBlock, Memory, Fault}
 use Rattle.shard_core.specs.declared.settings.Settings.{Settings}
-use Rattle.shard_core.specs.View.{ShardView, limits_of}
-use Rattle.shard_core.specs.Index.{held, high_of}
-use Rattle.shard_core.specs.Starting.{own_copies}
+use Rattle.block_shelf.specs.declared.place.Place.{Place}
+use Rattle.shard_core.specs.View.{ShardView, setup_of}
+use Rattle.shard_core.specs.Index.{held, high_of, place_of}
+use Rattle.shard_core.specs.Stands.{Agrees, IsSafe}
+use Rattle.shard_core.specs.Starting.{own_copies, found_state, blocks_behind}
 
 -- ---- gates
 
@@ -156,17 +160,30 @@ IsStopped g bytes (DamagedBlock block place) = IsDamagedAt g bytes block place
 IsStopped g bytes Memory = Unit {0}
 IsStopped g bytes Fault = Unit {0}
 
+-- ---- the shard
+
+-- of each digest of the device the latest copy that these bodies have
+abbrev pub latest_copies : Geometry → List Body → List Copy
+latest_copies g bodies = cold_copies (own_copies g.device g.devices (copies_of bodies))
+
+-- the copies of an index, and where they lie
+abbrev pub live_places : List Entry → List (Digest × Place)
+live_places entries = map (λ e. (e.digest, place_of e)) entries
+
 -- a shard that begins with what was found
-abbrev pub view_with : {D : Type 0} → D → Geometry → List Gate → Settings → Finding → ShardView D
-view_with disk geometry gates set finding = record {
-  shelf = record {
-    disk = disk;
-    geometry = geometry;
-    limits = limits_of set;
-    buffers = [];
-    free = shut_blocks 0 gates;
-    next_number = finding.greatest + 1;
-  };
-  set = set;
-  index = finding.index.entries;
-}
+pub record BeginsWith {D : Type 0} (disk : D) (g : Geometry) (set : Settings) (finding : Finding) (shard : ShardView D) : Type 0 where
+  pub disk_is : shard.shelf.disk ≡ disk
+  pub geometry_is : shard.shelf.geometry ≡ g
+  pub set_is : shard.set ≡ set
+  pub index_is : shard.index ≡ finding.index.entries
+  pub next : shard.shelf.next_number ≡ finding.greatest + 1
+
+-- What holds of it where these bodies were found: the blocks in which none of the latest copies lies are free, and it stands for the
+-- state behind a start from them. Where each image has those copies, they are placed. From a sound image it stands for that image's
+-- start state, and is safe over an honest disk that has this one image.
+pub record BeginsBehind {D : Type 0} (view : D → DiskView) (disk : D) (bodies : List Body) (shard : ShardView D) : Type 0 where
+  pub free : shard.shelf.free ≡ blocks_behind shard.shelf.geometry.blocks (latest_copies shard.shelf.geometry bodies)
+  pub agrees : Agrees shard (found_state (setup_of shard) bodies)
+  pub placed : AllHave shard.shelf.geometry (view disk).may_leave (latest_copies shard.shelf.geometry bodies) → IsPlaced view shard.shelf (found_state (setup_of shard) bodies)
+  pub sound : (image : List ℕ) → IsSound (setup_of shard) image bodies → Agrees shard (start_state (setup_of shard) bodies)
+  pub safe : IsHonest (view disk) → (image : List ℕ) → IsSound (setup_of shard) image bodies → IsOnly image (view disk).may_leave → IsSafe view shard (start_state (setup_of shard) bodies)

@@ -17,6 +17,11 @@ abbrev pub held : Digest → List Entry → Option Entry
 held digest [] = None
 held digest (e ∷ entries) = if same_digest digest e.digest then Some e else held digest entries
 
+-- no digest has two entries
+abbrev pub HaveOwnDigests : List Entry → Type 0
+HaveOwnDigests [] = Unit {0}
+HaveOwnDigests (e ∷ entries) = AllByRecursion (λ x. same_digest e.digest x.digest ≡ false) entries × HaveOwnDigests entries
+
 -- its stamp, its cover flag, and where its copy lies
 abbrev pub stamp_held : Option Entry → Option Stamp
 stamp_held None = None

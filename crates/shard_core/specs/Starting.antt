@@ -1,11 +1,10 @@
 -- Crate shard_core. What a start finds, by the bytes that the device reads.
-use Rattle.std.specs.Prelude.{◌≡◌, ℕ, ◌+◌, ◌==◌, List, map, filter, option_map}
-use Rattle.std.specs.List.{range_with_len}
+use Rattle.std.specs.Prelude.{◌≡◌, ℕ, ◌+◌, ◌==◌, not, List, filter, option_map}
+use Rattle.std.specs.List.{list_any, range_with_len}
 use Rattle.fault_count.specs.Counts.{Rose}
 use Rattle.disk_model.specs.Disk.{DiskView, IsHonest}
 use Rattle.rec_format.specs.declared.version.Digest.{Digest}
 use Rattle.rec_format.specs.Places.{device_number}
-use Rattle.device_model.specs.Policy.{built, unused}
 use Rattle.device_model.specs.Book.{Setup}
 use Rattle.device_model.specs.Device.{State, entry}
 use Rattle.block_format.specs.declared.geometry.Geometry.{Geometry}
@@ -39,19 +38,22 @@ pub record Passes (asked : Asked) (bytes : List ℕ) (g : Geometry) (bodies : Li
 abbrev pub own_copies : (device devices : ℕ) → List Copy → List Copy
 own_copies device devices copies = filter (λ c. device_number devices c.digest == device) copies
 
--- The state behind a start from these bodies, sound or not: of each digest of the device its latest copy was found, and nothing older;
--- their blocks were open, and the next number is one above the greatest of them.
+-- The state behind a start from these bodies, sound or not: of each digest of the device its latest copy was found, and nothing older,
+-- and the next number is one above the greatest of theirs.
 abbrev pub found_state : Setup → List Body → State
-found_state setup bodies =
-    entries_state setup (map (λ b. b.block) bodies) (cold_copies (own_copies setup.device setup.devices (copies_of bodies))) (greatest_number bodies + 1)
+found_state setup bodies = entries_state setup (cold_copies (own_copies setup.device setup.devices (copies_of bodies))) (greatest_number bodies + 1)
+
+-- the blocks in which none of these copies lies, the lowest first
+abbrev pub blocks_behind : (blocks : ℕ) → List Copy → List ℕ
+blocks_behind blocks found = filter (λ b. not (list_any (λ c. c.block == b) found)) (range_with_len 0 blocks)
 
 -- What is there behind a start from these bytes, sound or not: the latest copy of each digest of the device and where it lies; the
--- blocks whose gate was closed are free. From a sound image the shard stands for the start state of that image.
+-- blocks in which none of these lies are free. From a sound image the shard stands for the start state of that image.
 pub record Begins {D : Type 0} (asked : Asked) (bytes : List ℕ) (shard : ShardView D) : Type 0 where
   pub bodies : List Body
   pub passes : Passes asked bytes shard.shelf.geometry bodies
   pub entries : (digest : Digest) → held digest shard.index ≡ option_map entry_for (cold_copy digest (own_copies shard.shelf.geometry.device shard.shelf.geometry.devices (copies_of bodies)))
-  pub free : shard.shelf.free ≡ unused built (map (λ b. b.block) bodies) (range_with_len 0 shard.shelf.geometry.blocks)
+  pub free : shard.shelf.free ≡ blocks_behind shard.shelf.geometry.blocks (cold_copies (own_copies shard.shelf.geometry.device shard.shelf.geometry.devices (copies_of bodies)))
   pub next : shard.shelf.next_number ≡ greatest_number bodies + 1
   pub sound : (all : List Body) → IsSound (setup_of shard) bytes all → Agrees shard (start_state (setup_of shard) all)
 

@@ -1,10 +1,8 @@
 -- Crate shard_core. What is seen of a shard: the shelf of a device, with its settings and its index.
 use Rattle.std.specs.Prelude.{◌≡◌, ◌+◌, ◌≤◌, List}
-use Rattle.std.specs.List.{AllByRecursion}
 use Rattle.rec_format.specs.declared.entry.Entry.{Entry}
 use Rattle.rec_format.specs.Places.{IsDigest, device_number}
 use Rattle.rec_format.specs.Versions.{block_capacity}
-use Rattle.device_model.specs.Policy.{built}
 use Rattle.device_model.specs.Book.{Setup}
 use Rattle.block_format.specs.declared.geometry.Geometry.{Geometry}
 use Rattle.block_shelf.specs.declared.place.ShelfLimits.{ShelfLimits}
@@ -16,12 +14,12 @@ pub record ShardView (D : Type 0) : Type 0 where
   pub set : Settings
   pub index : List Entry
 
--- settings within their ranges
+-- Settings within their ranges. No block is vacated and none is kept in memory yet, so the low-water mark and the post-write queue are 0.
 pub record IsSettings (set : Settings) : Type 0 where
   pub sprigs : (1 ≤ set.sprigs) × (set.sprigs ≤ 256)
-  pub lwm : set.lwm ≤ 99
+  pub lwm : set.lwm ≡ 0
   pub pending : (4 ≤ set.pending) × (set.pending ≤ 64)
-  pub cache : set.cache ≤ 64
+  pub cache : set.cache ≡ 0
   pub raid_age : set.raid_age ≤ 315360000
 
 -- the limits of a shelf that is run with these settings
@@ -40,7 +38,6 @@ setup_for g set = record {
   pending_limit = set.pending;
   commit = set.commit;
   raid_age = set.raid_age;
-  policy = built;
 }
 
 abbrev pub setup_of : {D : Type 0} → ShardView D → Setup
@@ -54,12 +51,6 @@ pub record IsEntryOf (g : Geometry) (e : Entry) : Type 0 where
   pub block : e.block + 1 ≤ g.blocks
   pub within : e.unit + e.units ≤ block_capacity g.block_size
   pub units : 3 ≤ e.units
-
--- What every shard keeps: its settings are in range, the shelf is run with them, and the index has entries of its device.
-pub record IsWhole {D : Type 0} (shard : ShardView D) : Type 0 where
-  pub settings : IsSettings shard.set
-  pub limits : shard.shelf.limits ≡ limits_of shard.set
-  pub entries : AllByRecursion (IsEntryOf shard.shelf.geometry) shard.index
 
 -- The shape and the settings stay.
 pub record SameSetup {D : Type 0} (old new : ShardView D) : Type 0 where

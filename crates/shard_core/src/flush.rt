@@ -23,7 +23,7 @@ use disk_model::{Disk, DiskFault};
 
 /// Flushes the sealed buffers in rising number, up to the first fault, and answers how many it flushed.
 pub(crate) fn flush_sealed<D: Disk>(shelf: &mut Shelf<D>) -> Result<u64, DiskFault>
-    ensures flushed { (setup : Setup) (s : State) → IsSetupOf setup shelf.old → StandsFor shelf.old s
+    ensures flushed { (setup : Setup) (s : State) → IsSetupOf setup shelf.old → StandsFor setup shelf.old s
         → (steps : List Step) × FlushesAll result (flush_all s.book) steps × Goes D.view setup steps shelf.old s shelf.new }
     ensures quiet { AllByRecursion (λ b. is_unsealed b.phase ≡ false) shelf.old.buffers → OnOk result (shelf.new.buffers ≡ []) }
     ensures left { OnErr result (shelf.new.buffers ≢ []) }
@@ -54,13 +54,15 @@ impl<D: Disk> Shard<D> {
         flush_sealed(&mut self.shelf)
     }
 
-    /// Flushes what is sealed, as far as the disk goes. It answers nothing, and takes no memory.
+    /// Where few blocks are free, seals the buffer that is being filled if it holds a block in which nothing is live; then flushes what is
+    /// sealed, as far as the disk goes. It answers nothing, and takes no memory.
     pub fn tend(&mut self)
         ensures makes { (s : State) → Agrees self.old s → MakesAny D.view flush_sealed_call self.old s self.new }
         ensures later { IsLater (D.view self.old.shelf.disk) (D.view self.new.shelf.disk) }
         ensures honest { IsHonest (D.view self.old.shelf.disk) → IsHonest (D.view self.new.shelf.disk) }
         ensures shape { SameSetup self.old self.new }
     {
+        self.shelf.seal_low();
         let _ = flush_sealed(&mut self.shelf);
     }
 }

@@ -10,7 +10,7 @@ ghost use Rattle.expiry_rule.specs.Seen.{seen_entry};
 ghost use Rattle.write_buffer.specs.Buffers.{BufferState};
 ghost use Rattle.block_shelf.specs.Disks.{OnlyRead};
 ghost use Rattle.block_shelf.specs.Standing.{IsPlaced};
-ghost use Rattle.block_shelf.specs.Calls.{IsUndamaged};
+ghost use Rattle.block_shelf.specs.Reads.{IsUndamaged};
 ghost use Rattle.shard_core.specs.Index.{held};
 ghost use Rattle.shard_core.specs.View.{SameSetup};
 ghost use Rattle.shard_core.specs.Stands.{Agrees};

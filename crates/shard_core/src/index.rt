@@ -1,7 +1,7 @@
 // The primary index: the entry of each digest that has one, in memory.
 ghost use Rattle.std.specs.Prelude.{◌≡◌, ◌+◌, ◌≤◌, [], None, map, IfSome, IfOk, MatchOption, OnOk, OnErr};
 ghost use Rattle.rec_format.specs.Places.{part_number_of};
-ghost use Rattle.shard_core.specs.Index.{held, stamp_held, flag_of, place_of, high_of, IsPositionOf, WithEntry};
+ghost use Rattle.shard_core.specs.Index.{HaveOwnDigests, held, stamp_held, flag_of, place_of, high_of, IsPositionOf, WithEntry};
 
 use block_shelf::Place;
 use partition_map::part_number;
@@ -9,7 +9,7 @@ use rec_format::{Digest, Entry, NoMemory, Stamp};
 use std::alloc::Global;
 use std::marker::Model;
 
-/// The entries of a device. Only `reserve` takes memory.
+/// The entries of a device, one for each digest. Only `reserve` takes memory.
 #[derive(Drop)]
 pub struct Index {
     entries: Vec<Entry>,
@@ -17,11 +17,13 @@ pub struct Index {
 
 impl Model for Index {
     ghost use Rattle.std.specs.Prelude.{◌-◌, vec_len, vec_capacity};
-    ghost use Rattle.shard_core.specs.Index.{IndexView};
+    ghost use Rattle.shard_core.specs.Index.{IndexView, HaveOwnDigests};
 
     ghost Value = { IndexView };
 
     ghost view = { λ i. record { entries = i.entries.items; spare = vec_capacity i.entries - vec_len i.entries } };
+
+    ghost invariant = { λ i. HaveOwnDigests i.entries.items };
 }
 
 impl Index {
@@ -69,7 +71,8 @@ impl Index {
 
     /// Where the copy of each digest lies.
     pub fn live(&self, alloc: Global) -> Result<Vec<(Digest, Place)>, NoMemory>
-        ensures { IfOk result (λ live. live.items ≡ map (λ e. (e.digest, place_of e)) self.now.entries) }
+        ensures live { IfOk result (λ live. live.items ≡ map (λ e. (e.digest, place_of e)) self.now.entries) }
+        ensures own { HaveOwnDigests self.now.entries }
     {
         let mut live = Vec::with_capacity(alloc, self.entries.len())?;
         for entry in &self.entries {

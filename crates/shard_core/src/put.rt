@@ -1,21 +1,24 @@
 // A put: what it finds, the copy that it appends, the entry of it, and with commit on the flush.
-ghost use Rattle.std.specs.Prelude.{◌≡◌, ◌⊎◌, ◌≤◌, ◌^◌, ◌∷◌, true, false, None, Some, List, length, IfOk, IfErr, IfSome, MatchResult, OnErr};
+ghost use Rattle.std.specs.Prelude.{◌≡◌, ◌⊎◌, ◌≤◌, ◌^◌, ◌∷◌, true, false, None, Some, Err, List, length, option_map, IfOk, IfErr, IfSome, MatchResult, OnErr};
 ghost use Rattle.fault_count.specs.Counts.{Rose};
 ghost use Rattle.disk_model.specs.Disk.{IsHonest};
 ghost use Rattle.rec_format.specs.Places.{IsDigest, device_number};
-ghost use Rattle.rec_format.specs.Versions.{IsVersion, version_units, a_put};
-ghost use Rattle.device_model.specs.Book.{Buffer, client, filling_buffer};
+ghost use Rattle.rec_format.specs.Versions.{IsVersion, units_for, version_units, a_put};
+ghost use Rattle.device_model.specs.Book.{Buffer, client, filling_buffer, first_block};
 ghost use Rattle.device_model.specs.Device.{State};
 ghost use Rattle.device_model.specs.Steps.{Step, sealed_stream, after_step};
 ghost use Rattle.device_model.specs.Events.{put_call};
 ghost use Rattle.device_model.specs.Legal.{flush_all};
+ghost use Rattle.block_format.specs.declared.geometry.Gate.TheVariants.{Shut};
 ghost use Rattle.block_shelf.specs.Disks.{IsLater};
 ghost use Rattle.block_shelf.specs.Standing.{StandsFor};
-ghost use Rattle.block_shelf.specs.Calls.{Goes, append_refusal};
-ghost use Rattle.shard_core.specs.Index.{held, flag_of};
+ghost use Rattle.block_shelf.specs.View.{IsShelf, gate_at};
+ghost use Rattle.block_shelf.specs.Changes.{HasRoom};
+ghost use Rattle.block_shelf.specs.Calls.{Goes, IsPriorIn};
+ghost use Rattle.shard_core.specs.Index.{held, flag_of, place_of};
 ghost use Rattle.shard_core.specs.View.{SameSetup, setup_of};
-ghost use Rattle.shard_core.specs.Stands.{Agrees};
-ghost use Rattle.shard_core.specs.Calls.{Makes, write_answer};
+ghost use Rattle.shard_core.specs.Stands.{Agrees, IsWhole};
+ghost use Rattle.shard_core.specs.Calls.{IsRefusedWrite, Makes, write_answer};
 ghost use Rattle.shard_core.specs.Putting.{given_stamp, IsNewPut, IsUngiven, Wrote, IsUnwritten, Commits};
 
 use crate::flush::flush_sealed;
@@ -32,8 +35,10 @@ use std::alloc::Global;
 
 impl<D: Disk> Shard<D> {
     /// Writes a version of a record, which never expires, and answers its stamp. It goes to a write buffer, and doesn't wait for the
-    /// disk; with commit on it is flushed first, with all that was sealed before it. After a fault of that flush it stands all the
-    /// same, pending; after any other refusal all is as before.
+    /// disk, but where a buffer begins in a block whose gate isn't known to be shut: that gate is closed first. With commit on it is
+    /// flushed before the answer, with all that was sealed before it. After a fault of that flush it stands all the same, pending. After a
+    /// fault in closing a gate the block goes to the back of the free ones, and nothing is written; after any other refusal all is as
+    /// before, but for memory that was taken.
     pub fn put(
         &mut self,
         alloc: Global,
@@ -49,10 +54,13 @@ impl<D: Disk> Shard<D> {
         requires size { length payload.now ≤ 2 ^ 31 }
         requires now { now ≤ 2 ^ 61 }
         ensures makes { (s : State) → Agrees self.old s → Makes D.view (put_call digest.now ttl expect payload.now now) (write_answer result) self.old s self.new }
-        ensures waits { self.old.set.commit ≡ false → self.new.shelf.disk ≡ self.old.shelf.disk }
 
-        // A refusal leaves all as it was, but where commit is on and the flush failed.
-        ensures refused { IfErr result (λ refusal. ((refusal ≡ WriteRefusal.Fault) × (self.old.set.commit ≡ true)) ⊎ (self.new ≡ self.old)) }
+        // With commit off the disk is called only where a buffer begins behind a gate that isn't known to be shut.
+        ensures in_room { self.old.set.commit ≡ false → HasRoom (units_for (length payload.now)) self.old.shelf.buffers → self.new.shelf.disk ≡ self.old.shelf.disk }
+        ensures quiet { self.old.set.commit ≡ false → gate_at self.old.shelf.gates (first_block self.old.shelf.free) ≡ Shut → self.new.shelf.disk ≡ self.old.shelf.disk }
+
+        // A refusal writes nothing, but where commit is on and the flush failed.
+        ensures refused { IfErr result (λ refusal. ((refusal ≡ WriteRefusal.Fault) × (self.old.set.commit ≡ true)) ⊎ IsRefusedWrite self.old self.new refusal) }
         ensures later { IsLater (D.view self.old.shelf.disk) (D.view self.new.shelf.disk) }
         ensures honest { IsHonest (D.view self.old.shelf.disk) → IsHonest (D.view self.new.shelf.disk) }
         ensures shape { SameSetup self.old self.new }
@@ -76,7 +84,9 @@ impl<D: Disk> Shard<D> {
         now: u64,
     ) -> Result<Version, WriteRefusal>
         requires { length payload.now ≤ 2 ^ 31 }
-        ensures { MatchResult result (IsNewPut self.now digest.now payload.now now) (IsUngiven self.now digest.now payload.now now) }
+        ensures version { MatchResult result (IsNewPut self.now digest.now payload.now now) (IsUngiven self.now digest.now payload.now now) }
+        ensures shelf { IsShelf D.view self.now.shelf }
+        ensures whole { IsWhole self.now }
     {
         let units = units_of(payload.len() as u32);
         let capacity = capacity(self.shelf.geometry().block_size);
@@ -105,7 +115,7 @@ impl<D: Disk> Shard<D> {
         }
     }
 
-    // Appends a copy of the version, and enters it into the index; answers its block. After a refusal all is as before.
+    // Appends a copy of the version, and enters it into the index; answers its block.
     fn write(
         &mut self,
         alloc: Global,
@@ -116,16 +126,22 @@ impl<D: Disk> Shard<D> {
         requires version { IsVersion version.now }
         requires size { length version.now.payload ≤ 2 ^ 31 }
         requires later { IfSome (held digest.now self.old.index) (λ before. before.stamp.lut ≤ version.now.stamp.lut) }
+        requires whole { IsShelf D.view self.old.shelf }
         ensures wrote { (s : State) → Agrees self.old s → MatchResult result (λ block. Wrote D.view self.old s digest.now version.now block self.new)
-            (λ refusal. IsUnwritten refusal (append_refusal (setup_of self.old) Class.Put (version_units version.now) s.book)) }
-        ensures refused { OnErr result (self.new ≡ self.old) }
-        ensures disk { self.new.shelf.disk ≡ self.old.shelf.disk }
+            (λ refusal. IsUnwritten D.view self.old s (version_units version.now) refusal self.new) }
+        ensures refused { IfErr result (IsRefusedWrite self.old self.new) }
+        ensures in_room { HasRoom (version_units version.now) self.old.shelf.buffers → self.new.shelf.disk ≡ self.old.shelf.disk }
+        ensures quiet { gate_at self.old.shelf.gates (first_block self.old.shelf.free) ≡ Shut → self.new.shelf.disk ≡ self.old.shelf.disk }
+        ensures index { OnErr result (self.new.index ≡ self.old.index) }
+        ensures cause { result ≡ Err WriteRefusal.Fault → Rose (D.view self.old.shelf.disk).faults (D.view self.new.shelf.disk).faults }
+        ensures later { IsLater (D.view self.old.shelf.disk) (D.view self.new.shelf.disk) }
+        ensures honest { IsHonest (D.view self.old.shelf.disk) → IsHonest (D.view self.new.shelf.disk) }
         ensures shape { SameSetup self.old self.new }
     {
+        let prior = self.copy_place(digest);
         let Ok(()) = self.index.reserve() else {
             return Err(WriteRefusal::Memory);
         };
-        let prior = self.copy_place(digest);
         match self.shelf.append(alloc, digest, version, prior, Class::Put) {
             Ok(place) => {
                 self.index.put(entry_at(digest, version, place));
@@ -135,15 +151,20 @@ impl<D: Disk> Shard<D> {
         }
     }
 
-    // Where the digest's copy lies, if it has an entry.
-    fn copy_place(&self, digest: &Digest) -> Option<Place> {
+    // Where the digest's copy lies, if it has an entry; it is live there.
+    fn copy_place(&self, digest: &Digest) -> Option<Place>
+        requires whole { IsShelf D.view self.now.shelf }
+        ensures place { result ≡ option_map place_of (held digest.now self.now.index) }
+        ensures live { IsPriorIn self.now.shelf result }
+    {
         let entry = self.index.find(digest)?;
         Some(place_of_entry(&entry))
     }
 
     // Seals the buffer of a block that was just written to, and flushes all that is sealed.
     fn commit(&mut self, block: u32) -> Result<(), WriteRefusal>
-        ensures committed { (s : State) (b : Buffer) → StandsFor self.old.shelf s → filling_buffer client s.book.buffers ≡ Some b → b.block ≡ block
+        requires filling { (s : State) × Agrees self.old s × (b : Buffer) × (filling_buffer client s.book.buffers ≡ Some b) × (b.block ≡ block) }
+        ensures committed { (s : State) (b : Buffer) → StandsFor (setup_of self.old) self.old.shelf s → filling_buffer client s.book.buffers ≡ Some b → b.block ≡ block
             → (steps : List Step) × Commits result (flush_all (after_step (setup_of self.old) (sealed_stream client) s).book) steps
             × Goes D.view (setup_of self.old) (sealed_stream client ∷ steps) self.old.shelf s self.new.shelf }
         ensures index { self.new.index ≡ self.old.index }

@@ -1,4 +1,4 @@
-// What stands behind the gates of a device: the latest copy of each of its digests, and the blocks that are closed.
+// What stands behind the gates of a device: the latest copy of each of its digests, and which gates are open.
 ghost use Rattle.std.specs.Prelude.{◌≡◌, ◌+◌, ◌-◌, ◌*◌, ◌<◌, ◌≤◌, ℕ, List, length, map, option_map, IfOk, IfErr, OnOk, MatchResult, Some, slice_get, take};
 ghost use Rattle.std.specs.List.{AllByRecursion, range_with_len};
 ghost use Rattle.rec_format.specs.Versions.{is_later_stamp};

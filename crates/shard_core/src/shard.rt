@@ -15,9 +15,14 @@ pub struct Shard<D: Disk> {
 }
 
 impl<D: Disk> Model for Shard<D> {
-    ghost use Rattle.shard_core.specs.View.{ShardView, IsWhole};
+    ghost use Rattle.shard_core.specs.View.{ShardView};
+    ghost use Rattle.shard_core.specs.Stands.{IsWhole};
+    ghost use Rattle.std.specs.Coded.{codes};
+    ghost use Rattle.hold_book.specs.Holds.{hold_state_code};
 
     ghost Value = { ShardView D };
+
+    ghost coded = { Prim.hlevel (codes, hold_state_code) };
 
     ghost view = { λ s. record { shelf = s.shelf; set = s.set; index = s.index.entries } };
 

@@ -1,21 +1,19 @@
 // How a device is taken into use: its header, and what stands behind its gates.
-ghost use Rattle.std.specs.Prelude.{◌≡◌, ◌+◌, ◌≤◌, ◌++◌, ℕ, List, length, take, replicate, nat_le, slice_get, Some, IfOk, IfErr, OnOk, OnErr, IsTrue, ◌↔◌, MatchResult};
+ghost use Rattle.std.specs.Prelude.{◌≡◌, ◌≤◌, ◌++◌, ℕ, List, length, take, replicate, nat_le, IfOk, IfErr, OnOk, OnErr, IsTrue, ◌↔◌, MatchResult};
 ghost use Rattle.std.specs.List.{AllByRecursion, range_with_len};
 ghost use Rattle.fault_count.specs.Counts.{Rose};
 ghost use Rattle.disk_model.specs.Disk.{IsOnly, IsHonest};
-ghost use Rattle.rec_format.specs.Versions.{top_number};
-ghost use Rattle.block_format.specs.declared.geometry.Gate.TheVariants.{Shut};
 ghost use Rattle.block_format.specs.Layout.{IsGeometry, device_end, Body};
 ghost use Rattle.block_format.specs.Copies.{HasBodies};
 ghost use Rattle.block_format.specs.Refusals.{IsAsked};
 ghost use Rattle.recovery.specs.Start.{start_state};
 ghost use Rattle.recovery.specs.Sound.{IsSound};
-ghost use Rattle.block_flusher.specs.Images.{IsShut};
+ghost use Rattle.block_shelf.specs.View.{GatesStand};
 ghost use Rattle.block_shelf.specs.Disks.{OnlyRead};
-ghost use Rattle.shard_core.specs.View.{IsSettings, IsEntryOf, setup_of};
+ghost use Rattle.shard_core.specs.View.{IsSettings, setup_of};
 ghost use Rattle.shard_core.specs.Stands.{IsSafe};
 ghost use Rattle.shard_core.specs.Starting.{Begins, StandsForBodies, IsRefused, FaultRose};
-ghost use Rattle.shard_core.specs.Finding.{IsSure, AreGates, IsFinding, view_with};
+ghost use Rattle.shard_core.specs.Finding.{IsSure, AreGates, IsFinding, BeginsWith, BeginsBehind};
 
 use crate::scan::{Finding, scan};
 use crate::{Settings, Shard};
@@ -163,11 +161,12 @@ fn begun<D: Disk>(
     requires geometry { IsGeometry geometry }
     requires room { device_end geometry ≤ (D.view disk).extent }
     requires settings { IsSettings set }
-    requires number { finding.greatest ≤ top_number }
     requires count { length gates.items ≡ geometry.blocks }
-    requires shut { IsHonest (D.view disk) → (k : ℕ) → slice_get gates.items k ≡ Some Shut → IsShut geometry k (D.view disk).may_leave }
-    requires entries { AllByRecursion (IsEntryOf geometry) finding.index.entries }
-    ensures { MatchResult result (λ shard. shard ≡ view_with disk geometry gates.items set finding) (λ refusal. (refusal.disk ≡ disk) × (refusal.cause ≡ StartCause.Memory)) }
+    requires sure { AllByRecursion IsSure gates.items }
+    requires stand { IsHonest (D.view disk) → GatesStand geometry (D.view disk).may_leave gates.items }
+    requires found { (bodies : List Body) × IsFinding geometry gates.items geometry.blocks bodies finding }
+    ensures begun { MatchResult result (BeginsWith disk geometry set finding) (λ refusal. (refusal.disk ≡ disk) × (refusal.cause ≡ StartCause.Memory)) }
+    ensures behind { IfOk result (λ shard. (bodies : List Body) → IsFinding geometry gates.items geometry.blocks bodies finding → BeginsBehind D.view disk bodies shard) }
 {
     let Finding { index, greatest } = finding;
     let Ok(live) = index.live(alloc) else {

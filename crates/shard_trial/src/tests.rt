@@ -1,6 +1,8 @@
+mod closing;
 mod crashes;
 mod faults;
 mod latest;
+mod lives_on;
 mod lone;
 mod refusals;
 mod written;

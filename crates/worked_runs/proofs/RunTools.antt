@@ -6,7 +6,6 @@ use Rattle.rec_format.specs.declared.version.Stamp.{Stamp}
 use Rattle.rec_format.specs.declared.version.Version.{Version}
 use Rattle.rec_format.specs.Versions.{bounded_time}
 use Rattle.device_model.specs.Histories.{last_write, choices}
-use Rattle.device_model.specs.Policy.{whole}
 use Rattle.device_model.specs.Book.{Setup, pending_of}
 use Rattle.device_model.specs.Device.{State, Log, no_raid, put_count, tombstone_count, history}
 use Rattle.device_model.specs.Steps.{Step}
@@ -20,12 +19,12 @@ use Rattle.node_model.specs.Run.{Served, node_at_reply}
 
 abbrev pub device : (blocks lwm pending : ℕ) → (commit : Bool) → (age : ℕ) → Setup
 device blocks lwm pending commit age =
-    record { capacity = 766; blocks = blocks; device = 0; devices = 1; sprigs = 16; lwm = lwm; pending_limit = pending; commit = commit; raid_age = age; policy = whole }
+    record { capacity = 766; blocks = blocks; device = 0; devices = 1; sprigs = 16; lwm = lwm; pending_limit = pending; commit = commit; raid_age = age }
 
 -- one device of 256, with one sprig a partition: 16 parts, so that a raid has few turns
 abbrev pub small_device : (blocks lwm pending : ℕ) → (commit : Bool) → (age : ℕ) → Setup
 small_device blocks lwm pending commit age =
-    record { capacity = 766; blocks = blocks; device = 0; devices = 256; sprigs = 1; lwm = lwm; pending_limit = pending; commit = commit; raid_age = age; policy = whole }
+    record { capacity = 766; blocks = blocks; device = 0; devices = 256; sprigs = 1; lwm = lwm; pending_limit = pending; commit = commit; raid_age = age }
 
 abbrev pub d1 : Digest
 d1 = record { 0 = 0 ∷ 1 ∷ 2 ∷ 3 ∷ 4 ∷ 5 ∷ 6 ∷ 7 ∷ 8 ∷ 9 ∷ 10 ∷ 11 ∷ 12 ∷ 13 ∷ 14 ∷ 15 ∷ 16 ∷ 17 ∷ 18 ∷ 19 ∷ [] }

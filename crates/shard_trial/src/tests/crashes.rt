@@ -138,20 +138,19 @@ const SECOND: Answers = [Ok(1), Err(DiskFault), Ok(1)];
 
 const NONE: Answers = [Ok(1), Ok(1), Ok(0)];
 
-/// Asserts so where one call of a kind fails, each in turn. Without a fault a run has 9 moments, and where a body's call fails one more,
-/// since the body is written again. `gate` is how many it has where the call of a gate fails.
+/// Asserts so where one call of a kind fails, each in turn. Without a fault a run has 9 moments, and with one it has one more, since the
+/// body or the gate is written again.
 fn assert_left_by_each(
     rt: &impl Abort,
     alloc: Global,
     (kind, before): (DiskCall, u64),
-    gate: u64,
 ) -> Result<(), Fail> {
-    assert!(rt; before <= 1 && gate <= 11);
+    assert!(rt; before <= 1);
     for (skip, wanted, moments) in [
         (0, FIRST, 10),
-        (1, FIRST, gate),
+        (1, FIRST, 10),
         (2, SECOND, 10),
-        (3, SECOND, gate),
+        (3, SECOND, 10),
         (4, NONE, 9),
     ] {
         let (images, answers) = assert_left_throughout(rt, alloc, (kind, before + skip))?;
@@ -161,16 +160,16 @@ fn assert_left_by_each(
     Ok(())
 }
 
-// The next try of a gate whose write failed syncs, sees it closed, and writes it: two moments more.
+// A body and a gate whose write failed are written again.
 #[test]
 fn what_is_flushed_stays_where_a_write_fails(rt: HostRuntime) -> Result<(), Fail> {
-    assert_left_by_each(&rt, rt.alloc(), (DiskCall::Write, 0), 11)
+    assert_left_by_each(&rt, rt.alloc(), (DiskCall::Write, 0))
 }
 
-// The first sync is that of the start. The next try of a gate whose sync failed syncs, and sees it open.
+// The first sync is that of the start. What no sync that went well stands behind is written again, a gate too.
 #[test]
 fn what_is_flushed_stays_where_a_sync_fails(rt: HostRuntime) -> Result<(), Fail> {
-    assert_left_by_each(&rt, rt.alloc(), (DiskCall::Sync, 1), 9)
+    assert_left_by_each(&rt, rt.alloc(), (DiskCall::Sync, 1))
 }
 
 // A start makes one moment, and a flush four: the body, its sync, the gate, and its sync. From its gate on a buffer may be there, and

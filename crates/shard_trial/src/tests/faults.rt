@@ -2,14 +2,14 @@
 use super::*;
 use rec_format::Head;
 
-/// A small device without records, of which the calls of a kind with these numbers fail.
+/// A device of 16 blocks without records, of which the calls of a kind with these numbers fail.
 fn failing(
     rt: &impl Abort,
     alloc: Global,
     kind: DiskCall,
     numbers: &[u64],
 ) -> Result<MemDisk, Fail> {
-    let mut disk = device_with(rt, alloc, &[])?;
+    let mut disk = larger_device(rt, alloc)?;
     for number in numbers {
         disk.fail_after(kind, *number)?;
     }
@@ -43,12 +43,12 @@ fn each_read_fails(rt: HostRuntime) -> Result<(), Fail> {
     Ok(())
 }
 
-// A start over no record makes 9 reads, and the next three fail. A record that waits in its buffer is read without the disk.
+// A start over 16 closed gates makes 17 reads, and the next three fail. A record that waits in its buffer is read without the disk.
 #[test]
 fn a_buffer_is_read_without_the_disk(rt: HostRuntime) -> Result<(), Fail> {
     let alloc = rt.alloc();
     let hello = put_of(RISING, 1000, 1, b"hello");
-    let mut lone = started(alloc, failing(&rt, alloc, DiskCall::Read, &[9, 10, 11])?)?;
+    let mut lone = started(alloc, failing(&rt, alloc, DiskCall::Read, &[17, 18, 19])?)?;
     assert!(rt; lone.put(&rt, &RISING, b"hello") == Ok(stamp(1)));
     assert!(rt; lone.finds(&hello, true)?);
     assert!(rt; lone.flush() == Ok(1));

@@ -2,7 +2,7 @@
 use super::*;
 
 /// The bytes 0 to 18, and 20: in the sprig of the bytes 0 to 19.
-const BESIDE: Digest = Digest([
+pub const BESIDE: Digest = Digest([
     0, 1, 2, 3, 4, 5, 6, 7, 8, 9, 10, 11, 12, 13, 14, 15, 16, 17, 18, 20,
 ]);
 
@@ -187,8 +187,6 @@ fn records_are_found_again(rt: HostRuntime) -> Result<(), Fail> {
         let record = put_of(numbered(byte), 1000, gen_, payload);
         assert!(rt; lone.finds(&record, true)?, "record {byte}");
     }
-    let full = WriteRefusal::Space { free: 0 };
-    assert!(rt; lone.put(&rt, &RISING, b"x") == Err(full));
     Ok(())
 }
 

@@ -122,3 +122,11 @@ pub fn device_with(
     }
     Ok(disk)
 }
+
+/// A device of 16 blocks without records.
+pub fn larger_device(rt: &impl Abort, alloc: Global) -> Result<MemDisk, Fail> {
+    let mut disk = MemDisk::new(alloc, 266_240)?;
+    write(rt, &mut disk, 0, &FRONT)?;
+    write(rt, &mut disk, 24, &[16])?;
+    Ok(disk)
+}

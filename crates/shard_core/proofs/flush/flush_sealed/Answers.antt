@@ -7,7 +7,7 @@ use Rattle.block_shelf.specs.View.{ShelfView}
 use Rattle.block_shelf.specs.Flushes.{FirstLeaves}
 use Rattle.shard_core.proofs.Going.{goes_none}
 use Rattle.shard_core.proofs.Later.{later_none, later_then, shape_then}
-use Rattle.shard_core.proofs.FlushLoop.{Stepped, Fewer, fits_before, setup_stays, went_on, went_all, went_stopped, quiet_on, none_left, where_err, on_err, rose_since}
+use Rattle.shard_core.proofs.FlushLoop.{Stepped, Fewer, fits_before, one_fewer, setup_stays, went_on, went_all, went_stopped, quiet_on, none_left, where_err, on_err, rose_since}
 use Rattle.disk_model.specs.Disk.{IsDisk}
 use Rattle.shard_core.proofs.flush.flush_sealed.Goals as goal
 
@@ -45,17 +45,17 @@ overflow_add-count g c =
     let mid : ShelfView g.row.D.Denot = c.loop-count.shelf in
     let new : ShelfView g.row.D.Denot = c.flush_step.new.self in
     let is_some : c.flush_step.result ≡ Ok (Some c.in-Some.field-0) = c.in_ok-flush_step.was ∙ ap (λ (o : Option ℕ). Ok o) c.in-Some.is in
-    let leaves : FirstLeaves mid.buffers new.buffers = subst (λ (r : Result (Option ℕ) DiskFault). Fewer r mid new) is_some c.flush_step.ensures.first in
+    let leaves : FirstLeaves c.in-Some.field-0 mid new = subst (λ (r : Result (Option ℕ) DiskFault). Fewer r mid new) is_some c.flush_step.ensures.first in
     let few = fits_before g.D.Disk.view c.loop-count.count mid c.flush_step.ensures.whole c.loop-count.invariant.few in
-    omega (arith, leaves.1, few)
+    omega (arith, one_fewer leaves, few)
 
 pub loop-count-smaller : goal.loop-count-smaller
 loop-count-smaller g c =
     let mid : ShelfView g.row.D.Denot = c.loop-count.shelf in
     let new : ShelfView g.row.D.Denot = c.flush_step.new.self in
     let is_some : c.flush_step.result ≡ Ok (Some c.in-Some.field-0) = c.in_ok-flush_step.was ∙ ap (λ (o : Option ℕ). Ok o) c.in-Some.is in
-    let leaves : FirstLeaves mid.buffers new.buffers = subst (λ (r : Result (Option ℕ) DiskFault). Fewer r mid new) is_some c.flush_step.ensures.first in
-    omega (arith, leaves.1)
+    let leaves : FirstLeaves c.in-Some.field-0 mid new = subst (λ (r : Result (Option ℕ) DiskFault). Fewer r mid new) is_some c.flush_step.ensures.first in
+    omega (arith, one_fewer leaves)
 
 pub loop-count-preserved : goal.loop-count-preserved
 loop-count-preserved g c =
@@ -65,13 +65,13 @@ loop-count-preserved g c =
     let is_some : c.flush_step.result ≡ Ok (Some c.in-Some.field-0) = c.in_ok-flush_step.was ∙ ap (λ (o : Option ℕ). Ok o) c.in-Some.is in
     let stepped : Stepped g.D.Disk.view {E = DiskFault} (Ok (Some c.in-Some.field-0)) mid new =
     subst (λ (r : Result (Option ℕ) DiskFault). Stepped g.D.Disk.view r mid new) is_some c.flush_step.ensures.flushed in
-    let leaves : FirstLeaves mid.buffers new.buffers = subst (λ (r : Result (Option ℕ) DiskFault). Fewer r mid new) is_some c.flush_step.ensures.first in
+    let leaves : FirstLeaves c.in-Some.field-0 mid new = subst (λ (r : Result (Option ℕ) DiskFault). Fewer r mid new) is_some c.flush_step.ensures.first in
     let few = fits_before g.D.Disk.view c.loop-count.count mid c.flush_step.ensures.whole c.loop-count.invariant.few in
     record {
-      few = inr (omega (arith, leaves.1, few));
+      few = inr (omega (arith, one_fewer leaves, few));
       went = λ setup s is stands. went_on g.D.Disk.view setup c.loop-count.count old mid new s
           (setup_stays setup old mid c.loop-count.invariant.shape is) (c.loop-count.invariant.went setup s is stands) c.flush_step.ensures.whole c.loop-count.invariant.honest DiskFault c.in-Some.field-0 stepped;
-      quiet = λ quiet. quiet_on mid new (c.loop-count.invariant.quiet quiet) leaves;
+      quiet = λ quiet. quiet_on c.in-Some.field-0 mid new (c.loop-count.invariant.quiet quiet) leaves;
       later = later_then g.D.Disk.view old.disk mid.disk new.disk c.loop-count.invariant.later c.flush_step.ensures.later;
       honest = λ honest. c.flush_step.ensures.honest (c.loop-count.invariant.honest honest);
       shape = shape_then old mid new c.loop-count.invariant.shape c.flush_step.ensures.shape;

@@ -13,7 +13,7 @@ use Rattle.shard_core.proofs.flush.flush_sealed.Given as goal
 abbrev pub invariant-loop-count : goal.invariant-loop-count
 invariant-loop-count g l = record {
   few : (l.count ≡ 0) ⊎ (l.count + length l.shelf.buffers ≤ top_number + 1);
-  went : (setup : Setup) (s : State) → IsSetupOf setup l.fn.shelf → StandsFor l.fn.shelf s
+  went : (setup : Setup) (s : State) → IsSetupOf setup l.fn.shelf → StandsFor setup l.fn.shelf s
       → Went g.D.Disk.view setup l.count l.fn.shelf s l.shelf;
   quiet : FillsNone l.fn.shelf → FillsNone l.shelf;
   later : IsLater (g.D.Disk.view l.fn.shelf.disk) (g.D.Disk.view l.shelf.disk);

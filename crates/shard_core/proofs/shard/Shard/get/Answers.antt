@@ -1,4 +1,4 @@
-use Rattle.std.proofs.Common.{◌≡◌, ◌≢◌, ℕ, sym, refl, ap, ◌∙◌, subst, arith}
+use Rattle.std.proofs.Common.{◌≡◌, ◌≢◌, ℕ, [], sym, refl, ap, ◌∙◌, subst, arith}
 use Rattle.std.specs.List.{AllByRecursion}
 use Rattle.std.specs.Prelude.{Option, Some, None, Result, Ok, IfErr, Contains}
 use Rattle.std.specs.Option.{option_copied}
@@ -15,13 +15,14 @@ use Rattle.block_shelf.specs.declared.place.Place.{Place}
 use Rattle.block_shelf.specs.declared.refusals.ReadRefusal.{ReadRefusal}
 use Rattle.block_shelf.specs.declared.refusals.ReadRefusal.TheVariants as read
 use Rattle.block_shelf.specs.View.{ShelfView}
-use Rattle.block_shelf.specs.Standing.{IsPlaced}
-use Rattle.block_shelf.specs.Calls.{copy_bytes, HasRead, IsUndamaged}
+use Rattle.block_shelf.specs.Standing.{IsPlaced, StandsFor}
+use Rattle.block_shelf.specs.Reads.{copy_bytes, HasRead, IsUndamaged}
 use Rattle.shard_core.specs.Index.{held, place_of}
 use Rattle.shard_core.specs.View.{ShardView, IsEntryOf, setup_of}
 use Rattle.shard_core.specs.Stands.{Agrees}
 use Rattle.shard_core.specs.Calls.{Makes, GetsStored, read_answer}
-use Rattle.shard_core.proofs.Getting.{held_is, seen_none, seen_some, seen_held, live_is, shown, shown_got, shown_is, shown_err, makes_unseen, makes_read}
+use Rattle.shard_core.proofs.Making.{whole_behind}
+use Rattle.shard_core.proofs.Getting.{stands_over, held_is, seen_none, seen_some, seen_held, live_is, shown, shown_got, shown_is, shown_err, makes_unseen, makes_read}
 use Rattle.shard_core.proofs.shard.Shard.get.Goals.{in-Ok, in-Err}
 use Rattle.shard_core.proofs.shard.Shard.get.Goals as goal
 
@@ -79,9 +80,9 @@ returns-clause-makes g c =
     let is = seen_some (setup_of old) s c.args.now digest old.index agrees.index e seen in
     let live = live_is (setup_of old) s c.args.now digest old.index e c.place_of_entry.result agrees.index is here.same c.place_of_entry.ensures in
     makes_read g.D.Disk.view old new s digest c.args.now agrees e is c.read.result
-    (record { geometry = c.read.ensures.same.geometry; set = refl }) c.read.ensures.same refl c.read.ensures.disk
+    (record { geometry = ap (λ (x : ShelfView g.row.D.Denot). x.geometry) c.read.ensures.same; set = refl }) c.read.ensures.same refl c.read.ensures.disk
     (g.met.D.Disk.is_disk new.shelf.disk)
-    c.read.ensures.names c.read.ensures.cause (λ honest placed. c.read.ensures.written honest s is.version agrees.shelf placed live.live live.entry_is is.names)))
+    c.read.ensures.names c.read.ensures.cause (λ honest placed. c.read.ensures.written honest (setup_of old) s is.version agrees.shelf placed live.live live.entry_is is.names)))
 
 pub returns-clause-buffered : goal.returns-clause-buffered
 returns-clause-buffered g c =
@@ -99,7 +100,7 @@ returns-clause-buffered g c =
     let live = live_is (setup_of old) s c.args.now digest old.index e c.place_of_entry.result agrees.index seen_is here.same c.place_of_entry.ensures in
     let one : Some x ≡ Some e = sym is ∙ seen_is.held_is in
     let same : x ≡ e = cc in
-    let got = c.read.ensures.buffered s seen_is.version b agrees.shelf live.live live.entry_is seen_is.names there (at ∙ ap (λ (y : Entry). y.block) same ∙ sym (ap (λ (p : Place). p.block) c.place_of_entry.ensures)) in (
+    let got = c.read.ensures.buffered (setup_of old) s seen_is.version b agrees.shelf live.live live.entry_is seen_is.names there (at ∙ ap (λ (y : Entry). y.block) same ∙ sym (ap (λ (p : Place). p.block) c.place_of_entry.ensures)) in (
       ap (λ (sh : ShelfView g.row.D.Denot). let y : ShardView g.row.D.Denot = record { shelf = sh; set = old.set; index = old.index } in y) got.0,
       subst (λ (r : Result (Option Version) ReadRefusal). IfErr r (λ refusal. refusal ≡ read.Memory)) (sym answered) (shown_err (λ v. v ≡ seen_is.version) (λ refusal. refusal ≡ read.Memory) c.read.result got.1),
     ))
@@ -120,7 +121,7 @@ returns-clause-stored g c =
           let live = live_is (setup_of old) s c.args.now digest old.index e c.place_of_entry.result agrees.index seen_is here.same c.place_of_entry.ensures in
           let one : Some x ≡ Some e = sym is ∙ seen_is.held_is in
           let same : x ≡ e = cc in
-          let got = c.read.ensures.buffered s seen_is.version b agrees.shelf live.live live.entry_is seen_is.names there (at ∙ ap (λ (y : Entry). y.block) same ∙ sym at_place) in
+          let got = c.read.ensures.buffered (setup_of old) s seen_is.version b agrees.shelf live.live live.entry_is seen_is.names there (at ∙ ap (λ (y : Entry). y.block) same ∙ sym at_place) in
           shown_is (device.seen s c.args.now digest) seen_is.version (λ refusal. refusal ≡ read.Memory) c.read.result seen_is.seen got.1;
       placed = λ told x is none.
           let one : Some x ≡ Some e = sym is ∙ seen in
@@ -146,4 +147,13 @@ returns-clause-undamaged g c =
     let is = seen_some (setup_of old) s c.args.now digest old.index agrees.index e seen in
     let live = live_is (setup_of old) s c.args.now digest old.index e c.place_of_entry.result agrees.index is here.same c.place_of_entry.ensures in
     subst (λ (r : Result (Option Version) ReadRefusal). IfErr r IsUndamaged) (sym answered)
-    (shown_err (λ v. v ≡ is.version) IsUndamaged c.read.result (c.read.ensures.written honest s is.version agrees.shelf placed live.live live.entry_is is.names)))
+    (shown_err (λ v. v ≡ is.version) IsUndamaged c.read.result (c.read.ensures.written honest (setup_of old) s is.version agrees.shelf placed live.live live.entry_is is.names)))
+
+pub invariant_of-self : goal.invariant_of-self
+invariant_of-self g c =
+    let old : ShardView g.row.D.Denot = record { shelf = c.self.inside.shelf; set = c.self.inside.set; index = c.self.inside.index.entries } in
+    let new : ShardView g.row.D.Denot = record { shelf = c.read.new.self; set = c.self.inside.set; index = c.self.inside.index.entries } in
+    let s : State = c.self.invariant.stands.0 in
+    let agrees : Agrees old s = c.self.invariant.stands.1 in
+    whole_behind old new c.self.invariant (record { geometry = ap (λ (x : ShelfView g.row.D.Denot). x.geometry) c.read.ensures.same; set = refl }) (ap (λ (x : ShelfView g.row.D.Denot). x.limits) c.read.ensures.same) refl s agrees [] tt
+    (subst (λ (x : ShelfView g.row.D.Denot). StandsFor (setup_of old) x s) (sym c.read.ensures.same) (stands_over (setup_of old) old.shelf new.shelf.disk s agrees.shelf))

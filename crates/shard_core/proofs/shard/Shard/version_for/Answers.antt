@@ -6,8 +6,8 @@ use Rattle.std.specs.List.{AllByRecursion}
 use Rattle.shard_core.proofs.Puts.{new_put_is}
 use Rattle.shard_core.proofs.shard.Shard.version_for.Goals as goal
 
-pub returns : goal.returns
-returns g c =
+pub returns-clause-version : goal.returns-clause-version
+returns-clause-version g c =
     let old : ShardView g.row.D.Denot = record { shelf = c.self.inside.shelf; set = c.self.inside.set; index = c.self.inside.index.entries } in
     let capacity = ap (λ (x : Geometry). block_capacity x.block_size) c.geometry.ensures.shape in
     let fits : units_for (length c.args.payload.now) ≤ block_capacity c.self.inside.shelf.geometry.block_size = omega (arith, c.if-units-capacity.false, c.units_of-units.ensures, c.capacity-capacity.ensures, capacity) in

@@ -1,0 +1,56 @@
+-- A buffer begins behind memory that was taken: what is refused, and what is left.
+use Rattle.std.proofs.Common.{◌≡◌, ◌≢◌, List, [], Result, Ok, Err, refl, sym, ◌∙◌, ap, subst}
+use Rattle.std.specs.Prelude.{MatchResult, OnOk, IsErrAnd}
+use Rattle.disk_model.specs.Disk.{DiskView, IsHonest}
+use Rattle.disk_model.specs.Runs.{OneOf, Leaves}
+use Rattle.device_model.specs.Book.{Setup}
+use Rattle.device_model.specs.Device.{State}
+use Rattle.device_model.specs.Steps.{Step, states_through}
+use Rattle.recovery.specs.Surviving.{Survives}
+use Rattle.unit_ledger.specs.Rolls.{BlockRoll}
+use Rattle.hold_book.specs.Holds.{HoldState}
+use Rattle.block_shelf.specs.declared.refusals.PutRefusal.{PutRefusal}
+use Rattle.block_shelf.specs.declared.refusals.PutRefusal.TheVariants.{Big, Spent, Load, Space, Memory, Fault}
+use Rattle.block_shelf.specs.View.{ShelfView}
+use Rattle.block_shelf.specs.Calls.{Goes}
+use Rattle.block_shelf.specs.Changes.{SameButRoom, with_begun}
+use Rattle.block_shelf.specs.Appends.{refused_steps, with_first_shut, ready_for}
+use Rattle.block_shelf.proofs.Roomed.{room_placed, room_safe, room_disk}
+
+pub err_said : {A E : Type 0} (r : Result A E) (said : E) (P : A → Type 0) (Q : E → Type 0) → IsErrAnd r (λ e. e ≡ said) → Q said → MatchResult r P Q
+err_said (Ok a) said P Q is holds = absurd is
+err_said (Err e) said P Q is holds = subst Q (sym is) holds
+
+-- only a fault makes a step
+pub unfailed_steps : (refusal : PutRefusal) → refusal ≢ Fault → refused_steps refusal ≡ []
+unfailed_steps (Big units capacity) other = refl
+unfailed_steps Spent other = refl
+unfailed_steps (Load pending) other = refl
+unfailed_steps (Space free) other = refl
+unfailed_steps Memory other = refl
+unfailed_steps Fault other = absurd (other refl)
+
+-- what a shelf goes by behind memory that was taken, the shelf before goes by
+pub goes_behind : {D : Type 0} (view : D → DiskView) (setup : Setup) (steps : List Step) (s : State) (old mid new : ShelfView D) → SameButRoom old mid → Goes view setup steps mid s new → Goes view setup steps old s new
+goes_behind {D} view setup steps s old mid new same goes = record {
+  stands = goes.stands;
+  placed = λ honest placed. goes.placed (now honest) (room_placed old mid same view s placed);
+  safe = λ honest safe. goes.safe (now honest) (room_safe old mid same setup view s safe);
+  leaves = λ honest safe. subst (λ (disk : D). Leaves (OneOf (Survives setup) (states_through setup steps s)) (view disk) (view new.disk)) (room_disk old mid same) (goes.leaves (now honest) (room_safe old mid same setup view s safe));
+}
+  where
+    now : IsHonest (view old.disk) → IsHonest (view mid.disk)
+    now honest = subst (λ (disk : D). IsHonest (view disk)) (sym (room_disk old mid same)) honest
+
+module _ {D : Type 0} (old mid new : ShelfView D) (same : SameButRoom old mid) where
+  pub ready_is : new ≡ with_begun (with_first_shut new.disk mid) → with_first_shut new.disk mid ≡ ready_for new old
+  ready_is begun =
+      ap (with_first_shut new.disk) same.rest
+      ∙ ap (λ (rolls : List BlockRoll). record (with_first_shut new.disk old) { rolls = rolls; holds = mid.holds }) (sym (ap (λ (x : ShelfView D). x.rolls) begun))
+      ∙ ap (λ (holds : HoldState). record (with_first_shut new.disk old) { rolls = new.rolls; holds = holds }) (sym (ap (λ (x : ShelfView D). x.holds) begun))
+
+  pub goes_begun : (view : D → DiskView) (setup : Setup) (s : State) (r : Result (Unit {0}) PutRefusal) → OnOk r (new ≡ with_begun (with_first_shut new.disk mid))
+      → MatchResult r (λ done. Goes view setup [] mid s (with_first_shut new.disk mid)) (λ refusal. Goes view setup (refused_steps refusal) mid s new)
+      → MatchResult r (λ done. Goes view setup [] old s (ready_for new old)) (λ refusal. Goes view setup (refused_steps refusal) old s new)
+  goes_begun view setup s (Ok done) begun goes = subst (Goes view setup [] old s) (ready_is begun) (goes_behind view setup [] s old mid (with_first_shut new.disk mid) same goes)
+  goes_begun view setup s (Err refusal) begun goes = goes_behind view setup (refused_steps refusal) s old mid new same goes

@@ -1,0 +1,121 @@
+-- A copy is no longer live: the book behind it, and the shelf.
+use Rattle.std.proofs.Common.{◌≡◌, ◌≢◌, ◌⊎◌, inl, inr, ℕ, ◌<◌, ◌≤◌, Bool, true, false, not, ◌&&◌, cond, List, [], ◌∷◌, ◌++◌, refl, sym, ◌∙◌, ap, subst, arith}
+use Rattle.std.specs.Prelude.{Contains}
+use Rattle.std.specs.List.{AllByRecursion}
+use Rattle.std.proofs.lemmas.Bool.{cases_Bool, not-true}
+use Rattle.rec_format.specs.declared.version.Digest.{Digest}
+use Rattle.rec_format.specs.Places.{same_digest}
+use Rattle.rec_format.proofs.Laws.{same_digest_is}
+use Rattle.device_model.specs.Book.{Setup, Book, Live, without_live, may_be_free, is_in, all_blocks, refreshed, dropped_live}
+use Rattle.device_model.specs.Device.{State}
+use Rattle.device_model.specs.Steps.{removed, after_step}
+use Rattle.recovery.proofs.Growing.{all_from, all_at}
+use Rattle.recovery.proofs.Members.{filter_there, filter_from}
+use Rattle.kept_trail.specs.Trail.{IsBooked}
+use Rattle.kept_trail.proofs.Books.{used_not_free}
+use Rattle.block_shelf.specs.Standing.{IsListed}
+use Rattle.block_shelf.proofs.Frees.{IsVacant, vacant_from, vacant_is, filter_one, refreshed_free, refreshed_all, updated_more, not_in, is_in_there}
+
+-- ---- the book
+
+module _ (setup : Setup) (s : State) (digest : Digest) where
+  abbrev pub fewer : Book
+  fewer = record s.book { live = without_live digest s.book.live }
+
+  abbrev pub after : State
+  after = after_step setup (removed digest) s
+
+  pub dropped_buffers : after.book.buffers ≡ s.book.buffers
+  unfolding after_step dropped_live refreshed
+  dropped_buffers = refl
+
+  pub dropped_next : after.book.next_number ≡ s.book.next_number
+  unfolding after_step dropped_live refreshed
+  dropped_next = refl
+
+  pub dropped_holds : after.book.holds ≡ s.book.holds
+  unfolding after_step dropped_live refreshed
+  dropped_holds = refl
+
+  pub dropped_lives : after.book.live ≡ without_live digest s.book.live
+  unfolding after_step dropped_live refreshed
+  dropped_lives = refl
+
+  dropped_free : after.book.free ≡ (refreshed setup fewer).free
+  unfolding after_step dropped_live
+  dropped_free = refl
+
+  dropped_may : (b : ℕ) → may_be_free after.book b ≡ may_be_free fewer b
+  unfolding after_step dropped_live refreshed
+  dropped_may b = refl
+
+  -- another live copy stays, and no other comes
+  pub left_live : (m : Live) → Contains (without_live digest s.book.live) m → Contains s.book.live m × (same_digest digest m.digest ≡ false)
+  left_live m there = let two = filter_from (λ (l : Live). not (same_digest digest l.digest)) s.book.live m there in (two.0, not-true (same_digest digest m.digest) two.1)
+
+  pub stays_live : (m : Live) → Contains s.book.live m → same_digest digest m.digest ≡ false → Contains (without_live digest s.book.live) m
+  stays_live m there other = filter_there (λ (l : Live). not (same_digest digest l.digest)) s.book.live m (ap not other) there
+
+module _ (setup : Setup) (s : State) (digest : Digest) (booked : IsBooked s.book) (listed : IsListed setup s.book) where
+  abbrev fewer' : Book
+  fewer' = fewer setup s digest
+
+  abbrev after' : State
+  after' = after_step setup (removed digest) s
+
+  pub dropped_listed : IsListed setup after'.book
+  dropped_listed = record {
+    all = λ b lt may. subst (λ (l : List ℕ). Contains l b) (sym (dropped_free setup s digest)) (refreshed_all setup fewer' b lt (sym (dropped_may setup s digest b) ∙ may));
+    one = λ l m in_l in_m same.
+        listed.one l m (left_live setup s digest l (subst (λ (x : List Live). Contains x l) (dropped_lives setup s digest) in_l)).0 (left_live setup s digest m (subst (λ (x : List Live). Contains x m) (dropped_lives setup s digest) in_m)).0 same;
+  }
+
+  still_vacant : (b : ℕ) → IsVacant s.book b → IsVacant fewer' b
+  still_vacant b vacant = record { places = vacant.places; live = λ m there. vacant.live m (left_live setup s digest m there).0; holds = vacant.holds }
+
+  pub fewer_units : AllByRecursion (λ l. 1 ≤ l.units) fewer'.live
+  fewer_units = all_from (λ l. 1 ≤ l.units) fewer'.live (λ l there. all_at (λ m. 1 ≤ m.units) s.book.live l booked.units (left_live setup s digest l there).0)
+
+  pub joins : (l m : Live) → same_digest digest l.digest ≡ true → same_digest digest m.digest ≡ true → same_digest l.digest m.digest ≡ true
+  joins l m own same = subst (λ (d : Digest). same_digest d m.digest ≡ true) (same_digest_is digest l.digest own) same
+
+  module _ (l : Live) (live : Contains s.book.live l) (own : same_digest digest l.digest ≡ true) (within : l.block < setup.blocks) where
+    abbrev come : ℕ → Bool
+    come b = may_be_free fewer' b && not (is_in s.book.free b)
+
+    was_vacant : (b : ℕ) → b ≢ l.block → IsVacant fewer' b → IsVacant s.book b
+    was_vacant b other vacant = record {
+      places = vacant.places;
+      live = λ m there at. by m there at (cases_Bool (same_digest digest m.digest));
+      holds = vacant.holds;
+    }
+      where
+        by : (m : Live) → Contains s.book.live m → m.block ≡ b → (same_digest digest m.digest ≡ true) ⊎ (same_digest digest m.digest ≡ false) → ⊥
+        by m there at (inl same) = other (sym at ∙ ap (λ (x : Live). x.block) (sym (listed.one l m live there (joins l m own same))))
+        by m there at (inr apart) = vacant.live m (stays_live setup s digest m there apart) at
+
+    no_other : (b : ℕ) → b < setup.blocks → b ≢ l.block → come b ≡ false
+    no_other b lt other = by (may_be_free fewer' b) refl
+      where
+        by : (may : Bool) → may_be_free fewer' b ≡ may → (may && not (is_in s.book.free b)) ≡ false
+        by false is = refl
+        by true is = ap not (is_in_there s.book.free b (listed.all b lt (vacant_is s.book b (was_vacant b other (vacant_from fewer' b fewer_units is)))))
+
+    unlisted : is_in s.book.free l.block ≡ false
+    unlisted = not_in s.book.free l.block (used_not_free s.book l booked live)
+
+    come_here : come l.block ≡ may_be_free fewer' l.block
+    come_here = by (may_be_free fewer' l.block)
+      where
+        by : (may : Bool) → (may && not (is_in s.book.free l.block)) ≡ may
+        by false = refl
+        by true = ap not unlisted
+
+    -- only the block of the copy may come to the free ones
+    pub dropped_frees : after'.book.free ≡ s.book.free ++ cond (may_be_free fewer' l.block) (l.block ∷ []) []
+    dropped_frees =
+        dropped_free setup s digest ∙ refreshed_free setup fewer'
+        ∙ updated_more (may_be_free fewer') s.book.free (all_blocks setup) (cond (may_be_free fewer' l.block) (l.block ∷ []) [])
+        (all_from (λ b. may_be_free fewer' b ≡ true) s.book.free
+        (λ b there. vacant_is fewer' b (still_vacant b (vacant_from s.book b booked.units (all_at (λ k. may_be_free s.book k ≡ true) s.book.free b booked.free there)))))
+        (filter_one come setup.blocks l.block no_other 0 setup.blocks (omega arith) (omega arith) (omega (arith, within)) ∙ ap (λ (x : Bool). cond x (l.block ∷ []) []) come_here)

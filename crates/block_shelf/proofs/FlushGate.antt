@@ -1,0 +1,227 @@
+-- The gate of the first buffer is written, over its body, for the first time or again.
+use Rattle.std.proofs.Common.{◌≡◌, inl, inr, ℕ, ◌<◌, true, List, [], ◌∷◌, map, length, refl, sym, ap, ◌∙◌, subst}
+use Rattle.std.specs.Prelude.{slice_set, Contains}
+use Rattle.std.proofs.lemmas.Bool.{false≢true, or_left, and_from, eq-eqb}
+use Rattle.std.proofs.lemmas.List.{length-set, get_or-set_same, get_or-set_other, set-set}
+use Rattle.disk_model.specs.Disk.{Images, DiskView, IsHonest, Within, TornFrom, meanwhile}
+use Rattle.rec_format.specs.Versions.{block_capacity}
+use Rattle.device_model.specs.Histories.{is_begun}
+use Rattle.device_model.specs.Book.{Setup, Buffer, is_opening, pending_of}
+use Rattle.device_model.specs.Device.{State}
+use Rattle.device_model.specs.Steps.{gate_begun, after_step}
+use Rattle.block_format.specs.declared.geometry.Gate.{Gate}
+use Rattle.block_format.specs.declared.geometry.Gate.TheVariants.{Shut, Set, Unsure}
+use Rattle.block_format.specs.Layout.{IsBody, block_place}
+use Rattle.block_flusher.specs.Images.{IsOpened, HasOneBody}
+use Rattle.write_buffer.specs.declared.phase.Phase.{Phase}
+use Rattle.write_buffer.specs.declared.phase.Phase.TheVariants.{Filling, Sealed, BodyDone, GateBegun}
+use Rattle.write_buffer.specs.Phases.{later_phase}
+use Rattle.write_buffer.specs.Buffers.{BufferState, bytes_of, body_in, with_phase}
+use Rattle.recovery.proofs.Members.{first_there}
+use Rattle.kept_trail.specs.Trail.{Records, places_of}
+use Rattle.kept_images.specs.Changes.{ChangesIn, IsOpening}
+use Rattle.kept_images.specs.Gates.{GateStands, StandsOver, IsBodyWith, with_gate}
+use Rattle.kept_images.specs.Held.{HoldsGates}
+use Rattle.kept_images.proofs.Buffers.{records_found}
+use Rattle.kept_images.proofs.Held.{held_known, knows_known}
+use Rattle.kept_images.proofs.Holding.{plain_holds}
+use Rattle.kept_images.proofs.Parts.{gate_changes, body_stays}
+use Rattle.kept_images.proofs.Worked.{HasOpened, open_call, opening_begun}
+use Rattle.block_shelf.specs.View.{ShelfView, IsShelf, is_written, records_of, gate_at}
+use Rattle.block_shelf.specs.Standing.{StandsFor, IsSafe, book_buffer, book_phase}
+use Rattle.block_shelf.specs.Calls.{Goes}
+use Rattle.block_shelf.specs.Flushes.{gate_steps, first_gate_steps}
+use Rattle.block_shelf.proofs.Closing.{gates_with, holds_same}
+use Rattle.block_shelf.proofs.FlushShelf.{KeepsDisk, now_within, written, written_shelf, still_stands, begun_stands, still_placed, begun_placed}
+
+-- no phase is later than that
+pub begun_phase : (b c : BufferState) → c ≡ with_phase (later_phase b.phase GateBegun) b → c ≡ with_phase GateBegun b
+begun_phase b c set = set ∙ ap (λ (q : Phase). with_phase q b) (latest b.phase)
+  where
+    latest : (p : Phase) → later_phase p GateBegun ≡ GateBegun
+    latest Filling = refl
+    latest Sealed = refl
+    latest BodyDone = refl
+    latest GateBegun = refl
+
+-- a buffer whose gate has begun is begun in the book
+begun_first : (s : State) (b : BufferState) (rest : List BufferState) → b.phase ≡ GateBegun → s.book.buffers ≡ map book_buffer (b ∷ rest) → is_begun (pending_of s.book) b.number ≡ true
+begun_first s b rest phase is =
+    subst (λ (l : List Buffer). is_begun (map (λ x. (x.number, is_opening x.phase)) l) b.number ≡ true) (sym is)
+    (or_left _ _ (and_from _ _ (eq-eqb b.number b.number refl) (ap (λ (p : Phase). is_opening (book_phase p)) phase)))
+
+module _ {D : Type 0} (view : D → DiskView) (shelf : ShelfView D) (disk : D) (b : BufferState) (rest : List BufferState) (is : IsShelf view (record shelf { buffers = b ∷ rest })) (call : KeepsDisk view shelf.disk disk)
+    (has_body : is_written b.phase ≡ true) (is_body : IsBody (block_capacity shelf.geometry.block_size) (bytes_of b) (body_in b))
+    (torn : IsHonest (view shelf.disk) → TornFrom (block_place shelf.geometry b.block) 4096 (view shelf.disk).may_leave (meanwhile (view shelf.disk) (view disk))) where
+  abbrev old : ShelfView D
+  old = record shelf { buffers = b ∷ rest }
+
+  abbrev before : Images
+  before = (view shelf.disk).may_leave
+
+  abbrev since : Images
+  since = meanwhile (view shelf.disk) (view disk)
+
+  abbrev now : Images
+  now = (view disk).may_leave
+
+  abbrev gates : ℕ → Gate
+  gates = gate_at shelf.gates
+
+  abbrev records : Records
+  records = records_of (b ∷ rest)
+
+  -- the shelf behind it
+  abbrev opening_view : Gate → ShelfView D
+  opening_view gate = written view shelf disk b rest GateBegun (slice_set shelf.gates b.block gate)
+
+  fewer : Within since now
+  fewer = now_within view shelf.disk disk call
+
+  lt : b.block < length shelf.gates
+  lt = subst (λ (n : ℕ). b.block < n) (sym is.gates) is.buffers.0.block
+
+  away : IsHonest (view shelf.disk) → ChangesIn shelf.geometry b.block before since
+  away honest = gate_changes shelf.geometry b.block is.geometry before since (torn honest)
+
+  the_body : IsHonest (view shelf.disk) → HasOneBody shelf.geometry b.block (bytes_of b) before
+  the_body honest = (is.ready honest).0 has_body
+
+  still_body : IsHonest (view shelf.disk) → HasOneBody shelf.geometry b.block (bytes_of b) now
+  still_body honest c image = let t = torn honest c (fewer c image) in body_stays shelf.geometry b.block is.geometry t.0 c t.2 ∙ the_body honest t.0 t.1
+
+  stands_over : IsHonest (view shelf.disk) → StandsOver shelf.geometry b.block (bytes_of b) now
+  stands_over honest = record { one = still_body honest; is_body = (body_in b, is_body, refl) }
+
+  gate_shelf : (gate : Gate) → (IsHonest (view disk) → GateStands shelf.geometry now b.block gate) → IsShelf view (opening_view gate)
+  gate_shelf gate stands =
+      written_shelf view shelf disk b rest is call away GateBegun (slice_set shelf.gates b.block gate) refl (length-set shelf.gates b.block gate) (λ k other. get_or-set_other shelf.gates b.block k gate Shut other)
+      (λ unbegun. absurd (false≢true (sym unbegun))) (λ honest was. still_body (call.was_honest honest))
+      (λ honest. subst (GateStands shelf.geometry now b.block) (sym (get_or-set_same shelf.gates b.block gate Shut lt)) (stands honest))
+
+  pub unsure_shelf : IsShelf view (opening_view Unsure)
+  unsure_shelf = gate_shelf Unsure (λ honest. (bytes_of b, stands_over (call.was_honest honest)))
+
+  pub set_shelf : (IsHonest (view disk) → IsOpened shelf.geometry b.block now) → IsShelf view (opening_view Set)
+  set_shelf opened = gate_shelf Set (λ honest. (opened honest, (bytes_of b, stands_over (call.was_honest honest))))
+
+  -- ---- the state
+
+  with_own : IsBodyWith shelf.geometry b.block (bytes_of b) (records b.number)
+  with_own = record { body = body_in b; placed = refl; same = sym (records_found b.number b.records (map (λ c. (c.number, c.records)) rest) [] tt); is_body = is_body }
+
+  module _ (setup : Setup) (s : State) (stands : StandsFor setup old s) where
+    placed_first : Contains (places_of s.book) (b.number, b.block)
+    placed_first =
+        subst (λ (l : List Buffer). Contains (map {B = ℕ × ℕ} (λ x. (x.number, x.block)) l) (b.number, b.block)) (sym stands.buffers)
+        (first_there (b.number, b.block) (map {B = ℕ × ℕ} (λ x. (x.number, x.block)) (map book_buffer rest)))
+
+    -- from a state in which the write of the gate has begun
+    module _ (then : State) (opening : IsOpening then.book b.number b.block) (holds : IsSafe setup view old s → HoldsGates setup shelf.geometry then records gates before) (honest : IsHonest (view shelf.disk)) (safe : IsSafe setup view old s) where
+      opens : HasOpened setup shelf.geometry then records gates b.number b.block (bytes_of b) since now
+      opens = open_call setup shelf.geometry then records gates before since now b.number b.block (bytes_of b) is.buffers.0.block (holds safe) opening (the_body honest) with_own (torn honest) fewer
+
+      unsure_safe : HoldsGates setup shelf.geometry then records (gate_at (slice_set shelf.gates b.block Unsure)) now
+      unsure_safe = holds_same setup shelf.geometry then records (with_gate b.block Unsure gates) (gate_at (slice_set shelf.gates b.block Unsure)) now (gates_with shelf.gates b.block Unsure lt) opens.failed
+
+      set_safe : IsOpened shelf.geometry b.block now → HoldsGates setup shelf.geometry then records (gate_at (slice_set shelf.gates b.block Set)) now
+      set_safe opened =
+          holds_same setup shelf.geometry then records (with_gate b.block Set gates) (gate_at (slice_set shelf.gates b.block Set)) now (gates_with shelf.gates b.block Set lt)
+          (record {
+            knows = knows_known shelf.geometry then.book gates now b.block Set (opened, (bytes_of b, stands_over honest)) opens.failed.knows;
+            held = held_known setup shelf.geometry then records gates now now b.block Set (λ c image. image) opens.failed.held;
+          })
+
+    -- what is held behind it, in each state in which the write of the gate has begun
+    abbrev HoldsAfter : Gate → Type 0
+    HoldsAfter gate = (then : State) → IsOpening then.book b.number b.block → (IsSafe setup view old s → HoldsGates setup shelf.geometry then records gates before) → IsHonest (view shelf.disk) → IsSafe setup view old s
+        → HoldsGates setup shelf.geometry then records (gate_at (slice_set shelf.gates b.block gate)) now
+
+    goes_gate : (gate : Gate) → HoldsAfter gate → Goes view setup (gate_steps b.phase b.number) old s (opening_view gate)
+    goes_gate gate after = by b.phase refl
+      where
+        by : (q : Phase) → b.phase ≡ q → Goes view setup (gate_steps q b.number) old s (opening_view gate)
+        by Filling phase = absurd (false≢true (ap is_written (sym phase) ∙ has_body))
+        by Sealed phase = absurd (false≢true (ap is_written (sym phase) ∙ has_body))
+        by BodyDone phase = record {
+          stands = begun_stands view shelf disk b rest is call away setup s stands (slice_set shelf.gates b.block gate);
+          placed = λ honest placed. begun_placed view shelf disk b rest is call away setup s stands (slice_set shelf.gates b.block gate) honest placed;
+          safe = λ honest safe. after then opening holds honest safe;
+          leaves = λ honest safe. record { time = call.time; each = λ c left. inr (inl ((opens then opening holds honest safe).meanwhile c left)) };
+        }
+          where
+            then : State
+            then = after_step setup (gate_begun b.number) s
+
+            opening : IsOpening then.book b.number b.block
+            opening = opening_begun setup s b.number b.block placed_first
+
+            holds : IsSafe setup view old s → HoldsGates setup shelf.geometry then records gates before
+            holds safe = plain_holds setup shelf.geometry s records gates before safe (gate_begun b.number) refl tt
+        by GateBegun phase = record {
+          stands = still_stands view shelf disk b rest is call away setup s stands GateBegun (slice_set shelf.gates b.block gate) (ap book_phase (sym phase));
+          placed = λ honest placed. still_placed view shelf disk b rest is call away setup s stands GateBegun (slice_set shelf.gates b.block gate) honest placed;
+          safe = λ honest safe. after s opening (λ held. held) honest safe;
+          leaves = λ honest safe. record { time = call.time; each = λ c left. inl ((opens s opening (λ held. held) honest safe).meanwhile c left) };
+        }
+          where
+            opening : IsOpening s.book b.number b.block
+            opening = record { placed = placed_first; begun = begun_first s b rest phase stands.buffers }
+
+    pub goes_unsure : Goes view setup (gate_steps b.phase b.number) old s (opening_view Unsure)
+    goes_unsure = goes_gate Unsure unsure_safe
+
+    pub goes_set : (IsHonest (view shelf.disk) → IsOpened shelf.geometry b.block now) → Goes view setup (gate_steps b.phase b.number) old s (opening_view Set)
+    goes_set opened = goes_gate Set (λ then opening holds honest safe. set_safe then opening holds honest safe (opened honest))
+
+-- ---- as the call finds it
+
+module _ {D : Type 0} (view : D → DiskView) (shelf : ShelfView D) (disk : D) (b : BufferState) (rest : List BufferState) (parts : shelf.buffers ≡ b ∷ rest) (shelf_is : IsShelf view shelf) (call : KeepsDisk view shelf.disk disk)
+    (has_body : is_written b.phase ≡ true) (is_body : IsBody b.capacity (bytes_of b) (body_in b)) (block : ℕ) (at : block ≡ b.block)
+    (torn : IsHonest (view shelf.disk) → TornFrom (block_place shelf.geometry block) 4096 (view shelf.disk).may_leave (meanwhile (view shelf.disk) (view disk))) where
+  is_first : IsShelf view (record shelf { buffers = b ∷ rest })
+  is_first = subst (λ (bs : List BufferState). IsShelf view (record shelf { buffers = bs })) parts shelf_is
+
+  own_body : IsBody (block_capacity shelf.geometry.block_size) (bytes_of b) (body_in b)
+  own_body = subst (λ (n : ℕ). IsBody n (bytes_of b) (body_in b)) is_first.buffers.0.capacity is_body
+
+  torn_b : IsHonest (view shelf.disk) → TornFrom (block_place shelf.geometry b.block) 4096 (view shelf.disk).may_leave (meanwhile (view shelf.disk) (view disk))
+  torn_b honest = subst (λ (k : ℕ). TornFrom (block_place shelf.geometry k) 4096 (view shelf.disk).may_leave (meanwhile (view shelf.disk) (view disk))) at (torn honest)
+
+  abbrev tried_view : ShelfView D
+  tried_view = record shelf { disk = disk; buffers = with_phase GateBegun b ∷ rest; gates = slice_set shelf.gates block Unsure }
+
+  -- it is unsure first, and known then
+  abbrev done_view : ShelfView D
+  done_view = record shelf { disk = disk; buffers = with_phase GateBegun b ∷ rest; gates = slice_set (slice_set shelf.gates block Unsure) block Set }
+
+  abbrev Goes_to : ShelfView D → Type 0
+  Goes_to new = (setup : Setup) (s : State) → StandsFor setup shelf s → Goes view setup (first_gate_steps shelf.buffers) shelf s new
+
+  goes_from : (new : ShelfView D) → ((setup : Setup) (s : State) → StandsFor setup (record shelf { buffers = b ∷ rest }) s → Goes view setup (gate_steps b.phase b.number) (record shelf { buffers = b ∷ rest }) s new) → Goes_to new
+  goes_from new goes setup s stands =
+      subst (λ (bs : List BufferState). Goes view setup (first_gate_steps bs) (record shelf { buffers = bs }) s new) (sym parts) (goes setup s (subst (λ (bs : List BufferState). StandsFor setup (record shelf { buffers = bs }) s) parts stands))
+
+  -- it failed
+  pub tried_gate_shelf : IsShelf view tried_view
+  tried_gate_shelf = subst (λ (k : ℕ). IsShelf view (record shelf { disk = disk; buffers = with_phase GateBegun b ∷ rest; gates = slice_set shelf.gates k Unsure })) (sym at) (unsure_shelf view shelf disk b rest is_first call has_body own_body torn_b)
+
+  pub tried_gate_goes : Goes_to tried_view
+  tried_gate_goes = subst (λ (k : ℕ). Goes_to (record shelf { disk = disk; buffers = with_phase GateBegun b ∷ rest; gates = slice_set shelf.gates k Unsure })) (sym at)
+      (goes_from (record shelf { disk = disk; buffers = with_phase GateBegun b ∷ rest; gates = slice_set shelf.gates b.block Unsure }) (λ setup s stands. goes_unsure view shelf disk b rest is_first call has_body own_body torn_b setup s stands))
+
+  -- it went well
+  module _ (opened : IsHonest (view disk) → IsOpened shelf.geometry block (view disk).may_leave) where
+    opened_b : IsHonest (view disk) → IsOpened shelf.geometry b.block (view disk).may_leave
+    opened_b honest = subst (λ (k : ℕ). IsOpened shelf.geometry k (view disk).may_leave) at (opened honest)
+
+    gates_same : slice_set (slice_set shelf.gates block Unsure) block Set ≡ slice_set shelf.gates b.block Set
+    gates_same = set-set shelf.gates block Unsure Set ∙ ap (λ (k : ℕ). slice_set shelf.gates k Set) at
+
+    pub done_gate_shelf : IsShelf view done_view
+    done_gate_shelf = subst (λ (l : List Gate). IsShelf view (record shelf { disk = disk; buffers = with_phase GateBegun b ∷ rest; gates = l })) (sym gates_same) (set_shelf view shelf disk b rest is_first call has_body own_body torn_b opened_b)
+
+    pub done_gate_goes : (IsHonest (view shelf.disk) → IsHonest (view disk)) → Goes_to done_view
+    done_gate_goes stays = subst (λ (l : List Gate). Goes_to (record shelf { disk = disk; buffers = with_phase GateBegun b ∷ rest; gates = l })) (sym gates_same)
+        (goes_from (record shelf { disk = disk; buffers = with_phase GateBegun b ∷ rest; gates = slice_set shelf.gates b.block Set })
+        (λ setup s stands. goes_set view shelf disk b rest is_first call has_body own_body torn_b setup s stands (λ honest. opened_b (stays honest))))

@@ -1,0 +1,103 @@
+-- A copy is appended to a buffer that begins in the first free block, whose gate is shut.
+use Rattle.std.proofs.Common.{◌≡◌, ◌≢◌, ℕ, ◌+◌, ◌*◌, ◌<◌, ◌≤◌, Bool, true, false, List, [], ◌∷◌, ◌++◌, map, length, drop, refl, sym, ◌∙◌, ap, subst, arith}
+use Rattle.std.specs.Prelude.{Some}
+use Rattle.std.specs.List.{AllByRecursion}
+use Rattle.std.proofs.lemmas.Bool.{cond-true, cond-false}
+use Rattle.disk_model.specs.Disk.{DiskView}
+use Rattle.rec_format.specs.declared.version.Digest.{Digest}
+use Rattle.rec_format.specs.declared.version.Version.{Version}
+use Rattle.rec_format.specs.Versions.{version_units, block_capacity, top_number}
+use Rattle.rec_format.specs.Places.{same_digest}
+use Rattle.rec_format.proofs.Laws.{same_digest_refl, same_digest_is}
+use Rattle.device_model.specs.Histories.{top_of}
+use Rattle.device_model.specs.Book.{Setup, Live, client, has_room, first_block, with_new_buffer, live_of, without_live}
+use Rattle.device_model.specs.Device.{State, entry, history}
+use Rattle.device_model.specs.Steps.{wrote, after_step}
+use Rattle.block_format.specs.declared.geometry.Gate.TheVariants.{Shut}
+use Rattle.block_format.specs.Layout.{IsRecordAt, body_bytes}
+use Rattle.recovery.proofs.Opening.{all_parted}
+use Rattle.recovery.proofs.HeldWrites.{written_item, wrote_history}
+use Rattle.write_buffer.specs.Buffers.{BufferState, used_units, with_record}
+use Rattle.unit_ledger.specs.Rolls.{BlockRoll}
+use Rattle.hold_book.specs.Holds.{HoldState}
+use Rattle.kept_facts.specs.Asking.{MayBeWritten}
+use Rattle.kept_trail.proofs.Books.{others_live}
+use Rattle.kept_images.proofs.Holding.{wrote_holds}
+use Rattle.block_shelf.specs.View.{ShelfView, IsShelf, IsSetupOf, records_of, gate_at}
+use Rattle.block_shelf.specs.Standing.{StandsFor, IsPlaced, IsSafe}
+use Rattle.block_shelf.specs.Calls.{Puts}
+use Rattle.block_shelf.specs.Changes.{with_written, with_begun, begun_buffer, sealed_buffer}
+use Rattle.block_shelf.proofs.InNew.{new_readied, new_appends, new_blocks, begun_entries}
+use Rattle.block_shelf.proofs.Sealing.{all_before_map}
+use Rattle.block_shelf.proofs.Readied.{new_live, after_live}
+use Rattle.block_shelf.proofs.Written.{Holding, stands_after}
+use Rattle.block_shelf.proofs.Placed.{IsGone, replaces_from}
+
+module _ {D : Type 0} (view : D → DiskView) (setup : Setup) (s : State) (digest : Digest) (v : Version) (shelf : ShelfView D)
+    (is : IsShelf view shelf) (stands : StandsFor setup shelf s) (setup_is : IsSetupOf setup shelf) (none : has_room setup client (version_units v) s.book ≡ false)
+    (fits : shelf.next_number ≤ top_number) (some : 0 < length shelf.free) (shut : gate_at shelf.gates (first_block shelf.free) ≡ Shut) (small : version_units v ≤ block_capacity shelf.geometry.block_size)
+    (rolls : List BlockRoll) (holds : HoldState) (gone : IsGone digest shelf.rolls rolls) (holding : Holding shelf.next_number (live_of digest s.book.live) shelf.holds.holds holds.holds) where
+  abbrev t : State
+  t = after_step setup (wrote digest v) s
+
+  abbrev front : List BufferState
+  front = map sealed_buffer shelf.buffers
+
+  abbrev last : BufferState
+  last = begun_buffer shelf
+
+  abbrev new : ShelfView D
+  new = with_written digest v front last (record (with_begun shelf) { rolls = rolls; holds = holds })
+
+  live_is : t.book.live ≡ new_live digest v last ∷ without_live digest s.book.live
+  live_is = after_live setup s digest v (with_new_buffer client s.book) (front ++ last ∷ []) (drop 1 shelf.free) (shelf.next_number + 1) front last (new_readied view setup s v shelf is stands setup_is fits some shut none)
+
+  live_here : live_of digest t.book.live ≡ Some (new_live digest v last)
+  live_here = ap (live_of digest) live_is ∙ cond-true (same_digest digest digest) (Some (new_live digest v last)) (live_of digest (without_live digest s.book.live)) (same_digest_refl digest)
+
+  live_there : (e : Digest) → same_digest e digest ≡ false → live_of e t.book.live ≡ live_of e s.book.live
+  live_there e other = ap (live_of e) live_is
+      ∙ cond-false (same_digest e digest) (Some (new_live digest v last)) (live_of e (without_live digest s.book.live)) other
+      ∙ others_live digest e s.book.live other
+
+  entry_there : (e : Digest) → same_digest e digest ≡ false → entry t e ≡ entry s e
+  entry_there e other = ap top_of (wrote_history setup s digest v e ∙ cond-false (same_digest e digest) (written_item setup s v ∷ history s e) (history s e) other)
+
+  placed_after : IsPlaced view shelf s → IsPlaced view new t
+  placed_after placed = record { there = λ e l w is_live is_entry none c image. by e l w is_live is_entry none c image (same_digest e digest) refl }
+    where
+      some_same : (l m : Live) → Some l ≡ Some m → l ≡ m
+      some_same l m eq = cc
+
+      by : (e : Digest) (l : Live) (w : Version) → live_of e t.book.live ≡ Some l → entry t e ≡ Some w → AllByRecursion (λ b. b.block ≢ l.block) (front ++ with_record digest v last ∷ []) → (c : List ℕ) → (view shelf.disk).may_leave c
+          → (b : Bool) → same_digest e digest ≡ b → IsRecordAt (body_bytes shelf.geometry l.block c) (32 + 16 * l.unit) e w
+      by e l w is_live is_entry none c image true same =
+          let name : e ≡ digest = same_digest_is e digest same in
+          let copy = some_same (new_live digest v last) l (sym live_here ∙ subst (λ (d : Digest). live_of d t.book.live ≡ Some l) name is_live) in
+          absurd ((all_parted (λ b. b.block ≢ l.block) front (with_record digest v last ∷ []) none).1.0 (ap (λ (x : Live). x.block) copy))
+      by e l w is_live is_entry none c image false other =
+          let parts = all_parted (λ b. b.block ≢ l.block) front (with_record digest v last ∷ []) none in
+          placed.there e l w (sym (live_there e other) ∙ is_live) (sym (entry_there e other) ∙ is_entry)
+          (all_before_map (λ b. b.block ≢ l.block) (λ b. b.block ≢ l.block) sealed_buffer (λ b h. h) shelf.buffers parts.0) c image
+
+  safe_after : MayBeWritten setup s digest v → IsSafe setup view shelf s → IsSafe setup view new t
+  safe_after may safe =
+      wrote_holds setup shelf.geometry s (records_of shelf.buffers) (gate_at shelf.gates) (view shelf.disk).may_leave safe (records_of (front ++ with_record digest v last ∷ [])) digest v may
+      (new_appends view setup s v shelf is stands setup_is fits some shut none digest) (λ never. ap (λ (l : List ℕ). gate_at shelf.gates (first_block l)) stands.free ∙ shut)
+
+  pub puts_new : Puts view setup digest v shelf s new (record { block = last.block; unit = used_units last; units = version_units v })
+  puts_new = record {
+    live = live_here;
+    stands = stands_after setup s digest v (with_new_buffer client s.book) shelf new (front ++ last ∷ []) front last (new_readied view setup s v shelf is stands setup_is fits some shut none) stands
+        (new_appends view setup s v shelf is stands setup_is fits some shut none digest) refl (replaces_from digest shelf.rolls rolls last.block _ (subst (λ (n : ℕ). last.block < n) (sym is.rolls) below) gone) holding
+        (begun_entries view setup s v shelf is stands setup_is fits some shut) below (let sum : version_units v ≡ 0 + version_units v = omega arith in subst (λ (n : ℕ). n ≤ block_capacity shelf.geometry.block_size) sum small) (new_blocks view setup s v shelf is stands setup_is fits some shut).0;
+    placed = placed_after;
+    safe = safe_after;
+  }
+    where
+      first_below : (free : List ℕ) → 0 < length free → AllByRecursion (λ b. b < shelf.geometry.blocks) free → first_block free < shelf.geometry.blocks
+      first_below [] more all = absurd (omega arith)
+      first_below (b ∷ free) more all = all.0
+
+      below : last.block < shelf.geometry.blocks
+      below = first_below shelf.free some is.free

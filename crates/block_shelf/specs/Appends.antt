@@ -1,0 +1,114 @@
+-- Crate block_shelf. What an append promises: why it is refused, what a refusal leaves, and where the copy is.
+use Rattle.std.specs.Prelude.{◌≡◌, ◌≢◌, ℕ, ◌+◌, ◌<◌, ◌≤◌, nat_lt, List, [], ◌∷◌, Option, Some, None, slice_set, if◌then◌else◌}
+use Rattle.rec_format.specs.declared.version.Digest.{Digest}
+use Rattle.rec_format.specs.declared.version.Version.{Version}
+use Rattle.rec_format.specs.Versions.{block_capacity, version_units}
+use Rattle.device_model.specs.Book.{Setup, Book, client, first_block, first_to_back, live_of}
+use Rattle.device_model.specs.Device.{State}
+use Rattle.device_model.specs.Steps.{Step, wrote, closing_failed, after_step, states_through}
+use Rattle.device_model.specs.Events.{Cause, too_big, spent, overload, no_space}
+use Rattle.device_model.specs.Legal.{first_cause, no_place}
+use Rattle.disk_model.specs.Disk.{DiskView, IsHonest}
+use Rattle.disk_model.specs.Runs.{OneOf, Leaves}
+use Rattle.block_format.specs.declared.geometry.Geometry.{Geometry}
+use Rattle.block_format.specs.declared.geometry.Gate.TheVariants.{Shut, Unsure}
+use Rattle.recovery.specs.Surviving.{Survives}
+use Rattle.write_buffer.specs.Buffers.{BufferState, used_units}
+use Rattle.hold_book.specs.Holds.{with_pair}
+use Rattle.kept_facts.specs.Asking.{MayBeWritten}
+use Rattle.block_shelf.specs.declared.place.Place.{Place}
+use Rattle.block_shelf.specs.declared.place.Class.{Class}
+use Rattle.block_shelf.specs.declared.place.Class.TheVariants as class
+use Rattle.block_shelf.specs.declared.refusals.PutRefusal.{PutRefusal}
+use Rattle.block_shelf.specs.declared.refusals.PutRefusal.TheVariants as put
+use Rattle.block_shelf.specs.View.{ShelfView, gate_at}
+use Rattle.block_shelf.specs.Standing.{StandsFor, IsSafe, IsPlaced}
+use Rattle.block_shelf.specs.Calls.{copy_live}
+use Rattle.block_shelf.specs.Changes.{HasRoom, SameButRoom, without_copy, with_written, with_gate_known}
+
+-- so many units in a block of the device
+abbrev pub IsPlaceFor : Geometry → (units : ℕ) → Place → Type 0
+IsPlaceFor g units place = (place.units ≡ units) × (place.block < g.blocks) × (place.unit + place.units ≤ block_capacity g.block_size)
+
+-- ---- why
+
+-- how many free blocks have to stay where a copy of this class takes one
+abbrev pub kept_free : Class → ℕ
+kept_free class.Put = 4
+kept_free class.Tomb = 2
+
+-- why a copy of so many units isn't appended
+abbrev pub append_refusal : Setup → Class → (units : ℕ) → Book → Option Cause
+append_refusal setup kind units book =
+    first_cause (if nat_lt setup.capacity units then Some (too_big units setup.capacity) else None) (no_place setup client (kept_free kind) units book)
+
+-- Each cause of the state is told with its numbers. Want of memory is free, and a fault comes only where none of them stands.
+abbrev pub IsRefusedFor : Option Cause → PutRefusal → Type 0
+IsRefusedFor cause (put.Big units capacity) = cause ≡ Some (too_big units capacity)
+IsRefusedFor cause put.Spent = cause ≡ Some spent
+IsRefusedFor cause (put.Load pending) = cause ≡ Some (overload pending)
+IsRefusedFor cause (put.Space free) = cause ≡ Some (no_space free)
+IsRefusedFor cause put.Memory = Unit {0}
+IsRefusedFor cause put.Fault = cause ≡ None
+
+-- ---- what is left
+
+-- the gate of the first free block is shut
+abbrev pub with_first_shut : {D : Type 0} → D → ShelfView D → ShelfView D
+with_first_shut disk shelf = with_gate_known disk (first_block shelf.free) Shut shelf
+
+-- the gate of the first free block is unsure, and the block goes to the back
+abbrev pub with_first_unclosed : {D : Type 0} → D → ShelfView D → ShelfView D
+with_first_unclosed disk shelf = record (with_gate_known disk (first_block shelf.free) Unsure shelf) { free = first_to_back shelf.free }
+
+-- the shelf on which a buffer has begun, before that: memory was taken, and the gate of the first free block is shut
+abbrev pub ready_for : {D : Type 0} → (new old : ShelfView D) → ShelfView D
+ready_for new old = record (with_first_shut new.disk old) { rolls = new.rolls; holds = new.holds }
+
+-- Nothing has changed, but for memory that was taken where more was wanting. After a fault the first free block, whose gate wasn't
+-- known to be shut, is at the back of the free ones with an unsure gate, and nothing else has changed.
+abbrev pub IsLeft : {D : Type 0} → (old new : ShelfView D) → PutRefusal → Type 0
+IsLeft old new (put.Big units capacity) = new ≡ old
+IsLeft old new put.Spent = new ≡ old
+IsLeft old new (put.Load pending) = new ≡ old
+IsLeft old new (put.Space free) = new ≡ old
+IsLeft old new put.Memory = SameButRoom old new
+IsLeft old new put.Fault = (gate_at old.gates (first_block old.free) ≢ Shut) × SameButRoom (with_first_unclosed new.disk old) new
+
+-- no step but after a fault
+abbrev pub refused_steps : PutRefusal → List Step
+refused_steps (put.Big units capacity) = []
+refused_steps put.Spent = []
+refused_steps (put.Load pending) = []
+refused_steps (put.Space free) = []
+refused_steps put.Memory = []
+refused_steps put.Fault = closing_failed ∷ []
+
+-- what is known of gates behind an append: as before where there was room, and else the gate of the first free block is shut
+pub record ClosesFirst {D : Type 0} (units : ℕ) (old new : ShelfView D) : Type 0 where
+  pub in_room : HasRoom units old.buffers → new.gates ≡ old.gates
+  pub in_new : (HasRoom units old.buffers → ⊥) → new.gates ≡ slice_set old.gates (first_block old.free) Shut
+
+-- ---- the copy
+
+-- without the copy before, if there was one, whose block a buffer holds then
+abbrev pub IsWithout : {D : Type 0} → Option Place → (number : ℕ) → (old new : ShelfView D) → Type 0
+IsWithout None number old new = new ≡ old
+IsWithout (Some place) number old new = (new ≡ record (without_copy place old) { holds = new.holds }) × (new.holds.holds ≡ with_pair old.holds.holds number place.block)
+
+-- The copy before goes, and a record comes into the last buffer and is live there. This is where it lies.
+pub record IsPut {D : Type 0} (digest : Digest) (v : Version) (prior : Option Place) (front : List BufferState) (last : BufferState) (old new : ShelfView D) (place : Place) : Type 0 where
+  pub without : ShelfView D
+  pub gone : IsWithout prior last.number old without
+  pub written : new ≡ with_written digest v front last without
+  pub place_is : place ≡ record { block = last.block; unit = used_units last; units = version_units v }
+
+-- A copy of a version comes to a shelf that stood for a state: it stands for the state after the write, in which the copy at this place is
+-- live. Over an honest disk live copies stay where they are. Where its image was sound, each image that a crash meanwhile might have left
+-- survives one of the two states, and what is held stays so if the version may be written.
+pub record Takes {D : Type 0} (view : D → DiskView) (setup : Setup) (digest : Digest) (v : Version) (old : ShelfView D) (s : State) (new : ShelfView D) (place : Place) : Type 0 where
+  pub live : live_of digest (after_step setup (wrote digest v) s).book.live ≡ Some (copy_live digest place)
+  pub stands : StandsFor setup new (after_step setup (wrote digest v) s)
+  pub placed : IsHonest (view old.disk) → IsPlaced view old s → IsPlaced view new (after_step setup (wrote digest v) s)
+  pub safe : IsHonest (view old.disk) → MayBeWritten setup s digest v → IsSafe setup view old s → IsSafe setup view new (after_step setup (wrote digest v) s)
+  pub leaves : IsHonest (view old.disk) → IsSafe setup view old s → Leaves (OneOf (Survives setup) (states_through setup (wrote digest v ∷ []) s)) (view old.disk) (view new.disk)

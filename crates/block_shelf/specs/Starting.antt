@@ -1,0 +1,84 @@
+-- Crate block_shelf. How a shelf begins behind a start.
+use Rattle.std.specs.Prelude.{ℕ, ◌+◌, ◌*◌, ◌<◌, ◌≤◌, ◌≡◌, false, not, ◌==◌, List, [], ◌∷◌, map, filter, Contains}
+use Rattle.std.specs.List.{AllByRecursion, list_any, range_with_len}
+use Rattle.std.specs.FinSet as set
+use Rattle.rec_format.specs.declared.version.Digest.{Digest}
+use Rattle.rec_format.specs.Places.{same_digest}
+use Rattle.rec_format.specs.Versions.{block_capacity, version_units}
+use Rattle.disk_model.specs.Bytes.{Apart}
+use Rattle.disk_model.specs.Disk.{Images}
+use Rattle.block_format.specs.declared.geometry.Geometry.{Geometry}
+use Rattle.block_format.specs.declared.geometry.Gate.{Gate}
+use Rattle.block_format.specs.Layout.{IsRecordAt, body_bytes}
+use Rattle.block_format.specs.Copies.{Copy}
+use Rattle.unit_ledger.specs.declared.roll.LiveCopy.{LiveCopy}
+use Rattle.unit_ledger.specs.Rolls.{copies_in}
+use Rattle.block_shelf.specs.declared.place.Place.{Place}
+use Rattle.block_shelf.specs.declared.place.ShelfLimits.{ShelfLimits}
+use Rattle.block_shelf.specs.View.{ShelfView}
+
+-- ---- the live copies of a start
+
+-- it takes room, and lies within a block
+pub record LiesIn (g : Geometry) (x : Digest × Place) : Type 0 where
+  pub block : x.1.block < g.blocks
+  pub takes : 1 ≤ x.1.units
+  pub within : x.1.unit + x.1.units ≤ block_capacity g.block_size
+
+-- two are of different digests, and apart where they lie in one block
+pub record AreTwo (x y : Digest × Place) : Type 0 where
+  pub named : same_digest x.0 y.0 ≡ false
+  pub apart : x.1.block ≡ y.1.block → Apart x.1.unit x.1.units y.1.unit y.1.units
+
+-- so are any two of these
+abbrev pub AreEachTwo : List (Digest × Place) → Type 0
+AreEachTwo [] = Unit {0}
+AreEachTwo (x ∷ xs) = AllByRecursion (AreTwo x) xs × AreEachTwo xs
+
+-- live copies of which a shelf can begin
+pub record CanBeLive (g : Geometry) (live : List (Digest × Place)) : Type 0 where
+  pub each : AllByRecursion (LiesIn g) live
+  pub two : AreEachTwo live
+
+-- ---- the shelf
+
+abbrev pub copy_of_place : Digest × Place → LiveCopy
+copy_of_place x = record { digest = x.0; unit = x.1.unit; units = x.1.units }
+
+-- those that lie in a block
+abbrev pub copies_at : (block : ℕ) → List (Digest × Place) → List LiveCopy
+copies_at block live = map copy_of_place (filter (λ x. x.1.block == block) live)
+
+-- the blocks in which none lies, the lowest first
+abbrev pub blocks_without : List (Digest × Place) → (blocks : ℕ) → List ℕ
+blocks_without live blocks = filter (λ b. not (list_any (λ x. x.1.block == b) live)) (range_with_len 0 blocks)
+
+-- No buffer, no hold, and these copies are live; the blocks in which none lies are free.
+pub record StartsWith {D : Type 0} (disk : D) (g : Geometry) (limits : ShelfLimits) (gates : List Gate) (live : List (Digest × Place)) (next_number : ℕ) (shelf : ShelfView D) : Type 0 where
+  pub parts : shelf ≡ record {
+    disk = disk;
+    geometry = g;
+    limits = limits;
+    buffers = [];
+    gates = gates;
+    rolls = shelf.rolls;
+    holds = shelf.holds;
+    free = blocks_without live g.blocks;
+    next_number = next_number;
+  }
+  pub copies : (block : ℕ) → copies_in block shelf.rolls ≡ copies_at block live
+  pub unheld : shelf.holds.holds ≡ set.empty
+
+-- ---- the copies that were found
+
+abbrev pub place_of_copy : Copy → Place
+place_of_copy c = record { block = c.block; unit = c.unit; units = version_units c.version }
+
+-- these are live, and no others
+pub record AreLive (live : List (Digest × Place)) (found : List Copy) : Type 0 where
+  pub there : (c : Copy) → Contains found c → Contains live (c.digest, place_of_copy c)
+  pub only : (x : Digest × Place) → Contains live x → (c : Copy) × Contains found c × (x ≡ (c.digest, place_of_copy c))
+
+-- each image has their records
+abbrev pub AllHave : Geometry → Images → List Copy → Type 0
+AllHave g images found = (c : Copy) → Contains found c → (image : List ℕ) → images image → IsRecordAt (body_bytes g c.block image) (32 + 16 * c.unit) c.digest c.version

@@ -1,0 +1,51 @@
+// How the gate of a block is closed before the block is used again.
+ghost use Rattle.std.specs.Prelude.{◌≡◌, ◌≢◌, ◌<◌, ◌≤◌, length, slice_set, MatchResult, OnErr};
+ghost use Rattle.fault_count.specs.Counts.{Rose};
+ghost use Rattle.disk_model.specs.Disk.{IsHonest, TellsTorn, TornFrom, meanwhile};
+ghost use Rattle.block_format.specs.declared.geometry.Gate.TheVariants.{Shut, Unsure};
+ghost use Rattle.block_format.specs.Layout.{IsGeometry, block_place, device_end};
+ghost use Rattle.kept_images.specs.Gates.{GateStands};
+ghost use Rattle.block_shelf.specs.Disks.{IsLater};
+ghost use Rattle.block_shelf.specs.View.{gate_at};
+
+use block_flusher::close_gate;
+use block_format::{Gate, Geometry};
+use disk_model::{Disk, DiskFault};
+
+// Closes the gate of a block, unless it is known to be shut: one write and one sync, without a look. After a fault it is unsure.
+pub(crate) fn shut_gate<D: Disk>(
+    disk: &mut D,
+    geometry: &Geometry,
+    gates: &mut [Gate],
+    block: u32,
+) -> Result<(), DiskFault>
+    requires geometry { IsGeometry geometry.now }
+    requires block { block < geometry.now.blocks }
+    requires gates { length gates.old ≡ geometry.now.blocks }
+    requires room { device_end geometry.now ≤ (D.view disk.old).extent }
+    requires stands { IsHonest (D.view disk.old) → GateStands geometry.now (D.view disk.old).may_leave block (gate_at gates.old block) }
+    ensures known { MatchResult result (λ done. gates.new ≡ slice_set gates.old block Shut) (λ fault. gates.new ≡ slice_set gates.old block Unsure) }
+    ensures stands { IsHonest (D.view disk.new) → GateStands geometry.now (D.view disk.new).may_leave block (gate_at gates.new block) }
+    ensures images { IsHonest (D.view disk.old) → TornFrom (block_place geometry.now block) 4096 (D.view disk.old).may_leave (meanwhile (D.view disk.old) (D.view disk.new)) }
+    ensures bytes { TellsTorn (block_place geometry.now block) 4096 (D.view disk.old) (D.view disk.new) }
+    ensures quiet { gate_at gates.old block ≡ Shut → disk.new ≡ disk.old }
+    ensures unshut { OnErr result (gate_at gates.old block ≢ Shut) }
+    ensures cause { OnErr result (Rose (D.view disk.old).faults (D.view disk.new).faults) }
+    ensures later { IsLater (D.view disk.old) (D.view disk.new) }
+    ensures honest { IsHonest (D.view disk.old) → IsHonest (D.view disk.new) }
+    ensures was_honest { IsHonest (D.view disk.new) → IsHonest (D.view disk.old) }
+{
+    if gates[block as usize] == Gate::Shut {
+        return Ok(());
+    }
+    match close_gate(disk, geometry, block) {
+        Ok(()) => {
+            gates[block as usize] = Gate::Shut;
+            Ok(())
+        }
+        Err(fault) => {
+            gates[block as usize] = Gate::Unsure;
+            Err(fault)
+        }
+    }
+}

@@ -1,0 +1,66 @@
+// How a copy stops being live.
+ghost use Rattle.std.specs.Prelude.{◌≡◌, ◌≢◌, ◌<◌, [], ◌∷◌, false, Contains, IsSomeAnd, MatchBool};
+ghost use Rattle.std.specs.List.{AllByRecursion};
+ghost use Rattle.rec_format.specs.declared.version.Digest.{Digest as DigestValue};
+ghost use Rattle.device_model.specs.Book.{Setup};
+ghost use Rattle.device_model.specs.Device.{State, entry_is_covered};
+ghost use Rattle.device_model.specs.Steps.{removed};
+ghost use Rattle.unit_ledger.specs.Rolls.{copies_in, copy_at};
+ghost use Rattle.block_shelf.specs.View.{IsShelf, SameShape, IsSetupOf, IsUnused};
+ghost use Rattle.block_shelf.specs.Standing.{StandsFor};
+ghost use Rattle.block_shelf.specs.Calls.{Goes, copy_live};
+ghost use Rattle.block_shelf.specs.Changes.{without_copy, with_free};
+
+use crate::marks::is_kept_by_none;
+use crate::{Place, Shelf};
+use disk_model::Disk;
+
+impl<D: Disk> Shelf<D> {
+    /// The copy at a place is no longer live. Where nothing else in its block is live, no buffer has the block, and none holds it, the
+    /// block comes to the back of the free ones. It takes no memory.
+    pub fn drop_live(&mut self, place: Place)
+        requires block { place.block < self.old.geometry.blocks }
+        requires live { IsSomeAnd (copy_at place.unit (copies_in place.block self.old.rolls)) (λ c. c.units ≡ place.units) }
+        ensures dropped { (setup : Setup) (s : State) (digest : DigestValue) → IsSetupOf setup self.old → StandsFor setup self.old s
+            → Contains s.book.live (copy_live digest place) → entry_is_covered s digest ≡ false → Goes D.view setup (removed digest ∷ []) self.old s self.new }
+        ensures disk { self.new.disk ≡ self.old.disk }
+        ensures shape { SameShape self.old self.new }
+    {
+        self.take_live(place);
+        if self.is_unused(place.block) {
+            self.free_block(place.block);
+        }
+    }
+}
+
+impl<D: Disk> Shelf<D> {
+    // The copy at a place leaves the live ones of its block.
+    fn take_live(&mut self, place: Place)
+        requires block { place.block < self.old.geometry.blocks }
+        requires live { IsSomeAnd (copy_at place.unit (copies_in place.block self.old.rolls)) (λ c. c.units ≡ place.units) }
+        ensures taken { self.new ≡ without_copy place self.old }
+        ensures unlisted { AllByRecursion (λ b. b ≢ place.block) self.old.free }
+        ensures whole { IsShelf D.view self.old }
+    {
+        let _left = self.ledger.drop_live(place.block, place.unit, place.units);
+    }
+
+    // Whether no buffer has a block, nothing in it is live, and no buffer holds it.
+    pub(crate) fn is_unused(&self, block: u32) -> bool
+        requires block { block < self.now.geometry.blocks }
+        ensures { MatchBool result (IsUnused self.now block) (IsUnused self.now block → ⊥) }
+    {
+        is_kept_by_none(&self.buffers, &self.ledger, &self.holds, block)
+    }
+
+    // A block comes to the back of the free ones.
+    pub(crate) fn free_block(&mut self, block: u32)
+        requires block { block < self.old.geometry.blocks }
+        requires unused { IsUnused self.old block }
+        requires unlisted { AllByRecursion (λ b. b ≢ block) self.old.free }
+        ensures { self.new ≡ with_free block self.old }
+    {
+        let put: Result<_, _> = self.free.push_back(block);
+        put.unwrap();
+    }
+}

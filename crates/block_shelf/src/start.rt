@@ -1,0 +1,146 @@
+// How a shelf begins.
+ghost use Rattle.std.specs.Prelude.{◌≡◌, ◌+◌, ◌≤◌, ◌==◌, ℕ, List, length, filter, IfOk, MatchResult};
+ghost use Rattle.std.specs.List.{range_with_len};
+ghost use Rattle.std.specs.VecDeque.{deque_capacity};
+ghost use Rattle.disk_model.specs.Disk.{IsHonest, IsOnly};
+ghost use Rattle.rec_format.specs.Versions.{top_number};
+ghost use Rattle.device_model.specs.Book.{Setup};
+ghost use Rattle.block_format.specs.Layout.{IsGeometry, device_end, Body};
+ghost use Rattle.block_format.specs.Copies.{Copy, copies_of};
+ghost use Rattle.recovery.specs.Sound.{IsSound};
+ghost use Rattle.recovery.specs.Start.{cold_copies, greatest_number, start_state, entries_state};
+ghost use Rattle.kept_images.specs.Held.{AreSure};
+ghost use Rattle.unit_ledger.specs.Rolls.{copies_in, rolled_use};
+ghost use Rattle.block_shelf.specs.View.{AreLimits, GatesStand, IsSetupOf, gate_at};
+ghost use Rattle.block_shelf.specs.Standing.{StandsFor, IsPlaced, IsSafe};
+ghost use Rattle.block_shelf.specs.Memory.{HasMemory};
+ghost use Rattle.block_shelf.specs.Starting.{CanBeLive, StartsWith, AreLive, AllHave, copies_at, blocks_without};
+
+use crate::{NoMemory, Place, Shelf, ShelfLimits};
+use block_format::{Gate, Geometry};
+use disk_model::Disk;
+use hold_book::HoldBook;
+use rec_format::Digest;
+use std::alloc::Global;
+use std::collections::VecDeque;
+use unit_ledger::Ledger;
+
+// The ledger of a device, in which these copies are live.
+fn ledger_of(
+    alloc: Global,
+    geometry: &Geometry,
+    live: &[(Digest, Place)],
+) -> Result<Ledger, NoMemory>
+    requires geometry { IsGeometry geometry.now }
+    requires live { CanBeLive geometry.now live.now }
+    ensures size { IfOk result (λ rolls. length rolls ≡ geometry.now.blocks) }
+    ensures copies { IfOk result (λ rolls. (block : ℕ) → copies_in block rolls ≡ copies_at block live.now) }
+{
+    let mut ledger = Ledger::new(alloc, geometry.blocks)?;
+    for (digest, place) in live {
+        ledger.reserve(alloc, place.block)?;
+        ledger.add(place.block, place.unit, place.units, digest);
+    }
+    Ok(ledger)
+}
+
+// The blocks in which nothing is live, the lowest first, with room for all blocks.
+fn unused_blocks(alloc: Global, blocks: u32, ledger: &Ledger) -> Result<VecDeque<u32>, NoMemory>
+    requires { length ledger.now ≡ blocks }
+    ensures blocks { IfOk result (λ free. free.items ≡ filter (λ b. rolled_use b ledger.now == 0) (range_with_len 0 blocks)) }
+    ensures room { IfOk result (λ free. blocks ≤ deque_capacity free) }
+{
+    let mut free = VecDeque::with_capacity(alloc, blocks as usize)?;
+    for block in 0..blocks {
+        if ledger.used(block) == 0 {
+            free.push_back(block)?;
+        }
+    }
+    Ok(free)
+}
+
+// What a shelf keeps in memory from its start on: its live copies, its free blocks, and a mark for each block.
+#[derive(Drop)]
+struct Kept {
+    ledger: Ledger,
+    free: VecDeque<u32>,
+    marks: Vec<bool>,
+}
+
+fn kept_of(alloc: Global, geometry: &Geometry, live: &[(Digest, Place)]) -> Result<Kept, NoMemory>
+    requires geometry { IsGeometry geometry.now }
+    requires live { CanBeLive geometry.now live.now }
+    ensures size { IfOk result (λ kept. length kept.ledger ≡ geometry.now.blocks) }
+    ensures copies { IfOk result (λ kept. (block : ℕ) → copies_in block kept.ledger ≡ copies_at block live.now) }
+    ensures free { IfOk result (λ kept. kept.free.items ≡ blocks_without live.now geometry.now.blocks) }
+    ensures memory { IfOk result (λ kept. HasMemory geometry.now.blocks (deque_capacity kept.free) kept.marks.items) }
+{
+    let ledger = ledger_of(alloc, geometry, live)?;
+    let free = unused_blocks(alloc, geometry.blocks, &ledger)?;
+    let marks = vec![in alloc; false; geometry.blocks as usize]?;
+    Ok(Kept {
+        ledger,
+        free,
+        marks,
+    })
+}
+
+impl<D: Disk> Shelf<D> {
+    /// The shelf of a device behind a start: these copies are live, no block has a buffer and none is held, and the blocks without a
+    /// live copy are free, the lowest first. There is one gate for each block. All memory is taken that a later call may not ask for.
+    /// No call of the disk is made, and for want of memory it comes back as it was.
+    pub fn new(
+        alloc: Global,
+        disk: D,
+        geometry: Geometry,
+        gates: Vec<Gate>,
+        next_number: u64,
+        live: &[(Digest, Place)],
+        limits: ShelfLimits,
+    ) -> Result<Shelf<D>, (D, NoMemory)>
+        requires geometry { IsGeometry geometry }
+        requires room { device_end geometry ≤ (D.view disk).extent }
+        requires limits { AreLimits limits }
+        requires number { (1 ≤ next_number) × (next_number ≤ top_number + 1) }
+        requires count { length gates.items ≡ geometry.blocks }
+        requires stand { IsHonest (D.view disk) → GatesStand geometry (D.view disk).may_leave gates.items }
+        requires live { CanBeLive geometry live.now }
+        ensures starts { MatchResult result (StartsWith disk geometry limits gates.items live.now next_number) (λ refused. refused.0 ≡ disk) }
+
+        // Over any disk: from these entries, and from a sound image.
+        ensures entries { IfOk result (λ shelf. (setup : Setup) (found : List Copy) → IsSetupOf setup shelf → AreLive live.now found
+            → StandsFor setup shelf (entries_state setup found next_number)) }
+        ensures image { IfOk result (λ shelf. (setup : Setup) (image : List ℕ) (bodies : List Body) → IsSetupOf setup shelf → IsSound setup image bodies
+            → AreLive live.now (cold_copies (copies_of bodies)) → next_number ≡ greatest_number bodies + 1 → StandsFor setup shelf (start_state setup bodies)) }
+
+        // Where each image has the copies, they lie where the entries say.
+        ensures placed { IfOk result (λ shelf. (setup : Setup) (found : List Copy) → AllHave geometry (D.view disk).may_leave found
+            → IsPlaced D.view shelf (entries_state setup found next_number)) }
+
+        // Over an honest disk with this one image, which is sound: no gate is unsure then.
+        ensures safe { IsHonest (D.view disk) → AreSure geometry (gate_at gates.items) → IfOk result (λ shelf. (setup : Setup) (image : List ℕ) (bodies : List Body) → IsSetupOf setup shelf
+            → IsSound setup image bodies → IsOnly image (D.view disk).may_leave → IsPlaced D.view shelf (start_state setup bodies) × IsSafe setup D.view shelf (start_state setup bodies)) }
+    {
+        let kept = match kept_of(alloc, &geometry, live) {
+            Ok(kept) => kept,
+            Err(error) => return Err((disk, error)),
+        };
+        let Kept {
+            ledger,
+            free,
+            marks,
+        } = kept;
+        Ok(Shelf {
+            disk,
+            geometry,
+            limits,
+            buffers: Vec::new(alloc),
+            gates,
+            ledger,
+            holds: HoldBook::new(alloc),
+            free,
+            next_number,
+            marks,
+        })
+    }
+}

@@ -1,6 +1,0 @@
-use Rattle.std.proofs.Common.{◌≢◌, take}
-use Rattle.std.specs.List.{AllByRecursion}
-use Rattle.reuse_shelf.proofs.marks.has_block.Given as goal
-
-abbrev pub invariant-loop-buffer : goal.invariant-loop-buffer
-invariant-loop-buffer l = AllByRecursion (λ b. b.block ≢ l.block) (take l.buffer-index l.buffers)

@@ -1,8 +1,0 @@
-use Rattle.std.proofs.Common.{◌≡◌, ◌≤◌, deque_capacity}
-use Rattle.std.specs.Prelude.{filter, ◌==◌}
-use Rattle.std.specs.List.{range_with_len}
-use Rattle.unit_ledger.specs.Rolls.{rolled_use}
-use Rattle.reuse_shelf.proofs.start.unused_blocks.Given as goal
-
-abbrev pub invariant-loop-block : goal.invariant-loop-block
-invariant-loop-block l = (l.free.items ≡ filter (λ b. rolled_use b l.ledger == 0) (range_with_len 0 l.block)) × (l.blocks ≤ deque_capacity l.free)
