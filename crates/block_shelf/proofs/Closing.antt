@@ -32,7 +32,7 @@ use Rattle.kept_images.proofs.Holding.{plain_holds}
 use Rattle.kept_images.proofs.Stepping.{plain_in_order}
 use Rattle.kept_images.proofs.Worked.{HasClosed, close_call}
 use Rattle.block_shelf.specs.View.{ShelfView, IsShelf, IsBufferOf, HasItsBody, WaitsShut, gate_at, records_of}
-use Rattle.block_shelf.specs.Standing.{StandsFor, IsPlaced, IsSafe}
+use Rattle.block_shelf.specs.Standing.{StandsFor, IsPlaced, ImagesHold}
 use Rattle.block_shelf.specs.Calls.{Goes}
 use Rattle.block_shelf.specs.Changes.{with_gate_known}
 
@@ -137,7 +137,7 @@ module _ {D : Type 0} (view : D → DiskView) (shelf : ShelfView D) (disk : D) (
           (λ (other : l.block ≢ block). subst (λ (x : List ℕ). IsRecordAt x (32 + 16 * l.unit) e v) (sym (d.2.bodies l.block (within e l is_live) other)) (placed.there e l v is_live is_entry none d.0 d.1)) (cases_eq l.block block);
     }
 
-    module _ (honest : IsHonest (view shelf.disk)) (safe : IsSafe setup view shelf s) (not_shut : gate_at shelf.gates block ≢ Shut) (free : Contains s.book.free block) where
+    module _ (honest : IsHonest (view shelf.disk)) (safe : ImagesHold setup view shelf s) (not_shut : gate_at shelf.gates block ≢ Shut) (free : Contains s.book.free block) where
       abbrev closed : HasClosed setup shelf.geometry s (records_of shelf.buffers) (gate_at shelf.gates) block (meanwhile (view shelf.disk) (view disk)) (view disk).may_leave
       closed = close_call setup shelf.geometry s (records_of shelf.buffers) (gate_at shelf.gates) (view shelf.disk).may_leave (meanwhile (view shelf.disk) (view disk)) (view disk).may_leave block below safe not_shut (λ set. free) (torn honest) now_within
 
@@ -146,11 +146,11 @@ module _ {D : Type 0} (view : D → DiskView) (shelf : ShelfView D) (disk : D) (
       closing_leaves = record { time = time; each = closed.meanwhile }
 
       -- it failed, or may have failed
-      pub unsure_safe : IsSafe setup view (with_gate_known disk block Unsure shelf) s
+      pub unsure_safe : ImagesHold setup view (with_gate_known disk block Unsure shelf) s
       unsure_safe = holds_same setup shelf.geometry s (records_of shelf.buffers) (with_gate block Unsure (gate_at shelf.gates)) (gate_at (slice_set shelf.gates block Unsure)) (view disk).may_leave (gates_with shelf.gates block Unsure lt) closed.failed
 
       -- it went well
-      pub shut_safe : IsShut shelf.geometry block (view disk).may_leave → IsSafe setup view (with_gate_known disk block Shut shelf) s
+      pub shut_safe : IsShut shelf.geometry block (view disk).may_leave → ImagesHold setup view (with_gate_known disk block Shut shelf) s
       shut_safe shut = holds_same setup shelf.geometry s (records_of shelf.buffers) (with_gate block Shut (gate_at shelf.gates)) (gate_at (slice_set shelf.gates block Shut)) (view disk).may_leave (gates_with shelf.gates block Shut lt) (closed.closed shut)
 
     module _ (unshut : gate_at shelf.gates block ≢ Shut) (free : Contains s.book.free block) where
@@ -198,5 +198,5 @@ module _ {D : Type 0} (view : D → DiskView) (setup : Setup) (shelf : ShelfView
   unfolding after_step
   passed_placed placed = record { there = λ e l v is_live is_entry none c image. placed.there e l v is_live is_entry none c image }
 
-  pub passed_safe : IsSafe setup view shelf s → IsSafe setup view (record shelf { free = first_to_back shelf.free }) (after_step setup closing_failed s)
+  pub passed_safe : ImagesHold setup view shelf s → ImagesHold setup view (record shelf { free = first_to_back shelf.free }) (after_step setup closing_failed s)
   passed_safe safe = plain_holds setup shelf.geometry s (records_of shelf.buffers) (gate_at shelf.gates) (view shelf.disk).may_leave safe closing_failed refl tt

@@ -18,7 +18,7 @@ use Rattle.kept_images.proofs.Held.{held_survives, held_fewer, body_held, body_k
 use Rattle.kept_images.proofs.Knowing.{knows_fewer}
 use Rattle.kept_images.proofs.Parts.{body_changes}
 use Rattle.block_shelf.specs.View.{ShelfView, IsShelf, is_unsealed, is_written, is_begun, records_of, gate_at}
-use Rattle.block_shelf.specs.Standing.{StandsFor, IsSafe, book_phase}
+use Rattle.block_shelf.specs.Standing.{StandsFor, ImagesHold, book_phase}
 use Rattle.block_shelf.specs.Calls.{Goes}
 use Rattle.block_shelf.proofs.FlushShelf.{KeepsDisk, now_within, written, written_shelf, still_stands, still_placed}
 
@@ -43,7 +43,7 @@ module _ {D : Type 0} (view : D → DiskView) (shelf : ShelfView D) (disk : D) (
       (λ honest. subst (GateStands shelf.geometry (view disk).may_leave b.block) (sym is_shut) (λ c image. still (call.was_honest honest) c (fewer c image)))
 
   module _ (setup : Setup) (s : State) (stands : StandsFor setup (record shelf { buffers = b ∷ rest }) s) where
-    module _ (honest : IsHonest (view shelf.disk)) (safe : IsSafe setup view (record shelf { buffers = b ∷ rest }) s) where
+    module _ (honest : IsHonest (view shelf.disk)) (safe : ImagesHold setup view (record shelf { buffers = b ∷ rest }) s) where
       in_since : IsKeptLoosened setup shelf.geometry s (records_of (b ∷ rest)) (gate_at shelf.gates) since
       in_since = body_held setup shelf.geometry s (records_of (b ∷ rest)) (gate_at shelf.gates) (view shelf.disk).may_leave since b.block is.buffers.0.block safe.held is_shut
           (subst (GateStands shelf.geometry (view shelf.disk).may_leave b.block) is_shut (safe.knows.stands b.block is.buffers.0.block)) (still honest) (torn honest)

@@ -28,7 +28,7 @@ use Rattle.kept_images.proofs.Holding.{plain_holds}
 use Rattle.kept_images.proofs.Parts.{gate_changes, body_stays}
 use Rattle.kept_images.proofs.Worked.{HasOpened, open_call, opening_begun}
 use Rattle.block_shelf.specs.View.{ShelfView, IsShelf, is_written, records_of, gate_at}
-use Rattle.block_shelf.specs.Standing.{StandsFor, IsSafe, book_buffer, book_phase}
+use Rattle.block_shelf.specs.Standing.{StandsFor, ImagesHold, book_buffer, book_phase}
 use Rattle.block_shelf.specs.Calls.{Goes}
 use Rattle.block_shelf.specs.Flushes.{gate_steps, first_gate_steps}
 use Rattle.block_shelf.proofs.Closing.{gates_with, holds_same}
@@ -117,7 +117,7 @@ module _ {D : Type 0} (view : D → DiskView) (shelf : ShelfView D) (disk : D) (
         (first_there (b.number, b.block) (map {B = ℕ × ℕ} (λ x. (x.number, x.block)) (map book_buffer rest)))
 
     -- from a state in which the write of the gate has begun
-    module _ (then : State) (opening : IsOpening then.book b.number b.block) (holds : IsSafe setup view old s → HoldsGates setup shelf.geometry then records gates before) (honest : IsHonest (view shelf.disk)) (safe : IsSafe setup view old s) where
+    module _ (then : State) (opening : IsOpening then.book b.number b.block) (holds : ImagesHold setup view old s → HoldsGates setup shelf.geometry then records gates before) (honest : IsHonest (view shelf.disk)) (safe : ImagesHold setup view old s) where
       opens : HasOpened setup shelf.geometry then records gates b.number b.block (bytes_of b) since now
       opens = open_call setup shelf.geometry then records gates before since now b.number b.block (bytes_of b) is.buffers.0.block (holds safe) opening (the_body honest) with_own (torn honest) fewer
 
@@ -134,7 +134,7 @@ module _ {D : Type 0} (view : D → DiskView) (shelf : ShelfView D) (disk : D) (
 
     -- what is held behind it, in each state in which the write of the gate has begun
     abbrev HoldsAfter : Gate → Type 0
-    HoldsAfter gate = (then : State) → IsOpening then.book b.number b.block → (IsSafe setup view old s → HoldsGates setup shelf.geometry then records gates before) → IsHonest (view shelf.disk) → IsSafe setup view old s
+    HoldsAfter gate = (then : State) → IsOpening then.book b.number b.block → (ImagesHold setup view old s → HoldsGates setup shelf.geometry then records gates before) → IsHonest (view shelf.disk) → ImagesHold setup view old s
         → HoldsGates setup shelf.geometry then records (gate_at (slice_set shelf.gates b.block gate)) now
 
     goes_gate : (gate : Gate) → HoldsAfter gate → Goes view setup (gate_steps b.phase b.number) old s (opening_view gate)
@@ -156,7 +156,7 @@ module _ {D : Type 0} (view : D → DiskView) (shelf : ShelfView D) (disk : D) (
             opening : IsOpening then.book b.number b.block
             opening = opening_begun setup s b.number b.block placed_first
 
-            holds : IsSafe setup view old s → HoldsGates setup shelf.geometry then records gates before
+            holds : ImagesHold setup view old s → HoldsGates setup shelf.geometry then records gates before
             holds safe = plain_holds setup shelf.geometry s records gates before safe (gate_begun b.number) refl tt
         by GateBegun phase = record {
           stands = still_stands view shelf disk b rest is call away setup s stands GateBegun (slice_set shelf.gates b.block gate) (ap book_phase (sym phase));

@@ -23,7 +23,7 @@ use Rattle.kept_facts.specs.Asking.{MayBeWritten}
 use Rattle.kept_trail.proofs.Books.{others_live}
 use Rattle.kept_images.proofs.Holding.{wrote_holds}
 use Rattle.block_shelf.specs.View.{ShelfView, IsShelf, IsSetupOf, IsBufferOf, records_of, gate_at}
-use Rattle.block_shelf.specs.Standing.{StandsFor, IsPlaced, IsSafe}
+use Rattle.block_shelf.specs.Standing.{StandsFor, IsPlaced, ImagesHold}
 use Rattle.block_shelf.specs.Calls.{Puts}
 use Rattle.block_shelf.specs.Changes.{HasRoom, with_written}
 use Rattle.block_shelf.proofs.InRoom.{room_found, room_readied, room_appends, room_blocks, last_of}
@@ -71,7 +71,7 @@ module _ {D : Type 0} (view : D → DiskView) (setup : Setup) (s : State) (diges
           placed.there e l w (sym (live_there e other) ∙ is_live) (sym (entry_there e other) ∙ is_entry)
           (subst (AllByRecursion (λ b. b.block ≢ l.block)) (sym room.parts) (all_joined (λ b. b.block ≢ l.block) room.front (room.last ∷ []) parts.0 (parts.1.0, tt))) c image
 
-  safe_after : MayBeWritten setup s digest v → IsSafe setup view shelf s → IsSafe setup view new t
+  safe_after : MayBeWritten setup s digest v → ImagesHold setup view shelf s → ImagesHold setup view new t
   safe_after may safe =
       wrote_holds setup shelf.geometry s (records_of shelf.buffers) (gate_at shelf.gates) (view shelf.disk).may_leave safe (records_of (room.front ++ with_record digest v room.last ∷ [])) digest v may
       (room_appends view setup s v shelf is stands setup_is room digest) (λ none. absurd (both_ways _ none (room_found view setup s v shelf is stands setup_is room)))

@@ -24,7 +24,7 @@ use Rattle.kept_facts.specs.Asking.{MayBeWritten}
 use Rattle.kept_trail.proofs.Books.{others_live}
 use Rattle.kept_images.proofs.Holding.{wrote_holds}
 use Rattle.block_shelf.specs.View.{ShelfView, IsShelf, IsSetupOf, records_of, gate_at}
-use Rattle.block_shelf.specs.Standing.{StandsFor, IsPlaced, IsSafe}
+use Rattle.block_shelf.specs.Standing.{StandsFor, IsPlaced, ImagesHold}
 use Rattle.block_shelf.specs.Calls.{Puts}
 use Rattle.block_shelf.specs.Changes.{with_written, with_begun, begun_buffer, sealed_buffer}
 use Rattle.block_shelf.proofs.InNew.{new_readied, new_appends, new_blocks, begun_entries}
@@ -80,7 +80,7 @@ module _ {D : Type 0} (view : D → DiskView) (setup : Setup) (s : State) (diges
           placed.there e l w (sym (live_there e other) ∙ is_live) (sym (entry_there e other) ∙ is_entry)
           (all_before_map (λ b. b.block ≢ l.block) (λ b. b.block ≢ l.block) sealed_buffer (λ b h. h) shelf.buffers parts.0) c image
 
-  safe_after : MayBeWritten setup s digest v → IsSafe setup view shelf s → IsSafe setup view new t
+  safe_after : MayBeWritten setup s digest v → ImagesHold setup view shelf s → ImagesHold setup view new t
   safe_after may safe =
       wrote_holds setup shelf.geometry s (records_of shelf.buffers) (gate_at shelf.gates) (view shelf.disk).may_leave safe (records_of (front ++ with_record digest v last ∷ [])) digest v may
       (new_appends view setup s v shelf is stands setup_is fits some shut none digest) (λ never. ap (λ (l : List ℕ). gate_at shelf.gates (first_block l)) stands.free ∙ shut)

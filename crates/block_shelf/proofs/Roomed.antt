@@ -12,7 +12,7 @@ use Rattle.hold_book.specs.Holds.{Holds, has_hold}
 use Rattle.kept_images.proofs.Held.{held_survives}
 use Rattle.block_shelf.specs.declared.place.Place.{Place}
 use Rattle.block_shelf.specs.View.{ShelfView, IsShelf, gate_at, records_of}
-use Rattle.block_shelf.specs.Standing.{StandsFor, IsPlaced, IsSafe}
+use Rattle.block_shelf.specs.Standing.{StandsFor, IsPlaced, ImagesHold}
 use Rattle.block_shelf.specs.Calls.{Goes, IsPriorIn}
 use Rattle.block_shelf.specs.Changes.{SameButRoom}
 use Rattle.block_shelf.proofs.Rooms.{roomed_shelf}
@@ -42,8 +42,8 @@ module _ {D : Type 0} (old new : ShelfView D) (same : SameButRoom old new) where
   pub room_placed : (view : D → DiskView) (s : State) → IsPlaced view old s → IsPlaced view new s
   room_placed view s placed = subst (λ (x : ShelfView D). IsPlaced view x s) (sym same.rest) (record { there = placed.there })
 
-  pub room_safe : (setup : Setup) (view : D → DiskView) (s : State) → IsSafe setup view old s → IsSafe setup view new s
-  room_safe setup view s safe = subst (λ (x : ShelfView D). IsSafe setup view x s) (sym same.rest) safe
+  pub room_safe : (setup : Setup) (view : D → DiskView) (s : State) → ImagesHold setup view old s → ImagesHold setup view new s
+  room_safe setup view s safe = subst (λ (x : ShelfView D). ImagesHold setup view x s) (sym same.rest) safe
 
   pub room_disk : new.disk ≡ old.disk
   room_disk = ap (λ (x : ShelfView D). x.disk) same.rest

@@ -34,7 +34,7 @@ use Rattle.kept_images.proofs.Holding.{start_holds}
 use Rattle.block_shelf.specs.declared.place.Place.{Place}
 use Rattle.block_shelf.specs.declared.place.ShelfLimits.{ShelfLimits}
 use Rattle.block_shelf.specs.View.{ShelfView, IsSetupOf, GatesStand, gate_at}
-use Rattle.block_shelf.specs.Standing.{StandsFor, IsPlaced, IsSafe}
+use Rattle.block_shelf.specs.Standing.{StandsFor, IsPlaced, ImagesHold}
 use Rattle.block_shelf.specs.Starting.{LiesIn, CanBeLive, StartsWith, AreLive, AllHave, place_of_copy}
 use Rattle.block_shelf.proofs.StartStates.{from_found, begun_one, stands_with}
 
@@ -217,7 +217,7 @@ module _ {D : Type 0} (view : D → DiskView) (disk : D) (g : Geometry) (limits 
           subst (λ (v : ShelfView D). IsPlaced view v (start_state setup bodies)) (sym starts.parts)
           (shown_placed (copies_of bodies) (λ d. cold_copy d (copies_of bodies)) (start_state setup bodies) (start_show setup image bodies sound) view _ (all_have setup image bodies sound g shape is_g (view disk).may_leave only))
 
-      pub start_safe : GatesStand g (view disk).may_leave gates → AreSure g (gate_at gates) → IsSafe setup view shelf (start_state setup bodies)
+      pub start_safe : GatesStand g (view disk).may_leave gates → AreSure g (gate_at gates) → ImagesHold setup view shelf (start_state setup bodies)
       start_safe stand sure =
-          subst (λ (v : ShelfView D). IsSafe setup view v (start_state setup bodies)) (sym starts.parts)
+          subst (λ (v : ShelfView D). ImagesHold setup view v (start_state setup bodies)) (sym starts.parts)
           (start_holds setup g shape is_g image bodies (gate_at gates) (view disk).may_leave only.alone (seen_gate g image (view disk).may_leave gates only stand sure) sound)

@@ -22,7 +22,7 @@ use Rattle.block_shelf.specs.declared.place.Class.TheVariants as class
 use Rattle.block_shelf.specs.declared.refusals.PutRefusal.{PutRefusal}
 use Rattle.block_shelf.specs.declared.refusals.PutRefusal.TheVariants as put
 use Rattle.block_shelf.specs.View.{ShelfView, gate_at}
-use Rattle.block_shelf.specs.Standing.{StandsFor, IsSafe, IsPlaced}
+use Rattle.block_shelf.specs.Standing.{StandsFor, ImagesHold, IsPlaced}
 use Rattle.block_shelf.specs.Calls.{copy_live}
 use Rattle.block_shelf.specs.Changes.{HasRoom, SameButRoom, without_copy, with_written, with_gate_known}
 
@@ -110,5 +110,5 @@ pub record Takes {D : Type 0} (view : D → DiskView) (setup : Setup) (digest : 
   pub live : live_of digest (after_step setup (wrote digest v) s).book.live ≡ Some (copy_live digest place)
   pub stands : StandsFor setup new (after_step setup (wrote digest v) s)
   pub placed : IsHonest (view old.disk) → IsPlaced view old s → IsPlaced view new (after_step setup (wrote digest v) s)
-  pub safe : IsHonest (view old.disk) → MayBeWritten setup s digest v → IsSafe setup view old s → IsSafe setup view new (after_step setup (wrote digest v) s)
-  pub leaves : IsHonest (view old.disk) → IsSafe setup view old s → Leaves (OneOf (Survives setup) (states_through setup (wrote digest v ∷ []) s)) (view old.disk) (view new.disk)
+  pub safe : IsHonest (view old.disk) → MayBeWritten setup s digest v → ImagesHold setup view old s → ImagesHold setup view new (after_step setup (wrote digest v) s)
+  pub leaves : IsHonest (view old.disk) → ImagesHold setup view old s → Leaves (OneOf (Survives setup) (states_through setup (wrote digest v ∷ []) s)) (view old.disk) (view new.disk)

@@ -11,7 +11,7 @@ ghost use Rattle.block_shelf.specs.Standing.{StandsFor};
 ghost use Rattle.block_shelf.specs.Calls.{Goes, copy_live};
 ghost use Rattle.block_shelf.specs.Changes.{without_copy, with_free};
 
-use crate::marks::is_kept_by_none;
+use crate::let_go::is_bare;
 use crate::{Place, Shelf};
 use disk_model::Disk;
 
@@ -50,7 +50,7 @@ impl<D: Disk> Shelf<D> {
         requires block { block < self.now.geometry.blocks }
         ensures { MatchBool result (IsUnused self.now block) (IsUnused self.now block → ⊥) }
     {
-        is_kept_by_none(&self.buffers, &self.ledger, &self.holds, block)
+        !self.holds.held(block) && is_bare(&self.buffers, &self.ledger, block)
     }
 
     // A block comes to the back of the free ones.

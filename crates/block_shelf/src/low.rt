@@ -52,10 +52,12 @@ impl<D: Disk> Shelf<D> {
     fn holds_dead(&self, number: u64) -> bool
         ensures { MatchBool result (HoldsDead self.now number) (HoldsDead self.now number → ⊥) }
     {
-        for block in 0..self.geometry.blocks {
-            if self.ledger.used(block) == 0 && self.holds.holds(number, block) {
+        let mut from = 0;
+        while let Some(block) = self.holds.first_from(number, from) {
+            if self.ledger.used(block) == 0 {
                 return true;
             }
+            from = block + 1;
         }
         false
     }

@@ -12,8 +12,7 @@ ghost use Rattle.recovery.specs.Start.{cold_copies, greatest_number, start_state
 ghost use Rattle.kept_images.specs.Held.{AreSure};
 ghost use Rattle.unit_ledger.specs.Rolls.{copies_in, rolled_use};
 ghost use Rattle.block_shelf.specs.View.{AreLimits, GatesStand, IsSetupOf, gate_at};
-ghost use Rattle.block_shelf.specs.Standing.{StandsFor, IsPlaced, IsSafe};
-ghost use Rattle.block_shelf.specs.Memory.{HasMemory};
+ghost use Rattle.block_shelf.specs.Standing.{StandsFor, IsPlaced, ImagesHold};
 ghost use Rattle.block_shelf.specs.Starting.{CanBeLive, StartsWith, AreLive, AllHave, copies_at, blocks_without};
 
 use crate::{NoMemory, Place, Shelf, ShelfLimits};
@@ -59,12 +58,11 @@ fn unused_blocks(alloc: Global, blocks: u32, ledger: &Ledger) -> Result<VecDeque
     Ok(free)
 }
 
-// What a shelf keeps in memory from its start on: its live copies, its free blocks, and a mark for each block.
+// What a shelf keeps in memory from its start on: its live copies, and its free blocks, with room for all.
 #[derive(Drop)]
 struct Kept {
     ledger: Ledger,
     free: VecDeque<u32>,
-    marks: Vec<bool>,
 }
 
 fn kept_of(alloc: Global, geometry: &Geometry, live: &[(Digest, Place)]) -> Result<Kept, NoMemory>
@@ -73,16 +71,11 @@ fn kept_of(alloc: Global, geometry: &Geometry, live: &[(Digest, Place)]) -> Resu
     ensures size { IfOk result (λ kept. length kept.ledger ≡ geometry.now.blocks) }
     ensures copies { IfOk result (λ kept. (block : ℕ) → copies_in block kept.ledger ≡ copies_at block live.now) }
     ensures free { IfOk result (λ kept. kept.free.items ≡ blocks_without live.now geometry.now.blocks) }
-    ensures memory { IfOk result (λ kept. HasMemory geometry.now.blocks (deque_capacity kept.free) kept.marks.items) }
+    ensures memory { IfOk result (λ kept. geometry.now.blocks ≤ deque_capacity kept.free) }
 {
     let ledger = ledger_of(alloc, geometry, live)?;
     let free = unused_blocks(alloc, geometry.blocks, &ledger)?;
-    let marks = vec![in alloc; false; geometry.blocks as usize]?;
-    Ok(Kept {
-        ledger,
-        free,
-        marks,
-    })
+    Ok(Kept { ledger, free })
 }
 
 impl<D: Disk> Shelf<D> {
@@ -119,17 +112,13 @@ impl<D: Disk> Shelf<D> {
 
         // Over an honest disk with this one image, which is sound: no gate is unsure then.
         ensures safe { IsHonest (D.view disk) → AreSure geometry (gate_at gates.items) → IfOk result (λ shelf. (setup : Setup) (image : List ℕ) (bodies : List Body) → IsSetupOf setup shelf
-            → IsSound setup image bodies → IsOnly image (D.view disk).may_leave → IsPlaced D.view shelf (start_state setup bodies) × IsSafe setup D.view shelf (start_state setup bodies)) }
+            → IsSound setup image bodies → IsOnly image (D.view disk).may_leave → IsPlaced D.view shelf (start_state setup bodies) × ImagesHold setup D.view shelf (start_state setup bodies)) }
     {
         let kept = match kept_of(alloc, &geometry, live) {
             Ok(kept) => kept,
             Err(error) => return Err((disk, error)),
         };
-        let Kept {
-            ledger,
-            free,
-            marks,
-        } = kept;
+        let Kept { ledger, free } = kept;
         Ok(Shelf {
             disk,
             geometry,
@@ -140,7 +129,6 @@ impl<D: Disk> Shelf<D> {
             holds: HoldBook::new(alloc),
             free,
             next_number,
-            marks,
         })
     }
 }

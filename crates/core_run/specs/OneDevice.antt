@@ -21,7 +21,7 @@ use Rattle.shard_core.specs.declared.settings.Settings.{Settings}
 use Rattle.shard_core.specs.declared.start.Asked.{Asked}
 use Rattle.shard_core.specs.declared.start.StartCause.{StartCause}
 use Rattle.shard_core.specs.Starting.{StandsForBodies, Begins, IsRefused, FaultRose}
-use Rattle.node_model.specs.Headline.{IsQuiet, AllQuiet}
+use Rattle.node_model.specs.RunEnd.{IsQuiet, AllQuiet}
 use Rattle.node_model.specs.Meaning.{ActsBy, TendsBy, ClosesBy}
 
 -- The node has one device, of the shard's shape and settings and with its disk's count of faults, in a state for which the

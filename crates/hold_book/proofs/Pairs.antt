@@ -7,7 +7,7 @@ use Rattle.std.specs.Ordering.{nat_cmp, eq_by_cmp}
 use Rattle.std.specs.Cmp.{IsTotalOrder, unsigned_ties, both_tied}
 use Rattle.std.specs.FinSet as set
 use Rattle.std.proofs.lemmas.Bool.{false≢true, cases_Bool, and_from, and_parts, or_cases, or_left, or_right, eq-eqb, ne_eqb, eqb-true, cases_eq}
-use Rattle.std.proofs.lemmas.Cmp.{nat_cmp_total, nat_eq_equiv, on_total, then_total}
+use Rattle.std.proofs.lemmas.Cmp.{nat_cmp_total, on_total, then_total}
 use Rattle.std.proofs.lemmas.Map.Lookups.{exact_unsigned, exact_pairs}
 use Rattle.std.proofs.lemmas.List.Sums.{sum_by-cons}
 use Rattle.std.proofs.lemmas.List.Sorted.{sum_by-IsPermutation}
@@ -36,27 +36,11 @@ same_any q (k ∷ ks) = λ i. same_pair-tied q k i || same_any q ks i
 pub contains-pairs : (ks : List (ℕ × ℕ)) (q : ℕ × ℕ) → set.contains (set.from_list {R = pair_cmp} ks) q ≡ has ks q
 contains-pairs ks q = set.contains-from_list pair_order ks q ∙ same_any q ks
 
--- lists with the same pairs are one set
-pub same_holds : (ks ls : List (ℕ × ℕ)) → ((q : ℕ × ℕ) → has ks q ≡ has ls q) → set.from_list {R = pair_cmp} ks ≡ set.from_list ls
-same_holds ks ls same = set.same_set pair_order pair_exact (set.from_list ks) (set.from_list ls) (λ q. contains-pairs ks q ∙ same q ∙ sym (contains-pairs ls q))
-
-same_pair_back : (p q : ℕ × ℕ) → same_pair p q ≡ same_pair q p
-same_pair_back p q = λ i. nat_eq_equiv.symm p.0 q.0 i && nat_eq_equiv.symm p.1 q.1 i
-
-true_or : (b c : Bool) → cond b true c ≡ (b || c)
-true_or true c = refl
-true_or false c = refl
-
 -- one more pair
-pub hold_added : (ks ls : List (ℕ × ℕ)) (p : ℕ × ℕ) → ((q : ℕ × ℕ) → has ls q ≡ cond (same_pair p q) true (has ks q)) → set.from_list {R = pair_cmp} ls ≡ with_pair (set.from_list ks) p.0 p.1
+pub hold_added : (ks ls : List (ℕ × ℕ)) (p : ℕ × ℕ) → ((q : ℕ × ℕ) → has ls q ≡ (same_pair q p || has ks q)) → set.from_list {R = pair_cmp} ls ≡ with_pair (set.from_list ks) p.0 p.1
 hold_added ks ls p updated =
     set.same_set pair_order pair_exact (set.from_list ls) (with_pair (set.from_list ks) p.0 p.1)
-    (λ q.
-    contains-pairs ls q
-    ∙ updated q
-    ∙ true_or (same_pair p q) (has ks q)
-    ∙ (λ i. (same_pair_back p q ∙ sym (same_pair-tied q p)) i || sym (contains-pairs ks q) i)
-    ∙ sym (set.contains-insert pair_order (set.from_list ks) p q))
+    (λ q. contains-pairs ls q ∙ updated q ∙ (λ i. sym (same_pair-tied q p) i || sym (contains-pairs ks q) i) ∙ sym (set.contains-insert pair_order (set.from_list ks) p q))
 
 -- ---- how many pairs name a block
 

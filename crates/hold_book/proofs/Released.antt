@@ -1,17 +1,17 @@
 -- The holds without those of one buffer.
-use Rattle.std.proofs.Common.{◌≡◌, ℕ, ◌+◌, ◌<◌, ◌≤◌, Bool, true, false, not, cond, ◌&&◌, ◌||◌, eqb, ltb, List, [], ◌∷◌, ◌==◌, refl, ap, sym, ◌∙◌, ⊎_elim, zero-add, arith}
-use Rattle.std.specs.Prelude.{filter, count_by, IsTrue}
+use Rattle.std.proofs.Common.{◌≡◌, ℕ, ◌+◌, ◌<◌, Bool, true, false, not, cond, ◌&&◌, ◌||◌, eqb, List, [], ◌∷◌, refl, ap, sym, subst, ◌∙◌, ◌↔◌, ⊎_elim, zero-add, arith}
+use Rattle.std.specs.Prelude.{filter, count_by}
 use Rattle.std.specs.FinSet as set
-use Rattle.std.proofs.lemmas.Bool.{false≢true, cases_Bool, cases_lt, cond_both, and_parts, and_from, or_cases, or_left, or_right, ltb-true, lt-ltb, eqb-true, eq-eqb}
+use Rattle.std.proofs.lemmas.Bool.{false≢true, cases_Bool, cond_both, and_parts, or_cases, or_left, or_right, eqb-true}
 use Rattle.std.proofs.lemmas.Cmp.{nat_eq_equiv}
-use Rattle.hold_book.specs.Holds.{pair_cmp, has_hold, IsHeld, without_buffer}
-use Rattle.hold_book.specs.Counts.{held_by, held_by_another, is_held_alone}
+use Rattle.hold_book.specs.Holds.{pair_cmp, IsHeld, without_buffer}
+use Rattle.hold_book.specs.Counts.{held_by, held_by_another}
 use Rattle.hold_book.proofs.Pairs.{pair_order, pair_exact, same_pair, has, contains-pairs, names, one_if, count_first, one_more, no_more, held_by_count, count_by_held}
 use Rattle.hold_book.proofs.Lowered.{of, of_others}
 
 -- ---- a buffer's own pairs
 
-same_as_held : (buffer block : ℕ) (p : ℕ × ℕ) → same_pair (buffer, block) p ≡ held_by buffer block p
+pub same_as_held : (buffer block : ℕ) (p : ℕ × ℕ) → same_pair (buffer, block) p ≡ held_by buffer block p
 same_as_held buffer block p = λ i. nat_eq_equiv.symm buffer p.0 i && nat_eq_equiv.symm block p.1 i
 
 pub has_from_count : (buffer block : ℕ) (ks : List (ℕ × ℕ)) → 0 < of buffer block ks → has ks (buffer, block) ≡ true
@@ -84,25 +84,10 @@ holds-others buffer ks =
     ∙ ap (λ b. b && is_others buffer q) (sym (contains-pairs ks q))
     ∙ sym (set.contains-retain (set.from_list ks) (is_others buffer) q (λ x tied. ap (is_others buffer) (sym (pair_exact q x tied)))))
 
--- ---- marks
+-- ---- the holds of others
 
--- a block that the buffer holds alone is held by none when the buffer's holds are gone
-pub alone_is_free : (buffer block : ℕ) (ks : List (ℕ × ℕ)) → is_held_alone buffer block ks ≡ true
-    → IsTrue (has_hold (set.from_list ks) buffer block) × (IsHeld (set.from_list (filter (is_others buffer) ks)) block → ⊥)
-alone_is_free buffer block ks alone =
-    let both = and_parts (ltb 0 (of buffer block ks)) (of_others buffer block ks == 0) alone in (
-      contains-pairs ks (buffer, block) ∙ has_from_count buffer block ks (ltb-true 0 (of buffer block ks) both.0),
-      λ held.
-          let some = count_by_held block (filter (is_others buffer) ks) held in
-          let zero = eqb-true (of_others buffer block ks) 0 both.1 in
-          omega (arith, count-others buffer block ks),
-    )
-
-pub free_is_alone : (buffer block : ℕ) (ks : List (ℕ × ℕ)) → IsTrue (has_hold (set.from_list ks) buffer block) → (IsHeld (set.from_list (filter (is_others buffer) ks)) block → ⊥)
-    → is_held_alone buffer block ks ≡ true
-free_is_alone buffer block ks own free =
-    let some = count_from_has buffer block ks (sym (contains-pairs ks (buffer, block)) ∙ own) in
-    let zero : of_others buffer block ks ≡ 0 =
-    ⊎_elim (λ (more : 0 < of_others buffer block ks). absurd (free (held_by_count block (filter (is_others buffer) ks) (omega (arith, count-others buffer block ks)))))
-    (λ (least : of_others buffer block ks ≤ 0). omega arith) (cases_lt 0 (of_others buffer block ks)) in
-    and_from (ltb 0 (of buffer block ks)) (of_others buffer block ks == 0) (lt-ltb 0 (of buffer block ks) some) (eq-eqb (of_others buffer block ks) 0 zero)
+pub held_besides_is : (ks : List (ℕ × ℕ)) (buffer block : ℕ) → IsHeld (without_buffer (set.from_list ks) buffer) block ↔ (0 < of_others buffer block ks)
+held_besides_is ks buffer block = (
+  λ held. (let some = count_by_held block (filter (is_others buffer) ks) (subst (λ h. IsHeld h block) (sym (holds-others buffer ks)) held) in omega (arith, some, count-others buffer block ks)),
+  λ some. subst (λ h. IsHeld h block) (holds-others buffer ks) (held_by_count block (filter (is_others buffer) ks) (omega (arith, some, count-others buffer block ks))),
+)

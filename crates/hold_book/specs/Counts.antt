@@ -1,5 +1,5 @@
 -- How many holds a block has.
-use Rattle.std.specs.Prelude.{◌≡◌, ◌≢◌, ℕ, Bool, not, ◌&&◌, ◌==◌, nat_lt, nat_eq, unwrap_or, count_by, List, Some}
+use Rattle.std.specs.Prelude.{◌≡◌, ◌≢◌, ℕ, Bool, not, ◌&&◌, ◌==◌, nat_eq, unwrap_or, count_by, List, Some}
 use Rattle.std.specs.declared.hash.FoldHasher.{FoldHasher}
 use Rattle.std.specs.declared.hash.BuildHasherDefault.{BuildHasherDefault}
 use Rattle.std.specs.HashMap.{get, HashMap}
@@ -25,7 +25,3 @@ held_by buffer block p = (p.0 == buffer) && (p.1 == block)
 
 abbrev pub held_by_another : (buffer block : ℕ) → ℕ × ℕ → Bool
 held_by_another buffer block p = not (p.0 == buffer) && (p.1 == block)
-
--- the buffer holds the block, and no other does
-abbrev pub is_held_alone : (buffer block : ℕ) → List (ℕ × ℕ) → Bool
-is_held_alone buffer block pairs = nat_lt 0 (count_by (held_by buffer block) pairs) && (count_by (held_by_another buffer block) pairs == 0)

@@ -1,5 +1,5 @@
 -- Which buffer holds which block.
-use Rattle.std.specs.Prelude.{ℕ, ◌<◌, ◌≡◌, ◌↔◌, Bool, not, ◌==◌, nat_eq, List, length, Contains, IsTrue, refl}
+use Rattle.std.specs.Prelude.{ℕ, ◌<◌, ◌≤◌, ◌≡◌, ◌↔◌, Bool, false, not, ◌==◌, nat_eq, List, length, Contains, IsTrue, refl}
 use Rattle.std.specs.List.{IsDistinct}
 use Rattle.std.specs.declared.cmp.Ordering.{Ordering}
 use Rattle.std.specs.Ordering.{nat_cmp, ordering_then}
@@ -30,6 +30,16 @@ pub record CountsHeld (holds : Holds) (count : ℕ) : Type 0 where
 -- only blocks below this number are held
 abbrev pub HoldsBelow : ℕ → Holds → Type 0
 HoldsBelow count holds = (buffer block : ℕ) → IsTrue (has_hold holds buffer block) → block < count
+
+-- the buffer holds no block from this number on
+abbrev pub HoldsNoneFrom : Holds → (buffer from : ℕ) → Type 0
+HoldsNoneFrom holds buffer from = (block : ℕ) → from ≤ block → has_hold holds buffer block ≡ false
+
+-- the buffer holds this block, and none before it from that number on
+pub record IsFirstHeld (holds : Holds) (buffer from block : ℕ) : Type 0 where
+  pub above : from ≤ block
+  pub held : IsTrue (has_hold holds buffer block)
+  pub first : (other : ℕ) → from ≤ other → other < block → has_hold holds buffer other ≡ false
 
 -- one more hold, and all but those of one buffer
 abbrev pub with_pair : Holds → (buffer block : ℕ) → Holds

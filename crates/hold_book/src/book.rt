@@ -1,36 +1,38 @@
 // The holds of a device as a set of pairs, with the number of holds of each block.
-ghost use Rattle.std.specs.Prelude.{◌≡◌, ◌⊎◌, ◌↔◌, ◌≤◌, ◌<◌, ℕ, length, slice_index_or, false, IsTrue, IsOk, OnOk};
+ghost use Rattle.std.specs.Prelude.{◌≡◌, ◌↔◌, ◌≤◌, ℕ, IsTrue, IsOk, OnOk, MatchOption};
 ghost use Rattle.std.specs.FinSet as set;
-ghost use Rattle.hold_book.specs.Holds.{IsHeld, CountsHeld, has_hold, with_pair, without_buffer};
+ghost use Rattle.hold_book.specs.Holds.{IsHeld, CountsHeld, HoldsNoneFrom, IsFirstHeld, has_hold, with_pair, without_buffer};
 
 use crate::NoMemory;
 use crate::counts::{lower_all, raise};
+use crate::search::{find, first_from};
 use std::alloc::Global;
-use std::collections::{HashMap, HashSet};
+use std::collections::HashMap;
 use std::marker::Model;
 
 /// A set of holds, each of a block by a buffer.
 #[derive(Drop)]
 pub struct HoldBook {
-    pairs: HashSet<(u64, u32)>,
+    // in rising order
+    pairs: Vec<(u64, u32)>,
     counts: HashMap<u32, u64>,
 }
 
 impl Model for HoldBook {
-    ghost use Rattle.std.specs.Prelude.{min, nat_eq};
+    ghost use Rattle.std.specs.Prelude.{◌-◌, min, vec_len, vec_capacity};
+    ghost use Rattle.std.specs.List.Sorted.{IsStrictlySortedBy};
     ghost use Rattle.std.specs.FinSet as set;
-    ghost use Rattle.std.specs.HashMap as map;
-    ghost use Rattle.std.specs.HashSet.{spare};
-    ghost use Rattle.hold_book.specs.Holds.{HoldState, hold_state_code};
+    ghost use Rattle.std.specs.HashMap.{spare};
+    ghost use Rattle.hold_book.specs.Holds.{HoldState, hold_state_code, pair_cmp};
     ghost use Rattle.hold_book.specs.Counts.{CountsPairs};
 
     ghost Value = { HoldState };
 
     ghost coded = { hold_state_code };
 
-    ghost view = { λ b. record { holds = set.from_list b.pairs.keys; spare = min (spare b.pairs) (map.spare b.counts) } };
+    ghost view = { λ b. record { holds = set.from_list b.pairs.items; spare = min (vec_capacity b.pairs - vec_len b.pairs) (spare b.counts) } };
 
-    ghost invariant = { λ b. CountsPairs b.pairs.keys b.counts };
+    ghost invariant = { λ b. CountsPairs b.pairs.items b.counts × IsStrictlySortedBy pair_cmp b.pairs.items };
 }
 
 impl HoldBook {
@@ -39,7 +41,7 @@ impl HoldBook {
         ensures { result.holds ≡ set.empty }
     {
         HoldBook {
-            pairs: HashSet::new(alloc),
+            pairs: Vec::new(alloc),
             counts: HashMap::new(alloc),
         }
     }
@@ -62,10 +64,8 @@ impl HoldBook {
         requires { 1 ≤ self.old.spare }
         ensures { self.new.holds ≡ with_pair self.old.holds buffer block }
     {
-        // No block has more holds than there are, so a count of them fits.
-        let _holds = self.pairs.len();
-        let added: Result<bool, _> = self.pairs.insert((buffer, block));
-        if added.unwrap() {
+        if let Err(at) = find(&self.pairs, buffer, block) {
+            self.pairs.insert(at, (buffer, block)).unwrap();
             raise(&mut self.counts, block);
         }
     }
@@ -75,6 +75,18 @@ impl HoldBook {
         ensures { IsTrue result ↔ IsHeld self.now.holds block }
     {
         self.counts.contains_key(&block)
+    }
+
+    /// Whether a buffer other than this one holds the block.
+    pub fn held_besides(&self, buffer: u64, block: u32) -> bool
+        ensures { IsTrue result ↔ IsHeld (without_buffer self.now.holds buffer) block }
+    {
+        let count = self.counts.get(&block).copied().unwrap_or(0);
+        if self.holds(buffer, block) {
+            count > 1
+        } else {
+            count > 0
+        }
     }
 
     /// How many blocks are held.
@@ -88,17 +100,21 @@ impl HoldBook {
     pub fn holds(&self, buffer: u64, block: u32) -> bool
         ensures { result ≡ has_hold self.now.holds buffer block }
     {
-        self.pairs.contains(&(buffer, block))
+        find(&self.pairs, buffer, block).is_ok()
     }
 
-    /// Ends all holds of a buffer, and marks each block that it held and that no buffer holds then.
-    pub fn release(&mut self, buffer: u64, visit: &mut [bool])
-        requires { (block : ℕ) → IsTrue (has_hold self.old.holds buffer block) → block < length visit.old }
-        ensures holds { self.new.holds ≡ without_buffer self.old.holds buffer }
-        ensures visit { (block : ℕ) → block < length visit.old → IsTrue (slice_index_or visit.new block false)
-            ↔ (IsTrue (slice_index_or visit.old block false) ⊎ (IsTrue (has_hold self.old.holds buffer block) × (¬ IsHeld self.new.holds block))) }
+    /// The first block from this number on that the buffer holds.
+    pub fn first_from(&self, buffer: u64, from: u32) -> Option<u32>
+        ensures { MatchOption result (HoldsNoneFrom self.now.holds buffer from) (IsFirstHeld self.now.holds buffer from) }
     {
-        lower_all(&self.pairs, &mut self.counts, buffer, visit);
+        first_from(&self.pairs, buffer, from)
+    }
+
+    /// Ends all holds of a buffer.
+    pub fn release(&mut self, buffer: u64)
+        ensures { self.new.holds ≡ without_buffer self.old.holds buffer }
+    {
+        lower_all(&self.pairs, &mut self.counts, buffer);
         self.pairs.retain(|(holder, _)| *holder != buffer);
     }
 }

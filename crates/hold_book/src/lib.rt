@@ -4,6 +4,7 @@
 
 mod book;
 mod counts;
+mod search;
 #[cfg(test)]
 mod tests;
 

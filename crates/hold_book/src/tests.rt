@@ -1,4 +1,4 @@
-ghost use Rattle.std.specs.Prelude.{◌<◌, ◌≤◌, length};
+ghost use Rattle.std.specs.Prelude.{◌<◌};
 ghost use Rattle.hold_book.specs.Holds.{HoldsBelow};
 
 use super::*;
@@ -21,12 +21,11 @@ fn hold(book: &mut HoldBook, buffer: u64, block: u32) -> Result<(), NoMemory>
     Ok(())
 }
 
-fn release(book: &mut HoldBook, buffer: u64, visit: &mut [bool])
-    requires places { 4 ≤ length visit.old }
+fn release(book: &mut HoldBook, buffer: u64)
     requires before { HoldsBelow 4 book.old.holds }
     ensures { HoldsBelow 4 book.new.holds }
 {
-    book.release(buffer, visit);
+    book.release(buffer);
 }
 
 #[test]
@@ -42,12 +41,21 @@ fn blocks_are_held_until_their_buffers_are_released(rt: HostRuntime) -> Result<(
     );
     assert_eq!(rt; (book.holds(2, 0), book.holds(2, 3)), (true, false));
     assert_eq!(rt; book.held_count(), 2);
-    let mut visit = [false; 4];
-    release(&mut book, 1, &mut visit);
-    assert_eq!(rt; visit, [false, false, false, true]);
+    assert_eq!(rt;
+        (book.held_besides(1, 0), book.held_besides(1, 3)),
+        (true, false)
+    );
+    assert_eq!(rt;
+        (
+            book.first_from(1, 0),
+            book.first_from(1, 1),
+            book.first_from(2, 1)
+        ),
+        (Some(0), Some(3), None)
+    );
+    release(&mut book, 1);
     assert_eq!(rt; (book.held(0), book.held(3)), (true, false));
-    release(&mut book, 2, &mut visit);
-    assert_eq!(rt; visit, [true, false, false, true]);
+    release(&mut book, 2);
     assert!(rt; !book.held(0));
     Ok(())
 }

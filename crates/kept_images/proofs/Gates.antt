@@ -48,10 +48,6 @@ gates_elsewhere g before now block k Unsure changes lt other stands = (stands.0,
 pub gate_torn : (g : Geometry) (before now : Images) (block : ℕ) (bytes : List ℕ) → IsGeometry g → TornFrom (block_place g block) 4096 before now → StandsOver g block bytes before → GateStands g now block Unsure
 gate_torn g before now block bytes is torn over = (bytes, record { one = λ c image. let t = torn c image in body_stays g block is t.0 c t.2 ∙ over.one t.0 t.1; is_body = over.is_body })
 
--- it is looked at, and stands open
-pub gate_looked : (g : Geometry) (images : Images) (block : ℕ) → GateStands g images block Unsure → IsOpened g block images → GateStands g images block Set
-gate_looked g images block stands opened = (opened, stands)
-
 -- Behind a sync that went well one image is left, and each gate stands in it as it is seen.
 pub gate_closed : (g : Geometry) (seen : List ℕ) (images : Images) (block : ℕ) → ((c : List ℕ) → images c → c ≡ seen) → IsClosed (gate_sector g block seen) → GateStands g images block Shut
 gate_closed g seen images block alone closed = λ c image. subst (λ (x : List ℕ). IsClosed (gate_sector g block x)) (sym (alone c image)) closed

@@ -16,10 +16,8 @@ use Rattle.node_model.specs.declared.run_end.RunEnd.{RunEnd}
 use Rattle.node_model.specs.declared.run_end.RunEnd.TheVariants as end
 use Rattle.node_model.specs.Commands.{IsNumbered, Slot, Node, NodeEvent}
 use Rattle.node_model.specs.Run.{ImagesLeft, Served, IsRun, node_after_line, last_node, times_of, states_of_run, WritesFlushedOn}
-use Rattle.node_model.specs.Outside.{Outside, NoneFell, counts_of}
+use Rattle.node_model.specs.Outside.{Outside, NoneFell, counts_of, IsFrontOf, TakesLines, written_text}
 use Rattle.node_model.specs.RunEnd.{input_limit, HasCause}
-pub use Rattle.node_model.specs.Outside.{IsFrontOf, TakesLines, is_bye, has_quit, rest_line, written_text}
-pub use Rattle.node_model.specs.RunEnd.{IsQuiet, AllQuiet}
 
 -- ---- the start
 

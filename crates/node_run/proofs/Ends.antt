@@ -19,7 +19,8 @@ use Rattle.node_session.specs.declared.ended.Ended.TheVariants.{Finish, Quit, So
 use Rattle.node_session.specs.Turns.{Times, HasTurns, StopsAtLine, TurnAny}
 use Rattle.node_session.specs.Session.{unended, TakesUp, HasWholeTurns, HasAllTurns, HasFirstTurns, HasSomeTurns, StopsAfter, EndsSo, Ran}
 use Rattle.node_model.specs.Run.{Served, halts, is_halted, times_of, replies_of, node_after_lines}
-use Rattle.node_model.specs.Headline.{IsFrontOf, Gives, is_bye, has_quit, written_text, rest_line}
+use Rattle.node_model.specs.Outside.{IsFrontOf, is_bye, has_quit, written_text, rest_line}
+use Rattle.node_model.specs.Headline.{Gives}
 use Rattle.node_model.specs.Meaning.{ActsBy, TendsBy, Rests}
 use Rattle.node_run.specs.Chain.{line_end_of, TicksAll, EndsWith, Lifted}
 use Rattle.node_run.proofs.Lines.{falls_any, falls_behind, falls_first, ends_of, ends_of_all}

@@ -15,7 +15,7 @@ use Rattle.line_proto.specs.Built.{IsLine, IsNoCommand}
 use Rattle.line_proto.specs.Stream.{IsOneLine, ended, line_end, FallInto}
 use Rattle.node_session.specs.Turns.{IsCommand, NamesNoCommand}
 use Rattle.node_session.specs.Session.{unended}
-use Rattle.node_model.specs.Headline.{rest_line}
+use Rattle.node_model.specs.Outside.{rest_line}
 use Rattle.node_run.specs.Chain.{line_end_of}
 
 -- a short line is handed on whole

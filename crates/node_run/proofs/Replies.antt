@@ -7,7 +7,7 @@ use Rattle.line_proto.specs.declared.reply.Reply.TheVariants as reply
 use Rattle.line_proto.specs.Lines.{reply_text}
 use Rattle.node_session.specs.Session.{unended}
 use Rattle.node_model.specs.Run.{Served, goes_on, halts, EndsOnce, is_halted, replies_of}
-use Rattle.node_model.specs.Headline.{is_bye, has_quit, written_text, rest_line}
+use Rattle.node_model.specs.Outside.{is_bye, has_quit, written_text, rest_line}
 
 abbrev pub AllGo : List Reply → Type 0
 AllGo rs = AllByRecursion (λ r. goes_on r ≡ true) rs

@@ -13,7 +13,8 @@ use Rattle.node_session.specs.Turns.{Times}
 use Rattle.node_session.specs.declared.ended.Ended.{Ended}
 use Rattle.node_session.specs.declared.ended.Ended.TheVariants.{Finish, Quit, SourceFault, SinkFault, Memory, Halted, Long}
 use Rattle.node_model.specs.Run.{Served, ServesAll, EndsOnce, node_after_line, node_after_lines, replies_of, times_of, states_of_lines, is_halted}
-use Rattle.node_model.specs.Headline.{IsFrontOf, TakesLines, Gives, has_quit, written_text}
+use Rattle.node_model.specs.Outside.{IsFrontOf, TakesLines, has_quit, written_text}
+use Rattle.node_model.specs.Headline.{Gives}
 use Rattle.node_model.specs.Meaning.{left_between, LeavesEach}
 
 -- what a line is taken up as, and a rest without LF

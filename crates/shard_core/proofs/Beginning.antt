@@ -45,7 +45,7 @@ pub record ShelfBegins {D : Type 0} (view : D → DiskView) (disk : D) (g : Geom
       → shelf.StandsFor setup new (start_state setup bodies)
   pub placed : (setup : Setup) (found : List Copy) → AllHave g (view disk).may_leave found → shelf.IsPlaced view new (entries_state setup found next)
   pub safe : IsHonest (view disk) → AreSure g (gate_at gates) → (setup : Setup) (image : List ℕ) (bodies : List Body) → IsSetupOf setup new → IsSound setup image bodies → IsOnly image (view disk).may_leave
-      → shelf.IsPlaced view new (start_state setup bodies) × shelf.IsSafe setup view new (start_state setup bodies)
+      → shelf.IsPlaced view new (start_state setup bodies) × shelf.ImagesHold setup view new (start_state setup bodies)
 
 module _ {D : Type 0} (view : D → DiskView) (disk : D) (g : Geometry) (gates : List Gate) (set : Settings) (finding : Finding) (count : length gates ≡ g.blocks) (sure : AllByRecursion IsSure gates)
     (digests : HaveOwnDigests finding.index.entries) (shard : ShardView D) (set_is : shard.set ≡ set) (index_is : shard.index ≡ finding.index.entries)

@@ -8,7 +8,7 @@ use Rattle.disk_model.specs.Runs.{OneOf, leaves_none, leaves_then, leaves_more}
 use Rattle.recovery.specs.Surviving.{Survives}
 use Rattle.kept_images.proofs.Held.{held_survives}
 use Rattle.block_shelf.specs.View.{ShelfView, records_of, gate_at}
-use Rattle.block_shelf.specs.Standing.{StandsFor, IsSafe, IsPlaced}
+use Rattle.block_shelf.specs.Standing.{StandsFor, ImagesHold, IsPlaced}
 use Rattle.block_shelf.specs.Calls.{Goes}
 
 -- ---- several steps
@@ -32,7 +32,7 @@ one_behind setup P [] then s image there = there
 one_behind setup P (step ∷ first) then s image there = inr (one_behind setup P first then (after_step setup step s) image there)
 
 -- a safe shelf's images survive its state
-pub safe_survives : {D : Type 0} (setup : Setup) (view : D → DiskView) (shelf : ShelfView D) (s : State) → IsSafe setup view shelf s → (image : List ℕ) → (view shelf.disk).may_leave image → Survives setup s image
+pub safe_survives : {D : Type 0} (setup : Setup) (view : D → DiskView) (shelf : ShelfView D) (s : State) → ImagesHold setup view shelf s → (image : List ℕ) → (view shelf.disk).may_leave image → Survives setup s image
 safe_survives setup view shelf s safe image here = held_survives setup shelf.geometry s (records_of shelf.buffers) (gate_at shelf.gates) (view shelf.disk).may_leave safe.held image here
 
 module _ {D : Type 0} (view : D → DiskView) (setup : Setup) where
@@ -51,7 +51,7 @@ module _ {D : Type 0} (view : D → DiskView) (setup : Setup) where
   goes_then first then old mid new s honest one two = record {
     stands = subst (λ (t : State). StandsFor setup new t) both two.stands;
     placed = λ was placed. subst (λ (t : State). IsPlaced view new t) both (two.placed (honest was) (one.placed was placed));
-    safe = λ was safe. subst (λ (t : State). IsSafe setup view new t) both (two.safe (honest was) (one.safe was safe));
+    safe = λ was safe. subst (λ (t : State). ImagesHold setup view new t) both (two.safe (honest was) (one.safe was safe));
     leaves = λ was safe. leaves_then
         (leaves_more (one_before setup (Survives setup) first then s) (one.leaves was safe))
         (leaves_more (one_behind setup (Survives setup) first then s) (two.leaves (honest was) (one.safe was safe)));

@@ -182,7 +182,7 @@ module _ {D : Type 0} (view : D → DiskView)
     counted = refl;
     stands = record { index = subst (λ (x : Setup). Lists x new.index (after_steps (setup_of old) steps s)) same lists; shelf = subst (λ (x : Setup). shelf.StandsFor x new.shelf (after_steps (setup_of old) steps s)) same goes.stands; queue = queue };
     placed = goes.placed;
-    safe = λ honest safe. record { placed = goes.placed honest safe.placed; safe = subst (λ (x : Setup). shelf.IsSafe x view new.shelf (after_steps (setup_of old) steps s)) same (goes.safe honest safe.safe) };
+    safe = λ honest safe. record { placed = goes.placed honest safe.placed; safe = subst (λ (x : Setup). shelf.ImagesHold x view new.shelf (after_steps (setup_of old) steps s)) same (goes.safe honest safe.safe) };
     leaves = λ honest safe. goes.leaves honest safe.safe;
   }
     where

@@ -206,9 +206,9 @@ module _ {D : Type 0} (view : D → DiskView) (digest : Digest) (v : Version) (p
         lists = lists_wrote setup s digest v shard.index index (copied digest v place) agrees.index holds refl (record { kind = refl; stamp = refl; void = refl; units = lies.0 }) refl takes.live;
         stands = takes.stands;
         placed = λ honest placed. takes.placed (over (λ x. IsHonest (view x.disk)) honest) (over (λ x. shelf.IsPlaced view x s) placed);
-        safe = λ honest may safe. takes.safe (over (λ x. IsHonest (view x.disk)) honest) may (over (λ x. shelf.IsSafe setup view x s) safe);
+        safe = λ honest may safe. takes.safe (over (λ x. IsHonest (view x.disk)) honest) may (over (λ x. shelf.ImagesHold setup view x s) safe);
         leaves = λ honest safe. subst (λ (x : ShelfView D). Leaves (OneOf (Survives setup) (states_through setup (wrote digest v ∷ []) s)) (view x.disk) (view new.disk)) (sym same)
-            (takes.leaves (over (λ x. IsHonest (view x.disk)) honest) (over (λ x. shelf.IsSafe setup view x s) safe));
+            (takes.leaves (over (λ x. IsHonest (view x.disk)) honest) (over (λ x. shelf.ImagesHold setup view x s) safe));
         buffer = filled.buffer;
         filling = filled.found;
         there = filled.block ∙ live_block lives;

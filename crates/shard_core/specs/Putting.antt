@@ -58,9 +58,9 @@ pub record Wrote {D : Type 0} (view : D → DiskView) (old : ShardView D) (s : S
   pub lists : Lists (setup_of old) new.index (after_step (setup_of old) (wrote digest v) s)
   pub stands : shelf.StandsFor (setup_of old) new.shelf (after_step (setup_of old) (wrote digest v) s)
   pub placed : IsHonest (view old.shelf.disk) → shelf.IsPlaced view old.shelf s → shelf.IsPlaced view new.shelf (after_step (setup_of old) (wrote digest v) s)
-  pub safe : IsHonest (view old.shelf.disk) → MayBeWritten (setup_of old) s digest v → shelf.IsSafe (setup_of old) view old.shelf s
-      → shelf.IsSafe (setup_of old) view new.shelf (after_step (setup_of old) (wrote digest v) s)
-  pub leaves : IsHonest (view old.shelf.disk) → shelf.IsSafe (setup_of old) view old.shelf s
+  pub safe : IsHonest (view old.shelf.disk) → MayBeWritten (setup_of old) s digest v → shelf.ImagesHold (setup_of old) view old.shelf s
+      → shelf.ImagesHold (setup_of old) view new.shelf (after_step (setup_of old) (wrote digest v) s)
+  pub leaves : IsHonest (view old.shelf.disk) → shelf.ImagesHold (setup_of old) view old.shelf s
       → Leaves (OneOf (Survives (setup_of old)) (states_through (setup_of old) (wrote digest v ∷ []) s)) (view old.shelf.disk) (view new.shelf.disk)
   pub buffer : Buffer
   pub filling : filling_buffer client (after_step (setup_of old) (wrote digest v) s).book.buffers ≡ Some buffer

@@ -37,4 +37,4 @@ pub record IsWhole {D : Type 0} (shard : ShardView D) : Type 0 where
 -- leave are held, also where a gate is unsure.
 pub record IsSafe {D : Type 0} (view : D → DiskView) (shard : ShardView D) (s : State) : Type 0 where
   pub placed : shelf.IsPlaced view shard.shelf s
-  pub safe : shelf.IsSafe (setup_of shard) view shard.shelf s
+  pub safe : shelf.ImagesHold (setup_of shard) view shard.shelf s

@@ -3,11 +3,11 @@
 pub struct Settings {
     /// Sprigs in each of the 4,096 partitions, 1 to 256.
     pub sprigs: u32,
-    /// The low-water mark of defragmentation in percent of a block, 0 to 99.
+    /// The low-water mark of defragmentation in percent of a block. It is 0 until blocks are vacated.
     pub lwm: u32,
     /// The most write buffers that may wait to be flushed, 4 to 64.
     pub pending: u32,
-    /// The blocks that the post-write queue keeps in memory, 0 to 64.
+    /// The blocks that the post-write queue keeps in memory. It is 0 until a device has one.
     pub cache: u32,
     /// A write is flushed before it is answered.
     pub commit: bool,

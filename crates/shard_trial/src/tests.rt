@@ -5,6 +5,7 @@ mod latest;
 mod lives_on;
 mod lone;
 mod refusals;
+mod rows;
 mod written;
 
 use block_format::Geometry;

@@ -27,22 +27,36 @@ struct Reached {
     answers: Answers,
 }
 
+/// The last of the first so many records that is of a digest.
+fn last_of(digest: Digest, count: usize) -> Option<Stored> {
+    let mut last = None;
+    for record in records().into_iter().take(count) {
+        if record.digest == digest {
+            last = Some(record);
+        }
+    }
+    last
+}
+
 /// Each digest shows the last of the first so many records that is its own.
 fn holds(lone: &mut Lone, count: usize) -> Result<bool, Fail> {
     for digest in [RISING, ONES] {
-        let mut last = put_of(digest, 1000, 1, b"");
-        let mut seen = false;
-        for record in records().into_iter().take(count) {
-            if record.digest == digest {
-                last = record;
-                seen = true;
-            }
-        }
-        if !lone.finds(&last, seen)? {
+        let holds = match last_of(digest, count) {
+            Some(last) => lone.finds(&last, true)?,
+            None => lone.finds(&put_of(digest, 1000, 1, b""), false)?,
+        };
+        if !holds {
             return Ok(false);
         }
     }
     Ok(true)
+}
+
+/// Puts the records from one number to another.
+fn put_all(rt: &impl Abort, lone: &mut Lone, from: usize, most: usize) {
+    for record in records().into_iter().take(most).skip(from) {
+        assert!(rt; lone.put(rt, &record.digest, record.payload) == Ok(record.stamp));
+    }
 }
 
 /// A run up to a number of flushes, over a new device of which a call fails where one is named. What was put is read all along.
@@ -60,10 +74,7 @@ fn run(
     let (mut put, mut flushed) = (0, 0);
     let mut answers = [Err(DiskFault); 3];
     for (number, most) in FLUSHES.into_iter().take(flushes).enumerate() {
-        for record in records().into_iter().take(most).skip(put) {
-            let answer = lone.put(rt, &record.digest, record.payload);
-            assert!(rt; answer == Ok(record.stamp));
-        }
+        put_all(rt, &mut lone, put, most);
         put = most;
         assert!(rt; holds(&mut lone, put)?, "{put} records");
         let answer = lone.flush();
@@ -100,8 +111,33 @@ fn assert_left(
     Ok(())
 }
 
+/// Asserts that each image of the moments of a run from one on has so many of the records, the last moment those that were flushed, and
+/// none more than were put. Answers how many images those are. Two writes that no sync came between are the same, so an image has all or
+/// none.
+fn assert_left_from(
+    rt: &impl Abort,
+    alloc: Global,
+    run: &Reached,
+    begun: u64,
+    flushed: usize,
+) -> Result<u64, Fail> {
+    let end = run.disk.moments();
+    let mut images: u64 = 0;
+    for moment in begun..end {
+        let least = if moment == end - 1 {
+            run.flushed
+        } else {
+            flushed
+        };
+        assert_left(rt, alloc, &run.disk, (moment, 0), (least, run.put))?;
+        assert_left(rt, alloc, &run.disk, (moment, u64::MAX), (least, run.put))?;
+        images = images.saturating_add(2);
+    }
+    Ok(images)
+}
+
 /// Asserts that each image of each moment of a run has what was flushed by then, and no more than was put. Answers how many images
-/// those are, and what the flushes answered. Two writes that no sync came between are the same, so an image has all or none.
+/// those are, and what the flushes answered.
 fn assert_left_throughout(
     rt: &impl Abort,
     alloc: Global,
@@ -112,20 +148,9 @@ fn assert_left_throughout(
     let mut images: u64 = 0;
     for flushes in 0..4 {
         let next = run(rt, alloc, Some(fault), flushes)?;
-        let end = next.disk.moments();
-        for moment in begun..end {
-            // The last moment of a flush that went well has what it flushed.
-            let least = if moment == end - 1 {
-                next.flushed
-            } else {
-                reached.flushed
-            };
-            for pick in [0, u64::MAX] {
-                assert_left(rt, alloc, &next.disk, (moment, pick), (least, next.put))?;
-                images = images.saturating_add(1);
-            }
-        }
-        begun = end;
+        let more = assert_left_from(rt, alloc, &next, begun, reached.flushed)?;
+        images = images.saturating_add(more);
+        begun = next.disk.moments();
         reached = next;
     }
     Ok((images, reached.answers))

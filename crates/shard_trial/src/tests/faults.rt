@@ -3,7 +3,7 @@ use super::*;
 use rec_format::Head;
 
 /// A device of 16 blocks without records, of which the calls of a kind with these numbers fail.
-fn failing(
+pub fn failing(
     rt: &impl Abort,
     alloc: Global,
     kind: DiskCall,
@@ -86,50 +86,4 @@ fn a_read_lies(rt: HostRuntime) -> Result<(), Fail> {
 }
 
 /// A payload with which a record takes 700 units.
-static LARGE: [u8; 11_152] = [7; 11_152];
-
-// Each record takes a block, and four wait at most. The first three writes fail, and with each of them a try to flush.
-#[test]
-fn too_many_buffers_wait(rt: HostRuntime) -> Result<(), Fail> {
-    let alloc = rt.alloc();
-    let mut lone = started(alloc, failing(&rt, alloc, DiskCall::Write, &[0, 1, 2])?)?;
-    for byte in 0..4 {
-        assert!(rt; lone.put(&rt, &numbered(byte), &LARGE) == Ok(stamp(1)));
-    }
-    for _ in 0..3 {
-        lone.tend();
-        let load = Err(WriteRefusal::Load { pending: 4 });
-        assert!(rt; lone.put(&rt, &numbered(4), &LARGE) == load);
-    }
-    lone.tend();
-    assert!(rt; lone.put(&rt, &numbered(4), &LARGE) == Ok(stamp(1)));
-    assert!(rt; lone.flush() == Ok(2));
-    let mut lone = started(alloc, lone.stop())?;
-    for byte in 0..5 {
-        assert!(rt;
-            lone.finds(&put_of(numbered(byte), 1000, 1, &LARGE), true)?,
-            "record {byte}"
-        );
-    }
-    Ok(())
-}
-
-// With commit on a put that goes well is in each image of now. Where the write of its gate fails it waits, and the next flush has it.
-#[test]
-fn a_put_is_committed(rt: HostRuntime) -> Result<(), Fail> {
-    let alloc = rt.alloc();
-    let hello = put_of(RISING, 1000, 1, b"hello");
-    for (failed, answer, flushed) in [(9, Ok(stamp(1)), 0), (1, Err(WriteRefusal::Fault), 1)] {
-        let disk = failing(&rt, alloc, DiskCall::Write, &[failed])?;
-        let mut lone = Lone::start(alloc, disk, true)?;
-        assert!(rt; lone.put(&rt, &RISING, b"hello") == answer);
-        assert!(rt; lone.finds(&hello, true)?);
-        assert!(rt; lone.flush() == Ok(flushed));
-        let disk = lone.stop();
-        for pick in [0, u64::MAX] {
-            let image = disk.image(disk.moments() - 1, pick)?;
-            assert!(rt; started(alloc, image)?.finds(&hello, true)?, "pick {pick}");
-        }
-    }
-    Ok(())
-}
+pub static LARGE: [u8; 11_152] = [7; 11_152];

@@ -4,4 +4,4 @@ use Rattle.hold_book.proofs.Laws.{HoldsBelow-without_buffer}
 use Rattle.hold_book.proofs.tests.release.Goals as goal
 
 pub returns : goal.returns
-returns c = subst (HoldsBelow 4) (sym c.release.ensures.holds) (HoldsBelow-without_buffer 4 c.args.book.now.holds c.args.buffer c.requires.before)
+returns c = subst (HoldsBelow 4) (sym c.release.ensures) (HoldsBelow-without_buffer 4 c.args.book.now.holds c.args.buffer c.requires.before)

@@ -34,7 +34,7 @@ invariant_of-self-in_default-shut_gate g c =
       subst (IsShelf d.view)
           (sym (same_parts old disk old.next_number c.reserve.new.self.items old.buffers _ (slice_set old.gates (first_block old.free) Unsure) c.rotate_left.new.self.items _ c.reserve.ensures.items (gates ∙ known ∙ ap (λ (k : ℕ). slice_set old.gates k Unsure) at) (c.rotate_left.ensures.items ∙ turned old.free)))
           (unclosed_shelf d.view law.is_disk old disk c.block-block.result is some at e.later e.honest e.was_honest e.images c.shut_gate.new.gates e.stands known),
-      record { frees = subst (λ (n : ℕ). c.self.inside.geometry.blocks ≤ n) (sym c.rotate_left.ensures.capacity) c.self.invariant.1.frees; each = c.self.invariant.1.each },
+      subst (λ (n : ℕ). c.self.inside.geometry.blocks ≤ n) (sym c.rotate_left.ensures.capacity) c.self.invariant.1,
     )
 
 pub returns-in_default-clause-goes : goal.returns-in_default-clause-goes
@@ -82,7 +82,7 @@ invariant_of-self-2 g c =
       subst (IsShelf d.view)
           (sym (same_parts old disk (old.next_number + 1) c.push_reserved.new.self.items _ _ (slice_set old.gates (first_block old.free) Shut) c.pop_front.new.self.items (drop 1 old.free) pushed (gates ∙ known ∙ ap (λ (k : ℕ). slice_set old.gates k Shut) at) c.pop_front.ensures.rest))
           (begun_shelf d.view (with_first_shut disk old) (shut_shelf d.view law.is_disk old disk c.block-block.result is some at e.later e.honest e.was_honest e.images c.shut_gate.new.gates e.stands known) number some shut),
-      record { frees = subst (λ (n : ℕ). c.self.inside.geometry.blocks ≤ n) (sym c.pop_front.ensures.capacity) c.self.invariant.1.frees; each = c.self.invariant.1.each },
+      subst (λ (n : ℕ). c.self.inside.geometry.blocks ≤ n) (sym c.pop_front.ensures.capacity) c.self.invariant.1,
     )
 
 pub returns-clause-whole : goal.returns-clause-whole

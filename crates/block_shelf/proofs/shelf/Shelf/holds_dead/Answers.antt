@@ -4,10 +4,10 @@ use Rattle.block_shelf.specs.Low.{HoldsDead}
 use Rattle.block_shelf.proofs.OverDead.{none_used}
 use Rattle.block_shelf.proofs.shelf.Shelf.holds_dead.Goals as goal
 
-pub returns-then-holds : goal.returns-then-holds
-returns-then-holds g c =
+pub returns-then-used-eq0 : goal.returns-then-used-eq0
+returns-then-used-eq0 g c =
     subst (λ (v : ShelfView g.row.D.Denot). HoldsDead v c.args.number) c.self.view_is (record {
-      block = c.loop-block.block;
-      held = sym c.holds.ensures ∙ c.if-holds.true;
-      dead = none_used _ (c.self.invariant.0.each c.loop-block.block).takes (sym c.used.ensures.value ∙ c.if-used-eq0.true);
+      block = c.in-Some.block;
+      held = c.in-Some.ensures.held;
+      dead = none_used _ (c.self.invariant.0.each c.in-Some.block).takes (sym c.used.ensures.value ∙ c.if-used-eq0.true);
     })
