@@ -17,7 +17,7 @@ use Rattle.kept_images.specs.Held.{HoldsGates, IsKeptLoosened}
 use Rattle.kept_images.proofs.Held.{held_survives, held_fewer, body_held, body_knows}
 use Rattle.kept_images.proofs.Knowing.{knows_fewer}
 use Rattle.kept_images.proofs.Parts.{body_changes}
-use Rattle.block_shelf.specs.View.{ShelfView, IsShelf, is_unsealed, is_written, is_begun, records_of, gate_at}
+use Rattle.block_shelf.specs.View.{ShelfView, IsShelf, is_unsealed, is_written, has_begun, records_of, gate_at}
 use Rattle.block_shelf.specs.Standing.{StandsFor, ImagesHold, book_phase}
 use Rattle.block_shelf.specs.Calls.{Goes}
 use Rattle.block_shelf.proofs.FlushShelf.{KeepsDisk, now_within, written, written_shelf, still_stands, still_placed}
@@ -35,7 +35,7 @@ module _ {D : Type 0} (view : D → DiskView) (shelf : ShelfView D) (disk : D) (
   away honest = body_changes shelf.geometry b.block is.geometry (view shelf.disk).may_leave since (torn honest)
 
   is_shut : gate_at shelf.gates b.block ≡ Shut
-  is_shut = is.waits.0 (ap is_begun sealed)
+  is_shut = is.waits.0 (ap has_begun sealed)
 
   pub body_shelf : (p : Phase) → is_unsealed p ≡ false → (IsHonest (view disk) → is_written p ≡ true → HasOneBody shelf.geometry b.block (bytes_of b) (view disk).may_leave) → IsShelf view (written view shelf disk b rest p shelf.gates)
   body_shelf p unfilled body =

@@ -1,7 +1,7 @@
 -- The live copies of a shelf as one of them goes.
 use Rattle.std.proofs.Common.{◌≡◌, ◌≢◌, ◌⊎◌, inl, inr, ⊎_elim, ℕ, ◌+◌, ◌<◌, ◌≤◌, Bool, true, false, not, cond, List, [], ◌∷◌, length, refl, sym, ◌∙◌, ap, subst, arith}
 use Rattle.std.specs.Prelude.{Some, None, Contains, ◌==◌}
-use Rattle.std.proofs.lemmas.Bool.{cases_eq, eq-eqb, ne_eqb, both_ways, not-true}
+use Rattle.std.proofs.lemmas.Bool.{cases_eq, cond-true, eq-eqb, eqb-true, ne_eqb, both_ways, not-true}
 use Rattle.std.proofs.lemmas.List.{get_or-set_same, get_or-set_other}
 use Rattle.std.proofs.lemmas.List.Filters.{sum_by-filter_both}
 use Rattle.recovery.proofs.Growing.{all_from, all_at, cons_cases}
@@ -21,6 +21,25 @@ pub roll_there : (block k : ℕ) (roll : BlockRoll) (rolls : List BlockRoll) →
 roll_there block k roll rolls other = ap (λ (r : BlockRoll). r.copies) (get_or-set_other rolls block k roll empty_roll other)
 
 -- ---- copies that begin at units of their own
+
+-- the copy that begins at a unit is the one that is there
+pub copy_found : (copies : List LiveCopy) (c : LiveCopy) → HaveOwnUnits copies → Contains copies c → copy_at c.unit copies ≡ Some c
+copy_found [] c own there = absurd (omega (arith, there.1))
+copy_found (x ∷ copies) c own there = ⊎_elim here (λ rest. behind rest (copy_found copies c own.1 rest)) (cons_cases x copies c there)
+  where
+    here : x ≡ c → copy_at c.unit (x ∷ copies) ≡ Some c
+    here same = subst (λ (y : LiveCopy). copy_at y.unit (x ∷ copies) ≡ Some y) same (cond-true (x.unit == x.unit) (Some x) (copy_at x.unit copies) (eq-eqb x.unit x.unit refl))
+
+    behind : Contains copies c → copy_at c.unit copies ≡ Some c → copy_at c.unit (x ∷ copies) ≡ Some c
+    behind rest later = by (x.unit == c.unit) refl later
+      where
+        by : (b : Bool) → (x.unit == c.unit) ≡ b → copy_at c.unit copies ≡ Some c → cond b (Some x) (copy_at c.unit copies) ≡ Some c
+        by false other found = found
+        by true same found =
+            let one : x.unit ≡ c.unit = eqb-true x.unit c.unit same in
+            let none : copy_at c.unit copies ≡ None = subst (λ (n : ℕ). copy_at n copies ≡ None) one own.0 in
+            let clash : Some c ≡ None = sym found ∙ none in
+            absurd (cc)
 
 none_at_unit : (unit : ℕ) (cs : List LiveCopy) → copy_at unit cs ≡ None → (c : LiveCopy) → Contains cs c → c.unit ≢ unit
 none_at_unit unit [] none c there at = absurd (omega (arith, there.1))

@@ -1,8 +1,8 @@
 -- The places of the live copies of some digests, and what the calls of a shelf leave of them.
 use Rattle.std.proofs.Common.{◌≡◌, ◌≢◌, ⊎_elim, ℕ, ◌<◌, Bool, true, false, cond, ◌&&◌, List, [], ◌∷◌, length, set, refl, sym, ◌∙◌, ap, subst, arith}
-use Rattle.std.specs.Prelude.{Option, Some, None, Result, Ok, Err, IsSomeAnd, Contains, ◌==◌, is_some, nat_le, slice_index_or}
+use Rattle.std.specs.Prelude.{Option, Some, None, Result, Ok, Err, IsSomeAnd, ◌==◌, is_some, nat_le, slice_index_or}
 use Rattle.std.specs.List.{AllByRecursion}
-use Rattle.std.proofs.lemmas.Bool.{cond-true, cond-false, eq-eqb, eqb-true, eqb-false, cases_lt}
+use Rattle.std.proofs.lemmas.Bool.{cond-false, eqb-true, eqb-false, cases_lt}
 use Rattle.std.proofs.lemmas.List.{get_or-replicate, get_or_past, get_or-set_same, get_or-set_other}
 use Rattle.std.proofs.lemmas.List.Elements.{Contains-get_or}
 use Rattle.rec_format.specs.declared.version.Digest.{Digest}
@@ -17,11 +17,11 @@ use Rattle.device_model.specs.Device.{State}
 use Rattle.device_model.specs.Steps.{Step, wrote, sealed_stream, gate_begun, flushed_buffer, closing_failed, after_step, after_steps}
 use Rattle.device_model.specs.Legal.{seal_if, seal_all, seal_low, flush_of, first_sealed, flush_first}
 use Rattle.recovery.specs.Start.{entries_state}
-use Rattle.recovery.proofs.Growing.{all_at, cons_cases}
+use Rattle.recovery.proofs.Growing.{all_at}
 use Rattle.recovery.proofs.Opening.{all_joined, all_parted}
 use Rattle.kept_trail.proofs.Books.{live_there, others_live}
 use Rattle.unit_ledger.specs.declared.roll.LiveCopy.{LiveCopy}
-use Rattle.unit_ledger.specs.Rolls.{copies_in, copy_at, HaveOwnUnits}
+use Rattle.unit_ledger.specs.Rolls.{copies_in}
 use Rattle.block_shelf.specs.declared.place.Place.{Place}
 use Rattle.block_shelf.specs.declared.refusals.PutRefusal.{PutRefusal}
 use Rattle.block_shelf.specs.declared.refusals.PutRefusal.TheVariants as put
@@ -29,7 +29,8 @@ use Rattle.block_shelf.specs.View.{ShelfView, IsShelf, IsSetupOf, SameShape}
 use Rattle.block_shelf.specs.Standing.{StandsFor}
 use Rattle.block_shelf.specs.Flushes.{FlushMakes}
 use Rattle.block_shelf.specs.Calls.{IsPriorIn, Goes, copy_live, prior_live}
-use Rattle.block_shelf.specs.Appends.{Takes, refused_steps}
+use Rattle.block_shelf.specs.Appends.{TakesIn, refused_steps}
+use Rattle.block_shelf.proofs.Rolls.{copy_found}
 use Rattle.block_shelf.specs.Trials.{KeepsPlaces, IsNewShelf, numbered}
 
 -- ---- steps that leave all copies live
@@ -118,25 +119,6 @@ other_live setup s digest v e other =
 
 -- ---- the copy before is live
 
--- the copy that begins at a unit is the one that is there
-copy_found : (copies : List LiveCopy) (c : LiveCopy) → HaveOwnUnits copies → Contains copies c → copy_at c.unit copies ≡ Some c
-copy_found [] c own there = absurd (omega (arith, there.1))
-copy_found (x ∷ copies) c own there = ⊎_elim here (λ rest. behind rest (copy_found copies c own.1 rest)) (cons_cases x copies c there)
-  where
-    here : x ≡ c → copy_at c.unit (x ∷ copies) ≡ Some c
-    here same = subst (λ (y : LiveCopy). copy_at y.unit (x ∷ copies) ≡ Some y) same (cond-true (x.unit == x.unit) (Some x) (copy_at x.unit copies) (eq-eqb x.unit x.unit refl))
-
-    behind : Contains copies c → copy_at c.unit copies ≡ Some c → copy_at c.unit (x ∷ copies) ≡ Some c
-    behind rest later = by (x.unit == c.unit) refl later
-      where
-        by : (b : Bool) → (x.unit == c.unit) ≡ b → copy_at c.unit copies ≡ Some c → cond b (Some x) (copy_at c.unit copies) ≡ Some c
-        by false other found = found
-        by true same found =
-            let one : x.unit ≡ c.unit = eqb-true x.unit c.unit same in
-            let none : copy_at c.unit copies ≡ None = subst (λ (n : ℕ). copy_at n copies ≡ None) one own.0 in
-            let clash : Some c ≡ None = sym found ∙ none in
-            absurd (cc)
-
 prior_in : {D : Type 0} (view : D → DiskView) (setup : Setup) (shelf : ShelfView D) (s : State) → IsShelf view shelf → StandsFor setup shelf s
     → (digest : Digest) (prior : Option Place) → live_of digest s.book.live ≡ prior_live digest prior → IsPriorIn shelf prior
 prior_in view setup shelf s is stands digest None live = tt
@@ -182,7 +164,7 @@ module _ {D : Type 0} (view : D → DiskView) (named : ℕ → Digest) (old new 
     after = after_step keeps.setup (wrote (named at) v) keeps.state
 
     -- after a write of a digest, whose copy is at this place then
-    kept_put : at < length places → Takes view keeps.setup (named at) v old keeps.state new place → KeepsPlaces named new (set places at (Some place))
+    kept_put : at < length places → TakesIn view keeps.setup (named at) v old keeps.state new place → KeepsPlaces named new (set places at (Some place))
     kept_put within takes = record {
       setup = keeps.setup;
       state = after;
@@ -201,12 +183,12 @@ module _ {D : Type 0} (view : D → DiskView) (named : ℕ → Digest) (old new 
 
     -- so it is where the digest and the place before are said otherwise
     pub kept_written : (digest : Digest) (prior : Option Place) → digest ≡ named at → prior ≡ slice_index_or places at None → at < length places
-        → ((setup : Setup) (s : State) → IsSetupOf setup old → StandsFor setup old s → live_of digest s.book.live ≡ prior_live digest prior → Takes view setup digest v old s new place)
+        → ((setup : Setup) (s : State) → IsSetupOf setup old → StandsFor setup old s → live_of digest s.book.live ≡ prior_live digest prior → TakesIn view setup digest v old s new place)
         → KeepsPlaces named new (set places at (Some place))
     kept_written digest prior is_digest is_prior within takes =
         let live : live_of digest keeps.state.book.live ≡ prior_live digest prior =
         ap (λ (d : Digest). live_of d keeps.state.book.live) is_digest ∙ keeps.live at ∙ (λ i. prior_live (sym is_digest i) (sym is_prior i)) in
-        kept_put within (subst (λ (d : Digest). Takes view keeps.setup d v old keeps.state new place) is_digest (takes keeps.setup keeps.state keeps.is_setup keeps.stands live))
+        kept_put within (subst (λ (d : Digest). TakesIn view keeps.setup d v old keeps.state new place) is_digest (takes keeps.setup keeps.state keeps.is_setup keeps.stands live))
 
 -- the digests of a trial
 pub numbered_apart : (j k : ℕ) → j ≢ k → same_digest (numbered j) (numbered k) ≡ false

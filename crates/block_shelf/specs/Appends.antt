@@ -43,13 +43,13 @@ append_refusal setup kind units book =
     first_cause (if nat_lt setup.capacity units then Some (too_big units setup.capacity) else None) (no_place setup client (kept_free kind) units book)
 
 -- Each cause of the state is told with its numbers. Want of memory is free, and a fault comes only where none of them stands.
-abbrev pub IsRefusedFor : Option Cause → PutRefusal → Type 0
-IsRefusedFor cause (put.Big units capacity) = cause ≡ Some (too_big units capacity)
-IsRefusedFor cause put.Spent = cause ≡ Some spent
-IsRefusedFor cause (put.Load pending) = cause ≡ Some (overload pending)
-IsRefusedFor cause (put.Space free) = cause ≡ Some (no_space free)
-IsRefusedFor cause put.Memory = Unit {0}
-IsRefusedFor cause put.Fault = cause ≡ None
+abbrev pub IsAppendRefusal : Option Cause → PutRefusal → Type 0
+IsAppendRefusal cause (put.Big units capacity) = cause ≡ Some (too_big units capacity)
+IsAppendRefusal cause put.Spent = cause ≡ Some spent
+IsAppendRefusal cause (put.Load pending) = cause ≡ Some (overload pending)
+IsAppendRefusal cause (put.Space free) = cause ≡ Some (no_space free)
+IsAppendRefusal cause put.Memory = Unit {0}
+IsAppendRefusal cause put.Fault = cause ≡ None
 
 -- ---- what is left
 
@@ -67,13 +67,13 @@ ready_for new old = record (with_first_shut new.disk old) { rolls = new.rolls; h
 
 -- Nothing has changed, but for memory that was taken where more was wanting. After a fault the first free block, whose gate wasn't
 -- known to be shut, is at the back of the free ones with an unsure gate, and nothing else has changed.
-abbrev pub IsLeft : {D : Type 0} → (old new : ShelfView D) → PutRefusal → Type 0
-IsLeft old new (put.Big units capacity) = new ≡ old
-IsLeft old new put.Spent = new ≡ old
-IsLeft old new (put.Load pending) = new ≡ old
-IsLeft old new (put.Space free) = new ≡ old
-IsLeft old new put.Memory = SameButRoom old new
-IsLeft old new put.Fault = (gate_at old.gates (first_block old.free) ≢ Shut) × SameButRoom (with_first_unclosed new.disk old) new
+abbrev pub IsLeftBy : {D : Type 0} → (old new : ShelfView D) → PutRefusal → Type 0
+IsLeftBy old new (put.Big units capacity) = new ≡ old
+IsLeftBy old new put.Spent = new ≡ old
+IsLeftBy old new (put.Load pending) = new ≡ old
+IsLeftBy old new (put.Space free) = new ≡ old
+IsLeftBy old new put.Memory = SameButRoom old new
+IsLeftBy old new put.Fault = (gate_at old.gates (first_block old.free) ≢ Shut) × SameButRoom (with_first_unclosed new.disk old) new
 
 -- no step but after a fault
 abbrev pub refused_steps : PutRefusal → List Step
@@ -97,7 +97,7 @@ IsWithout None number old new = new ≡ old
 IsWithout (Some place) number old new = (new ≡ record (without_copy place old) { holds = new.holds }) × (new.holds.holds ≡ with_pair old.holds.holds number place.block)
 
 -- The copy before goes, and a record comes into the last buffer and is live there. This is where it lies.
-pub record IsPut {D : Type 0} (digest : Digest) (v : Version) (prior : Option Place) (front : List BufferState) (last : BufferState) (old new : ShelfView D) (place : Place) : Type 0 where
+pub record PutsCopy {D : Type 0} (digest : Digest) (v : Version) (prior : Option Place) (front : List BufferState) (last : BufferState) (old new : ShelfView D) (place : Place) : Type 0 where
   pub without : ShelfView D
   pub gone : IsWithout prior last.number old without
   pub written : new ≡ with_written digest v front last without
@@ -106,7 +106,7 @@ pub record IsPut {D : Type 0} (digest : Digest) (v : Version) (prior : Option Pl
 -- A copy of a version comes to a shelf that stood for a state: it stands for the state after the write, in which the copy at this place is
 -- live. Over an honest disk live copies stay where they are. Where its image was sound, each image that a crash meanwhile might have left
 -- survives one of the two states, and what is held stays so if the version may be written.
-pub record Takes {D : Type 0} (view : D → DiskView) (setup : Setup) (digest : Digest) (v : Version) (old : ShelfView D) (s : State) (new : ShelfView D) (place : Place) : Type 0 where
+pub record TakesIn {D : Type 0} (view : D → DiskView) (setup : Setup) (digest : Digest) (v : Version) (old : ShelfView D) (s : State) (new : ShelfView D) (place : Place) : Type 0 where
   pub live : live_of digest (after_step setup (wrote digest v) s).book.live ≡ Some (copy_live digest place)
   pub stands : StandsFor setup new (after_step setup (wrote digest v) s)
   pub placed : IsHonest (view old.disk) → IsPlaced view old s → IsPlaced view new (after_step setup (wrote digest v) s)

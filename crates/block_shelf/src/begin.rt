@@ -13,7 +13,7 @@ ghost use Rattle.block_shelf.specs.Disks.{IsLater};
 ghost use Rattle.block_shelf.specs.Standing.{StandsFor};
 ghost use Rattle.block_shelf.specs.Calls.{Goes};
 ghost use Rattle.block_shelf.specs.Changes.{SameButRoom, begin_refusal, begun_buffer, with_begun};
-ghost use Rattle.block_shelf.specs.Appends.{kept_free, IsRefusedFor, IsLeft, refused_steps, ready_for, with_first_shut};
+ghost use Rattle.block_shelf.specs.Appends.{kept_free, IsAppendRefusal, IsLeftBy, refused_steps, ready_for, with_first_shut};
 
 use crate::close::shut_gate;
 use crate::seal::seal_each;
@@ -29,13 +29,13 @@ impl<D: Disk> Shelf<D> {
     // its place in the list, for a live copy in its block, and for a hold. A gate that isn't known to be shut is closed first; where that
     // fails the block goes to the back of the free ones.
     pub(crate) fn begin(&mut self, alloc: Global, class: Class) -> Result<(), PutRefusal>
-        ensures refusal { MatchResult result (λ done. begin_refusal (kept_free class) self.old ≡ None) (IsRefusedFor (begin_refusal (kept_free class) self.old)) }
+        ensures refusal { MatchResult result (λ done. begin_refusal (kept_free class) self.old ≡ None) (IsAppendRefusal (begin_refusal (kept_free class) self.old)) }
         ensures begun { OnOk result (self.new ≡ with_begun (ready_for self.new self.old)) }
         ensures ready { OnOk result (SameButRoom (with_first_shut self.new.disk self.old) (ready_for self.new self.old)) }
         ensures whole { OnOk result (IsShelf D.view (ready_for self.new self.old)) }
         ensures space { OnOk result (1 ≤ spare_of (first_block self.old.free) self.new.rolls) }
         ensures hold { OnOk result (1 ≤ self.new.holds.spare) }
-        ensures refused { IfErr result (IsLeft self.old self.new) }
+        ensures refused { IfErr result (IsLeftBy self.old self.new) }
         ensures goes { (setup : Setup) (s : State) → StandsFor setup self.old s → MatchResult result
             (λ done. Goes D.view setup [] self.old s (ready_for self.new self.old))
             (λ refusal. Goes D.view setup (refused_steps refusal) self.old s self.new) }
@@ -57,7 +57,7 @@ impl<D: Disk> Shelf<D> {
 
     // Whether a buffer may begin for a copy of this class, or why not.
     fn may_begin(&self, class: Class) -> Result<(), PutRefusal>
-        ensures refusal { MatchResult result (λ done. begin_refusal (kept_free class) self.now ≡ None) (IsRefusedFor (begin_refusal (kept_free class) self.now)) }
+        ensures refusal { MatchResult result (λ done. begin_refusal (kept_free class) self.now ≡ None) (IsAppendRefusal (begin_refusal (kept_free class) self.now)) }
         ensures unfailed { result ≢ Err PutRefusal.Fault }
         ensures whole { IsShelf D.view self.now }
     {
@@ -83,8 +83,8 @@ impl<D: Disk> Shelf<D> {
         requires some { 0 < length self.old.free }
         ensures begun { OnOk result (self.new ≡ with_begun (with_first_shut self.new.disk self.old)) }
         ensures whole { OnOk result (IsShelf D.view (with_first_shut self.new.disk self.old)) }
-        ensures refusal { IfErr result (IsRefusedFor None) }
-        ensures refused { IfErr result (IsLeft self.old self.new) }
+        ensures refusal { IfErr result (IsAppendRefusal None) }
+        ensures refused { IfErr result (IsLeftBy self.old self.new) }
         ensures goes { (setup : Setup) (s : State) → StandsFor setup self.old s → MatchResult result
             (λ done. Goes D.view setup [] self.old s (with_first_shut self.new.disk self.old))
             (λ refusal. Goes D.view setup (refused_steps refusal) self.old s self.new) }

@@ -18,8 +18,8 @@ pub record SinkState : Type 0 where
   pub starved : ℕ
 
 -- the bytes of a history
-abbrev pub bytes_of : List (ℕ × Unit {0}) → List ℕ
-bytes_of pairs = map (λ pair. pair.0) pairs
+abbrev pub logged_bytes : List (ℕ × Unit {0}) → List ℕ
+logged_bytes pairs = map (λ pair. pair.0) pairs
 
 -- What is seen of the standard input: the bytes taken, and how many reads failed.
 pub record InputState : Type 0 where

@@ -1,7 +1,7 @@
 // The standard streams as a source and a sink. Which bytes went through them is kept for clauses alone, in histories that take no
 // memory. No clause tells what the input holds, or what becomes of the output.
 ghost use Rattle.std.specs.Prelude.{◌≡◌, [], ◌++◌, None, Some};
-ghost use Rattle.io_traits.specs.Memory.{bytes_of};
+ghost use Rattle.io_traits.specs.Memory.{logged_bytes};
 
 use crate::{Ends, Sink, SinkFault, Source, SourceFault};
 use http_server::Log;
@@ -18,11 +18,11 @@ pub struct StandardInput {
 }
 
 impl Model for StandardInput {
-    ghost use Rattle.io_traits.specs.Memory.{InputState, bytes_of};
+    ghost use Rattle.io_traits.specs.Memory.{InputState, logged_bytes};
 
     ghost Value = { InputState };
 
-    ghost view = { λ s. record { gone = bytes_of s.gone.items; faults = s.faults } };
+    ghost view = { λ s. record { gone = logged_bytes s.gone.items; faults = s.faults } };
 }
 
 impl StandardInput {
@@ -51,7 +51,7 @@ impl Ends for StandardInput {
 
 // The history goes on with these bytes.
 fn remember(past: &mut Log<u8, ()>, piece: &[u8])
-    ensures { bytes_of past.new.items ≡ bytes_of past.old.items ++ piece.now }
+    ensures { logged_bytes past.new.items ≡ logged_bytes past.old.items ++ piece.now }
 {
     for byte in piece {
         *past = past.and(byte, &());
@@ -78,11 +78,11 @@ pub struct StandardOutput {
 }
 
 impl Model for StandardOutput {
-    ghost use Rattle.io_traits.specs.Memory.{OutputState, bytes_of};
+    ghost use Rattle.io_traits.specs.Memory.{OutputState, logged_bytes};
 
     ghost Value = { OutputState };
 
-    ghost view = { λ s. record { written = bytes_of s.written.items; faults = s.faults } };
+    ghost view = { λ s. record { written = logged_bytes s.written.items; faults = s.faults } };
 }
 
 impl StandardOutput {

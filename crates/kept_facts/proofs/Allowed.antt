@@ -2,7 +2,7 @@
 use Rattle.std.proofs.Common.{◌≡◌, ◌⊎◌, inl, inr, ⊎_elim, ℕ, Bool, true, false, cond, ◌&&◌, List, [], ◌∷◌, ◌++◌, map, ◌+◌, ◌<◌, refl, sym, ◌∙◌, ap, subst}
 use Rattle.std.specs.Prelude.{Option, Some, None, MatchBool, MatchOption, ◌==◌, flat_map, filter, nat_le, length}
 use Rattle.std.specs.List.{AllByRecursion, list_any}
-use Rattle.std.proofs.lemmas.Bool.{and_parts, eqb-true, false≢true}
+use Rattle.std.proofs.lemmas.Bool.{and_parts, false≢true}
 use Rattle.std.proofs.lemmas.Map.Views.{Contains-from_any}
 use Rattle.rec_format.specs.declared.version.Digest.{Digest}
 use Rattle.rec_format.specs.declared.version.Stamp.{Stamp}
@@ -16,6 +16,7 @@ use Rattle.device_model.specs.Steps.{Step, wrote, moved, removed, rid_of, uncove
 use Rattle.device_model.specs.Events.{Call, put_call, bury_call, delete_call, expire_call, get_call, flush_call, flush_sealed_call, flush_next_call, choose_call, move_call, begin_call, turn_call, Cause, Answer, stamp_given, happened, raid_numbered, refused, stale, Event}
 use Rattle.device_model.specs.Legal
 use Rattle.rec_format.proofs.Laws.{same_digest_is}
+use Rattle.recovery.proofs.Turns.{same_turn_is}
 use Rattle.recovery.proofs.Each.{all_map}
 use Rattle.recovery.proofs.Growing.{all_from, same_not_later}
 use Rattle.recovery.proofs.Members.{filter_from}
@@ -190,33 +191,6 @@ removes setup s possible event digest now facts ends = by (entry_is_covered s di
     by false is ends = subst (MayTakeAll setup s possible 0) (sym ends.1) (is, tt)
 
 -- ---- raids
-
-same_turn_is : (a b : Turn) → Legal.same_turn a b ≡ true → b ≡ a
-same_turn_is (mark_turn p) (mark_turn q) e = ap mark_turn (sym (eqb-true p q e))
-same_turn_is (scan_turn p) (scan_turn q) e = ap scan_turn (sym (eqb-true p q e))
-same_turn_is (apply_turn p) (apply_turn q) e = ap apply_turn (sym (eqb-true p q e))
-same_turn_is (drop_turn p) (drop_turn q) e = ap drop_turn (sym (eqb-true p q e))
-same_turn_is finished finished e = refl
-same_turn_is (mark_turn p) (scan_turn q) e = absurd (false≢true e)
-same_turn_is (mark_turn p) (apply_turn q) e = absurd (false≢true e)
-same_turn_is (mark_turn p) (drop_turn q) e = absurd (false≢true e)
-same_turn_is (mark_turn p) finished e = absurd (false≢true e)
-same_turn_is (scan_turn p) (mark_turn q) e = absurd (false≢true e)
-same_turn_is (scan_turn p) (apply_turn q) e = absurd (false≢true e)
-same_turn_is (scan_turn p) (drop_turn q) e = absurd (false≢true e)
-same_turn_is (scan_turn p) finished e = absurd (false≢true e)
-same_turn_is (apply_turn p) (mark_turn q) e = absurd (false≢true e)
-same_turn_is (apply_turn p) (scan_turn q) e = absurd (false≢true e)
-same_turn_is (apply_turn p) (drop_turn q) e = absurd (false≢true e)
-same_turn_is (apply_turn p) finished e = absurd (false≢true e)
-same_turn_is (drop_turn p) (mark_turn q) e = absurd (false≢true e)
-same_turn_is (drop_turn p) (scan_turn q) e = absurd (false≢true e)
-same_turn_is (drop_turn p) (apply_turn q) e = absurd (false≢true e)
-same_turn_is (drop_turn p) finished e = absurd (false≢true e)
-same_turn_is finished (mark_turn q) e = absurd (false≢true e)
-same_turn_is finished (scan_turn q) e = absurd (false≢true e)
-same_turn_is finished (apply_turn q) e = absurd (false≢true e)
-same_turn_is finished (drop_turn q) e = absurd (false≢true e)
 
 -- behind a removal by the raid, or a cleared flag, still no possible copy is older than an entry
 still_none : (s : State) (possible : Possible) (digest : Digest) (item : Item) (book : Book) → ((e : Version) → top_of (item ∷ history s digest) ≡ Some e → entry s digest ≡ Some e)

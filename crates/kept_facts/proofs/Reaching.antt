@@ -18,7 +18,7 @@ use Rattle.recovery.proofs.ColdOrder.{later_one_way, no_later_itself}
 use Rattle.recovery.proofs.Growing.{all_at, all_from, cons_cases}
 use Rattle.recovery.proofs.HeldStart.{start_reflects}
 use Rattle.recovery.proofs.Members.{first_there, rest_there}
-use Rattle.kept_facts.specs.Facts.{Possible, HasFacts, copies_in}
+use Rattle.kept_facts.specs.Facts.{Possible, HasFacts, copies_among}
 use Rattle.kept_facts.specs.Reaching.{ReachesFlushed, IsLeft}
 use Rattle.kept_facts.proofs.Starting.{start_facts}
 
@@ -82,7 +82,7 @@ held_left setup s possible image bodies facts may_come h = record {
 }
 
 -- so is the image that a start was made from
-pub start_left : (setup : Setup) (image : List ℕ) (bodies : List Body) → IsSound setup image bodies → IsLeft setup (start_state setup bodies) (copies_in bodies) image bodies
+pub start_left : (setup : Setup) (image : List ℕ) (bodies : List Body) → IsSound setup image bodies → IsLeft setup (start_state setup bodies) (copies_among bodies) image bodies
 start_left setup image bodies sound =
-    held_left setup (start_state setup bodies) (copies_in bodies) image bodies (start_facts setup image bodies sound)
-    (all_from (λ c. copies_in bodies c.block c.digest c.version) (copies_of bodies) (λ c there. (c, there, refl, refl, refl))) (start_reflects setup image bodies sound)
+    held_left setup (start_state setup bodies) (copies_among bodies) image bodies (start_facts setup image bodies sound)
+    (all_from (λ c. copies_among bodies c.block c.digest c.version) (copies_of bodies) (λ c there. (c, there, refl, refl, refl))) (start_reflects setup image bodies sound)

@@ -18,7 +18,7 @@ use Rattle.recovery.proofs.Growing.{all_at, cons_cases, same_not_later}
 use Rattle.recovery.proofs.Held.{IsNewest, latest_is, none_latest}
 use Rattle.recovery.proofs.Members.{first_there, rest_there, filter_there, filter_from}
 use Rattle.kept_facts.specs.Guarded.{standing_writes, IsNeeded, IsGuarded}
-use Rattle.kept_facts.specs.Facts.{Possible, somewhere, HasFacts, IsInTurn, copies_in}
+use Rattle.kept_facts.specs.Facts.{Possible, somewhere, HasFacts, IsInTurn, copies_among}
 use Rattle.kept_facts.proofs.Starting.{copies_within, read_written}
 
 -- ---- the back of a history
@@ -160,12 +160,12 @@ unread_guarded items lost kept P Q g parts none = record {
 -- ---- the whole device
 
 module _ (setup : Setup) (s new : State) (image : List ℕ) (possible : Possible) (facts : HasFacts setup s possible) (r : Restarts setup s image new)
-    (read : (block : ℕ) (digest : Digest) (v : Version) → copies_in r.bodies block digest v → possible block digest v) where
+    (read : (block : ℕ) (digest : Digest) (v : Version) → copies_among r.bodies block digest v → possible block digest v) where
   abbrev copies : List Copy
   copies = copies_of r.bodies
 
   abbrev Q : Digest → Version → Type 0
-  Q digest v = somewhere (copies_in r.bodies) digest v
+  Q digest v = somewhere (copies_among r.bodies) digest v
 
   fewer : (digest : Digest) (v : Version) → Q digest v → somewhere possible digest v
   fewer digest v q = (q.0, read q.0 digest v q.1)
@@ -194,7 +194,7 @@ module _ (setup : Setup) (s new : State) (image : List ℕ) (possible : Possible
       (λ one. ap (λ (x : Version). x.cover) ((is_version digest c.version q).tombstone one))
 
   -- the facts hold, if the copies that were read were possible
-  pub restart_facts : HasFacts setup new (copies_in r.bodies)
+  pub restart_facts : HasFacts setup new (copies_among r.bodies)
   restart_facts = record {
     guarded = λ digest. subst (λ (l : List Item). IsGuarded l (Q digest)) (sym (r.kept digest).2) (guarded_at digest (latest (copies_named digest copies)) refl (latest_is (copies_named digest copies)));
     own = λ digest v there.

@@ -17,7 +17,7 @@ use Rattle.recovery.proofs.ColdOrder.{later_one_way, no_later_itself}
 use Rattle.recovery.proofs.Growing.{all_at, all_from, cons_cases}
 use Rattle.recovery.proofs.Held.{IsNewest, latest_is}
 use Rattle.recovery.proofs.Members.{first_there, rest_there, map_there}
-use Rattle.kept_facts.specs.Facts.{Possible, HasFacts, copies_in}
+use Rattle.kept_facts.specs.Facts.{Possible, HasFacts, copies_among}
 use Rattle.kept_facts.specs.Reaching.{ReachesFlushed, IsLeft}
 use Rattle.kept_facts.proofs.Reaching.{flushed_written}
 use Rattle.kept_facts.proofs.Restarting.{restart_facts}
@@ -59,8 +59,8 @@ nothing_durable p q (rid ∷ older) ends shown durable = false≢true ends
 nothing_durable p q (cleared ∷ older) ends shown durable = false≢true ends
 
 module _ (setup : Setup) (s new : State) (image : List ℕ) (possible : Possible) (facts : HasFacts setup s possible) (r : Restarts setup s image new)
-    (read : (block : ℕ) (digest : Digest) (v : Version) → copies_in r.bodies block digest v → possible block digest v) where
-  after : HasFacts setup new (copies_in r.bodies)
+    (read : (block : ℕ) (digest : Digest) (v : Version) → copies_among r.bodies block digest v → possible block digest v) where
+  after : HasFacts setup new (copies_among r.bodies)
   after = restart_facts setup s new image possible facts r read
 
   abbrev pending : Pending
@@ -87,12 +87,12 @@ module _ (setup : Setup) (s new : State) (image : List ℕ) (possible : Possible
       (begun_numberless pending k.0 c.version (subst (λ (l : List Item). Contains (writes_of l) c.version) k.2 ((after.guarded c.digest).written c.version (c.block, (c, there, refl, refl, refl)))))
 
   -- that image is left
-  pub restart_left : IsLeft setup new (copies_in r.bodies) image r.bodies
+  pub restart_left : IsLeft setup new (copies_among r.bodies) image r.bodies
   restart_left = record {
     shape = r.sound.shape;
     is_shape = r.sound.is_shape;
     readable = r.sound.readable;
-    may_come = all_from (λ c. copies_in r.bodies c.block c.digest c.version) (copies_of r.bodies) (λ c there. (c, there, refl, refl, refl));
+    may_come = all_from (λ c. copies_among r.bodies c.block c.digest c.version) (copies_of r.bodies) (λ c there. (c, there, refl, refl, refl));
     begun = all_from (λ c. Contains (begun_versions pending (history new c.digest)) c.version) (copies_of r.bodies) has_begun;
     reaches = λ digest durable. reaches_at digest (latest (copies_named digest (copies_of r.bodies))) refl (latest_is (copies_named digest (copies_of r.bodies))) durable;
   }

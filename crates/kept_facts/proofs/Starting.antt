@@ -25,7 +25,7 @@ use Rattle.recovery.proofs.Growing.{all_at, bare_at, cons_cases}
 use Rattle.recovery.proofs.Members.{first_there}
 use Rattle.recovery.proofs.Places.{copy_stands}
 use Rattle.kept_facts.specs.Guarded.{standing_writes, IsGuarded}
-use Rattle.kept_facts.specs.Facts.{somewhere, HasFacts, copies_in}
+use Rattle.kept_facts.specs.Facts.{somewhere, HasFacts, copies_among}
 
 -- ---- a history of writes alone
 
@@ -77,7 +77,7 @@ all_writes (v ∷ versions) = ap (λ (l : List Version). v ∷ l) (all_writes ve
 
 module _ (setup : Setup) (image : List ℕ) (bodies : List Body) (sound : IsSound setup image bodies) where
   -- each lies in a block of the device
-  pub copies_within : (block : ℕ) (digest : Digest) (v : Version) → copies_in bodies block digest v → block < setup.blocks
+  pub copies_within : (block : ℕ) (digest : Digest) (v : Version) → copies_among bodies block digest v → block < setup.blocks
   copies_within block digest v there =
       let stands = copy_stands sound.shape image (range_with_len 0 sound.shape.blocks) bodies sound.readable.blocks there.0 there.1 in
       let below = range_below sound.shape.blocks there.0.block stands.listed in
@@ -86,7 +86,7 @@ module _ (setup : Setup) (image : List ℕ) (bodies : List Body) (sound : IsSoun
   start_writes : (digest : Digest) → writes_of (history (start_state setup bodies) digest) ≡ versions_of digest (copies_of bodies)
   start_writes digest = ap writes_of (start_history setup bodies digest) ∙ all_writes (versions_of digest (copies_of bodies))
 
-  pub read_written : (digest : Digest) (v : Version) → somewhere (copies_in bodies) digest v → Contains (writes_of (history (start_state setup bodies) digest)) v
+  pub read_written : (digest : Digest) (v : Version) → somewhere (copies_among bodies) digest v → Contains (writes_of (history (start_state setup bodies) digest)) v
   read_written digest v there =
       let c = there.1.0 in
       let mine : Contains (versions_of c.digest (copies_of bodies)) c.version = all_at (λ x. Contains (versions_of x.digest (copies_of bodies)) x.version) (copies_of bodies) c (each_contained (copies_of bodies) sound.twins) there.1.1 in
@@ -103,10 +103,10 @@ module _ (setup : Setup) (image : List ℕ) (bodies : List Body) (sound : IsSoun
       (subst (λ (l : List Version). Contains l v) (start_writes digest) there)
 
   -- the facts hold
-  pub start_facts : HasFacts setup (start_state setup bodies) (copies_in bodies)
+  pub start_facts : HasFacts setup (start_state setup bodies) (copies_among bodies)
   unfolding start_state
   start_facts = record {
-    guarded = λ digest. orderly_guarded (start_state setup bodies).book.next_number (history (start_state setup bodies) digest) (somewhere (copies_in bodies) digest)
+    guarded = λ digest. orderly_guarded (start_state setup bodies).book.next_number (history (start_state setup bodies) digest) (somewhere (copies_among bodies) digest)
         (start_orderly setup image bodies sound digest) (read_written digest);
     own = read_own;
     blocks = copies_within;

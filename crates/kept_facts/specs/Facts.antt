@@ -62,5 +62,5 @@ abbrev pub NoneOlder : State → Possible → Digest → Type 0
 NoneOlder s possible digest = (block : ℕ) (v : Version) → IsOlder s possible block digest v → ⊥
 
 -- the copies that some bodies have
-abbrev pub copies_in : List Body → Possible
-copies_in bodies block digest v = (c : Copy) × Contains (copies_of bodies) c × (c.block ≡ block) × (c.digest ≡ digest) × (c.version ≡ v)
+abbrev pub copies_among : List Body → Possible
+copies_among bodies block digest v = (c : Copy) × Contains (copies_of bodies) c × (c.block ≡ block) × (c.digest ≡ digest) × (c.version ≡ v)

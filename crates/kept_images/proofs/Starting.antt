@@ -21,7 +21,7 @@ use Rattle.recovery.specs.Holding.{begun_versions, HasRisingNumbers}
 use Rattle.recovery.proofs.Growing.{all_at, all_from, cons_cases}
 use Rattle.recovery.proofs.Images.{one_shape}
 use Rattle.recovery.proofs.Members.{first_there, rest_there, flat_map_there}
-use Rattle.kept_facts.specs.Facts.{HasFacts, copies_in}
+use Rattle.kept_facts.specs.Facts.{HasFacts, copies_among}
 use Rattle.kept_facts.proofs.Stay.{facts_become}
 use Rattle.kept_facts.proofs.Starting.{start_facts}
 use Rattle.kept_facts.proofs.Reaching.{start_left}
@@ -81,20 +81,20 @@ all_records P bodies all =
 module _ (setup : Setup) (g : Geometry) (s : State) (image : List ℕ) (bodies : List Body) (images : Images) (shape : IsShapeOf setup g) (is_g : IsGeometry g)
     (alone : (c : List ℕ) → images c → c ≡ image) (readable : IsReadable image g bodies) where
   -- what waits in no buffer, and is shown by this image, is among the copies of its bodies
-  copied : (block : ℕ) (digest : Digest) (v : Version) → possible_in g s.book (records_by []) images block digest v → copies_in bodies block digest v
+  copied : (block : ℕ) (digest : Digest) (v : Version) → possible_in g s.book (records_by []) images block digest v → copies_among bodies block digest v
   copied block digest v (inl waits) = absurd (let none = waits.1.has in omega (arith, none.1))
   copied block digest v (inr left) =
       let there = shown_there g image bodies left.body readable (subst (λ (c : List ℕ). Shows g c left.body) (alone left.image left.is_left) left.shown) in
       let one = body_copied bodies left.body digest v there left.has in
       (one.copy, one.there, one.placed ∙ left.placed, one.named, one.same)
 
-  one_kept : IsInOrder setup s (records_by []) → HasFacts setup s (copies_in bodies) → IsTrailed s (records_by []) bodies
+  one_kept : IsInOrder setup s (records_by []) → HasFacts setup s (copies_among bodies) → IsTrailed s (records_by []) bodies
       → AllByRecursion (λ c. Contains (begun_versions (pending_of s.book) (history s c.digest)) c.version) (copies_of bodies) → IsKept setup g s (records_by []) images
   one_kept order facts trailed begun = record {
     shape = shape;
     geometry = is_g;
     order = order;
-    facts = facts_become setup s (copies_in bodies) (possible_in g s.book (records_by []) images) (λ block digest v possible. inl (copied block digest v possible)) facts;
+    facts = facts_become setup s (copies_among bodies) (possible_in g s.book (records_by []) images) (λ block digest v possible. inl (copied block digest v possible)) facts;
     upheld = λ c is. subst (Upholds g s (records_by [])) (sym (alone c is)) (record {
       bodies = bodies;
       readable = readable;
@@ -154,7 +154,7 @@ restart_kept setup g s new records before now image kept was r alone =
       ahead = λ number le. refl;
     }
 
-    were : (block : ℕ) (digest : Digest) (v : Version) → copies_in r.bodies block digest v → possible_in g s.book records before block digest v
+    were : (block : ℕ) (digest : Digest) (v : Version) → copies_among r.bodies block digest v → possible_in g s.book records before block digest v
     were block digest v there =
         let is = copy_stored r.bodies there.0 there.1 in
         inr (record {

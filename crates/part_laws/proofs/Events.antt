@@ -15,6 +15,7 @@ use Rattle.device_model.specs.Events.{Call, put_call, bury_call, delete_call, ex
 use Rattle.device_model.specs.Passes
 use Rattle.device_model.specs.Legal
 use Rattle.sprig_tree.specs.State.{SprigState}
+use Rattle.recovery.proofs.Turns.{same_turn_is}
 use Rattle.recovery.proofs.Opening.{all_joined}
 use Rattle.part_laws.specs.Fits.{FitsPart}
 use Rattle.part_laws.specs.Sparing.{Spares, AllSpare, is_of_book, AreOfBook}
@@ -104,33 +105,6 @@ commit_flush_of_book setup number s = by setup.commit
     by false = tt
 
 -- ---- raids
-
-pub same_turn_is : (a b : Turn) → Legal.same_turn a b ≡ true → b ≡ a
-same_turn_is (mark_turn p) (mark_turn q) e = ap mark_turn (sym (eqb-true p q e))
-same_turn_is (scan_turn p) (scan_turn q) e = ap scan_turn (sym (eqb-true p q e))
-same_turn_is (apply_turn p) (apply_turn q) e = ap apply_turn (sym (eqb-true p q e))
-same_turn_is (drop_turn p) (drop_turn q) e = ap drop_turn (sym (eqb-true p q e))
-same_turn_is finished finished e = refl
-same_turn_is (mark_turn p) (scan_turn q) e = absurd (false≢true e)
-same_turn_is (mark_turn p) (apply_turn q) e = absurd (false≢true e)
-same_turn_is (mark_turn p) (drop_turn q) e = absurd (false≢true e)
-same_turn_is (mark_turn p) finished e = absurd (false≢true e)
-same_turn_is (scan_turn p) (mark_turn q) e = absurd (false≢true e)
-same_turn_is (scan_turn p) (apply_turn q) e = absurd (false≢true e)
-same_turn_is (scan_turn p) (drop_turn q) e = absurd (false≢true e)
-same_turn_is (scan_turn p) finished e = absurd (false≢true e)
-same_turn_is (apply_turn p) (mark_turn q) e = absurd (false≢true e)
-same_turn_is (apply_turn p) (scan_turn q) e = absurd (false≢true e)
-same_turn_is (apply_turn p) (drop_turn q) e = absurd (false≢true e)
-same_turn_is (apply_turn p) finished e = absurd (false≢true e)
-same_turn_is (drop_turn p) (mark_turn q) e = absurd (false≢true e)
-same_turn_is (drop_turn p) (scan_turn q) e = absurd (false≢true e)
-same_turn_is (drop_turn p) (apply_turn q) e = absurd (false≢true e)
-same_turn_is (drop_turn p) finished e = absurd (false≢true e)
-same_turn_is finished (mark_turn q) e = absurd (false≢true e)
-same_turn_is finished (scan_turn q) e = absurd (false≢true e)
-same_turn_is finished (apply_turn q) e = absurd (false≢true e)
-same_turn_is finished (drop_turn q) e = absurd (false≢true e)
 
 -- those that pass a test are of the part
 pub all_of_part : (setup : Setup) (other : ℕ) (test : Digest → Bool) (xs : List Digest) → AllByRecursion (λ d. part_of setup d ≡ other) (filter (λ d. (part_of setup d == other) && test d) xs)

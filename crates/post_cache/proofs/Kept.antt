@@ -4,7 +4,7 @@ use Rattle.std.specs.Option.{option_or}
 use Rattle.std.proofs.lemmas.Bool.{cond-true, cond-false, cond_both, cases_eq, false_from_ne_true, not-true, not-false, eqb-true, eqb-false, ne_eqb, ltb-false}
 use Rattle.std.proofs.lemmas.List.Folds.{find-append}
 use Rattle.std.proofs.lemmas.List.Sums.{length-filter, count_by-le-length}
-use Rattle.post_cache.specs.Bodies.{KeptBody, CacheState, kept_at, without_block, with_body, HaveOwnBlocks, IsCache}
+use Rattle.post_cache.specs.Bodies.{KeptBody, CacheState, kept_at, without_block, with_kept_body, KeepOwnBlocks, IsCache}
 
 -- ---- one block less
 
@@ -29,11 +29,11 @@ absent-without o b ks absent =
     ⊎_elim (λ (e : o ≡ b). subst (λ n. kept_at o (without_block n ks) ≡ None) e (kept_at-without_same o ks))
     (λ (ne : o ≡ b → ⊥). kept_at-without_other o b ne ks ∙ absent) (cases_eq o b)
 
-pub own-without : (b : ℕ) (ks : List KeptBody) → HaveOwnBlocks ks → HaveOwnBlocks (without_block b ks)
+pub own-without : (b : ℕ) (ks : List KeptBody) → KeepOwnBlocks ks → KeepOwnBlocks (without_block b ks)
 own-without b [] own = tt
 own-without b (k ∷ ks) own =
     let rest = own-without b ks own.1 in
-    cond_both (not (eqb k.block b)) (k ∷ without_block b ks) (without_block b ks) HaveOwnBlocks
+    cond_both (not (eqb k.block b)) (k ∷ without_block b ks) (without_block b ks) KeepOwnBlocks
     (λ _. (absent-without k.block b ks own.0, rest)) (λ _. rest)
 
 pub IsCache-without_block : (b : ℕ) (s : CacheState) → IsCache s → IsCache (record { kept = without_block b s.kept; limit = s.limit })
@@ -59,14 +59,14 @@ absent-push b k ks absent other =
     ∙ ap (λ o. option_or o (kept_at b (k ∷ []))) absent
     ∙ cond-false (eqb k.block b) (Some k) None (ne_eqb k.block b other)
 
-own-push : (k : KeptBody) (ks : List KeptBody) → HaveOwnBlocks ks → kept_at k.block ks ≡ None → HaveOwnBlocks (ks ++ k ∷ [])
+own-push : (k : KeptBody) (ks : List KeptBody) → KeepOwnBlocks ks → kept_at k.block ks ≡ None → KeepOwnBlocks (ks ++ k ∷ [])
 own-push k [] own absent = (refl, tt)
 own-push k (x ∷ xs) own absent =
     (absent-push x.block k xs own.0 (λ same. eqb-false x.block k.block (absent_first k.block x xs absent) (sym same)), own-push k xs own.1 (absent_rest k.block x xs absent))
 
 -- ---- the oldest goes
 
-own-drop : (ks : List KeptBody) → HaveOwnBlocks ks → HaveOwnBlocks (drop 1 ks)
+own-drop : (ks : List KeptBody) → KeepOwnBlocks ks → KeepOwnBlocks (drop 1 ks)
 own-drop [] own = tt
 own-drop (k ∷ ks) own = own.1
 
@@ -82,7 +82,7 @@ module _ (k : KeptBody) (s : CacheState) (is : IsCache s) (absent : kept_at k.bl
   pub IsCache-beside : length (s.kept ++ k ∷ []) ≤ s.limit → IsCache (record { kept = s.kept ++ k ∷ []; limit = s.limit })
   IsCache-beside few = record { few = few; own = own-push k s.kept is.own absent }
 
-pub IsCache-with_body : (b : ℕ) (body : List ℕ) (s : CacheState) → IsCache s → IsCache (record { kept = with_body s.limit b body s.kept; limit = s.limit })
+pub IsCache-with_body : (b : ℕ) (body : List ℕ) (s : CacheState) → IsCache s → IsCache (record { kept = with_kept_body s.limit b body s.kept; limit = s.limit })
 IsCache-with_body b body s is =
     let k : KeptBody = record { block = b; body = body } in
     let left : CacheState = record { kept = without_block b s.kept; limit = s.limit } in

@@ -4,7 +4,7 @@ use Rattle.std.specs.Prelude.{option_map}
 use Rattle.std.specs.Option.{option_or}
 use Rattle.std.proofs.lemmas.Bool.{cond-true, cond-false, cond_both, eqb-false, ne_eqb, not_from_false, lt-ltb, le-ltb, ltb-true}
 use Rattle.std.proofs.lemmas.List.Folds.{find-append}
-use Rattle.post_cache.specs.Bodies.{KeptBody, kept_at, body_of, without_block, within_limit, with_body, HaveOwnBlocks, IsCache}
+use Rattle.post_cache.specs.Bodies.{KeptBody, kept_at, body_of, without_block, within_limit, with_kept_body, KeepOwnBlocks, IsCache}
 use Rattle.post_cache.proofs.Kept.{kept_at-without_same, kept_at-without_other, absent_first, absent_rest, own-without}
 
 -- ---- an empty cache, and a block that is forgotten
@@ -27,7 +27,7 @@ without_block-absent b (k ∷ ks) absent =
     ∙ ap (λ l. k ∷ l) (without_block-absent b ks (absent_rest b k ks absent))
 
 -- a block that isn't kept yet is put behind all others
-pub with_body-absent : (limit b : ℕ) (body : List ℕ) (ks : List KeptBody) → kept_at b ks ≡ None → with_body limit b body ks ≡ within_limit limit (ks ++ (record { block = b; body = body }) ∷ [])
+pub with_body-absent : (limit b : ℕ) (body : List ℕ) (ks : List KeptBody) → kept_at b ks ≡ None → with_kept_body limit b body ks ≡ within_limit limit (ks ++ (record { block = b; body = body }) ∷ [])
 with_body-absent limit b body ks absent = ap (λ l. within_limit limit (l ++ (record { block = b; body = body }) ∷ [])) (without_block-absent b ks absent)
 
 kept_at-push_same : (k : KeptBody) (ks : List KeptBody) → kept_at k.block ks ≡ None → kept_at k.block (ks ++ k ∷ []) ≡ Some k
@@ -43,7 +43,7 @@ kept_at-newest k limit [] some absent many =
     absurd (omega arith)
 kept_at-newest k limit (x ∷ xs) some absent many = kept_at-push_same k xs (absent_rest k.block x xs absent)
 
-pub body_of-with_same : (limit b : ℕ) (body : List ℕ) (ks : List KeptBody) → 0 < limit → body_of b (with_body limit b body ks) ≡ Some body
+pub body_of-with_same : (limit b : ℕ) (body : List ℕ) (ks : List KeptBody) → 0 < limit → body_of b (with_kept_body limit b body ks) ≡ Some body
 body_of-with_same limit b body ks some =
     let k : KeptBody = record { block = b; body = body } in
     let left = without_block b ks in
@@ -68,7 +68,7 @@ kept_at-push_other o k ks other =
 
 module _ (limit b : ℕ) (body : List ℕ) (ks : List KeptBody) where
   -- where there is room, all other bodies stay
-  pub body_of-with_room : (o : ℕ) → (o ≡ b → ⊥) → length (without_block b ks) < limit → body_of o (with_body limit b body ks) ≡ body_of o ks
+  pub body_of-with_room : (o : ℕ) → (o ≡ b → ⊥) → length (without_block b ks) < limit → body_of o (with_kept_body limit b body ks) ≡ body_of o ks
   body_of-with_room o other room =
       let k : KeptBody = record { block = b; body = body } in
       let all = without_block b ks ++ k ∷ [] in
@@ -79,7 +79,7 @@ module _ (limit b : ℕ) (body : List ℕ) (ks : List KeptBody) where
 
   module _ (oldest : KeptBody) (rest : List KeptBody) (left : without_block b ks ≡ oldest ∷ rest) where
     -- all but the oldest stay in any case
-    pub body_of-with_younger : (o : ℕ) → (o ≡ b → ⊥) → (o ≡ oldest.block → ⊥) → body_of o (with_body limit b body ks) ≡ body_of o ks
+    pub body_of-with_younger : (o : ℕ) → (o ≡ b → ⊥) → (o ≡ oldest.block → ⊥) → body_of o (with_kept_body limit b body ks) ≡ body_of o ks
     body_of-with_younger o other younger =
         let k : KeptBody = record { block = b; body = body } in
         let all = without_block b ks ++ k ∷ [] in
@@ -92,13 +92,13 @@ module _ (limit b : ℕ) (body : List ℕ) (ks : List KeptBody) where
         (λ _. kept_at-push_other o k (without_block b ks) other ∙ before))
 
     -- where there is no room, the oldest goes
-    pub body_of-with_oldest : HaveOwnBlocks ks → limit ≤ length (without_block b ks) → body_of oldest.block (with_body limit b body ks) ≡ None
+    pub body_of-with_oldest : KeepOwnBlocks ks → limit ≤ length (without_block b ks) → body_of oldest.block (with_kept_body limit b body ks) ≡ None
     body_of-with_oldest own full =
         let k : KeptBody = record { block = b; body = body } in
         let all = without_block b ks ++ k ∷ [] in
         let long = length-append (without_block b ks) (k ∷ []) in
         let one : length (k ∷ []) ≡ 1 = refl in
-        let alone = (subst HaveOwnBlocks left (own-without b ks own)).0 in
+        let alone = (subst KeepOwnBlocks left (own-without b ks own)).0 in
         let another = eqb-false oldest.block b (absent_first b oldest rest (ap (kept_at b) (sym left) ∙ kept_at-without_same b ks)) in
         ap (body_of oldest.block) (cond-true (ltb limit (length all)) (drop 1 all) all (lt-ltb limit (length all) (omega arith)))
         ∙ ap (λ l. body_of oldest.block (drop 1 (l ++ k ∷ []))) left

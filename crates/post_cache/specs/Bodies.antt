@@ -26,15 +26,15 @@ abbrev pub within_limit : ℕ → List KeptBody → List KeptBody
 within_limit limit kept = if nat_lt limit (length kept) then drop 1 kept else kept
 
 -- the new body stands last, and an older one of the same block is gone
-abbrev pub with_body : (limit block : ℕ) → List ℕ → List KeptBody → List KeptBody
-with_body limit block body kept = within_limit limit (without_block block kept ++ (record { block = block; body = body }) ∷ [])
+abbrev pub with_kept_body : (limit block : ℕ) → List ℕ → List KeptBody → List KeptBody
+with_kept_body limit block body kept = within_limit limit (without_block block kept ++ (record { block = block; body = body }) ∷ [])
 
 -- no block is kept twice
-abbrev pub HaveOwnBlocks : List KeptBody → Type 0
-HaveOwnBlocks [] = Unit {0}
-HaveOwnBlocks (k ∷ ks) = (kept_at k.block ks ≡ None) × HaveOwnBlocks ks
+abbrev pub KeepOwnBlocks : List KeptBody → Type 0
+KeepOwnBlocks [] = Unit {0}
+KeepOwnBlocks (k ∷ ks) = (kept_at k.block ks ≡ None) × KeepOwnBlocks ks
 
 -- what holds of each cache: no more bodies than may be, and each block at most once
 pub record IsCache (s : CacheState) : Type 0 where
   pub few : length s.kept ≤ s.limit
-  pub own : HaveOwnBlocks s.kept
+  pub own : KeepOwnBlocks s.kept

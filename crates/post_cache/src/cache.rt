@@ -1,6 +1,6 @@
 // The post-write queue as a row of bodies, oldest first.
 ghost use Rattle.std.specs.Prelude.{◌≡◌, [], IfOk, option_map};
-ghost use Rattle.post_cache.specs.Bodies.{body_of, without_block, with_body, IsCache};
+ghost use Rattle.post_cache.specs.Bodies.{body_of, without_block, with_kept_body, IsCache};
 
 use crate::NoMemory;
 use std::alloc::Global;
@@ -48,7 +48,7 @@ impl Cache {
     /// Keeps the body of a block in place of an older one of that block. Where there is then one too
     /// many, the oldest goes.
     pub fn keep(&mut self, block: u32, body: Vec<u8>)
-        ensures kept { self.new ≡ record { kept = with_body self.old.limit block body.items self.old.kept; limit = self.old.limit } }
+        ensures kept { self.new ≡ record { kept = with_kept_body self.old.limit block body.items self.old.kept; limit = self.old.limit } }
         ensures bounds { IsCache self.new }
     {
         self.forget(block);

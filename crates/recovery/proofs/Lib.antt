@@ -23,3 +23,4 @@ pub mod Orderly
 pub mod VersionsTo
 pub mod Examples
 pub mod SmallImages
+pub mod Turns

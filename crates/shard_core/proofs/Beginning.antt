@@ -30,7 +30,7 @@ use Rattle.shard_core.specs.Index.{HaveOwnDigests, held}
 use Rattle.shard_core.specs.View.{ShardView, IsSettings, IsEntryOf, limits_of, setup_of}
 use Rattle.shard_core.specs.Stands.{Lists, Agrees, IsWhole, IsSafe}
 use Rattle.shard_core.specs.Starting.{Passes, Begins, StandsForBodies, own_copies, found_state, blocks_behind}
-use Rattle.shard_core.specs.Finding.{IsSure, IsFinding, BeginsWith, BeginsBehind, live_places, latest_copies}
+use Rattle.shard_core.specs.Finding.{IsSure, IsFinding, BeginsOver, BeginsBehind, live_places, latest_copies}
 use Rattle.shard_core.proofs.FoundCopies.{latest_there, entries_of, live_are, free_are}
 use Rattle.shard_core.proofs.GatesKnown.{gates_sure}
 use Rattle.shard_core.proofs.Showing.{found_entry, found_queue, found_lists, sound_own, start_queue, start_lists}
@@ -138,7 +138,7 @@ same_bodies setup g asked bytes bodies all shape passes sound =
     one_image g bytes (range_with_len 0 g.blocks) bodies all one_body passes.blocks (subst (λ (h : Geometry). HasBodies h bytes (range_with_len 0 h.blocks) all) (sym same) sound.readable.blocks)
 
 module _ {D : Type 0} (view : D → DiskView) (disk : D) (g : Geometry) (set : Settings) (finding : Finding) (asked : Asked) (bodies : List Body) (shard : ShardView D)
-    (begins : BeginsWith disk g set finding shard) (behind : BeginsBehind view disk bodies shard) where
+    (begins : BeginsOver disk g set finding shard) (behind : BeginsBehind view disk bodies shard) where
   passes_here : (bytes : List ℕ) → Passes asked bytes g bodies → Passes asked bytes shard.shelf.geometry bodies
   passes_here bytes passes = subst (λ (h : Geometry). Passes asked bytes h bodies) (sym begins.geometry_is) passes
 

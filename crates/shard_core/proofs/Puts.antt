@@ -37,7 +37,7 @@ use Rattle.block_shelf.specs.View.{ShelfView, IsShelf, IsBufferOf, IsSetupOf}
 use Rattle.block_shelf.specs.Standing.{book_buffer}
 use Rattle.block_shelf.specs.Standing as shelf
 use Rattle.block_shelf.specs.Calls.{Goes, copy_live, prior_live}
-use Rattle.block_shelf.specs.Appends.{IsPlaceFor, IsRefusedFor, Takes, append_refusal, refused_steps}
+use Rattle.block_shelf.specs.Appends.{IsPlaceFor, IsAppendRefusal, TakesIn, append_refusal, refused_steps}
 use Rattle.rec_format.specs.Entries.{Names}
 use Rattle.shard_core.specs.declared.refusals.WriteRefusal.{WriteRefusal}
 use Rattle.shard_core.specs.declared.refusals.WriteRefusal.TheVariants as write_refusals
@@ -155,7 +155,7 @@ copied digest v place = record { digest = digest; stamp = v.stamp; void = v.void
 -- what the shelf says of a copy that was appended
 abbrev pub Appended : {D : Type 0} → (view : D → DiskView) → Digest → Version → Place → (prior : Option Place) → (old new : ShelfView D) → Type 0
 Appended view digest v place prior old new = (setup : Setup) (s : State) → IsSetupOf setup old → shelf.StandsFor setup old s → live_of digest s.book.live ≡ prior_live digest prior
-    → (append_refusal setup class.Put (version_units v) s.book ≡ None) × Takes view setup digest v old s new place
+    → (append_refusal setup class.Put (version_units v) s.book ≡ None) × TakesIn view setup digest v old s new place
 
 -- the copy before is that of the entry
 pub prior_is : (digest : Digest) (index : List Entry) (live : List Live) → live_of digest live ≡ option_map live_of_entry (held digest index) → live_of digest live ≡ prior_live digest (option_map place_of (held digest index))
@@ -367,7 +367,7 @@ module _ {D : Type 0} (view : D → DiskView)
           inr (subst (λ (o : Option Cause). Unless (unwritten_event why) o (let w = new_put (setup_of old) s digest 0 payload now in WriteEnds (setup_of old) s (unwritten_event why) digest w (stamp_given w.stamp)))
           (sym (refusal_same old s digest payload now agrees v is ∙ at)) (answer, none))
 
-      may_be_unwritten : (told : Bool) (why : PutRefusal) → IsRefusedFor (append_refusal (setup_of old) class.Put (version_units v) s.book) why → (why ≡ put.Fault → has_room (setup_of old) client (version_units v) s.book ≡ false)
+      may_be_unwritten : (told : Bool) (why : PutRefusal) → IsAppendRefusal (append_refusal (setup_of old) class.Put (version_units v) s.book) why → (why ≡ put.Fault → has_room (setup_of old) client (version_units v) s.book ≡ false)
           → (why ≡ put.Fault → Rose (view old.shelf.disk).faults (view new.shelf.disk).faults) → Allowed (setup_of old) told s (unwritten_event why) call
       may_be_unwritten told (put.Big units capacity) cause closing rose = stands_against told (put.Big units capacity) (too_big units capacity) cause refl refl
       may_be_unwritten told put.Spent cause closing rose = stands_against told put.Spent spent cause refl refl

@@ -19,7 +19,7 @@ use Rattle.block_shelf.specs.declared.refusals.PutRefusal.TheVariants as put
 use Rattle.block_shelf.specs.declared.refusals.ReadRefusal.{ReadRefusal}
 use Rattle.block_shelf.specs.declared.refusals.ReadRefusal.TheVariants as read
 use Rattle.block_shelf.specs.Standing.{IsPlaced}
-use Rattle.block_shelf.specs.Appends.{IsLeft}
+use Rattle.block_shelf.specs.Appends.{IsLeftBy}
 use Rattle.block_shelf.specs.Reads.{copy_bytes, IsRead, HasRead}
 use Rattle.shard_core.specs.declared.refusals.WriteRefusal.{WriteRefusal}
 use Rattle.shard_core.specs.declared.refusals.WriteRefusal.TheVariants as write
@@ -49,7 +49,7 @@ write_of put.Fault = write.Fault
 pub record IsRefusedWrite {D : Type 0} (old new : ShardView D) (refusal : WriteRefusal) : Type 0 where
   pub why : PutRefusal
   pub is_for : refusal ≡ write_of why
-  pub left : IsLeft old.shelf new.shelf why
+  pub left : IsLeftBy old.shelf new.shelf why
   pub index : new.index ≡ old.index
 
 abbrev pub write_answer : Result Stamp WriteRefusal → Answer

@@ -171,7 +171,7 @@ abbrev pub live_places : List Entry → List (Digest × Place)
 live_places entries = map (λ e. (e.digest, place_of e)) entries
 
 -- a shard that begins with what was found
-pub record BeginsWith {D : Type 0} (disk : D) (g : Geometry) (set : Settings) (finding : Finding) (shard : ShardView D) : Type 0 where
+pub record BeginsOver {D : Type 0} (disk : D) (g : Geometry) (set : Settings) (finding : Finding) (shard : ShardView D) : Type 0 where
   pub disk_is : shard.shelf.disk ≡ disk
   pub geometry_is : shard.shelf.geometry ≡ g
   pub set_is : shard.set ≡ set

@@ -18,7 +18,7 @@ use Rattle.block_shelf.specs.declared.refusals.PutRefusal.{PutRefusal}
 use Rattle.block_shelf.specs.declared.refusals.PutRefusal.TheVariants as put
 use Rattle.block_shelf.specs.Standing as shelf
 use Rattle.block_shelf.specs.Calls.{Goes}
-use Rattle.block_shelf.specs.Appends.{append_refusal, refused_steps, IsRefusedFor}
+use Rattle.block_shelf.specs.Appends.{append_refusal, refused_steps, IsAppendRefusal}
 use Rattle.shard_core.specs.declared.refusals.WriteRefusal.{WriteRefusal}
 use Rattle.shard_core.specs.declared.refusals.WriteRefusal.TheVariants as write
 use Rattle.shard_core.specs.Index.{held, stamp_held, flag_of, high_of}
@@ -72,7 +72,7 @@ pub record Wrote {D : Type 0} (view : D → DiskView) (old : ShardView D) (s : S
 pub record IsUnwritten {D : Type 0} (view : D → DiskView) (old : ShardView D) (s : State) (units : ℕ) (refusal : WriteRefusal) (new : ShardView D) : Type 0 where
   pub why : PutRefusal
   pub is_for : refusal ≡ write_of why
-  pub cause : IsRefusedFor (append_refusal (setup_of old) class.Put units s.book) why
+  pub cause : IsAppendRefusal (append_refusal (setup_of old) class.Put units s.book) why
   pub closing : why ≡ put.Fault → has_room (setup_of old) client units s.book ≡ false
   pub goes : Goes view (setup_of old) (refused_steps why) old.shelf s new.shelf
 

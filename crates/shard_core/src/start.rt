@@ -13,7 +13,7 @@ ghost use Rattle.block_shelf.specs.Disks.{OnlyRead};
 ghost use Rattle.shard_core.specs.View.{IsSettings, setup_of};
 ghost use Rattle.shard_core.specs.Stands.{IsSafe};
 ghost use Rattle.shard_core.specs.Starting.{Begins, StandsForBodies, IsRefused, FaultRose};
-ghost use Rattle.shard_core.specs.Finding.{IsSure, AreGates, IsFinding, BeginsWith, BeginsBehind};
+ghost use Rattle.shard_core.specs.Finding.{IsSure, AreGates, IsFinding, BeginsOver, BeginsBehind};
 
 use crate::scan::{Finding, scan};
 use crate::{Settings, Shard};
@@ -165,7 +165,7 @@ fn begun<D: Disk>(
     requires sure { AllByRecursion IsSure gates.items }
     requires stand { IsHonest (D.view disk) → GatesStand geometry (D.view disk).may_leave gates.items }
     requires found { (bodies : List Body) × IsFinding geometry gates.items geometry.blocks bodies finding }
-    ensures begun { MatchResult result (BeginsWith disk geometry set finding) (λ refusal. (refusal.disk ≡ disk) × (refusal.cause ≡ StartCause.Memory)) }
+    ensures begun { MatchResult result (BeginsOver disk geometry set finding) (λ refusal. (refusal.disk ≡ disk) × (refusal.cause ≡ StartCause.Memory)) }
     ensures behind { IfOk result (λ shard. (bodies : List Body) → IsFinding geometry gates.items geometry.blocks bodies finding → BeginsBehind D.view disk bodies shard) }
 {
     let Finding { index, greatest } = finding;

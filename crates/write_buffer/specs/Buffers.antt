@@ -45,8 +45,8 @@ records_in zero bytes = []
 records_in (suc n) bytes = (digest_in bytes, version_in bytes) ∷ records_in n (drop (16 * version_units (version_in bytes)) bytes)
 
 -- the buffer whose bytes these are
-abbrev pub seen : (number block capacity count : ℕ) → Phase → List ℕ → BufferState
-seen number block capacity count phase bytes =
+abbrev pub seen_buffer : (number block capacity count : ℕ) → Phase → List ℕ → BufferState
+seen_buffer number block capacity count phase bytes =
     record { number = number; block = block; capacity = capacity; records = records_in count (drop 32 bytes); phase = phase }
 
 -- the bytes are the body of the records, which take so many units

@@ -28,13 +28,13 @@ pub struct Buffer {
 }
 
 impl Model for Buffer {
-    ghost use Rattle.write_buffer.specs.Buffers.{BufferState, KeepsBody, seen};
+    ghost use Rattle.write_buffer.specs.Buffers.{BufferState, KeepsBody, seen_buffer};
 
     ghost Value = { BufferState };
 
-    ghost view = { λ b. seen b.number b.block b.capacity b.count b.phase b.bytes.items };
+    ghost view = { λ b. seen_buffer b.number b.block b.capacity b.count b.phase b.bytes.items };
 
-    ghost invariant = { λ b. KeepsBody (seen b.number b.block b.capacity b.count b.phase b.bytes.items) b.used b.bytes.items };
+    ghost invariant = { λ b. KeepsBody (seen_buffer b.number b.block b.capacity b.count b.phase b.bytes.items) b.used b.bytes.items };
 }
 
 impl Buffer {

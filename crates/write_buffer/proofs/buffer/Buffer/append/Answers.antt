@@ -3,7 +3,7 @@ use Rattle.std.proofs.Common.{◌≡◌, ℕ, ◌+◌, ◌*◌, ◌≤◌, List,
 use Rattle.rec_format.specs.Versions.{units_for, version_units}
 use Rattle.rec_format.specs.RecordText.{record_text}
 use Rattle.block_format.specs.Layout.{body_head_text}
-use Rattle.write_buffer.specs.Buffers.{BufferState, KeepsBody, bytes_of, seen, used_units, with_record}
+use Rattle.write_buffer.specs.Buffers.{BufferState, KeepsBody, bytes_of, seen_buffer, used_units, with_record}
 use Rattle.write_buffer.proofs.Reading.{count_within, length-records_in}
 use Rattle.write_buffer.proofs.Appending.{keeps_next, length-bytes, seen_next, text_next, whole}
 use Rattle.write_buffer.proofs.buffer.Buffer.append.Goals as goal
@@ -18,11 +18,11 @@ put_record-requires-clause-room c =
 pub overflow_add-self : goal.overflow_add-self
 overflow_add-self c =
     let count = length-records_in c.self.inside.count (drop 32 c.self.inside.bytes.items) in
-    omega (arith, count, count_within (seen c.self.inside.number c.self.inside.block c.self.inside.capacity c.self.inside.count c.self.inside.phase c.self.inside.bytes.items).records, c.self.invariant.fits, c.self.invariant.capacity)
+    omega (arith, count, count_within (seen_buffer c.self.inside.number c.self.inside.block c.self.inside.capacity c.self.inside.count c.self.inside.phase c.self.inside.bytes.items).records, c.self.invariant.fits, c.self.invariant.capacity)
 
 -- the buffer before
 abbrev before : goal.After-self-4-1 → BufferState
-before c = seen c.self.inside.number c.self.inside.block c.self.inside.capacity c.self.inside.count c.self.inside.phase c.self.inside.bytes.items
+before c = seen_buffer c.self.inside.number c.self.inside.block c.self.inside.capacity c.self.inside.count c.self.inside.phase c.self.inside.bytes.items
 
 room_before : (c : goal.After-self-4-1) → used_units (before c) + version_units c.args.version.now ≤ (before c).capacity
 room_before c = subst (λ (b : BufferState). used_units b + version_units c.args.version.now ≤ b.capacity) (sym c.self.view_is) c.requires.room
