@@ -1,6 +1,6 @@
 -- A call of the one device is what a command does on a node that has it alone, what its tending does, and what its closing does.
 use Rattle.std.proofs.Common.{◌≡◌, inl, inr, ℕ, zero, suc, Bool, true, false, List, [], ◌∷◌, ◌+◌, refl, sym, ◌∙◌, ap, subst, arith}
-use Rattle.std.specs.Prelude.{◌≢◌, Option, Some, None, Result, Ok, Err, OnOk, OnErr}
+use Rattle.std.specs.Prelude.{◌≢◌, slice_get, Option, Some, None, Result, Ok, Err, OnOk, OnErr}
 use Rattle.std.proofs.lemmas.List.{append-nil}
 use Rattle.disk_model.specs.Disk.{DiskView, IsDisk, IsHonest}
 use Rattle.disk_model.specs.Runs.{OneOf, Leaves, leaves_none}
@@ -9,24 +9,26 @@ use Rattle.rec_format.specs.declared.version.Stamp.{Stamp}
 use Rattle.rec_format.specs.declared.version.Version.{Version}
 use Rattle.rec_format.specs.Places.{device_number}
 use Rattle.device_model.specs.Book.{Setup}
-use Rattle.device_model.specs.Device.{State}
+use Rattle.device_model.specs.Device.{State, seen}
 use Rattle.device_model.specs.Steps.{Step, states_through}
-use Rattle.device_model.specs.Events.{Event, Call, put_call, get_call, flush_call, flush_sealed_call, choose_call, Answer, block_chosen, disk_fault, after_event}
+use Rattle.device_model.specs.Events.{Event, Call, put_call, get_call, delete_call, bury_call, flush_call, flush_sealed_call, choose_call, Answer, block_chosen, disk_fault, after_event}
 use Rattle.device_model.specs.Legal.{Follows, queue_front}
 use Rattle.recovery.specs.Surviving.{Survives}
 use Rattle.line_proto.specs.declared.command.Command.{Command}
 use Rattle.line_proto.specs.declared.command.Command.TheVariants as command
 use Rattle.line_proto.specs.declared.reply.Reply.{Reply}
 use Rattle.line_proto.specs.declared.reply.Reply.TheVariants as reply
-use Rattle.node_model.specs.Commands.{Slot, Node, NodeEvent, slot_after, Does, did, stopped, one_sum, answer_reply, on_device, node_after}
+use Rattle.node_model.specs.Commands.{Slot, Node, NodeEvent, slot_after, Does, did, stopped, one_sum, answer_reply, meta_reply, seen_on, on_device, node_after}
 use Rattle.block_shelf.specs.Disks.{IsLater}
 use Rattle.shard_core.specs.declared.refusals.WriteRefusal.{WriteRefusal}
 use Rattle.shard_core.specs.declared.refusals.WriteRefusal.TheVariants as write
 use Rattle.block_shelf.specs.declared.refusals.ReadRefusal.{ReadRefusal}
 use Rattle.block_shelf.specs.declared.refusals.ReadRefusal.TheVariants as read
 use Rattle.shard_core.specs.View.{ShardView, SameSetup, setup_of, setup_for}
-use Rattle.shard_core.specs.Stands.{Agrees, IsSafe}
-use Rattle.shard_core.specs.Calls.{Makes, MakesAny, GetsStored, write_answer, read_answer, flush_answer}
+use Rattle.shard_core.specs.Stands.{Agrees, IsSafe, ShelfIsSafe}
+use Rattle.shard_core.specs.declared.get.Meta.{Meta}
+use Rattle.shard_core.specs.Calls.{Makes, MakesAny, GetsStored, write_answer, delete_answer, read_answer, flush_answer, meta_of}
+use Rattle.shard_core.proofs.Later.{later_none}
 use Rattle.shard_core.proofs.Going.{safe_survives}
 use Rattle.node_model.specs.Run.{states_while}
 use Rattle.node_model.specs.Meaning.{ActsFrom, TendsFrom, ClosesFrom, LeavesEach, SurvivesOne, Rests}
@@ -55,12 +57,27 @@ written_goes_on (Err (write.Space free)) e = cc
 written_goes_on (Err write.Memory) e = cc
 written_goes_on (Err write.Fault) e = cc
 
+deleted_goes_on : (r : Result Bool WriteRefusal) → answer_reply (delete_answer r) ≡ reply.Halted → ⊥
+deleted_goes_on (Ok true) e = cc
+deleted_goes_on (Ok false) e = cc
+deleted_goes_on (Err (write.Big units capacity)) e = cc
+deleted_goes_on (Err (write.Gen seen)) e = cc
+deleted_goes_on (Err write.Spent) e = cc
+deleted_goes_on (Err (write.Load pending)) e = cc
+deleted_goes_on (Err (write.Space free)) e = cc
+deleted_goes_on (Err write.Memory) e = cc
+deleted_goes_on (Err write.Fault) e = cc
+
 read_goes_on : (r : Result (Option Version) ReadRefusal) → answer_reply (read_answer r) ≡ reply.Halted → ⊥
 read_goes_on (Ok None) e = cc
 read_goes_on (Ok (Some v)) e = cc
 read_goes_on (Err (read.Damaged kept bytes)) e = cc
 read_goes_on (Err read.Memory) e = cc
 read_goes_on (Err read.Fault) e = cc
+
+known_goes_on : (v : Option Version) → meta_reply v ≡ reply.Halted → ⊥
+known_goes_on None e = cc
+known_goes_on (Some v) e = cc
 
 flushed_goes_on : {E : Type 0} (flushed : Result ℕ E) → one_sum (flush_outcome flushed) ≡ reply.Halted → ⊥
 flushed_goes_on (Ok n) e = cc
@@ -149,7 +166,7 @@ module _ {D : Type 0} (view : D → DiskView) (old new : ShardView D) (shape : S
     is_one = after_is m.event s m.counted;
     agrees = m.stands;
     honest = honest was;
-    safe = m.safe was safe;
+    safe = subst (λ (setup : Setup). ShelfIsSafe view setup new.shelf (after_event (setup_of old) m.event s)) (sym setups_same) (m.safe was safe);
   }
 
   -- ---- a command
@@ -205,6 +222,22 @@ module _ {D : Type 0} (view : D → DiskView) (old new : ShardView D) (shape : S
       (λ slot. digest_does slot digest (get_call digest now) (read_answer result) (command.Get digest) now r (λ event work at is_call given. (event, at, is_call, given)) is)
       (λ h. read_goes_on result (sym is ∙ h)) makes (result, is, stored)
 
+  pub acts_delete : (digest : Digest) (now : ℕ) (r : Reply) (result : Result Bool WriteRefusal) → r ≡ answer_reply (delete_answer result)
+      → ((s : State) → Agrees old s → MakesOne (delete_call digest now) (delete_answer result) s)
+      → ActsAlone view old (command.Del digest) now r new
+  acts_delete digest now r result is makes =
+      acts (delete_call digest now) (delete_answer result) (command.Del digest) now r
+      (λ slot. digest_does slot digest (delete_call digest now) (delete_answer result) (command.Del digest) now r (λ event work at is_call given. (event, at, is_call, given)) is)
+      (λ h. deleted_goes_on result (sym is ∙ h)) makes tt
+
+  pub acts_bury : (digest : Digest) (now : ℕ) (r : Reply) (result : Result Stamp WriteRefusal) → r ≡ answer_reply (write_answer result)
+      → ((s : State) → Agrees old s → MakesOne (bury_call digest now) (write_answer result) s)
+      → ActsAlone view old (command.Bury digest) now r new
+  acts_bury digest now r result is makes =
+      acts (bury_call digest now) (write_answer result) (command.Bury digest) now r
+      (λ slot. digest_does slot digest (bury_call digest now) (write_answer result) (command.Bury digest) now r (λ event work at is_call given. (event, at, is_call, given)) is)
+      (λ h. written_goes_on result (sym is ∙ h)) makes tt
+
   pub acts_flush : {E : Type 0} (now : ℕ) (r : Reply) (flushed : Result ℕ E) → r ≡ one_sum (flush_outcome flushed)
       → ((s : State) → Agrees old s → MakesOne flush_call (flush_answer flushed) s)
       → ActsAlone view old command.Flush now r new
@@ -223,7 +256,7 @@ module _ {D : Type 0} (view : D → DiskView) (old new : ShardView D) (shape : S
       record {
         tended = on_device 0 m.event ∷ on_device 0 chosen ∷ [];
         tends = (m.event ∷ chosen ∷ [], [], refl, (m.event, chosen ∷ [], refl, m.is_call, did 0 0, (chosen, [], refl, refl, inl (refl, refl, refl))), refl);
-        legal = (follows, (none_follows (setup_of old) told (after_event (setup_of old) m.event s) m.event.faults_after m.stands.queue, tt));
+        legal = (follows, (none_follows (setup_of old) told (after_event (setup_of old) m.event s) m.event.faults_after m.stands.shelf.queue, tt));
         stands = stands;
         leaves = λ device. subst (λ (states : List State). Leaves (SurvivesOne device (Before s) states) (views old device) (views new device))
             (sym (no_more_states device m.event m.event.faults_after (slot_of view old s))) (leaves device);
@@ -298,3 +331,37 @@ module _ {D : Type 0} (view : D → DiskView)
           → LeavesEach (views_of view) (slot_of view store s ∷ []) (λ device. states_while device [] (slot_of view store s ∷ [])) store store
       of s survives zero = leaves_none (OneOf (Survives (setup_of store)) (s ∷ [])) (view store.shelf.disk) (is_disk store.shelf.disk) (λ c image. inl (survives c image))
       of s survives (suc n) = leaves_none (λ c. Unit {0}) (view store.shelf.disk) (is_disk store.shelf.disk) (λ c image. tt)
+
+  -- What is known of a record is told by the state, without an event, and the node stays as it is.
+  pub acts_meta : (shard : ShardView D) (digest : Digest) (now : ℕ) (r : Reply) (known : Option Meta) → ((v : Option Version) → known ≡ meta_of v → r ≡ meta_reply v)
+      → ((s : State) → Agrees shard s → known ≡ meta_of (seen s now digest)) → ActsAlone view shard (command.Meta digest) now r shard
+  acts_meta shard digest now r known is knows = (later_none view shard.shelf.disk (is_disk shard.shelf.disk), over_any, over_honest, tt)
+    where
+      does : (s : State) → Agrees shard s → r ≡ meta_reply (seen_on (slice_get (slot_of view shard s ∷ []) (device_number 1 digest)) now digest)
+      does s agrees = is (seen s now digest) (knows s agrees)
+          ∙ ap (λ (n : ℕ). meta_reply (seen_on (slice_get (slot_of view shard s ∷ []) n) now digest)) (sym (only_device digest))
+
+      acts_none : (Stands : ShardView D → Node → Type 0) (views : ShardView D → ℕ → DiskView) (told : Bool) (s : State) → Agrees shard s
+          → Stands shard (slot_of view shard s ∷ []) → LeavesEach views (slot_of view shard s ∷ []) (λ device. states_while device [] (slot_of view shard s ∷ [])) shard shard
+          → ActsFrom Stands views NeverHalts told shard (slot_of view shard s ∷ []) (command.Meta digest) now r shard
+      acts_none Stands views told s agrees stands leaves = record {
+        work = [];
+        restarted = None;
+        carried = inl (inl (refl, (refl, does s agrees)));
+        legal = tt;
+        stands = stands;
+        leaves = leaves;
+        halt = λ h. absurd (known_goes_on (seen s now digest) (sym (is (seen s now digest) (knows s agrees)) ∙ h));
+      }
+
+      over_any : (node : Node) → StandsAlone view shard node → ActsFrom (StandsAlone view) unknown NeverHalts false shard node (command.Meta digest) now r shard
+      over_any node stands =
+          subst (λ (n : Node). ActsFrom (StandsAlone view) unknown NeverHalts false shard n (command.Meta digest) now r shard) (sym stands.is_one)
+          (acts_none (StandsAlone view) unknown false stands.state stands.agrees (subst (StandsAlone view shard) stands.is_one stands)
+          (nothing_left shard shard (slot_of view shard stands.state ∷ []) _))
+
+      over_honest : (node : Node) → StandsSafely view shard node → ActsFrom (StandsSafely view) (views_of view) NeverHalts true shard node (command.Meta digest) now r shard
+      over_honest node stands =
+          let here : StandsSafely view shard (slot_of view shard stands.state ∷ []) = subst (StandsSafely view shard) stands.is_one stands in
+          subst (λ (n : Node). ActsFrom (StandsSafely view) (views_of view) NeverHalts true shard n (command.Meta digest) now r shard) (sym stands.is_one)
+          (acts_none (StandsSafely view) (views_of view) true stands.state stands.agrees here (rests_safely shard (slot_of view shard stands.state ∷ []) here))

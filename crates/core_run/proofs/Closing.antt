@@ -27,9 +27,9 @@ pub closed_so : {D : Type 0} {E : Type 0} (flushed : Result ℕ E) (new : ShardV
     → OnOk flushed (new.shelf.buffers ≡ []) → OnErr flushed (new.shelf.buffers ≢ []) → Agrees new slot.state
     → Follows setup told s before event → event.call ≡ flush_call → event.answer ≡ flush_answer flushed → event.faults_after ≡ after
     → ClosedSo flushed before after (slot ∷ [])
-closed_so (Ok n) new setup told s event before after slot quiet left agrees follows call answer last = (agrees.shelf.buffers ∙ ap (map book_buffer) quiet, tt)
+closed_so (Ok n) new setup told s event before after slot quiet left agrees follows call answer last = (agrees.shelf.stands.buffers ∙ ap (map book_buffer) quiet, tt)
 closed_so (Err fault) new setup told s event before after slot quiet left agrees follows call answer last = (
-  λ none. left (none_mapped new.shelf.buffers (sym agrees.shelf.buffers ∙ none)),
+  λ none. left (none_mapped new.shelf.buffers (sym agrees.shelf.stands.buffers ∙ none)),
   subst (λ (n : ℕ). Rose n after) follows.begins (subst (λ (n : ℕ). Rose event.faults_before n) last
       (fault_rose event (seal_all s.book) (flush_all (after_steps setup (seal_all s.book) s).book) (subst (λ (c : Call). Allowed setup told s event c) call follows.allowed) answer)),
 )

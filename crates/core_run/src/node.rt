@@ -7,7 +7,7 @@ ghost use Rattle.shard_core.specs.Stands.{Agrees};
 ghost use Rattle.shard_core.specs.Calls.{Makes, flush_answer};
 ghost use Rattle.core_run.specs.OneDevice.{Started, NotStarted, ClosesAlone};
 
-use crate::replies::{flush_reply, read_reply, write_reply};
+use crate::replies::{delete_reply, flush_reply, known_reply, read_reply, write_reply};
 use disk_model::{Disk, DiskFault};
 use line_proto::{Command, Reply, Store};
 use shard_core::{Asked, Settings, Shard, StartCause, StartRefusal};
@@ -115,6 +115,9 @@ impl<D: Disk> Store for Node<D> {
                     .put(alloc, digest, *ttl, payload.as_slice(), *expect, now),
             ),
             Command::Get(digest) => read_reply(self.shard.get(alloc, digest, now)),
+            Command::Meta(digest) => known_reply(self.shard.meta(digest, now)),
+            Command::Del(digest) => delete_reply(self.shard.delete(alloc, digest, now)),
+            Command::Bury(digest) => write_reply(self.shard.bury(alloc, digest, now)),
             Command::Flush => flush_reply(self.shard.flush()),
             _ => unreachable!(),
         }

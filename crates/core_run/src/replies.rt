@@ -1,13 +1,29 @@
 // The replies to what a device answers.
-ghost use Rattle.std.specs.Prelude.{◌≡◌};
-ghost use Rattle.node_model.specs.Commands.{answer_reply, one_sum};
-ghost use Rattle.shard_core.specs.Calls.{write_answer, read_answer};
+ghost use Rattle.std.specs.Prelude.{◌≡◌, Option};
+ghost use Rattle.rec_format.specs.declared.version.Version.{Version};
+ghost use Rattle.node_model.specs.Commands.{answer_reply, fault_of, meta_reply, one_sum};
+ghost use Rattle.shard_core.specs.Calls.{cause_of_write, delete_answer, meta_of, read_answer, write_answer};
 ghost use Rattle.core_run.specs.OneDevice.{flush_outcome};
 
 use disk_model::DiskFault;
 use line_proto::{LineFault, Reply};
 use rec_format::{Stamp, Version};
-use shard_core::{ReadRefusal, WriteRefusal};
+use shard_core::{Meta, ReadRefusal, WriteRefusal};
+
+// why a write was refused
+fn write_fault(refusal: WriteRefusal) -> LineFault
+    ensures { result ≡ fault_of (cause_of_write refusal) }
+{
+    match refusal {
+        WriteRefusal::Big { .. } => LineFault::Big,
+        WriteRefusal::Gen { seen } => LineFault::Gen(seen),
+        WriteRefusal::Spent => LineFault::Spent,
+        WriteRefusal::Load { .. } => LineFault::Load,
+        WriteRefusal::Space { .. } => LineFault::Space,
+        WriteRefusal::Memory => LineFault::Memory,
+        WriteRefusal::Fault => LineFault::Fault,
+    }
+}
 
 pub fn write_reply(written: Result<Stamp, WriteRefusal>) -> Reply
     ensures { result ≡ answer_reply (write_answer written) }
@@ -17,13 +33,17 @@ pub fn write_reply(written: Result<Stamp, WriteRefusal>) -> Reply
             a: u64::from(stamp.gen_),
             b: stamp.lut,
         },
-        Err(WriteRefusal::Big { .. }) => Reply::Fail(LineFault::Big),
-        Err(WriteRefusal::Gen { seen }) => Reply::Fail(LineFault::Gen(seen)),
-        Err(WriteRefusal::Spent) => Reply::Fail(LineFault::Spent),
-        Err(WriteRefusal::Load { .. }) => Reply::Fail(LineFault::Load),
-        Err(WriteRefusal::Space { .. }) => Reply::Fail(LineFault::Space),
-        Err(WriteRefusal::Memory) => Reply::Fail(LineFault::Memory),
-        Err(WriteRefusal::Fault) => Reply::Fail(LineFault::Fault),
+        Err(refusal) => Reply::Fail(write_fault(refusal)),
+    }
+}
+
+pub fn delete_reply(deleted: Result<bool, WriteRefusal>) -> Reply
+    ensures { result ≡ answer_reply (delete_answer deleted) }
+{
+    match deleted {
+        Ok(true) => Reply::Gone,
+        Ok(false) => Reply::Nothing,
+        Err(refusal) => Reply::Fail(write_fault(refusal)),
     }
 }
 
@@ -40,6 +60,20 @@ pub fn read_reply(found: Result<Option<Version>, ReadRefusal>) -> Reply
         Err(ReadRefusal::Damaged { .. }) => Reply::Fail(LineFault::Damaged),
         Err(ReadRefusal::Memory) => Reply::Fail(LineFault::Memory),
         Err(ReadRefusal::Fault) => Reply::Fail(LineFault::Fault),
+    }
+}
+
+/// The reply to what is known of the record that is seen.
+pub fn known_reply(known: Option<Meta>) -> Reply
+    ensures { (seen : Option Version) → known ≡ meta_of seen → result ≡ meta_reply seen }
+{
+    match known {
+        None => Reply::Nothing,
+        Some(meta) => Reply::MetaOf {
+            stamp: meta.stamp,
+            void: meta.void,
+            units: meta.units,
+        },
     }
 }
 

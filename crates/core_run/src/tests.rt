@@ -5,7 +5,7 @@ ghost use Rattle.line_proto.specs.declared.command.Command.{Command};
 use super::*;
 use block_format::Geometry;
 use disk_model::{Disk, MemDisk};
-use line_proto::{Command, Reply, Store};
+use line_proto::{Command, LineFault, Reply, Store};
 use rec_format::{Bytes, Digest, Stamp};
 use shard_core::{Settings, format_disk};
 use std::alloc::Global;
@@ -85,15 +85,15 @@ fn a_record_is_put_and_seen(rt: HostRuntime) -> Result<(), Fail> {
     Ok(())
 }
 
-/// A put of so many bytes.
-fn put_of(alloc: Global, digest: Digest, bytes: usize) -> Result<Command, Fail>
+/// A put of so many bytes, which may want a generation to be seen.
+fn put_of(alloc: Global, digest: Digest, bytes: usize, expect: Option<u16>) -> Result<Command, Fail>
     requires { bytes ≤ 12208 }
     ensures { IfOk result (λ c. IsInRange c × (c ≢ Command.Quit)) }
 {
     Ok(Command::Put {
         digest,
         ttl: 0,
-        expect: None,
+        expect,
         payload: Bytes::from_vec(vec![in alloc; 0xaa; bytes]?),
     })
 }
@@ -106,7 +106,7 @@ fn what_is_sealed_is_flushed(rt: HostRuntime) -> Result<(), Fail> {
     let mut first = RISING;
     first.0[0] = 1;
     for digest in [first, RISING] {
-        let put = put_of(alloc, digest, 11_152)?;
+        let put = put_of(alloc, digest, 11_152, None)?;
         assert!(rt; matches!(&node.act(alloc, &put, 1000), Reply::Done2 { a: 1, b: 1000 }));
         node.tend(alloc);
     }
@@ -122,10 +122,57 @@ fn what_is_sealed_is_flushed(rt: HostRuntime) -> Result<(), Fail> {
             Reply::Done1 { n: 0 }
         )
     );
-    let put = put_of(alloc, first, 1)?;
+    let put = put_of(alloc, first, 1, None)?;
     assert!(rt; matches!(&node.act(alloc, &put, 1000), Reply::Done2 { a: 2, b: 1000 }));
     assert!(rt; matches!(&node.flush_device(0), Ok(1)));
     assert!(rt; matches!(&node.flush_device(0), Ok(0)));
+    assert_eq!(rt; node.stop().len(), 1);
+    Ok(())
+}
+
+/// What each command on one digest is answered behind those before it: a tombstone isn't seen, and generations go on behind it.
+#[test]
+fn a_digest_is_buried_and_deleted(rt: HostRuntime) -> Result<(), Fail> {
+    let alloc = rt.alloc();
+    let mut node = started(alloc, formatted(&rt, alloc)?)?;
+    let meta = Command::Meta(RISING);
+    let bury = Command::Bury(RISING);
+    let del = Command::Del(RISING);
+    let first = put_of(alloc, RISING, 5, None)?;
+    let unseen = put_of(alloc, RISING, 5, Some(0))?;
+    assert!(rt;
+        matches!(
+            &node.act(alloc, &first, 1000),
+            Reply::Done2 { a: 1, b: 1000 }
+        )
+    );
+    let Reply::MetaOf { stamp, void, units } = node.act(alloc, &meta, 1000) else {
+        return Err(Fail::new("nothing is known of it"));
+    };
+    assert!(rt; stamp == (Stamp { lut: 1000, gen_: 1 }));
+    assert_eq!(rt; void, 0);
+    assert_eq!(rt; units, 4);
+    assert!(rt;
+        matches!(
+            &node.act(alloc, &bury, 1000),
+            Reply::Done2 { a: 2, b: 1000 }
+        )
+    );
+    assert!(rt; matches!(&node.act(alloc, &meta, 1000), Reply::Nothing));
+    assert!(rt;
+        matches!(
+            &node.act(alloc, &unseen, 1000),
+            Reply::Done2 { a: 3, b: 1000 }
+        )
+    );
+    assert!(rt;
+        matches!(
+            &node.act(alloc, &unseen, 1000),
+            Reply::Fail(LineFault::Gen(3))
+        )
+    );
+    assert!(rt; matches!(&node.act(alloc, &del, 1000), Reply::Gone));
+    assert!(rt; matches!(&node.act(alloc, &del, 1000), Reply::Nothing));
     assert_eq!(rt; node.stop().len(), 1);
     Ok(())
 }

@@ -1,3 +1,4 @@
 pub mod Examples
 pub mod Falling
 pub mod Words
+pub mod Spelling

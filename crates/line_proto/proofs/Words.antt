@@ -1,6 +1,8 @@
 -- The words of a line: which bytes have no space, and that a line falls into words in one way.
-use Rattle.std.proofs.Common.{◌≡◌, ℕ, ◌<◌, ◌≤◌, ◌^◌, List, [], ◌∷◌, ◌++◌, length, Option, Some, None, Ok, ◌↔◌, refl, sym, ◌∙◌, ap, subst, lit<, arith, true, length-append, IfSome}
-use Rattle.std.specs.List.{AllByRecursion}
+use Rattle.std.proofs.Common.{◌≡◌, ◌==◌, false, not, ℕ, ◌<◌, ◌≤◌, ◌^◌, List, [], ◌∷◌, ◌++◌, length, Option, Some, None, Ok, ◌↔◌, refl, sym, ◌∙◌, ap, subst, lit<, arith, true, length-append, IfSome}
+use Rattle.std.specs.Prelude.{codes, slice_index}
+use Rattle.std.specs.List.{AllByRecursion, list_all}
+use Rattle.std.proofs.lemmas.Bool.{and_parts, eqb-false, not-true}
 use Rattle.std.specs.Char.{digit_value}
 use Rattle.std.specs.Fmt.{decimal}
 use Rattle.std.specs.Str.Parse.{AllDigits}
@@ -10,10 +12,10 @@ use Rattle.hex.specs.Hex.{is_hex_digit, decode_sized}
 use Rattle.hex.proofs.HexLemmas.{decode_of-ok, decode_sized-ok, decode_sized-twice}
 use Rattle.rec_format.specs.declared.version.Digest.{Digest}
 use Rattle.line_proto.specs.declared.command.Command.{Command}
-use Rattle.line_proto.specs.declared.command.Command.TheVariants.{Put, Get, Flush, Quit}
-use Rattle.line_proto.specs.Lines.{line_limit, IsDigestText, IsExpectText, IsDataText}
+use Rattle.line_proto.specs.declared.command.Command.TheVariants.{Put, Get, Meta, Del, Bury, Flush, Quit}
+use Rattle.line_proto.specs.Lines.{line_limit, IsDigestText, IsExpectText, IsDataText, IsDigestLine, Spells}
 use Rattle.line_proto.specs.Built.{IsBuilt, IsLine, IsInRange}
-use Rattle.line_proto.specs.Reading.{IsWord, IsFour, IsPut, IsGetCommand, IsPutCommand}
+use Rattle.line_proto.specs.Reading.{IsWord, IsFour, IsPut, IsDigestCommand, IsPutCommand}
 
 word_of_digits : (bytes : List ℕ) → AllDigits 10 bytes → IsWord bytes
 word_of_digits [] digits = tt
@@ -157,45 +159,59 @@ no_third text first rest second after parted again word a b c d four =
     let more = one_cut second b after _ again.1 four.two (sym again.0 ∙ at.1) in
     no_cut c _ (subst IsWord more.1 word)
 
-heads : (a b : ℕ) (xs ys : List ℕ) → a ∷ xs ≡ b ∷ ys → a ≡ b
-heads a b xs ys is = cc
+-- ---- lines
 
-fourth : (a b c d : ℕ) (xs ys : List ℕ) → a ∷ b ∷ c ∷ d ∷ xs ≡ a ∷ b ∷ c ∷ d ∷ ys → xs ≡ ys
-fourth a b c d xs ys is = cc
+-- a test that needs no proof for a literal
+word_by : (bytes : List ℕ) → list_all (λ c. not (c == 32)) bytes ≡ true → IsWord bytes
+word_by [] is = tt
+word_by (c ∷ bytes) is =
+    let parts = and_parts (not (c == 32)) (list_all (λ c. not (c == 32)) bytes) is in
+    (eqb-false c 32 (not-true (c == 32) parts.0), word_by bytes parts.1)
 
--- a line that begins with `get ` is the command of what stands behind it
-pub line_of_get : (line text : List ℕ) (read : Option Command) → length line ≤ line_limit → line ≡ 103 ∷ 101 ∷ 116 ∷ 32 ∷ text
-    → ((c : Command) → (read ≡ Some c) ↔ IsGetCommand text c) → (c : Command) → (read ≡ Some c) ↔ IsLine line c
-line_of_get line text read fits is reads (Put digest ttl expect payload) = (
-  λ r. absurd ((reads (Put digest ttl expect payload)).0 r),
-  λ other. let wrong = heads 103 112 _ _ (sym is ∙ other.spelled.spells.line_is) in absurd (omega (arith, wrong)),
-)
-line_of_get line text read fits is reads (Get digest) = (
-  λ r. record {
-    spelled = record { short = fits; spells = record { text = text; is_digest = (reads (Get digest)).0 r; line_is = is } };
-    built = tt;
-  },
-  λ other.
-      let get = other.spelled.spells in
-      (reads (Get digest)).1 (subst (λ (l : List ℕ). IsDigestText l digest) (fourth 103 101 116 32 get.text text (sym get.line_is ∙ is)) get.is_digest),
-)
-line_of_get line text read fits is reads Flush = (
-  λ r. absurd ((reads Flush).0 r),
-  λ other. let wrong = heads 103 102 _ _ (sym is ∙ other.spelled.spells) in absurd (omega (arith, wrong)),
-)
-line_of_get line text read fits is reads Quit = (
-  λ r. absurd ((reads Quit).0 r),
-  λ other. let wrong = heads 103 113 _ _ (sym is ∙ other.spelled.spells) in absurd (omega (arith, wrong)),
-)
-line_of_get line text read fits is reads c = (λ r. absurd ((reads c).0 r), λ other. absurd other.built)
+-- words that begin differently are different
+apart : (a b : List ℕ) → (slice_index a 0 == slice_index b 0) ≡ false → a ≡ b → ⊥
+apart a b differs is = eqb-false (slice_index a 0) (slice_index b 0) differs (ap (λ (l : List ℕ). slice_index l 0) is)
 
--- a line that begins with `put ` is the command of what stands behind it, where that is built
-pub line_of_put : (line text : List ℕ) (all read : Option Command) → length line ≤ line_limit → line ≡ 112 ∷ 117 ∷ 116 ∷ 32 ∷ text
-    → ((c : Command) → (all ≡ Some c) ↔ IsPutCommand text c) → ((c : Command) → (read ≡ Some c) ↔ ((all ≡ Some c) × IsBuilt c)) → (c : Command) → (read ≡ Some c) ↔ IsLine line c
-line_of_put line text all read fits is reads filters (Put digest ttl expect payload) = (
-  λ r.
-      let both = (filters (Put digest ttl expect payload)).0 r in
-      let put = (reads (Put digest ttl expect payload)).0 both.0 in
+-- a line that is one word has no space
+not_alone : (line word text alone : List ℕ) → line ≡ word ++ 32 ∷ text → IsWord alone → line ≡ alone → ⊥
+not_alone line word text alone parted is_word is = no_cut word text (subst IsWord (sym is ∙ parted) is_word)
+
+built_line : (line : List ℕ) (c : Command) (X : Type 0) → length line ≤ line_limit → IsBuilt c → X ↔ Spells line c → X ↔ IsLine line c
+built_line line c X fits built both = (λ is. record { spelled = record { short = fits; spells = both.0 is }; built = built }, λ l. both.1 l.spelled.spells)
+
+-- a word and a digest's text make the line of that word
+digest_line : (line word text w : List ℕ) (digest : Digest) → (line ≡ word ++ 32 ∷ text) × IsWord word → IsWord w → ((word ≡ w) × IsDigestText text digest) ↔ IsDigestLine line w digest
+digest_line line word text w digest parted is_word = (
+  λ is. record { text = text; is_digest = is.1; line_is = parted.0 ∙ ap (λ (l : List ℕ). l ++ 32 ∷ text) is.0 },
+  λ spelled.
+      let at = one_cut word w text spelled.text parted.1 is_word (sym parted.0 ∙ spelled.line_is) in
+      (at.0, subst (λ (l : List ℕ). IsDigestText l digest) (sym at.1) spelled.is_digest),
+)
+
+-- a line whose first word isn't `put` is the command of one digest that its parts are
+digest_command : (line word text : List ℕ) → length line ≤ line_limit → (line ≡ word ++ 32 ∷ text) × IsWord word → (word ≡ codes "put" → ⊥) → (c : Command) → IsDigestCommand word text c ↔ IsLine line c
+digest_command line word text fits parted no_put (Put digest ttl expect payload) = (
+  λ wrong. absurd wrong,
+  λ other. absurd (no_put (one_cut word (codes "put") _ _ parted.1 (word_by (codes "put") refl) (sym parted.0 ∙ other.spelled.spells.line_is)).0),
+)
+digest_command line word text fits parted no_put (Get digest) = built_line line (Get digest) _ fits tt (digest_line line word text (codes "get") digest parted (word_by (codes "get") refl))
+digest_command line word text fits parted no_put (Meta digest) = built_line line (Meta digest) _ fits tt (digest_line line word text (codes "meta") digest parted (word_by (codes "meta") refl))
+digest_command line word text fits parted no_put (Del digest) = built_line line (Del digest) _ fits tt (digest_line line word text (codes "del") digest parted (word_by (codes "del") refl))
+digest_command line word text fits parted no_put (Bury digest) = built_line line (Bury digest) _ fits tt (digest_line line word text (codes "bury") digest parted (word_by (codes "bury") refl))
+digest_command line word text fits parted no_put Flush = (λ wrong. absurd wrong, λ other. absurd (not_alone line word text (codes "flush") parted.0 (word_by (codes "flush") refl) other.spelled.spells))
+digest_command line word text fits parted no_put Quit = (λ wrong. absurd wrong, λ other. absurd (not_alone line word text (codes "quit") parted.0 (word_by (codes "quit") refl) other.spelled.spells))
+digest_command line word text fits parted no_put c = (λ wrong. absurd wrong, λ other. absurd other.built)
+
+-- a line whose first word is `put` is of no other word
+no_put : (line word text w : List ℕ) (digest : Digest) → (line ≡ word ++ 32 ∷ text) × IsWord word → word ≡ codes "put" → (slice_index (codes "put") 0 == slice_index w 0) ≡ false → IsWord w → IsDigestLine line w digest → ⊥
+no_put line word text w digest parted is_put differs is_word spelled =
+    apart (codes "put") w differs (sym is_put ∙ (one_cut word w text spelled.text parted.1 is_word (sym parted.0 ∙ spelled.line_is)).0)
+
+-- a line whose first word is `put` is the command of what stands behind it, where that is built
+put_command : (line word text : List ℕ) → length line ≤ line_limit → (line ≡ word ++ 32 ∷ text) × IsWord word → word ≡ codes "put" → (c : Command) → (IsPutCommand text c × IsBuilt c) ↔ IsLine line c
+put_command line word text fits parted is_put (Put digest ttl expect payload) = (
+  λ both.
+      let put = both.0 in
       record {
         spelled = record {
           short = fits;
@@ -207,47 +223,59 @@ line_of_put line text all read fits is reads filters (Put digest ttl expect payl
             in_range = put.in_range;
             is_expect = put.is_expect;
             is_data = put.is_data;
-            line_is = is ∙ ap (λ (l : List ℕ). 112 ∷ 117 ∷ 116 ∷ 32 ∷ l) put.spelled;
+            line_is = parted.0 ∙ (λ i. is_put i ++ 32 ∷ put.spelled i);
           };
         };
         built = both.1;
       },
   λ other.
-      let put = other.spelled.spells in
-      let same = (reads (Put digest ttl expect payload)).1 (record {
-        digest_text = put.digest_text;
-        expect_text = put.expect_text;
-        data_text = put.data_text;
-        is_digest = put.is_digest;
-        in_range = put.in_range;
-        is_expect = put.is_expect;
-        is_data = put.is_data;
-        spelled = fourth 112 117 116 32 text _ (sym is ∙ put.line_is);
-      }) in
-      (filters (Put digest ttl expect payload)).1 (same, other.built),
+      let put = other.spelled.spells in (
+        record {
+          digest_text = put.digest_text;
+          expect_text = put.expect_text;
+          data_text = put.data_text;
+          is_digest = put.is_digest;
+          in_range = put.in_range;
+          is_expect = put.is_expect;
+          is_data = put.is_data;
+          spelled = (one_cut word (codes "put") text _ parted.1 (word_by (codes "put") refl) (sym parted.0 ∙ put.line_is)).1;
+        },
+        other.built,
+      ),
 )
-line_of_put line text all read fits is reads filters (Get digest) = (
-  λ r. absurd ((reads (Get digest)).0 ((filters (Get digest)).0 r).0),
-  λ other. let wrong = heads 112 103 _ _ (sym is ∙ other.spelled.spells.line_is) in absurd (omega (arith, wrong)),
-)
-line_of_put line text all read fits is reads filters Flush = (
-  λ r. absurd ((reads Flush).0 ((filters Flush).0 r).0),
-  λ other. let wrong = heads 112 102 _ _ (sym is ∙ other.spelled.spells) in absurd (omega (arith, wrong)),
-)
-line_of_put line text all read fits is reads filters Quit = (
-  λ r. absurd ((reads Quit).0 ((filters Quit).0 r).0),
-  λ other. let wrong = heads 112 113 _ _ (sym is ∙ other.spelled.spells) in absurd (omega (arith, wrong)),
-)
-line_of_put line text all read fits is reads filters c = (λ r. absurd ((reads c).0 ((filters c).0 r).0), λ other. absurd other.built)
+put_command line word text fits parted is_put (Get digest) = (λ both. absurd both.0, λ other. absurd (no_put line word text (codes "get") digest parted is_put refl (word_by (codes "get") refl) other.spelled.spells))
+put_command line word text fits parted is_put (Meta digest) = (λ both. absurd both.0, λ other. absurd (no_put line word text (codes "meta") digest parted is_put refl (word_by (codes "meta") refl) other.spelled.spells))
+put_command line word text fits parted is_put (Del digest) = (λ both. absurd both.0, λ other. absurd (no_put line word text (codes "del") digest parted is_put refl (word_by (codes "del") refl) other.spelled.spells))
+put_command line word text fits parted is_put (Bury digest) = (λ both. absurd both.0, λ other. absurd (no_put line word text (codes "bury") digest parted is_put refl (word_by (codes "bury") refl) other.spelled.spells))
+put_command line word text fits parted is_put Flush = (λ both. absurd both.0, λ other. absurd (not_alone line word text (codes "flush") parted.0 (word_by (codes "flush") refl) other.spelled.spells))
+put_command line word text fits parted is_put Quit = (λ both. absurd both.0, λ other. absurd (not_alone line word text (codes "quit") parted.0 (word_by (codes "quit") refl) other.spelled.spells))
+put_command line word text fits parted is_put c = (λ both. absurd both.0, λ other. absurd other.built)
 
--- a get is its digest's
-pub get_of_digest : (text : List ℕ) (digest : Digest) → ((x : Digest) → (Some digest ≡ Some x) ↔ IsDigestText text x) → (command : Command) → (Some (Get digest) ≡ Some command) ↔ IsGetCommand text command
-get_of_digest text digest reads (Get other) = (λ is. (reads other).0 cc, λ is. let same = (reads other).1 is in cc)
-get_of_digest text digest reads _ = (λ is. absurd (cc), λ wrong. absurd wrong)
+-- so a line is read where its parts are
+pub line_of_digest : (line word text : List ℕ) (read : Option Command) → length line ≤ line_limit → (line ≡ word ++ 32 ∷ text) × IsWord word → (word ≡ codes "put" → ⊥)
+    → ((c : Command) → (read ≡ Some c) ↔ IsDigestCommand word text c) → (c : Command) → (read ≡ Some c) ↔ IsLine line c
+line_of_digest line word text read fits parted no_put reads c =
+    let both = digest_command line word text fits parted no_put c in
+    (λ r. both.0 ((reads c).0 r), λ is. (reads c).1 (both.1 is))
 
-pub get_of_none : (text : List ℕ) → ((x : Digest) → (None ≡ Some x) ↔ IsDigestText text x) → (command : Command) → (None ≡ Some command) ↔ IsGetCommand text command
-get_of_none text reads (Get other) = (λ is. cc, λ is. let same = (reads other).1 is in cc)
-get_of_none text reads _ = (λ is. cc, λ wrong. absurd wrong)
+pub line_of_put : (line word text : List ℕ) (all read : Option Command) → length line ≤ line_limit → (line ≡ word ++ 32 ∷ text) × IsWord word → word ≡ codes "put"
+    → ((c : Command) → (all ≡ Some c) ↔ IsPutCommand text c) → ((c : Command) → (read ≡ Some c) ↔ ((all ≡ Some c) × IsBuilt c)) → (c : Command) → (read ≡ Some c) ↔ IsLine line c
+line_of_put line word text all read fits parted is_put reads filters c =
+    let both = put_command line word text fits parted is_put c in (
+      λ r. let got = (filters c).0 r in both.0 ((reads c).0 got.0, got.1),
+      λ is. let parts = both.1 is in (filters c).1 ((reads c).1 parts.0, parts.1),
+    )
+
+-- a line without a space that is neither `flush` nor `quit` is no command that is built
+pub line_of_none : (line : List ℕ) → IsWord line → (line ≡ codes "flush" → ⊥) → (line ≡ codes "quit" → ⊥) → (c : Command) → (None ≡ Some c) ↔ IsLine line c
+line_of_none line is_word no_flush no_quit (Put digest ttl expect payload) = (λ r. cc, λ other. absurd (no_cut (codes "put") _ (subst IsWord other.spelled.spells.line_is is_word)))
+line_of_none line is_word no_flush no_quit (Get digest) = (λ r. cc, λ other. absurd (no_cut (codes "get") _ (subst IsWord other.spelled.spells.line_is is_word)))
+line_of_none line is_word no_flush no_quit (Meta digest) = (λ r. cc, λ other. absurd (no_cut (codes "meta") _ (subst IsWord other.spelled.spells.line_is is_word)))
+line_of_none line is_word no_flush no_quit (Del digest) = (λ r. cc, λ other. absurd (no_cut (codes "del") _ (subst IsWord other.spelled.spells.line_is is_word)))
+line_of_none line is_word no_flush no_quit (Bury digest) = (λ r. cc, λ other. absurd (no_cut (codes "bury") _ (subst IsWord other.spelled.spells.line_is is_word)))
+line_of_none line is_word no_flush no_quit Flush = (λ r. cc, λ other. absurd (no_flush other.spelled.spells))
+line_of_none line is_word no_flush no_quit Quit = (λ r. cc, λ other. absurd (no_quit other.spelled.spells))
+line_of_none line is_word no_flush no_quit c = (λ r. cc, λ other. absurd other.built)
 
 -- data is no longer than its text
 data_fits : (text bytes : List ℕ) → IsDataText text bytes → length bytes ≤ length text
@@ -270,6 +298,9 @@ in_range line (Put digest ttl expect payload) is =
     shorter : (line a b c d : List ℕ) → line ≡ 112 ∷ 117 ∷ 116 ∷ 32 ∷ (a ++ 32 ∷ (b ++ 32 ∷ (c ++ 32 ∷ d))) → length d ≤ length line
     shorter line a b c d one = omega (arith, ap length one, length-append a (32 ∷ (b ++ 32 ∷ (c ++ 32 ∷ d))), length-append b (32 ∷ (c ++ 32 ∷ d)), length-append c (32 ∷ d))
 in_range line (Get digest) is = record { numbers = tt; built = tt }
+in_range line (Meta digest) is = record { numbers = tt; built = tt }
+in_range line (Del digest) is = record { numbers = tt; built = tt }
+in_range line (Bury digest) is = record { numbers = tt; built = tt }
 in_range line Flush is = record { numbers = tt; built = tt }
 in_range line Quit is = record { numbers = tt; built = tt }
 in_range line c is = absurd is.built

@@ -75,6 +75,46 @@ pub record IsCommandLine (line : List ℕ) (c : Command) : Type 0 where
   pub short : length line ≤ line_limit
   pub spells : Spells line c
 
+-- some line spells it
+abbrev pub HasLine : Command → Type 0
+HasLine c = (line : List ℕ) × IsCommandLine line c
+
+-- ---- the text of a command
+
+abbrev pub digest_text : Digest → List ℕ
+digest_text digest = encode_lower digest.0
+
+abbrev pub expect_text : Option ℕ → List ℕ
+expect_text None = codes "*"
+expect_text (Some g) = decimal g
+
+abbrev pub data_text : List ℕ → List ℕ
+data_text [] = codes "-"
+data_text (b ∷ bytes) = encode_lower (b ∷ bytes)
+
+abbrev pub command_words : Command → List (List ℕ)
+command_words (command.Put digest ttl expect payload) =
+    codes "put" ∷ digest_text digest ∷ decimal ttl ∷ expect_text expect ∷ data_text payload ∷ []
+command_words (command.Get digest) = codes "get" ∷ digest_text digest ∷ []
+command_words (command.Meta digest) = codes "meta" ∷ digest_text digest ∷ []
+command_words (command.Del digest) = codes "del" ∷ digest_text digest ∷ []
+command_words (command.Bury digest) = codes "bury" ∷ digest_text digest ∷ []
+command_words command.Flush = codes "flush" ∷ []
+command_words command.Defrag = codes "defrag" ∷ []
+command_words command.Expire = codes "expire" ∷ []
+command_words command.Raid = codes "raid" ∷ []
+command_words command.Stat = codes "stat" ∷ []
+command_words command.Restart = codes "restart" ∷ []
+command_words command.Quit = codes "quit" ∷ []
+
+-- the line that is printed of a command, without its LF: hex digits are lower case
+abbrev pub command_line : Command → List ℕ
+command_line c = words_line (command_words c)
+
+-- and with it
+abbrev pub command_text : Command → List ℕ
+command_text c = command_line c ++ 10 ∷ []
+
 -- ---- replies
 
 abbrev pub fault_words : LineFault → List (List ℕ)
@@ -88,10 +128,6 @@ fault_words why.Space = codes "space" ∷ []
 fault_words why.Memory = codes "memory" ∷ []
 fault_words why.Fault = codes "fault" ∷ []
 fault_words why.Damaged = codes "damaged" ∷ []
-
-abbrev pub data_text : List ℕ → List ℕ
-data_text [] = codes "-"
-data_text (b ∷ bytes) = encode_lower (b ∷ bytes)
 
 abbrev pub counts_words : Counts → List (List ℕ)
 counts_words c =

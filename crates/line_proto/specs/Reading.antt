@@ -1,5 +1,5 @@
 -- Crate line_proto. How a line is read, word by word.
-use Rattle.std.specs.Prelude.{◌≡◌, ◌≢◌, ℕ, ◌≤◌, List, [], ◌∷◌, ◌++◌, Option, MatchOption, decimal}
+use Rattle.std.specs.Prelude.{◌≡◌, ◌≢◌, ℕ, ◌≤◌, List, [], ◌∷◌, ◌++◌, Option, MatchOption, codes, decimal}
 use Rattle.std.specs.List.{AllByRecursion}
 use Rattle.rec_format.specs.declared.version.Digest.{Digest}
 use Rattle.line_proto.specs.declared.command.Command.{Command}
@@ -42,7 +42,10 @@ abbrev pub IsPutCommand : List ℕ → Command → Type 0
 IsPutCommand text (command.Put digest ttl expect payload) = IsPut text digest ttl expect payload
 IsPutCommand text _ = ⊥
 
--- what stands behind `get ` is this command
-abbrev pub IsGetCommand : List ℕ → Command → Type 0
-IsGetCommand text (command.Get digest) = IsDigestText text digest
-IsGetCommand text _ = ⊥
+-- this word, a space and this text are a command of one digest
+abbrev pub IsDigestCommand : (word text : List ℕ) → Command → Type 0
+IsDigestCommand word text (command.Get digest) = (word ≡ codes "get") × IsDigestText text digest
+IsDigestCommand word text (command.Meta digest) = (word ≡ codes "meta") × IsDigestText text digest
+IsDigestCommand word text (command.Del digest) = (word ≡ codes "del") × IsDigestText text digest
+IsDigestCommand word text (command.Bury digest) = (word ≡ codes "bury") × IsDigestText text digest
+IsDigestCommand word text _ = ⊥

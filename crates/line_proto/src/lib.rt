@@ -9,6 +9,7 @@ mod parts;
 mod print;
 mod read;
 mod reply;
+mod spell;
 mod store;
 
 pub use command::Command;
@@ -17,6 +18,7 @@ pub use lines::Lines;
 pub use print::print_reply;
 pub use read::read_command;
 pub use reply::{LineFault, Reply};
+pub use spell::print_command;
 use std::alloc::AllocError;
 pub use store::Store;
 

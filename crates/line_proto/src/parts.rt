@@ -20,13 +20,6 @@ pub fn cut(text: &[u8], separator: u8) -> Option<(&[u8], &[u8])>
     None
 }
 
-/// What stands behind the word.
-pub fn behind<'a>(line: &'a [u8], word: &[u8]) -> Option<&'a [u8]>
-    ensures { MatchOption result ((rest : List ℕ) → line.now ≢ word.now ++ rest) (λ rest. line.now ≡ word.now ++ rest.now) }
-{
-    line.strip_prefix(word)
-}
-
 /// The digest that 40 hex digits of either case spell.
 pub fn digest_of(text: &[u8]) -> Option<Digest>
     ensures { (digest : Digest) → (result ≡ Some digest) ↔ IsDigestText text.now digest }

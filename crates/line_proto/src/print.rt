@@ -7,8 +7,8 @@ use crate::{LineFault, NoMemory, Reply};
 use rec_format::{Bytes, Counts, Stamp};
 use std::alloc::Global;
 
-// The hex digits of bytes in lower case, and a dash for none.
-fn data_of_bytes(alloc: Global, bytes: &[u8]) -> Result<String, NoMemory>
+/// The hex digits of bytes in lower case, and a dash for none.
+pub fn data_of_bytes(alloc: Global, bytes: &[u8]) -> Result<String, NoMemory>
     ensures { IfOk result (λ text. string_bytes text ≡ data_text bytes.now) }
 {
     if bytes.is_empty() {

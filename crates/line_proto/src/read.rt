@@ -1,10 +1,10 @@
 // A line to a command.
 ghost use Rattle.std.specs.Prelude.{◌≡◌, ◌↔◌, List, ℕ, Option, Some, IfOk, IfSome, IsTrue, MatchOption};
 ghost use Rattle.line_proto.specs.Built.{IsBuilt, IsLine, IsInRange};
-ghost use Rattle.line_proto.specs.Reading.{IsFour, IsGetCommand, IsPutCommand};
+ghost use Rattle.line_proto.specs.Reading.{IsFour, IsDigestCommand, IsPutCommand};
 ghost use Rattle.line_proto.specs.declared.command.Command.{Command};
 
-use crate::parts::{behind, cut, data_of, digest_of, expect_of, number_of};
+use crate::parts::{cut, data_of, digest_of, expect_of, number_of};
 use crate::{Command, NoMemory};
 use std::alloc::Global;
 
@@ -24,13 +24,24 @@ fn words_of(text: &[u8]) -> Option<(&[u8], &[u8], &[u8], &[u8])>
     Some((digest, ttl, expect, data))
 }
 
-fn get_of(text: &[u8]) -> Option<Command>
-    ensures { (command : Command) → (result ≡ Some command) ↔ IsGetCommand text.now command }
+// The command of one digest that this word asks for.
+fn of_digest(word: &[u8], text: &[u8]) -> Option<Command>
+    ensures { (command : Command) → (result ≡ Some command) ↔ IsDigestCommand word.now text.now command }
 {
-    match digest_of(text) {
-        Some(digest) => Some(Command::Get(digest)),
-        None => None,
+    let digest = digest_of(text)?;
+    if word == b"get".as_slice() {
+        return Some(Command::Get(digest));
     }
+    if word == b"meta".as_slice() {
+        return Some(Command::Meta(digest));
+    }
+    if word == b"del".as_slice() {
+        return Some(Command::Del(digest));
+    }
+    if word == b"bury".as_slice() {
+        return Some(Command::Bury(digest));
+    }
+    None
 }
 
 fn put_of(alloc: Global, text: &[u8]) -> Result<Option<Command>, NoMemory>
@@ -64,8 +75,9 @@ fn is_built(command: &Command) -> bool
     ensures { IsTrue result ↔ IsBuilt command.now }
 {
     match command {
-        Command::Put { ttl, expect, .. } => *ttl == 0 && expect.is_none(),
-        Command::Get(_) | Command::Flush | Command::Quit => true,
+        Command::Put { ttl, .. } => *ttl == 0,
+        Command::Get(_) | Command::Meta(_) | Command::Del(_) | Command::Bury(_) => true,
+        Command::Flush | Command::Quit => true,
         _ => false,
     }
 }
@@ -97,11 +109,11 @@ pub fn read_command(alloc: Global, line: &[u8]) -> Result<Option<Command>, NoMem
     if line == b"flush".as_slice() {
         return Ok(Some(Command::Flush));
     }
-    if let Some(text) = behind(line, b"get ") {
-        return Ok(get_of(text));
-    }
-    if let Some(text) = behind(line, b"put ") {
+    let Some((word, text)) = cut(line, b' ') else {
+        return Ok(None);
+    };
+    if word == b"put".as_slice() {
         return Ok(only_built(put_of(alloc, text)?));
     }
-    Ok(None)
+    Ok(of_digest(word, text))
 }

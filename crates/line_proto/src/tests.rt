@@ -1,5 +1,5 @@
 use super::*;
-use rec_format::{Bytes, Counts, Stamp};
+use rec_format::{Bytes, Counts, Digest, Stamp};
 use std::alloc::Global;
 use std::test::Fail;
 
@@ -51,6 +51,21 @@ fn commands_are_read(rt: HostRuntime) -> Result<(), Fail> {
         return Ok(());
     };
     assert_eq!(rt; digest.0[10], 10);
+    let Some(Command::Meta(digest)) = read_command(alloc, &line(alloc, b"meta ", b"")?)? else {
+        assert!(rt; false);
+        return Ok(());
+    };
+    assert_eq!(rt; digest.0[11], 11);
+    let Some(Command::Del(digest)) = read_command(alloc, &line(alloc, b"del ", b"")?)? else {
+        assert!(rt; false);
+        return Ok(());
+    };
+    assert_eq!(rt; digest.0[19], 19);
+    let Some(Command::Bury(digest)) = read_command(alloc, &line(alloc, b"bury ", b"")?)? else {
+        assert!(rt; false);
+        return Ok(());
+    };
+    assert_eq!(rt; digest.0[1], 1);
     let Some(Command::Flush) = read_command(alloc, b"flush")? else {
         assert!(rt; false);
         return Ok(());
@@ -59,6 +74,111 @@ fn commands_are_read(rt: HostRuntime) -> Result<(), Fail> {
         assert!(rt; false);
         return Ok(());
     };
+    Ok(())
+}
+
+// What the put of a line expects, where it is one.
+fn expected_by(alloc: Global, after: &[u8]) -> Result<Option<Option<u16>>, Fail> {
+    let put = line(alloc, b"put ", after)?;
+    match read_command(alloc, &put)? {
+        Some(Command::Put { expect, .. }) => Ok(Some(expect)),
+        _ => Ok(None),
+    }
+}
+
+#[test]
+fn an_expected_generation_is_read(rt: HostRuntime) -> Result<(), Fail> {
+    let alloc = rt.alloc();
+    for (after, want) in [
+        (b" 0 * aa".as_slice(), Some(None)),
+        (b" 0 0 aa".as_slice(), Some(Some(0))),
+        (b" 0 1 -".as_slice(), Some(Some(1))),
+        (b" 0 65535 aa".as_slice(), Some(Some(65_535))),
+        (b" 0 65536 aa".as_slice(), None),
+        (b" 0 01 aa".as_slice(), None),
+        (b" 0 00 aa".as_slice(), None),
+        (b" 0 0x aa".as_slice(), None),
+        (b" 0  aa".as_slice(), None),
+    ] {
+        assert_eq!(rt; expected_by(alloc, after)?, want);
+    }
+    Ok(())
+}
+
+// What is printed of the command that a line asks for, behind what stood there.
+fn printed_again(alloc: Global, text: &[u8]) -> Result<Vec<u8>, Fail> {
+    let mut out = b"before ".to_vec(alloc)?;
+    let Some(command) = read_command(alloc, text)? else {
+        return Ok(out);
+    };
+    print_command(alloc, &command, &mut out)?;
+    Ok(out)
+}
+
+#[test]
+fn commands_are_printed_as_they_are_read(rt: HostRuntime) -> Result<(), Fail> {
+    let alloc = rt.alloc();
+    for (text, want) in [
+        (
+            b"get 000102030405060708090A0B0c0d0e0f10111213".as_slice(),
+            b"before get 000102030405060708090a0b0c0d0e0f10111213\n".as_slice(),
+        ),
+        (
+            b"meta abcdefABCDEFabcdefABCDEF0123456789000000".as_slice(),
+            b"before meta abcdefabcdefabcdefabcdef0123456789000000\n".as_slice(),
+        ),
+        (
+            b"del ABCDEFabcdefabcdefABCDEF0123456789000001".as_slice(),
+            b"before del abcdefabcdefabcdefabcdef0123456789000001\n".as_slice(),
+        ),
+        (
+            b"bury FFffffffffffffffffffffffffffffffffffffff".as_slice(),
+            b"before bury ffffffffffffffffffffffffffffffffffffffff\n".as_slice(),
+        ),
+        (
+            b"put 0000000000000000000000000000000000000000 0 * 68656C6C6f".as_slice(),
+            b"before put 0000000000000000000000000000000000000000 0 * 68656c6c6f\n".as_slice(),
+        ),
+        (
+            b"put 0000000000000000000000000000000000000001 0 0 -".as_slice(),
+            b"before put 0000000000000000000000000000000000000001 0 0 -\n".as_slice(),
+        ),
+        (
+            b"put 00000000000000000000000000000000000000AA 0 65535 00".as_slice(),
+            b"before put 00000000000000000000000000000000000000aa 0 65535 00\n".as_slice(),
+        ),
+        (b"flush".as_slice(), b"before flush\n".as_slice()),
+        (b"quit".as_slice(), b"before quit\n".as_slice()),
+        (b"frob".as_slice(), b"before ".as_slice()),
+    ] {
+        assert_eq!(rt; printed_again(alloc, text)?.as_slice(), want);
+    }
+    Ok(())
+}
+
+#[test]
+fn commands_that_are_not_built_are_printed(rt: HostRuntime) -> Result<(), Fail> {
+    let alloc = rt.alloc();
+    let mut out = Vec::new(alloc);
+    print_command(alloc, &Command::Defrag, &mut out)?;
+    print_command(alloc, &Command::Expire, &mut out)?;
+    print_command(alloc, &Command::Raid, &mut out)?;
+    print_command(alloc, &Command::Stat, &mut out)?;
+    print_command(alloc, &Command::Restart, &mut out)?;
+    assert_eq!(rt;
+        out.as_slice(),
+        b"defrag\nexpire\nraid\nstat\nrestart\n".as_slice()
+    );
+    let put = Command::Put {
+        digest: Digest([0; 20]),
+        ttl: 315_360_000,
+        expect: None,
+        payload: Bytes::from_vec(Vec::new(alloc)),
+    };
+    let mut out = Vec::new(alloc);
+    print_command(alloc, &put, &mut out)?;
+    let want = b"put 0000000000000000000000000000000000000000 315360000 * -\n".as_slice();
+    assert_eq!(rt; out.as_slice(), want);
     Ok(())
 }
 
@@ -79,6 +199,14 @@ fn other_lines_are_none(rt: HostRuntime) -> Result<(), Fail> {
         b"get 000102030405060708090a0b0c0d0e0f101112130".as_slice(),
         b"get 000102030405060708090a0b0c0d0e0f1011121g".as_slice(),
         b"get  000102030405060708090a0b0c0d0e0f10111213".as_slice(),
+        b"meta".as_slice(),
+        b"meta ".as_slice(),
+        b"Meta 000102030405060708090a0b0c0d0e0f10111213".as_slice(),
+        b"met 000102030405060708090a0b0c0d0e0f10111213".as_slice(),
+        b"del 000102030405060708090a0b0c0d0e0f10111213 ".as_slice(),
+        b"delete 000102030405060708090a0b0c0d0e0f10111213".as_slice(),
+        b"bury 000102030405060708090a0b0c0d0e0f1011121".as_slice(),
+        b" bury 000102030405060708090a0b0c0d0e0f10111213".as_slice(),
     ] {
         assert!(rt; read_command(alloc, text)?.is_none());
     }
@@ -107,18 +235,13 @@ fn other_lines_are_none(rt: HostRuntime) -> Result<(), Fail> {
 #[test]
 fn commands_that_are_not_built_are_none(rt: HostRuntime) -> Result<(), Fail> {
     let alloc = rt.alloc();
-    for after in [
-        b" 1 * aa".as_slice(),
-        b" 0 0 aa".as_slice(),
-        b" 315360000 65535 -".as_slice(),
-    ] {
+    for after in [b" 1 * aa".as_slice(), b" 315360000 65535 -".as_slice()] {
         assert!(rt; read_command(alloc, &line(alloc, b"put ", after)?)?.is_none());
-    }
-    for word in [b"meta ".as_slice(), b"del ".as_slice(), b"bury ".as_slice()] {
-        assert!(rt; read_command(alloc, &line(alloc, word, b"")?)?.is_none());
     }
     for word in [
         b"defrag".as_slice(),
+        b"expire".as_slice(),
+        b"raid".as_slice(),
         b"stat".as_slice(),
         b"restart".as_slice(),
     ] {

@@ -1,15 +1,17 @@
 -- With commit on, what a line wrote is flushed when it is answered as done: of the commands that are built.
 use Rattle.std.proofs.Common.{◌≡◌, ℕ, zero, suc, Bool, true, false, cond, List, [], ◌∷◌, ◌++◌, refl, sym, ap, ◌∙◌, subst, inl, inr}
-use Rattle.std.specs.Prelude.{Option, Some, None, MatchOption, IsTrue, ◌==◌, slice_get}
+use Rattle.std.specs.Prelude.{Option, Some, None, MatchOption, MatchBool, IsTrue, ◌==◌, slice_get}
 use Rattle.std.specs.List.{AllByRecursion}
 use Rattle.std.proofs.lemmas.List.{append-nil}
 use Rattle.std.proofs.lemmas.Bool.{eqb-true}
 use Rattle.rec_format.specs.declared.version.Digest.{Digest}
+use Rattle.rec_format.specs.declared.version.Stamp.{Stamp}
 use Rattle.rec_format.specs.declared.version.Version.{Version}
-use Rattle.device_model.specs.Device.{seen}
-use Rattle.device_model.specs.Steps.{Step}
-use Rattle.device_model.specs.Events.{Cause, Answer, stamp_given, refused, Event, put_call, get_call, after_event}
-use Rattle.device_model.specs.Legal.{Follows, Allowed, Unless, WriteEnds, WhereReads, put_refusal, new_put}
+use Rattle.rec_format.specs.Versions.{version_units, a_tombstone}
+use Rattle.device_model.specs.Device.{seen, entry_is_covered, next_stamp_of}
+use Rattle.device_model.specs.Steps.{Step, removed}
+use Rattle.device_model.specs.Events.{Cause, Answer, stamp_given, happened, refused, Event, put_call, delete_call, get_call, after_event}
+use Rattle.device_model.specs.Legal.{Follows, Allowed, Only, Unless, WriteEnds, Entombs, Removes, WhereReads, no_write, the_stamp, tombstone_reserve, put_refusal, new_put}
 use Rattle.line_proto.specs.declared.command.Command.{Command}
 use Rattle.line_proto.specs.declared.command.Command.TheVariants as command
 use Rattle.line_proto.specs.declared.reply.Reply.{Reply}
@@ -56,6 +58,30 @@ get_commits : (slot : Slot) (told : Bool) (event : Event) (digest : Digest) (now
 get_commits slot told event digest now (inl read) = no_steps slot event read.2
 get_commits slot told event digest now (inr (inl no_memory)) = no_steps slot event no_memory.1
 get_commits slot told event digest now (inr (inr reads)) = no_steps slot event (read_steps told event (seen slot.state now digest) reads)
+
+entombs_commit : (slot : Slot) (event : Event) (digest : Digest) (now : ℕ) (ok : Stamp → Answer) → Entombs slot.setup slot.state event digest now ok → CommitsEvent slot event
+entombs_commit slot event digest now ok (inl no_memory) = no_steps slot event no_memory.1
+entombs_commit slot event digest now ok (inr unless) =
+    let stamp : Option Stamp = next_stamp_of slot.setup slot.state now digest in
+    let v : Version = a_tombstone (the_stamp stamp) in
+    unless_ends slot event digest v (ok (the_stamp stamp)) (no_write slot.setup tombstone_reserve (version_units v) stamp slot.state) unless
+
+-- a removal writes a tombstone where it is covered, and else nothing
+removes_commit : (slot : Slot) (event : Event) (digest : Digest) (now : ℕ) → Removes slot.setup slot.state event digest now → CommitsEvent slot event
+removes_commit slot event digest now = by_cover (entry_is_covered slot.state digest)
+  where
+    by_cover : (covered : Bool)
+        → MatchBool covered (Entombs slot.setup slot.state event digest now (λ stamp. happened true)) ((event.answer ≡ happened true) × (event.steps ≡ removed digest ∷ []))
+        → CommitsEvent slot event
+    by_cover true entombs = entombs_commit slot event digest now (λ stamp. happened true) entombs
+    by_cover false drops = λ commit none. subst (λ (steps : List Step). AllByRecursion (flushed_if_wrote (after_event slot.setup event slot.state)) steps) (sym drops.1) (tt, tt)
+
+delete_commits : (slot : Slot) (told : Bool) (event : Event) (digest : Digest) (now : ℕ) → Allowed slot.setup told slot.state event (delete_call digest now) → CommitsEvent slot event
+delete_commits slot told event digest now = by_seen (seen slot.state now digest)
+  where
+    by_seen : (v : Option Version) → MatchOption v (Only event (happened false)) (λ _. Removes slot.setup slot.state event digest now) → CommitsEvent slot event
+    by_seen None only = no_steps slot event only.1
+    by_seen (Some v) removes = removes_commit slot event digest now removes
 
 -- ---- one event on a device of the node
 
@@ -120,9 +146,11 @@ does_commit told node (command.Put digest ttl expect payload) now work r built d
 does_commit told node (command.Get digest) now work r built does legal device = one_event told node _ does.0 work r does.1 does.3
     (λ slot follows. get_commits slot told does.0 digest now (subst (Allowed slot.setup told slot.state does.0) does.2 follows.allowed)) legal device
 does_commit told node command.Quit now work r built does legal device = no_work (is_failed r) node work does.0 (node_after work node) device
-does_commit told node (command.Meta digest) now work r built does legal device = absurd built
-does_commit told node (command.Del digest) now work r built does legal device = absurd built
-does_commit told node (command.Bury digest) now work r built does legal device = absurd built
+does_commit told node (command.Meta digest) now work r built does legal device = no_work (is_failed r) node work does.0 (node_after work node) device
+does_commit told node (command.Del digest) now work r built does legal device = one_event told node _ does.0 work r does.1 does.3
+    (λ slot follows. delete_commits slot told does.0 digest now (subst (Allowed slot.setup told slot.state does.0) does.2 follows.allowed)) legal device
+does_commit told node (command.Bury digest) now work r built does legal device = one_event told node _ does.0 work r does.1 does.3
+    (λ slot follows. entombs_commit slot does.0 digest now stamp_given (subst (Allowed slot.setup told slot.state does.0) does.2 follows.allowed)) legal device
 does_commit told node command.Flush now work r built does legal device = unwritten (is_failed r) node (node_after work node) work device
     (flushes_write_nothing told node work (all_flushes 0 node 0 0 work does.0 does.1) legal device)
 does_commit told node command.Defrag now work r built does legal device = absurd built

@@ -1,15 +1,17 @@
 -- What a run doesn't end with. At this stage no line halts, so a run that was served ends with no refused device; and one that took
 -- nothing ends with none that failed, where nothing is pending when it starts.
-use Rattle.std.proofs.Common.{◌≡◌, ℕ, zero, suc, Bool, true, false, ◌||◌, List, [], ◌∷◌, ◌++◌, map, refl, inl, inr, subst, sym, ap, ◌∙◌}
-use Rattle.std.specs.Prelude.{Option, Some, None, MatchOption, IsTrue, is_some, flat_map, slice_get}
+use Rattle.std.proofs.Common.{◌≡◌, ℕ, zero, suc, Bool, true, false, ◌||◌, List, [], ◌∷◌, ◌++◌, length, map, refl, inl, inr, subst, sym, ap, ◌∙◌}
+use Rattle.std.specs.Prelude.{Option, Some, None, MatchOption, MatchBool, IsTrue, is_some, flat_map, slice_get}
 use Rattle.rec_format.specs.declared.version.Digest.{Digest}
 use Rattle.rec_format.specs.declared.version.Stamp.{Stamp}
 use Rattle.rec_format.specs.declared.version.Version.{Version}
+use Rattle.rec_format.specs.Places.{device_number}
+use Rattle.rec_format.specs.Versions.{version_units, a_tombstone}
 use Rattle.device_model.specs.Book.{Setup, Buffer, client, defrag, filling_buffer}
-use Rattle.device_model.specs.Device.{State, seen}
-use Rattle.device_model.specs.Steps.{Step, after_steps}
-use Rattle.device_model.specs.Events.{Cause, Answer, stamp_given, Call, Event, put_call, get_call}
-use Rattle.device_model.specs.Legal.{FlushEnds, StopsIn, seal_if, seal_all, flush_of, flush_all, Unless, WriteEnds, WhereReads, put_refusal, new_put, Allowed, Follows}
+use Rattle.device_model.specs.Device.{State, seen, entry_is_covered, next_stamp_of}
+use Rattle.device_model.specs.Steps.{Step, removed, after_steps}
+use Rattle.device_model.specs.Events.{Cause, Answer, stamp_given, happened, Call, Event, put_call, bury_call, delete_call, get_call}
+use Rattle.device_model.specs.Legal.{FlushEnds, StopsIn, seal_if, seal_all, flush_of, flush_all, Only, Unless, WriteEnds, Entombs, Removes, WhereReads, no_write, the_stamp, tombstone_reserve, put_refusal, new_put, Allowed, Follows}
 use Rattle.line_proto.specs.declared.command.Command.{Command}
 use Rattle.line_proto.specs.declared.command.Command.TheVariants as command
 use Rattle.line_proto.specs.declared.reply.Reply.{Reply}
@@ -17,7 +19,7 @@ use Rattle.line_proto.specs.Built.{IsBuilt}
 use Rattle.line_proto.specs.Stream.{ended}
 use Rattle.node_model.specs.declared.run_end.RunEnd.{RunEnd}
 use Rattle.node_model.specs.declared.run_end.RunEnd.TheVariants as end
-use Rattle.node_model.specs.Commands.{Slot, Node, NodeEvent, Outcome, did, stopped, IsLegalOn, node_after, on_device, found_reply, answer_reply, one_sum, Does}
+use Rattle.node_model.specs.Commands.{Slot, Node, NodeEvent, Outcome, did, stopped, IsLegalOn, node_after, on_device, found_reply, meta_reply, seen_on, answer_reply, one_sum, Does}
 use Rattle.node_model.specs.Run.{ImagesLeft, Served, AnswersLine, ServesAll, IsRun, ClosesEach, halts, is_halted, node_after_line, last_node}
 use Rattle.node_model.specs.Outside.{Outside, TakesLines, rest_line}
 use Rattle.node_model.specs.RunEnd.{HasCause, IsQuiet, AllQuiet}
@@ -32,9 +34,13 @@ found_goes : (found : Option Version) → halts (found_reply found) ≡ false
 found_goes None = refl
 found_goes (Some v) = refl
 
-write_goes : (setup : Setup) (s : State) (event : Event) (digest : Digest) (v : Version) (stamp : Stamp) → WriteEnds setup s event digest v (stamp_given stamp) → halts (answer_reply event.answer) ≡ false
-write_goes setup s event digest v stamp (inl done) = answer_goes event.answer _ done.0 refl
-write_goes setup s event digest v stamp (inr fault) = answer_goes event.answer _ fault.0 refl
+meta_goes : (found : Option Version) → halts (meta_reply found) ≡ false
+meta_goes None = refl
+meta_goes (Some v) = refl
+
+write_goes : (setup : Setup) (s : State) (event : Event) (digest : Digest) (v : Version) (ok : Answer) → halts (answer_reply ok) ≡ false → WriteEnds setup s event digest v ok → halts (answer_reply event.answer) ≡ false
+write_goes setup s event digest v ok goes (inl done) = answer_goes event.answer _ done.0 goes
+write_goes setup s event digest v ok goes (inr fault) = answer_goes event.answer _ fault.0 refl
 
 unless_goes : (event : Event) (cause : Option Cause) (Rest : Type 0) → (Rest → halts (answer_reply event.answer) ≡ false) → Unless event cause Rest → halts (answer_reply event.answer) ≡ false
 unless_goes event None Rest goes ends = goes ends
@@ -45,7 +51,31 @@ put_goes : (setup : Setup) (told : Bool) (s : State) (event : Event) (digest : D
 put_goes setup told s event digest ttl expect payload now (inl no_memory) = answer_goes event.answer _ no_memory.0 refl
 put_goes setup told s event digest ttl expect payload now (inr unless) =
     let v : Version = new_put setup s digest ttl payload now in
-    unless_goes event (put_refusal setup s digest expect payload now) (WriteEnds setup s event digest v (stamp_given v.stamp)) (write_goes setup s event digest v v.stamp) unless
+    unless_goes event (put_refusal setup s digest expect payload now) (WriteEnds setup s event digest v (stamp_given v.stamp)) (write_goes setup s event digest v (stamp_given v.stamp) refl) unless
+
+entombs_goes : (setup : Setup) (s : State) (event : Event) (digest : Digest) (now : ℕ) (ok : Stamp → Answer) → ((stamp : Stamp) → halts (answer_reply (ok stamp)) ≡ false)
+    → Entombs setup s event digest now ok → halts (answer_reply event.answer) ≡ false
+entombs_goes setup s event digest now ok goes (inl no_memory) = answer_goes event.answer _ no_memory.0 refl
+entombs_goes setup s event digest now ok goes (inr unless) =
+    let stamp : Option Stamp = next_stamp_of setup s now digest in
+    let v : Version = a_tombstone (the_stamp stamp) in
+    unless_goes event (no_write setup tombstone_reserve (version_units v) stamp s) (WriteEnds setup s event digest v (ok (the_stamp stamp)))
+    (write_goes setup s event digest v (ok (the_stamp stamp)) (goes (the_stamp stamp))) unless
+
+removes_go : (setup : Setup) (s : State) (event : Event) (digest : Digest) (now : ℕ) → Removes setup s event digest now → halts (answer_reply event.answer) ≡ false
+removes_go setup s event digest now = by_cover (entry_is_covered s digest)
+  where
+    by_cover : (covered : Bool) → MatchBool covered (Entombs setup s event digest now (λ stamp. happened true)) ((event.answer ≡ happened true) × (event.steps ≡ removed digest ∷ []))
+        → halts (answer_reply event.answer) ≡ false
+    by_cover true entombs = entombs_goes setup s event digest now (λ stamp. happened true) (λ stamp. refl) entombs
+    by_cover false drops = answer_goes event.answer _ drops.0 refl
+
+delete_goes : (setup : Setup) (told : Bool) (s : State) (event : Event) (digest : Digest) (now : ℕ) → Allowed setup told s event (delete_call digest now) → halts (answer_reply event.answer) ≡ false
+delete_goes setup told s event digest now = by_seen (seen s now digest)
+  where
+    by_seen : (v : Option Version) → MatchOption v (Only event (happened false)) (λ _. Removes setup s event digest now) → halts (answer_reply event.answer) ≡ false
+    by_seen None only = answer_goes event.answer _ only.0 refl
+    by_seen (Some v) removes = removes_go setup s event digest now removes
 
 reads_go : (told : Bool) (event : Event) (v : Option Version) → WhereReads told event v → halts (answer_reply event.answer) ≡ false
 reads_go told event None reads = absurd reads
@@ -81,9 +111,12 @@ does_goes told node (command.Get digest) now work r built does legal =
     one_goes told node _ does.0 (get_call digest now) work r does.1 does.2 does.3 (λ slot allowed. get_goes slot.setup told slot.state does.0 digest now allowed) legal
 does_goes told node command.Flush now work r built does legal = ap halts does.2 ∙ sum_goes does.0
 does_goes told node command.Quit now work r built does legal = ap halts does.1
-does_goes told node (command.Meta digest) now work r built does legal = absurd built
-does_goes told node (command.Del digest) now work r built does legal = absurd built
-does_goes told node (command.Bury digest) now work r built does legal = absurd built
+does_goes told node (command.Meta digest) now work r built does legal = ap halts does.1 ∙ meta_goes (seen_on (slice_get node (device_number (length node) digest)) now digest)
+does_goes told node (command.Del digest) now work r built does legal =
+    one_goes told node _ does.0 (delete_call digest now) work r does.1 does.2 does.3 (λ slot allowed. delete_goes slot.setup told slot.state does.0 digest now allowed) legal
+does_goes told node (command.Bury digest) now work r built does legal =
+    one_goes told node _ does.0 (bury_call digest now) work r does.1 does.2 does.3
+    (λ slot allowed. entombs_goes slot.setup slot.state does.0 digest now stamp_given (λ stamp. refl) allowed) legal
 does_goes told node command.Defrag now work r built does legal = absurd built
 does_goes told node command.Expire now work r built does legal = absurd built
 does_goes told node command.Raid now work r built does legal = absurd built

@@ -153,6 +153,118 @@ fn put_line(alloc: Global, digest: &[u8], bytes: usize) -> Result<Vec<u8>, Fail>
 
 const ALL_F: &[u8] = b"ffffffffffffffffffffffffffffffffffffffff";
 
+/// What is known of a record is told without reading it.
+const KNOWN: [(&[u8], &[u8]); 3] = [
+    (
+        b"put 000102030405060708090a0b0c0d0e0f10111213 0 * -\n",
+        b"ok 1 1000\n",
+    ),
+    (GET, b"val 1 1000 0 -\n"),
+    (
+        b"meta 000102030405060708090a0b0c0d0e0f10111213\n",
+        b"meta 1 1000 0 3\n",
+    ),
+];
+
+/// A put may name the generation that has to be seen, 0 where none is.
+const EXPECTED: [(&[u8], &[u8]); 4] = [
+    (
+        b"put 000102030405060708090a0b0c0d0e0f10111213 0 1 aa\n",
+        b"err gen 0\n",
+    ),
+    (
+        b"put 000102030405060708090a0b0c0d0e0f10111213 0 0 aa\n",
+        b"ok 1 1000\n",
+    ),
+    (
+        b"put 000102030405060708090a0b0c0d0e0f10111213 0 0 bb\n",
+        b"err gen 1\n",
+    ),
+    (
+        b"bury ffffffffffffffffffffffffffffffffffffffff\n",
+        b"ok 1 1000\n",
+    ),
+];
+
+/// A tombstone isn't seen, and generations go on behind it. A digest without an entry is given a later time than any of its part.
+const BURIED: [(&[u8], &[u8]); 10] = [
+    (
+        b"put 000102030405060708090a0b0c0d0e0f10111213 0 * aa\n",
+        b"ok 1 1000\n",
+    ),
+    (
+        b"bury 000102030405060708090a0b0c0d0e0f10111213\n",
+        b"ok 2 1000\n",
+    ),
+    (GET, b"none\n"),
+    (
+        b"put 000102030405060708090a0b0c0d0e0f10111213 0 * bb\n",
+        b"ok 3 1000\n",
+    ),
+    (b"del 000102030405060708090a0b0c0d0e0f10111213\n", b"gone\n"),
+    (b"del 000102030405060708090a0b0c0d0e0f10111213\n", b"none\n"),
+    (
+        b"put 000102030405060708090a0b0c0d0e0f10111213 0 0 cc\n",
+        b"ok 5 1000\n",
+    ),
+    (
+        b"put 000102030405060708090a0b0c0d0e0f10111214 0 * aa\n",
+        b"ok 1 1001\n",
+    ),
+    (b"del 000102030405060708090a0b0c0d0e0f10111214\n", b"gone\n"),
+    (
+        b"put 000102030405060708090a0b0c0d0e0f10111214 0 * dd\n",
+        b"ok 1 1002\n",
+    ),
+];
+
+/// What was flushed is deleted once.
+const FLUSHED: [(&[u8], &[u8]); 4] = [
+    (
+        b"put 000102030405060708090a0b0c0d0e0f10111213 0 * aa\n",
+        b"ok 1 1000\n",
+    ),
+    (FLUSH, b"ok 1\n"),
+    (b"del 000102030405060708090a0b0c0d0e0f10111213\n", b"gone\n"),
+    (b"del 000102030405060708090a0b0c0d0e0f10111213\n", b"none\n"),
+];
+
+// The input of these lines, and what they are answered.
+fn lines_of(alloc: Global, lines: &[(&[u8], &[u8])]) -> Result<(Vec<u8>, Vec<u8>), Fail> {
+    let mut input: Vec<u8> = Vec::new(alloc);
+    let mut text: Vec<u8> = Vec::new(alloc);
+    for &(line, reply) in lines {
+        input.extend_from_slice(line)?;
+        text.extend_from_slice(reply)?;
+    }
+    Ok((input, text))
+}
+
+#[test]
+fn each_session_has_its_replies(rt: HostRuntime) -> Result<(), Fail> {
+    let alloc = rt.alloc();
+    let sessions: [&[(&[u8], &[u8])]; 3] = [&EXPECTED, &BURIED, &FLUSHED];
+    for lines in sessions {
+        let (input, text) = lines_of(alloc, lines)?;
+        let ending = serve_text(alloc, &input, &[], &[])?;
+        assert!(rt; is_so(&ending, 0, "", &text));
+    }
+    Ok(())
+}
+
+/// A record of three units is known so, and one fills a block at most.
+#[test]
+fn a_record_has_its_units(rt: HostRuntime) -> Result<(), Fail> {
+    let alloc = rt.alloc();
+    let (mut input, mut text) = lines_of(alloc, &KNOWN)?;
+    input.extend_from_slice(&put_line(alloc, ALL_F, 12_208)?)?;
+    input.extend_from_slice(&put_line(alloc, ALL_F, 12_209)?)?;
+    text.extend_from_slice(b"ok 1 1000\nerr big\n")?;
+    let ending = serve_text(alloc, &input, &[], &[])?;
+    assert!(rt; is_so(&ending, 0, "", &text));
+    Ok(())
+}
+
 /// Each record fills a block. Put again and again it takes one block after the other, and is never refused.
 #[test]
 fn a_block_is_used_again(rt: HostRuntime) -> Result<(), Fail> {

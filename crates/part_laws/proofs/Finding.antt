@@ -16,13 +16,9 @@ use Rattle.recovery.proofs.Growing.{all_at, all_from}
 use Rattle.recovery.proofs.Held.{IsNewest, latest_is}
 use Rattle.recovery.proofs.Members.{first_there, rest_there, filter_there}
 use Rattle.sprig_tree.specs.State.{SprigState}
-use Rattle.part_laws.specs.Starting.{HasChosen, HasLatest, first_named, TakesCopy}
+use Rattle.part_laws.specs.Starting.{AllHaveLatest, HasChosen, HasLatest, first_named, TakesCopy}
 use Rattle.part_laws.proofs.Device.{set_cases}
 use Rattle.part_laws.proofs.Starting.{no_later_time, time_of_copy, other_copy, one_more}
-
--- each sprig has the latest copies of its part
-abbrev pub AllHaveLatest : Setup → List Copy → List SprigState → Type 0
-AllHaveLatest setup copies sprigs = (part : ℕ) (sprig : SprigState) → slice_get sprigs part ≡ Some sprig → HasLatest setup part copies sprig
 
 -- One copy more: the sprig of its part takes it, and the others stay.
 pub all_take : (setup : Setup) (copies : List Copy) (c : Copy) (sprigs : List SprigState) (old new : SprigState) → slice_get sprigs (part_of setup c.digest) ≡ Some old → TakesCopy c old new

@@ -14,7 +14,8 @@ use Rattle.sprig_tree.specs.Entries.{entry_of}
 use Rattle.sprig_tree.specs.State.{SprigState}
 use Rattle.part_laws.specs.Fits.{HasEntries, FitsPart}
 use Rattle.rec_format.specs.Entries.{Names}
-use Rattle.part_laws.specs.Tests.{is_expired_entry, passes_test, stamp_found, cover_found, generation_seen}
+use Rattle.part_laws.specs.Tests.{is_expired_entry, passes_test, stamp_found, generation_seen}
+use Rattle.tomb_rules.specs.Covers.{cover_of}
 use Rattle.expiry_rule.specs.Seen.{is_live_entry}
 use Rattle.part_laws.specs.Parts.{FitsParts}
 use Rattle.part_laws.proofs.Alike.{Says}
@@ -31,10 +32,10 @@ module _ (setup : Setup) (part : ℕ) (sprig : SprigState) (s : State) (h : HasE
       by (Some e) says = ap stamp_of says.1.top ∙ ap Some (sym says.1.names.stamp)
 
   -- its cover flag
-  pub cover_is : entry_is_covered s d ≡ cover_found (entry_of d sprig.entries)
+  pub cover_is : entry_is_covered s d ≡ cover_of (entry_of d sprig.entries)
   cover_is = by (entry_of d sprig.entries) (entry_is setup part sprig s h d mine)
     where
-      by : (o : Option Entry) → MatchOption o ((entry s d ≡ None) × (entry_is_covered s d ≡ false)) (λ e. (v : Version) × (entry s d ≡ Some v) × Names e v × (entry_is_covered s d ≡ e.cover)) → entry_is_covered s d ≡ cover_found o
+      by : (o : Option Entry) → MatchOption o ((entry s d ≡ None) × (entry_is_covered s d ≡ false)) (λ e. (v : Version) × (entry s d ≡ Some v) × Names e v × (entry_is_covered s d ≡ e.cover)) → entry_is_covered s d ≡ cover_of o
       by None says = says.1
       by (Some e) says = says.3
 
@@ -88,7 +89,7 @@ module _ (setup : Setup) (part : ℕ) (sprig : SprigState) (s : State) (h : HasE
 
   -- the version that a put writes
   pub new_put_is : (ttl : ℕ) (payload : List ℕ) (now : ℕ)
-      → new_put setup s d ttl payload now ≡ a_put (the_stamp (new_stamp (stamp_found (entry_of d sprig.entries)) sprig.hw now)) (void_time ttl now) (cover_found (entry_of d sprig.entries)) payload
+      → new_put setup s d ttl payload now ≡ a_put (the_stamp (new_stamp (stamp_found (entry_of d sprig.entries)) sprig.hw now)) (void_time ttl now) (cover_of (entry_of d sprig.entries)) payload
   new_put_is ttl payload now = (λ i. a_put (the_stamp (next_stamp_is now i)) (void_time ttl now) (cover_is i) payload)
 
 -- ---- the sprig of a digest

@@ -26,9 +26,9 @@ use Rattle.recovery.proofs.StartLive.{start_live}
 use Rattle.sprig_tree.specs.State.{SprigState}
 use Rattle.part_laws.specs.Fits.{FitsPart}
 use Rattle.part_laws.specs.Parts.{AreOwn, FitsParts}
-use Rattle.part_laws.specs.Starting.{HasLatest}
+use Rattle.part_laws.specs.Starting.{HasLatest, AllHaveLatest}
 use Rattle.part_laws.proofs.Starting.{ShowsChosen, chosen_fits, no_later_time, chosen_there, time_of_copy, within}
-use Rattle.part_laws.proofs.Finding.{high_within, no_copy, AllHaveLatest}
+use Rattle.part_laws.proofs.Finding.{high_within, no_copy}
 
 -- ---- a history that is kept
 

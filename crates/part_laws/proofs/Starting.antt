@@ -296,7 +296,7 @@ found_times : (setup : Setup) (part : ℕ) (found : List Copy) → high_time set
 found_times setup part [] = refl
 found_times setup part (c ∷ found) = ap (λ (n : ℕ). cond (part_of setup c.digest == part) (max c.version.stamp.lut n) n) (found_times setup part found)
 
-entries_show : (setup : Setup) (found : List Copy) (next : ℕ) → ShowsChosen setup (first_named found) found (entries_state setup found next)
+pub entries_show : (setup : Setup) (found : List Copy) (next : ℕ) → ShowsChosen setup (first_named found) found (entries_state setup found next)
 unfolding entries_state
 entries_show setup found next = record {
   top = λ d. first_top d found;

@@ -49,7 +49,7 @@ module _ (e : Entry) (es : List Entry) where
   pub put_order : IsInDigestOrder es → IsInDigestOrder (with_put e es)
   put_order order = put_cases IsInDigestOrder (order-with_entry e es order) (λ _. order-with_replaced e es order)
 
-  put_each : (P : Entry → Type 0) → P e → AllByRecursion P es → AllByRecursion P (with_put e es)
+  pub put_each : (P : Entry → Type 0) → P e → AllByRecursion P es → AllByRecursion P (with_put e es)
   put_each P here all = put_cases (AllByRecursion P) (λ _. each_entered P e es here all) (λ _. each_replaced P e es here all)
 
   put_passing : (test : Entry → Bool) → test e ≡ false → digests_in (filter test (with_put e es)) ≡ without_mark e.digest (digests_in (filter test es))

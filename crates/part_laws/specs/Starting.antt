@@ -1,5 +1,5 @@
 -- Crate part_laws. What a start leaves in the sprig of a part.
-use Rattle.std.specs.Prelude.{◌≡◌, ◌==◌, ℕ, List, Option, None, option_map, find, MatchOption, MatchBool, if◌then◌else◌}
+use Rattle.std.specs.Prelude.{◌≡◌, ◌==◌, ℕ, List, Option, Some, None, option_map, slice_get, find, MatchOption, MatchBool, if◌then◌else◌}
 use Rattle.rec_format.specs.declared.version.Digest.{Digest}
 use Rattle.rec_format.specs.declared.entry.Entry.{Entry}
 use Rattle.rec_format.specs.Places.{same_digest}
@@ -30,7 +30,15 @@ HasLatest setup part copies sprig = HasChosen setup part (λ digest. cold_copy d
 abbrev pub first_named : List Copy → Digest → Option Copy
 first_named copies digest = find (λ c. same_digest digest c.digest) copies
 
--- a sprig with one copy more of its part: the entry of a digest that has none, or a later one; else it stays
+-- each sprig has the latest copies of its part
+abbrev pub AllHaveLatest : Setup → List Copy → List SprigState → Type 0
+AllHaveLatest setup copies sprigs = (part : ℕ) (sprig : SprigState) → slice_get sprigs part ≡ Some sprig → HasLatest setup part copies sprig
+
+-- a sprig with one entry more: one of a digest that has none, or a later one; else it stays
+abbrev pub TakesLater : Entry → (old new : SprigState) → Type 0
+TakesLater e old new = MatchOption (entry_of e.digest old.entries) (TakesEntry e old new)
+    (λ found. MatchBool (is_later_stamp e.stamp found.stamp) (TakesEntry e old new) (new ≡ old))
+
+-- a sprig with one copy more of its part
 abbrev pub TakesCopy : Copy → (old new : SprigState) → Type 0
-TakesCopy c old new = MatchOption (entry_of c.digest old.entries) (TakesEntry (entry_for c) old new)
-    (λ e. MatchBool (is_later_stamp c.version.stamp e.stamp) (TakesEntry (entry_for c) old new) (new ≡ old))
+TakesCopy c old new = TakesLater (entry_for c) old new

@@ -30,14 +30,10 @@ passes_test test (Some e) = test e
 abbrev pub has_digest : List Digest → Digest → Bool
 has_digest digests d = list_any (same_digest d) digests
 
--- what a look-up says of a digest's stamp and of its flag
+-- what a look-up says of a digest's stamp
 abbrev pub stamp_found : Option Entry → Option Stamp
 stamp_found None = None
 stamp_found (Some e) = Some e.stamp
-
-abbrev pub cover_found : Option Entry → Bool
-cover_found None = false
-cover_found (Some e) = e.cover
 
 -- the generation that a reader sees, 0 where there is nothing to see
 abbrev pub generation_seen : ℕ → Option Entry → ℕ

@@ -1,15 +1,14 @@
 -- For which states a shard stands behind a start.
-use Rattle.std.proofs.Common.{◌≡◌, ℕ, ◌+◌, ◌*◌, List, length, refl, sym, ◌∙◌, ap, subst}
+use Rattle.std.proofs.Common.{◌≡◌, ℕ, ◌+◌, ◌<◌, arith, [], ◌*◌, List, length, refl, sym, ◌∙◌, ap, subst}
 use Rattle.std.specs.Prelude.{option_map}
 use Rattle.std.specs.List.{AllByRecursion, range_with_len}
 use Rattle.disk_model.specs.Disk.{Images, DiskView, IsHonest, IsOnly}
 use Rattle.rec_format.specs.declared.version.Digest.{Digest}
-use Rattle.rec_format.specs.declared.entry.Entry.{Entry}
 use Rattle.device_model.specs.Book.{Setup}
 use Rattle.device_model.specs.Device.{State}
 use Rattle.block_format.specs.declared.geometry.Geometry.{Geometry}
 use Rattle.block_format.specs.declared.geometry.Gate.{Gate}
-use Rattle.block_format.specs.Layout.{IsRecordAt, body_bytes, Body}
+use Rattle.block_format.specs.Layout.{IsGeometry, IsRecordAt, body_bytes, Body}
 use Rattle.block_format.specs.Copies.{Copy, HasBodies, copies_of, cold_copy, entry_for}
 use Rattle.block_format.proofs.BodyLaws.{one_body}
 use Rattle.recovery.specs.Start.{start_state, entries_state, greatest_number, cold_copies}
@@ -26,14 +25,16 @@ use Rattle.block_shelf.specs.Starting.{StartsWith, AreLive, AllHave}
 use Rattle.shard_core.specs.declared.settings.Settings.{Settings}
 use Rattle.shard_core.specs.declared.start.Asked.{Asked}
 use Rattle.shard_core.specs.declared.scan.Finding.{Finding}
-use Rattle.shard_core.specs.Index.{HaveOwnDigests, held}
-use Rattle.shard_core.specs.View.{ShardView, IsSettings, IsEntryOf, limits_of, setup_of}
-use Rattle.shard_core.specs.Stands.{Lists, Agrees, IsWhole, IsSafe}
+use Rattle.shard_core.specs.Sprigs.{held, all_entries, HasTimes}
+use Rattle.shard_core.specs.View.{ShardView, IsSettings, limits_of, setup_for, setup_of}
+use Rattle.part_laws.specs.Parts.{FitsParts}
+use Rattle.sprig_tree.specs.State.{SprigState}
+use Rattle.shard_core.specs.Stands.{Agrees, IsWhole, IsSafe}
 use Rattle.shard_core.specs.Starting.{Passes, Begins, StandsForBodies, own_copies, found_state, blocks_behind}
 use Rattle.shard_core.specs.Finding.{IsSure, IsFinding, BeginsOver, BeginsBehind, live_places, latest_copies}
-use Rattle.shard_core.proofs.FoundCopies.{latest_there, entries_of, live_are, free_are}
+use Rattle.shard_core.proofs.FoundCopies.{latest_there, found_times, found_parts, sound_parts, held_is, live_are, free_are}
 use Rattle.shard_core.proofs.GatesKnown.{gates_sure}
-use Rattle.shard_core.proofs.Showing.{found_entry, found_queue, found_lists, sound_own, start_queue, start_lists}
+use Rattle.shard_core.proofs.Showing.{found_entry, found_queue, sound_own, start_queue}
 
 -- ---- from a shelf that begins
 
@@ -47,11 +48,11 @@ pub record ShelfBegins {D : Type 0} (view : D → DiskView) (disk : D) (g : Geom
   pub safe : IsHonest (view disk) → AreSure g (gate_at gates) → (setup : Setup) (image : List ℕ) (bodies : List Body) → IsSetupOf setup new → IsSound setup image bodies → IsOnly image (view disk).may_leave
       → shelf.IsPlaced view new (start_state setup bodies) × shelf.ImagesHold setup view new (start_state setup bodies)
 
-module _ {D : Type 0} (view : D → DiskView) (disk : D) (g : Geometry) (gates : List Gate) (set : Settings) (finding : Finding) (count : length gates ≡ g.blocks) (sure : AllByRecursion IsSure gates)
-    (digests : HaveOwnDigests finding.index.entries) (shard : ShardView D) (set_is : shard.set ≡ set) (index_is : shard.index ≡ finding.index.entries)
-    (begins : ShelfBegins view disk g (limits_of set) gates (live_places finding.index.entries) (finding.greatest + 1) shard.shelf) where
+module _ {D : Type 0} (view : D → DiskView) (disk : D) (g : Geometry) (gates : List Gate) (set : Settings) (finding : Finding) (is_shape : IsGeometry g) (settings : IsSettings set) (count : length gates ≡ g.blocks)
+    (sure : AllByRecursion IsSure gates) (shard : ShardView D) (set_is : shard.set ≡ set) (sprigs_are : shard.sprigs ≡ finding.sprigs.items)
+    (begins : ShelfBegins view disk g (limits_of set) gates (live_places (all_entries finding.sprigs.items)) (finding.greatest + 1) shard.shelf) where
   abbrev live : List (Digest × Place)
-  live = live_places finding.index.entries
+  live = live_places (all_entries finding.sprigs.items)
 
   geometry_is : shard.shelf.geometry ≡ g
   geometry_is = ap (λ (v : ShelfView D). v.geometry) begins.starts.parts
@@ -62,6 +63,9 @@ module _ {D : Type 0} (view : D → DiskView) (disk : D) (g : Geometry) (gates :
   abbrev setup : Setup
   setup = setup_of shard
 
+  setup_is : setup_for g set ≡ setup
+  setup_is = λ i. setup_for (sym geometry_is i) (sym set_is i)
+
   is_setup : IsSetupOf setup shard.shelf
   is_setup = record {
     shape = record { capacity = refl; blocks = refl; device = refl; devices = refl };
@@ -69,43 +73,46 @@ module _ {D : Type 0} (view : D → DiskView) (disk : D) (g : Geometry) (gates :
     lwm = sym (ap (λ (l : ShelfLimits). l.lwm) limits_are);
   }
 
-  module _ (low : set.lwm ≡ 0) (bodies : List Body) (found : IsFinding g gates g.blocks bodies finding) where
-    low_here : setup.lwm ≡ 0
-    low_here = ap (λ (x : Settings). x.lwm) set_is ∙ low
+  low_here : setup.lwm ≡ 0
+  low_here = ap (λ (x : Settings). x.lwm) set_is ∙ settings.lwm
 
+  some_devices : 0 < g.devices
+  some_devices = omega (arith, is_shape.device)
+
+  some_sprigs : 0 < set.sprigs
+  some_sprigs = omega (arith, settings.sprigs.0)
+
+  module _ (bodies : List Body) (found : IsFinding g set gates g.blocks bodies finding) where
     abbrev latest : List Copy
     latest = latest_copies shard.shelf.geometry bodies
 
     live_here : AreLive live latest
-    live_here = subst (λ (h : Geometry). AreLive live (latest_copies h bodies)) (sym geometry_is) (live_are g gates bodies finding found count digests)
+    live_here = subst (λ (h : Geometry). AreLive live (latest_copies h bodies)) (sym geometry_is) (live_are g set gates bodies finding found some_devices some_sprigs)
 
-    -- the index has what the state has
-    lists_with : (s : State) → Lists setup finding.index.entries s → Lists setup shard.index s
-    lists_with s lists = subst (λ (l : List Entry). Lists setup l s) (sym index_is) lists
-
-    found_stands : shelf.StandsFor setup shard.shelf (found_state setup bodies)
-    found_stands =
-        subst (λ (n : ℕ). shelf.StandsFor setup shard.shelf (entries_state setup latest (n + 1))) found.number
-        (begins.entries setup latest is_setup live_here)
+    -- sprigs and shelf of one state
+    agrees_with : (state : Setup → State) → FitsParts (setup_for g set) finding.sprigs.items (state (setup_for g set)) → shelf.StandsFor setup shard.shelf (state setup) → (state setup).book.queue ≡ [] → Agrees shard (state setup)
+    agrees_with state fits stands queue = record {
+      sprigs = subst (λ (l : List SprigState). FitsParts setup l (state setup)) (sym sprigs_are) (subst (λ (x : Setup). FitsParts x finding.sprigs.items (state x)) setup_is fits);
+      times = subst (AllByRecursion HasTimes) (sym sprigs_are) (found_times g set gates bodies finding found);
+      shelf = record { stands = stands; queue = queue };
+    }
 
     found_agrees : Agrees shard (found_state setup bodies)
-    found_agrees = record {
-      index = lists_with (found_state setup bodies) (found_lists setup bodies g finding.index.entries (ap (λ (h : Geometry). h.device) geometry_is) (ap (λ (h : Geometry). h.devices) geometry_is) found.latest);
-      shelf = found_stands;
-      queue = found_queue setup bodies low_here;
-    }
+    found_agrees =
+        agrees_with (λ x. found_state x bodies) (found_parts g set gates bodies finding found)
+        (subst (λ (n : ℕ). shelf.StandsFor setup shard.shelf (entries_state setup latest (n + 1))) found.number (begins.entries setup latest is_setup live_here))
+        (found_queue setup bodies low_here)
 
     start_agrees : (image : List ℕ) → IsSound setup image bodies → Agrees shard (start_state setup bodies)
-    start_agrees image sound = record {
-      index = lists_with (start_state setup bodies)
-          (start_lists setup image bodies sound g finding.index.entries (ap (λ (h : Geometry). h.device) geometry_is) (ap (λ (h : Geometry). h.devices) geometry_is) found.latest);
-      shelf = begins.image setup image bodies is_setup sound (subst (λ (l : List Copy). AreLive live (cold_copies l)) (sound_own setup image bodies sound) live_here) (ap (λ (n : ℕ). n + 1) found.number);
-      queue = start_queue setup image bodies sound low_here;
-    }
+    start_agrees image sound =
+        agrees_with (λ x. start_state x bodies) (sound_parts g set gates bodies finding found image (subst (λ (x : Setup). IsSound x image bodies) (sym setup_is) sound))
+        (begins.image setup image bodies is_setup sound (subst (λ (l : List Copy). AreLive live (cold_copies l)) (sound_own setup image bodies sound) live_here) (ap (λ (n : ℕ). n + 1) found.number))
+        (start_queue setup image bodies sound low_here)
 
     pub begins_behind : BeginsBehind view disk bodies shard
     begins_behind = record {
-      free = ap (λ (v : ShelfView D). v.free) begins.starts.parts ∙ free_are g gates bodies finding found count digests ∙ ap (λ (h : Geometry). blocks_behind h.blocks (latest_copies h bodies)) (sym geometry_is);
+      free = ap (λ (v : ShelfView D). v.free) begins.starts.parts ∙ free_are g set gates bodies finding found some_devices some_sprigs
+          ∙ ap (λ (h : Geometry). blocks_behind h.blocks (latest_copies h bodies)) (sym geometry_is);
       agrees = found_agrees;
       placed = λ have.
           subst (λ (n : ℕ). shelf.IsPlaced view shard.shelf (entries_state setup latest (n + 1))) found.number
@@ -114,12 +121,10 @@ module _ {D : Type 0} (view : D → DiskView) (disk : D) (g : Geometry) (gates :
       safe = λ honest image sound only. let safe = begins.safe honest (gates_sure g gates count sure) setup image bodies is_setup sound only in record { placed = safe.0; safe = safe.1 };
     }
 
-    pub begins_whole : IsSettings set → IsWhole shard
-    begins_whole settings = record {
+    pub begins_whole : IsWhole shard
+    begins_whole = record {
       settings = subst IsSettings (sym set_is) settings;
       limits = limits_are;
-      entries = subst (λ (h : Geometry). AllByRecursion (IsEntryOf h) shard.index) (sym geometry_is)
-          (subst (AllByRecursion (IsEntryOf g)) (sym index_is) (entries_of g gates bodies finding found count));
       stands = (found_state setup bodies, found_agrees);
     }
 
@@ -129,7 +134,7 @@ module _ {D : Type 0} (view : D → DiskView) (disk : D) (g : Geometry) (gates :
 all_have : (g : Geometry) (bytes : List ℕ) (images : Images) (bodies : List Body) → HasBodies g bytes (range_with_len 0 g.blocks) bodies → IsOnly bytes images → AllHave g images (latest_copies g bodies)
 all_have g bytes images bodies has only c there image left =
     subst (λ (b : List ℕ). IsRecordAt (body_bytes g c.block b) (32 + 16 * c.unit) c.digest c.version) (sym (only.alone image left))
-    (copy_stands g bytes (range_with_len 0 g.blocks) bodies has c (latest_there g bodies c there)).there
+    (copy_stands g bytes (range_with_len 0 g.blocks) bodies has c (latest_there g bodies c there).0).there
 
 -- the bodies of a sound image are those that were read
 same_bodies : (setup : Setup) (g : Geometry) (asked : Asked) (bytes : List ℕ) (bodies all : List Body) → IsShapeOf setup g → Passes asked bytes g bodies → IsSound setup bytes all → bodies ≡ all
@@ -160,13 +165,14 @@ module _ {D : Type 0} (view : D → DiskView) (disk : D) (g : Geometry) (set : S
         let same = these all sound in
         subst (λ (l : List Body). Agrees shard (start_state (setup_of shard) l)) same (behind.sound bytes (subst (IsSound (setup_of shard) bytes) (sym same) sound))
 
-    pub begins_from : (gates : List Gate) → IsFinding g gates g.blocks bodies finding → Begins asked bytes shard
-    begins_from gates found = record {
+    pub begins_from : (gates : List Gate) → IsGeometry g → IsSettings set → IsFinding g set gates g.blocks bodies finding → Begins asked bytes shard
+    begins_from gates is_shape settings found = record {
       bodies = bodies;
       passes = passes_here bytes passes;
       entries = λ d.
-          ap (held d) begins.index_is ∙ found.latest.shown d
-          ∙ ap (λ (h : Geometry). option_map entry_for (cold_copy d (own_copies h.device h.devices (copies_of bodies)))) (sym begins.geometry_is);
+          subst (λ (l : List SprigState). held (setup_of shard) d l ≡ option_map entry_for (cold_copy d (own_copies shard.shelf.geometry.device shard.shelf.geometry.devices (copies_of bodies)))) (sym begins.sprigs_are)
+          (subst (λ (x : Setup). held x d finding.sprigs.items ≡ option_map entry_for (cold_copy d (own_copies x.device x.devices (copies_of bodies)))) (λ i. setup_for (sym begins.geometry_is i) (sym begins.set_is i))
+          (held_is g set gates bodies finding found (omega (arith, is_shape.device)) (omega (arith, settings.sprigs.0)) d));
       free = behind.free;
       next = begins.next ∙ ap (λ (n : ℕ). n + 1) found.number;
       sound = sound_agrees;

@@ -1,29 +1,34 @@
 -- A shelf that goes by an event's steps makes the event.
-use Rattle.std.proofs.Common.{◌≡◌, ℕ, ◌*◌, ◌≤◌, Bool, true, false, not, cond, ◌&&◌, List, [], ◌∷◌, ◌++◌, length, refl, sym, ◌∙◌, ap, subst, inl, inr, arith}
-use Rattle.std.specs.Prelude.{Some, None, Result, Ok, Err, OnErr, MatchOption, is_some, filter, flat_map, nat_lt, nat_le}
-use Rattle.std.proofs.lemmas.Bool.{le-ltb}
+use Rattle.std.proofs.Common.{◌≡◌, ℕ, ◌<◌, ◌≤◌, Bool, true, false, ◌&&◌, List, [], ◌∷◌, ◌++◌, length, set, get_or, refl, sym, ◌∙◌, ap, subst, inl, inr}
+use Rattle.std.specs.Prelude.{Some, None, Result, Ok, Err, OnErr, slice_get, is_some, flat_map, nat_le}
 use Rattle.std.specs.List.{AllByRecursion}
 use Rattle.fault_count.specs.Counts.{Rose}
-use Rattle.rec_format.specs.declared.version.Version.{Version}
-use Rattle.rec_format.specs.declared.entry.Entry.{Entry}
-use Rattle.device_model.specs.Histories.{top_of, is_covered}
-use Rattle.device_model.specs.Book.{Setup, Book, Buffer, Live, Phase, Stream, client, defrag, filling, sealed, opening, filling_buffer, live_of, is_in, has_buffer, use_of, holds_dead, updated, may_be_queued, all_blocks, with_flushed, refreshed}
-use Rattle.device_model.specs.Device.{State, Log, history_of, high_time}
+use Rattle.device_model.specs.Book.{Setup, Book, Buffer, Phase, Stream, client, defrag, filling, sealed, opening, filling_buffer, holds_dead, with_flushed, refreshed}
+use Rattle.device_model.specs.Device.{State, part_of}
 use Rattle.device_model.specs.Steps.{Step, sealed_stream, gate_begun, flushed_buffer, closing_failed, after_step, after_steps}
-use Rattle.device_model.specs.Events.{Event, Call, Answer, counted}
+use Rattle.device_model.specs.Events.{Event, Call, Answer, counted, after_event}
+use Rattle.device_model.specs.Passes.{part_named}
+use Rattle.sprig_tree.specs.State.{SprigState}
+use Rattle.part_laws.specs.Sparing.{is_of_book, AreOfBook}
+use Rattle.part_laws.specs.Parts.{FitsParts, NamesOwn}
+use Rattle.part_laws.proofs.Writing.{book_fits}
+use Rattle.part_laws.proofs.Device.{parts_fit_on, parts_become}
+use Rattle.shard_core.proofs.Each.{all_get, all_set, get_there, set_same}
+use Rattle.shard_core.proofs.Queues.{refreshed_queue}
 use Rattle.device_model.specs.Legal.{Allowed, FlushEnds, flush_of, flush_all, seal_if, seal_all, seal_low}
 use Rattle.disk_model.specs.Disk.{DiskView, IsHonest}
 use Rattle.recovery.proofs.Opening.{all_joined, all_parted}
-use Rattle.block_shelf.specs.View.{IsSetupOf}
-use Rattle.block_shelf.specs.Standing as shelf
+use Rattle.block_shelf.specs.View.{IsSetupOf, ShelfView}
+use Rattle.block_shelf.specs.Standing.{StandsFor}
 use Rattle.block_shelf.specs.Calls.{Goes}
-use Rattle.rec_format.specs.Entries.{Names}
 use Rattle.block_format.specs.declared.geometry.Geometry.{Geometry}
 use Rattle.shard_core.specs.declared.settings.Settings.{Settings}
-use Rattle.shard_core.specs.Index.{held}
-use Rattle.shard_core.specs.View.{ShardView, IsSettings, IsEntryOf, SameSetup, limits_of, setup_for, setup_of}
-use Rattle.shard_core.specs.Stands.{Lists, Agrees, IsWhole, IsSafe}
-use Rattle.shard_core.specs.Calls.{Makes, FlushesAll, flush_answer}
+use Rattle.shard_core.specs.View.{ShardView, IsSettings, SameSetup, limits_of, setup_for, setup_of}
+use Rattle.shard_core.specs.Sprigs.{HasTimes, SameSprig, AreSame, entry_in, held}
+use Rattle.sprig_tree.specs.Entries.{entry_of}
+use Rattle.rec_format.specs.declared.version.Digest.{Digest}
+use Rattle.shard_core.specs.Stands.{SprigStands, ShelfStands, StandTogether, ShelfIsSafe, Agrees, IsWhole}
+use Rattle.shard_core.specs.Calls.{MakesEvent, StepMakes, Makes, FlushesAll, flush_answer}
 use Rattle.block_shelf.specs.declared.place.ShelfLimits.{ShelfLimits}
 
 -- ---- what sealing, closing and flushing leave as it was
@@ -35,56 +40,35 @@ IsFlushing (flushed_buffer number) = Unit {0}
 IsFlushing closing_failed = Unit {0}
 IsFlushing _ = ⊥
 
-pub record Stays (s t : State) : Type 0 where
-  pub log : t.log ≡ s.log
-  pub live : t.book.live ≡ s.book.live
-  pub queue : s.book.queue ≡ [] → t.book.queue ≡ []
-
--- where the low-water mark is 0 no block is queued
-and_none : (a b : Bool) → (a && b && false) ≡ false
-and_none true true = refl
-and_none true false = refl
-and_none false b = refl
-
-none_low : (setup : Setup) → setup.lwm ≡ 0 → (book : Book) (block : ℕ) → may_be_queued setup book block ≡ false
-none_low setup low book block =
-    ap (λ (lwm : ℕ). not (has_buffer book block) && nat_lt 0 (use_of book block) && nat_lt (use_of book block * 100) (lwm * setup.capacity)) low
-    ∙ ap (λ (b : Bool). not (has_buffer book block) && nat_lt 0 (use_of book block) && b) (le-ltb (use_of book block * 100) (0 * setup.capacity) (omega arith))
-    ∙ and_none (not (has_buffer book block)) (nat_lt 0 (use_of book block))
-
-none_updated : (q : ℕ → Bool) → ((b : ℕ) → q b ≡ false) → (old all : List ℕ) → updated q old all ≡ []
-none_updated q none old all = (λ i. taken old i ++ added all i)
-  where
-    taken : (l : List ℕ) → filter q l ≡ []
-    taken [] = refl
-    taken (b ∷ l) = ap (λ (c : Bool). cond c (b ∷ filter q l) (filter q l)) (none b) ∙ taken l
-
-    added : (l : List ℕ) → filter (λ b. q b && not (is_in old b)) l ≡ []
-    added [] = refl
-    added (b ∷ l) = ap (λ (c : Bool). cond (c && not (is_in old b)) (b ∷ filter (λ b. q b && not (is_in old b)) l) (filter (λ b. q b && not (is_in old b)) l)) (none b) ∙ added l
-
-pub refreshed_queue : (setup : Setup) → setup.lwm ≡ 0 → (book : Book) → (refreshed setup book).queue ≡ []
-unfolding refreshed
-refreshed_queue setup low book = none_updated (may_be_queued setup book) (none_low setup low book) book.queue (all_blocks setup)
+abbrev IsQueueFree : State → Type 0
+IsQueueFree s = s.book.queue ≡ []
 
 flushed_queue : (setup : Setup) → setup.lwm ≡ 0 → (number : ℕ) (book : Book) → (with_flushed setup number book).queue ≡ []
 unfolding with_flushed
 flushed_queue setup low number book = refreshed_queue setup low _
 
-step_stays : (setup : Setup) → setup.lwm ≡ 0 → (step : Step) (s : State) → IsFlushing step → Stays s (after_step setup step s)
+step_queues_none : (setup : Setup) → setup.lwm ≡ 0 → (step : Step) (s : State) → IsFlushing step → IsQueueFree s → IsQueueFree (after_step setup step s)
 unfolding after_step with_flushed refreshed
-step_stays setup low (sealed_stream stream) s is = record { log = refl; live = refl; queue = λ none. none }
-step_stays setup low (gate_begun number) s is = record { log = refl; live = refl; queue = λ none. none }
-step_stays setup low (flushed_buffer number) s is = record { log = refl; live = refl; queue = λ none. flushed_queue setup low number s.book }
-step_stays setup low closing_failed s is = record { log = refl; live = refl; queue = λ none. none }
-step_stays setup low step s is = absurd is
+step_queues_none setup low (sealed_stream stream) s is none = none
+step_queues_none setup low (gate_begun number) s is none = none
+step_queues_none setup low (flushed_buffer number) s is none = flushed_queue setup low number s.book
+step_queues_none setup low closing_failed s is none = none
+step_queues_none setup low step s is none = absurd is
 
-pub steps_stay : (setup : Setup) → setup.lwm ≡ 0 → (steps : List Step) (s : State) → AllByRecursion IsFlushing steps → Stays s (after_steps setup steps s)
-steps_stay setup low [] s all = record { log = refl; live = refl; queue = λ none. none }
-steps_stay setup low (step ∷ steps) s all =
-    let one = step_stays setup low step s all.0 in
-    let rest = steps_stay setup low steps (after_step setup step s) all.1 in
-    record { log = rest.log ∙ one.log; live = rest.live ∙ one.live; queue = λ none. rest.queue (one.queue none) }
+steps_queue_none : (setup : Setup) → setup.lwm ≡ 0 → (steps : List Step) (s : State) → AllByRecursion IsFlushing steps → IsQueueFree s → IsQueueFree (after_steps setup steps s)
+steps_queue_none setup low [] s all none = none
+steps_queue_none setup low (step ∷ steps) s all none = steps_queue_none setup low steps (after_step setup step s) all.1 (step_queues_none setup low step s all.0 none)
+
+flushing_is_of_book : (step : Step) → IsFlushing step → is_of_book step ≡ true
+flushing_is_of_book (sealed_stream stream) is = refl
+flushing_is_of_book (gate_begun number) is = refl
+flushing_is_of_book (flushed_buffer number) is = refl
+flushing_is_of_book closing_failed is = refl
+flushing_is_of_book step is = absurd is
+
+flushing_are_of_book : (steps : List Step) → AllByRecursion IsFlushing steps → AreOfBook steps
+flushing_are_of_book [] all = tt
+flushing_are_of_book (step ∷ steps) all = (flushing_is_of_book step all.0, flushing_are_of_book steps all.1)
 
 seal_is_flushing : (c : Bool) (stream : Stream) → AllByRecursion IsFlushing (seal_if c stream)
 seal_is_flushing true stream = (tt, tt)
@@ -114,13 +98,17 @@ pub flushes_flushing : {E : Type 0} (result : Result ℕ E) (book : Book) (steps
 flushes_flushing (Ok n) book steps flushes = subst (AllByRecursion IsFlushing) (sym flushes.0) (buffers_flushing book.buffers)
 flushes_flushing (Err e) book steps stops = (all_parted IsFlushing steps (stops.0 ∷ stops.1) (subst (AllByRecursion IsFlushing) stops.2 (buffers_flushing book.buffers))).0
 
-pub lists_stay : (setup : Setup) (index : List Entry) (s t : State) → Stays s t → Lists setup index s → Lists setup index t
-lists_stay setup index s t stays lists = record {
-  entries = λ digest. subst (λ (log : Log). MatchOption (held digest index) (top_of (history_of digest log) ≡ None) (λ e. (v : Version) × (top_of (history_of digest log) ≡ Some v) × Names e v)) (sym stays.log) (lists.entries digest);
-  covers = λ digest. ap (λ (log : Log). is_covered (history_of digest log)) stays.log ∙ lists.covers digest;
-  places = λ digest. ap (λ (live : List Live). live_of digest live) stays.live ∙ lists.places digest;
-  times = λ part. ap (λ (log : Log). high_time setup part log) stays.log ∙ lists.times part;
-}
+-- ---- a sprig and the shelf behind such steps
+
+module _ (setup : Setup) (part : ℕ) (sprig : SprigState) (s : State) (steps : List Step) (all : AllByRecursion IsFlushing steps) where
+  pub sprig_stays : SprigStands setup part sprig s → SprigStands setup part sprig (after_steps setup steps s)
+  sprig_stays stands = record { fits = book_fits setup part sprig s steps (flushing_are_of_book steps all) stands.fits; times = stands.times }
+
+  pub together_on : {D : Type 0} (new : ShelfView D) → setup.lwm ≡ 0 → SprigStands setup part sprig s → s.book.queue ≡ [] → StandsFor setup new (after_steps setup steps s) → StandTogether setup part sprig new (after_steps setup steps s)
+  together_on new low stands none shelf = record {
+    sprig_stands = sprig_stays stands;
+    shelf_stands = record { stands = shelf; queue = steps_queue_none setup low steps s all none };
+  }
 
 -- ---- how a flush ends
 
@@ -131,88 +119,120 @@ flush_ends (Err e) call before after first rest steps stops rose = inr (refl, ro
 
 -- ---- the shard's setup
 
-pub setup_is : {D : Type 0} (shard : ShardView D) → IsWhole shard → IsSetupOf (setup_of shard) shard.shelf
-setup_is shard whole = record {
+pub setup_fits : {D : Type 0} (shelf : ShelfView D) (set : Settings) → shelf.limits ≡ limits_of set → IsSetupOf (setup_for shelf.geometry set) shelf
+setup_fits shelf set limits = record {
   shape = record { capacity = refl; blocks = refl; device = refl; devices = refl };
-  pending = sym (ap (λ (l : ShelfLimits). l.pending) whole.limits);
-  lwm = sym (ap (λ (l : ShelfLimits). l.lwm) whole.limits);
+  pending = sym (ap (λ (l : ShelfLimits). l.pending) limits);
+  lwm = sym (ap (λ (l : ShelfLimits). l.lwm) limits);
 }
+
+pub setup_is : {D : Type 0} (shard : ShardView D) → IsWhole shard → IsSetupOf (setup_of shard) shard.shelf
+setup_is shard whole = setup_fits shard.shelf shard.set whole.limits
 
 pub setup_same : {D : Type 0} (old new : ShardView D) → SameSetup old new → setup_of old ≡ setup_of new
 setup_same old new shape = ap (λ (g : Geometry). setup_for g old.set) (sym shape.geometry) ∙ ap (λ (set : Settings). setup_for new.shelf.geometry set) (sym shape.set)
 
--- A shard behind such steps stands for the state after them.
-pub whole_behind : {D : Type 0} (old new : ShardView D) → IsWhole old → SameSetup old new → new.shelf.limits ≡ old.shelf.limits → new.index ≡ old.index
-    → (s : State) → Agrees old s → (steps : List Step) → AllByRecursion IsFlushing steps → shelf.StandsFor (setup_of old) new.shelf (after_steps (setup_of old) steps s) → IsWhole new
-whole_behind old new whole shape limits index s agrees steps flushing stands =
-    let after : State = after_steps (setup_of old) steps s in
-    let stays = steps_stay (setup_of old) whole.settings.lwm steps s flushing in
-    let same : setup_of old ≡ setup_of new = setup_same old new shape in
-    record {
-      settings = subst IsSettings (sym shape.set) whole.settings;
-      limits = limits ∙ whole.limits ∙ ap limits_of (sym shape.set);
-      entries = subst (λ (g : Geometry). AllByRecursion (IsEntryOf g) new.index) (sym shape.geometry) (subst (AllByRecursion (IsEntryOf old.shelf.geometry)) (sym index) whole.entries);
-      stands = (
-        after,
-        record {
-          index = subst (λ (x : Setup). Lists x new.index after) same (subst (λ (entries : List Entry). Lists (setup_of old) entries after) (sym index) (lists_stay (setup_of old) old.index s after stays agrees.index));
-          shelf = subst (λ (x : Setup). shelf.StandsFor x new.shelf after) same stands;
-          queue = stays.queue agrees.queue;
-        },
-      );
-    }
-
 -- ---- the event
 
-module _ {D : Type 0} (view : D → DiskView)
-    (old new : ShardView D) (s : State) (call : Call) (answer : Answer) (steps : List Step) where
+module _ {D : Type 0} (view : D → DiskView) (setup : Setup) (old new : ShelfView D) (s : State) (call : Call) (answer : Answer) (steps : List Step) where
   abbrev pub event_of : Event
-  event_of = record { call = call; answer = answer; steps = steps; faults_before = (view old.shelf.disk).faults; faults_after = (view new.shelf.disk).faults }
+  event_of = record { call = call; answer = answer; steps = steps; faults_before = (view old.disk).faults; faults_after = (view new.disk).faults }
 
-  pub makes_by : SameSetup old new → (view old.shelf.disk).faults ≤ (view new.shelf.disk).faults → Goes view (setup_of old) steps old.shelf s new.shelf
-      → Allowed (setup_of old) false s event_of call → (IsHonest (view old.shelf.disk) → IsSafe view old s → Allowed (setup_of old) true s event_of call)
-      → Lists (setup_of old) new.index (after_steps (setup_of old) steps s) → (after_steps (setup_of old) steps s).book.queue ≡ []
-      → Makes view call answer old s new
-  makes_by shape up goes allowed allowed_told lists queue = record {
+  pub makes_by : (Stands : State → Type 0) → (view old.disk).faults ≤ (view new.disk).faults → Goes view setup steps old s new
+      → Allowed setup false s event_of call → (IsHonest (view old.disk) → ShelfIsSafe view setup old s → Allowed setup true s event_of call)
+      → Stands (after_steps setup steps s) → MakesEvent view setup call answer old s new Stands
+  makes_by Stands up goes allowed allowed_told stands = record {
     event = event_of;
     is_call = refl;
     is_answer = refl;
     follows = record { begins = refl; counts = up; allowed = allowed };
     told = λ honest safe. record { begins = refl; counts = up; allowed = allowed_told honest safe };
     counted = refl;
-    stands = record { index = subst (λ (x : Setup). Lists x new.index (after_steps (setup_of old) steps s)) same lists; shelf = subst (λ (x : Setup). shelf.StandsFor x new.shelf (after_steps (setup_of old) steps s)) same goes.stands; queue = queue };
+    stands = stands;
     placed = goes.placed;
-    safe = λ honest safe. record { placed = goes.placed honest safe.placed; safe = subst (λ (x : Setup). shelf.ImagesHold x view new.shelf (after_steps (setup_of old) steps s)) same (goes.safe honest safe.safe) };
+    safe = λ honest safe. record { placed = goes.placed honest safe.placed; safe = goes.safe honest safe.safe };
     leaves = λ honest safe. goes.leaves honest safe.safe;
   }
+
+-- ---- a shard
+
+pub shelf_over : {D : Type 0} (old new : ShardView D) → SameSetup old new → (s : State) → ShelfStands (setup_of old) new.shelf s → ShelfStands (setup_of new) new.shelf s
+shelf_over old new shape s stands = subst (λ (x : Setup). ShelfStands x new.shelf s) (setup_same old new shape) stands
+
+-- A shard of which a call was made is one.
+pub whole_made : {D : Type 0} (view : D → DiskView) (call : Call) (answer : Answer) (old new : ShardView D) → IsWhole old → SameSetup old new → new.shelf.limits ≡ old.shelf.limits
+    → (s : State) → Makes view call answer old s new → IsWhole new
+whole_made view call answer old new whole shape limits s made = record {
+  settings = subst IsSettings (sym shape.set) whole.settings;
+  limits = limits ∙ whole.limits ∙ ap limits_of (sym shape.set);
+  stands = (after_event (setup_of old) made.event s, made.stands);
+}
+
+-- A step over the sprig of a digest's part, which stands at this place, and the shelf is a call of the shard.
+module _ {D : Type 0} (view : D → DiskView) (digest : Digest) (old new : ShardView D) (k : ℕ) (before after : SprigState) (shape : SameSetup old new) (place : k ≡ part_of (setup_of old) digest) (there : k < length old.sprigs)
+    (at : before ≡ get_or old.sprigs k before) (becomes : new.sprigs ≡ set old.sprigs k after) where
+  abbrev part : ℕ
+  part = part_of (setup_of old) digest
+
+  sprig_at : slice_get old.sprigs part ≡ Some before
+  sprig_at = subst (λ (n : ℕ). slice_get old.sprigs n ≡ Some before) place (get_there old.sprigs k before there at)
+
+  pub held_at : held (setup_of old) digest old.sprigs ≡ entry_of digest before.entries
+  held_at = ap (entry_in digest) sprig_at
+
+  -- where the shard stands for a state, so do the sprig and the shelf
+  pub step_stands : (s : State) → Agrees old s → StandTogether (setup_of old) part before old.shelf s
+  step_stands s agrees = record {
+    sprig_stands = record { fits = agrees.sprigs.each part before sprig_at; times = all_get HasTimes old.sprigs part before agrees.times sprig_at };
+    shelf_stands = agrees.shelf;
+  }
+
+  pub sprigs_same : SameSprig before after → AreSame old.sprigs new.sprigs
+  sprigs_same same = subst (AreSame old.sprigs) (sym becomes) (set_same old.sprigs k before after (get_there old.sprigs k before there at) same)
+
+  pub lifted : (call : Call) (answer : Answer) → NamesOwn (setup_of old) call → part_named (setup_of old) call ≡ Some part → (s : State) → Agrees old s
+      → StepMakes view (setup_of old) part call answer old.shelf s after new.shelf → Makes view call answer old s new
+  lifted call answer names named s agrees made = record {
+    event = made.event;
+    is_call = made.is_call;
+    is_answer = made.is_answer;
+    follows = made.follows;
+    told = made.told;
+    counted = made.counted;
+    stands = record {
+      sprigs = subst (λ (x : Setup). FitsParts x new.sprigs behind) (setup_same old new shape) (subst (λ (l : List SprigState). FitsParts (setup_of old) l behind) (sym becomes)
+          (subst (λ (n : ℕ). FitsParts (setup_of old) (set old.sprigs n after) behind) (sym place)
+          (parts_become (setup_of old) false s made.event old.sprigs made.follows.allowed (subst (NamesOwn (setup_of old)) (sym made.is_call) names) agrees.sprigs part after
+          (ap (part_named (setup_of old)) made.is_call ∙ named) made.stands.sprig_stands.fits)));
+      times = subst (AllByRecursion HasTimes) (sym becomes) (all_set HasTimes old.sprigs k after agrees.times made.stands.sprig_stands.times);
+      shelf = shelf_over old new shape behind made.stands.shelf_stands;
+    };
+    placed = made.placed;
+    safe = made.safe;
+    leaves = made.leaves;
+  }
     where
-      same : setup_of old ≡ setup_of new
-      same = setup_same old new shape
+      behind : State
+      behind = after_event (setup_of old) made.event s
 
 -- ---- a flush
 
--- what sealing and flushing make of a shard, with an event that ends so
-module _ {D : Type 0} (view : D → DiskView)
-    (old new : ShardView D) (s : State) (low : old.set.lwm ≡ 0) (agrees : Agrees old s) (shape : SameSetup old new) (index : new.index ≡ old.index) (up : (view old.shelf.disk).faults ≤ (view new.shelf.disk).faults) where
+-- What sealing and flushing make of a shard, with an event that ends so, and names no part.
+module _ {D : Type 0} (view : D → DiskView) (old new : ShardView D) (s : State) (low : old.set.lwm ≡ 0) (agrees : Agrees old s) (shape : SameSetup old new) (sprigs : new.sprigs ≡ old.sprigs)
+    (up : (view old.shelf.disk).faults ≤ (view new.shelf.disk).faults) where
   pub makes_flush : {E : Type 0} (result : Result ℕ E) (call : Call) (first steps : List Step) → AllByRecursion IsFlushing first
       → let rest = flush_all (after_steps (setup_of old) first s).book in FlushesAll result rest steps → OnErr result (Rose (view old.shelf.disk).faults (view new.shelf.disk).faults)
+      → NamesOwn (setup_of old) call → part_named (setup_of old) call ≡ None
       → ((event : Event) (told : Bool) → FlushEnds event first rest → Allowed (setup_of old) told s event call)
       → Goes view (setup_of old) (first ++ steps) old.shelf s new.shelf
       → Makes view call (flush_answer result) old s new
-  makes_flush result call first steps first_flushing flushes rose allowed goes =
+  makes_flush result call first steps first_flushing flushes rose names none allowed goes =
       let all : AllByRecursion IsFlushing (first ++ steps) = all_joined IsFlushing first steps first_flushing (flushes_flushing result (after_steps (setup_of old) first s).book steps flushes) in
-      let stays = steps_stay (setup_of old) low (first ++ steps) s all in
-      let may = λ (told : Bool). allowed (record { call = call; answer = flush_answer result; steps = first ++ steps; faults_before = (view old.shelf.disk).faults; faults_after = (view new.shelf.disk).faults }) told
-      (flush_ends result call (view old.shelf.disk).faults (view new.shelf.disk).faults first (flush_all (after_steps (setup_of old) first s).book) steps flushes rose) in
-      makes_by view old new s call (flush_answer result) (first ++ steps) shape up goes
-      (may false) (λ honest safe. may true)
-      (subst (λ (entries : List Entry). Lists (setup_of old) entries (after_steps (setup_of old) (first ++ steps) s)) (sym index) (lists_stay (setup_of old) old.index s (after_steps (setup_of old) (first ++ steps) s) stays agrees.index))
-      (stays.queue agrees.queue)
-
--- what sealing and flushing make of a shard stays one
-pub whole_flushed : {D E : Type 0} (view : D → DiskView) (old new : ShardView D) → IsWhole old → SameSetup old new → new.shelf.limits ≡ old.shelf.limits → new.index ≡ old.index
-    → (s : State) → Agrees old s → (result : Result ℕ E) (first steps : List Step) → AllByRecursion IsFlushing first → FlushesAll result (flush_all (after_steps (setup_of old) first s).book) steps
-    → Goes view (setup_of old) (first ++ steps) old.shelf s new.shelf → IsWhole new
-whole_flushed view old new whole shape limits index s agrees result first steps first_flushing flushes goes =
-    whole_behind old new whole shape limits index s agrees (first ++ steps)
-    (all_joined IsFlushing first steps first_flushing (flushes_flushing result (after_steps (setup_of old) first s).book steps flushes)) goes.stands
+      let event : Event = event_of view (setup_of old) old.shelf new.shelf s call (flush_answer result) (first ++ steps) in
+      let may = λ (told : Bool). allowed event told (flush_ends result call (view old.shelf.disk).faults (view new.shelf.disk).faults first (flush_all (after_steps (setup_of old) first s).book) steps flushes rose) in
+      makes_by view (setup_of old) old.shelf new.shelf s call (flush_answer result) (first ++ steps) (Agrees new) up goes (may false) (λ honest safe. may true) (record {
+        sprigs = subst (λ (x : Setup). FitsParts x new.sprigs (after_event (setup_of old) event s)) (setup_same old new shape) (subst (λ (l : List SprigState). FitsParts (setup_of old) l (after_event (setup_of old) event s)) (sym sprigs)
+            (parts_fit_on (setup_of old) false s event old.sprigs (may false) names agrees.sprigs none));
+        times = subst (AllByRecursion HasTimes) (sym sprigs) agrees.times;
+        shelf = shelf_over old new shape (after_steps (setup_of old) (first ++ steps) s) (record { stands = goes.stands; queue = steps_queue_none (setup_of old) low (first ++ steps) s all agrees.shelf.queue });
+      })

@@ -1,5 +1,5 @@
 -- What a write makes of the book: the buffer that takes it, the live copies, and the buffers up to it.
-use Rattle.std.proofs.Common.{◌≡◌, ℕ, ◌+◌, ◌<◌, ◌≤◌, Bool, true, false, not, cond, ◌&&◌, List, [], ◌∷◌, map, refl, sym, ap, ◌∙◌, subst, arith}
+use Rattle.std.proofs.Common.{◌≡◌, ℕ, ◌+◌, ◌<◌, ◌≤◌, Bool, true, false, cond, ◌&&◌, List, [], ◌∷◌, map, refl, sym, ap, ◌∙◌, subst, arith}
 use Rattle.std.specs.Prelude.{Option, Some, ◌==◌, nat_le, filter, flat_map}
 use Rattle.std.specs.List.{AllByRecursion}
 use Rattle.std.proofs.Math.Nat.{le_refl}
@@ -12,12 +12,12 @@ use Rattle.device_model.specs.Book.{Setup, Book, Buffer, Live, client, sealed, i
 use Rattle.device_model.specs.Device.{State}
 use Rattle.device_model.specs.Steps.{wrote, sealed_stream, after_step}
 use Rattle.device_model.specs.Legal.{flush_of, flush_between, flush_all}
-use Rattle.rec_format.proofs.Laws.{same_digest_refl, same_digest_is}
+use Rattle.rec_format.proofs.Laws.{same_digest_refl}
 use Rattle.recovery.proofs.Each.{all_map}
 use Rattle.recovery.proofs.Opening.{all_joined}
 use Rattle.recovery.proofs.Placing.{found_is, some_room, Room, room_of}
 use Rattle.shard_core.proofs.FlushSteps.{StandRight}
-use Rattle.shard_core.proofs.Making.{refreshed_queue}
+use Rattle.shard_core.proofs.Queues.{refreshed_queue}
 
 -- ---- the buffer that takes a copy
 
@@ -87,20 +87,9 @@ module _ (setup : Setup) (digest : Digest) (units : ℕ) (book : Book) where
   filling_is : filling_buffer client (placed setup client digest units book).buffers ≡ Some (used_more room.buffer.number units room.buffer)
   filling_is = ap (filling_buffer client) buffers_are ∙ used_found room.buffer.number units ready.buffers room.buffer room.found
 
--- the live copy of the digest that was written, and those of others
+-- the live copy of the digest that was written
 live_hit : (digest : Digest) (l : Live) (live : List Live) → same_digest digest l.digest ≡ true → live_of digest (l ∷ live) ≡ Some l
 live_hit digest l live same = rw same refl
-
-live_stays : (d digest : Digest) (live : List Live) → same_digest d digest ≡ false → live_of d (without_live digest live) ≡ live_of d live
-live_stays d digest [] other = refl
-live_stays d digest (l ∷ live) other = by (same_digest digest l.digest) refl (live_stays d digest live other)
-  where
-    by : (c : Bool) → same_digest digest l.digest ≡ c → live_of d (without_live digest live) ≡ live_of d live
-        → live_of d (cond (not c) (l ∷ without_live digest live) (without_live digest live)) ≡ live_of d (l ∷ live)
-    by true same rest =
-        let one : digest ≡ l.digest = same_digest_is digest l.digest same in
-        rest ∙ sym (ap (λ (c : Bool). cond c (Some l) (live_of d live)) (subst (λ (x : Digest). same_digest d x ≡ false) one other))
-    by false differs rest = ap (λ (o : Option Live). cond (same_digest d l.digest) (Some l) o) rest
 
 -- ---- the buffers up to it
 
@@ -180,10 +169,6 @@ module _ (setup : Setup) (s : State) (digest : Digest) (v : Version) where
   wrote_live : live_of digest after.book.live ≡ Some (copy_in digest (version_units v) own_taker)
   wrote_live = ap (λ (b : Book). live_of digest b.live) book_is ∙ ap (live_of digest) (live_are setup digest (version_units v) s.book)
       ∙ live_hit digest (copy_in digest (version_units v) own_taker) (without_live digest s.book.live) (same_digest_refl digest)
-
-  pub other_live : (d : Digest) → same_digest d digest ≡ false → live_of d after.book.live ≡ live_of d s.book.live
-  other_live d other = ap (λ (b : Book). live_of d b.live) book_is ∙ ap (live_of d) (live_are setup digest (version_units v) s.book)
-      ∙ ap (λ (c : Bool). cond c (Some (copy_in digest (version_units v) own_taker)) (live_of d (without_live digest s.book.live))) other ∙ live_stays d digest s.book.live other
 
   pub wrote_queue : setup.lwm ≡ 0 → after.book.queue ≡ []
   wrote_queue low = ap (λ (b : Book). b.queue) book_is ∙ queue_is setup digest (version_units v) s.book low

@@ -1,9 +1,22 @@
 -- A disk that is read alone, call by call.
-use Rattle.std.proofs.Common.{ℕ, List, ◌∙◌, sym, subst, inl, inr}
+use Rattle.std.specs.Prelude.{Result}
+use Rattle.std.proofs.Common.{rules, ℕ, List, ◌∙◌, sym, subst, inl, inr}
 use Rattle.std.proofs.Math.Nat.{le_trans}
-use Rattle.disk_model.specs.Disk.{DiskView, IsDisk, Within, TellsSame, IsOnly, IsHonest}
+use Rattle.disk_model.specs.Disk.{DiskView, IsCall, meanwhile, IsDisk, Within, TellsSame, IsOnly, IsHonest}
 use Rattle.disk_model.specs.Runs.{advances_on}
 use Rattle.block_shelf.specs.Disks.{OnlyRead}
+
+-- a sync writes nothing
+pub read_synced : {T E : Type 0} (a b : DiskView) (result : Result T E) → TellsSame a b → (IsHonest a → Within a.may_leave (meanwhile a b)) → IsCall a b result → OnlyRead a b
+read_synced a b result bytes images call = record {
+  time = call.time;
+  later = search rules;
+  size = call.size;
+  bytes = bytes;
+  honest = call.honest;
+  was_honest = call.was_honest;
+  images = images;
+}
 
 -- what may be left at the end might have been left before
 end_within : (old new : DiskView) → IsDisk new → OnlyRead old new → IsHonest old → Within old.may_leave new.may_leave

@@ -9,6 +9,7 @@ use Rattle.rec_format.specs.declared.version.Version.{Version}
 use Rattle.rec_format.specs.declared.entry.Entry.{Entry}
 use Rattle.rec_format.specs.Versions.{version_units, top_number, block_capacity}
 use Rattle.rec_format.specs.RecordText.{CanBeRecorded}
+use Rattle.device_model.specs.Steps.{part_total}
 use Rattle.disk_model.specs.Bytes.{range}
 use Rattle.block_format.specs.declared.geometry.Geometry.{Geometry}
 use Rattle.block_format.specs.declared.geometry.Gate.{Gate}
@@ -22,10 +23,13 @@ use Rattle.block_format.specs.Refusals.{IsBlock, IsDamagedAt}
 use Rattle.block_format.proofs.BodyRecords.{units-cons}
 use Rattle.recovery.proofs.Opening.{all_joined}
 use Rattle.shard_core.specs.declared.scan.Finding.{Finding}
+use Rattle.shard_core.specs.declared.settings.Settings.{Settings}
 use Rattle.shard_core.specs.declared.start.StartCause.{StartCause}
 use Rattle.shard_core.specs.declared.start.StartCause.TheVariants as why
-use Rattle.shard_core.specs.Finding.{is_set, AreGates, set_blocks, found_entry, KeepsAll, IsLatest, LiesBehind, IsFinding, TakesBody, StopsOn, IsStopped}
-use Rattle.shard_core.proofs.Keeping.{found_entries, latest_all, copies_more}
+use Rattle.shard_core.specs.View.{setup_for}
+use Rattle.shard_core.specs.Sprigs.{IsEmptySprig}
+use Rattle.shard_core.specs.Finding.{is_set, AreGates, set_blocks, found_entry, KeepsAll, AreLatest, LiesBehind, IsFinding, TakesBody, StopsOn, IsStopped}
+use Rattle.shard_core.proofs.Latest.{found_entries, latest_none, latest_all, copies_more}
 use Rattle.shard_core.proofs.Gates.{gate_there, gate_set, told_shut, set_more}
 
 -- ---- the body of a block
@@ -43,13 +47,13 @@ stops_there g block place body bytes long read fault =
 pub body_read : (g : Geometry) (block place : ℕ) (old new bytes : List ℕ) → place ≡ block_place g block + 4096 → length old ≡ g.block_size - 4096 → new ≡ range place (length old) bytes → new ≡ body_bytes g block bytes
 body_read g block place old new bytes at long read = read ∙ ap (λ (p : ℕ). take (length old) (drop p bytes)) at ∙ ap (λ (n : ℕ). take n (drop (block_place g block + 4096) bytes)) long
 
-pub takes_body : (g : Geometry) (block number : ℕ) (body : List ℕ) (found : List Found) (old new : Finding) → length body ≡ g.block_size - 4096 → (reading : IsReading body block number found)
-    → KeepsAll g (map (found_entry block) found) old.index.entries new.index.entries → new.greatest ≡ max old.greatest number → TakesBody g block body old new
-takes_body g block number body found old new long reading keeps greatest = record {
+pub takes_body : (g : Geometry) (set : Settings) (block number : ℕ) (body : List ℕ) (found : List Found) (old new : Finding) → length body ≡ g.block_size - 4096 → (reading : IsReading body block number found)
+    → KeepsAll (setup_for g set) (map (found_entry block) found) old.sprigs.items new.sprigs.items → new.greatest ≡ max old.greatest number → TakesBody g set block body old new
+takes_body g set block number body found old new long reading keeps greatest = record {
   body = reading.body;
   is_body = subst (λ (n : ℕ). IsBody n body reading.body) (one_capacity g body long) reading.is_body;
   block_is = reading.block_is;
-  index = subst (λ (l : List Entry). KeepsAll g l old.index.entries new.index.entries) (ap (map (found_entry block)) reading.found_is ∙ found_entries block 0 reading.body.records) keeps;
+  sprigs = subst (λ (l : List Entry). KeepsAll (setup_for g set) l old.sprigs.items new.sprigs.items) (ap (map (found_entry block)) reading.found_is ∙ found_entries block 0 reading.body.records) keeps;
   greatest = greatest ∙ ap (max old.greatest) (sym reading.number_is);
 }
 
@@ -116,8 +120,8 @@ lie_from g gates block unit (r ∷ records) set all fit =
       lie_from g gates block (unit + version_units r.1) records set all.1 (omega (arith, fit, more)),
     )
 
-finding_closed : (g : Geometry) (gates : List Gate) (k : ℕ) (bodies : List Body) (finding : Finding) → IsFinding g gates k bodies finding → option_map is_set (slice_get gates k) ≡ Some false → IsFinding g gates (k + 1) bodies finding
-finding_closed g gates k bodies finding is shut = record {
+finding_closed : (g : Geometry) (set : Settings) (gates : List Gate) (k : ℕ) (bodies : List Body) (finding : Finding) → IsFinding g set gates k bodies finding → option_map is_set (slice_get gates k) ≡ Some false → IsFinding g set gates (k + 1) bodies finding
+finding_closed g set gates k bodies finding is shut = record {
   latest = is.latest;
   lie = is.lie;
   opened = is.opened ∙ sym (set_more gates k false shut ∙ append-nil (set_blocks 0 (take k gates)));
@@ -125,13 +129,13 @@ finding_closed g gates k bodies finding is shut = record {
   top = is.top;
 }
 
-finding_open : (g : Geometry) (gates : List Gate) (k : ℕ) (bytes : List ℕ) (bodies : List Body) (old new : Finding) → IsFinding g gates k bodies old → option_map is_set (slice_get gates k) ≡ Some true
-    → (takes : TakesBody g k bytes old new) → IsFinding g gates (k + 1) (bodies ++ takes.body ∷ []) new
-finding_open g gates k bytes bodies old new is set takes = record {
-  latest = subst (λ (l : List Copy). IsLatest g l new.index.entries) (sym copies_are) (latest_all g (copies_from k 0 takes.body.records) (copies_of bodies) old.index.entries new.index.entries is.latest takes.index);
+finding_open : (g : Geometry) (set : Settings) (gates : List Gate) (k : ℕ) (bytes : List ℕ) (bodies : List Body) (old new : Finding) → IsFinding g set gates k bodies old → option_map is_set (slice_get gates k) ≡ Some true
+    → (takes : TakesBody g set k bytes old new) → IsFinding g set gates (k + 1) (bodies ++ takes.body ∷ []) new
+finding_open g set gates k bytes bodies old new is opens takes = record {
+  latest = subst (λ (l : List Copy). AreLatest (setup_for g set) l new.sprigs.items) (sym copies_are) (latest_all (setup_for g set) (copies_from k 0 takes.body.records) (copies_of bodies) old.sprigs.items new.sprigs.items is.latest takes.sprigs);
   lie = subst (λ (l : List Copy). AllByRecursion (LiesBehind g gates) l) (sym copies_are)
-      (all_joined (LiesBehind g gates) (copies_of bodies) (copies_from k 0 takes.body.records) is.lie (lie_from g gates k 0 takes.body.records (gate_set gates k set) takes.is_body.records (omega (arith, takes.is_body.units))));
-  opened = map-append (λ (b : Body). b.block) bodies (takes.body ∷ []) ∙ ap (λ (l : List ℕ). l ++ takes.body.block ∷ []) is.opened ∙ ap (λ (n : ℕ). set_blocks 0 (take k gates) ++ n ∷ []) takes.block_is ∙ sym (set_more gates k true set);
+      (all_joined (LiesBehind g gates) (copies_of bodies) (copies_from k 0 takes.body.records) is.lie (lie_from g gates k 0 takes.body.records (gate_set gates k opens) takes.is_body.records (omega (arith, takes.is_body.units))));
+  opened = map-append (λ (b : Body). b.block) bodies (takes.body ∷ []) ∙ ap (λ (l : List ℕ). l ++ takes.body.block ∷ []) is.opened ∙ ap (λ (n : ℕ). set_blocks 0 (take k gates) ++ n ∷ []) takes.block_is ∙ sym (set_more gates k true opens);
   number = takes.greatest ∙ ap (λ (n : ℕ). max n takes.body.number) is.number ∙ sym (greatest_more bodies takes.body);
   top = subst (λ (n : ℕ). n ≤ top_number) (sym takes.greatest) (both_below old.greatest takes.body.number is.top takes.is_body.number);
 }
@@ -145,28 +149,28 @@ finding_open g gates k bytes bodies old new is set takes = record {
 -- ---- the next block
 
 -- what was found of the blocks before it, over any disk and over one that tells its bytes
-abbrev pub FoundIn : Geometry → (told : Type 0) → List ℕ → List Gate → ℕ → Finding → Type 0
-FoundIn g told bytes gates k finding = (bodies : List Body) × IsFinding g gates k bodies finding × (told → AreGates g bytes gates → HasBodies g bytes (range_with_len 0 k) bodies)
+abbrev pub FoundIn : Geometry → Settings → (told : Type 0) → List ℕ → List Gate → ℕ → Finding → Type 0
+FoundIn g set told bytes gates k finding = (bodies : List Body) × IsFinding g set gates k bodies finding × (told → AreGates g bytes gates → HasBodies g bytes (range_with_len 0 k) bodies)
 
-pub found_closed : (g : Geometry) (told : Type 0) (bytes : List ℕ) (gates : List Gate) (k : ℕ) (finding : Finding) → FoundIn g told bytes gates k finding → option_map is_set (slice_get gates k) ≡ Some false → FoundIn g told bytes gates (k + 1) finding
-found_closed g told bytes gates k finding found shut =
+pub found_closed : (g : Geometry) (set : Settings) (told : Type 0) (bytes : List ℕ) (gates : List Gate) (k : ℕ) (finding : Finding) → FoundIn g set told bytes gates k finding → option_map is_set (slice_get gates k) ≡ Some false → FoundIn g set told bytes gates (k + 1) finding
+found_closed g set told bytes gates k finding found shut =
     let at = gate_there gates k false shut in
-    (found.0, finding_closed g gates k found.0 finding found.1 shut, λ t are. subst (λ (l : List ℕ). HasBodies g bytes l found.0) (sym (range_next k)) (bodies_closed g bytes (range_with_len 0 k) found.0 k (found.2 t are) (told_shut at.0 (gate_sector g k bytes) at.2 (are k at.0 at.1))))
+    (found.0, finding_closed g set gates k found.0 finding found.1 shut, λ t are. subst (λ (l : List ℕ). HasBodies g bytes l found.0) (sym (range_next k)) (bodies_closed g bytes (range_with_len 0 k) found.0 k (found.2 t are) (told_shut at.0 (gate_sector g k bytes) at.2 (are k at.0 at.1))))
 
-pub found_open : (g : Geometry) (told : Type 0) (bytes body : List ℕ) (gates : List Gate) (k : ℕ) (old new : Finding) → FoundIn g told bytes gates k old → option_map is_set (slice_get gates k) ≡ Some true
-    → TakesBody g k body old new → (told → body ≡ body_bytes g k bytes) → FoundIn g told bytes gates (k + 1) new
-found_open g told bytes body gates k old new found set takes read = (
+pub found_open : (g : Geometry) (set : Settings) (told : Type 0) (bytes body : List ℕ) (gates : List Gate) (k : ℕ) (old new : Finding) → FoundIn g set told bytes gates k old → option_map is_set (slice_get gates k) ≡ Some true
+    → TakesBody g set k body old new → (told → body ≡ body_bytes g k bytes) → FoundIn g set told bytes gates (k + 1) new
+found_open g set told bytes body gates k old new found opens takes read = (
   found.0 ++ takes.body ∷ [],
-  finding_open g gates k body found.0 old new found.1 set takes,
+  finding_open g set gates k body found.0 old new found.1 opens takes,
   λ t are. subst (λ (l : List ℕ). HasBodies g bytes l (found.0 ++ takes.body ∷ [])) (sym (range_next k))
-      (bodies_open g bytes (range_with_len 0 k) found.0 k takes.body (found.2 t are) (are k Set (gate_set gates k set)) (subst (λ (l : List ℕ). IsBody (block_capacity g.block_size) l takes.body) (read t) takes.is_body) takes.block_is),
+      (bodies_open g bytes (range_with_len 0 k) found.0 k takes.body (found.2 t are) (are k Set (gate_set gates k opens)) (subst (λ (l : List ℕ). IsBody (block_capacity g.block_size) l takes.body) (read t) takes.is_body) takes.block_is),
 )
 
-pub none_found : (g : Geometry) (told : Type 0) (bytes : List ℕ) (gates : List Gate) (finding : Finding) → finding.index.entries ≡ [] → finding.greatest ≡ 0 → FoundIn g told bytes gates 0 finding
-none_found g told bytes gates finding index greatest = (
+pub none_found : (g : Geometry) (set : Settings) (told : Type 0) (bytes : List ℕ) (gates : List Gate) (finding : Finding) → length finding.sprigs.items ≡ part_total (setup_for g set) → AllByRecursion IsEmptySprig finding.sprigs.items → finding.greatest ≡ 0 → FoundIn g set told bytes gates 0 finding
+none_found g set told bytes gates finding count empty greatest = (
   [],
   record {
-    latest = subst (λ (l : List Entry). IsLatest g [] l) (sym index) (record { shown = λ d. refl; high = λ setup part same. refl; each = tt });
+    latest = latest_none (setup_for g set) finding.sprigs.items count empty;
     lie = tt;
     opened = refl;
     number = greatest;
@@ -176,11 +180,11 @@ none_found g told bytes gates finding index greatest = (
 )
 
 -- a stop at a block is a stop of the scan
-pub stopped_there : (g : Geometry) (told : Type 0) (bytes : List ℕ) (gates : List Gate) (k : ℕ) (finding : Finding) (cause : StartCause) → FoundIn g told bytes gates k finding → told → AreGates g bytes gates → k < g.blocks
+pub stopped_there : (g : Geometry) (set : Settings) (told : Type 0) (bytes : List ℕ) (gates : List Gate) (k : ℕ) (finding : Finding) (cause : StartCause) → FoundIn g set told bytes gates k finding → told → AreGates g bytes gates → k < g.blocks
     → option_map is_set (slice_get gates k) ≡ Some true → StopsOn g bytes k cause → IsStopped g bytes cause
-stopped_there g told bytes gates k finding (why.NotFormatted first) found t are within set stops = stops
-stopped_there g told bytes gates k finding (why.OtherGeometry kept asked size) found t are within set stops = stops
-stopped_there g told bytes gates k finding (why.DamagedBlock block place) found t are within set stops =
-    subst (λ (b : ℕ). IsDamagedAt g bytes b place) (sym stops.0) (damaged g bytes k place found.0 (found.2 t are) within (are k Set (gate_set gates k set)) stops.1)
-stopped_there g told bytes gates k finding why.Memory found t are within set stops = tt
-stopped_there g told bytes gates k finding why.Fault found t are within set stops = tt
+stopped_there g set told bytes gates k finding (why.NotFormatted first) found t are within opens stops = stops
+stopped_there g set told bytes gates k finding (why.OtherGeometry kept asked size) found t are within opens stops = stops
+stopped_there g set told bytes gates k finding (why.DamagedBlock block place) found t are within opens stops =
+    subst (λ (b : ℕ). IsDamagedAt g bytes b place) (sym stops.0) (damaged g bytes k place found.0 (found.2 t are) within (are k Set (gate_set gates k opens)) stops.1)
+stopped_there g set told bytes gates k finding why.Memory found t are within opens stops = tt
+stopped_there g set told bytes gates k finding why.Fault found t are within opens stops = tt

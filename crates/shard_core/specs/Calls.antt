@@ -1,5 +1,5 @@
 -- Crate shard_core. What the calls of a shard answer, as the definitions see it.
-use Rattle.std.specs.Prelude.{◌≡◌, ◌≢◌, ℕ, true, false, List, Option, Some, None, Result, Ok, Err, Contains, MatchResult}
+use Rattle.std.specs.Prelude.{◌≡◌, ◌≢◌, ℕ, Bool, true, false, List, Option, Some, None, Result, Ok, Err, Contains, MatchResult}
 use Rattle.std.specs.List.{AllByRecursion}
 use Rattle.rec_format.specs.declared.version.Digest.{Digest}
 use Rattle.rec_format.specs.declared.version.Stamp.{Stamp}
@@ -7,7 +7,7 @@ use Rattle.rec_format.specs.declared.version.Version.{Version}
 use Rattle.rec_format.specs.declared.entry.Entry.{Entry}
 use Rattle.device_model.specs.Device.{State, seen}
 use Rattle.device_model.specs.Steps.{Step, states_through}
-use Rattle.device_model.specs.Events.{Event, Call, Answer, stamp_given, found_version, counted, refused, Cause, too_big, wrong_generation, spent, overload, no_space, damaged, no_memory, disk_fault, after_event}
+use Rattle.device_model.specs.Events.{Event, Call, Answer, stamp_given, happened, found_version, counted, refused, Cause, too_big, wrong_generation, spent, overload, no_space, damaged, no_memory, disk_fault, after_event}
 use Rattle.device_model.specs.Legal.{Follows, flush_count, StopsIn}
 use Rattle.disk_model.specs.Disk.{DiskView, IsHonest}
 use Rattle.disk_model.specs.Runs.{OneOf, Leaves}
@@ -21,11 +21,17 @@ use Rattle.block_shelf.specs.declared.refusals.ReadRefusal.TheVariants as read
 use Rattle.block_shelf.specs.Standing.{IsPlaced}
 use Rattle.block_shelf.specs.Appends.{IsLeftBy}
 use Rattle.block_shelf.specs.Reads.{copy_bytes, IsRead, HasRead}
+use Rattle.rec_format.specs.Versions.{version_units}
+use Rattle.shard_core.specs.declared.get.Meta.{Meta}
 use Rattle.shard_core.specs.declared.refusals.WriteRefusal.{WriteRefusal}
 use Rattle.shard_core.specs.declared.refusals.WriteRefusal.TheVariants as write
-use Rattle.shard_core.specs.Index.{held, place_of}
+use Rattle.sprig_tree.specs.State.{SprigState}
+use Rattle.block_shelf.specs.View.{ShelfView}
+use Rattle.block_shelf.specs.Changes.{SameButRoom}
+use Rattle.device_model.specs.Book.{Setup}
+use Rattle.shard_core.specs.Sprigs.{SameSprig, AreSame, held, place_of}
 use Rattle.shard_core.specs.View.{ShardView, setup_of}
-use Rattle.shard_core.specs.Stands.{Agrees, IsSafe}
+use Rattle.shard_core.specs.Stands.{Agrees, StandTogether, ShelfIsSafe}
 
 abbrev pub cause_of_write : WriteRefusal → Cause
 cause_of_write (write.Big units capacity) = too_big units capacity
@@ -45,16 +51,34 @@ write_of (put.Space free) = write.Space free
 write_of put.Memory = write.Memory
 write_of put.Fault = write.Fault
 
--- A refused write leaves the index as it was, and the shelf as a refused append leaves it.
+-- What a refused write leaves of the shelf: all of it, but for memory that was taken, and after a fault in closing a gate what a refused
+-- append leaves.
+abbrev pub IsShelfLeft : {D : Type 0} → (old new : ShelfView D) → WriteRefusal → Type 0
+IsShelfLeft old new (write.Big units capacity) = new ≡ old
+IsShelfLeft old new (write.Gen seen) = new ≡ old
+IsShelfLeft old new write.Spent = new ≡ old
+IsShelfLeft old new (write.Load pending) = new ≡ old
+IsShelfLeft old new (write.Space free) = new ≡ old
+IsShelfLeft old new write.Memory = SameButRoom old new
+IsShelfLeft old new write.Fault = IsLeftBy old new put.Fault
+
+-- A refused write leaves the entries of its sprig and the shelf as they were.
+pub record IsRefusedStep {D : Type 0} (old_sprig new_sprig : SprigState) (old new : ShelfView D) (refusal : WriteRefusal) : Type 0 where
+  pub sprig : SameSprig old_sprig new_sprig
+  pub shelf : IsShelfLeft old new refusal
+
+-- and so it leaves all sprigs of a shard
 pub record IsRefusedWrite {D : Type 0} (old new : ShardView D) (refusal : WriteRefusal) : Type 0 where
-  pub why : PutRefusal
-  pub is_for : refusal ≡ write_of why
-  pub left : IsLeftBy old.shelf new.shelf why
-  pub index : new.index ≡ old.index
+  pub sprigs : AreSame old.sprigs new.sprigs
+  pub shelf : IsShelfLeft old.shelf new.shelf refusal
 
 abbrev pub write_answer : Result Stamp WriteRefusal → Answer
 write_answer (Ok stamp) = stamp_given stamp
 write_answer (Err refusal) = refused (cause_of_write refusal)
+
+abbrev pub delete_answer : Result Bool WriteRefusal → Answer
+delete_answer (Ok there) = happened there
+delete_answer (Err refusal) = refused (cause_of_write refusal)
 
 abbrev pub cause_of_read : ReadRefusal → Cause
 cause_of_read (read.Damaged kept bytes) = damaged
@@ -65,25 +89,38 @@ abbrev pub read_answer : Result (Option Version) ReadRefusal → Answer
 read_answer (Ok found) = found_version found
 read_answer (Err refusal) = refused (cause_of_read refusal)
 
+-- what is told of a version without its payload
+abbrev pub meta_of : Option Version → Option Meta
+meta_of None = None
+meta_of (Some v) = Some (record { stamp = v.stamp; void = v.void; units = version_units v })
+
 abbrev pub flush_answer : {E : Type 0} → Result ℕ E → Answer
 flush_answer (Ok flushed) = counted flushed
 flush_answer (Err fault) = refused disk_fault
 
--- From a state for which the shard stood, one event of this call with this answer may follow, and the shard stands for the state
--- after it. Over an honest disk that was safe the event may follow as one over a disk that tells what it holds, the shard is safe
--- then, and each image that a crash meanwhile might have left survives the state before, or one after some of the event's steps.
-pub record Makes {D : Type 0} (view : D → DiskView) (call : Call) (answer : Answer) (old : ShardView D) (s : State) (new : ShardView D) : Type 0 where
+-- From a state for which a shelf stood, one event of this call with this answer may follow, and what is asked of the state after it holds:
+-- sprigs and shelf stand for it. Over an honest disk that was safe the event may follow as one over a disk that tells what it holds, the
+-- shelf is safe then, and each image that a crash meanwhile might have left survives the state before, or one after some of the event's
+-- steps.
+pub record MakesEvent {D : Type 0} (view : D → DiskView) (setup : Setup) (call : Call) (answer : Answer) (old : ShelfView D) (s : State) (new : ShelfView D) (Stands : State → Type 0) : Type 0 where
   pub event : Event
   pub is_call : event.call ≡ call
   pub is_answer : event.answer ≡ answer
-  pub follows : Follows (setup_of old) false s (view old.shelf.disk).faults event
-  pub told : IsHonest (view old.shelf.disk) → IsSafe view old s → Follows (setup_of old) true s (view old.shelf.disk).faults event
-  pub counted : event.faults_after ≡ (view new.shelf.disk).faults
-  pub stands : Agrees new (after_event (setup_of old) event s)
-  pub placed : IsHonest (view old.shelf.disk) → IsPlaced view old.shelf s → IsPlaced view new.shelf (after_event (setup_of old) event s)
-  pub safe : IsHonest (view old.shelf.disk) → IsSafe view old s → IsSafe view new (after_event (setup_of old) event s)
-  pub leaves : IsHonest (view old.shelf.disk) → IsSafe view old s
-      → Leaves (OneOf (Survives (setup_of old)) (states_through (setup_of old) event.steps s)) (view old.shelf.disk) (view new.shelf.disk)
+  pub follows : Follows setup false s (view old.disk).faults event
+  pub told : IsHonest (view old.disk) → ShelfIsSafe view setup old s → Follows setup true s (view old.disk).faults event
+  pub counted : event.faults_after ≡ (view new.disk).faults
+  pub stands : Stands (after_event setup event s)
+  pub placed : IsHonest (view old.disk) → IsPlaced view old s → IsPlaced view new (after_event setup event s)
+  pub safe : IsHonest (view old.disk) → ShelfIsSafe view setup old s → ShelfIsSafe view setup new (after_event setup event s)
+  pub leaves : IsHonest (view old.disk) → ShelfIsSafe view setup old s → Leaves (OneOf (Survives setup) (states_through setup event.steps s)) (view old.disk) (view new.disk)
+
+-- a step over the sprig of a part and the shelf, which stand for one state before it and after it
+abbrev pub StepMakes : {D : Type 0} → (view : D → DiskView) → (setup : Setup) → (part : ℕ) → Call → Answer → ShelfView D → State → (sprig : SprigState) → ShelfView D → Type 0
+StepMakes view setup part call answer old s sprig new = MakesEvent view setup call answer old s new (StandTogether setup part sprig new)
+
+-- a call of a shard
+abbrev pub Makes : {D : Type 0} → (view : D → DiskView) → Call → Answer → (old : ShardView D) → State → (new : ShardView D) → Type 0
+Makes view call answer old s new = MakesEvent view (setup_of old) call answer old.shelf s new.shelf (Agrees new)
 
 -- so it does, whatever the answer
 abbrev pub MakesAny : {D : Type 0} → (view : D → DiskView) → Call → (old : ShardView D) → State → (new : ShardView D) → Type 0
@@ -105,8 +142,12 @@ HasGot e bytes (Err refusal) = HasRead e bytes (Err refusal)
 -- A record is got as it is stored. Where its block has a write buffer, the answer is what was put, over any disk, or want of memory.
 -- Where it has none, the answer is what stands at the place of its entry, on a disk that tells its bytes: it is damaged exactly where no
 -- head of the entry's record stands there.
-pub record GetsStored {D : Type 0} (view : D → DiskView) (shard : ShardView D) (digest : Digest) (now : ℕ) (result : Result (Option Version) ReadRefusal) : Type 0 where
-  pub buffered : (s : State) → Agrees shard s → (e : Entry) (b : BufferState) → held digest shard.index ≡ Some e → Contains shard.shelf.buffers b → b.block ≡ e.block
-      → MatchResult result (λ found. found ≡ seen s now digest) (λ refusal. refusal ≡ read.Memory)
-  pub placed : (view shard.shelf.disk).tells → (e : Entry) → seen_entry now (held digest shard.index) ≡ Some e → AllByRecursion (λ b. b.block ≢ e.block) shard.shelf.buffers
-      → HasGot e (copy_bytes shard.shelf.geometry (place_of e) (view shard.shelf.disk).seen) result
+pub record ReadsStored {D : Type 0} (view : D → DiskView) (Stands : State → Type 0) (found : Option Entry) (shelf : ShelfView D) (digest : Digest) (now : ℕ) (result : Result (Option Version) ReadRefusal) : Type 0 where
+  pub buffered : (s : State) → Stands s → (e : Entry) (b : BufferState) → found ≡ Some e → Contains shelf.buffers b → b.block ≡ e.block
+      → MatchResult result (λ got. got ≡ seen s now digest) (λ refusal. refusal ≡ read.Memory)
+  pub placed : (view shelf.disk).tells → (e : Entry) → seen_entry now found ≡ Some e → AllByRecursion (λ b. b.block ≢ e.block) shelf.buffers
+      → HasGot e (copy_bytes shelf.geometry (place_of e) (view shelf.disk).seen) result
+
+-- so it is by a shard
+abbrev pub GetsStored : {D : Type 0} → (view : D → DiskView) → ShardView D → Digest → (now : ℕ) → Result (Option Version) ReadRefusal → Type 0
+GetsStored view shard digest now result = ReadsStored view (Agrees shard) (held (setup_of shard) digest shard.sprigs) shard.shelf digest now result

@@ -1,12 +1,15 @@
 -- Crate shard_core. What a scan of the first blocks of a device finds.
-use Rattle.std.specs.Prelude.{◌≡◌, ◌⊎◌, ℕ, ◌+◌, ◌<◌, ◌≤◌, max, ◌==◌, Bool, true, false, List, [], ◌∷◌, map, Option, Some, None, Contains, slice_get, take, option_map, if◌then◌else◌}
+use Rattle.std.specs.Prelude.{◌≡◌, ◌⊎◌, ℕ, ◌+◌, ◌<◌, ◌≤◌, max, ◌==◌, Bool, true, false, List, [], ◌∷◌, map, length, set, Some, slice_get, take, MatchBool}
 use Rattle.std.specs.List.{AllByRecursion}
 use Rattle.rec_format.specs.declared.version.Digest.{Digest}
-use Rattle.rec_format.specs.declared.version.Stamp.{Stamp}
 use Rattle.rec_format.specs.declared.entry.Entry.{Entry}
-use Rattle.rec_format.specs.Places.{IsDigest, same_digest, device_number, part_number_of}
-use Rattle.rec_format.specs.Versions.{is_later_stamp, version_units, top_number, block_capacity}
+use Rattle.rec_format.specs.Places.{IsDigest, device_number}
+use Rattle.rec_format.specs.Versions.{version_units, top_number, block_capacity}
 use Rattle.device_model.specs.Book.{Setup}
+use Rattle.device_model.specs.Device.{part_of}
+use Rattle.device_model.specs.Steps.{part_total}
+use Rattle.sprig_tree.specs.State.{SprigState}
+use Rattle.part_laws.specs.Starting.{TakesLater, AllHaveLatest}
 use Rattle.disk_model.specs.Bytes.{range}
 use Rattle.disk_model.specs.Disk.{Images, DiskView, IsHonest, IsOnly}
 use Rattle.block_format.specs.declared.geometry.Geometry.{Geometry}
@@ -14,11 +17,10 @@ use Rattle.block_format.specs.declared.geometry.Gate.{Gate}
 use Rattle.block_format.specs.declared.geometry.Gate.TheVariants.{Shut, Set, Unsure}
 use Rattle.block_format.specs.declared.geometry.Found.{Found}
 use Rattle.block_format.specs.Layout.{IsOpen, IsClosed, gate_sector, body_bytes, Body, IsBody, IsFaultAt}
-use Rattle.block_format.specs.Copies.{Copy, copies_from, copies_of, cold_copy, entry_for}
+use Rattle.block_format.specs.Copies.{Copy, copies_from, copies_of, entry_for}
 use Rattle.recovery.specs.Start.{start_state, cold_copies, greatest_number}
 use Rattle.recovery.specs.Sound.{IsSound}
 use Rattle.block_format.specs.Refusals.{IsDamagedAt}
-use Rattle.recovery.specs.Cold.{copies_high}
 use Rattle.block_shelf.specs.Starting.{AllHave}
 use Rattle.block_shelf.specs.Standing.{IsPlaced}
 use Rattle.shard_core.specs.declared.scan.Finding.{Finding}
@@ -26,8 +28,8 @@ use Rattle.shard_core.specs.declared.start.StartCause.{StartCause}
 use Rattle.shard_core.specs.declared.start.StartCause.TheVariants.{NotFormatted, OtherGeometry, DamagedBlock, Memory, Fault}
 use Rattle.shard_core.specs.declared.settings.Settings.{Settings}
 use Rattle.block_shelf.specs.declared.place.Place.{Place}
-use Rattle.shard_core.specs.View.{ShardView, setup_of}
-use Rattle.shard_core.specs.Index.{held, high_of, place_of}
+use Rattle.shard_core.specs.View.{ShardView, setup_for, setup_of}
+use Rattle.shard_core.specs.Sprigs.{place_of}
 use Rattle.shard_core.specs.Stands.{Agrees, IsSafe}
 use Rattle.shard_core.specs.Starting.{own_copies, found_state, blocks_behind}
 
@@ -75,16 +77,6 @@ set_blocks block (Unsure ∷ gates) = set_blocks (block + 1) gates
 
 -- ---- entry by entry
 
--- a stamp is later than that of what was found, or nothing was found
-abbrev pub is_later_than : Option Entry → Stamp → Bool
-is_later_than None stamp = true
-is_later_than (Some found) stamp = is_later_stamp stamp found.stamp
-
--- the later of two entries, of equal ones the first
-abbrev pub later_entry : Option Entry → Entry → Entry
-later_entry None e = e
-later_entry (Some found) e = if is_later_stamp e.stamp found.stamp then e else found
-
 -- the entry of a record that was found in a block
 abbrev pub found_entry : (block : ℕ) → Found → Entry
 found_entry block found = record {
@@ -99,25 +91,21 @@ found_entry block found = record {
   units = found.units;
 }
 
--- An index with one copy more: its entry takes the place of what was found of its digest, where it is later; digests of other
--- devices are passed over.
-pub record KeepsOne (g : Geometry) (e : Entry) (old new : List Entry) : Type 0 where
-  pub shown : (d : Digest) → held d new
-      ≡ (if device_number g.devices e.digest == g.device then (if same_digest d e.digest then Some (later_entry (held d old) e) else held d old) else held d old)
-  pub high : (sprigs part : ℕ) → high_of g.devices sprigs part new
-      ≡ (if device_number g.devices e.digest == g.device then (if part_number_of g.devices sprigs e.digest == part then max e.stamp.lut (high_of g.devices sprigs part old) else high_of g.devices sprigs part old) else high_of g.devices sprigs part old)
-  pub each : (x : Entry) → Contains new x → ((x ≡ e) × (device_number g.devices e.digest ≡ g.device)) ⊎ Contains old x
+-- Sprigs with one copy more: the one of its part takes its entry, if its digest has none or an earlier one there, and the others stay;
+-- digests of other devices are passed over.
+abbrev pub KeepsOne : Setup → Entry → (old new : List SprigState) → Type 0
+KeepsOne setup e old new = MatchBool (device_number setup.devices e.digest == setup.device)
+    ((before : SprigState) × (after : SprigState) × (slice_get old (part_of setup e.digest) ≡ Some before) × TakesLater e before after × (new ≡ set old (part_of setup e.digest) after))
+    (new ≡ old)
 
-abbrev pub KeepsAll : Geometry → List Entry → (old new : List Entry) → Type 0
-KeepsAll g [] old new = new ≡ old
-KeepsAll g (e ∷ entries) old new = (mid : List Entry) × KeepsOne g e old mid × KeepsAll g entries mid new
+abbrev pub KeepsAll : Setup → List Entry → (old new : List SprigState) → Type 0
+KeepsAll setup [] old new = new ≡ old
+KeepsAll setup (e ∷ entries) old new = (mid : List SprigState) × KeepsOne setup e old mid × KeepsAll setup entries mid new
 
--- Of each digest of the device the index has the entry of the latest of these copies, of each sprig the greatest time among them,
--- and nothing else.
-pub record IsLatest (g : Geometry) (copies : List Copy) (entries : List Entry) : Type 0 where
-  pub shown : (d : Digest) → held d entries ≡ option_map entry_for (cold_copy d (own_copies g.device g.devices copies))
-  pub high : (setup : Setup) (part : ℕ) → setup.devices ≡ g.devices → high_of g.devices setup.sprigs part entries ≡ copies_high setup part (own_copies g.device g.devices copies)
-  pub each : AllByRecursion (λ e. (c : Copy) × Contains (own_copies g.device g.devices copies) c × (e ≡ entry_for c)) entries
+-- Each part of the device has a sprig, and in it the entry of the latest of these copies of each of its digests.
+pub record AreLatest (setup : Setup) (copies : List Copy) (sprigs : List SprigState) : Type 0 where
+  pub parts : length sprigs ≡ part_total setup
+  pub each : AllHaveLatest setup (own_copies setup.device setup.devices copies) sprigs
 
 -- ---- block by block
 
@@ -129,19 +117,19 @@ pub record LiesBehind (g : Geometry) (gates : List Gate) (c : Copy) : Type 0 whe
   pub within : c.unit + version_units c.version ≤ block_capacity g.block_size
 
 -- Over any disk: behind the open ones of the first gates were these bodies, and what they have was found.
-pub record IsFinding (g : Geometry) (gates : List Gate) (count : ℕ) (bodies : List Body) (finding : Finding) : Type 0 where
-  pub latest : IsLatest g (copies_of bodies) finding.index.entries
+pub record IsFinding (g : Geometry) (set : Settings) (gates : List Gate) (count : ℕ) (bodies : List Body) (finding : Finding) : Type 0 where
+  pub latest : AreLatest (setup_for g set) (copies_of bodies) finding.sprigs.items
   pub lie : AllByRecursion (LiesBehind g gates) (copies_of bodies)
   pub opened : map (λ b. b.block) bodies ≡ set_blocks 0 (take count gates)
   pub number : finding.greatest ≡ greatest_number bodies
   pub top : finding.greatest ≤ top_number
 
 -- these bytes begin with a body of the block, and its records are kept
-pub record TakesBody (g : Geometry) (block : ℕ) (bytes : List ℕ) (old new : Finding) : Type 0 where
+pub record TakesBody (g : Geometry) (set : Settings) (block : ℕ) (bytes : List ℕ) (old new : Finding) : Type 0 where
   pub body : Body
   pub is_body : IsBody (block_capacity g.block_size) bytes body
   pub block_is : body.block ≡ block
-  pub index : KeepsAll g (map entry_for (copies_from block 0 body.records)) old.index.entries new.index.entries
+  pub sprigs : KeepsAll (setup_for g set) (map entry_for (copies_from block 0 body.records)) old.sprigs.items new.sprigs.items
   pub greatest : new.greatest ≡ max old.greatest body.number
 
 -- a block can't be taken: for want of memory, a fault, or since it has no body
@@ -166,7 +154,7 @@ IsStopped g bytes Fault = Unit {0}
 abbrev pub latest_copies : Geometry → List Body → List Copy
 latest_copies g bodies = cold_copies (own_copies g.device g.devices (copies_of bodies))
 
--- the copies of an index, and where they lie
+-- the copies of entries, and where they lie
 abbrev pub live_places : List Entry → List (Digest × Place)
 live_places entries = map (λ e. (e.digest, place_of e)) entries
 
@@ -175,7 +163,7 @@ pub record BeginsOver {D : Type 0} (disk : D) (g : Geometry) (set : Settings) (f
   pub disk_is : shard.shelf.disk ≡ disk
   pub geometry_is : shard.shelf.geometry ≡ g
   pub set_is : shard.set ≡ set
-  pub index_is : shard.index ≡ finding.index.entries
+  pub sprigs_are : shard.sprigs ≡ finding.sprigs.items
   pub next : shard.shelf.next_number ≡ finding.greatest + 1
 
 -- What holds of it where these bodies were found: the blocks in which none of the latest copies lies are free, and it stands for the

@@ -1,7 +1,7 @@
-pub mod Index
+pub mod Sprigs
 pub mod View
 pub mod Stands
 pub mod Starting
 pub mod Finding
 pub mod Calls
-pub mod Putting
+pub mod Writing

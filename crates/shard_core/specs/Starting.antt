@@ -15,7 +15,7 @@ use Rattle.recovery.specs.Sound.{IsSound}
 use Rattle.block_format.specs.Refusals.{IsRefusedFor, IsAsked, not_formatted, other_shape, damaged_block}
 use Rattle.shard_core.specs.View.{ShardView, setup_of}
 use Rattle.block_shelf.specs.Standing.{IsPlaced}
-use Rattle.shard_core.specs.Index.{held}
+use Rattle.shard_core.specs.Sprigs.{held}
 use Rattle.shard_core.specs.Stands.{Agrees}
 use Rattle.shard_core.specs.declared.start.Asked.{Asked}
 use Rattle.shard_core.specs.declared.start.StartCause.{StartCause}
@@ -52,7 +52,7 @@ blocks_behind blocks found = filter (λ b. not (list_any (λ c. c.block == b) fo
 pub record Begins {D : Type 0} (asked : Asked) (bytes : List ℕ) (shard : ShardView D) : Type 0 where
   pub bodies : List Body
   pub passes : Passes asked bytes shard.shelf.geometry bodies
-  pub entries : (digest : Digest) → held digest shard.index ≡ option_map entry_for (cold_copy digest (own_copies shard.shelf.geometry.device shard.shelf.geometry.devices (copies_of bodies)))
+  pub entries : (digest : Digest) → held (setup_of shard) digest shard.sprigs ≡ option_map entry_for (cold_copy digest (own_copies shard.shelf.geometry.device shard.shelf.geometry.devices (copies_of bodies)))
   pub free : shard.shelf.free ≡ blocks_behind shard.shelf.geometry.blocks (cold_copies (own_copies shard.shelf.geometry.device shard.shelf.geometry.devices (copies_of bodies)))
   pub next : shard.shelf.next_number ≡ greatest_number bodies + 1
   pub sound : (all : List Body) → IsSound (setup_of shard) bytes all → Agrees shard (start_state (setup_of shard) all)

@@ -1,7 +1,6 @@
--- Crate shard_core. What is seen of a shard: the shelf of a device, with its settings and its index.
-use Rattle.std.specs.Prelude.{◌≡◌, ◌+◌, ◌≤◌, List}
-use Rattle.rec_format.specs.declared.entry.Entry.{Entry}
-use Rattle.rec_format.specs.Places.{IsDigest, device_number}
+-- Crate shard_core. What is seen of a shard: the shelf of a device, with its settings and the sprigs of its parts.
+use Rattle.std.specs.Prelude.{◌≡◌, ◌≤◌, List}
+use Rattle.sprig_tree.specs.State.{SprigState}
 use Rattle.rec_format.specs.Versions.{block_capacity}
 use Rattle.device_model.specs.Book.{Setup}
 use Rattle.block_format.specs.declared.geometry.Geometry.{Geometry}
@@ -12,7 +11,7 @@ use Rattle.shard_core.specs.declared.settings.Settings.{Settings}
 pub record ShardView (D : Type 0) : Type 0 where
   pub shelf : ShelfView D
   pub set : Settings
-  pub index : List Entry
+  pub sprigs : List SprigState
 
 -- Settings within their ranges. No block is vacated and none is kept in memory yet, so the low-water mark and the post-write queue are 0.
 pub record IsSettings (set : Settings) : Type 0 where
@@ -42,15 +41,6 @@ setup_for g set = record {
 
 abbrev pub setup_of : {D : Type 0} → ShardView D → Setup
 setup_of shard = setup_for shard.shelf.geometry shard.set
-
--- an entry of a digest of the device, which has a time, and whose copy lies within one of its blocks
-pub record IsEntryOf (g : Geometry) (e : Entry) : Type 0 where
-  pub named : IsDigest e.digest
-  pub own : device_number g.devices e.digest ≡ g.device
-  pub time : 1 ≤ e.stamp.lut
-  pub block : e.block + 1 ≤ g.blocks
-  pub within : e.unit + e.units ≤ block_capacity g.block_size
-  pub units : 3 ≤ e.units
 
 -- The shape and the settings stay.
 pub record SameSetup {D : Type 0} (old new : ShardView D) : Type 0 where

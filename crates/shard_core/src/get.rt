@@ -1,60 +1,90 @@
-// A get: what the index shows, read at its place.
-ghost use Rattle.std.specs.Prelude.{◌≡◌, ◌≤◌, ◌^◌, Some, Contains, IfErr, MatchResult};
-ghost use Rattle.fault_count.specs.Counts.{Rose};
+// Reads over the sprig of a digest: its record, from the shelf, and what is known of it without one.
+ghost use Rattle.std.specs.Prelude.{◌≡◌, ◌≤◌, ◌^◌, Some, Contains, IfErr};
 ghost use Rattle.disk_model.specs.Disk.{IsHonest};
 ghost use Rattle.rec_format.specs.declared.entry.Entry.{Entry};
 ghost use Rattle.rec_format.specs.Places.{device_number};
-ghost use Rattle.device_model.specs.Device.{State};
+ghost use Rattle.device_model.specs.Book.{Setup};
+ghost use Rattle.device_model.specs.Device.{State, part_of, seen as seen_version};
 ghost use Rattle.device_model.specs.Events.{get_call};
-ghost use Rattle.expiry_rule.specs.Seen.{seen_entry};
 ghost use Rattle.write_buffer.specs.Buffers.{BufferState};
+ghost use Rattle.sprig_tree.specs.Entries.{entry_of};
 ghost use Rattle.block_shelf.specs.Disks.{OnlyRead};
 ghost use Rattle.block_shelf.specs.Standing.{IsPlaced};
 ghost use Rattle.block_shelf.specs.Reads.{IsUndamaged};
-ghost use Rattle.shard_core.specs.Index.{held};
-ghost use Rattle.shard_core.specs.View.{SameSetup};
-ghost use Rattle.shard_core.specs.Stands.{Agrees};
-ghost use Rattle.shard_core.specs.Calls.{Makes, GetsStored, read_answer};
+ghost use Rattle.shard_core.specs.View.{IsSettings, limits_of, setup_for};
+ghost use Rattle.shard_core.specs.Stands.{SprigStands, StandTogether};
+ghost use Rattle.shard_core.specs.Calls.{StepMakes, ReadsStored, read_answer, meta_of};
 
-use crate::index::place_of_entry;
-use crate::{ReadRefusal, Shard};
+use crate::sprigs::place_of_entry;
+use crate::{ReadRefusal, Settings};
+use block_shelf::Shelf;
 use disk_model::Disk;
 use expiry_rule::seen;
-use rec_format::{Digest, Version};
+use rec_format::{Digest, Stamp, Version};
+use sprig_tree::Sprig;
 use std::alloc::Global;
 
-impl<D: Disk> Shard<D> {
-    /// The record that is seen of a digest: its version, if it is a put that isn't expired. It is read from its write buffer without a
-    /// call of the disk, or from its block with one; it is damaged where the head of the entry's record doesn't stand there.
-    pub fn get(
-        &mut self,
-        alloc: Global,
-        digest: &Digest,
-        now: u64,
-    ) -> Result<Option<Version>, ReadRefusal>
-        requires named { device_number self.old.shelf.geometry.devices digest.now ≡ self.old.shelf.geometry.device }
-        requires now { now ≤ 2 ^ 61 }
-        ensures makes { (s : State) → Agrees self.old s → Makes D.view (get_call digest.now now) (read_answer result) self.old s self.new }
+/// What is known of a record without reading it: its stamp, the second from which it is expired, 0 for never, and its units of 16 bytes.
+#[derive(Clone, Copy, PartialEq, Eq)]
+pub struct Meta {
+    pub stamp: Stamp,
+    pub void: u64,
+    pub units: u32,
+}
 
-        // A record whose block has a write buffer is read without a call of the disk.
-        ensures buffered { (s : State) → Agrees self.old s → (e : Entry) (b : BufferState) → held digest.now self.old.index ≡ Some e → Contains self.old.shelf.buffers b → b.block ≡ e.block
-            → (self.new ≡ self.old) × IfErr result (λ refusal. refusal ≡ ReadRefusal.Memory) }
+/// The record that is seen of a digest, over the digest's sprig and the shelf: its version, if it is a put that isn't expired. It is read
+/// from its write buffer without a call of the disk, or from its block with one; it is damaged where the head of the entry's record
+/// doesn't stand there.
+pub fn get_step<D: Disk>(
+    alloc: Global,
+    sprig: &mut Sprig,
+    shelf: &mut Shelf<D>,
+    set: &Settings,
+    digest: &Digest,
+    now: u64,
+) -> Result<Option<Version>, ReadRefusal>
+    requires named { device_number shelf.old.geometry.devices digest.now ≡ shelf.old.geometry.device }
+    requires now { now ≤ 2 ^ 61 }
+    requires settings { IsSettings set.now }
+    requires limits { shelf.old.limits ≡ limits_of set.now }
+    requires stand { let setup = setup_for shelf.old.geometry set.now in (s : State) × StandTogether setup (part_of setup digest.now) sprig.old shelf.old s }
+    ensures makes { let setup = setup_for shelf.old.geometry set.now in (s : State) → StandTogether setup (part_of setup digest.now) sprig.old shelf.old s
+        → StepMakes D.view setup (part_of setup digest.now) (get_call digest.now now) (read_answer result) shelf.old s sprig.new shelf.new }
 
-        // It is what was put there; another is what stands at its place, on a disk that tells its bytes.
-        ensures stored { GetsStored D.view self.old digest.now now result }
+    // A record whose block has a write buffer is read without a call of the disk.
+    ensures buffered { (e : Entry) (b : BufferState) → entry_of digest.now sprig.old.entries ≡ Some e → Contains shelf.old.buffers b → b.block ≡ e.block
+        → (shelf.new ≡ shelf.old) × IfErr result (λ refusal. refusal ≡ ReadRefusal.Memory) }
 
-        // Over an honest disk nothing is damaged.
-        ensures undamaged { IsHonest (D.view self.old.shelf.disk) → (s : State) → Agrees self.old s → IsPlaced D.view self.old.shelf s → IfErr result IsUndamaged }
-        ensures disk { OnlyRead (D.view self.old.shelf.disk) (D.view self.new.shelf.disk) }
-        ensures shape { SameSetup self.old self.new }
-    {
-        let found = self.index.find(digest);
-        let Some(entry) = seen(found.as_ref(), now) else {
-            return Ok(None);
-        };
-        match self.shelf.read(alloc, place_of_entry(entry), entry) {
-            Ok(version) => Ok(Some(version)),
-            Err(refusal) => Err(refusal),
-        }
+    // It is what was put there; another is what stands at its place, on a disk that tells its bytes.
+    ensures stored { let setup = setup_for shelf.old.geometry set.now in
+        ReadsStored D.view (StandTogether setup (part_of setup digest.now) sprig.old shelf.old) (entry_of digest.now sprig.old.entries) shelf.old digest.now now result }
+
+    // Over an honest disk nothing is damaged.
+    ensures undamaged { let setup = setup_for shelf.old.geometry set.now in IsHonest (D.view shelf.old.disk) → (s : State) → StandTogether setup (part_of setup digest.now) sprig.old shelf.old s
+        → IsPlaced D.view shelf.old s → IfErr result IsUndamaged }
+    ensures disk { OnlyRead (D.view shelf.old.disk) (D.view shelf.new.disk) }
+    ensures sprig { sprig.new ≡ sprig.old }
+    ensures shelf { shelf.new ≡ record shelf.old { disk = shelf.new.disk } }
+{
+    let found = sprig.find(digest);
+    let Some(entry) = seen(found.as_ref(), now) else {
+        return Ok(None);
+    };
+    match shelf.read(alloc, place_of_entry(entry), entry) {
+        Ok(version) => Ok(Some(version)),
+        Err(refusal) => Err(refusal),
     }
+}
+
+/// What is known of the record that is seen of a digest, by its sprig alone. It takes no memory, and isn't refused.
+pub fn meta_step(sprig: &Sprig, digest: &Digest, now: u64) -> Option<Meta>
+    ensures { (setup : Setup) (s : State) → SprigStands setup (part_of setup digest.now) sprig.now s → result ≡ meta_of (seen_version s now digest.now) }
+{
+    let found = sprig.find(digest);
+    let entry = seen(found.as_ref(), now)?;
+    Some(Meta {
+        stamp: entry.stamp,
+        void: entry.void,
+        units: entry.units,
+    })
 }

@@ -1,21 +1,27 @@
-//! One device of a node: its shelf of write blocks, the primary index over it, and the calls that read and write records.
+//! One device of a node: its shelf of write blocks, the primary index over it, one sprig for each part, and the calls that read and write records.
 #![tactic(auto)]
 
+mod calls;
+mod delete;
 mod flush;
 mod format;
 mod get;
-mod index;
 mod put;
 mod refusals;
 mod scan;
 mod settings;
 mod shard;
+mod sprigs;
 mod start;
 #[cfg(test)]
 mod tests;
+mod write;
 
 pub use block_shelf::ReadRefusal;
+pub use delete::{bury_step, delete_step};
 pub use format::format_disk;
+pub use get::{Meta, get_step, meta_step};
+pub use put::put_step;
 pub use refusals::WriteRefusal;
 pub use settings::Settings;
 pub use shard::Shard;

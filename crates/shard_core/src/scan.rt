@@ -7,24 +7,28 @@ ghost use Rattle.block_format.specs.Readings.{IsReading};
 ghost use Rattle.block_format.specs.Copies.{HasBodies};
 ghost use Rattle.block_shelf.specs.Disks.{OnlyRead};
 ghost use Rattle.shard_core.specs.Starting.{FaultRose};
-ghost use Rattle.shard_core.specs.Index.{held};
-ghost use Rattle.shard_core.specs.Finding.{is_set, IsSure, TellsSector, AreGates, is_later_than, found_entry, KeepsOne, KeepsAll, IsFinding, TakesBody, StopsOn, IsStopped};
+ghost use Rattle.device_model.specs.Steps.{part_total};
+ghost use Rattle.part_laws.specs.Starting.{TakesLater};
+ghost use Rattle.shard_core.specs.View.{IsSettings, setup_for};
+ghost use Rattle.shard_core.specs.Finding.{is_set, IsSure, TellsSector, AreGates, found_entry, KeepsOne, KeepsAll, IsFinding, TakesBody, StopsOn, IsStopped};
 
-use crate::StartCause;
-use crate::index::Index;
+use crate::sprigs::empty_sprigs;
+use crate::{Settings, StartCause};
 use block_flusher::start_of_block;
 use block_format::{
     BodyRefusal, Found, GATE_BYTES, Gate, Geometry, SECTOR_BYTES, is_open, read_body,
 };
 use disk_model::Disk;
-use partition_map::device_of;
+use partition_map::{device_of, part_number, parts_of};
 use rec_format::{Entry, Head, NoMemory, Stamp};
+use sprig_tree::Sprig;
 use std::alloc::Global;
 
-/// What was found in the blocks so far: the latest copy of each digest of the device, and the greatest number of a buffer.
+/// What was found in the blocks so far: the entry of the latest copy of each digest of the device, in the sprig of its part, and the
+/// greatest number of a buffer.
 #[derive(Drop)]
 pub struct Finding {
-    pub index: Index,
+    pub sprigs: Vec<Sprig>,
     pub greatest: u64,
 }
 
@@ -35,29 +39,41 @@ fn is_later(stamp: Stamp, than: Stamp) -> bool
     stamp.lut > than.lut || (stamp.lut == than.lut && stamp.gen_ > than.gen_)
 }
 
-// A record with this head is the first of its digest, or later than what was found of it.
-fn supersedes(index: &Index, head: &Head) -> bool
-    ensures { result ≡ is_later_than (held head.now.digest index.now.entries) head.now.stamp }
+// The record's entry comes into the sprig of its part, where it is later than what was found of its digest. Records of digests of other
+// devices are passed over.
+fn keep(
+    sprigs: &mut [Sprig],
+    geometry: &Geometry,
+    set: &Settings,
+    block: u32,
+    found: &Found,
+) -> Result<(), NoMemory>
+    requires geometry { IsGeometry geometry.now }
+    requires settings { IsSettings set.now }
+    requires parts { length sprigs.old ≡ part_total (setup_for geometry.now set.now) }
+    ensures kept { OnOk result (KeepsOne (setup_for geometry.now set.now) (found_entry block found.now) sprigs.old sprigs.new) }
+    ensures parts { length sprigs.new ≡ length sprigs.old }
 {
-    match index.find(&head.digest) {
-        Some(found) => is_later(head.stamp, found.stamp),
-        None => true,
+    let digest = &found.head.digest;
+    if device_of(digest, geometry.devices) != geometry.device {
+        return Ok(());
     }
+    let part = part_number(digest, set.sprigs, geometry.devices);
+    keep_later(&mut sprigs[part as usize], entry_of(block, found))
 }
 
-// The record takes the place of what was found of its digest, where it is later. For want of memory nothing changes.
-fn keep(index: &mut Index, geometry: &Geometry, block: u32, found: &Found) -> Result<(), NoMemory>
-    requires { IsGeometry geometry.now }
-    ensures { OnOk result (KeepsOne geometry.now (found_entry block found.now) index.old.entries index.new.entries) }
+// The entry comes into the sprig, where its digest has none or an earlier one.
+fn keep_later(sprig: &mut Sprig, entry: Entry) -> Result<(), NoMemory>
+    ensures { OnOk result (TakesLater entry sprig.old sprig.new) }
 {
-    if device_of(&found.head.digest, geometry.devices) != geometry.device {
+    let Some(found) = sprig.find(&entry.digest) else {
+        sprig.reserve(1)?;
+        sprig.insert(entry);
         return Ok(());
+    };
+    if is_later(entry.stamp, found.stamp) {
+        sprig.replace(entry);
     }
-    if !supersedes(index, &found.head) {
-        return Ok(());
-    }
-    index.reserve()?;
-    index.put(entry_of(block, found));
     Ok(())
 }
 
@@ -80,16 +96,20 @@ fn entry_of(block: u32, found: &Found) -> Entry
 
 // So does each record of a body.
 fn keep_all(
-    index: &mut Index,
+    sprigs: &mut [Sprig],
     geometry: &Geometry,
+    set: &Settings,
     block: u32,
     found: &[Found],
 ) -> Result<(), NoMemory>
-    requires { IsGeometry geometry.now }
-    ensures { OnOk result (KeepsAll geometry.now (map (found_entry block) found.now) index.old.entries index.new.entries) }
+    requires geometry { IsGeometry geometry.now }
+    requires settings { IsSettings set.now }
+    requires parts { length sprigs.old ≡ part_total (setup_for geometry.now set.now) }
+    ensures kept { OnOk result (KeepsAll (setup_for geometry.now set.now) (map (found_entry block) found.now) sprigs.old sprigs.new) }
+    ensures parts { length sprigs.new ≡ length sprigs.old }
 {
     for record in found {
-        keep(index, geometry, block, record)?;
+        keep(sprigs, geometry, set, block, record)?;
     }
     Ok(())
 }
@@ -168,17 +188,21 @@ fn take_open<D: Disk>(
     alloc: Global,
     disk: &mut D,
     geometry: &Geometry,
+    set: &Settings,
     block: u32,
     body: &mut [u8],
     finding: &mut Finding,
 ) -> Result<(), StartCause>
     requires geometry { IsGeometry geometry.now }
+    requires settings { IsSettings set.now }
+    requires parts { length finding.old.sprigs.items ≡ part_total (setup_for geometry.now set.now) }
     requires block { block < geometry.now.blocks }
     requires room { device_end geometry.now ≤ (D.view disk.old).extent }
     requires size { length body.old ≡ geometry.now.block_size - 4096 }
     ensures read { OnlyRead (D.view disk.old) (D.view disk.new) }
     ensures size { length body.new ≡ geometry.now.block_size - 4096 }
-    ensures taken { OnOk result (TakesBody geometry.now block body.new finding.old finding.new) }
+    ensures taken { OnOk result (TakesBody geometry.now set.now block body.new finding.old finding.new) }
+    ensures parts { length finding.new.sprigs.items ≡ length finding.old.sprigs.items }
     ensures bytes { (D.view disk.old).tells → MatchResult result (λ done. body.new ≡ body_bytes geometry.now block (D.view disk.old).seen) (λ cause. StopsOn geometry.now (D.view disk.old).seen block cause) }
     ensures cause { IfErr result (λ cause. FaultRose cause (D.view disk.old).faults (D.view disk.new).faults) }
 {
@@ -186,7 +210,7 @@ fn take_open<D: Disk>(
         Ok(read) => read,
         Err(cause) => return Err(cause),
     };
-    let Ok(()) = keep_all(&mut finding.index, geometry, block, &found) else {
+    let Ok(()) = keep_all(&mut finding.sprigs, geometry, set, block, &found) else {
         return Err(StartCause::Memory);
     };
     finding.greatest = finding.greatest.max(number);
@@ -206,28 +230,34 @@ fn take_blocks<D: Disk>(
     alloc: Global,
     disk: &mut D,
     geometry: &Geometry,
+    set: &Settings,
     gates: &[Gate],
     body: &mut [u8],
 ) -> Result<Finding, StartCause>
     requires geometry { IsGeometry geometry.now }
+    requires settings { IsSettings set.now }
     requires room { device_end geometry.now ≤ (D.view disk.old).extent }
     requires size { length body.old ≡ geometry.now.block_size - 4096 }
     requires count { length gates.now ≡ geometry.now.blocks }
     ensures read { OnlyRead (D.view disk.old) (D.view disk.new) }
-    ensures found { IfOk result (λ finding. (bodies : List Body) × IsFinding geometry.now gates.now geometry.now.blocks bodies finding
+    ensures found { IfOk result (λ finding. (bodies : List Body) × IsFinding geometry.now set.now gates.now geometry.now.blocks bodies finding
         × ((D.view disk.old).tells → AreGates geometry.now (D.view disk.old).seen gates.now → HasBodies geometry.now (D.view disk.old).seen (range_with_len 0 geometry.now.blocks) bodies)) }
     ensures stopped { (D.view disk.old).tells → AreGates geometry.now (D.view disk.old).seen gates.now → IfErr result (λ cause. IsStopped geometry.now (D.view disk.old).seen cause) }
     ensures cause { IfErr result (λ cause. FaultRose cause (D.view disk.old).faults (D.view disk.new).faults) }
 {
+    let parts = parts_of(geometry.device, geometry.devices, set.sprigs);
+    let Ok(sprigs) = empty_sprigs(alloc, parts) else {
+        return Err(StartCause::Memory);
+    };
     let mut finding = Finding {
-        index: Index::new(alloc),
+        sprigs,
         greatest: 0,
     };
     for block in 0..geometry.blocks {
         if !is_opened(gates, block) {
             continue;
         }
-        match take_open(alloc, disk, geometry, block, body, &mut finding) {
+        match take_open(alloc, disk, geometry, set, block, body, &mut finding) {
             Ok(()) => {}
             Err(cause) => return Err(cause),
         }
@@ -240,14 +270,16 @@ pub fn scan<D: Disk>(
     alloc: Global,
     disk: &mut D,
     geometry: &Geometry,
+    set: &Settings,
 ) -> Result<(Vec<Gate>, Finding), StartCause>
     requires geometry { IsGeometry geometry.now }
+    requires settings { IsSettings set.now }
     requires room { device_end geometry.now ≤ (D.view disk.old).extent }
     ensures read { OnlyRead (D.view disk.old) (D.view disk.new) }
     ensures all { IfOk result (λ r. length r.0.items ≡ geometry.now.blocks) }
     ensures sure { IfOk result (λ r. AllByRecursion IsSure r.0.items) }
     ensures gates { (D.view disk.old).tells → IfOk result (λ r. AreGates geometry.now (D.view disk.old).seen r.0.items) }
-    ensures found { IfOk result (λ r. (bodies : List Body) × IsFinding geometry.now r.0.items geometry.now.blocks bodies r.1
+    ensures found { IfOk result (λ r. (bodies : List Body) × IsFinding geometry.now set.now r.0.items geometry.now.blocks bodies r.1
         × ((D.view disk.old).tells → HasBodies geometry.now (D.view disk.old).seen (range_with_len 0 geometry.now.blocks) bodies)) }
     ensures stopped { (D.view disk.old).tells → IfErr result (λ cause. IsStopped geometry.now (D.view disk.old).seen cause) }
     ensures cause { IfErr result (λ cause. FaultRose cause (D.view disk.old).faults (D.view disk.new).faults) }
@@ -259,7 +291,7 @@ pub fn scan<D: Disk>(
     let Ok(mut body) = vec![in alloc; 0; geometry.block_size as usize - SECTOR_BYTES] else {
         return Err(StartCause::Memory);
     };
-    match take_blocks(alloc, disk, geometry, &gates, &mut body) {
+    match take_blocks(alloc, disk, geometry, set, &gates, &mut body) {
         Ok(finding) => Ok((gates, finding)),
         Err(cause) => Err(cause),
     }

@@ -1,17 +1,17 @@
 ghost use Rattle.std.specs.Prelude.{◌≡◌};
 
 use crate::Settings;
-use crate::index::Index;
 use block_shelf::Shelf;
 use disk_model::Disk;
+use sprig_tree::Sprig;
 use std::marker::Model;
 
-/// A device with its index.
+/// A device with its primary index: the sprig of each part, in the order of their numbers.
 #[derive(Drop)]
 pub struct Shard<D: Disk> {
     pub(crate) shelf: Shelf<D>,
     pub(crate) set: Settings,
-    pub(crate) index: Index,
+    pub(crate) sprigs: Vec<Sprig>,
 }
 
 impl<D: Disk> Model for Shard<D> {
@@ -24,9 +24,9 @@ impl<D: Disk> Model for Shard<D> {
 
     ghost coded = { Prim.hlevel (codes, hold_state_code) };
 
-    ghost view = { λ s. record { shelf = s.shelf; set = s.set; index = s.index.entries } };
+    ghost view = { λ s. record { shelf = s.shelf; set = s.set; sprigs = s.sprigs.items } };
 
-    ghost invariant = { λ s. IsWhole (record { shelf = s.shelf; set = s.set; index = s.index.entries }) };
+    ghost invariant = { λ s. IsWhole (record { shelf = s.shelf; set = s.set; sprigs = s.sprigs.items }) };
 }
 
 impl<D: Disk> Shard<D> {

@@ -16,6 +16,7 @@ ghost use Rattle.shard_core.specs.Starting.{Begins, StandsForBodies, IsRefused, 
 ghost use Rattle.shard_core.specs.Finding.{IsSure, AreGates, IsFinding, BeginsOver, BeginsBehind};
 
 use crate::scan::{Finding, scan};
+use crate::sprigs::live_copies;
 use crate::{Settings, Shard};
 use block_format::{Gate, Geometry, SECTOR_BYTES, read_header};
 use block_shelf::{Shelf, ShelfLimits};
@@ -123,14 +124,16 @@ fn examine<D: Disk>(
     alloc: Global,
     disk: &mut D,
     asked: Asked,
+    set: &Settings,
 ) -> Result<(Geometry, Vec<Gate>, Finding), StartCause>
+    requires { IsSettings set.now }
     ensures read { OnlyRead (D.view disk.old) (D.view disk.new) }
     ensures shape { IfOk result (λ found. IsGeometry found.0 × (found.0.device ≡ asked.device) × (found.0.devices ≡ asked.devices) × (device_end found.0 ≤ (D.view disk.new).extent)) }
     ensures all { IfOk result (λ found. length found.1.items ≡ found.0.blocks) }
     ensures sure { IfOk result (λ found. AllByRecursion IsSure found.1.items) }
     ensures asked { (D.view disk.old).tells → IfOk result (λ found. IsAsked asked.device asked.devices (D.view disk.old).seen found.0) }
     ensures gates { (D.view disk.old).tells → IfOk result (λ found. AreGates found.0 (D.view disk.old).seen found.1.items) }
-    ensures found { IfOk result (λ found. (bodies : List Body) × IsFinding found.0 found.1.items found.0.blocks bodies found.2
+    ensures found { IfOk result (λ found. (bodies : List Body) × IsFinding found.0 set.now found.1.items found.0.blocks bodies found.2
         × ((D.view disk.old).tells → HasBodies found.0 (D.view disk.old).seen (range_with_len 0 found.0.blocks) bodies)) }
     ensures refused { (D.view disk.old).tells → IfErr result (λ cause. IsRefused asked (D.view disk.old).seen cause) }
     ensures only { (D.view disk.old).tells → OnOk result (IsOnly (D.view disk.old).seen (D.view disk.new).may_leave) }
@@ -143,7 +146,7 @@ fn examine<D: Disk>(
         Ok(geometry) => geometry,
         Err(cause) => return Err(cause),
     };
-    match scan(alloc, disk, &geometry) {
+    match scan(alloc, disk, &geometry, set) {
         Ok((gates, finding)) => Ok((geometry, gates, finding)),
         Err(cause) => Err(cause),
     }
@@ -164,12 +167,12 @@ fn begun<D: Disk>(
     requires count { length gates.items ≡ geometry.blocks }
     requires sure { AllByRecursion IsSure gates.items }
     requires stand { IsHonest (D.view disk) → GatesStand geometry (D.view disk).may_leave gates.items }
-    requires found { (bodies : List Body) × IsFinding geometry gates.items geometry.blocks bodies finding }
+    requires found { (bodies : List Body) × IsFinding geometry set gates.items geometry.blocks bodies finding }
     ensures begun { MatchResult result (BeginsOver disk geometry set finding) (λ refusal. (refusal.disk ≡ disk) × (refusal.cause ≡ StartCause.Memory)) }
-    ensures behind { IfOk result (λ shard. (bodies : List Body) → IsFinding geometry gates.items geometry.blocks bodies finding → BeginsBehind D.view disk bodies shard) }
+    ensures behind { IfOk result (λ shard. (bodies : List Body) → IsFinding geometry set gates.items geometry.blocks bodies finding → BeginsBehind D.view disk bodies shard) }
 {
-    let Finding { index, greatest } = finding;
-    let Ok(live) = index.live(alloc) else {
+    let Finding { sprigs, greatest } = finding;
+    let Ok(live) = live_copies(alloc, &sprigs) else {
         return Err(StartRefusal {
             disk,
             cause: StartCause::Memory,
@@ -182,7 +185,7 @@ fn begun<D: Disk>(
         cache: set.cache,
     };
     match Shelf::new(alloc, disk, geometry, gates, greatest + 1, &live, limits) {
-        Ok(shelf) => Ok(Shard { shelf, set, index }),
+        Ok(shelf) => Ok(Shard { shelf, set, sprigs }),
         Err((disk, _)) => Err(StartRefusal {
             disk,
             cause: StartCause::Memory,
@@ -209,7 +212,7 @@ impl<D: Disk> Shard<D> {
         ensures read { MatchResult result (λ shard. OnlyRead (D.view disk) (D.view shard.shelf.disk)) (λ refusal. OnlyRead (D.view disk) (D.view refusal.disk)) }
         ensures cause { IfErr result (λ refusal. FaultRose refusal.cause (D.view disk).faults (D.view refusal.disk).faults) }
     {
-        match examine(alloc, &mut disk, asked) {
+        match examine(alloc, &mut disk, asked, &set) {
             Ok((geometry, gates, finding)) => begun(alloc, disk, geometry, gates, set, finding),
             Err(cause) => Err(StartRefusal { disk, cause }),
         }

@@ -50,7 +50,12 @@ impl Sprig {
         // It can fail only where that room was missing.
         ensures enough { n ≤ self.old.spare → IsOk result }
     {
-        self.row.reserve(n as usize)
+        let (count, spare) = (n as usize, self.row.capacity() - self.row.len());
+        if count <= spare {
+            return Ok(());
+        }
+        // A longer row has room made for an eighth more, so that little memory lies idle and a long row isn't moved each time.
+        self.row.reserve_exact(count.max(self.row.len() / 8))
     }
 
     /// Puts an entry of a digest that has none into its place, in room that was reserved.

@@ -1,13 +1,26 @@
-use Rattle.std.proofs.Common.{arith}
-use Rattle.line_proto.proofs.Words.{line_of_get, line_of_put, read_in_range}
+use Rattle.std.proofs.Common.{◌∙◌, sym, arith}
+use Rattle.std.specs.Cmp.Lexicographic.{same_text, other_text}
+use Rattle.line_proto.proofs.Words.{line_of_digest, line_of_put, line_of_none, read_in_range}
 use Rattle.line_proto.proofs.read.read_command.Goals as goal
 
-pub returns-in-Some : goal.returns-in-Some
-returns-in-Some c =
-    let exact = line_of_get c.args.line.now c.in-Some.text.now c.get_of.result (omega arith) c.in-Some.ensures c.get_of.ensures in
-    record { exact = exact; in_range = read_in_range c.args.line.now c.get_of.result exact }
+pub returns : goal.returns
+returns c =
+    let exact =
+    line_of_digest c.args.line.now c.in-Some.word.now c.in-Some.text.now c.of_digest.result (omega arith) c.in-Some.ensures
+    (λ is. other_text c.in-Some.word.now _ c.if-eq-3.ensures (is ∙ sym c.as_slice-3.ensures)) c.of_digest.ensures in
+    record { exact = exact; in_range = read_in_range c.args.line.now c.of_digest.result exact }
 
-pub returns-in-Some-behind : goal.returns-in-Some-behind
-returns-in-Some-behind c =
-    let exact = line_of_put c.args.line.now c.in-Some-behind.text.now c.in_ok-put_of.field-0 c.only_built.result (omega arith) c.in-Some-behind.ensures c.in_ok-put_of.ensures c.only_built.ensures in
+pub returns-in_default : goal.returns-in_default
+returns-in_default c = record {
+  exact =
+      line_of_none c.args.line.now c.in_default.ensures (λ is. other_text c.args.line.now _ c.if-eq-2.ensures (is ∙ sym c.as_slice-2.ensures))
+      (λ is. other_text c.args.line.now _ c.if-eq.ensures (is ∙ sym c.as_slice.ensures));
+  in_range = tt;
+}
+
+pub returns-then-eq-3 : goal.returns-then-eq-3
+returns-then-eq-3 c =
+    let exact =
+    line_of_put c.args.line.now c.in-Some.word.now c.in-Some.text.now c.in_ok-put_of.field-0 c.only_built.result (omega arith) c.in-Some.ensures
+    (same_text c.in-Some.word.now _ c.if-eq-3.ensures ∙ c.as_slice-3.ensures) c.in_ok-put_of.ensures c.only_built.ensures in
     record { exact = exact; in_range = read_in_range c.args.line.now c.only_built.result exact }

@@ -30,7 +30,7 @@ returns-in-Ok-clause-begins g c = λ told.
     let bytes = (g.D.Disk.view c.args.disk).seen in
     both c.begun.result c.begun.ensures.begun c.begun.ensures.behind
     (λ shard begins behind. begins_from g.D.Disk.view c.examine.new.disk c.in-Ok.geometry c.args.set c.in-Ok.finding c.args.asked found.0 shard begins (behind found.0 found.1) bytes
-    (record { is_asked = c.in-Ok.ensures.asked told; blocks = found.2 told }) c.in-Ok.gates.items found.1)
+    (record { is_asked = c.in-Ok.ensures.asked told; blocks = found.2 told }) c.in-Ok.gates.items c.in-Ok.ensures.shape.0 c.requires found.1)
     (λ refusal is. subst (IsRefused c.args.asked bytes) (sym is.1) tt)
 
 pub returns-in-Ok-clause-safe : goal.returns-in-Ok-clause-safe

@@ -1,0 +1,96 @@
+use Rattle.std.proofs.Common.{◌≡◌, ℕ, Bool, length, sym, ap, ◌∙◌, subst, arith}
+use Rattle.std.specs.Prelude.{Option, Some, None, Result, Ok, Err, IfOk}
+use Rattle.std.proofs.lemmas.Bool.{false≢true}
+use Rattle.std.proofs.lemmas.Result.{err_from_is_err_and}
+use Rattle.rec_format.specs.declared.entry.Entry.{Entry}
+use Rattle.rec_format.specs.declared.version.Stamp.{Stamp}
+use Rattle.rec_format.specs.declared.version.Version.{Version}
+use Rattle.rec_format.specs.Versions.{IsVersion, a_put, new_stamp, void_time, block_capacity}
+use Rattle.device_model.specs.Book.{Setup}
+use Rattle.device_model.specs.Device.{part_of}
+use Rattle.device_model.specs.Events.{put_call, stamp_given, refused}
+use Rattle.block_format.specs.declared.geometry.Geometry.{Geometry}
+use Rattle.tomb_rules.specs.Covers.{cover_of}
+use Rattle.sprig_tree.specs.Entries.{entry_of}
+use Rattle.part_laws.specs.Tests.{stamp_found, generation_seen}
+use Rattle.block_shelf.specs.declared.place.Class.TheVariants as class
+use Rattle.shard_core.specs.declared.refusals.WriteRefusal.{WriteRefusal}
+use Rattle.shard_core.specs.declared.refusals.WriteRefusal.TheVariants as write
+use Rattle.shard_core.specs.View.{setup_for}
+use Rattle.shard_core.specs.Calls.{StepMakes, cause_of_write, write_answer}
+use Rattle.shard_core.specs.Writing.{IsWriteOf, IsFit, IsUnfit, written_answer}
+use Rattle.shard_core.proofs.Puts.{stamp_fine, unfit_refusal, spent_refusal, put_writes, stands_against, memory_wants, makes_nothing}
+use Rattle.shard_core.proofs.put.put_step.Goals as goal
+
+pub returns-in_err-check_put-clause-makes : goal.returns-in_err-check_put-clause-makes
+returns-in_err-check_put-clause-makes g c s stand =
+    let setup : Setup = setup_for c.args.shelf.now.geometry c.args.set.now in
+    let capacity : c.capacity.result ≡ setup.capacity = c.capacity.ensures ∙ ap (λ (x : Geometry). block_capacity x.block_size) c.geometry-block_size.ensures.shape in
+    let seen : generation_seen c.args.now (entry_of c.args.digest.now c.args.sprig.now.entries) ≡ c.generation_of.result = ap (generation_seen c.args.now) (sym c.find-found.ensures.value) ∙ sym c.generation_of.ensures in
+    let refusal : WriteRefusal = c.in_err-check_put.field-0.0 in
+    let unfit = subst (λ (n : ℕ). IsUnfit (length c.args.payload.now) c.capacity.result c.args.expect n refusal) (sym seen) (c.in_err-check_put.ensures {u = tt}) in
+    let p = err_from_is_err_and c.from_residual.result c.from_residual.ensures.1 in
+    let same : c.from_residual.result ≡ Err refusal = p.1 ∙ ap (λ (r : WriteRefusal). Err r) p.2 in
+    let cause = unfit_refusal setup c.args.digest.now c.args.sprig.now s stand.sprig_stands c.args.now c.args.ttl c.args.expect c.args.payload.now c.capacity.result capacity refusal unfit in
+    subst (λ (r : Result Stamp WriteRefusal). StepMakes g.D.Disk.view setup (part_of setup c.args.digest.now) (put_call c.args.digest.now c.args.ttl c.args.expect c.args.payload.now c.args.now) (write_answer r) c.args.shelf.now s c.args.sprig.now c.args.shelf.now) (sym same)
+    (makes_nothing g.D.Disk.view setup c.args.digest.now c.args.sprig.now c.args.shelf.now s (put_call c.args.digest.now c.args.ttl c.args.expect c.args.payload.now c.args.now) (refused (cause_of_write refusal)) (g.met.D.Disk.is_disk c.args.shelf.now.disk) stand
+    (λ told event is answer steps. stands_against setup s told c.args.digest.now c.args.ttl c.args.expect c.args.payload.now c.args.now event (cause_of_write refusal) answer steps cause))
+
+pub returns-in_err-stamp-clause-makes : goal.returns-in_err-stamp-clause-makes
+returns-in_err-stamp-clause-makes g c s stand =
+    let setup : Setup = setup_for c.args.shelf.now.geometry c.args.set.now in
+    let capacity : c.capacity.result ≡ setup.capacity = c.capacity.ensures ∙ ap (λ (x : Geometry). block_capacity x.block_size) c.geometry-block_size.ensures.shape in
+    let seen : generation_seen c.args.now (entry_of c.args.digest.now c.args.sprig.now.entries) ≡ c.generation_of.result = ap (generation_seen c.args.now) (sym c.find-found.ensures.value) ∙ sym c.generation_of.ensures in
+    let fit : IsFit (length c.args.payload.now) c.capacity.result c.args.expect (generation_seen c.args.now (entry_of c.args.digest.now c.args.sprig.now.entries)) =
+    subst (IsFit (length c.args.payload.now) c.capacity.result c.args.expect) (sym seen) (c.in_ok-check_put.ensures {u = tt}) in
+    let e = c.in_err-stamp.ensures {u = tt} in
+    let given : new_stamp (stamp_found (entry_of c.args.digest.now c.args.sprig.now.entries)) c.args.sprig.now.hw c.args.now ≡ None =
+    ap (λ (o : Option Entry). new_stamp (stamp_found o) c.args.sprig.now.hw c.args.now) (sym c.find-found.ensures.value) ∙ ap (λ (n : ℕ). new_stamp (stamp_found c.find-found.result) n c.args.now) (sym c.hw.ensures) ∙ e.1 in
+    let p = err_from_is_err_and c.from_residual-in_err-stamp.result c.from_residual-in_err-stamp.ensures.1 in
+    let same : c.from_residual-in_err-stamp.result ≡ Err write.Spent = p.1 ∙ ap (λ (r : WriteRefusal). Err r) (p.2 ∙ e.0) in
+    let cause = spent_refusal setup c.args.digest.now c.args.sprig.now s stand.sprig_stands c.args.now c.args.ttl c.args.expect c.args.payload.now c.capacity.result capacity fit given in
+    subst (λ (r : Result Stamp WriteRefusal). StepMakes g.D.Disk.view setup (part_of setup c.args.digest.now) (put_call c.args.digest.now c.args.ttl c.args.expect c.args.payload.now c.args.now) (write_answer r) c.args.shelf.now s c.args.sprig.now c.args.shelf.now) (sym same)
+    (makes_nothing g.D.Disk.view setup c.args.digest.now c.args.sprig.now c.args.shelf.now s (put_call c.args.digest.now c.args.ttl c.args.expect c.args.payload.now c.args.now) (refused (cause_of_write write.Spent)) (g.met.D.Disk.is_disk c.args.shelf.now.disk) stand
+    (λ told event is answer steps. stands_against setup s told c.args.digest.now c.args.ttl c.args.expect c.args.payload.now c.args.now event (cause_of_write write.Spent) answer steps cause))
+
+pub returns-in_default-clause-makes : goal.returns-in_default-clause-makes
+returns-in_default-clause-makes g c s stand =
+    let setup : Setup = setup_for c.args.shelf.now.geometry c.args.set.now in
+    makes_nothing g.D.Disk.view setup c.args.digest.now c.args.sprig.now c.args.shelf.now s (put_call c.args.digest.now c.args.ttl c.args.expect c.args.payload.now c.args.now) (refused (cause_of_write write.Memory)) (g.met.D.Disk.is_disk c.args.shelf.now.disk) stand
+    (λ told event is answer steps. memory_wants setup s told c.args.digest.now c.args.ttl c.args.expect c.args.payload.now c.args.now event answer steps)
+
+pub write_step-requires-clause-version : goal.write_step-requires-clause-version
+write_step-requires-clause-version g c =
+    let setup : Setup = setup_for c.args.shelf.now.geometry c.args.set.now in
+    let stands = c.requires.stand in
+    let given : new_stamp (stamp_found (entry_of c.args.digest.now c.args.sprig.now.entries)) c.args.sprig.now.hw c.args.now ≡ Some c.in_ok-stamp.stamp =
+    ap (λ (o : Option Entry). new_stamp (stamp_found o) c.args.sprig.now.hw c.args.now) (sym c.find-found.ensures.value) ∙ ap (λ (n : ℕ). new_stamp (stamp_found c.find-found.result) n c.args.now) (sym c.hw.ensures) ∙ c.in_ok-stamp.ensures {u = tt} in
+    let f = stamp_fine setup c.args.digest.now c.args.sprig.now stands.0 stands.1.sprig_stands c.args.now c.in_ok-stamp.stamp given in
+    let never : c.void_of.result ≡ 0 = c.void_of.ensures ∙ ap (λ (ttl : ℕ). void_time ttl c.args.now) c.requires.ttl in
+    subst IsVersion (sym (c.in-Ok.ensures {u = tt})) (record { tombstone = λ tomb. absurd (false≢true tomb); time = f.time; generation = f.generation; void = omega (arith, never) })
+
+pub returns-clause-makes : goal.returns-clause-makes
+returns-clause-makes g c s stand =
+    let setup : Setup = setup_for c.args.shelf.now.geometry c.args.set.now in
+    let stamp : Stamp = c.in_ok-stamp.stamp in
+    let given : new_stamp (stamp_found (entry_of c.args.digest.now c.args.sprig.now.entries)) c.args.sprig.now.hw c.args.now ≡ Some stamp =
+    ap (λ (o : Option Entry). new_stamp (stamp_found o) c.args.sprig.now.hw c.args.now) (sym c.find-found.ensures.value) ∙ ap (λ (n : ℕ). new_stamp (stamp_found c.find-found.result) n c.args.now) (sym c.hw.ensures) ∙ c.in_ok-stamp.ensures {u = tt} in
+    let capacity : c.capacity.result ≡ setup.capacity = c.capacity.ensures ∙ ap (λ (x : Geometry). block_capacity x.block_size) c.geometry-block_size.ensures.shape in
+    let seen : generation_seen c.args.now (entry_of c.args.digest.now c.args.sprig.now.entries) ≡ c.generation_of.result = ap (generation_seen c.args.now) (sym c.find-found.ensures.value) ∙ sym c.generation_of.ensures in
+    let fit : IsFit (length c.args.payload.now) c.capacity.result c.args.expect (generation_seen c.args.now (entry_of c.args.digest.now c.args.sprig.now.entries)) =
+    subst (IsFit (length c.args.payload.now) c.capacity.result c.args.expect) (sym seen) (c.in_ok-check_put.ensures {u = tt}) in
+    let cover : c.cover_after.result ≡ cover_of (entry_of c.args.digest.now c.args.sprig.now.entries) = c.cover_after.ensures ∙ ap cover_of (c.as_ref.ensures.value ∙ c.find-found.ensures.value) in
+    let version : c.in-Ok.version ≡ a_put stamp (void_time c.args.ttl c.args.now) (cover_of (entry_of c.args.digest.now c.args.sprig.now.entries)) c.args.payload.now =
+    c.in-Ok.ensures {u = tt} ∙ ap (λ (n : ℕ). a_put stamp n c.cover_after.result c.args.payload.now) c.void_of.ensures ∙ ap (λ (b : Bool). a_put stamp (void_time c.args.ttl c.args.now) b c.args.payload.now) cover in
+    let writes = put_writes setup c.args.digest.now c.args.sprig.now s stand.sprig_stands c.args.now c.args.ttl c.args.expect c.args.payload.now c.capacity.result capacity fit stamp given c.requires.named in
+    let made = c.write_step.ensures.makes s (put_call c.args.digest.now c.args.ttl c.args.expect c.args.payload.now c.args.now) (stamp_given stamp) stand (subst (λ (v : Version). IsWriteOf setup s (put_call c.args.digest.now c.args.ttl c.args.expect c.args.payload.now c.args.now) class.Put c.args.digest.now v (stamp_given stamp)) (sym version) writes) in
+    by c.write_step.result c.write_step.ensures.stamp made (ap (λ (v : Version). v.stamp) version)
+  where
+    by : (r : Result Stamp WriteRefusal) → IfOk r (λ stamp. stamp ≡ c.in-Ok.version.stamp)
+        → StepMakes g.D.Disk.view (setup_for c.args.shelf.now.geometry c.args.set.now) (part_of (setup_for c.args.shelf.now.geometry c.args.set.now) c.args.digest.now) (put_call c.args.digest.now c.args.ttl c.args.expect c.args.payload.now c.args.now) (written_answer (stamp_given c.in_ok-stamp.stamp) r) c.args.shelf.now s c.write_step.new.sprig c.write_step.new.shelf
+        → c.in-Ok.version.stamp ≡ c.in_ok-stamp.stamp
+        → StepMakes g.D.Disk.view (setup_for c.args.shelf.now.geometry c.args.set.now) (part_of (setup_for c.args.shelf.now.geometry c.args.set.now) c.args.digest.now) (put_call c.args.digest.now c.args.ttl c.args.expect c.args.payload.now c.args.now) (write_answer r) c.args.shelf.now s c.write_step.new.sprig c.write_step.new.shelf
+    by (Ok x) same made stamped =
+        subst (λ (y : Stamp). StepMakes g.D.Disk.view (setup_for c.args.shelf.now.geometry c.args.set.now) (part_of (setup_for c.args.shelf.now.geometry c.args.set.now) c.args.digest.now) (put_call c.args.digest.now c.args.ttl c.args.expect c.args.payload.now c.args.now) (stamp_given y) c.args.shelf.now s c.write_step.new.sprig c.write_step.new.shelf)
+        (sym (same ∙ stamped)) made
+    by (Err refusal) same made stamped = made

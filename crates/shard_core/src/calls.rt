@@ -1,0 +1,170 @@
+// The calls of a shard on one digest: each finds the digest's sprig, and takes its step over it and the shelf.
+ghost use Rattle.std.specs.Prelude.{◌≡◌, ◌⊎◌, ◌<◌, ◌≤◌, ◌^◌, true, false, Some, Contains, IsOk, IfErr, length};
+ghost use Rattle.disk_model.specs.Disk.{IsHonest};
+ghost use Rattle.rec_format.specs.declared.entry.Entry.{Entry};
+ghost use Rattle.rec_format.specs.Places.{device_number};
+ghost use Rattle.rec_format.specs.Versions.{units_for};
+ghost use Rattle.device_model.specs.Book.{first_block};
+ghost use Rattle.device_model.specs.Device.{State, part_of, seen as seen_version};
+ghost use Rattle.device_model.specs.Events.{put_call, get_call, delete_call, bury_call};
+ghost use Rattle.block_format.specs.declared.geometry.Gate.TheVariants.{Shut};
+ghost use Rattle.write_buffer.specs.Buffers.{BufferState};
+ghost use Rattle.expiry_rule.specs.Seen.{seen_entry};
+ghost use Rattle.tomb_rules.specs.Covers.{cover_of};
+ghost use Rattle.block_shelf.specs.Disks.{IsLater, OnlyRead};
+ghost use Rattle.block_shelf.specs.View.{gate_at};
+ghost use Rattle.block_shelf.specs.Standing.{IsPlaced};
+ghost use Rattle.block_shelf.specs.Changes.{HasRoom};
+ghost use Rattle.block_shelf.specs.Reads.{IsUndamaged};
+ghost use Rattle.shard_core.specs.Sprigs.{held};
+ghost use Rattle.shard_core.specs.View.{SameSetup, setup_of};
+ghost use Rattle.shard_core.specs.Stands.{Agrees, IsWhole};
+ghost use Rattle.shard_core.specs.Calls.{IsRefusedWrite, Makes, GetsStored, write_answer, read_answer, delete_answer, meta_of};
+
+use crate::delete::{bury_step, delete_step};
+use crate::get::{get_step, meta_step};
+use crate::put::put_step;
+use crate::{Meta, ReadRefusal, Shard, WriteRefusal};
+use disk_model::Disk;
+use partition_map::part_number;
+use rec_format::{Digest, Stamp, Version};
+use std::alloc::Global;
+
+impl<D: Disk> Shard<D> {
+    /// Writes a version of a record: `put_step` over the digest's sprig.
+    pub fn put(
+        &mut self,
+        alloc: Global,
+        digest: &Digest,
+        ttl: u32,
+        payload: &[u8],
+        expect: Option<u16>,
+        now: u64,
+    ) -> Result<Stamp, WriteRefusal>
+        requires named { device_number self.old.shelf.geometry.devices digest.now ≡ self.old.shelf.geometry.device }
+        requires ttl { ttl ≡ 0 }
+        requires size { length payload.now ≤ 2 ^ 31 }
+        requires now { now ≤ 2 ^ 61 }
+        ensures makes { (s : State) → Agrees self.old s → Makes D.view (put_call digest.now ttl expect payload.now now) (write_answer result) self.old s self.new }
+
+        // With commit off the disk is called only where a buffer begins behind a gate that isn't known to be shut.
+        ensures in_room { self.old.set.commit ≡ false → HasRoom (units_for (length payload.now)) self.old.shelf.buffers → self.new.shelf.disk ≡ self.old.shelf.disk }
+        ensures quiet { self.old.set.commit ≡ false → gate_at self.old.shelf.gates (first_block self.old.shelf.free) ≡ Shut → self.new.shelf.disk ≡ self.old.shelf.disk }
+
+        // A refusal writes nothing, but where commit is on and the flush failed.
+        ensures refused { IfErr result (λ refusal. ((refusal ≡ WriteRefusal.Fault) × (self.old.set.commit ≡ true)) ⊎ IsRefusedWrite self.old self.new refusal) }
+        ensures later { IsLater (D.view self.old.shelf.disk) (D.view self.new.shelf.disk) }
+        ensures honest { IsHonest (D.view self.old.shelf.disk) → IsHonest (D.view self.new.shelf.disk) }
+        ensures shape { SameSetup self.old self.new }
+    {
+        let part = self.part_of(digest);
+        put_step(
+            alloc,
+            &mut self.sprigs[part],
+            &mut self.shelf,
+            &self.set,
+            digest,
+            ttl,
+            payload,
+            expect,
+            now,
+        )
+    }
+
+    /// The record that is seen of a digest: `get_step` over the digest's sprig.
+    pub fn get(
+        &mut self,
+        alloc: Global,
+        digest: &Digest,
+        now: u64,
+    ) -> Result<Option<Version>, ReadRefusal>
+        requires named { device_number self.old.shelf.geometry.devices digest.now ≡ self.old.shelf.geometry.device }
+        requires now { now ≤ 2 ^ 61 }
+        ensures makes { (s : State) → Agrees self.old s → Makes D.view (get_call digest.now now) (read_answer result) self.old s self.new }
+
+        // A record whose block has a write buffer is read without a call of the disk.
+        ensures buffered { (e : Entry) (b : BufferState) → held (setup_of self.old) digest.now self.old.sprigs ≡ Some e → Contains self.old.shelf.buffers b → b.block ≡ e.block
+            → (self.new ≡ self.old) × IfErr result (λ refusal. refusal ≡ ReadRefusal.Memory) }
+
+        // It is what was put there; another is what stands at its place, on a disk that tells its bytes.
+        ensures stored { GetsStored D.view self.old digest.now now result }
+
+        // Over an honest disk nothing is damaged.
+        ensures undamaged { IsHonest (D.view self.old.shelf.disk) → (s : State) → Agrees self.old s → IsPlaced D.view self.old.shelf s → IfErr result IsUndamaged }
+        ensures disk { OnlyRead (D.view self.old.shelf.disk) (D.view self.new.shelf.disk) }
+        ensures shape { SameSetup self.old self.new }
+    {
+        let part = self.part_of(digest);
+        get_step(
+            alloc,
+            &mut self.sprigs[part],
+            &mut self.shelf,
+            &self.set,
+            digest,
+            now,
+        )
+    }
+
+    /// What is known of the record that is seen of a digest: `meta_step` over the digest's sprig.
+    pub fn meta(&self, digest: &Digest, now: u64) -> Option<Meta>
+        requires named { device_number self.now.shelf.geometry.devices digest.now ≡ self.now.shelf.geometry.device }
+        ensures { (s : State) → Agrees self.now s → result ≡ meta_of (seen_version s now digest.now) }
+    {
+        meta_step(&self.sprigs[self.part_of(digest)], digest, now)
+    }
+
+    /// Deletes a record: `delete_step` over the digest's sprig.
+    pub fn delete(&mut self, alloc: Global, digest: &Digest, now: u64) -> Result<bool, WriteRefusal>
+        requires named { device_number self.old.shelf.geometry.devices digest.now ≡ self.old.shelf.geometry.device }
+        requires now { now ≤ 2 ^ 61 }
+        ensures makes { (s : State) → Agrees self.old s → Makes D.view (delete_call digest.now now) (delete_answer result) self.old s self.new }
+
+        // What isn't covered is removed without a call of the disk, and that isn't refused.
+        ensures bare { cover_of (seen_entry now (held (setup_of self.old) digest.now self.old.sprigs)) ≡ false → IsOk result × (self.new.shelf.disk ≡ self.old.shelf.disk) }
+        ensures refused { IfErr result (λ refusal. ((refusal ≡ WriteRefusal.Fault) × (self.old.set.commit ≡ true)) ⊎ IsRefusedWrite self.old self.new refusal) }
+        ensures later { IsLater (D.view self.old.shelf.disk) (D.view self.new.shelf.disk) }
+        ensures honest { IsHonest (D.view self.old.shelf.disk) → IsHonest (D.view self.new.shelf.disk) }
+        ensures shape { SameSetup self.old self.new }
+    {
+        let part = self.part_of(digest);
+        delete_step(
+            alloc,
+            &mut self.sprigs[part],
+            &mut self.shelf,
+            &self.set,
+            digest,
+            now,
+        )
+    }
+
+    /// Deletes a digest durably: `bury_step` over its sprig.
+    pub fn bury(&mut self, alloc: Global, digest: &Digest, now: u64) -> Result<Stamp, WriteRefusal>
+        requires named { device_number self.old.shelf.geometry.devices digest.now ≡ self.old.shelf.geometry.device }
+        requires now { now ≤ 2 ^ 61 }
+        ensures makes { (s : State) → Agrees self.old s → Makes D.view (bury_call digest.now now) (write_answer result) self.old s self.new }
+        ensures refused { IfErr result (λ refusal. ((refusal ≡ WriteRefusal.Fault) × (self.old.set.commit ≡ true)) ⊎ IsRefusedWrite self.old self.new refusal) }
+        ensures later { IsLater (D.view self.old.shelf.disk) (D.view self.new.shelf.disk) }
+        ensures honest { IsHonest (D.view self.old.shelf.disk) → IsHonest (D.view self.new.shelf.disk) }
+        ensures shape { SameSetup self.old self.new }
+    {
+        let part = self.part_of(digest);
+        bury_step(
+            alloc,
+            &mut self.sprigs[part],
+            &mut self.shelf,
+            &self.set,
+            digest,
+            now,
+        )
+    }
+
+    // The part of a digest of the device, which is the place of its sprig.
+    fn part_of(&self, digest: &Digest) -> usize
+        requires { device_number self.now.shelf.geometry.devices digest.now ≡ self.now.shelf.geometry.device }
+        ensures part { result ≡ part_of (setup_of self.now) digest.now }
+        ensures there { result < length self.now.sprigs }
+        ensures whole { IsWhole self.now }
+    {
+        part_number(digest, self.set.sprigs, self.shelf.geometry().devices) as usize
+    }
+}

@@ -1,0 +1,144 @@
+// Deletes over the sprig of a digest and the shelf: an ordinary one, and a durable one that writes a tombstone.
+ghost use Rattle.std.specs.Prelude.{◌≡◌, ◌⊎◌, ◌≤◌, ◌^◌, true, false, IfErr, IsOk, MatchResult};
+ghost use Rattle.disk_model.specs.Disk.{IsHonest};
+ghost use Rattle.rec_format.specs.Places.{device_number};
+ghost use Rattle.rec_format.specs.Versions.{a_tombstone};
+ghost use Rattle.device_model.specs.Device.{State, part_of};
+ghost use Rattle.device_model.specs.Events.{Call, Answer, bury_call, delete_call};
+ghost use Rattle.expiry_rule.specs.Seen.{seen_entry};
+ghost use Rattle.tomb_rules.specs.Covers.{cover_of};
+ghost use Rattle.sprig_tree.specs.Entries.{entry_of};
+ghost use Rattle.part_laws.specs.Becoming.{Loses};
+ghost use Rattle.block_shelf.specs.Disks.{IsLater};
+ghost use Rattle.block_shelf.specs.View.{SameShape};
+ghost use Rattle.shard_core.specs.View.{IsSettings, limits_of, setup_for};
+ghost use Rattle.shard_core.specs.Stands.{StandTogether};
+ghost use Rattle.shard_core.specs.Calls.{IsRefusedStep, StepMakes, delete_answer, write_answer};
+ghost use Rattle.shard_core.specs.Writing.{IsEntombing, entombed_answer};
+
+use crate::sprigs::place_of_entry;
+use crate::write::{stamp_after, write_step};
+use crate::{Settings, WriteRefusal};
+use block_shelf::{Class, Shelf};
+use disk_model::Disk;
+use expiry_rule::seen;
+use rec_format::{Bytes, Digest, Entry, Kind, Stamp, Version};
+use sprig_tree::Sprig;
+use std::alloc::Global;
+use tomb_rules::delete_writes;
+
+/// Deletes the record that is seen of a digest, over the digest's sprig and the shelf, and answers whether there was one. Where no older
+/// copy may be behind its entry, the entry is removed in memory alone, and a start may find the record again; this is never refused. A
+/// covered entry is replaced by a tombstone instead, with the refusals of `bury_step`.
+pub fn delete_step<D: Disk>(
+    alloc: Global,
+    sprig: &mut Sprig,
+    shelf: &mut Shelf<D>,
+    set: &Settings,
+    digest: &Digest,
+    now: u64,
+) -> Result<bool, WriteRefusal>
+    requires named { device_number shelf.old.geometry.devices digest.now ≡ shelf.old.geometry.device }
+    requires now { now ≤ 2 ^ 61 }
+    requires settings { IsSettings set.now }
+    requires limits { shelf.old.limits ≡ limits_of set.now }
+    requires stand { let setup = setup_for shelf.old.geometry set.now in (s : State) × StandTogether setup (part_of setup digest.now) sprig.old shelf.old s }
+    ensures makes { let setup = setup_for shelf.old.geometry set.now in (s : State) → StandTogether setup (part_of setup digest.now) sprig.old shelf.old s
+        → StepMakes D.view setup (part_of setup digest.now) (delete_call digest.now now) (delete_answer result) shelf.old s sprig.new shelf.new }
+
+    // What isn't covered is removed without a call of the disk, and that isn't refused.
+    ensures bare { cover_of (seen_entry now (entry_of digest.now sprig.old.entries)) ≡ false → IsOk result × (shelf.new.disk ≡ shelf.old.disk) }
+    ensures refused { IfErr result (λ refusal. ((refusal ≡ WriteRefusal.Fault) × (set.now.commit ≡ true)) ⊎ IsRefusedStep sprig.old sprig.new shelf.old shelf.new refusal) }
+    ensures later { IsLater (D.view shelf.old.disk) (D.view shelf.new.disk) }
+    ensures honest { IsHonest (D.view shelf.old.disk) → IsHonest (D.view shelf.new.disk) }
+    ensures shape { SameShape shelf.old shelf.new }
+{
+    let found = sprig.find(digest);
+    let Some(entry) = seen(found.as_ref(), now) else {
+        return Ok(false);
+    };
+    if delete_writes(entry) {
+        entomb(alloc, sprig, shelf, set, digest, found, now)?;
+        return Ok(true);
+    }
+    let place = place_of_entry(entry);
+    prove!(place.block < shelf.geometry().blocks);
+    shelf.drop_live(place);
+    let _gone = sprig.remove(digest);
+    Ok(true)
+}
+
+/// Deletes a digest durably, over the digest's sprig and the shelf: a tombstone is written, also where there is no record, and its stamp
+/// is answered. Once it is flushed, nothing from before it comes back. It goes to a write buffer as a put does; where a buffer has to
+/// begin, fewer blocks have to stay free. What stands after a refusal is as with a put.
+pub fn bury_step<D: Disk>(
+    alloc: Global,
+    sprig: &mut Sprig,
+    shelf: &mut Shelf<D>,
+    set: &Settings,
+    digest: &Digest,
+    now: u64,
+) -> Result<Stamp, WriteRefusal>
+    requires named { device_number shelf.old.geometry.devices digest.now ≡ shelf.old.geometry.device }
+    requires now { now ≤ 2 ^ 61 }
+    requires settings { IsSettings set.now }
+    requires limits { shelf.old.limits ≡ limits_of set.now }
+    requires stand { let setup = setup_for shelf.old.geometry set.now in (s : State) × StandTogether setup (part_of setup digest.now) sprig.old shelf.old s }
+    ensures makes { let setup = setup_for shelf.old.geometry set.now in (s : State) → StandTogether setup (part_of setup digest.now) sprig.old shelf.old s
+        → StepMakes D.view setup (part_of setup digest.now) (bury_call digest.now now) (write_answer result) shelf.old s sprig.new shelf.new }
+    ensures refused { IfErr result (λ refusal. ((refusal ≡ WriteRefusal.Fault) × (set.now.commit ≡ true)) ⊎ IsRefusedStep sprig.old sprig.new shelf.old shelf.new refusal) }
+    ensures later { IsLater (D.view shelf.old.disk) (D.view shelf.new.disk) }
+    ensures honest { IsHonest (D.view shelf.old.disk) → IsHonest (D.view shelf.new.disk) }
+    ensures shape { SameShape shelf.old shelf.new }
+{
+    let prior = sprig.find(digest);
+    entomb(alloc, sprig, shelf, set, digest, prior, now)
+}
+
+// Writes a tombstone of a digest, whose entry so far is `found`, and answers its stamp.
+fn entomb<D: Disk>(
+    alloc: Global,
+    sprig: &mut Sprig,
+    shelf: &mut Shelf<D>,
+    set: &Settings,
+    digest: &Digest,
+    found: Option<Entry>,
+    now: u64,
+) -> Result<Stamp, WriteRefusal>
+    requires named { device_number shelf.old.geometry.devices digest.now ≡ shelf.old.geometry.device }
+    requires found { found ≡ entry_of digest.now sprig.old.entries }
+    requires settings { IsSettings set.now }
+    requires limits { shelf.old.limits ≡ limits_of set.now }
+    requires stand { let setup = setup_for shelf.old.geometry set.now in (s : State) × StandTogether setup (part_of setup digest.now) sprig.old shelf.old s }
+    ensures makes { let setup = setup_for shelf.old.geometry set.now in (s : State) (call : Call) (ok : Stamp → Answer) → StandTogether setup (part_of setup digest.now) sprig.old shelf.old s
+        → IsEntombing setup s call digest.now now ok → StepMakes D.view setup (part_of setup digest.now) call (entombed_answer ok result) shelf.old s sprig.new shelf.new }
+    ensures refused { IfErr result (λ refusal. ((refusal ≡ WriteRefusal.Fault) × (set.now.commit ≡ true)) ⊎ IsRefusedStep sprig.old sprig.new shelf.old shelf.new refusal) }
+    ensures later { IsLater (D.view shelf.old.disk) (D.view shelf.new.disk) }
+    ensures honest { IsHonest (D.view shelf.old.disk) → IsHonest (D.view shelf.new.disk) }
+    ensures shape { SameShape shelf.old shelf.new }
+{
+    let stamp = stamp_after(found, sprig.hw(), now)?;
+    let tombstone = tombstone(alloc, stamp);
+    write_step(
+        alloc,
+        sprig,
+        shelf,
+        set,
+        digest,
+        &tombstone,
+        found,
+        Class::Tomb,
+    )
+}
+
+fn tombstone(alloc: Global, stamp: Stamp) -> Version
+    ensures { result ≡ a_tombstone stamp }
+{
+    Version {
+        kind: Kind::Tomb,
+        stamp,
+        void: 0,
+        cover: true,
+        payload: Bytes::from_vec(Vec::new(alloc)),
+    }
+}
