@@ -1,3 +1,4 @@
+mod buried;
 mod closing;
 mod crashes;
 mod faults;

@@ -5,7 +5,9 @@ ghost use Rattle.shard_core.specs.View.{IsSettings};
 use super::written::Stored;
 use disk_model::{DiskFault, MemDisk};
 use rec_format::{Digest, Stamp, Version};
-use shard_core::{Asked, ReadRefusal, Settings, Shard, StartCause, StartRefusal, WriteRefusal};
+use shard_core::{
+    Asked, Meta, ReadRefusal, Settings, Shard, StartCause, StartRefusal, WriteRefusal,
+};
 use std::alloc::Global;
 use std::process::Abort;
 use std::test::Fail;
@@ -23,12 +25,12 @@ pub struct Lone {
     ghost alone: { (shard.shelf.geometry.device ≡ 0) × (shard.shelf.geometry.devices ≡ 1) },
 }
 
-/// At most four write buffers wait.
+/// One sprig in each partition, and at most four write buffers wait.
 fn settings(commit: bool) -> Settings
     ensures { IsSettings result }
 {
     Settings {
-        sprigs: 16,
+        sprigs: 1,
         lwm: 0,
         pending: 4,
         cache: 0,
@@ -64,8 +66,27 @@ impl Lone {
         digest: &Digest,
         payload: &[u8],
     ) -> Result<Stamp, WriteRefusal> {
+        self.put_over(rt, digest, payload, None)
+    }
+
+    /// A put, over this generation where one is expected.
+    pub fn put_over(
+        &mut self,
+        rt: &impl Abort,
+        digest: &Digest,
+        payload: &[u8],
+        expect: Option<u16>,
+    ) -> Result<Stamp, WriteRefusal> {
         assert!(rt; payload.len() <= 20_000);
-        self.shard.put(self.alloc, digest, 0, payload, None, 1000)
+        self.shard.put(self.alloc, digest, 0, payload, expect, 1000)
+    }
+
+    pub fn delete(&mut self, digest: &Digest) -> Result<bool, WriteRefusal> {
+        self.shard.delete(self.alloc, digest, 1000)
+    }
+
+    pub fn bury(&mut self, digest: &Digest) -> Result<Stamp, WriteRefusal> {
+        self.shard.bury(self.alloc, digest, 1000)
     }
 
     pub fn get(&mut self, digest: &Digest) -> Result<Option<Version>, ReadRefusal> {
@@ -84,6 +105,18 @@ impl Lone {
             ),
             Ok(None) => Ok(!seen),
             Err(_) => Err(Fail::new("it isn't read")),
+        }
+    }
+
+    /// What is known of the record is so; or, where it isn't to be seen, nothing of its digest is.
+    pub fn knows(&self, record: &Stored, seen: bool) -> bool {
+        match self.shard.meta(&record.digest, 1000) {
+            Some(Meta { stamp, void, units }) => {
+                seen && stamp == record.stamp
+                    && void == record.void
+                    && units as usize == record.payload.len().saturating_add(63) / 16
+            }
+            None => !seen,
         }
     }
 

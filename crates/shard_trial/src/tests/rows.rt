@@ -5,22 +5,34 @@ use super::*;
 
 /// A line, and what comes of it.
 #[derive(Clone, Copy)]
-enum Line {
+pub enum Line {
     /// A put of this record, unless it is refused so.
     Put(Stored, Option<WriteRefusal>),
+    /// A put over this generation.
+    PutOver(u16, Stored, Option<WriteRefusal>),
+    /// A delete, which tells whether there was a record.
+    Delete(Digest, bool),
+    /// A durable delete, whose tombstone has this stamp.
+    Bury(Digest, Stamp),
     /// A get, which shows this record or nothing of its digest.
     Get(Stored, bool),
     Flush(Result<u64, DiskFault>),
     Restart,
 }
 
-/// Asserts that a put is answered so.
-fn assert_put(rt: &impl Abort, lone: &mut Lone, record: &Stored, refusal: Option<WriteRefusal>) {
+/// Asserts that a put over a generation, if one is expected, is answered so.
+fn assert_put(
+    rt: &impl Abort,
+    lone: &mut Lone,
+    expect: Option<u16>,
+    record: &Stored,
+    refusal: Option<WriteRefusal>,
+) {
     let wanted = match refusal {
         Some(refusal) => Err(refusal),
         None => Ok(record.stamp),
     };
-    assert!(rt; lone.put(rt, &record.digest, record.payload) == wanted);
+    assert!(rt; lone.put_over(rt, &record.digest, record.payload, expect) == wanted);
 }
 
 /// Serves a line, and tends the shard.
@@ -32,8 +44,15 @@ fn serve(
     commit: bool,
 ) -> Result<Lone, Fail> {
     match line {
-        Line::Put(record, refusal) => assert_put(rt, &mut lone, record, *refusal),
-        Line::Get(record, seen) => assert!(rt; lone.finds(record, *seen)?),
+        Line::Put(record, refusal) => assert_put(rt, &mut lone, None, record, *refusal),
+        Line::PutOver(gen_, record, refusal) => {
+            assert_put(rt, &mut lone, Some(*gen_), record, *refusal)
+        }
+        Line::Delete(digest, there) => assert!(rt; lone.delete(digest) == Ok(*there)),
+        Line::Bury(digest, stamp) => assert!(rt; lone.bury(digest) == Ok(*stamp)),
+        Line::Get(record, seen) => {
+            assert!(rt; lone.finds(record, *seen)? && lone.knows(record, *seen))
+        }
         Line::Flush(answer) => assert!(rt; lone.flush() == *answer),
         Line::Restart => lone = Lone::start(alloc, lone.stop(), commit)?,
     }
@@ -41,22 +60,33 @@ fn serve(
     Ok(lone)
 }
 
-/// A run over a device.
-fn run_over(
+/// Serves some lines.
+fn serve_each(
+    rt: &impl Abort,
+    alloc: Global,
+    mut lone: Lone,
+    lines: &[Line],
+    commit: bool,
+) -> Result<Lone, Fail> {
+    for line in lines {
+        lone = serve(rt, alloc, lone, line, commit)?;
+    }
+    Ok(lone)
+}
+
+/// A run over a device, and the device behind it.
+pub fn run_over(
     rt: &impl Abort,
     alloc: Global,
     commit: bool,
     disk: MemDisk,
     lines: &[Line],
-) -> Result<(), Fail> {
-    let mut lone = Lone::start(alloc, disk, commit)?;
-    for line in lines {
-        lone = serve(rt, alloc, lone, line, commit)?;
-    }
-    Ok(())
+) -> Result<MemDisk, Fail> {
+    let lone = Lone::start(alloc, disk, commit)?;
+    Ok(serve_each(rt, alloc, lone, lines, commit)?.stop())
 }
 
-/// The same over one of 16 blocks, of which the writes with these numbers fail.
+/// A run over a device of 16 blocks, of which the writes with these numbers fail.
 fn run(
     rt: &impl Abort,
     alloc: Global,
@@ -65,7 +95,8 @@ fn run(
     lines: &[Line],
 ) -> Result<(), Fail> {
     let disk = failing(rt, alloc, DiskCall::Write, failed)?;
-    run_over(rt, alloc, commit, disk, lines)
+    let _disk = run_over(rt, alloc, commit, disk, lines)?;
+    Ok(())
 }
 
 // What waits is lost, and what was flushed is there. Where the write of a gate fails, what waits is flushed later. Where the gate of a
@@ -148,19 +179,111 @@ fn too_many_buffers_wait(rt: HostRuntime) -> Result<(), Fail> {
     run(&rt, rt.alloc(), false, &[0, 1, 2], &lines)
 }
 
-// Each record takes a block, and of 8 blocks four have to stay free.
-#[test]
-fn too_few_blocks_are_free(rt: HostRuntime) -> Result<(), Fail> {
-    let alloc = rt.alloc();
-    let lines = [
+/// A run over a device of 8 blocks, each of whose records takes a block. Four are put, and the next one is refused, since four blocks
+/// have to stay free.
+fn run_full(rt: &impl Abort, alloc: Global, lines: &[Line]) -> Result<(), Fail> {
+    let full = [
         Line::Put(large(1), None),
         Line::Put(large(2), None),
         Line::Put(large(3), None),
         Line::Put(large(4), None),
         Line::Put(large(5), Some(WriteRefusal::Space { free: 4 })),
+    ];
+    let lone = started(alloc, device_with(rt, alloc, &[])?)?;
+    let lone = serve_each(rt, alloc, lone, &full, false)?;
+    let _lone = serve_each(rt, alloc, lone, lines, false)?;
+    Ok(())
+}
+
+// A delete of one of the records leaves nothing live in its block, which can be taken again.
+#[test]
+fn too_few_blocks_are_free(rt: HostRuntime) -> Result<(), Fail> {
+    let lines = [
         Line::Get(large(5), false),
         Line::Get(large(1), true),
+        Line::Delete(numbered(1), true),
+        Line::Put(large(5), None),
+        Line::Get(large(5), true),
     ];
-    let disk = device_with(&rt, alloc, &[])?;
-    run_over(&rt, alloc, false, disk, &lines)
+    run_full(&rt, rt.alloc(), &lines)
+}
+
+// Only two blocks have to stay free of a tombstone.
+#[test]
+fn a_tombstone_needs_fewer_free_blocks(rt: HostRuntime) -> Result<(), Fail> {
+    let lines = [Line::Bury(numbered(5), stamp(1)), Line::Flush(Ok(1))];
+    run_full(&rt, rt.alloc(), &lines)
+}
+
+// A record that was flushed and deleted is there again behind a restart, unless a tombstone of it was flushed.
+#[test]
+fn a_record_is_deleted_and_found_again(rt: HostRuntime) -> Result<(), Fail> {
+    let alloc = rt.alloc();
+    let one = put_of(RISING, 1000, 1, b"\xaa");
+    let deleted = [
+        Line::Put(one, None),
+        Line::Flush(Ok(1)),
+        Line::Delete(RISING, true),
+        Line::Delete(RISING, false),
+        Line::Restart,
+        Line::Get(one, true),
+    ];
+    run(&rt, alloc, false, &[], &deleted)?;
+    let buried = [
+        Line::Put(one, None),
+        Line::Flush(Ok(1)),
+        Line::Bury(RISING, stamp(2)),
+        Line::Flush(Ok(1)),
+        Line::Restart,
+        Line::Get(one, false),
+    ];
+    run(&rt, alloc, false, &[], &buried)
+}
+
+// A put over a tombstone is covered, and a delete of it writes a tombstone again.
+#[test]
+fn a_covered_record_is_deleted(rt: HostRuntime) -> Result<(), Fail> {
+    let one = put_of(RISING, 1000, 1, b"\xaa");
+    let lines = [
+        Line::Put(one, None),
+        Line::Bury(RISING, stamp(2)),
+        Line::Put(put_of(RISING, 1000, 3, b"\xbb"), None),
+        Line::Delete(RISING, true),
+        Line::Flush(Ok(1)),
+        Line::Restart,
+        Line::Get(one, false),
+    ];
+    run(&rt, rt.alloc(), false, &[], &lines)
+}
+
+// What a delete wrote counts as a generation. Where it removed a record and wrote nothing, the next one begins anew, at a later time.
+#[test]
+fn records_are_put_again_behind_deletes(rt: HostRuntime) -> Result<(), Fail> {
+    let one = put_of(RISING, 1000, 1, b"\xaa");
+    let lines = [
+        Line::Put(one, None),
+        Line::Bury(RISING, stamp(2)),
+        Line::Get(one, false),
+        Line::Put(put_of(RISING, 1000, 3, b"\xbb"), None),
+        Line::Delete(RISING, true),
+        Line::Delete(RISING, false),
+        Line::PutOver(0, put_of(RISING, 1000, 5, b"\xcc"), None),
+        Line::Put(put_of(BESIDE, 1001, 1, b"\xaa"), None),
+        Line::Delete(BESIDE, true),
+        Line::Put(put_of(BESIDE, 1002, 1, b"\xdd"), None),
+    ];
+    run(&rt, rt.alloc(), false, &[], &lines)
+}
+
+// A record that isn't there has generation 0.
+#[test]
+fn a_generation_is_expected(rt: HostRuntime) -> Result<(), Fail> {
+    let one = put_of(RISING, 1000, 1, b"\xaa");
+    let lines = [
+        Line::PutOver(1, one, Some(WriteRefusal::Gen { seen: 0 })),
+        Line::PutOver(0, one, None),
+        Line::PutOver(0, one, Some(WriteRefusal::Gen { seen: 1 })),
+        Line::Bury(ONES, stamp(1)),
+    ];
+    run(&rt, rt.alloc(), false, &[], &lines)
 }
