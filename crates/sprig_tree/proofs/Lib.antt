@@ -4,3 +4,4 @@ pub mod Parted
 pub mod Order
 pub mod Found
 pub mod Laws
+pub mod Tallied

@@ -1,13 +1,15 @@
 //! The entries of one sprig, an ordered tree of the primary index: sorted by digest, each digest
-//! once, with the high time of the sprig. Only `reserve` takes memory.
+//! once, with the high time of the sprig and how many entries of each kind it has. Only `reserve` takes memory.
 #![tactic(auto)]
 
 mod sprig;
+mod tally;
 #[cfg(test)]
 mod tests;
 
 pub use sprig::Sprig;
 use std::alloc::AllocError;
+pub use tally::Tally;
 
 /// Want of memory.
 pub type NoMemory = AllocError;

@@ -3,29 +3,31 @@ ghost use Rattle.std.specs.Prelude.{◌≡◌, ◌+◌, ◌-◌, ◌≤◌, ◌<
 ghost use Rattle.std.specs.Option.{option_copied};
 ghost use Rattle.sprig_tree.specs.Entries.{IsInDigestOrder, entry_of, entry_after, with_entry, with_replaced, without_digest};
 ghost use Rattle.sprig_tree.specs.Search.{IsPlaceOf, IsGapFor};
+ghost use Rattle.sprig_tree.specs.Tallies.{tally_of};
 
-use crate::NoMemory;
+use crate::{NoMemory, Tally};
 use rec_format::{Digest, Entry};
 use std::alloc::Global;
 use std::marker::Model;
 
-/// The entries of one sprig and its high time, in milliseconds.
+/// The entries of one sprig, its high time, in milliseconds, and the tally of its entries.
 #[derive(Drop)]
 pub struct Sprig {
     row: Vec<Entry>,
     high: u64,
+    tally: Tally,
 }
 
 impl Model for Sprig {
     ghost use Rattle.std.specs.Prelude.{◌-◌, vec_len, vec_capacity};
     ghost use Rattle.sprig_tree.specs.State.{SprigState};
-    ghost use Rattle.sprig_tree.specs.Entries.{IsInDigestOrder};
+    ghost use Rattle.sprig_tree.specs.Tallies.{IsKept};
 
     ghost Value = { SprigState };
 
     ghost view = { λ s. record { entries = s.row.items; hw = s.high; spare = vec_capacity s.row - vec_len s.row } };
 
-    ghost invariant = { λ s. IsInDigestOrder s.row.items };
+    ghost invariant = { λ s. IsKept s.row.items s.tally };
 }
 
 impl Sprig {
@@ -36,6 +38,7 @@ impl Sprig {
         Sprig {
             row: Vec::new(alloc),
             high: 0,
+            tally: Tally::default(),
         }
     }
 
@@ -72,6 +75,7 @@ impl Sprig {
             unreachable!()
         };
         self.row.insert(at, entry).unwrap();
+        self.tally = self.tally.plus(Tally::of(&entry));
         self.high = self.high.max(entry.stamp.lut);
     }
 
@@ -97,6 +101,10 @@ impl Sprig {
         let Ok(at) = self.search(&entry.digest) else {
             unreachable!()
         };
+        self.tally = self
+            .tally
+            .minus(Tally::of(&self.row[at]))
+            .plus(Tally::of(&entry));
         self.row[at] = entry;
         self.high = self.high.max(entry.stamp.lut);
     }
@@ -111,7 +119,11 @@ impl Sprig {
         } }
     {
         match self.search(digest) {
-            Ok(at) => Some(self.row.remove(at)),
+            Ok(at) => {
+                let entry = self.row.remove(at);
+                self.tally = self.tally.minus(Tally::of(&entry));
+                Some(entry)
+            }
             Err(_) => None,
         }
     }
@@ -134,6 +146,13 @@ impl Sprig {
         ensures sorted { IsInDigestOrder self.now.entries }
     {
         self.row.len() as u64
+    }
+
+    /// How many entries of each kind there are.
+    pub fn tally(&self) -> Tally
+        ensures { result ≡ tally_of self.now.entries }
+    {
+        self.tally
     }
 
     /// The high time.

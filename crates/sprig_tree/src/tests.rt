@@ -47,6 +47,16 @@ fn later_entry(number: u32) -> Entry
     entry(number, 50_000 - u64::from(number))
 }
 
+/// Inserts an entry, or replaces that of its digest.
+fn put_in(rt: &impl Abort, sprig: &mut Sprig, entry: Entry) {
+    if sprig.find(&entry.digest).is_some() {
+        sprig.replace(entry);
+    } else {
+        assert!(rt; sprig.reserve(1).is_ok());
+        sprig.insert(entry);
+    }
+}
+
 fn insert_all(rt: &impl Abort, sprig: &mut Sprig)
     requires { 20000 ≤ sprig.old.spare }
 {
@@ -137,5 +147,45 @@ fn next_after_a_digest_that_has_no_entry(rt: HostRuntime) -> Result<(), Fail> {
     assert!(rt; sprig.next_after(Some(&digest(6))) == Some(entry(7, 1000)));
     assert!(rt; sprig.next_after(Some(&digest(7))).is_none());
     assert!(rt; sprig.find(&digest(6)).is_none());
+    Ok(())
+}
+
+/// The tally of so many puts, tombstones and covered puts.
+fn tally(records: u64, tombstones: u64, covered: u64) -> Tally {
+    Tally {
+        records,
+        tombstones,
+        covered,
+    }
+}
+
+// A cover flag counts at a put alone, and a replacement takes the place of what it replaces.
+#[test]
+fn entries_are_counted_by_their_kinds(rt: HostRuntime) -> Result<(), Fail> {
+    let mut sprig = Sprig::new(rt.alloc());
+    assert_eq!(rt; sprig.tally(), tally(0, 0, 0));
+    sprig.reserve(3)?;
+    let covered = Entry {
+        cover: true,
+        ..entry(2, 1000)
+    };
+    let tomb = Entry {
+        kind: Kind::Tomb,
+        ..covered
+    };
+    for entry in [entry(1, 1000), covered, entry(3, 1000)] {
+        put_in(&rt, &mut sprig, entry);
+    }
+    assert_eq!(rt; sprig.tally(), tally(3, 0, 1));
+    put_in(&rt, &mut sprig, tomb);
+    assert_eq!(rt; sprig.tally(), tally(2, 1, 0));
+    put_in(&rt, &mut sprig, covered);
+    assert_eq!(rt; sprig.tally(), tally(3, 0, 1));
+    assert!(rt; sprig.remove(&digest(1)).is_some());
+    assert!(rt; sprig.remove(&digest(1)).is_none());
+    assert_eq!(rt; sprig.tally(), tally(2, 0, 1));
+    put_in(&rt, &mut sprig, tomb);
+    assert!(rt; sprig.remove(&digest(2)).is_some());
+    assert_eq!(rt; sprig.tally(), tally(1, 0, 0));
     Ok(())
 }

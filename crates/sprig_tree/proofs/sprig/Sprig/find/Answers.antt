@@ -8,7 +8,7 @@ use Rattle.sprig_tree.proofs.sprig.Sprig.find.Goals as goal
 pub returns-in-Ok-clause-value : goal.returns-in-Ok-clause-value
 returns-in-Ok-clause-value c =
     let seen = ap (λ (s : SprigState). s.entries) c.self.view_is in
-    let order = subst IsInDigestOrder seen c.self.invariant in
+    let order = subst IsInDigestOrder seen c.self.invariant.sorted in
     let read = c.index.ensures ∙ ap (λ (l : List Entry). get_or l c.in-Ok.at c.index.result.now) seen in
     sym (entry_of_place c.args.digest.now c.args.self.now.entries c.in-Ok.at order c.in-Ok.ensures.found c.index.result.now read)
 

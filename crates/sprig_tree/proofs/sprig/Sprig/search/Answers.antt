@@ -13,11 +13,11 @@ returns c =
     let facts = c.binary_search_by_key.ensures in
     let seen = ap (λ (s : SprigState). s.entries) c.self.view_is in
     let by_digest = facts.position (λ (e : Entry). e.digest) (answers_always _ _ _ (λ f a r g called. search rules)) in
-    let answer = searched c.args.digest.now c.deref.result.now (subst IsInDigestOrder (sym c.deref.ensures.value) c.self.invariant) c.binary_search_by_key.result facts.bound by_digest in
+    let answer = searched c.args.digest.now c.deref.result.now (subst IsInDigestOrder (sym c.deref.ensures.value) c.self.invariant.sorted) c.binary_search_by_key.result facts.bound by_digest in
     let same = c.deref.ensures.value ∙ seen in
     record {
       found = subst (λ l. IfOk c.binary_search_by_key.result (IsPlaceOf c.args.digest.now l)) same answer.found;
       absent = subst (λ l. IfErr c.binary_search_by_key.result (IsGapFor c.args.digest.now l)) same answer.absent;
-      sorted = subst IsInDigestOrder seen c.self.invariant;
+      sorted = subst IsInDigestOrder seen c.self.invariant.sorted;
       small = subst (λ (l : List Entry). length l < 2 ^ 63) seen (omega arith);
     }
