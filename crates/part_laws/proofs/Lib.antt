@@ -16,5 +16,6 @@ pub mod Walks
 pub mod Writing
 pub mod Finding
 pub mod Restarting
+pub mod Resuming
 pub mod Turns
 pub mod Applying

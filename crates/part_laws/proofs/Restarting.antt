@@ -114,7 +114,7 @@ module _ (setup : Setup) (s new : State) (image : List ℕ) (r : Restarts setup 
   ends : (d : Digest) → ends_well (pending_of s.book) (r.kept d).0 ≡ true
   ends d = (r.kept d).1.keeps.end
 
-  new_top : (d : Digest) → entry new d ≡ version_of (cold_copy d copies)
+  pub new_top : (d : Digest) → entry new d ≡ version_of (cold_copy d copies)
   new_top d = ap top_of (r.kept d).2 ∙ kept_top (pending_of s.book) (r.kept d).0 (ends d) ∙ sym (r.kept d).1.shown
 
   -- what is found of a digest of the part has no greater time than its copies

@@ -5,3 +5,4 @@ pub mod Becoming
 pub mod Parts
 pub mod Making
 pub mod Starting
+pub mod Resuming

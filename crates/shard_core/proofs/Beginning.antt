@@ -23,15 +23,18 @@ use Rattle.block_shelf.specs.View.{ShelfView, IsSetupOf, gate_at}
 use Rattle.block_shelf.specs.Standing as shelf
 use Rattle.block_shelf.specs.Starting.{StartsWith, AreLive, AllHave}
 use Rattle.shard_core.specs.declared.settings.Settings.{Settings}
-use Rattle.shard_core.specs.declared.start.Asked.{Asked}
-use Rattle.shard_core.specs.declared.scan.Finding.{Finding}
+use Rattle.cold_scan.specs.declared.header.Asked.{Asked}
+use Rattle.shard_core.specs.declared.index.Finding.{Finding}
 use Rattle.shard_core.specs.Sprigs.{held, all_entries, HasTimes}
 use Rattle.shard_core.specs.View.{ShardView, IsSettings, limits_of, setup_for, setup_of}
 use Rattle.part_laws.specs.Parts.{FitsParts}
 use Rattle.sprig_tree.specs.State.{SprigState}
 use Rattle.shard_core.specs.Stands.{Agrees, IsWhole, IsSafe}
-use Rattle.shard_core.specs.Starting.{Passes, Begins, StandsForBodies, own_copies, found_state, blocks_behind}
-use Rattle.shard_core.specs.Finding.{IsSure, IsFinding, BeginsOver, BeginsBehind, live_places, latest_copies}
+use Rattle.cold_scan.specs.Starting.{Passes, own_copies}
+use Rattle.shard_core.specs.Starting.{Begins, StandsForBodies, blocks_behind}
+use Rattle.cold_scan.specs.Found.{found_state}
+use Rattle.cold_scan.specs.Found.{IsSure}
+use Rattle.shard_core.specs.Finding.{AreLatest, IsFinding, BeginsOver, BeginsBehind, live_places, latest_copies}
 use Rattle.shard_core.proofs.FoundCopies.{latest_there, found_times, found_parts, sound_parts, held_is, live_are, free_are}
 use Rattle.shard_core.proofs.GatesKnown.{gates_sure}
 use Rattle.shard_core.proofs.Showing.{found_entry, found_queue, sound_own, start_queue}
@@ -119,6 +122,9 @@ module _ {D : Type 0} (view : D → DiskView) (disk : D) (g : Geometry) (gates :
           (begins.placed setup latest (subst (λ (h : Geometry). AllHave h (view disk).may_leave latest) geometry_is have));
       sound = start_agrees;
       safe = λ honest image sound only. let safe = begins.safe honest (gates_sure g gates count sure) setup image bodies is_setup sound only in record { placed = safe.0; safe = safe.1 };
+      latest = subst (AreLatest setup (copies_of bodies)) (sym sprigs_are) (subst (λ (x : Setup). AreLatest x (copies_of bodies) finding.sprigs.items) setup_is found.latest);
+      sure = subst (λ (h : Geometry). AreSure h (gate_at shard.shelf.gates)) (sym geometry_is)
+          (subst (λ (l : List Gate). AreSure g (gate_at l)) (sym (ap (λ (v : ShelfView D). v.gates) begins.starts.parts)) (gates_sure g gates count sure));
     }
 
     pub begins_whole : IsWhole shard
@@ -137,7 +143,7 @@ all_have g bytes images bodies has only c there image left =
     (copy_stands g bytes (range_with_len 0 g.blocks) bodies has c (latest_there g bodies c there).0).there
 
 -- the bodies of a sound image are those that were read
-same_bodies : (setup : Setup) (g : Geometry) (asked : Asked) (bytes : List ℕ) (bodies all : List Body) → IsShapeOf setup g → Passes asked bytes g bodies → IsSound setup bytes all → bodies ≡ all
+pub same_bodies : (setup : Setup) (g : Geometry) (asked : Asked) (bytes : List ℕ) (bodies all : List Body) → IsShapeOf setup g → Passes asked bytes g bodies → IsSound setup bytes all → bodies ≡ all
 same_bodies setup g asked bytes bodies all shape passes sound =
     let same = one_shape setup g sound.shape shape sound.is_shape passes.is_asked.header.geometry sound.readable.header.geometry in
     one_image g bytes (range_with_len 0 g.blocks) bodies all one_body passes.blocks (subst (λ (h : Geometry). HasBodies h bytes (range_with_len 0 h.blocks) all) (sym same) sound.readable.blocks)

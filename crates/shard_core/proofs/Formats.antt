@@ -12,7 +12,7 @@ use Rattle.block_format.specs.Layout.{IsGeometry, IsClosed, gate_text, gate_sect
 use Rattle.block_format.specs.Copies.{HasBodies}
 use Rattle.block_format.specs.Copies.{IsFormatted}
 use Rattle.shard_core.specs.Finding.{AllClosed, HasHeaderOf, IsHalfFormatted}
-use Rattle.shard_core.proofs.Room.{size_bounds}
+use Rattle.cold_scan.proofs.Room.{size_bounds}
 
 zeros_differ : replicate 16 0 ≢ gate_text
 zeros_differ same = cc

@@ -38,14 +38,17 @@ use Rattle.block_shelf.specs.View.{AreApart}
 use Rattle.block_shelf.specs.Starting.{LiesIn, AreTwo, AreEachTwo, CanBeLive, AreLive, blocks_without, place_of_copy}
 use Rattle.block_shelf.proofs.StartShelf.{filter_alike}
 use Rattle.shard_core.specs.declared.settings.Settings.{Settings}
-use Rattle.shard_core.specs.declared.scan.Finding.{Finding}
+use Rattle.shard_core.specs.declared.index.Finding.{Finding}
 use Rattle.shard_core.specs.Sprigs.{place_of, entry_in, held, all_entries, HasTimes}
 use Rattle.shard_core.specs.View.{setup_for}
-use Rattle.shard_core.specs.Starting.{own_copies, found_state, blocks_behind}
-use Rattle.shard_core.specs.Finding.{LiesBehind, IsFinding, live_places, latest_copies}
+use Rattle.cold_scan.specs.Starting.{own_copies}
+use Rattle.shard_core.specs.Starting.{blocks_behind}
+use Rattle.cold_scan.specs.Found.{found_state}
+use Rattle.cold_scan.specs.Found.{LiesBehind}
+use Rattle.shard_core.specs.Finding.{IsFinding, live_places, latest_copies}
 use Rattle.shard_core.proofs.FoundEntries.{HaveOwnDigests, each_sprig, each_among, find_there, held_there, own_digests}
 use Rattle.shard_core.proofs.Showing.{sound_own}
-use Rattle.shard_core.proofs.Gates.{opened_apart}
+use Rattle.shard_core.proofs.Opened.{opened_apart}
 use Rattle.shard_core.proofs.CopyPlaces.{AreOneOrApart, copies_apart}
 
 -- ---- the latest of some copies

@@ -15,8 +15,8 @@ use Rattle.kept_images.specs.Gates.{GateStands}
 use Rattle.kept_images.specs.Held.{AreSure}
 use Rattle.recovery.proofs.Growing.{all_at}
 use Rattle.block_shelf.specs.View.{GatesStand, gate_at}
-use Rattle.shard_core.specs.Finding.{IsSure, TellsSector, AreGates}
-use Rattle.shard_core.proofs.Scans.{each_block}
+use Rattle.cold_scan.specs.Found.{IsSure, TellsSector, AreGates}
+use Rattle.cold_scan.proofs.Scans.{each_block}
 
 module _ (g : Geometry) (bytes : List ℕ) (images : Images) (only : IsOnly bytes images) where
   body_there : (block : ℕ) → IsBlock g bytes block → IsOpen (gate_sector g block bytes) → IsBodyOf g block (body_bytes g block bytes)

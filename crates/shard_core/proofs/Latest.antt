@@ -1,42 +1,23 @@
 -- The sprigs of a device have the latest of the copies that were taken so far, copy after copy.
-use Rattle.std.proofs.Common.{◌≡◌, Bool, true, false, cond, ◌+◌, ℕ, List, [], ◌∷◌, ◌++◌, length, refl, sym, ◌∙◌, ap, subst, append_assoc}
-use Rattle.std.specs.Prelude.{Contains, ◌==◌, map, MatchBool, Some, slice_get, set}
+use Rattle.std.proofs.Common.{◌≡◌, Bool, true, false, cond, ℕ, List, [], ◌∷◌, ◌++◌, length, sym, ◌∙◌, ap, subst}
+use Rattle.std.specs.Prelude.{Contains, ◌==◌, MatchBool, Some, slice_get, set}
 use Rattle.std.specs.List.{AllByRecursion}
 use Rattle.std.proofs.lemmas.List.{append-nil, length-set}
 use Rattle.std.proofs.lemmas.Option.{slice_get_within, get_or_from_slice_get}
 use Rattle.std.proofs.lemmas.List.Elements.{Contains-get_or, filter-append}
-use Rattle.rec_format.specs.declared.version.Digest.{Digest}
-use Rattle.rec_format.specs.declared.version.Version.{Version}
-use Rattle.rec_format.specs.declared.entry.Entry.{Entry}
 use Rattle.rec_format.specs.Places.{device_number}
-use Rattle.rec_format.specs.Versions.{version_units}
 use Rattle.device_model.specs.Book.{Setup}
 use Rattle.device_model.specs.Device.{part_of}
 use Rattle.device_model.specs.Steps.{part_total}
-use Rattle.block_format.specs.Layout.{Body}
-use Rattle.block_format.specs.Readings.{found_from}
-use Rattle.block_format.specs.Copies.{Copy, copies_from, copies_of, entry_for}
+use Rattle.block_format.specs.Copies.{Copy, entry_for}
 use Rattle.recovery.proofs.Growing.{all_at}
 use Rattle.sprig_tree.specs.State.{SprigState}
 use Rattle.part_laws.specs.Starting.{HasLatest, TakesLater, AllHaveLatest}
 use Rattle.part_laws.proofs.Starting.{none_yet}
 use Rattle.part_laws.proofs.Finding.{all_take}
 use Rattle.shard_core.specs.Sprigs.{IsEmptySprig}
-use Rattle.shard_core.specs.Starting.{own_copies}
-use Rattle.shard_core.specs.Finding.{found_entry, KeepsOne, KeepsAll, AreLatest}
-
--- ---- several entries
-
-pub all_more : (setup : Setup) (es : List Entry) (e : Entry) (old mid new : List SprigState) → KeepsAll setup es old mid → KeepsOne setup e mid new → KeepsAll setup (es ++ e ∷ []) old new
-all_more setup [] e old mid new same one = subst (λ (l : List SprigState). KeepsAll setup (e ∷ []) l new) same (new, one, refl)
-all_more setup (x ∷ es) e old mid new all one = (all.0, all.1, all_more setup es e all.0 mid new all.2 one)
-
--- the entries of what was found are those of the copies
-pub found_entries : (block unit : ℕ) (records : List (Digest × Version)) → map (found_entry block) (found_from unit records) ≡ map entry_for (copies_from block unit records)
-found_entries block unit [] = refl
-found_entries block unit (r ∷ records) =
-    let c : Copy = record { digest = r.0; version = r.1; block = block; unit = unit } in
-    ap (λ (l : List Entry). entry_for c ∷ l) (found_entries block (unit + version_units r.1) records)
+use Rattle.cold_scan.specs.Starting.{own_copies}
+use Rattle.shard_core.specs.Finding.{KeepsOne, AreLatest}
 
 -- ---- the latest copies
 
@@ -64,7 +45,7 @@ module _ (setup : Setup) (copies : List Copy) (c : Copy) (old new : List SprigSt
   own_more = filter-append (λ (x : Copy). device_number setup.devices x.digest == setup.device) copies (c ∷ [])
 
   -- one that is of the device is taken by the sprig of its part, and another changes nothing
-  latest_one : AreLatest setup (copies ++ c ∷ []) new
+  pub latest_one : AreLatest setup (copies ++ c ∷ []) new
   latest_one = by (device_number setup.devices c.digest == setup.device) own_more keeps
     where
       by : (b : Bool) → own_copies setup.device setup.devices (copies ++ c ∷ []) ≡ own ++ cond b (c ∷ []) []
@@ -78,14 +59,3 @@ module _ (setup : Setup) (copies : List Copy) (c : Copy) (old new : List SprigSt
         parts = ap length same ∙ latest.parts;
         each = subst (λ (l : List Copy). AllHaveLatest setup l new) (sym (more ∙ append-nil own)) (subst (AllHaveLatest setup own) (sym same) latest.each);
       }
-
-pub latest_all : (setup : Setup) (more copies : List Copy) (old new : List SprigState) → AreLatest setup copies old → KeepsAll setup (map entry_for more) old new → AreLatest setup (copies ++ more) new
-latest_all setup [] copies old new latest same =
-    subst (λ (l : List Copy). AreLatest setup l new) (sym (append-nil copies)) (subst (AreLatest setup copies) (sym same) latest)
-latest_all setup (c ∷ more) copies old new latest keeps =
-    subst (λ (l : List Copy). AreLatest setup l new) (append_assoc copies (c ∷ []) more)
-    (latest_all setup more (copies ++ c ∷ []) keeps.0 new (latest_one setup copies c old keeps.0 latest keeps.1) keeps.2)
-
-pub copies_more : (bodies : List Body) (b : Body) → copies_of (bodies ++ b ∷ []) ≡ copies_of bodies ++ copies_from b.block 0 b.records
-copies_more [] b = append-nil (copies_from b.block 0 b.records)
-copies_more (x ∷ bodies) b = ap (λ (l : List Copy). copies_from x.block 0 x.records ++ l) (copies_more bodies b) ∙ sym (append_assoc (copies_from x.block 0 x.records) (copies_of bodies) (copies_from b.block 0 b.records))

@@ -1,8 +1,4 @@
-pub mod Room
-pub mod Starts
 pub mod Formats
-pub mod Reading
-pub mod Gates
 pub mod GatesKnown
 pub mod CopyPlaces
 pub mod Going
@@ -18,9 +14,15 @@ pub mod Writes
 pub mod Puts
 pub mod Deletes
 pub mod Latest
-pub mod Scans
+pub mod Indexed
+pub mod Scanned
+pub mod Opened
 pub mod Queues
 pub mod Showing
 pub mod FoundEntries
 pub mod FoundCopies
 pub mod Beginning
+pub mod Places
+pub mod Tallies
+pub mod Headers
+pub mod Again

@@ -12,7 +12,8 @@ use Rattle.recovery.specs.Start.{start_state, entries_state, greatest_number, co
 use Rattle.recovery.specs.Sound.{IsSound, NoStrays}
 use Rattle.recovery.proofs.StartLive.{found_first}
 use Rattle.part_laws.proofs.Starting.{entries_show}
-use Rattle.shard_core.specs.Starting.{own_copies, found_state}
+use Rattle.cold_scan.specs.Starting.{own_copies}
+use Rattle.cold_scan.specs.Found.{found_state}
 use Rattle.shard_core.proofs.Queues.{refreshed_queue}
 
 -- ---- from what was found, over any disk
@@ -31,7 +32,7 @@ module _ (setup : Setup) (bodies : List Body) where
 
 -- ---- from a sound image
 
-all_own : (setup : Setup) (copies : List Copy) → NoStrays setup copies → own_copies setup.device setup.devices copies ≡ copies
+pub all_own : (setup : Setup) (copies : List Copy) → NoStrays setup copies → own_copies setup.device setup.devices copies ≡ copies
 all_own setup [] none = refl
 all_own setup (c ∷ copies) none =
     cond-true (device_number setup.devices c.digest == setup.device) (c ∷ own_copies setup.device setup.devices copies) (own_copies setup.device setup.devices copies) (eq-eqb _ _ none.0)

@@ -3,5 +3,7 @@ pub mod View
 pub mod Stands
 pub mod Starting
 pub mod Finding
+pub mod Again
 pub mod Calls
 pub mod Writing
+pub mod Numbers

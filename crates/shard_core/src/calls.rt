@@ -58,7 +58,8 @@ impl<D: Disk> Shard<D> {
         ensures shape { SameSetup self.old self.new }
     {
         let part = self.part_of(digest);
-        put_step(
+        let before = self.sprigs[part].tally();
+        let answer = put_step(
             alloc,
             &mut self.sprigs[part],
             &mut self.shelf,
@@ -68,7 +69,9 @@ impl<D: Disk> Shard<D> {
             payload,
             expect,
             now,
-        )
+        );
+        self.tally = self.tally.minus(before).plus(self.sprigs[part].tally());
+        answer
     }
 
     /// The record that is seen of a digest: `get_step` over the digest's sprig.
@@ -127,14 +130,17 @@ impl<D: Disk> Shard<D> {
         ensures shape { SameSetup self.old self.new }
     {
         let part = self.part_of(digest);
-        delete_step(
+        let before = self.sprigs[part].tally();
+        let answer = delete_step(
             alloc,
             &mut self.sprigs[part],
             &mut self.shelf,
             &self.set,
             digest,
             now,
-        )
+        );
+        self.tally = self.tally.minus(before).plus(self.sprigs[part].tally());
+        answer
     }
 
     /// Deletes a digest durably: `bury_step` over its sprig.
@@ -148,14 +154,17 @@ impl<D: Disk> Shard<D> {
         ensures shape { SameSetup self.old self.new }
     {
         let part = self.part_of(digest);
-        bury_step(
+        let before = self.sprigs[part].tally();
+        let answer = bury_step(
             alloc,
             &mut self.sprigs[part],
             &mut self.shelf,
             &self.set,
             digest,
             now,
-        )
+        );
+        self.tally = self.tally.minus(before).plus(self.sprigs[part].tally());
+        answer
     }
 
     // The part of a digest of the device, which is the place of its sprig.

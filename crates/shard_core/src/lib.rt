@@ -2,13 +2,14 @@
 #![tactic(auto)]
 
 mod calls;
+mod counts;
 mod delete;
 mod flush;
 mod format;
 mod get;
+mod index;
 mod put;
 mod refusals;
-mod scan;
 mod settings;
 mod shard;
 mod sprigs;
@@ -18,6 +19,7 @@ mod tests;
 mod write;
 
 pub use block_shelf::ReadRefusal;
+pub use cold_scan::{Asked, StartCause, StartRefusal};
 pub use delete::{bury_step, delete_step};
 pub use format::format_disk;
 pub use get::{Meta, get_step, meta_step};
@@ -25,4 +27,3 @@ pub use put::put_step;
 pub use refusals::WriteRefusal;
 pub use settings::Settings;
 pub use shard::Shard;
-pub use start::{Asked, StartCause, StartRefusal};

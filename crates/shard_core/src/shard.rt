@@ -3,20 +3,21 @@ ghost use Rattle.std.specs.Prelude.{◌≡◌};
 use crate::Settings;
 use block_shelf::Shelf;
 use disk_model::Disk;
-use sprig_tree::Sprig;
+use sprig_tree::{Sprig, Tally};
 use std::marker::Model;
 
-/// A device with its primary index: the sprig of each part, in the order of their numbers.
+/// A device with its primary index: the sprig of each part, in the order of their numbers, and the tally of all of them.
 #[derive(Drop)]
 pub struct Shard<D: Disk> {
     pub(crate) shelf: Shelf<D>,
     pub(crate) set: Settings,
     pub(crate) sprigs: Vec<Sprig>,
+    pub(crate) tally: Tally,
 }
 
 impl<D: Disk> Model for Shard<D> {
     ghost use Rattle.shard_core.specs.View.{ShardView};
-    ghost use Rattle.shard_core.specs.Stands.{IsWhole};
+    ghost use Rattle.shard_core.specs.Numbers.{IsKept};
     ghost use Rattle.std.specs.Coded.{codes};
     ghost use Rattle.hold_book.specs.Holds.{hold_state_code};
 
@@ -26,7 +27,7 @@ impl<D: Disk> Model for Shard<D> {
 
     ghost view = { λ s. record { shelf = s.shelf; set = s.set; sprigs = s.sprigs.items } };
 
-    ghost invariant = { λ s. IsWhole (record { shelf = s.shelf; set = s.set; sprigs = s.sprigs.items }) };
+    ghost invariant = { λ s. IsKept (record { shelf = s.shelf; set = s.set; sprigs = s.sprigs.items }) s.tally };
 }
 
 impl<D: Disk> Shard<D> {

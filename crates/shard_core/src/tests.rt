@@ -5,7 +5,7 @@ use super::*;
 use block_format::{Geometry, SECTOR_BYTES};
 use disk_model::{Disk, DiskCall, MemDisk};
 use partition_map::device_of;
-use rec_format::{Digest, Stamp, Version};
+use rec_format::{Counts, Digest, Stamp, Version};
 use std::alloc::Global;
 use std::process::Abort;
 use std::test::Fail;
@@ -90,6 +90,45 @@ fn get(
         Ok(found) => Ok(found),
         Err(_) => Err(Fail::new("it isn't read")),
     }
+}
+
+fn delete(
+    rt: &impl Abort,
+    alloc: Global,
+    shard: &mut Shard<MemDisk>,
+    byte: u8,
+) -> Result<bool, WriteRefusal> {
+    let digest = Digest([byte; 20]);
+    assert_own(rt, shard, &digest);
+    shard.delete(alloc, &digest, 1000)
+}
+
+fn bury(
+    rt: &impl Abort,
+    alloc: Global,
+    shard: &mut Shard<MemDisk>,
+    byte: u8,
+) -> Result<Stamp, WriteRefusal> {
+    let digest = Digest([byte; 20]);
+    assert_own(rt, shard, &digest);
+    shard.bury(alloc, &digest, 1000)
+}
+
+/// Asserts how many records, tombstones and covered records there are, where one block is taken: by a pending buffer, which holds it, or by
+/// what was flushed.
+fn assert_counts(rt: &impl Abort, shard: &Shard<MemDisk>, kinds: [u64; 3], pending: u64) {
+    let [records, tombstones, covered] = kinds;
+    let counts = shard.counts();
+    let wanted = Counts {
+        records,
+        tombstones,
+        covered,
+        free: 7,
+        pending,
+        queued: 0,
+        held: pending,
+    };
+    assert!(rt; counts == wanted);
 }
 
 /// Asserts that the record is seen, with this stamp and payload and no void time.
@@ -193,5 +232,33 @@ fn a_start_fails(rt: HostRuntime) -> Result<(), Fail> {
     let (disk, cause) = refused(alloc, disk)?;
     assert!(rt; cause == StartCause::DamagedBlock { block: 3, place: 0 });
     let _shard = started(alloc, formatted(&rt, disk)?)?;
+    Ok(())
+}
+
+// A put again leaves the number, and what was buried is covered when it is put. The buffer holds its own block, since older copies are in it.
+// What was deleted without a tombstone comes back.
+#[test]
+fn entries_are_counted(rt: HostRuntime) -> Result<(), Fail> {
+    let alloc = rt.alloc();
+    let mut shard = started(alloc, formatted(&rt, MemDisk::new(alloc, DEVICE_BYTES)?)?)?;
+    assert_eq!(rt; shard.parts(), 65_536);
+    assert!(rt; shard.counts().free == 8 && shard.counts().records == 0);
+    for byte in [1, 2, 3, 2] {
+        assert!(rt; put(&rt, alloc, &mut shard, byte, b"hello", 1000).is_ok());
+    }
+    assert_counts(&rt, &shard, [3, 0, 0], 1);
+    assert!(rt; delete(&rt, alloc, &mut shard, 1) == Ok(true));
+    assert!(rt; delete(&rt, alloc, &mut shard, 1) == Ok(false));
+    assert_counts(&rt, &shard, [2, 0, 0], 1);
+    assert!(rt; bury(&rt, alloc, &mut shard, 2).is_ok());
+    assert_counts(&rt, &shard, [1, 1, 0], 1);
+    assert!(rt; put(&rt, alloc, &mut shard, 2, b"", 1000).is_ok());
+    assert_counts(&rt, &shard, [2, 0, 1], 1);
+    assert!(rt; delete(&rt, alloc, &mut shard, 2) == Ok(true));
+    assert_counts(&rt, &shard, [1, 1, 0], 1);
+    assert!(rt; shard.flush() == Ok(1));
+    assert_counts(&rt, &shard, [1, 1, 0], 0);
+    let shard = started(alloc, shard.stop())?;
+    assert_counts(&rt, &shard, [2, 1, 0], 0);
     Ok(())
 }

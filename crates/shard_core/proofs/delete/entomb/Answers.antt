@@ -16,7 +16,7 @@ use Rattle.shard_core.specs.View.{setup_for}
 use Rattle.shard_core.specs.Calls.{StepMakes}
 use Rattle.shard_core.specs.Writing.{IsWriteOf, written_answer, entombed_answer}
 use Rattle.block_shelf.specs.declared.place.Class.TheVariants as class
-use Rattle.shard_core.proofs.Room.{size_bounds}
+use Rattle.cold_scan.proofs.Room.{size_bounds}
 use Rattle.shard_core.proofs.Puts.{stamp_fine, spent_entombs, entombing_writes, makes_nothing}
 use Rattle.shard_core.proofs.delete.entomb.Goals as goal
 

@@ -1,6 +1,6 @@
 use Rattle.std.proofs.Common.{ℕ, inl, arith, rules, below_more}
 use Rattle.block_format.specs.Layout.{IsClosed, gate_sector}
-use Rattle.shard_core.proofs.Room.{size_bounds}
+use Rattle.cold_scan.proofs.Room.{size_bounds}
 use Rattle.shard_core.proofs.Formats.{closes, gate_written, stays_closed, gates_apart, header_stays}
 use Rattle.shard_core.proofs.format.close_gates.Goals as goal
 

@@ -4,6 +4,7 @@ use Rattle.block_shelf.specs.declared.place.Place.{Place}
 use Rattle.block_shelf.specs.Starting.{CanBeLive}
 use Rattle.sprig_tree.specs.State.{SprigState}
 use Rattle.shard_core.specs.Sprigs.{all_entries}
+use Rattle.shard_core.specs.Numbers.{tally_sum}
 use Rattle.shard_core.specs.View.{ShardView, limits_of}
 use Rattle.shard_core.specs.Finding.{live_places}
 use Rattle.shard_core.proofs.FoundCopies.{can_be_live}
@@ -21,11 +22,15 @@ invariant_of-result g c =
     let found = c.requires.found in
     let e = c.in-Ok-new.ensures in
     let shard : ShardView g.row.D.Denot = record { shelf = c.in-Ok-new.shelf; set = c.args.set; sprigs = c.args.finding.sprigs.items } in
-    begins_whole g.D.Disk.view c.args.disk c.args.geometry c.args.gates.items c.args.set c.args.finding c.requires.geometry c.requires.settings c.requires.count c.requires.sure shard refl refl
-    (subst (λ (l : List (Digest × Place)). ShelfBegins g.D.Disk.view c.args.disk c.args.geometry (limits_of c.args.set) c.args.gates.items l (c.args.finding.greatest + 1) c.in-Ok-new.shelf)
-    (c.deref-2.ensures.value ∙ c.in-Ok.ensures ∙ ap (λ (l : List SprigState). live_places (all_entries l)) c.deref.ensures.value)
-    (record { starts = e.starts; entries = e.entries; image = e.image; placed = e.placed; safe = e.safe }))
-    found.0 found.1
+    record {
+      whole =
+          begins_whole g.D.Disk.view c.args.disk c.args.geometry c.args.gates.items c.args.set c.args.finding c.requires.geometry c.requires.settings c.requires.count c.requires.sure shard refl refl
+          (subst (λ (l : List (Digest × Place)). ShelfBegins g.D.Disk.view c.args.disk c.args.geometry (limits_of c.args.set) c.args.gates.items l (c.args.finding.greatest + 1) c.in-Ok-new.shelf)
+          (c.deref-2.ensures.value ∙ c.in-Ok.ensures ∙ ap (λ (l : List SprigState). live_places (all_entries l)) c.deref.ensures.value)
+          (record { starts = e.starts; entries = e.entries; image = e.image; placed = e.placed; safe = e.safe }))
+          found.0 found.1;
+      tallied = c.tally_sum-tally.ensures ∙ ap tally_sum c.deref-in-Ok-new.ensures.value;
+    }
 
 pub returns-in-Ok-new-clause-behind : goal.returns-in-Ok-new-clause-behind
 returns-in-Ok-new-clause-behind g c bodies found =

@@ -18,13 +18,14 @@ use Rattle.shard_core.specs.Stands.{Agrees}
 use Rattle.shard_core.specs.Calls.{Makes, GetsStored, read_answer}
 use Rattle.shard_core.proofs.Each.{set_at}
 use Rattle.shard_core.proofs.Making.{whole_made, step_stands, lifted, held_at}
+use Rattle.shard_core.proofs.Tallies.{tally_same}
 use Rattle.shard_core.proofs.shard.Shard.get.Given.{Over}
 use Rattle.shard_core.proofs.shard.Shard.get.Goals as goal
 
 pub get_step-requires-clause-stand : goal.get_step-requires-clause-stand
 get_step-requires-clause-stand g c =
     let old : ShardView g.row.D.Denot = record { shelf = c.self.inside.shelf; set = c.self.inside.set; sprigs = c.self.inside.sprigs.items } in
-    let stands = c.self.invariant.stands in
+    let stands = c.self.invariant.whole.stands in
     let place : c.part_of-part.result ≡ part_of (setup_of old) c.args.digest.now = c.part_of-part.ensures.part ∙ ap (λ (v : ShardView g.row.D.Denot). part_of (setup_of v) c.args.digest.now) (sym c.self.view_is) in
     let there : c.part_of-part.result < length old.sprigs = subst (λ (v : ShardView g.row.D.Denot). c.part_of-part.result < length v.sprigs) (sym c.self.view_is) c.part_of-part.ensures.there in
     (stands.0, step_stands g.D.Disk.view c.args.digest.now old old c.part_of-part.result c.index_mut.result.now c.index_mut.result.now (record { geometry = refl; set = refl }) place there c.index_mut.ensures.value (sym (set_at old.sprigs c.part_of-part.result c.index_mut.result.now c.index_mut.ensures.value)) stands.0 stands.1)
@@ -52,8 +53,11 @@ invariant_of-self g c =
     let old : ShardView g.row.D.Denot = record { shelf = c.self.inside.shelf; set = c.self.inside.set; sprigs = c.self.inside.sprigs.items } in
     let new : ShardView g.row.D.Denot = record { shelf = c.get_step.new.shelf; set = c.self.inside.set; sprigs = set c.self.inside.sprigs.items c.part_of-part.result c.get_step.new.sprig } in
     let shape : SameSetup old new = record { geometry = ap (λ (x : ShelfView g.row.D.Denot). x.geometry) c.get_step.ensures.shelf; set = refl } in
-    let stands = c.self.invariant.stands in
-    whole_made g.D.Disk.view (get_call c.args.digest.now c.args.now) (read_answer c.get_step.result) old new c.self.invariant shape (ap (λ (x : ShelfView g.row.D.Denot). x.limits) c.get_step.ensures.shelf) stands.0 (made g c stands.0 stands.1)
+    let stands = c.self.invariant.whole.stands in
+    record {
+      whole = whole_made g.D.Disk.view (get_call c.args.digest.now c.args.now) (read_answer c.get_step.result) old new c.self.invariant.whole shape (ap (λ (x : ShelfView g.row.D.Denot). x.limits) c.get_step.ensures.shelf) stands.0 (made g c stands.0 stands.1);
+      tallied = c.self.invariant.tallied ∙ sym (tally_same old.sprigs c.part_of-part.result c.index_mut.result.now c.get_step.new.sprig c.index_mut.ensures.value (ap (λ (x : SprigState). x.entries) c.get_step.ensures.sprig));
+    }
 
 pub returns-clause-buffered : goal.returns-clause-buffered
 returns-clause-buffered g c =

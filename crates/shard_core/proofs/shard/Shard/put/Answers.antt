@@ -1,4 +1,4 @@
-use Rattle.std.proofs.Common.{◌≡◌, inl, inr, ◌<◌, true, length, set, refl, sym, ap, ◌∙◌, subst}
+use Rattle.std.proofs.Common.{arith, ◌≡◌, inl, inr, ◌<◌, true, length, set, refl, sym, ap, ◌∙◌, subst}
 use Rattle.std.specs.Prelude.{◌⊎◌, Result, Ok, Err, IfErr}
 use Rattle.rec_format.specs.declared.version.Stamp.{Stamp}
 use Rattle.rec_format.specs.Places.{device_number}
@@ -11,63 +11,71 @@ use Rattle.shard_core.specs.Stands.{Agrees}
 use Rattle.shard_core.specs.Calls.{Makes, IsRefusedStep, IsRefusedWrite, write_answer}
 use Rattle.shard_core.proofs.Each.{set_at}
 use Rattle.shard_core.proofs.Making.{whole_made, step_stands, lifted, sprigs_same}
+use Rattle.shard_core.proofs.Tallies.{tally_behind}
 use Rattle.shard_core.proofs.shard.Shard.put.Given.{Over}
 use Rattle.shard_core.proofs.shard.Shard.put.Goals as goal
 
-pub put_step-requires-clause-stand : goal.put_step-requires-clause-stand
-put_step-requires-clause-stand g c =
+pub put_step-answer-requires-clause-stand : goal.put_step-answer-requires-clause-stand
+put_step-answer-requires-clause-stand g c =
     let old : ShardView g.row.D.Denot = record { shelf = c.self.inside.shelf; set = c.self.inside.set; sprigs = c.self.inside.sprigs.items } in
-    let stands = c.self.invariant.stands in
+    let stands = c.self.invariant.whole.stands in
     let place : c.part_of-part.result ≡ part_of (setup_of old) c.args.digest.now = c.part_of-part.ensures.part ∙ ap (λ (v : ShardView g.row.D.Denot). part_of (setup_of v) c.args.digest.now) (sym c.self.view_is) in
     let there : c.part_of-part.result < length old.sprigs = subst (λ (v : ShardView g.row.D.Denot). c.part_of-part.result < length v.sprigs) (sym c.self.view_is) c.part_of-part.ensures.there in
     (stands.0, step_stands g.D.Disk.view c.args.digest.now old old c.part_of-part.result c.index_mut.result.now c.index_mut.result.now (record { geometry = refl; set = refl }) place there c.index_mut.ensures.value (sym (set_at old.sprigs c.part_of-part.result c.index_mut.result.now c.index_mut.ensures.value)) stands.0 stands.1)
 
-made : (g : Over) (c : goal.After-self-1 g) (s : State)
+made : (g : Over) (c : goal.After-self-2-1 g) (s : State)
     → let old : ShardView g.row.D.Denot = record { shelf = c.self.inside.shelf; set = c.self.inside.set; sprigs = c.self.inside.sprigs.items } in
-    let new : ShardView g.row.D.Denot = record { shelf = c.put_step.new.shelf; set = c.self.inside.set; sprigs = set c.self.inside.sprigs.items c.part_of-part.result c.put_step.new.sprig } in
-    Agrees old s → Makes g.D.Disk.view (put_call c.args.digest.now c.args.ttl c.args.expect c.args.payload.now c.args.now) (write_answer c.put_step.result) old s new
+    let new : ShardView g.row.D.Denot = record { shelf = c.put_step-answer.new.shelf; set = c.self.inside.set; sprigs = set c.self.inside.sprigs.items c.part_of-part.result c.put_step-answer.new.sprig } in
+    Agrees old s → Makes g.D.Disk.view (put_call c.args.digest.now c.args.ttl c.args.expect c.args.payload.now c.args.now) (write_answer c.put_step-answer.result) old s new
 made g c s agrees =
     let old : ShardView g.row.D.Denot = record { shelf = c.self.inside.shelf; set = c.self.inside.set; sprigs = c.self.inside.sprigs.items } in
-    let new : ShardView g.row.D.Denot = record { shelf = c.put_step.new.shelf; set = c.self.inside.set; sprigs = set c.self.inside.sprigs.items c.part_of-part.result c.put_step.new.sprig } in
+    let new : ShardView g.row.D.Denot = record { shelf = c.put_step-answer.new.shelf; set = c.self.inside.set; sprigs = set c.self.inside.sprigs.items c.part_of-part.result c.put_step-answer.new.sprig } in
     let place : c.part_of-part.result ≡ part_of (setup_of old) c.args.digest.now = c.part_of-part.ensures.part ∙ ap (λ (v : ShardView g.row.D.Denot). part_of (setup_of v) c.args.digest.now) (sym c.self.view_is) in
     let there : c.part_of-part.result < length old.sprigs = subst (λ (v : ShardView g.row.D.Denot). c.part_of-part.result < length v.sprigs) (sym c.self.view_is) c.part_of-part.ensures.there in
-    let shape : SameSetup old new = record { geometry = c.put_step.ensures.shape.geometry; set = refl } in
-    lifted g.D.Disk.view c.args.digest.now old new c.part_of-part.result c.index_mut.result.now c.put_step.new.sprig shape place there c.index_mut.ensures.value refl (put_call c.args.digest.now c.args.ttl c.args.expect c.args.payload.now c.args.now) (write_answer c.put_step.result) (subst (λ (v : ShardView g.row.D.Denot). device_number v.shelf.geometry.devices c.args.digest.now ≡ v.shelf.geometry.device) (sym c.self.view_is) c.requires.named) refl s agrees
-    (c.put_step.ensures.makes s (step_stands g.D.Disk.view c.args.digest.now old new c.part_of-part.result c.index_mut.result.now c.put_step.new.sprig shape place there c.index_mut.ensures.value refl s agrees))
+    let shape : SameSetup old new = record { geometry = c.put_step-answer.ensures.shape.geometry; set = refl } in
+    lifted g.D.Disk.view c.args.digest.now old new c.part_of-part.result c.index_mut.result.now c.put_step-answer.new.sprig shape place there c.index_mut.ensures.value refl (put_call c.args.digest.now c.args.ttl c.args.expect c.args.payload.now c.args.now) (write_answer c.put_step-answer.result) (subst (λ (v : ShardView g.row.D.Denot). device_number v.shelf.geometry.devices c.args.digest.now ≡ v.shelf.geometry.device) (sym c.self.view_is) c.requires.named) refl s agrees
+    (c.put_step-answer.ensures.makes s (step_stands g.D.Disk.view c.args.digest.now old new c.part_of-part.result c.index_mut.result.now c.put_step-answer.new.sprig shape place there c.index_mut.ensures.value refl s agrees))
 
 pub returns-clause-makes : goal.returns-clause-makes
 returns-clause-makes g c =
-    let new : ShardView g.row.D.Denot = record { shelf = c.put_step.new.shelf; set = c.self.inside.set; sprigs = set c.self.inside.sprigs.items c.part_of-part.result c.put_step.new.sprig } in
-    subst (λ (v : ShardView g.row.D.Denot). (s : State) → Agrees v s → Makes g.D.Disk.view (put_call c.args.digest.now c.args.ttl c.args.expect c.args.payload.now c.args.now) (write_answer c.put_step.result) v s new) c.self.view_is (made g c)
+    let new : ShardView g.row.D.Denot = record { shelf = c.put_step-answer.new.shelf; set = c.self.inside.set; sprigs = set c.self.inside.sprigs.items c.part_of-part.result c.put_step-answer.new.sprig } in
+    subst (λ (v : ShardView g.row.D.Denot). (s : State) → Agrees v s → Makes g.D.Disk.view (put_call c.args.digest.now c.args.ttl c.args.expect c.args.payload.now c.args.now) (write_answer c.put_step-answer.result) v s new) c.self.view_is (made g c)
 
 pub invariant_of-self : goal.invariant_of-self
 invariant_of-self g c =
     let old : ShardView g.row.D.Denot = record { shelf = c.self.inside.shelf; set = c.self.inside.set; sprigs = c.self.inside.sprigs.items } in
-    let new : ShardView g.row.D.Denot = record { shelf = c.put_step.new.shelf; set = c.self.inside.set; sprigs = set c.self.inside.sprigs.items c.part_of-part.result c.put_step.new.sprig } in
-    let shape : SameSetup old new = record { geometry = c.put_step.ensures.shape.geometry; set = refl } in
-    let stands = c.self.invariant.stands in
-    whole_made g.D.Disk.view (put_call c.args.digest.now c.args.ttl c.args.expect c.args.payload.now c.args.now) (write_answer c.put_step.result) old new c.self.invariant shape c.put_step.ensures.shape.limits stands.0 (made g c stands.0 stands.1)
+    let new : ShardView g.row.D.Denot = record { shelf = c.put_step-answer.new.shelf; set = c.self.inside.set; sprigs = set c.self.inside.sprigs.items c.part_of-part.result c.put_step-answer.new.sprig } in
+    let shape : SameSetup old new = record { geometry = c.put_step-answer.ensures.shape.geometry; set = refl } in
+    let there : c.part_of-part.result < length old.sprigs = subst (λ (v : ShardView g.row.D.Denot). c.part_of-part.result < length v.sprigs) (sym c.self.view_is) c.part_of-part.ensures.there in
+    let stands = c.self.invariant.whole.stands in
+    record {
+      whole = whole_made g.D.Disk.view (put_call c.args.digest.now c.args.ttl c.args.expect c.args.payload.now c.args.now) (write_answer c.put_step-answer.result) old new c.self.invariant.whole shape c.put_step-answer.ensures.shape.limits stands.0 (made g c stands.0 stands.1);
+      tallied =
+          tally_behind old.sprigs c.part_of-part.result c.index.result.now c.put_step-answer.new.sprig there c.index.ensures c.index-2.result.now c.index-2.ensures
+          c.self.inside.tally c.tally-before.result c.tally.result c.minus.result c.plus-self-inside.result
+          c.self.invariant.tallied c.tally-before.ensures c.tally.ensures c.minus.ensures c.plus-self-inside.ensures (omega arith) (omega arith) (omega arith);
+    }
 
 pub returns-clause-refused : goal.returns-clause-refused
 returns-clause-refused g c =
     let old : ShardView g.row.D.Denot = record { shelf = c.self.inside.shelf; set = c.self.inside.set; sprigs = c.self.inside.sprigs.items } in
-    let new : ShardView g.row.D.Denot = record { shelf = c.put_step.new.shelf; set = c.self.inside.set; sprigs = set c.self.inside.sprigs.items c.part_of-part.result c.put_step.new.sprig } in
+    let new : ShardView g.row.D.Denot = record { shelf = c.put_step-answer.new.shelf; set = c.self.inside.set; sprigs = set c.self.inside.sprigs.items c.part_of-part.result c.put_step-answer.new.sprig } in
     let place : c.part_of-part.result ≡ part_of (setup_of old) c.args.digest.now = c.part_of-part.ensures.part ∙ ap (λ (v : ShardView g.row.D.Denot). part_of (setup_of v) c.args.digest.now) (sym c.self.view_is) in
     let there : c.part_of-part.result < length old.sprigs = subst (λ (v : ShardView g.row.D.Denot). c.part_of-part.result < length v.sprigs) (sym c.self.view_is) c.part_of-part.ensures.there in
-    let shape : SameSetup old new = record { geometry = c.put_step.ensures.shape.geometry; set = refl } in
-    subst (λ (v : ShardView g.row.D.Denot). IfErr c.put_step.result (λ refusal. ((refusal ≡ write.Fault) × (v.set.commit ≡ true)) ⊎ IsRefusedWrite v new refusal)) c.self.view_is
-    (by c.put_step.result c.put_step.ensures.refused)
+    let shape : SameSetup old new = record { geometry = c.put_step-answer.ensures.shape.geometry; set = refl } in
+    subst (λ (v : ShardView g.row.D.Denot). IfErr c.put_step-answer.result (λ refusal. ((refusal ≡ write.Fault) × (v.set.commit ≡ true)) ⊎ IsRefusedWrite v new refusal)) c.self.view_is
+    (by c.put_step-answer.result c.put_step-answer.ensures.refused)
   where
-    by : (r : Result Stamp WriteRefusal) → IfErr r (λ refusal. ((refusal ≡ write.Fault) × (c.self.inside.set.commit ≡ true)) ⊎ IsRefusedStep c.index_mut.result.now c.put_step.new.sprig c.self.inside.shelf c.put_step.new.shelf refusal)
+    by : (r : Result Stamp WriteRefusal) → IfErr r (λ refusal. ((refusal ≡ write.Fault) × (c.self.inside.set.commit ≡ true)) ⊎ IsRefusedStep c.index_mut.result.now c.put_step-answer.new.sprig c.self.inside.shelf c.put_step-answer.new.shelf refusal)
         → let old : ShardView g.row.D.Denot = record { shelf = c.self.inside.shelf; set = c.self.inside.set; sprigs = c.self.inside.sprigs.items } in
-        let new : ShardView g.row.D.Denot = record { shelf = c.put_step.new.shelf; set = c.self.inside.set; sprigs = set c.self.inside.sprigs.items c.part_of-part.result c.put_step.new.sprig } in
+        let new : ShardView g.row.D.Denot = record { shelf = c.put_step-answer.new.shelf; set = c.self.inside.set; sprigs = set c.self.inside.sprigs.items c.part_of-part.result c.put_step-answer.new.sprig } in
         IfErr r (λ refusal. ((refusal ≡ write.Fault) × (old.set.commit ≡ true)) ⊎ IsRefusedWrite old new refusal)
     by (Ok x) tt = tt
     by (Err refusal) (inl fault) = inl fault
     by (Err refusal) (inr left) =
         let old : ShardView g.row.D.Denot = record { shelf = c.self.inside.shelf; set = c.self.inside.set; sprigs = c.self.inside.sprigs.items } in
-        let new : ShardView g.row.D.Denot = record { shelf = c.put_step.new.shelf; set = c.self.inside.set; sprigs = set c.self.inside.sprigs.items c.part_of-part.result c.put_step.new.sprig } in
+        let new : ShardView g.row.D.Denot = record { shelf = c.put_step-answer.new.shelf; set = c.self.inside.set; sprigs = set c.self.inside.sprigs.items c.part_of-part.result c.put_step-answer.new.sprig } in
         let place : c.part_of-part.result ≡ part_of (setup_of old) c.args.digest.now = c.part_of-part.ensures.part ∙ ap (λ (v : ShardView g.row.D.Denot). part_of (setup_of v) c.args.digest.now) (sym c.self.view_is) in
         let there : c.part_of-part.result < length old.sprigs = subst (λ (v : ShardView g.row.D.Denot). c.part_of-part.result < length v.sprigs) (sym c.self.view_is) c.part_of-part.ensures.there in
-        let shape : SameSetup old new = record { geometry = c.put_step.ensures.shape.geometry; set = refl } in
-        inr (record { sprigs = sprigs_same g.D.Disk.view c.args.digest.now old new c.part_of-part.result c.index_mut.result.now c.put_step.new.sprig shape place there c.index_mut.ensures.value refl left.sprig; shelf = left.shelf })
+        let shape : SameSetup old new = record { geometry = c.put_step-answer.ensures.shape.geometry; set = refl } in
+        inr (record { sprigs = sprigs_same g.D.Disk.view c.args.digest.now old new c.part_of-part.result c.index_mut.result.now c.put_step-answer.new.sprig shape place there c.index_mut.ensures.value refl left.sprig; shelf = left.shelf })

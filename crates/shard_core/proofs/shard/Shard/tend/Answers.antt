@@ -24,10 +24,10 @@ made g c s agrees =
     let old : ShardView g.row.D.Denot = record { shelf = c.self.inside.shelf; set = c.self.inside.set; sprigs = c.self.inside.sprigs.items } in
     let new : ShardView g.row.D.Denot = record { shelf = c.flush_sealed.new.shelf; set = c.self.inside.set; sprigs = c.self.inside.sprigs.items } in
     let mid : ShelfView g.row.D.Denot = c.seal_low.new.self in
-    let is = setup_is old c.self.invariant in
+    let is = setup_is old c.self.invariant.whole in
     let first = c.seal_low.ensures.sealed (setup_of old) s is agrees.shelf.stands in
     let then = c.flush_sealed.ensures.flushed (setup_of old) (after_steps (setup_of old) (seal_low (setup_of old) s.book) s) (setup_stays (setup_of old) old.shelf mid c.seal_low.ensures.shape is) first.stands in
-    makes_flush g.D.Disk.view old new s c.self.invariant.settings.lwm agrees
+    makes_flush g.D.Disk.view old new s c.self.invariant.whole.settings.lwm agrees
     (record { geometry = c.flush_sealed.ensures.shape.geometry ∙ c.seal_low.ensures.shape.geometry; set = refl }) refl
     (subst (λ (d : g.row.D.Denot). (g.D.Disk.view d).faults ≤ (g.D.Disk.view new.shelf.disk).faults) c.seal_low.ensures.disk c.flush_sealed.ensures.later.count)
     c.flush_sealed.result flush_sealed_call (seal_low (setup_of old) s.book) then.0 (seal_low_flushing (setup_of old) s.book) then.1
@@ -45,7 +45,11 @@ pub invariant_of-self : goal.invariant_of-self
 invariant_of-self g c =
     let old : ShardView g.row.D.Denot = record { shelf = c.self.inside.shelf; set = c.self.inside.set; sprigs = c.self.inside.sprigs.items } in
     let new : ShardView g.row.D.Denot = record { shelf = c.flush_sealed.new.shelf; set = c.self.inside.set; sprigs = c.self.inside.sprigs.items } in
-    let stands = c.self.invariant.stands in
-    whole_made g.D.Disk.view flush_sealed_call (flush_answer c.flush_sealed.result) old new c.self.invariant
-    (record { geometry = c.flush_sealed.ensures.shape.geometry ∙ c.seal_low.ensures.shape.geometry; set = refl })
-    (c.flush_sealed.ensures.shape.limits ∙ c.seal_low.ensures.shape.limits) stands.0 (made g c stands.0 stands.1)
+    let stands = c.self.invariant.whole.stands in
+    record {
+      whole =
+          whole_made g.D.Disk.view flush_sealed_call (flush_answer c.flush_sealed.result) old new c.self.invariant.whole
+          (record { geometry = c.flush_sealed.ensures.shape.geometry ∙ c.seal_low.ensures.shape.geometry; set = refl })
+          (c.flush_sealed.ensures.shape.limits ∙ c.seal_low.ensures.shape.limits) stands.0 (made g c stands.0 stands.1);
+      tallied = c.self.invariant.tallied;
+    }

@@ -1,6 +1,0 @@
-use Rattle.std.proofs.Common.{arith}
-use Rattle.shard_core.proofs.Room.{size_bounds}
-use Rattle.shard_core.proofs.scan.scan.Goals as goal
-
-pub overflow_sub-geometry : goal.overflow_sub-geometry
-overflow_sub-geometry g c = omega (arith, (size_bounds c.args.geometry.now c.requires.geometry).0)

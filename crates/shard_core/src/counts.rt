@@ -1,0 +1,49 @@
+// The numbers of a shard.
+ghost use Rattle.std.specs.Prelude.{◌≡◌, ◌≤◌, length};
+ghost use Rattle.device_model.specs.Device.{State};
+ghost use Rattle.device_model.specs.Steps.{part_total};
+ghost use Rattle.shard_core.specs.Numbers.{counts_of, tally_sum};
+ghost use Rattle.shard_core.specs.Stands.{Agrees};
+ghost use Rattle.shard_core.specs.View.{setup_of};
+
+use crate::Shard;
+use disk_model::Disk;
+use partition_map::parts_of;
+use rec_format::Counts;
+use sprig_tree::{Sprig, Tally};
+
+impl<D: Disk> Shard<D> {
+    /// How many records, tombstones and covered records there are, expired ones too; how many blocks are free, how many buffers aren't
+    /// flushed, how many blocks wait to be vacated, and how many are held. It goes over nothing, and takes no memory.
+    pub fn counts(&self) -> Counts
+        ensures { (s : State) → Agrees self.now s → result ≡ counts_of s }
+    {
+        // By its shape the device has at most 2^32 places, and each entry has a copy at a place of its own, so no sum went around.
+        let _shape = self.shelf.geometry();
+        Counts {
+            records: self.tally.records,
+            tombstones: self.tally.tombstones,
+            covered: self.tally.covered,
+            ..self.shelf.counts()
+        }
+    }
+
+    /// How many parts the device has, each with a sprig.
+    pub fn parts(&self) -> u32
+        ensures { result ≡ part_total (setup_of self.now) }
+    {
+        let shape = self.shelf.geometry();
+        parts_of(shape.device, shape.devices, self.set.sprigs)
+    }
+}
+
+/// The tallies of all sprigs together.
+pub(crate) fn tally_sum(sprigs: &[Sprig]) -> Tally
+    ensures { result ≡ tally_sum sprigs.now }
+{
+    let mut sum = Tally::default();
+    for sprig in sprigs {
+        sum = sum.plus(sprig.tally());
+    }
+    sum
+}
