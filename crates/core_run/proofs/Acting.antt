@@ -1,5 +1,5 @@
 -- A call of the one device is what a command does on a node that has it alone, what its tending does, and what its closing does.
-use Rattle.std.proofs.Common.{◌≡◌, inl, inr, ℕ, zero, suc, Bool, true, false, List, [], ◌∷◌, ◌+◌, refl, sym, ◌∙◌, ap, subst, arith}
+use Rattle.std.proofs.Common.{◌≡◌, inl, inr, ℕ, zero, suc, Bool, true, false, List, [], ◌∷◌, length, ◌+◌, refl, sym, ◌∙◌, ap, subst, arith}
 use Rattle.std.specs.Prelude.{◌≢◌, slice_get, Option, Some, None, Result, Ok, Err, OnOk, OnErr}
 use Rattle.std.proofs.lemmas.List.{append-nil}
 use Rattle.disk_model.specs.Disk.{DiskView, IsDisk, IsHonest}
@@ -8,8 +8,11 @@ use Rattle.rec_format.specs.declared.version.Digest.{Digest}
 use Rattle.rec_format.specs.declared.version.Stamp.{Stamp}
 use Rattle.rec_format.specs.declared.version.Version.{Version}
 use Rattle.rec_format.specs.Places.{device_number}
-use Rattle.device_model.specs.Book.{Setup}
-use Rattle.device_model.specs.Device.{State, seen}
+use Rattle.device_model.specs.Book.{Setup, held_blocks}
+use Rattle.device_model.specs.Device.{State, seen, put_count, tombstone_count, covered_count}
+use Rattle.rec_format.specs.declared.entry.Counts.{Counts}
+use Rattle.shard_core.specs.Numbers.{counts_of}
+use Rattle.std.proofs.lemmas.List.Sums.{sum_by-cons}
 use Rattle.device_model.specs.Steps.{Step, states_through}
 use Rattle.device_model.specs.Events.{Event, Call, put_call, get_call, delete_call, bury_call, flush_call, flush_sealed_call, choose_call, Answer, block_chosen, disk_fault, after_event}
 use Rattle.device_model.specs.Legal.{Follows, queue_front}
@@ -18,7 +21,7 @@ use Rattle.line_proto.specs.declared.command.Command.{Command}
 use Rattle.line_proto.specs.declared.command.Command.TheVariants as command
 use Rattle.line_proto.specs.declared.reply.Reply.{Reply}
 use Rattle.line_proto.specs.declared.reply.Reply.TheVariants as reply
-use Rattle.node_model.specs.Commands.{Slot, Node, NodeEvent, slot_after, Does, did, stopped, one_sum, answer_reply, meta_reply, seen_on, on_device, node_after}
+use Rattle.node_model.specs.Commands.{Slot, Node, NodeEvent, total, node_counts, slot_after, Does, did, stopped, one_sum, answer_reply, meta_reply, seen_on, on_device, node_after}
 use Rattle.block_shelf.specs.Disks.{IsLater}
 use Rattle.shard_core.specs.declared.refusals.WriteRefusal.{WriteRefusal}
 use Rattle.shard_core.specs.declared.refusals.WriteRefusal.TheVariants as write
@@ -32,7 +35,7 @@ use Rattle.shard_core.proofs.Later.{later_none}
 use Rattle.shard_core.proofs.Going.{safe_survives}
 use Rattle.node_model.specs.Run.{states_while}
 use Rattle.node_model.specs.Meaning.{ActsFrom, TendsFrom, ClosesFrom, LeavesEach, SurvivesOne, Rests}
-use Rattle.core_run.specs.OneDevice.{StandsAlone, StandsSafely, views_of, unknown, NeverHalts, RepliesStored, ActsAlone, TendsAlone, ClosesAlone, ClosedSo, flush_outcome}
+use Rattle.core_run.specs.OneDevice.{slot_of, StandsOn, StandsSafelyOn, views_on, unknown, NeverHalts, RepliesStored, ActsOn, TendsOn, ClosesOn, ClosedSo, flush_outcome}
 use Rattle.core_run.proofs.Closing.{closed_so}
 
 -- one device has every digest
@@ -79,6 +82,26 @@ known_goes_on : (v : Option Version) → meta_reply v ≡ reply.Halted → ⊥
 known_goes_on None e = cc
 known_goes_on (Some v) e = cc
 
+stat_goes_on : (counts : Counts) → reply.StatOf counts ≡ reply.Halted → ⊥
+stat_goes_on counts e = cc
+
+-- the numbers of a node of one device are its device's
+pub one_total : (number : State → ℕ) (slot : Slot) → number slot.state ≡ total number (slot ∷ [])
+one_total number slot = let e = sum_by-cons (λ (x : Slot). number x.state) slot [] in omega (arith, e)
+
+one_counts : (setup : Setup) (s : State) (faults : ℕ) → counts_of s ≡ node_counts (slot_of setup s faults ∷ [])
+one_counts setup s faults =
+    let one = slot_of setup s faults in
+    λ i. record {
+      records = one_total put_count one i;
+      tombstones = one_total tombstone_count one i;
+      covered = one_total covered_count one i;
+      free = one_total (λ x. length x.book.free) one i;
+      pending = one_total (λ x. length x.book.buffers) one i;
+      queued = one_total (λ x. length x.book.queue) one i;
+      held = one_total (λ x. length (held_blocks x.book.holds)) one i;
+    }
+
 flushed_goes_on : {E : Type 0} (flushed : Result ℕ E) → one_sum (flush_outcome flushed) ≡ reply.Halted → ⊥
 flushed_goes_on (Ok n) e = cc
 flushed_goes_on (Err fault) e = cc
@@ -114,8 +137,8 @@ none_follows setup told s faults none = record {
 }
 
 -- the one device of a node
-abbrev pub slot_of : {D : Type 0} → (view : D → DiskView) → ShardView D → State → Slot
-slot_of view shard state = record { setup = setup_of shard; state = state; faults = (view shard.shelf.disk).faults }
+abbrev pub shard_slot : {D : Type 0} → (view : D → DiskView) → ShardView D → State → Slot
+shard_slot view shard state = slot_of (setup_of shard) state (view shard.shelf.disk).faults
 
 -- a choice takes no step
 no_more_states : (device : ℕ) (event : Event) (faults : ℕ) (slot : Slot)
@@ -132,13 +155,13 @@ module _ {D : Type 0} (view : D → DiskView) (old new : ShardView D) (shape : S
 
   -- the node before, and after the event
   abbrev Before : State → Node
-  Before s = slot_of view old s ∷ []
+  Before s = shard_slot view old s ∷ []
 
   abbrev After : Event → State → Node
   After event s = node_after (on_device 0 event ∷ []) (Before s)
 
   -- it is the one that the shard has then
-  after_is : (event : Event) (s : State) → event.faults_after ≡ (view new.shelf.disk).faults → After event s ≡ slot_of view new (after_event (setup_of old) event s) ∷ []
+  after_is : (event : Event) (s : State) → event.faults_after ≡ (view new.shelf.disk).faults → After event s ≡ shard_slot view new (after_event (setup_of old) event s) ∷ []
   after_is event s counted =
       let after : State = after_event (setup_of old) event s in
       ap (λ (n : ℕ). let x : Slot = record { setup = setup_of old; state = after; faults = n } in x ∷ []) counted
@@ -146,7 +169,7 @@ module _ {D : Type 0} (view : D → DiskView) (old new : ShardView D) (shape : S
 
   -- the states on the way of the one device are those of the event, and there is no other device
   left_by_event : (event : Event) (s : State) → Leaves (OneOf (Survives (setup_of old)) (states_through (setup_of old) event.steps s)) (view old.shelf.disk) (view new.shelf.disk)
-      → LeavesEach (views_of view) (Before s) (λ device. states_while device (on_device 0 event ∷ []) (Before s)) old new
+      → LeavesEach (views_on view) (Before s) (λ device. states_while device (on_device 0 event ∷ []) (Before s)) old new
   left_by_event event s left zero = record {
     time = left.time;
     each = λ image was. subst (λ (steps : List Step). OneOf (Survives (setup_of old)) (states_through (setup_of old) steps s) image) (sym (append-nil event.steps)) (left.each image was);
@@ -156,11 +179,11 @@ module _ {D : Type 0} (view : D → DiskView) (old new : ShardView D) (shape : S
   abbrev MakesOne : Call → Answer → State → Type 0
   MakesOne call answer s = Makes view call answer old s new
 
-  stands_any : (call : Call) (answer : Answer) (s : State) (m : MakesOne call answer s) → StandsAlone view new (After m.event s)
+  stands_any : (call : Call) (answer : Answer) (s : State) (m : MakesOne call answer s) → StandsOn view new (After m.event s)
   stands_any call answer s m = record { state = after_event (setup_of old) m.event s; is_one = after_is m.event s m.counted; agrees = m.stands }
 
   stands_safe : (call : Call) (answer : Answer) (s : State) (m : MakesOne call answer s) → IsHonest (view old.shelf.disk) → IsSafe view old s
-      → StandsSafely view new (After m.event s)
+      → StandsSafelyOn view new (After m.event s)
   stands_safe call answer s m was safe = record {
     state = after_event (setup_of old) m.event s;
     is_one = after_is m.event s m.counted;
@@ -182,33 +205,33 @@ module _ {D : Type 0} (view : D → DiskView) (old new : ShardView D) (shape : S
     acts_one Stands views told s m follows stands leaves = record {
       work = on_device 0 m.event ∷ [];
       restarted = None;
-      carried = inl (inl (refl, does (slot_of view old s) m.event m.is_call m.is_answer));
+      carried = inl (inl (refl, does (shard_slot view old s) m.event m.is_call m.is_answer));
       legal = (follows, tt);
-      stands = stands;
+      stands = λ _. stands;
       leaves = leaves;
       halt = λ h. absurd (goes h);
     }
 
-    acts : ActsAlone view old c now r new
+    acts : ActsOn view old c now r new
     acts = (later, over_any, over_honest, stored)
       where
-        over_any : (node : Node) → StandsAlone view old node → ActsFrom (StandsAlone view) unknown NeverHalts false old node c now r new
+        over_any : (node : Node) → StandsOn view old node → ActsFrom (StandsOn view) unknown NeverHalts false old node c now r new
         over_any node stands =
             let m = makes stands.state stands.agrees in
-            subst (λ (n : Node). ActsFrom (StandsAlone view) unknown NeverHalts false old n c now r new) (sym stands.is_one)
-            (acts_one (StandsAlone view) unknown false stands.state m m.follows (stands_any call answer stands.state m) (nothing_left old new (Before stands.state) _))
+            subst (λ (n : Node). ActsFrom (StandsOn view) unknown NeverHalts false old n c now r new) (sym stands.is_one)
+            (acts_one (StandsOn view) unknown false stands.state m m.follows (stands_any call answer stands.state m) (nothing_left old new (Before stands.state) _))
 
-        over_honest : (node : Node) → StandsSafely view old node
-            → ActsFrom (StandsSafely view) (views_of view) NeverHalts true old node c now r new
+        over_honest : (node : Node) → StandsSafelyOn view old node
+            → ActsFrom (StandsSafelyOn view) (views_on view) NeverHalts true old node c now r new
         over_honest node stands =
             let m = makes stands.state stands.agrees in
-            subst (λ (n : Node). ActsFrom (StandsSafely view) (views_of view) NeverHalts true old n c now r new) (sym stands.is_one)
-            (acts_one (StandsSafely view) (views_of view) true stands.state m (m.told stands.honest stands.safe)
+            subst (λ (n : Node). ActsFrom (StandsSafelyOn view) (views_on view) NeverHalts true old n c now r new) (sym stands.is_one)
+            (acts_one (StandsSafelyOn view) (views_on view) true stands.state m (m.told stands.honest stands.safe)
             (stands_safe call answer stands.state m stands.honest stands.safe) (left_by_event m.event stands.state (m.leaves stands.honest stands.safe)))
 
   pub acts_put : (digest : Digest) (ttl : ℕ) (expect : Option ℕ) (payload : List ℕ) (now : ℕ) (r : Reply) (result : Result Stamp WriteRefusal) → r ≡ answer_reply (write_answer result)
       → ((s : State) → Agrees old s → MakesOne (put_call digest ttl expect payload now) (write_answer result) s)
-      → ActsAlone view old (command.Put digest ttl expect payload) now r new
+      → ActsOn view old (command.Put digest ttl expect payload) now r new
   acts_put digest ttl expect payload now r result is makes =
       acts (put_call digest ttl expect payload now) (write_answer result) (command.Put digest ttl expect payload) now r
       (λ slot. digest_does slot digest (put_call digest ttl expect payload now) (write_answer result) (command.Put digest ttl expect payload) now r (λ event work at is_call given. (event, at, is_call, given)) is)
@@ -216,7 +239,7 @@ module _ {D : Type 0} (view : D → DiskView) (old new : ShardView D) (shape : S
 
   pub acts_get : (digest : Digest) (now : ℕ) (r : Reply) (result : Result (Option Version) ReadRefusal) → r ≡ answer_reply (read_answer result)
       → ((s : State) → Agrees old s → MakesOne (get_call digest now) (read_answer result) s) → GetsStored view old digest now result
-      → ActsAlone view old (command.Get digest) now r new
+      → ActsOn view old (command.Get digest) now r new
   acts_get digest now r result is makes stored =
       acts (get_call digest now) (read_answer result) (command.Get digest) now r
       (λ slot. digest_does slot digest (get_call digest now) (read_answer result) (command.Get digest) now r (λ event work at is_call given. (event, at, is_call, given)) is)
@@ -224,7 +247,7 @@ module _ {D : Type 0} (view : D → DiskView) (old new : ShardView D) (shape : S
 
   pub acts_delete : (digest : Digest) (now : ℕ) (r : Reply) (result : Result Bool WriteRefusal) → r ≡ answer_reply (delete_answer result)
       → ((s : State) → Agrees old s → MakesOne (delete_call digest now) (delete_answer result) s)
-      → ActsAlone view old (command.Del digest) now r new
+      → ActsOn view old (command.Del digest) now r new
   acts_delete digest now r result is makes =
       acts (delete_call digest now) (delete_answer result) (command.Del digest) now r
       (λ slot. digest_does slot digest (delete_call digest now) (delete_answer result) (command.Del digest) now r (λ event work at is_call given. (event, at, is_call, given)) is)
@@ -232,7 +255,7 @@ module _ {D : Type 0} (view : D → DiskView) (old new : ShardView D) (shape : S
 
   pub acts_bury : (digest : Digest) (now : ℕ) (r : Reply) (result : Result Stamp WriteRefusal) → r ≡ answer_reply (write_answer result)
       → ((s : State) → Agrees old s → MakesOne (bury_call digest now) (write_answer result) s)
-      → ActsAlone view old (command.Bury digest) now r new
+      → ActsOn view old (command.Bury digest) now r new
   acts_bury digest now r result is makes =
       acts (bury_call digest now) (write_answer result) (command.Bury digest) now r
       (λ slot. digest_does slot digest (bury_call digest now) (write_answer result) (command.Bury digest) now r (λ event work at is_call given. (event, at, is_call, given)) is)
@@ -240,7 +263,7 @@ module _ {D : Type 0} (view : D → DiskView) (old new : ShardView D) (shape : S
 
   pub acts_flush : {E : Type 0} (now : ℕ) (r : Reply) (flushed : Result ℕ E) → r ≡ one_sum (flush_outcome flushed)
       → ((s : State) → Agrees old s → MakesOne flush_call (flush_answer flushed) s)
-      → ActsAlone view old command.Flush now r new
+      → ActsOn view old command.Flush now r new
   acts_flush now r flushed is makes =
       acts flush_call (flush_answer flushed) command.Flush now r (λ slot event. flush_does flushed slot now r is event) (λ h. flushed_goes_on flushed (sym is ∙ h)) makes tt
 
@@ -259,24 +282,24 @@ module _ {D : Type 0} (view : D → DiskView) (old new : ShardView D) (shape : S
         legal = (follows, (none_follows (setup_of old) told (after_event (setup_of old) m.event s) m.event.faults_after m.stands.shelf.queue, tt));
         stands = stands;
         leaves = λ device. subst (λ (states : List State). Leaves (SurvivesOne device (Before s) states) (views old device) (views new device))
-            (sym (no_more_states device m.event m.event.faults_after (slot_of view old s))) (leaves device);
+            (sym (no_more_states device m.event m.event.faults_after (shard_slot view old s))) (leaves device);
       }
 
-  pub tends : ((s : State) → Agrees old s → MakesAny view flush_sealed_call old s new) → TendsAlone view old new
+  pub tends : ((s : State) → Agrees old s → MakesAny view flush_sealed_call old s new) → TendsOn view old new
   tends makes = (later, over_any, over_honest)
     where
-      over_any : (node : Node) → StandsAlone view old node → TendsFrom (StandsAlone view) unknown false old node new
+      over_any : (node : Node) → StandsOn view old node → TendsFrom (StandsOn view) unknown false old node new
       over_any node stands =
           let any = makes stands.state stands.agrees in
-          subst (λ (n : Node). TendsFrom (StandsAlone view) unknown false old n new) (sym stands.is_one)
-          (tends_one (StandsAlone view) unknown false stands.state any.0 any.1 any.1.follows (stands_any flush_sealed_call any.0 stands.state any.1) (nothing_left old new (Before stands.state) _))
+          subst (λ (n : Node). TendsFrom (StandsOn view) unknown false old n new) (sym stands.is_one)
+          (tends_one (StandsOn view) unknown false stands.state any.0 any.1 any.1.follows (stands_any flush_sealed_call any.0 stands.state any.1) (nothing_left old new (Before stands.state) _))
 
-      over_honest : (node : Node) → StandsSafely view old node
-          → TendsFrom (StandsSafely view) (views_of view) true old node new
+      over_honest : (node : Node) → StandsSafelyOn view old node
+          → TendsFrom (StandsSafelyOn view) (views_on view) true old node new
       over_honest node stands =
           let any = makes stands.state stands.agrees in
-          subst (λ (n : Node). TendsFrom (StandsSafely view) (views_of view) true old n new) (sym stands.is_one)
-          (tends_one (StandsSafely view) (views_of view) true stands.state any.0 any.1 (any.1.told stands.honest stands.safe)
+          subst (λ (n : Node). TendsFrom (StandsSafelyOn view) (views_on view) true old n new) (sym stands.is_one)
+          (tends_one (StandsSafelyOn view) (views_on view) true stands.state any.0 any.1 (any.1.told stands.honest stands.safe)
           (stands_safe flush_sealed_call any.0 stands.state any.1 stands.honest stands.safe) (left_by_event any.1.event stands.state (any.1.leaves stands.honest stands.safe)))
 
   -- ---- the closing
@@ -295,26 +318,26 @@ module _ {D : Type 0} (view : D → DiskView) (old new : ShardView D) (shape : S
     legal = (follows, tt);
     stands = stands;
     leaves = leaves;
-    says = closed_so flushed new (setup_of old) told s m.event (view old.shelf.disk).faults (view new.shelf.disk).faults (slot_after m.event (slot_of view old s))
+    says = closed_so flushed new (setup_of old) told s m.event (view old.shelf.disk).faults (view new.shelf.disk).faults (slot_after m.event (shard_slot view old s))
         quiet left m.stands follows m.is_call m.is_answer m.counted;
   }
 
   pub closes : {E : Type 0} (flushed : Result ℕ E) → OnOk flushed (new.shelf.buffers ≡ []) → OnErr flushed (new.shelf.buffers ≢ [])
-      → ((s : State) → Agrees old s → MakesOne flush_call (flush_answer flushed) s) → ClosesAlone view flushed old new
+      → ((s : State) → Agrees old s → MakesOne flush_call (flush_answer flushed) s) → ClosesOn view flushed old new
   closes flushed quiet left makes = (later, over_any, over_honest)
     where
-      over_any : (node : Node) → StandsAlone view old node → ClosesFrom (StandsAlone view) unknown false (Says flushed) old node new
+      over_any : (node : Node) → StandsOn view old node → ClosesFrom (StandsOn view) unknown false (Says flushed) old node new
       over_any node stands =
           let m = makes stands.state stands.agrees in
-          subst (λ (n : Node). ClosesFrom (StandsAlone view) unknown false (Says flushed) old n new) (sym stands.is_one)
-          (closes_one flushed (StandsAlone view) unknown false stands.state m quiet left m.follows (stands_any flush_call (flush_answer flushed) stands.state m) (nothing_left old new (Before stands.state) _))
+          subst (λ (n : Node). ClosesFrom (StandsOn view) unknown false (Says flushed) old n new) (sym stands.is_one)
+          (closes_one flushed (StandsOn view) unknown false stands.state m quiet left m.follows (stands_any flush_call (flush_answer flushed) stands.state m) (nothing_left old new (Before stands.state) _))
 
-      over_honest : (node : Node) → StandsSafely view old node
-          → ClosesFrom (StandsSafely view) (views_of view) true (Says flushed) old node new
+      over_honest : (node : Node) → StandsSafelyOn view old node
+          → ClosesFrom (StandsSafelyOn view) (views_on view) true (Says flushed) old node new
       over_honest node stands =
           let m = makes stands.state stands.agrees in
-          subst (λ (n : Node). ClosesFrom (StandsSafely view) (views_of view) true (Says flushed) old n new) (sym stands.is_one)
-          (closes_one flushed (StandsSafely view) (views_of view) true stands.state m quiet left (m.told stands.honest stands.safe)
+          subst (λ (n : Node). ClosesFrom (StandsSafelyOn view) (views_on view) true (Says flushed) old n new) (sym stands.is_one)
+          (closes_one flushed (StandsSafelyOn view) (views_on view) true stands.state m quiet left (m.told stands.honest stands.safe)
           (stands_safe flush_call (flush_answer flushed) stands.state m stands.honest stands.safe) (left_by_event m.event stands.state (m.leaves stands.honest stands.safe)))
 
 -- ---- where nothing is done, by the laws of the disk
@@ -322,46 +345,60 @@ module _ {D : Type 0} (view : D → DiskView) (old new : ShardView D) (shape : S
 module _ {D : Type 0} (view : D → DiskView)
     (is_disk : (disk : D) → IsDisk (view disk)) where
   -- each image of an honest disk survives the state for which the node stands
-  pub rests_safely : Rests (StandsSafely view) (views_of view)
+  pub rests_safely : Rests (StandsSafelyOn view) (views_on view)
   rests_safely store node stands =
-      subst (λ (n : Node). LeavesEach (views_of view) n (λ device. states_while device [] n) store store) (sym stands.is_one)
+      subst (λ (n : Node). LeavesEach (views_on view) n (λ device. states_while device [] n) store store) (sym stands.is_one)
       (of stands.state (safe_survives (setup_of store) view store.shelf stands.state stands.safe.safe))
     where
       of : (s : State) → ((c : List ℕ) → (view store.shelf.disk).may_leave c → Survives (setup_of store) s c)
-          → LeavesEach (views_of view) (slot_of view store s ∷ []) (λ device. states_while device [] (slot_of view store s ∷ [])) store store
+          → LeavesEach (views_on view) (shard_slot view store s ∷ []) (λ device. states_while device [] (shard_slot view store s ∷ [])) store store
       of s survives zero = leaves_none (OneOf (Survives (setup_of store)) (s ∷ [])) (view store.shelf.disk) (is_disk store.shelf.disk) (λ c image. inl (survives c image))
       of s survives (suc n) = leaves_none (λ c. Unit {0}) (view store.shelf.disk) (is_disk store.shelf.disk) (λ c image. tt)
 
-  -- What is known of a record is told by the state, without an event, and the node stays as it is.
-  pub acts_meta : (shard : ShardView D) (digest : Digest) (now : ℕ) (r : Reply) (known : Option Meta) → ((v : Option Version) → known ≡ meta_of v → r ≡ meta_reply v)
-      → ((s : State) → Agrees shard s → known ≡ meta_of (seen s now digest)) → ActsAlone view shard (command.Meta digest) now r shard
-  acts_meta shard digest now r known is knows = (later_none view shard.shelf.disk (is_disk shard.shelf.disk), over_any, over_honest, tt)
+  -- A command that makes no event, whose reply is told by the state; the node stays as it is.
+  acts_still : (shard : ShardView D) (c : Command) (now : ℕ) (r : Reply) → ((s : State) → Agrees shard s → r ≡ reply.Halted → ⊥) → RepliesStored view shard c now r
+      → ((s : State) → Agrees shard s → Does (shard_slot view shard s ∷ []) c now [] r) → ActsOn view shard c now r shard
+  acts_still shard c now r goes stored does = (later_none view shard.shelf.disk (is_disk shard.shelf.disk), over_any, over_honest, stored)
     where
-      does : (s : State) → Agrees shard s → r ≡ meta_reply (seen_on (slice_get (slot_of view shard s ∷ []) (device_number 1 digest)) now digest)
-      does s agrees = is (seen s now digest) (knows s agrees)
-          ∙ ap (λ (n : ℕ). meta_reply (seen_on (slice_get (slot_of view shard s ∷ []) n) now digest)) (sym (only_device digest))
-
       acts_none : (Stands : ShardView D → Node → Type 0) (views : ShardView D → ℕ → DiskView) (told : Bool) (s : State) → Agrees shard s
-          → Stands shard (slot_of view shard s ∷ []) → LeavesEach views (slot_of view shard s ∷ []) (λ device. states_while device [] (slot_of view shard s ∷ [])) shard shard
-          → ActsFrom Stands views NeverHalts told shard (slot_of view shard s ∷ []) (command.Meta digest) now r shard
+          → Stands shard (shard_slot view shard s ∷ []) → LeavesEach views (shard_slot view shard s ∷ []) (λ device. states_while device [] (shard_slot view shard s ∷ [])) shard shard
+          → ActsFrom Stands views NeverHalts told shard (shard_slot view shard s ∷ []) c now r shard
       acts_none Stands views told s agrees stands leaves = record {
         work = [];
         restarted = None;
-        carried = inl (inl (refl, (refl, does s agrees)));
+        carried = inl (inl (refl, does s agrees));
         legal = tt;
-        stands = stands;
+        stands = λ _. stands;
         leaves = leaves;
-        halt = λ h. absurd (known_goes_on (seen s now digest) (sym (is (seen s now digest) (knows s agrees)) ∙ h));
+        halt = λ h. absurd (goes s agrees h);
       }
 
-      over_any : (node : Node) → StandsAlone view shard node → ActsFrom (StandsAlone view) unknown NeverHalts false shard node (command.Meta digest) now r shard
+      over_any : (node : Node) → StandsOn view shard node → ActsFrom (StandsOn view) unknown NeverHalts false shard node c now r shard
       over_any node stands =
-          subst (λ (n : Node). ActsFrom (StandsAlone view) unknown NeverHalts false shard n (command.Meta digest) now r shard) (sym stands.is_one)
-          (acts_none (StandsAlone view) unknown false stands.state stands.agrees (subst (StandsAlone view shard) stands.is_one stands)
-          (nothing_left shard shard (slot_of view shard stands.state ∷ []) _))
+          subst (λ (n : Node). ActsFrom (StandsOn view) unknown NeverHalts false shard n c now r shard) (sym stands.is_one)
+          (acts_none (StandsOn view) unknown false stands.state stands.agrees (subst (StandsOn view shard) stands.is_one stands)
+          (nothing_left shard shard (shard_slot view shard stands.state ∷ []) _))
 
-      over_honest : (node : Node) → StandsSafely view shard node → ActsFrom (StandsSafely view) (views_of view) NeverHalts true shard node (command.Meta digest) now r shard
+      over_honest : (node : Node) → StandsSafelyOn view shard node → ActsFrom (StandsSafelyOn view) (views_on view) NeverHalts true shard node c now r shard
       over_honest node stands =
-          let here : StandsSafely view shard (slot_of view shard stands.state ∷ []) = subst (StandsSafely view shard) stands.is_one stands in
-          subst (λ (n : Node). ActsFrom (StandsSafely view) (views_of view) NeverHalts true shard n (command.Meta digest) now r shard) (sym stands.is_one)
-          (acts_none (StandsSafely view) (views_of view) true stands.state stands.agrees here (rests_safely shard (slot_of view shard stands.state ∷ []) here))
+          let here : StandsSafelyOn view shard (shard_slot view shard stands.state ∷ []) = subst (StandsSafelyOn view shard) stands.is_one stands in
+          subst (λ (n : Node). ActsFrom (StandsSafelyOn view) (views_on view) NeverHalts true shard n c now r shard) (sym stands.is_one)
+          (acts_none (StandsSafelyOn view) (views_on view) true stands.state stands.agrees here (rests_safely shard (shard_slot view shard stands.state ∷ []) here))
+
+  -- what is known of a record
+  pub acts_meta : (shard : ShardView D) (digest : Digest) (now : ℕ) (r : Reply) (known : Option Meta) → ((v : Option Version) → known ≡ meta_of v → r ≡ meta_reply v)
+      → ((s : State) → Agrees shard s → known ≡ meta_of (seen s now digest)) → ActsOn view shard (command.Meta digest) now r shard
+  acts_meta shard digest now r known is knows =
+      acts_still shard (command.Meta digest) now r
+      (λ s agrees h. known_goes_on (seen s now digest) (sym (is (seen s now digest) (knows s agrees)) ∙ h)) tt
+      (λ s agrees. (
+        refl,
+        is (seen s now digest) (knows s agrees)
+            ∙ ap (λ (n : ℕ). meta_reply (seen_on (slice_get (shard_slot view shard s ∷ []) n) now digest)) (sym (only_device digest)),
+      ))
+
+  -- the numbers of the device
+  pub acts_stat : (shard : ShardView D) (now : ℕ) (r : Reply) (counts : Counts) → r ≡ reply.StatOf counts → ((s : State) → Agrees shard s → counts ≡ counts_of s)
+      → ActsOn view shard command.Stat now r shard
+  acts_stat shard now r counts is knows =
+      acts_still shard command.Stat now r (λ s agrees h. stat_goes_on counts (sym is ∙ h)) tt (λ s agrees. (refl, is ∙ ap reply.StatOf (knows s agrees ∙ one_counts (setup_of shard) s (view shard.shelf.disk).faults)))

@@ -1,3 +1,5 @@
-pub mod Later
-pub mod Acting
 pub mod Closing
+pub mod Acting
+pub mod Later
+pub mod Serving
+pub mod Restarting

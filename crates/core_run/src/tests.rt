@@ -4,10 +4,10 @@ ghost use Rattle.line_proto.specs.declared.command.Command.{Command};
 
 use super::*;
 use block_format::Geometry;
-use disk_model::{Disk, MemDisk};
+use disk_model::{Disk, DiskCall, MemDisk};
 use line_proto::{Command, LineFault, Reply, Store};
 use rec_format::{Bytes, Digest, Stamp};
-use shard_core::{Settings, format_disk};
+use shard_core::{Settings, StartCause, format_disk};
 use std::alloc::Global;
 use std::process::Abort;
 use std::test::Fail;
@@ -124,7 +124,9 @@ fn what_is_sealed_is_flushed(rt: HostRuntime) -> Result<(), Fail> {
     );
     let put = put_of(alloc, first, 1, None)?;
     assert!(rt; matches!(&node.act(alloc, &put, 1000), Reply::Done2 { a: 2, b: 1000 }));
+    assert!(rt; node.halted().is_none());
     assert!(rt; matches!(&node.flush_device(0), Ok(1)));
+    assert!(rt; node.halted().is_none());
     assert!(rt; matches!(&node.flush_device(0), Ok(0)));
     assert_eq!(rt; node.stop().len(), 1);
     Ok(())
@@ -173,6 +175,35 @@ fn a_digest_is_buried_and_deleted(rt: HostRuntime) -> Result<(), Fail> {
     );
     assert!(rt; matches!(&node.act(alloc, &del, 1000), Reply::Gone));
     assert!(rt; matches!(&node.act(alloc, &del, 1000), Reply::Nothing));
+    assert_eq!(rt; node.stop().len(), 1);
+    Ok(())
+}
+
+/// A restart drops what waits. Where it fails the node halts: it answers every command so, and gives its disk back.
+#[test]
+fn a_node_restarts_until_its_disk_fails(rt: HostRuntime) -> Result<(), Fail> {
+    let alloc = rt.alloc();
+    let mut disk = formatted(&rt, alloc)?;
+    // The start syncs once, and so does each restart.
+    disk.fail_after(DiskCall::Sync, 2)?;
+    let mut node = started(alloc, disk)?;
+    let put = put_of(alloc, RISING, 5, None)?;
+    assert!(rt; matches!(&node.act(alloc, &put, 1000), Reply::Done2 { a: 1, b: 1000 }));
+    let Reply::StatOf(counts) = node.act(alloc, &Command::Stat, 1000) else {
+        return Err(Fail::new("it tells no numbers"));
+    };
+    assert_eq!(rt; (counts.records, counts.free, counts.pending), (1, 15, 1));
+    assert!(rt;
+        matches!(
+            &node.act(alloc, &Command::Restart, 1000),
+            Reply::Done2 { a: 0, b: 0 }
+        )
+    );
+    assert!(rt; node.halted().is_none());
+    assert!(rt; matches!(&node.act(alloc, &Command::Restart, 1000), Reply::Halted));
+    assert!(rt; matches!(node.halted(), Some((0, StartCause::Fault))));
+    assert!(rt; matches!(&node.act(alloc, &put, 1000), Reply::Halted));
+    node.tend(alloc);
     assert_eq!(rt; node.stop().len(), 1);
     Ok(())
 }

@@ -12,10 +12,10 @@ use Rattle.hex.specs.Hex.{is_hex_digit, decode_sized}
 use Rattle.hex.proofs.HexLemmas.{decode_of-ok, decode_sized-ok, decode_sized-twice}
 use Rattle.rec_format.specs.declared.version.Digest.{Digest}
 use Rattle.line_proto.specs.declared.command.Command.{Command}
-use Rattle.line_proto.specs.declared.command.Command.TheVariants.{Put, Get, Meta, Del, Bury, Flush, Quit}
+use Rattle.line_proto.specs.declared.command.Command.TheVariants.{Put, Get, Meta, Del, Bury, Flush, Stat, Restart, Quit}
 use Rattle.line_proto.specs.Lines.{line_limit, IsDigestText, IsExpectText, IsDataText, IsDigestLine, Spells}
 use Rattle.line_proto.specs.Built.{IsBuilt, IsLine, IsInRange}
-use Rattle.line_proto.specs.Reading.{IsWord, IsFour, IsPut, IsDigestCommand, IsPutCommand}
+use Rattle.line_proto.specs.Reading.{IsWord, IsFour, IsPut, IsAlone, IsDigestCommand, IsPutCommand}
 
 word_of_digits : (bytes : List ℕ) → AllDigits 10 bytes → IsWord bytes
 word_of_digits [] digits = tt
@@ -199,6 +199,8 @@ digest_command line word text fits parted no_put (Meta digest) = built_line line
 digest_command line word text fits parted no_put (Del digest) = built_line line (Del digest) _ fits tt (digest_line line word text (codes "del") digest parted (word_by (codes "del") refl))
 digest_command line word text fits parted no_put (Bury digest) = built_line line (Bury digest) _ fits tt (digest_line line word text (codes "bury") digest parted (word_by (codes "bury") refl))
 digest_command line word text fits parted no_put Flush = (λ wrong. absurd wrong, λ other. absurd (not_alone line word text (codes "flush") parted.0 (word_by (codes "flush") refl) other.spelled.spells))
+digest_command line word text fits parted no_put Stat = (λ wrong. absurd wrong, λ other. absurd (not_alone line word text (codes "stat") parted.0 (word_by (codes "stat") refl) other.spelled.spells))
+digest_command line word text fits parted no_put Restart = (λ wrong. absurd wrong, λ other. absurd (not_alone line word text (codes "restart") parted.0 (word_by (codes "restart") refl) other.spelled.spells))
 digest_command line word text fits parted no_put Quit = (λ wrong. absurd wrong, λ other. absurd (not_alone line word text (codes "quit") parted.0 (word_by (codes "quit") refl) other.spelled.spells))
 digest_command line word text fits parted no_put c = (λ wrong. absurd wrong, λ other. absurd other.built)
 
@@ -248,6 +250,8 @@ put_command line word text fits parted is_put (Meta digest) = (λ both. absurd b
 put_command line word text fits parted is_put (Del digest) = (λ both. absurd both.0, λ other. absurd (no_put line word text (codes "del") digest parted is_put refl (word_by (codes "del") refl) other.spelled.spells))
 put_command line word text fits parted is_put (Bury digest) = (λ both. absurd both.0, λ other. absurd (no_put line word text (codes "bury") digest parted is_put refl (word_by (codes "bury") refl) other.spelled.spells))
 put_command line word text fits parted is_put Flush = (λ both. absurd both.0, λ other. absurd (not_alone line word text (codes "flush") parted.0 (word_by (codes "flush") refl) other.spelled.spells))
+put_command line word text fits parted is_put Stat = (λ both. absurd both.0, λ other. absurd (not_alone line word text (codes "stat") parted.0 (word_by (codes "stat") refl) other.spelled.spells))
+put_command line word text fits parted is_put Restart = (λ both. absurd both.0, λ other. absurd (not_alone line word text (codes "restart") parted.0 (word_by (codes "restart") refl) other.spelled.spells))
 put_command line word text fits parted is_put Quit = (λ both. absurd both.0, λ other. absurd (not_alone line word text (codes "quit") parted.0 (word_by (codes "quit") refl) other.spelled.spells))
 put_command line word text fits parted is_put c = (λ both. absurd both.0, λ other. absurd other.built)
 
@@ -266,16 +270,23 @@ line_of_put line word text all read fits parted is_put reads filters c =
       λ is. let parts = both.1 is in (filters c).1 ((reads c).1 parts.0, parts.1),
     )
 
--- a line without a space that is neither `flush` nor `quit` is no command that is built
-pub line_of_none : (line : List ℕ) → IsWord line → (line ≡ codes "flush" → ⊥) → (line ≡ codes "quit" → ⊥) → (c : Command) → (None ≡ Some c) ↔ IsLine line c
-line_of_none line is_word no_flush no_quit (Put digest ttl expect payload) = (λ r. cc, λ other. absurd (no_cut (codes "put") _ (subst IsWord other.spelled.spells.line_is is_word)))
-line_of_none line is_word no_flush no_quit (Get digest) = (λ r. cc, λ other. absurd (no_cut (codes "get") _ (subst IsWord other.spelled.spells.line_is is_word)))
-line_of_none line is_word no_flush no_quit (Meta digest) = (λ r. cc, λ other. absurd (no_cut (codes "meta") _ (subst IsWord other.spelled.spells.line_is is_word)))
-line_of_none line is_word no_flush no_quit (Del digest) = (λ r. cc, λ other. absurd (no_cut (codes "del") _ (subst IsWord other.spelled.spells.line_is is_word)))
-line_of_none line is_word no_flush no_quit (Bury digest) = (λ r. cc, λ other. absurd (no_cut (codes "bury") _ (subst IsWord other.spelled.spells.line_is is_word)))
-line_of_none line is_word no_flush no_quit Flush = (λ r. cc, λ other. absurd (no_flush other.spelled.spells))
-line_of_none line is_word no_flush no_quit Quit = (λ r. cc, λ other. absurd (no_quit other.spelled.spells))
-line_of_none line is_word no_flush no_quit c = (λ r. cc, λ other. absurd other.built)
+-- a line without a space is the command of its one word
+alone_command : (line : List ℕ) → length line ≤ line_limit → IsWord line → (c : Command) → IsAlone line c ↔ IsLine line c
+alone_command line fits is_word (Put digest ttl expect payload) = (λ wrong. absurd wrong, λ other. absurd (no_cut (codes "put") _ (subst IsWord other.spelled.spells.line_is is_word)))
+alone_command line fits is_word (Get digest) = (λ wrong. absurd wrong, λ other. absurd (no_cut (codes "get") _ (subst IsWord other.spelled.spells.line_is is_word)))
+alone_command line fits is_word (Meta digest) = (λ wrong. absurd wrong, λ other. absurd (no_cut (codes "meta") _ (subst IsWord other.spelled.spells.line_is is_word)))
+alone_command line fits is_word (Del digest) = (λ wrong. absurd wrong, λ other. absurd (no_cut (codes "del") _ (subst IsWord other.spelled.spells.line_is is_word)))
+alone_command line fits is_word (Bury digest) = (λ wrong. absurd wrong, λ other. absurd (no_cut (codes "bury") _ (subst IsWord other.spelled.spells.line_is is_word)))
+alone_command line fits is_word Flush = built_line line Flush _ fits tt (λ is. is, λ is. is)
+alone_command line fits is_word Stat = built_line line Stat _ fits tt (λ is. is, λ is. is)
+alone_command line fits is_word Restart = built_line line Restart _ fits tt (λ is. is, λ is. is)
+alone_command line fits is_word Quit = built_line line Quit _ fits tt (λ is. is, λ is. is)
+alone_command line fits is_word c = (λ wrong. absurd wrong, λ other. absurd other.built)
+
+pub line_of_alone : (line : List ℕ) (read : Option Command) → length line ≤ line_limit → IsWord line → ((c : Command) → (read ≡ Some c) ↔ IsAlone line c) → (c : Command) → (read ≡ Some c) ↔ IsLine line c
+line_of_alone line read fits is_word reads c =
+    let both = alone_command line fits is_word c in
+    (λ r. both.0 ((reads c).0 r), λ is. (reads c).1 (both.1 is))
 
 -- data is no longer than its text
 data_fits : (text bytes : List ℕ) → IsDataText text bytes → length bytes ≤ length text
@@ -302,6 +313,8 @@ in_range line (Meta digest) is = record { numbers = tt; built = tt }
 in_range line (Del digest) is = record { numbers = tt; built = tt }
 in_range line (Bury digest) is = record { numbers = tt; built = tt }
 in_range line Flush is = record { numbers = tt; built = tt }
+in_range line Stat is = record { numbers = tt; built = tt }
+in_range line Restart is = record { numbers = tt; built = tt }
 in_range line Quit is = record { numbers = tt; built = tt }
 in_range line c is = absurd is.built
 

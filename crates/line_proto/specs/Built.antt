@@ -5,7 +5,7 @@ use Rattle.line_proto.specs.declared.command.Command.{Command}
 use Rattle.line_proto.specs.declared.command.Command.TheVariants as command
 use Rattle.line_proto.specs.Lines.{IsCommandLine}
 
--- a put that never expires, the other commands of one digest, `flush` and `quit`
+-- a put that never expires, the other commands of one digest, `flush`, `stat`, `restart` and `quit`
 abbrev pub IsBuilt : Command → Type 0
 IsBuilt (command.Put digest ttl expect payload) = ttl ≡ 0
 IsBuilt (command.Get digest) = Unit {0}
@@ -16,8 +16,8 @@ IsBuilt command.Flush = Unit {0}
 IsBuilt command.Defrag = ⊥
 IsBuilt command.Expire = ⊥
 IsBuilt command.Raid = ⊥
-IsBuilt command.Stat = ⊥
-IsBuilt command.Restart = ⊥
+IsBuilt command.Stat = Unit {0}
+IsBuilt command.Restart = Unit {0}
 IsBuilt command.Quit = Unit {0}
 
 -- the line, without its LF, asks for this command, which is built

@@ -37,6 +37,14 @@ pub record IsPut (text : List ℕ) (digest : Digest) (ttl : ℕ) (expect : Optio
   pub is_data : IsDataText data_text payload
   pub spelled : text ≡ words_line (digest_text ∷ decimal ttl ∷ expect_text ∷ data_text ∷ [])
 
+-- the line is the one word of this command, which is built
+abbrev pub IsAlone : List ℕ → Command → Type 0
+IsAlone line command.Flush = line ≡ codes "flush"
+IsAlone line command.Stat = line ≡ codes "stat"
+IsAlone line command.Restart = line ≡ codes "restart"
+IsAlone line command.Quit = line ≡ codes "quit"
+IsAlone line _ = ⊥
+
 -- what stands behind `put ` is this command
 abbrev pub IsPutCommand : List ℕ → Command → Type 0
 IsPutCommand text (command.Put digest ttl expect payload) = IsPut text digest ttl expect payload

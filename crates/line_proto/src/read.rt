@@ -1,7 +1,7 @@
 // A line to a command.
 ghost use Rattle.std.specs.Prelude.{◌≡◌, ◌↔◌, List, ℕ, Option, Some, IfOk, IfSome, IsTrue, MatchOption};
 ghost use Rattle.line_proto.specs.Built.{IsBuilt, IsLine, IsInRange};
-ghost use Rattle.line_proto.specs.Reading.{IsFour, IsDigestCommand, IsPutCommand};
+ghost use Rattle.line_proto.specs.Reading.{IsFour, IsAlone, IsDigestCommand, IsPutCommand};
 ghost use Rattle.line_proto.specs.declared.command.Command.{Command};
 
 use crate::parts::{cut, data_of, digest_of, expect_of, number_of};
@@ -22,6 +22,25 @@ fn words_of(text: &[u8]) -> Option<(&[u8], &[u8], &[u8], &[u8])>
     let (ttl, text) = cut(text, b' ')?;
     let (expect, data) = cut(text, b' ')?;
     Some((digest, ttl, expect, data))
+}
+
+// The command that is this one word.
+fn alone_of(line: &[u8]) -> Option<Command>
+    ensures { (command : Command) → (result ≡ Some command) ↔ IsAlone line.now command }
+{
+    if line == b"quit".as_slice() {
+        return Some(Command::Quit);
+    }
+    if line == b"flush".as_slice() {
+        return Some(Command::Flush);
+    }
+    if line == b"stat".as_slice() {
+        return Some(Command::Stat);
+    }
+    if line == b"restart".as_slice() {
+        return Some(Command::Restart);
+    }
+    None
 }
 
 // The command of one digest that this word asks for.
@@ -77,7 +96,7 @@ fn is_built(command: &Command) -> bool
     match command {
         Command::Put { ttl, .. } => *ttl == 0,
         Command::Get(_) | Command::Meta(_) | Command::Del(_) | Command::Bury(_) => true,
-        Command::Flush | Command::Quit => true,
+        Command::Flush | Command::Stat | Command::Restart | Command::Quit => true,
         _ => false,
     }
 }
@@ -103,14 +122,8 @@ pub fn read_command(alloc: Global, line: &[u8]) -> Result<Option<Command>, NoMem
     if line.len() > LINE_LIMIT {
         return Ok(None);
     }
-    if line == b"quit".as_slice() {
-        return Ok(Some(Command::Quit));
-    }
-    if line == b"flush".as_slice() {
-        return Ok(Some(Command::Flush));
-    }
     let Some((word, text)) = cut(line, b' ') else {
-        return Ok(None);
+        return Ok(alone_of(line));
     };
     if word == b"put".as_slice() {
         return Ok(only_built(put_of(alloc, text)?));

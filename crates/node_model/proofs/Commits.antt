@@ -156,10 +156,10 @@ does_commit told node command.Flush now work r built does legal device = unwritt
 does_commit told node command.Defrag now work r built does legal device = absurd built
 does_commit told node command.Expire now work r built does legal device = absurd built
 does_commit told node command.Raid now work r built does legal device = absurd built
-does_commit told node command.Stat now work r built does legal device = absurd built
-does_commit told node command.Restart now work r built does legal device = absurd built
+does_commit told node command.Stat now work r built does legal device = no_work (is_failed r) node work does.0 (node_after work node) device
+does_commit told node command.Restart now work r built does legal device = absurd does
 
-answer_commits : (left : ImagesLeft) (told : Bool) (node : Node) (line : Option (List ℕ)) (served : Served) → AnswersLine left node line served → IsLegalOn told node served.work → CommitsAt node served
+answer_commits : (left : ImagesLeft) (told : Bool) (node : Node) (line : Option (List ℕ)) (served : Served) → AnswersLine left told node line served → IsLegalOn told node served.work → CommitsAt node served
 answer_commits left told node None served (inl refuses) legal device = no_work _ node served.work refuses.2 (node_at_reply served node) device
 answer_commits left told node None served (inr lacks) legal device = no_work _ node served.work lacks.1 (node_at_reply served node) device
 answer_commits left told node (Some line) served (inr (inl refuses)) legal device = no_work _ node served.work refuses.1.2 (node_at_reply served node) device

@@ -40,10 +40,10 @@ events_keep told node [] legal = none_fell_refl (counts_of node)
 events_keep told node (e ∷ events) legal =
     none_fell_then _ _ _ (place_keeps told e.device e.event node legal.0) (events_keep told (at_place e.device (slot_after e.event) node) events legal.1)
 
-pub restart_keeps : (left : ImagesLeft) (device : ℕ) (old new : Node) → RestartsEach left device old new → NoneFell (counts_of old) (counts_of new)
-restart_keeps left device [] new restarts = subst (λ (n : Node). NoneFell [] (counts_of n)) (sym restarts) refl
-restart_keeps left device (slot ∷ slots) [] restarts = absurd restarts
-restart_keeps left device (slot ∷ slots) (fresh ∷ new) restarts = (restarts.1, restart_keeps left (device + 1) slots new restarts.3)
+pub restart_keeps : (left : ImagesLeft) (told : Bool) (device : ℕ) (old new : Node) → RestartsEach left told device old new → NoneFell (counts_of old) (counts_of new)
+restart_keeps left told device [] new restarts = subst (λ (n : Node). NoneFell [] (counts_of n)) (sym restarts) refl
+restart_keeps left told device (slot ∷ slots) [] restarts = absurd restarts
+restart_keeps left told device (slot ∷ slots) (fresh ∷ new) restarts = (restarts.0, restart_keeps left told (device + 1) slots new restarts.2)
 
 pub same_keeps : (old new : Node) → SameStates old new → NoneFell (counts_of old) (counts_of new)
 same_keeps [] new same = subst (λ (n : Node). NoneFell [] (counts_of n)) (sym same) refl
@@ -51,22 +51,22 @@ same_keeps (slot ∷ slots) [] same = absurd same
 same_keeps (slot ∷ slots) (after ∷ new) same = (same.2, same_keeps slots new same.3)
 
 -- what a line makes of the node, by a restart or without one
-line_restarts : (left : ImagesLeft) (node : Node) (line : Option (List ℕ)) (served : Served) → AnswersLine left node line served
+line_restarts : (left : ImagesLeft) (told : Bool) (node : Node) (line : Option (List ℕ)) (served : Served) → AnswersLine left told node line served
     → (served.restarted ≡ None) ⊎ ((new : Node) × (served.restarted ≡ Some new) × NoneFell (counts_of node) (counts_of new))
-line_restarts left node None served (inl refuses) = inl refuses.1
-line_restarts left node None served (inr lacks) = inl lacks.0
-line_restarts left node (Some line) served (inr (inl refuses)) = inl refuses.1.1
-line_restarts left node (Some line) served (inr (inr lacks)) = inl lacks.0
-line_restarts left node (Some line) served (inl does) = elim does.4 [
+line_restarts left told node None served (inl refuses) = inl refuses.1
+line_restarts left told node None served (inr lacks) = inl lacks.0
+line_restarts left told node (Some line) served (inr (inl refuses)) = inl refuses.1.1
+line_restarts left told node (Some line) served (inr (inr lacks)) = inl lacks.0
+line_restarts left told node (Some line) served (inl does) = elim does.4 [
   | inl made ↦ inl made.0
   | inr ends ↦ elim ends.1.3 [
-    | inl again ↦ inr (ends.1.1, ends.1.2, restart_keeps left 0 node ends.1.1 again.0)
+    | inl again ↦ inr (ends.1.1, ends.1.2, restart_keeps left told 0 node ends.1.1 again.0)
     | inr halted ↦ inr (ends.1.1, ends.1.2, same_keeps node ends.1.1 halted.0)
   ]
 ]
 
 reply_keeps : (left : ImagesLeft) (told : Bool) (node : Node) (served : Served) → Serves left told node served → NoneFell (counts_of node) (counts_of (node_at_reply served node))
-reply_keeps left told node served serves = elim (line_restarts left node served.line served serves.answers) [
+reply_keeps left told node served serves = elim (line_restarts left told node served.line served serves.answers) [
   | inl none ↦ subst (λ (r : Option Node). NoneFell (counts_of node) (counts_of (node_or (node_after served.work node) r))) (sym none) (events_keep told node served.work serves.work)
   | inr some ↦ subst (λ (r : Option Node). NoneFell (counts_of node) (counts_of (node_or (node_after served.work node) r))) (sym some.1) some.2
 ]

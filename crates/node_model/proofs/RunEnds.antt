@@ -1,7 +1,9 @@
--- What a run doesn't end with. At this stage no line halts, so a run that was served ends with no refused device; and one that took
--- nothing ends with none that failed, where nothing is pending when it starts.
+-- What a run doesn't end with. No line but a restart halts, so a run that was served without one ends with no refused device; and one
+-- that took nothing ends with none that failed, where nothing is pending when it starts.
 use Rattle.std.proofs.Common.{◌≡◌, ℕ, zero, suc, Bool, true, false, ◌||◌, List, [], ◌∷◌, ◌++◌, length, map, refl, inl, inr, subst, sym, ap, ◌∙◌}
-use Rattle.std.specs.Prelude.{Option, Some, None, MatchOption, MatchBool, IsTrue, is_some, flat_map, slice_get}
+use Rattle.std.specs.List.{AllByRecursion}
+use Rattle.node_model.specs.declared.run_end.DeviceRefusal.{DeviceRefusal}
+use Rattle.std.specs.Prelude.{Option, Some, None, IfSome, MatchOption, MatchBool, IsTrue, is_some, flat_map, slice_get}
 use Rattle.rec_format.specs.declared.version.Digest.{Digest}
 use Rattle.rec_format.specs.declared.version.Stamp.{Stamp}
 use Rattle.rec_format.specs.declared.version.Version.{Version}
@@ -15,7 +17,7 @@ use Rattle.device_model.specs.Legal.{FlushEnds, StopsIn, seal_if, seal_all, flus
 use Rattle.line_proto.specs.declared.command.Command.{Command}
 use Rattle.line_proto.specs.declared.command.Command.TheVariants as command
 use Rattle.line_proto.specs.declared.reply.Reply.{Reply}
-use Rattle.line_proto.specs.Built.{IsBuilt}
+use Rattle.line_proto.specs.Built.{IsBuilt, IsLine}
 use Rattle.line_proto.specs.Stream.{ended}
 use Rattle.node_model.specs.declared.run_end.RunEnd.{RunEnd}
 use Rattle.node_model.specs.declared.run_end.RunEnd.TheVariants as end
@@ -25,7 +27,7 @@ use Rattle.node_model.specs.Outside.{Outside, TakesLines, rest_line}
 use Rattle.node_model.specs.RunEnd.{HasCause, IsQuiet, AllQuiet}
 use Rattle.node_model.specs.Headline.{HoldsReplies}
 
--- ---- no line halts
+-- ---- no line but a restart halts
 
 answer_goes : (a b : Answer) → a ≡ b → halts (answer_reply b) ≡ false → halts (answer_reply a) ≡ false
 answer_goes a b is goes = ap (λ (x : Answer). halts (answer_reply x)) is ∙ goes
@@ -120,29 +122,34 @@ does_goes told node (command.Bury digest) now work r built does legal =
 does_goes told node command.Defrag now work r built does legal = absurd built
 does_goes told node command.Expire now work r built does legal = absurd built
 does_goes told node command.Raid now work r built does legal = absurd built
-does_goes told node command.Stat now work r built does legal = absurd built
-does_goes told node command.Restart now work r built does legal = absurd built
+does_goes told node command.Stat now work r built does legal = ap halts does.1
+does_goes told node command.Restart now work r built does legal = absurd does
 
-line_goes : (left : ImagesLeft) (told : Bool) (node : Node) (line : Option (List ℕ)) (served : Served) → AnswersLine left node line served → IsLegalOn told node served.work → halts served.reply ≡ false
-line_goes left told node None served (inl refuses) legal = ap halts refuses.3
-line_goes left told node None served (inr lacks) legal = ap halts lacks.2
-line_goes left told node (Some line) served (inr (inl refuses)) legal = ap halts refuses.1.3
-line_goes left told node (Some line) served (inr (inr lacks)) legal = ap halts lacks.2
-line_goes left told node (Some line) served (inl does) legal = elim does.4 [
+-- the line doesn't ask for a restart
+abbrev pub IsNoRestart : Option (List ℕ) → Type 0
+IsNoRestart line = IfSome line (λ bytes. IsLine bytes command.Restart → ⊥)
+
+line_goes : (left : ImagesLeft) (told : Bool) (node : Node) (line : Option (List ℕ)) (served : Served) → IsNoRestart line → AnswersLine left told node line served → IsLegalOn told node served.work
+    → halts served.reply ≡ false
+line_goes left told node None served other (inl refuses) legal = ap halts refuses.3
+line_goes left told node None served other (inr lacks) legal = ap halts lacks.2
+line_goes left told node (Some line) served other (inr (inl refuses)) legal = ap halts refuses.1.3
+line_goes left told node (Some line) served other (inr (inr lacks)) legal = ap halts lacks.2
+line_goes left told node (Some line) served other (inl does) legal = elim does.4 [
   | inl made ↦ does_goes told node does.0 _ served.work served.reply does.2.built made.1 legal
-  | inr ends ↦ absurd (subst IsBuilt ends.0 does.2.built)
+  | inr ends ↦ absurd (other (subst (IsLine line) ends.0 does.2))
 ]
 
 neither : (a b : Bool) → a ≡ false → b ≡ false → (a || b) ≡ false
 neither true b first second = cc
 neither false b first second = second
 
--- of a run of the commands that are built
-pub none_halts : (left : ImagesLeft) (told : Bool) (node : Node) (lines : List Served) → ServesAll left told node lines → is_halted lines ≡ false
-none_halts left told node [] serves = refl
-none_halts left told node (served ∷ lines) serves =
-    neither (halts served.reply) (is_halted lines) (line_goes left told node served.line served serves.0.answers serves.0.work)
-    (none_halts left told (node_after_line served node) lines serves.1)
+-- of a run without a restart
+pub none_halts : (left : ImagesLeft) (told : Bool) (node : Node) (lines : List Served) → AllByRecursion (λ s. IsNoRestart s.line) lines → ServesAll left told node lines → is_halted lines ≡ false
+none_halts left told node [] others serves = refl
+none_halts left told node (served ∷ lines) others serves =
+    neither (halts served.reply) (is_halted lines) (line_goes left told node served.line served others.0 serves.0.answers serves.0.work)
+    (none_halts left told (node_after_line served node) lines others.1 serves.1)
 
 -- ---- nothing was taken
 
@@ -206,17 +213,20 @@ module _ (Starts : Node → Type 0) (told : Bool) (setups : List Setup) (o : Out
   cause_at : (e : RunEnd) → o.end ≡ e → HasCause e o h.first h.lines h.unserved h.closing
   cause_at e is = subst (λ (x : RunEnd). HasCause x o h.first h.lines h.unserved h.closing) is h.cause
 
-  not_halted : IsTrue (is_halted h.lines) → ⊥
-  not_halted halted = let e : true ≡ false = sym halted ∙ none_halts since told h.first h.lines h.is_run.serves in cc
+  not_halted : AllByRecursion (λ s. IsNoRestart s.line) h.lines → IsTrue (is_halted h.lines) → ⊥
+  not_halted others halted = let e : true ≡ false = sym halted ∙ none_halts since told h.first h.lines others h.is_run.serves in cc
 
-  -- at this stage only a start refuses a device
-  pub never_refused : (device : ℕ) → o.end ≡ end.DeviceRefused device → ⊥
-  never_refused device is = not_halted (cause_at (end.DeviceRefused device) is).0.halted
+  -- behind the start a device is refused by a restart alone
+  pub never_refused : AllByRecursion (λ s. IsNoRestart s.line) h.lines → (device : ℕ) (why : DeviceRefusal) → o.end ≡ end.DeviceRefused device why → ⊥
+  never_refused others device why is = not_halted others (cause_at (end.DeviceRefused device why) is).0.halted
+
+  none_taken : o.taken ≡ [] → h.lines ≡ []
+  none_taken empty = none_served o.ended h.lines h.unserved (subst (λ (taken : List ℕ). TakesLines taken o.ended h.lines h.unserved) empty h.takes)
 
   -- and one that failed has a buffer pending
   quiet_last : (slot : Slot) → h.first ≡ slot ∷ [] → slot.state.book.buffers ≡ [] → o.taken ≡ [] → AllQuiet (last_node h.first h.lines h.closing)
   quiet_last slot first_is quiet empty =
-      let none : h.lines ≡ [] = none_served o.ended h.lines h.unserved (subst (λ (taken : List ℕ). TakesLines taken o.ended h.lines h.unserved) empty h.takes) in
+      let none : h.lines ≡ [] = none_taken empty in
       let run : IsRun since told (slot ∷ []) [] h.closing =
       subst (λ (lines : List Served). IsRun since told (slot ∷ []) lines h.closing) none (subst (λ (node : Node). IsRun since told node h.lines h.closing) first_is h.is_run) in
       subst (λ (node : Node). AllQuiet (last_node node h.lines h.closing)) (sym first_is)
@@ -225,5 +235,5 @@ module _ (Starts : Node → Type 0) (told : Bool) (setups : List Setup) (o : Out
   pub never_failed : (slot : Slot) → h.first ≡ slot ∷ [] → slot.state.book.buffers ≡ [] → o.taken ≡ [] → (device : ℕ) → o.end ≡ end.DeviceFault device → ⊥
   never_failed slot first_is quiet empty device is = elim (cause_at (end.DeviceFault device) is) [
     | inl closes ↦ closes.1.left (quiet_at (last_node h.first h.lines h.closing) device (quiet_last slot first_is quiet empty))
-    | inr halts ↦ not_halted halts.0.halted
+    | inr halts ↦ not_halted (subst (AllByRecursion (λ s. IsNoRestart s.line)) (sym (none_taken empty)) tt) halts.0.halted
   ]

@@ -91,12 +91,18 @@ pub record HoldsReplies (Starts : Node → Type 0) (told : Bool) (setups : List 
   pub front : IsFrontOf o.written (written_text lines)
   pub cause : HasCause o.end o first lines unserved closing
 
+-- no device is refused for what it reads
+abbrev pub IsNeverRefused : RunEnd → Type 0
+IsNeverRefused (end.DeviceRefused device why) = ⊥
+IsNeverRefused _ = Unit {0}
+
 -- All of the promises, of one chain over disks that tell what they hold, from a start of these images with these settings.
 pub record HoldsThroughout (setups : List Setup) (o : Outside) (since now : ImagesLeft) : Type 0 where
   pub replies : HoldsReplies (StartsFrom o.images) true setups o since
   pub left_now : LeavesLast now (last_node replies.first replies.lines replies.closing)
   pub left_since : LeavesSome since replies.first replies.lines replies.closing
   pub committed : CommitsAll replies.first replies.lines
+  pub unrefused : IsNeverRefused o.end
 
 -- ---- many callers
 

@@ -1,5 +1,5 @@
 -- Crate node_model. What a store's calls mean on the states of a node that it stands for: by this a session over a store is a run.
-use Rattle.std.specs.Prelude.{◌≡◌, ◌⊎◌, ℕ, Bool, List, [], Option}
+use Rattle.std.specs.Prelude.{◌≡◌, ◌≢◌, ◌⊎◌, ℕ, Bool, List, [], Option}
 use Rattle.disk_model.specs.Disk.{Images, DiskView, Advances, meanwhile}
 use Rattle.disk_model.specs.Runs.{OneOf, Leaves}
 use Rattle.device_model.specs.Device.{State}
@@ -23,13 +23,14 @@ SurvivesOne device node states = λ image. On node device (λ slot. OneOf (Survi
 abbrev pub LeavesEach : {T : Type 0} → (views : T → ℕ → DiskView) → Node → (ℕ → List State) → (old new : T) → Type 0
 LeavesEach views node states old new = (device : ℕ) → Leaves (SurvivesOne device node (states device)) (views old device) (views new device)
 
--- A command is carried out from a state for which the store stood: there are its events, or a restart, and the store stands for the state after.
+-- A command is carried out from a state for which the store stood: there are its events, or a restart, and the store stands for the state
+-- after; where it halted Halts holds instead.
 pub record ActsFrom {T : Type 0} (Stands : T → Node → Type 0) (views : T → ℕ → DiskView) (Halts : T → (before after : Node) → Type 0) (told : Bool) (old : T) (node : Node) (c : Command) (now : ℕ) (r : Reply) (new : T) : Type 0 where
   pub work : List NodeEvent
   pub restarted : Option Node
-  pub carried : Carries (left_between views old new) node c now work restarted r ⊎ WantsMemory work restarted r
+  pub carried : Carries (left_between views old new) told node c now work restarted r ⊎ WantsMemory work restarted r
   pub legal : IsLegalOn told node work
-  pub stands : Stands new (node_or (node_after work node) restarted)
+  pub stands : r ≢ reply.Halted → Stands new (node_or (node_after work node) restarted)
   pub leaves : LeavesEach views node (λ device. states_while device work node) old new
   pub halt : r ≡ reply.Halted → Halts new node (node_or (node_after work node) restarted)
 

@@ -23,10 +23,6 @@ refusal_note device (other_shape kept asked asked_devices size) =
 refusal_note device (damaged_block block place) =
     words_line (codes "device" ∷ decimal device ∷ codes "block" ∷ decimal block ∷ codes "damaged" ∷ codes "at" ∷ decimal place ∷ [])
 
--- until a note says why a device was refused
-abbrev pub refused_note : (device : ℕ) → List ℕ
-refused_note device = words_line (codes "device" ∷ decimal device ∷ codes "refused" ∷ [])
-
 -- The device was refused for what its disk reads, and the note says why.
 pub record IsRefusalNote (device devices : ℕ) (reads note : List ℕ) : Type 0 where
   pub why : Refusal

@@ -5,11 +5,13 @@ use Rattle.std.specs.List.{AllByRecursion}
 use Rattle.rec_format.specs.declared.version.Digest.{Digest}
 use Rattle.rec_format.specs.Versions.{bounded_time}
 use Rattle.device_model.specs.Histories.{Item, write, dropped, rid, cleared, is_flushed}
-use Rattle.device_model.specs.Book.{pending_of}
+use Rattle.device_model.specs.Book.{Setup, pending_of}
 use Rattle.device_model.specs.Device.{State, history, put_count, tombstone_count}
 use Rattle.device_model.specs.Steps.{Step, wrote, states_through}
 use Rattle.device_model.specs.Events.{Event, flush_call}
+use Rattle.block_format.specs.Layout.{Body}
 use Rattle.recovery.specs.Start.{Restarts}
+use Rattle.cold_scan.specs.Found.{found_state}
 use Rattle.line_proto.specs.declared.command.Command.{Command}
 use Rattle.line_proto.specs.declared.command.Command.TheVariants as command
 use Rattle.line_proto.specs.declared.reply.Reply.{Reply}
@@ -49,14 +51,24 @@ node_after_lines (served ∷ lines) node = node_after_lines lines (node_after_li
 
 -- ---- restart
 
--- each device starts again from an image that its disk might have left
-abbrev pub RestartsEach : ImagesLeft → (device : ℕ) → (old new : Node) → Type 0
-RestartsEach left device [] new = new ≡ []
-RestartsEach left device (slot ∷ slots) [] = ⊥
-RestartsEach left device (slot ∷ slots) (fresh ∷ new) =
-    (fresh.setup ≡ slot.setup) × (slot.faults ≤ fresh.faults)
-    × ((image : List ℕ) × left device image × Restarts slot.setup slot.state image fresh.state)
-    × RestartsEach left (device + 1) slots new
+-- It is the same device with the same settings; over a disk that may tell anything its header may tell another shape.
+pub record IsSameDevice (old new : Setup) : Type 0 where
+  pub device_is : new.device ≡ old.device
+  pub devices_is : new.devices ≡ old.devices
+  pub settings : new ≡ record old { capacity = new.capacity; blocks = new.blocks }
+
+-- A device starts again: where the disks tell what they hold, from an image that its disk might have left, by which of each history what
+-- the image shows is kept. Over any disk it stands for what was found of the bodies that were read.
+abbrev pub StartsAgain : ImagesLeft → (told : Bool) → (device : ℕ) → (slot fresh : Slot) → Type 0
+StartsAgain left told device slot fresh = MatchBool told
+    ((fresh.setup ≡ slot.setup) × (image : List ℕ) × left device image × Restarts slot.setup slot.state image fresh.state)
+    (IsSameDevice slot.setup fresh.setup × (bodies : List Body) × (fresh.state ≡ found_state fresh.setup bodies))
+
+abbrev pub RestartsEach : ImagesLeft → (told : Bool) → (device : ℕ) → (old new : Node) → Type 0
+RestartsEach left told device [] new = new ≡ []
+RestartsEach left told device (slot ∷ slots) [] = ⊥
+RestartsEach left told device (slot ∷ slots) (fresh ∷ new) =
+    (slot.faults ≤ fresh.faults) × StartsAgain left told device slot fresh × RestartsEach left told (device + 1) slots new
 
 -- ---- one line
 
@@ -67,22 +79,22 @@ SameStates (slot ∷ slots) [] = ⊥
 SameStates (slot ∷ slots) (after ∷ new) =
     (after.setup ≡ slot.setup) × (after.state ≡ slot.state) × (slot.faults ≤ after.faults) × SameStates slots new
 
-abbrev pub RestartEnds : ImagesLeft → Node → List NodeEvent → Option Node → Reply → Type 0
-RestartEnds left node work restarted r =
+abbrev pub RestartEnds : ImagesLeft → (told : Bool) → Node → List NodeEvent → Option Node → Reply → Type 0
+RestartEnds left told node work restarted r =
     (work ≡ []) × (new : Node) × (restarted ≡ Some new)
-    × ((RestartsEach left 0 node new × (r ≡ reply.Done2 (total put_count new) (total tombstone_count new)))
+    × ((RestartsEach left told 0 node new × (r ≡ reply.Done2 (total put_count new) (total tombstone_count new)))
     ⊎ (SameStates node new × (r ≡ reply.Halted)))
 
 -- a command that is carried out at this time: by its events, or by a restart
-abbrev pub Carries : ImagesLeft → Node → Command → (now : ℕ) → List NodeEvent → Option Node → Reply → Type 0
-Carries left node c now work restarted r =
-    ((restarted ≡ None) × Does node c now work r) ⊎ ((c ≡ command.Restart) × RestartEnds left node work restarted r)
+abbrev pub Carries : ImagesLeft → (told : Bool) → Node → Command → (now : ℕ) → List NodeEvent → Option Node → Reply → Type 0
+Carries left told node c now work restarted r =
+    ((restarted ≡ None) × Does node c now work r) ⊎ ((c ≡ command.Restart) × RestartEnds left told node work restarted r)
 
 -- a line in the grammar, at the clock's time
-abbrev pub DoesLine : ImagesLeft → Node → List ℕ → Served → Type 0
-DoesLine left node line served =
+abbrev pub DoesLine : ImagesLeft → (told : Bool) → Node → List ℕ → Served → Type 0
+DoesLine left told node line served =
     (c : Command) × (now : ℕ) × IsLine line c × (served.time ≡ Some now)
-    × Carries left node c (bounded_time now) served.work served.restarted served.reply
+    × Carries left told node c (bounded_time now) served.work served.restarted served.reply
 
 -- a line outside the grammar, which isn't carried out and takes no time
 abbrev pub RefusesLine : Served → Type 0
@@ -96,10 +108,10 @@ WantsMemory work restarted r = (restarted ≡ None) × (work ≡ []) × (r ≡ r
 abbrev pub LacksMemory : Served → Type 0
 LacksMemory served = WantsMemory served.work served.restarted served.reply
 
-abbrev pub AnswersLine : ImagesLeft → Node → Option (List ℕ) → Served → Type 0
-AnswersLine left node None served = RefusesLine served ⊎ LacksMemory served
-AnswersLine left node (Some line) served =
-    DoesLine left node line served ⊎ (IsNoCommand line × RefusesLine served) ⊎ LacksMemory served
+abbrev pub AnswersLine : ImagesLeft → (told : Bool) → Node → Option (List ℕ) → Served → Type 0
+AnswersLine left told node None served = RefusesLine served ⊎ LacksMemory served
+AnswersLine left told node (Some line) served =
+    DoesLine left told node line served ⊎ (IsNoCommand line × RefusesLine served) ⊎ LacksMemory served
 
 -- the run goes on after this reply: it is neither `bye` nor that of a refused restart
 abbrev pub goes_on : Reply → Bool
@@ -109,7 +121,7 @@ goes_on _ = true
 
 -- a line, its legal events, and the tending after it, where the run goes on
 pub record Serves (left : ImagesLeft) (told : Bool) (node : Node) (served : Served) : Type 0 where
-  pub answers : AnswersLine left node served.line served
+  pub answers : AnswersLine left told node served.line served
   pub work : IsLegalOn told node served.work
   pub tends : MatchBool (goes_on served.reply) (TendsEach 0 (node_at_reply served node) served.tended) (served.tended ≡ [])
   pub tending : IsLegalOn told (node_at_reply served node) served.tended

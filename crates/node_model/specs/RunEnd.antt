@@ -2,12 +2,14 @@
 use Rattle.std.specs.Prelude.{◌≡◌, ◌⊎◌, ℕ, ◌<◌, ◌^◌, false, List, [], length, codes, Option, Some, None, MatchOption, IsTrue, slice_get}
 use Rattle.std.specs.List.{AllByRecursion}
 use Rattle.fault_count.specs.Counts.{Rose}
-use Rattle.block_format.specs.Refusals.{Refusal, IsRefusedFor}
+use Rattle.block_format.specs.Refusals.{Refusal, not_formatted, other_shape, damaged_block, IsRefusedFor}
+use Rattle.node_model.specs.declared.run_end.DeviceRefusal.{DeviceRefusal}
+use Rattle.node_model.specs.declared.run_end.DeviceRefusal.TheVariants as refusal
 use Rattle.node_model.specs.declared.run_end.RunEnd.{RunEnd}
 use Rattle.node_model.specs.declared.run_end.RunEnd.TheVariants as end
 use Rattle.node_model.specs.Commands.{Slot, Node, NodeEvent}
 use Rattle.node_model.specs.Run.{Served, is_halted, last_node}
-use Rattle.node_model.specs.Notes.{fault_note, refused_note}
+use Rattle.node_model.specs.Notes.{fault_note, refusal_note}
 use Rattle.node_model.specs.Outside.{Outside, written_text, has_quit, RoseOn, RoseInLast, RoseInClosing}
 
 abbrev pub status_of : RunEnd → ℕ
@@ -17,8 +19,14 @@ status_of (end.DeviceFault device) = 3
 status_of end.SourceFault = 4
 status_of end.SinkFault = 5
 status_of end.NoMemory = 6
-status_of (end.DeviceRefused device) = 7
+status_of (end.DeviceRefused device why) = 7
 status_of end.InputTooLong = 10
+
+-- what it says of the disk
+abbrev pub refusal_of : DeviceRefusal → Refusal
+refusal_of (refusal.NotFormatted first) = not_formatted first
+refusal_of (refusal.OtherGeometry kept device devices size) = other_shape kept device devices size
+refusal_of (refusal.DamagedBlock block place) = damaged_block block place
 
 abbrev pub note_of : RunEnd → List ℕ
 note_of end.Served = []
@@ -27,7 +35,7 @@ note_of (end.DeviceFault device) = fault_note device
 note_of end.SourceFault = codes "source fault"
 note_of end.SinkFault = codes "sink fault"
 note_of end.NoMemory = codes "no memory"
-note_of (end.DeviceRefused device) = refused_note device
+note_of (end.DeviceRefused device why) = refusal_note device (refusal_of why)
 note_of end.InputTooLong = codes "input too long"
 
 -- ---- words of the causes
@@ -79,17 +87,18 @@ HasCause (end.DeviceFault device) o first lines unserved closing =
 HasCause end.SourceFault o first lines unserved closing = IsCutShort o lines unserved × Rose o.before.source o.after.source × (length o.taken < input_limit)
 HasCause end.SinkFault o first lines unserved closing = Rose o.before.sink o.after.sink
 HasCause end.NoMemory o first lines unserved closing = Unit {0}
-HasCause (end.DeviceRefused device) o first lines unserved closing = EndsAtRestart o lines × (device < length first)
+HasCause (end.DeviceRefused device why) o first lines unserved closing = EndsAtRestart o lines × (device < length first)
 HasCause end.InputTooLong o first lines unserved closing = IsCutShort o lines unserved × (length o.taken ≡ input_limit)
 
--- the device is refused for what it reads, as one of so many
-abbrev pub IsRefusedOn : (device : ℕ) → (reads : List (List ℕ)) → Type 0
-IsRefusedOn device reads = MatchOption (slice_get reads device) ⊥ (λ bytes. (why : Refusal) × IsRefusedFor device (length reads) bytes why)
+-- the device is refused for this, by what it reads, as one of so many
+abbrev pub IsRefusedOn : (device : ℕ) → (reads : List (List ℕ)) → Refusal → Type 0
+IsRefusedOn device reads why = MatchOption (slice_get reads device) ⊥ (λ bytes. IsRefusedFor device (length reads) bytes why)
 
 -- Why a run ended so at its start, before it took anything: by the counts of its disks before and after it, and by what each of them
 -- reads, where they tell that.
 abbrev pub HasStartCause : RunEnd → (tells : Type 0) → (reads : List (List ℕ)) → (before after : List ℕ) → Type 0
 HasStartCause (end.DeviceFault device) tells reads before after = RoseOn device before after
 HasStartCause end.NoMemory tells reads before after = Unit {0}
-HasStartCause (end.DeviceRefused device) tells reads before after = (device < length reads) × (tells → IsRefusedOn device reads)
+HasStartCause (end.DeviceRefused device why) tells reads before after =
+    (device < length reads) × (tells → IsRefusedOn device reads (refusal_of why))
 HasStartCause _ tells reads before after = ⊥

@@ -6,4 +6,7 @@ mod note;
 mod run_end;
 
 pub use note::Note;
-pub use run_end::RunEnd;
+pub use run_end::{DeviceRefusal, RunEnd};
+
+#[cfg(test)]
+mod tests;

@@ -1,11 +1,55 @@
 // How a run ends.
 ghost use Rattle.std.specs.Prelude.{◌≡◌};
-ghost use Rattle.node_model.specs.RunEnd.{status_of, note_of};
+ghost use Rattle.node_model.specs.Notes.{refusal_note};
+ghost use Rattle.node_model.specs.RunEnd.{status_of, note_of, refusal_of};
 
 use crate::note::Note;
+use block_format::Geometry;
+
+/// Why a device isn't taken into use, for what its disk reads.
+#[derive(Clone, Copy, PartialEq, Eq)]
+pub enum DeviceRefusal {
+    /// Its first 4,096 bytes aren't a header, or aren't there. The first 64 are told, with zeros past the disk's end.
+    NotFormatted {
+        first: [u8; 64],
+    },
+    /// Its header is of another device than the one that was asked for, or the disk is shorter than the header says: what
+    /// the header says, what was asked for, and how many bytes the disk has.
+    OtherGeometry {
+        kept: Geometry,
+        device: u16,
+        devices: u16,
+        len: u64,
+    },
+    /// This block is open, and its body has its first fault at this place.
+    DamagedBlock {
+        block: u32,
+        place: u32,
+    },
+}
+
+impl DeviceRefusal {
+    // The note on a device that isn't taken into use for this.
+    fn note(&self, device: u16) -> Note
+        ensures { result ≡ refusal_note device (refusal_of self.now) }
+    {
+        match self {
+            DeviceRefusal::NotFormatted { first } => Note::not_formatted(device, first),
+            DeviceRefusal::OtherGeometry {
+                kept,
+                device: asked,
+                devices,
+                len,
+            } => Note::other_geometry(device, *kept, *asked, *devices, *len),
+            DeviceRefusal::DamagedBlock { block, place } => Note::damaged_block(
+                device, *block, *place,
+            ),
+        }
+    }
+}
 
 /// How a run ended. What has to hold where it ended so, its cause, stands with its status and its note in `specs/RunEnd.antt`.
-#[derive(Clone, Copy, Debug, PartialEq, Eq)]
+#[derive(Clone, Copy, PartialEq, Eq)]
 pub enum RunEnd {
     /// The input was served to its end or to `quit`, and nothing is pending.
     Served,
@@ -20,7 +64,7 @@ pub enum RunEnd {
     /// There was no memory, outside of a line's work.
     NoMemory,
     /// This device wasn't taken into use, for what its disk reads.
-    DeviceRefused { device: u16 },
+    DeviceRefused { device: u16, why: DeviceRefusal },
     /// As many bytes as a run may take were taken, without the end or `quit` among them.
     InputTooLong,
 }
@@ -53,7 +97,7 @@ impl RunEnd {
             RunEnd::SourceFault => Note::of("source fault"),
             RunEnd::SinkFault => Note::of("sink fault"),
             RunEnd::NoMemory => Note::of("no memory"),
-            RunEnd::DeviceRefused { device } => Note::on_device(*device, "refused"),
+            RunEnd::DeviceRefused { device, why } => why.note(*device),
             RunEnd::InputTooLong => Note::of("input too long"),
         }
     }

@@ -1,3 +1,4 @@
 mod Ending
 mod Serving
 mod TwoWords
+mod Resting

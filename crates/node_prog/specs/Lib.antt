@@ -1,3 +1,4 @@
 pub mod Asking
 pub mod Concluding
 pub mod Promises
+pub mod Behind

@@ -11,7 +11,8 @@ use Rattle.node_model.specs.Commands.{Node}
 use Rattle.shard_core.specs.declared.settings.Settings.{Settings}
 use Rattle.shard_core.specs.View.{setup_for}
 use Rattle.block_shelf.specs.Disks.{IsLater, OnlyRead}
-use Rattle.shard_core.specs.Starting.{Passes, found_state}
+use Rattle.cold_scan.specs.Starting.{Passes}
+use Rattle.cold_scan.specs.Found.{found_state}
 use Rattle.core_run.specs.OneDevice.{the_only}
 use Rattle.node_model.specs.declared.run_end.RunEnd.{RunEnd}
 use Rattle.node_model.specs.Outside.{Outside}

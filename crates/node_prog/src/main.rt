@@ -3,6 +3,8 @@
 
 mod memory;
 mod outcome;
+#[cfg(test)]
+mod restarts;
 mod run;
 #[cfg(test)]
 mod tests;

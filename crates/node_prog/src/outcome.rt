@@ -1,11 +1,10 @@
 // What a run ends with.
-ghost use Rattle.std.specs.Prelude.{◌≡◌, ◌≢◌};
-ghost use Rattle.node_session.specs.declared.ended.Ended.{Ended};
+ghost use Rattle.std.specs.Prelude.{◌≡◌};
 ghost use Rattle.node_prog.specs.Concluding.{session_end, closed_end, refusal_end};
 ghost use Rattle.node_prog.specs.Promises.{IsTold};
 
 use disk_model::DiskFault;
-use node_model::{Note, RunEnd};
+use node_model::{DeviceRefusal, Note, RunEnd};
 use node_session::Ended;
 use shard_core::StartCause;
 
@@ -31,24 +30,22 @@ impl<D> Outcome<D> {
     }
 }
 
-/// The end of a run whose session ended so and whose closing flush went so. A failed closing is told where the session went well. No
-/// session over a node of this stage halts.
-pub fn after_session(ended: Ended, closed: Result<u64, DiskFault>) -> RunEnd
-    requires { ended ≢ Ended.Halted }
-    ensures { result ≡ session_end ended closed }
+/// The end of a run whose session ended so, and what was behind it: its closing flush, or a restart that was refused. That is told where
+/// the session went well or halted.
+pub fn after_session(ended: Ended, behind: RunEnd) -> RunEnd
+    ensures { result ≡ session_end ended behind }
 {
     match ended {
-        Ended::Finish { .. } | Ended::Quit { .. } => after_closing(closed),
+        Ended::Finish { .. } | Ended::Quit { .. } | Ended::Halted => behind,
         Ended::SourceFault => RunEnd::SourceFault,
         Ended::SinkFault => RunEnd::SinkFault,
         Ended::Memory => RunEnd::NoMemory,
         Ended::Long { .. } => RunEnd::InputTooLong,
-        Ended::Halted => unreachable!(),
     }
 }
 
-// The end of a run that went well up to its closing flush.
-fn after_closing(closed: Result<u64, DiskFault>) -> RunEnd
+/// The end of a run that went well up to its closing flush.
+pub fn after_closing(closed: Result<u64, DiskFault>) -> RunEnd
     ensures { result ≡ closed_end closed }
 {
     match closed {
@@ -57,13 +54,32 @@ fn after_closing(closed: Result<u64, DiskFault>) -> RunEnd
     }
 }
 
-/// The end of a run of which this device wasn't taken into use.
+/// The end of a run of which this device wasn't taken into use, at its start or by a restart.
 pub fn after_refusal(device: u16, cause: &StartCause) -> RunEnd
     ensures { result ≡ refusal_end device cause.now }
 {
     match cause {
         StartCause::Memory => RunEnd::NoMemory,
         StartCause::Fault => RunEnd::DeviceFault { device },
-        _ => RunEnd::DeviceRefused { device },
+        StartCause::NotFormatted { first } => RunEnd::DeviceRefused {
+            device,
+            why: DeviceRefusal::NotFormatted { first: *first },
+        },
+        StartCause::OtherGeometry { kept, asked, len } => RunEnd::DeviceRefused {
+            device,
+            why: DeviceRefusal::OtherGeometry {
+                kept: *kept,
+                device: asked.device,
+                devices: asked.devices,
+                len: *len,
+            },
+        },
+        StartCause::DamagedBlock { block, place } => RunEnd::DeviceRefused {
+            device,
+            why: DeviceRefusal::DamagedBlock {
+                block: *block,
+                place: *place,
+            },
+        },
     }
 }

@@ -1,12 +1,14 @@
 // A run: the device is started, the session served, the device closed behind it, and the disk handed back.
 ghost use Rattle.std.specs.Prelude.{◌≡◌, ◌∷◌, [], vec_len};
 ghost use Rattle.shard_core.specs.View.{IsSettings};
+ghost use Rattle.node_prog.specs.Behind.{IsBehind};
 ghost use Rattle.node_prog.specs.Promises.{Runs, disk_of};
 
-use crate::outcome::{Outcome, after_refusal, after_session};
+use crate::outcome::{Outcome, after_closing, after_refusal, after_session};
 use core_run::{Node, NodeRefusal};
 use disk_model::Disk;
 use io_traits::{Clock, Sink, Source};
+use node_model::RunEnd;
 use node_session::session;
 use shard_core::Settings;
 use std::alloc::Global;
@@ -14,8 +16,18 @@ use std::alloc::Global;
 // The most bytes that a run takes from its source.
 const INPUT_LIMIT: u64 = 1 << 40;
 
-/// Starts the device, serves the source's lines to its end or to `quit`, flushes what is pending however the session ended, and hands
-/// the disk back.
+// Flushes what is pending behind a session, unless a restart was refused; and how that ended.
+fn close<D: Disk>(node: &mut Node<D>) -> RunEnd
+    ensures { IsBehind D.view node.old node.new result }
+{
+    match node.halted() {
+        Some((device, cause)) => after_refusal(device, &cause),
+        None => after_closing(node.flush_device(0)),
+    }
+}
+
+/// Starts the device, serves the source's lines to its end or to `quit`, flushes what is pending however the session ended, unless a
+/// restart was refused, and hands the disk back.
 pub fn run_with<D: Disk, L: Source + Sink, C: Clock>(
     alloc: Global,
     set: Settings,
@@ -33,8 +45,7 @@ pub fn run_with<D: Disk, L: Source + Sink, C: Clock>(
     match Node::start(alloc, disks, set) {
         Ok(mut node) => {
             let ended = session(alloc, &mut node, link, clock, INPUT_LIMIT);
-            let closed = node.flush_device(0);
-            let end = after_session(ended, closed);
+            let end = after_session(ended, close(&mut node));
             Outcome::new(end, node.stop())
         }
         Err(

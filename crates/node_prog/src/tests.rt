@@ -302,6 +302,10 @@ fn a_put_leaves_blocks_free(rt: HostRuntime) -> Result<(), Fail> {
     Ok(())
 }
 
+// The note on a device of zeros.
+const ZEROS_NOTE: &str =
+    "device 0 not formatted: 00000000000000000000000000000000000000000000000000000000000000000000000000000000000000000000000000000000000000000000000000000000";
+
 #[test]
 fn faults_end_it_with_their_statuses(rt: HostRuntime) -> Result<(), Fail> {
     let alloc = rt.alloc();
@@ -315,7 +319,27 @@ fn faults_end_it_with_their_statuses(rt: HostRuntime) -> Result<(), Fail> {
     assert!(rt; is_so(&ending, 5, "sink fault", b"none\n"));
     let disk = MemDisk::new(alloc, 266_240)?;
     let ending = serve_disk(alloc, &["run", "d0"], disk, GET, &[], &[])?;
-    assert!(rt; is_so(&ending, 7, "device 0 refused", b""));
+    assert!(rt; is_so(&ending, 7, ZEROS_NOTE, b""));
+    Ok(())
+}
+
+// A block that is open and has no body is told with its place. Behind a closed gate anything may stand.
+#[test]
+fn an_open_block_needs_a_body(rt: HostRuntime) -> Result<(), Fail> {
+    let alloc = rt.alloc();
+    let quit: &[u8] = b"quit\n";
+    let mut disk = formatted_disk(alloc)?;
+    assert!(rt; disk.len() == 266_240);
+    disk.write_at(4096 + 3 * 16_384, b"ASNODE-GATE-OPEN".as_slice())?;
+    disk.sync()?;
+    let ending = serve_over(alloc, disk, quit)?;
+    assert!(rt; is_so(&ending, 7, "device 0 block 3 damaged at 0", b""));
+    let mut disk = formatted_disk(alloc)?;
+    assert!(rt; disk.len() == 266_240);
+    disk.write_at(4096 + 3 * 16_384 + 4096, b"anything".as_slice())?;
+    disk.sync()?;
+    let ending = serve_over(alloc, disk, quit)?;
+    assert!(rt; is_so(&ending, 0, "", b"bye\n"));
     Ok(())
 }
 

@@ -21,7 +21,8 @@ use Rattle.node_session.specs.Session.{unended, TakesUp, HasWholeTurns, HasAllTu
 use Rattle.node_model.specs.Run.{Served, halts, is_halted, times_of, replies_of, node_after_lines}
 use Rattle.node_model.specs.Outside.{IsFrontOf, is_bye, has_quit, written_text, rest_line}
 use Rattle.node_model.specs.Headline.{Gives}
-use Rattle.node_model.specs.Meaning.{ActsBy, TendsBy, Rests}
+use Rattle.node_model.specs.Meaning.{ActsBy, TendsBy}
+use Rattle.node_run.specs.Whole.{RestsOn}
 use Rattle.node_run.specs.Chain.{line_end_of, TicksAll, EndsWith, Lifted}
 use Rattle.node_run.proofs.Lines.{falls_any, falls_behind, falls_first, ends_of, ends_of_all}
 use Rattle.node_run.proofs.Replies.{once_in, halted_in, bye_in, once_of, halted_of, quit_of, text_of, go_once, go_halted, go_bye, last_once, last_halted, last_bye, halts_not, count_unended}
@@ -95,28 +96,28 @@ module _ {T : Type 0} (Stands : T → Node → Type 0) (views : T → ℕ → Di
     text : reply_text last ≡ sent ++ unsent
     is_last : LastIs stop last unsent
 
-  any_chain : Rests Stands views → (raw : Option (List ℕ)) (mid : T) (then : Times) (node : Node) (r : Reply) (new : T) (later : Times)
+  any_chain : RestsOn Stands views Halts told → (raw : Option (List ℕ)) (mid : T) (then : Times) (node : Node) (r : Reply) (new : T) (later : Times)
       → TurnAny (ActsBy Stands views Halts told) (TendsBy Stands views told) (line_end_of raw) mid then r new later → Stands mid node
       → ChainOf Stands views Halts told mid then node (raw ∷ []) (r ∷ []) new later × (halts r ≡ false)
-  any_chain rests raw mid then node r new later (inl turn) stands = ((turn_chain Stands views Halts told mid new then later node raw r turn stands).0, halts_not r turn.no_halt)
-  any_chain rests raw mid then node r new later (inr quits) stands = (quit_chain Stands views Halts told rests mid new then later node raw r quits stands, ap halts quits.farewell)
+  any_chain on raw mid then node r new later (inl turn) stands = ((turn_chain Stands views Halts told on mid new then later node raw r turn stands).0, halts_not r turn.no_halt)
+  any_chain on raw mid then node r new later (inr quits) stands = (quit_chain Stands views Halts told on mid new then later node raw r quits stands, ap halts quits.farewell)
 
-  last_chain : Rests Stands views → (raw : Option (List ℕ)) (mid : T) (then : Times) (node : Node) (sent : List ℕ) (new : T) (later : Times) (stop : Stop)
+  last_chain : RestsOn Stands views Halts told → (raw : Option (List ℕ)) (mid : T) (then : Times) (node : Node) (sent : List ℕ) (new : T) (later : Times) (stop : Stop)
       → StopsAtLine (ActsBy Stands views Halts told) (TendsBy Stands views told) (line_end_of raw) mid then sent new later stop → Stands mid node
       → LastChain raw mid then node sent new later stop
-  last_chain rests raw mid then node sent new later QuitStop stops stands = record {
+  last_chain on raw mid then node sent new later QuitStop stops stands = record {
     last = reply.Bye;
-    chain = quit_chain Stands views Halts told rests mid new then later node raw reply.Bye stops.0 stands;
+    chain = quit_chain Stands views Halts told on mid new then later node raw reply.Bye stops.0 stands;
     unsent = [];
     text = sym stops.1 ∙ sym (append-nil sent);
     is_last = (refl, refl);
   }
-  last_chain rests raw mid then node sent new later MemoryStop stops stands =
-      let any = any_chain rests raw mid then node stops.0 new later stops.1 stands in
+  last_chain on raw mid then node sent new later MemoryStop stops stands =
+      let any = any_chain on raw mid then node stops.0 new later stops.1 stands in
       record { last = stops.0; chain = any.0; unsent = reply_text stops.0; text = ap (λ (l : List ℕ). l ++ reply_text stops.0) (sym stops.2); is_last = any.1 }
-  last_chain rests raw mid then node sent new later HaltStop stops stands = record {
+  last_chain on raw mid then node sent new later HaltStop stops stands = record {
     last = reply.Halted;
-    chain = halt_chain Stands views Halts told rests mid new then later node raw stops.0 stands;
+    chain = halt_chain Stands views Halts told on mid new then later node raw stops.0 stands;
     unsent = [];
     text = sym stops.1 ∙ sym (append-nil sent);
     is_last = (refl, refl);
@@ -173,24 +174,24 @@ module _ {T : Type 0} (Stands : T → Node → Type 0) (views : T → ℕ → Di
   TurnsOf ends old times output new later = HasTurns (ActsBy Stands views Halts told) (TendsBy Stands views told) ends old times output new later
 
   -- all whole lines had their turns, and perhaps a rest at the input's end; the output is a front of their replies' text
-  all_served : Rests Stands views → (limit : ℕ) (bytes text output : List ℕ) (left : Option (List ℕ)) (old new : T) (times later : Times) (node : Node) (result : Ended) (raws unserved : List (Option (List ℕ))) (at_input_end : Bool) (lines : List (List ℕ)) (rest : List ℕ)
+  all_served : RestsOn Stands views Halts told → (limit : ℕ) (bytes text output : List ℕ) (left : Option (List ℕ)) (old new : T) (times later : Times) (node : Node) (result : Ended) (raws unserved : List (Option (List ℕ))) (at_input_end : Bool) (lines : List (List ℕ)) (rest : List ℕ)
       → TurnsOf (map line_end_of raws) old times text new later → IsFrontOf output text → Stands old node → FallInto bytes lines rest
       → map Some lines ++ rest_line at_input_end rest ≡ raws ++ unserved → (IsTrue at_input_end → IsAtEnd left)
       → ((served : List Served) → map (λ s. s.line) served ≡ raws → text ≡ written_text served → has_quit served ≡ false → is_halted served ≡ false → EndsWith limit bytes output at_input_end served unserved result)
       → Lifted Stands views Halts told limit bytes output left times node old new result
-  all_served rests limit bytes text output left old new times later node result raws unserved at_input_end lines rest serves front stands falls in_order at_end ends =
-      let chain = turns_chain Stands views Halts told rests raws serves.replies old new times later node serves.turns stands in
+  all_served on limit bytes text output left old new times later node result raws unserved at_input_end lines rest serves front stands falls in_order at_end ends =
+      let chain = turns_chain Stands views Halts told on raws serves.replies old new times later node serves.turns stands in
       lifted limit bytes output left old new times later node result raws unserved serves.replies at_input_end lines rest chain.0 falls in_order at_end (go_once serves.replies chain.1)
       (front.0, sym serves.told ∙ front.1)
       (λ served of_lines of_replies. ends served of_lines (whole_text served serves.replies text of_replies serves.told)
       (not_quit served serves.replies false of_replies (go_bye serves.replies chain.1)) (not_halted served serves.replies false of_replies (go_halted serves.replies chain.1)))
 
-  whole_lines : Rests Stands views → (limit : ℕ) (bytes output : List ℕ) (left : Option (List ℕ)) (old new : T) (times later : Times) (node : Node) (result : Ended)
+  whole_lines : RestsOn Stands views Halts told → (limit : ℕ) (bytes output : List ℕ) (left : Option (List ℕ)) (old new : T) (times later : Times) (node : Node) (result : Ended)
       → HasWholeTurns (ActsBy Stands views Halts told) (TendsBy Stands views told) bytes old times output new later → Stands old node
       → ((served : List Served) → output ≡ written_text served → has_quit served ≡ false → is_halted served ≡ false → EndsWith limit bytes output false served [] result)
       → Lifted Stands views Halts told limit bytes output left times node old new result
-  whole_lines rests limit bytes output left old new times later node result whole stands ends =
-      all_served rests limit bytes output output left old new times later node result (map Some whole.lines) [] false whole.lines whole.rest
+  whole_lines on limit bytes output left old new times later node result whole stands ends =
+      all_served on limit bytes output output left old new times later node result (map Some whole.lines) [] false whole.lines whole.rest
       (subst (λ (l : List LineEnd). TurnsOf l old times output new later) (sym (ends_of whole.lines)) whole.serves) (whole_front output) stands whole.falls refl (λ no_end. absurd (not_true no_end))
       (λ served of_lines told_text quit halted. ends served told_text quit halted)
 
@@ -214,22 +215,23 @@ module _ {T : Type 0} (Stands : T → Node → Type 0) (views : T → ℕ → Di
   said_so served rs said of is = text_of served ∙ of_text served rs of ∙ is
 
   -- the session stopped at a line; the output is a front of what is told up to it
-  stopped_lifts : Rests Stands views → (limit : ℕ) (bytes text output : List ℕ) (left : Option (List ℕ)) (old new : T) (times later : Times) (node : Node) (result : Ended) (n : ℕ) (stop : Stop)
+  stopped_lifts : RestsOn Stands views Halts told → (limit : ℕ) (bytes text output : List ℕ) (left : Option (List ℕ)) (old new : T) (times later : Times) (node : Node) (result : Ended) (n : ℕ) (stop : Stop)
       → StopsAfter (ActsBy Stands views Halts told) (TendsBy Stands views told) bytes left n old times text new later stop → IsFrontOf output text → Stands old node
       → ((at_input_end : Bool) (served : List Served) (unserved : List (Option (List ℕ))) (r : Reply) (unsent : List ℕ) → length served ≡ n + 1 → written_text served ≡ text ++ unsent
       → LastIs stop r unsent → has_quit served ≡ is_bye r → is_halted served ≡ halts r → EndsWith limit bytes output at_input_end served unserved result)
       → Lifted Stands views Halts told limit bytes output left times node old new result
-  stopped_lifts rests limit bytes text output left old new times later node result n stop stops front stands ends =
+  stopped_lifts on limit bytes text output left old new times later node result n stop stops front stands ends =
       let parts : Parts bytes left stops.lines stops.line = parts_of bytes left stops.lines stops.rest stops.line stops.whole stops.each stops.takes_up in
       let serves : TurnsOf (map line_end_of (map Some stops.lines)) old times stops.told stops.mid stops.then =
       subst (λ (l : List LineEnd). TurnsOf l old times stops.told stops.mid stops.then) (sym (ends_of stops.lines)) stops.serves in
-      let first = turns_chain Stands views Halts told rests (map Some stops.lines) serves.replies old stops.mid times stops.then node serves.turns stands in
+      let first = turns_chain Stands views Halts told on (map Some stops.lines) serves.replies old stops.mid times stops.then node serves.turns stands in
       let mid_node : Node = node_after_lines first.0.served node in
       let last : LastChain parts.raw stops.mid stops.then mid_node stops.last new later stop =
-      last_chain rests parts.raw stops.mid stops.then mid_node stops.last new later stop
-      (subst (λ (l : LineEnd). StopsAtLine (ActsBy Stands views Halts told) (TendsBy Stands views told) l stops.mid stops.then stops.last new later stop) (sym parts.is_end) stops.stops) first.0.stands in
+      last_chain on parts.raw stops.mid stops.then mid_node stops.last new later stop
+      (subst (λ (l : LineEnd). StopsAtLine (ActsBy Stands views Halts told) (TendsBy Stands views told) l stops.mid stops.then stops.last new later stop) (sym parts.is_end) stops.stops)
+      (first.0.stands (halted_of first.0.served ∙ ap halted_in first.0.of_replies ∙ go_halted serves.replies first.1)) in
       let both : ChainOf Stands views Halts told old times node (map Some stops.lines ++ parts.raw ∷ []) (serves.replies ++ last.last ∷ []) new later =
-      chain_then Stands views Halts told old stops.mid new times stops.then later node (map Some stops.lines) (parts.raw ∷ []) serves.replies (last.last ∷ []) first.0 last.chain
+      chain_then Stands views Halts told on old stops.mid new times stops.then later node (map Some stops.lines) (parts.raw ∷ []) serves.replies (last.last ∷ []) first.0 last.chain
       (back_in_halt (Halts new) node first.0.served last.chain.served (omega (arith, count_served last.chain.served (parts.raw ∷ []) last.chain.of_lines)) last.chain.halt) in
       let said : flat_map reply_text (serves.replies ++ last.last ∷ []) ≡ text ++ last.unsent = text_parts text stops.told stops.last last.unsent serves.replies last.last stops.all serves.told last.text in
       lifted limit bytes output left old new times later node result (map Some stops.lines ++ parts.raw ∷ []) parts.unserved (serves.replies ++ last.last ∷ []) parts.at_input_end parts.all_lines parts.open_line
@@ -245,71 +247,71 @@ module _ {T : Type 0} (Stands : T → Node → Type 0) (views : T → ℕ → Di
   all_sent output text unsent is none = sym (is ∙ ap (λ (l : List ℕ). output ++ l) none ∙ append-nil output)
 
   -- all lines up to the end of the input had their turns
-  all_lifts : Rests Stands views → (limit : ℕ) (bytes text output : List ℕ) (left : Option (List ℕ)) (old new : T) (times later : Times) (node : Node) (result : Ended) (n : ℕ)
+  all_lifts : RestsOn Stands views Halts told → (limit : ℕ) (bytes text output : List ℕ) (left : Option (List ℕ)) (old new : T) (times later : Times) (node : Node) (result : Ended) (n : ℕ)
       → HasAllTurns (ActsBy Stands views Halts told) (TendsBy Stands views told) bytes left n old times text new later → IsFrontOf output text → Stands old node
       → ((served : List Served) → text ≡ written_text served → has_quit served ≡ false → is_halted served ≡ false → n ≡ length served → EndsWith limit bytes output true served [] result)
       → Lifted Stands views Halts told limit bytes output left times node old new result
-  all_lifts rests limit bytes text output left old new times later node result n all front stands ends =
+  all_lifts on limit bytes text output left old new times later node result n all front stands ends =
       let raws : List (Option (List ℕ)) = map Some all.lines ++ rest_line true all.rest in
-      all_served rests limit bytes text output left old new times later node result raws [] true all.lines all.rest
+      all_served on limit bytes text output left old new times later node result raws [] true all.lines all.rest
       (subst (λ (l : List LineEnd). TurnsOf l old times text new later) (sym (ends_of_all all.lines all.rest)) all.serves) front stands all.falls (sym (append-nil raws)) (λ _. all.at_end)
       (λ served of_lines told_text quit halted. ends served told_text quit halted (all.counted ∙ sym (count_served served raws of_lines ∙ count_all all.lines all.rest)))
 
   -- the first whole lines had their turns
-  first_lifts : Rests Stands views → (limit : ℕ) (bytes text output : List ℕ) (left : Option (List ℕ)) (old new : T) (times later : Times) (node : Node) (result : Ended)
+  first_lifts : RestsOn Stands views Halts told → (limit : ℕ) (bytes text output : List ℕ) (left : Option (List ℕ)) (old new : T) (times later : Times) (node : Node) (result : Ended)
       → HasFirstTurns (ActsBy Stands views Halts told) (TendsBy Stands views told) bytes old times text new later → IsFrontOf output text → Stands old node
       → ((served : List Served) (unserved : List (Option (List ℕ))) → is_halted served ≡ false → EndsWith limit bytes output false served unserved result)
       → Lifted Stands views Halts told limit bytes output left times node old new result
-  first_lifts rests limit bytes text output left old new times later node result first front stands ends =
+  first_lifts on limit bytes text output left old new times later node result first front stands ends =
       let more = falls_any first.rest in
-      all_served rests limit bytes text output left old new times later node result (map Some first.lines) (map Some more.0) false (first.lines ++ more.0) more.1
+      all_served on limit bytes text output left old new times later node result (map Some first.lines) (map Some more.0) false (first.lines ++ more.0) more.1
       (subst (λ (l : List LineEnd). TurnsOf l old times text new later) (sym (ends_of first.lines)) first.serves) front stands
       (falls_behind bytes first.rest first.lines more.0 more.1 first.whole first.each more.2)
       (append-nil (map Some (first.lines ++ more.0)) ∙ map-append Some first.lines more.0) (λ no_end. absurd (not_true no_end))
       (λ served of_lines told_text quit halted. ends served (map Some more.0) halted)
 
   -- some lines had their turns, and the output is a front of their replies' text
-  some_lifts : Rests Stands views → (limit : ℕ) (bytes text output : List ℕ) (left : Option (List ℕ)) (old new : T) (times later : Times) (node : Node)
+  some_lifts : RestsOn Stands views Halts told → (limit : ℕ) (bytes text output : List ℕ) (left : Option (List ℕ)) (old new : T) (times later : Times) (node : Node)
       → IsFrontOf output text → HasSomeTurns (ActsBy Stands views Halts told) (TendsBy Stands views told) bytes left old times text new later → Stands old node
       → Lifted Stands views Halts told limit bytes output left times node old new SinkFault
-  some_lifts rests limit bytes text output left old new times later node front (inl first) stands =
-      first_lifts rests limit bytes text output left old new times later node SinkFault first front stands (λ served unserved halted. tt)
-  some_lifts rests limit bytes text output left old new times later node front (inr (inl all)) stands =
-      all_lifts rests limit bytes text output left old new times later node SinkFault all.0 all.1 front stands (λ served told_text quit halted count. tt)
-  some_lifts rests limit bytes text output left old new times later node front (inr (inr stopped)) stands =
-      stopped_lifts rests limit bytes text output left old new times later node SinkFault stopped.0 stopped.1 stopped.2 front stands
+  some_lifts on limit bytes text output left old new times later node front (inl first) stands =
+      first_lifts on limit bytes text output left old new times later node SinkFault first front stands (λ served unserved halted. tt)
+  some_lifts on limit bytes text output left old new times later node front (inr (inl all)) stands =
+      all_lifts on limit bytes text output left old new times later node SinkFault all.0 all.1 front stands (λ served told_text quit halted count. tt)
+  some_lifts on limit bytes text output left old new times later node front (inr (inr stopped)) stands =
+      stopped_lifts on limit bytes text output left old new times later node SinkFault stopped.0 stopped.1 stopped.2 front stands
       (λ at_input_end served unserved r unsent count said last quit halted. tt)
 
   -- All of a run but its closing flush, of every end of a session.
-  pub ends_lift : Rests Stands views → (limit : ℕ) (bytes output : List ℕ) (left : Option (List ℕ)) (old new : T) (times later : Times) (node : Node) (result : Ended)
+  pub ends_lift : RestsOn Stands views Halts told → (limit : ℕ) (bytes output : List ℕ) (left : Option (List ℕ)) (old new : T) (times later : Times) (node : Node) (result : Ended)
       → EndsSo (ActsBy Stands views Halts told) (TendsBy Stands views told) limit bytes left old times output new later result → Stands old node
       → Lifted Stands views Halts told limit bytes output left times node old new result
-  ends_lift rests limit bytes output left old new times later node (Finish n) ends stands =
-      all_lifts rests limit bytes output output left old new times later node (Finish n) n ends.1 (whole_front output) stands
+  ends_lift on limit bytes output left old new times later node (Finish n) ends stands =
+      all_lifts on limit bytes output output left old new times later node (Finish n) n ends.1 (whole_front output) stands
       (λ served told_text quit halted count. (told_text, refl, refl, count, halted))
-  ends_lift rests limit bytes output left old new times later node (Quit n) ends stands =
-      stopped_lifts rests limit bytes output output left old new times later node (Quit n) ends.0 QuitStop ends.2 (whole_front output) stands
+  ends_lift on limit bytes output left old new times later node (Quit n) ends stands =
+      stopped_lifts on limit bytes output output left old new times later node (Quit n) ends.0 QuitStop ends.2 (whole_front output) stands
       (λ at_input_end served unserved r unsent count text last quit halted.
       (all_sent output (written_text served) unsent text last.1, quit ∙ ap is_bye last.0, ends.1 ∙ sym count, halted ∙ ap halts last.0))
-  ends_lift rests limit bytes output left old new times later node SourceFault ends stands =
-      whole_lines rests limit bytes output left old new times later node SourceFault ends.1 stands (λ served told_text quit halted. (told_text, refl, refl, quit, halted, ends.0))
-  ends_lift rests limit bytes output left old new times later node SinkFault ends stands =
-      some_lifts rests limit bytes ends.0 output left old new times later node (ends.1.unsent, ends.1.parts) ends.2 stands
-  ends_lift rests limit bytes output left old new times later node Memory (inl first) stands =
-      first_lifts rests limit bytes output output left old new times later node Memory first (whole_front output) stands (λ served unserved halted. halted)
-  ends_lift rests limit bytes output left old new times later node Memory (inr stops) stands =
-      stopped_lifts rests limit bytes output output left old new times later node Memory stops.0 MemoryStop stops.1 (whole_front output) stands
+  ends_lift on limit bytes output left old new times later node SourceFault ends stands =
+      whole_lines on limit bytes output left old new times later node SourceFault ends.1 stands (λ served told_text quit halted. (told_text, refl, refl, quit, halted, ends.0))
+  ends_lift on limit bytes output left old new times later node SinkFault ends stands =
+      some_lifts on limit bytes ends.0 output left old new times later node (ends.1.unsent, ends.1.parts) ends.2 stands
+  ends_lift on limit bytes output left old new times later node Memory (inl first) stands =
+      first_lifts on limit bytes output output left old new times later node Memory first (whole_front output) stands (λ served unserved halted. halted)
+  ends_lift on limit bytes output left old new times later node Memory (inr stops) stands =
+      stopped_lifts on limit bytes output output left old new times later node Memory stops.0 MemoryStop stops.1 (whole_front output) stands
       (λ at_input_end served unserved r unsent count text last quit halted. halted ∙ last)
-  ends_lift rests limit bytes output left old new times later node Halted ends stands =
-      stopped_lifts rests limit bytes output output left old new times later node Halted ends.0 HaltStop ends.1 (whole_front output) stands
+  ends_lift on limit bytes output left old new times later node Halted ends stands =
+      stopped_lifts on limit bytes output output left old new times later node Halted ends.0 HaltStop ends.1 (whole_front output) stands
       (λ at_input_end served unserved r unsent count text last quit halted.
       (all_sent output (written_text served) unsent text last.1, halted ∙ ap halts last.0))
-  ends_lift rests limit bytes output left old new times later node (Long n) ends stands =
-      whole_lines rests limit bytes output left old new times later node (Long n) ends.2 stands (λ served told_text quit halted. (told_text, refl, refl, quit, halted, ends.1))
+  ends_lift on limit bytes output left old new times later node (Long n) ends stands =
+      whole_lines on limit bytes output left old new times later node (Long n) ends.2 stands (λ served told_text quit halted. (told_text, refl, refl, quit, halted, ends.1))
 
   -- The same of the session's own word.
-  pub ran_lifts : Rests Stands views → (limit : ℕ) (taken taken' : List ℕ) (left left' : Option (List ℕ)) (written written' : Option (List ℕ)) (old new : T) (times later : Times) (node : Node) (result : Ended)
+  pub ran_lifts : RestsOn Stands views Halts told → (limit : ℕ) (taken taken' : List ℕ) (left left' : Option (List ℕ)) (written written' : Option (List ℕ)) (old new : T) (times later : Times) (node : Node) (result : Ended)
       → (ran : Ran (ActsBy Stands views Halts told) (TendsBy Stands views told) limit taken taken' left left' written written' old new times later result) → Stands old node
       → Lifted Stands views Halts told limit ran.bytes ran.output left' times node old new result
-  ran_lifts rests limit taken taken' left left' written written' old new times later node result ran stands =
-      ends_lift rests limit ran.bytes ran.output left' old new times later node result ran.ends stands
+  ran_lifts on limit taken taken' left left' written written' old new times later node result ran stands =
+      ends_lift on limit ran.bytes ran.output left' old new times later node result ran.ends stands

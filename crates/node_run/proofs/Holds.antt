@@ -9,11 +9,11 @@ use Rattle.node_session.specs.declared.ended.Ended.{Ended}
 use Rattle.node_model.specs.Run.{ImagesLeft, last_node}
 use Rattle.node_model.specs.Outside.{Outside, TakesLines}
 use Rattle.node_model.specs.RunEnd.{input_limit}
-use Rattle.node_model.specs.Headline.{StartsFrom, HoldsReplies, HoldsThroughout}
-use Rattle.node_model.specs.Meaning.{left_between, Rests, GoesOn, Enters}
+use Rattle.node_model.specs.Headline.{StartsFrom, HoldsReplies, HoldsThroughout, IsNeverRefused}
+use Rattle.node_model.specs.Meaning.{left_between, GoesOn, Enters}
 use Rattle.node_model.proofs.Commits.{commits_all}
 use Rattle.node_run.specs.Chain.{EndsWith}
-use Rattle.node_run.specs.Whole.{RunsWhole, Frames, Concludes}
+use Rattle.node_run.specs.Whole.{RestsOn, RunsWhole, Frames, Concludes}
 use Rattle.node_run.proofs.Whole.{cause_of, run_since, images_since, last_images}
 
 at_end_of : (left : Option (List ℕ)) → IsAtEnd left → IfSome left (λ bytes. bytes ≡ [])
@@ -54,16 +54,17 @@ module _ {T : Type 0} (Stands : T → Node → Type 0) (views : T → ℕ → Di
 
 module _ {T : Type 0} (Stands : T → Node → Type 0) (views : T → ℕ → DiskView) (Halts : T → (before after : Node) → Type 0) (Says : Node → Type 0) where
   -- All of the promises, over disks that tell what they hold.
-  pub run_holds : Rests Stands views → (setups : List Setup) (o : Outside) (entry : ℕ → DiskView) (may_leave : ImagesLeft) (node : Node) (old new end : T) (result : Ended)
+  pub run_holds : RestsOn Stands views Halts true → (setups : List Setup) (o : Outside) (entry : ℕ → DiskView) (may_leave : ImagesLeft) (node : Node) (old new end : T) (result : Ended)
       → (w : WholeOf Stands views Halts true Says o node old new end result) → o.ended ≡ w.lifted.ended
       → Frames (StartsFrom o.images) setups o node (last_node node w.lifted.served w.closing) → Concludes (Halts new) o node w.lifted.served w.closing result
       → Enters views entry node old
-      → ((device : ℕ) (image : List ℕ) → may_leave device image → meanwhile (views end device) (views end device) image)
+      → ((device : ℕ) (image : List ℕ) → may_leave device image → meanwhile (views end device) (views end device) image) → IsNeverRefused o.end
       → HoldsThroughout setups o (λ device. meanwhile (entry device) (views end device)) may_leave
   unfolding run_replies
-  run_holds rests setups o entry may_leave node old new end result w ended f c enters law = record {
+  run_holds on setups o entry may_leave node old new end result w ended f c enters law unrefused = record {
     replies = run_replies Stands views Halts true Says (StartsFrom o.images) setups o entry node old new end result w ended f c enters.time;
-    left_now = last_images Stands views Halts true Says rests may_leave end (last_node node w.lifted.served w.closing) w.stands law;
+    left_now = last_images Stands views Halts true Says on may_leave input_limit o.taken o.written o.left o.times node old new end result w law;
     left_since = images_since Stands views Halts true Says entry node old end w.lifted.served w.closing enters w.leaves;
     committed = commits_all (left_between views old end) true node w.lifted.served w.is_run.serves;
+    unrefused = unrefused;
   }

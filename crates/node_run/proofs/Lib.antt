@@ -7,4 +7,3 @@ pub mod Whole
 pub mod Weaker
 pub mod Kept
 pub mod Holds
-pub mod Closed

@@ -1,5 +1,5 @@
 -- Setups stay, and the states on the way of one list of lines after another.
-use Rattle.std.proofs.Common.{◌≡◌, ℕ, zero, suc, ◌+◌, Bool, List, [], ◌∷◌, ◌++◌, map, refl, inl, inr, subst, sym, ap, ◌∙◌, append_assoc}
+use Rattle.std.proofs.Common.{true, false, ◌≡◌, ℕ, zero, suc, ◌+◌, Bool, List, [], ◌∷◌, ◌++◌, map, refl, inl, inr, subst, sym, ap, ◌∙◌, append_assoc}
 use Rattle.std.specs.Prelude.{Option, Some, None, slice_get}
 use Rattle.disk_model.specs.Runs.{OneOf, one_of_front, one_of_back}
 use Rattle.device_model.specs.Book.{Setup}
@@ -9,7 +9,7 @@ use Rattle.device_model.specs.Events.{Event}
 use Rattle.line_proto.specs.declared.command.Command.{Command}
 use Rattle.line_proto.specs.declared.reply.Reply.{Reply}
 use Rattle.node_model.specs.Commands.{Slot, Node, NodeEvent, at_place, slot_after, node_after}
-use Rattle.node_model.specs.Run.{ImagesLeft, Served, RestartsEach, SameStates, Carries, AnswersLine, Serves, ServesAll, node_or, node_at_reply, node_after_line, node_after_lines, steps_on, states_from, states_while, states_of_lines, times_of}
+use Rattle.node_model.specs.Run.{ImagesLeft, Served, StartsAgain, RestartsEach, SameStates, Carries, AnswersLine, Serves, ServesAll, node_or, node_at_reply, node_after_line, node_after_lines, steps_on, states_from, states_while, states_of_lines, times_of}
 use Rattle.node_model.specs.Headline.{On}
 
 pub one_of_more : {S : Type 0} (P : S → List ℕ → Type 0) (front xs ys : List S) (image : List ℕ) → (OneOf P xs image → OneOf P ys image) → OneOf P (front ++ xs) image → OneOf P (front ++ ys) image
@@ -29,12 +29,12 @@ pub events_setups : (events : List NodeEvent) (node : Node) → setups_of (node_
 events_setups [] node = refl
 events_setups (e ∷ events) node = events_setups events (at_place e.device (slot_after e.event) node) ∙ place_setups e.device e.event node
 
-restart_setups : (left : ImagesLeft) (device : ℕ) (old new : Node) → RestartsEach left device old new → setups_of new ≡ setups_of old
+restart_setups : (left : ImagesLeft) (device : ℕ) (old new : Node) → RestartsEach left true device old new → setups_of new ≡ setups_of old
 restart_setups left device [] new restarts = ap setups_of restarts
 restart_setups left device (slot ∷ slots) [] restarts = absurd restarts
 restart_setups left device (slot ∷ slots) (fresh ∷ new) restarts =
-    let head : fresh.setup ≡ slot.setup = restarts.0 in
-    let rest : setups_of new ≡ setups_of slots = restart_setups left (device + 1) slots new restarts.3 in cc
+    let head : fresh.setup ≡ slot.setup = restarts.1.0 in
+    let rest : setups_of new ≡ setups_of slots = restart_setups left (device + 1) slots new restarts.2 in cc
 
 same_setups : (old new : Node) → SameStates old new → setups_of new ≡ setups_of old
 same_setups [] new same = ap setups_of same
@@ -48,7 +48,7 @@ abbrev KeepsSetups : Node → Option Node → Type 0
 KeepsSetups node None = Unit {0}
 KeepsSetups node (Some new) = setups_of new ≡ setups_of node
 
-carries_setups : (left : ImagesLeft) (node : Node) (line : Option (List ℕ)) (served : Served) → AnswersLine left node line served → KeepsSetups node served.restarted
+carries_setups : (left : ImagesLeft) (node : Node) (line : Option (List ℕ)) (served : Served) → AnswersLine left true node line served → KeepsSetups node served.restarted
 carries_setups left node None served (inl refuses) = subst (KeepsSetups node) (sym refuses.1) tt
 carries_setups left node None served (inr lacks) = subst (KeepsSetups node) (sym lacks.0) tt
 carries_setups left node (Some line) served (inr (inl refuses)) = subst (KeepsSetups node) (sym refuses.1.1) tt
@@ -65,15 +65,16 @@ or_setups : (node after : Node) (restarted : Option Node) → KeepsSetups node r
 or_setups node after None keeps same = same
 or_setups node after (Some new) keeps same = keeps
 
-pub reply_setups : (left : ImagesLeft) (told : Bool) (node : Node) (served : Served) → Serves left told node served → setups_of (node_at_reply served node) ≡ setups_of node
-reply_setups left told node served serves = or_setups node (node_after served.work node) served.restarted (carries_setups left node served.line served serves.answers) (events_setups served.work node)
+-- Where the disks tell what they hold a line keeps the setups.
+pub reply_setups : (left : ImagesLeft) (node : Node) (served : Served) → Serves left true node served → setups_of (node_at_reply served node) ≡ setups_of node
+reply_setups left node served serves = or_setups node (node_after served.work node) served.restarted (carries_setups left node served.line served serves.answers) (events_setups served.work node)
 
-pub lines_setups : (left : ImagesLeft) (told : Bool) (node : Node) (lines : List Served) → ServesAll left told node lines → setups_of (node_after_lines lines node) ≡ setups_of node
-lines_setups left told node [] serves = refl
-lines_setups left told node (served ∷ lines) serves =
-    lines_setups left told (node_after_line served node) lines serves.1
+pub lines_setups : (left : ImagesLeft) (node : Node) (lines : List Served) → ServesAll left true node lines → setups_of (node_after_lines lines node) ≡ setups_of node
+lines_setups left node [] serves = refl
+lines_setups left node (served ∷ lines) serves =
+    lines_setups left (node_after_line served node) lines serves.1
     ∙ events_setups served.tended (node_at_reply served node)
-    ∙ reply_setups left told node served serves.0
+    ∙ reply_setups left node served serves.0
 
 -- what holds by the setup of a device alone holds in every node with the same setups
 pub on_same : (P Q : Setup → Type 0) (old new : Node) (device : ℕ) → setups_of new ≡ setups_of old → ((setup : Setup) → P setup → Q setup)
@@ -131,38 +132,42 @@ serves_append left told (x ∷ xs) ys node first then = (first.0, serves_append 
 
 -- ---- more images
 
-pub restarts_more : (less more : ImagesLeft) → ((device : ℕ) (image : List ℕ) → less device image → more device image) → (device : ℕ) (old new : Node) → RestartsEach less device old new → RestartsEach more device old new
-restarts_more less more wider device [] new restarts = restarts
-restarts_more less more wider device (slot ∷ slots) [] restarts = absurd restarts
-restarts_more less more wider device (slot ∷ slots) (fresh ∷ new) restarts =
-    (restarts.0, restarts.1, (restarts.2.0, wider device restarts.2.0 restarts.2.1, restarts.2.2), restarts_more less more wider (device + 1) slots new restarts.3)
+starts_more : (less more : ImagesLeft) → ((device : ℕ) (image : List ℕ) → less device image → more device image) → (told : Bool) (device : ℕ) (slot fresh : Slot) → StartsAgain less told device slot fresh → StartsAgain more told device slot fresh
+starts_more less more wider true device slot fresh starts = (starts.0, starts.1, wider device starts.1 starts.2, starts.3)
+starts_more less more wider false device slot fresh starts = starts
 
-carries_more : (less more : ImagesLeft) → ((device : ℕ) (image : List ℕ) → less device image → more device image) → (node : Node) (c : Command) (now : ℕ) (work : List NodeEvent) (restarted : Option Node) (r : Reply)
-    → Carries less node c now work restarted r → Carries more node c now work restarted r
-carries_more less more wider node c now work restarted r (inl made) = inl made
-carries_more less more wider node c now work restarted r (inr ends) = inr (
+pub restarts_more : (less more : ImagesLeft) → ((device : ℕ) (image : List ℕ) → less device image → more device image) → (told : Bool) (device : ℕ) (old new : Node) → RestartsEach less told device old new → RestartsEach more told device old new
+restarts_more less more wider told device [] new restarts = restarts
+restarts_more less more wider told device (slot ∷ slots) [] restarts = absurd restarts
+restarts_more less more wider told device (slot ∷ slots) (fresh ∷ new) restarts =
+    (restarts.0, starts_more less more wider told device slot fresh restarts.1, restarts_more less more wider told (device + 1) slots new restarts.2)
+
+carries_more : (less more : ImagesLeft) → ((device : ℕ) (image : List ℕ) → less device image → more device image) → (told : Bool) (node : Node) (c : Command) (now : ℕ) (work : List NodeEvent) (restarted : Option Node) (r : Reply)
+    → Carries less told node c now work restarted r → Carries more told node c now work restarted r
+carries_more less more wider told node c now work restarted r (inl made) = inl made
+carries_more less more wider told node c now work restarted r (inr ends) = inr (
   ends.0,
   (
     ends.1.0,
     ends.1.1,
     ends.1.2,
     elim ends.1.3 [
-      | inl again ↦ inl (restarts_more less more wider 0 node ends.1.1 again.0, again.1)
+      | inl again ↦ inl (restarts_more less more wider told 0 node ends.1.1 again.0, again.1)
       | inr halted ↦ inr halted
     ],
   ),
 )
 
-answers_more : (less more : ImagesLeft) → ((device : ℕ) (image : List ℕ) → less device image → more device image) → (node : Node) (line : Option (List ℕ)) (served : Served)
-    → AnswersLine less node line served → AnswersLine more node line served
-answers_more less more wider node None served answers = answers
-answers_more less more wider node (Some line) served (inl does) = inl (does.0, does.1, does.2, does.3, carries_more less more wider node does.0 _ served.work served.restarted served.reply does.4)
-answers_more less more wider node (Some line) served (inr rest) = inr rest
+answers_more : (less more : ImagesLeft) → ((device : ℕ) (image : List ℕ) → less device image → more device image) → (told : Bool) (node : Node) (line : Option (List ℕ)) (served : Served)
+    → AnswersLine less told node line served → AnswersLine more told node line served
+answers_more less more wider told node None served answers = answers
+answers_more less more wider told node (Some line) served (inl does) = inl (does.0, does.1, does.2, does.3, carries_more less more wider told node does.0 _ served.work served.restarted served.reply does.4)
+answers_more less more wider told node (Some line) served (inr rest) = inr rest
 
 pub serves_more : (less more : ImagesLeft) → ((device : ℕ) (image : List ℕ) → less device image → more device image) → (told : Bool) (node : Node) (lines : List Served)
     → ServesAll less told node lines → ServesAll more told node lines
 serves_more less more wider told node [] serves = tt
 serves_more less more wider told node (served ∷ lines) serves = (
-  record { answers = answers_more less more wider node served.line served serves.0.answers; work = serves.0.work; tends = serves.0.tends; tending = serves.0.tending },
+  record { answers = answers_more less more wider told node served.line served serves.0.answers; work = serves.0.work; tends = serves.0.tends; tending = serves.0.tending },
   serves_more less more wider told (node_after_line served node) lines serves.1,
 )

@@ -1,6 +1,6 @@
 -- From the turns of a session to a chain of states.
 use Rattle.std.proofs.Common.{◌≡◌, ◌≢◌, ℕ, ◌<◌, Bool, true, false, List, [], ◌∷◌, ◌++◌, length, map, refl, sym, ◌∙◌, ap, subst, inl, inr, arith}
-use Rattle.std.specs.Prelude.{Option, Some, None, ◌⊎◌, MatchBool}
+use Rattle.std.specs.Prelude.{Option, Some, None, ◌⊎◌, ◌||◌, MatchBool}
 use Rattle.std.specs.List.{AllByRecursion}
 use Rattle.std.proofs.lemmas.List.{map-append}
 use Rattle.disk_model.specs.Disk.{Images, DiskView, Advances}
@@ -18,13 +18,14 @@ use Rattle.line_proto.specs.declared.reply.Reply.TheVariants as reply
 use Rattle.line_proto.specs.declared.reply.LineFault.TheVariants as why
 use Rattle.node_model.specs.Commands.{Node, NodeEvent, node_after, Does, IsLegalOn, TendsEach, Outcome, did, stopped, answer_reply, found_reply, meta_reply, one_sum, two_sums}
 use Rattle.node_session.specs.Turns.{Times, WholeTurn, Turns, Answers, Quits, IsCommand, NamesNoCommand}
-use Rattle.node_model.specs.Run.{ImagesLeft, Served, Serves, AnswersLine, Carries, goes_on, node_or, node_at_reply, node_after_line, node_after_lines, states_while, states_of_lines, times_of, replies_of}
+use Rattle.node_model.specs.Run.{ImagesLeft, Served, Serves, ServesAll, AnswersLine, Carries, goes_on, halts, is_halted, node_or, node_at_reply, node_after_line, node_after_lines, states_while, states_of_lines, times_of, replies_of}
 use Rattle.node_model.specs.Headline.{Gives}
-use Rattle.node_model.specs.Meaning.{left_between, SurvivesOne, LeavesEach, ActsFrom, ActsBy, TendsFrom, TendsBy, Rests}
+use Rattle.node_model.specs.Meaning.{left_between, SurvivesOne, LeavesEach, ActsFrom, ActsBy, TendsFrom, TendsBy}
 use Rattle.node_model.specs.Run.{WantsMemory}
 use Rattle.node_run.specs.Chain.{line_end_of, TicksAll, InHalt, Chain}
+use Rattle.node_run.specs.Whole.{RestsOn}
 use Rattle.node_run.proofs.States.{setups_of, on_same, lines_setups, reply_setups, states_front, states_back, times_append, after_append, serves_append, serves_more}
-use Rattle.node_run.proofs.Replies.{AllGo}
+use Rattle.node_run.proofs.Replies.{AllGo, halted_of, halted_in, go_halted}
 use Rattle.node_run.proofs.Lines.{no_command_of, command_of}
 
 -- ---- `bye` is the reply to `quit` alone
@@ -86,20 +87,32 @@ does_no_bye node command.Stat now work r other does is = let e : r ≡ reply.Sta
 does_no_bye node command.Restart now work r other does is = absurd does
 does_no_bye node command.Quit now work r other does is = absurd (other refl)
 
-carried_no_bye : (left : ImagesLeft) (node : Node) (c : Command) (now : ℕ) (work : List NodeEvent) (restarted : Option Node) (r : Reply) → c ≢ command.Quit
-    → Carries left node c now work restarted r ⊎ WantsMemory work restarted r → r ≢ reply.Bye
-carried_no_bye left node c now work restarted r other (inl (inl made)) is = does_no_bye node c now work r other made.1 is
-carried_no_bye left node c now work restarted r other (inl (inr ends)) is = elim ends.1.3 [
+carried_no_bye : (left : ImagesLeft) (told : Bool) (node : Node) (c : Command) (now : ℕ) (work : List NodeEvent) (restarted : Option Node) (r : Reply) → c ≢ command.Quit
+    → Carries left told node c now work restarted r ⊎ WantsMemory work restarted r → r ≢ reply.Bye
+carried_no_bye left told node c now work restarted r other (inl (inl made)) is = does_no_bye node c now work r other made.1 is
+carried_no_bye left told node c now work restarted r other (inl (inr ends)) is = elim ends.1.3 [
   | inl again ↦ two_is_no_bye (did _ _) (sym again.1 ∙ is)
   | inr halted ↦ let e : r ≡ reply.Halted = halted.1 in cc
 ]
-carried_no_bye left node c now work restarted r other (inr lacks) is = let e : r ≡ reply.Fail why.Memory = lacks.2 in cc
+carried_no_bye left told node c now work restarted r other (inr lacks) is = let e : r ≡ reply.Fail why.Memory = lacks.2 in cc
 
 bye_not_halted : reply.Bye ≡ reply.Halted → ⊥
 bye_not_halted is = cc
 
 goes_not_halted : (r : Reply) → goes_on r ≡ true → r ≡ reply.Halted → ⊥
 goes_not_halted r goes is = let e : true ≡ false = sym goes ∙ ap goes_on is in cc
+
+-- a line whose reply isn't that of a halt
+one_goes : (r : Reply) → (halts r || false) ≡ false → r ≡ reply.Halted → ⊥
+one_goes r goes is = let e : true ≡ false = sym (ap (λ (x : Reply). halts x || false) is) ∙ goes in cc
+
+pub halted_behind : (xs ys : List Served) → is_halted (xs ++ ys) ≡ false → is_halted ys ≡ false
+halted_behind [] ys goes = goes
+halted_behind (x ∷ xs) ys goes = halted_behind xs ys (second (halts x.reply) (is_halted (xs ++ ys)) goes)
+  where
+    second : (a b : Bool) → (a || b) ≡ false → b ≡ false
+    second true b is = cc
+    second false b is = is
 
 -- where the run went on there was no halt
 go_in_halt : (P : Node → Node → Type 0) (node : Node) (lines : List Served) → AllGo (replies_of lines) → InHalt P node lines
@@ -130,20 +143,20 @@ gives_of (now ∷ given) (time ∷ next ∷ times) later ticks = (ticks.1.0, giv
 
 -- ---- what a line is answered
 
-answers_of : (left : ImagesLeft) (node : Node) (line : Option (List ℕ)) (c : Command) (now : ℕ) (work : List NodeEvent) (restarted : Option Node) (r : Reply) (tended : List NodeEvent)
-    → IsCommand (line_end_of line) c → Carries left node c (bounded_time now) work restarted r ⊎ WantsMemory work restarted r
-    → AnswersLine left node line (record { line = line; time = Some now; reply = r; work = work; restarted = restarted; tended = tended })
-answers_of left node None c now work restarted r tended is carried = absurd is
-answers_of left node (Some line) c now work restarted r tended is (inl carried) = inl (c, now, command_of line c is, refl, carried)
-answers_of left node (Some line) c now work restarted r tended is (inr lacks) = inr (inr lacks)
+answers_of : (left : ImagesLeft) (told : Bool) (node : Node) (line : Option (List ℕ)) (c : Command) (now : ℕ) (work : List NodeEvent) (restarted : Option Node) (r : Reply) (tended : List NodeEvent)
+    → IsCommand (line_end_of line) c → Carries left told node c (bounded_time now) work restarted r ⊎ WantsMemory work restarted r
+    → AnswersLine left told node line (record { line = line; time = Some now; reply = r; work = work; restarted = restarted; tended = tended })
+answers_of left told node None c now work restarted r tended is carried = absurd is
+answers_of left told node (Some line) c now work restarted r tended is (inl carried) = inl (c, now, command_of line c is, refl, carried)
+answers_of left told node (Some line) c now work restarted r tended is (inr lacks) = inr (inr lacks)
 
-declines_of : (left : ImagesLeft) (node : Node) (line : Option (List ℕ)) (r : Reply) (tended : List NodeEvent)
+declines_of : (left : ImagesLeft) (told : Bool) (node : Node) (line : Option (List ℕ)) (r : Reply) (tended : List NodeEvent)
     → (NamesNoCommand (line_end_of line) × (r ≡ reply.Fail why.Line)) ⊎ (r ≡ reply.Fail why.Memory)
-    → AnswersLine left node line (record { line = line; time = None; reply = r; work = []; restarted = None; tended = tended })
-declines_of left node None r tended (inl no_command) = inl (refl, refl, refl, no_command.1)
-declines_of left node (Some line) r tended (inl no_command) = inr (inl (no_command_of line no_command.0, (refl, refl, refl, no_command.1)))
-declines_of left node None r tended (inr memory) = inr (refl, refl, memory)
-declines_of left node (Some line) r tended (inr memory) = inr (inr (refl, refl, memory))
+    → AnswersLine left told node line (record { line = line; time = None; reply = r; work = []; restarted = None; tended = tended })
+declines_of left told node None r tended (inl no_command) = inl (refl, refl, refl, no_command.1)
+declines_of left told node (Some line) r tended (inl no_command) = inr (inl (no_command_of line no_command.0, (refl, refl, refl, no_command.1)))
+declines_of left told node None r tended (inr memory) = inr (refl, refl, memory)
+declines_of left told node (Some line) r tended (inr memory) = inr (inr (refl, refl, memory))
 
 goes_tends : (r : Reply) (Then Else : Type 0) → goes_on r ≡ true → Then → MatchBool (goes_on r) Then Else
 goes_tends r Then Else goes h = rw goes h
@@ -160,17 +173,27 @@ module _ {T : Type 0} (Stands : T → Node → Type 0) (views : T → ℕ → Di
       → (device : ℕ) (image : List ℕ) → left_between views mid new device image → left_between views old new device image
   second_images old mid new one two device image was = (two device).added (views old device).moment image ((one device).stays (views old device).moment (one device).started) was
 
-  -- one list of states and another, of which the second goes from a node with the same setups
-  pub leaves_both : (node mid_node : Node) (first second all : ℕ → List State) (old mid new : T) → setups_of mid_node ≡ setups_of node
+  leaves_all : (node mid_node : Node) (first second all : ℕ → List State) (old mid new : T) → setups_of mid_node ≡ setups_of node
       → ((P : State → Images) (device : ℕ) (image : List ℕ) → OneOf P (first device) image → OneOf P (all device) image)
       → ((P : State → Images) (device : ℕ) (image : List ℕ) → OneOf P (second device) image → OneOf P (all device) image)
       → LeavesEach views node first old mid → LeavesEach views mid_node second mid new → LeavesEach views node all old new
-  leaves_both node mid_node first second all old mid new same front back one two device =
+  leaves_all node mid_node first second all old mid new same front back one two device =
       leaves_then {P = SurvivesOne device node (all device)} {old = views old device} {mid = views mid device} {new = views new device}
       (leaves_more {P = SurvivesOne device node (first device)} {Q = SurvivesOne device node (all device)} {old = views old device} {new = views mid device}
       (λ image h. on_same (λ setup. OneOf (Survives setup) (first device) image) (λ setup. OneOf (Survives setup) (all device) image) node node device refl (λ setup. front (Survives setup) device image) h) (one device))
       (leaves_more {P = SurvivesOne device mid_node (second device)} {Q = SurvivesOne device node (all device)} {old = views mid device} {new = views new device}
       (λ image h. on_same (λ setup. OneOf (Survives setup) (second device) image) (λ setup. OneOf (Survives setup) (all device) image) node mid_node device same (λ setup. back (Survives setup) device image) h) (two device))
+
+  -- one list of states and another, of which the second goes from a node with the same setups
+  pub leaves_both : RestsOn Stands views Halts told → (node mid_node : Node) (first second all : ℕ → List State) (old mid new : T) → (told ≡ true → setups_of mid_node ≡ setups_of node)
+      → ((P : State → Images) (device : ℕ) (image : List ℕ) → OneOf P (first device) image → OneOf P (all device) image)
+      → ((P : State → Images) (device : ℕ) (image : List ℕ) → OneOf P (second device) image → OneOf P (all device) image)
+      → LeavesEach views node first old mid → LeavesEach views mid_node second mid new → LeavesEach views node all old new
+  leaves_both on node mid_node first second all old mid new same front back one two = by told refl
+    where
+      by : (b : Bool) → told ≡ b → LeavesEach views node all old new
+      by false is = on.blind is node all old new
+      by true is = leaves_all node mid_node first second all old mid new (same is) front back one two
 
   -- the same, with more states
   pub leaves_wider : (node : Node) (some all : ℕ → List State) (old new : T) → ((P : State → Images) (device : ℕ) (image : List ℕ) → OneOf P (some device) image → OneOf P (all device) image)
@@ -183,9 +206,9 @@ module _ {T : Type 0} (Stands : T → Node → Type 0) (views : T → ℕ → Di
   ChainOf old times node lines replies new later = Chain Stands views Halts told old times node lines replies new later
 
   -- one chain after another
-  pub chain_then : (old mid new : T) (times then later : Times) (node : Node) (xs ys : List (Option (List ℕ))) (rs ss : List Reply)
+  pub chain_then : RestsOn Stands views Halts told → (old mid new : T) (times then later : Times) (node : Node) (xs ys : List (Option (List ℕ))) (rs ss : List Reply)
       → (first : ChainOf old times node xs rs mid then) → (second : ChainOf mid then (node_after_lines first.served node) ys ss new later) → InHalt (Halts new) node (first.served ++ second.served) → ChainOf old times node (xs ++ ys) (rs ++ ss) new later
-  chain_then old mid new times then later node xs ys rs ss first second halt =
+  chain_then on old mid new times then later node xs ys rs ss first second halt =
       let mid_node = node_after_lines first.served node in
       let one : (device : ℕ) → Advances (views old device) (views mid device) = λ device. (first.leaves device).time in
       let two : (device : ℕ) → Advances (views mid device) (views new device) = λ device. (second.leaves device).time in
@@ -197,31 +220,31 @@ module _ {T : Type 0} (Stands : T → Node → Type 0) (views : T → ℕ → Di
         of_lines = map-append (λ s. s.line) first.served second.served ∙ (λ i. first.of_lines i ++ second.of_lines i);
         of_replies = map-append (λ s. s.reply) first.served second.served ∙ (λ i. first.of_replies i ++ second.of_replies i);
         clock = subst (λ (given : List ℕ). TicksAll times given later) (sym (times_append first.served second.served)) (ticks_then times then later (times_of first.served) (times_of second.served) first.clock second.clock);
-        stands = subst (Stands new) (sym (after_append first.served second.served node)) second.stands;
-        leaves = leaves_both node mid_node (λ device. states_of_lines device first.served node) (λ device. states_of_lines device second.served mid_node)
+        stands = λ goes. subst (Stands new) (sym (after_append first.served second.served node)) (second.stands (halted_behind first.served second.served goes));
+        leaves = leaves_both on node mid_node (λ device. states_of_lines device first.served node) (λ device. states_of_lines device second.served mid_node)
             (λ device. states_of_lines device (first.served ++ second.served) node) old mid new
-            (lines_setups (left_between views old mid) told node first.served first.serves)
+            (λ is. lines_setups (left_between views old mid) node first.served (subst (λ (b : Bool). ServesAll (left_between views old mid) b node first.served) is first.serves))
             (λ P device image h. states_front P device first.served second.served node image h)
             (λ P device image h. states_back P device first.served second.served node image h)
             first.leaves second.leaves;
         halt = halt;
       }
 
-  pub chain_none : Rests Stands views → (store : T) (times : Times) (node : Node) → Stands store node → ChainOf store times node [] [] store times
-  chain_none rests store times node stands = record {
+  pub chain_none : RestsOn Stands views Halts told → (store : T) (times : Times) (node : Node) → Stands store node → ChainOf store times node [] [] store times
+  chain_none on store times node stands = record {
     served = [];
     serves = tt;
     of_lines = refl;
     of_replies = refl;
     clock = refl;
-    stands = stands;
-    leaves = rests store node stands;
+    stands = λ goes. stands;
+    leaves = on.rests store node stands;
     halt = tt;
   }
 
   -- one line
   one_chain : (old new : T) (times later : Times) (node : Node) (served : Served) → Serves (left_between views old new) told node served
-      → TicksAll times (times_of (served ∷ [])) later → Stands new (node_after_line served node)
+      → TicksAll times (times_of (served ∷ [])) later → (served.reply ≢ reply.Halted → Stands new (node_after_line served node))
       → LeavesEach views node (λ device. states_of_lines device (served ∷ []) node) old new
       → (served.reply ≡ reply.Halted → Halts new node (node_after_line served node))
       → ChainOf old times node (served.line ∷ []) (served.reply ∷ []) new later
@@ -231,7 +254,7 @@ module _ {T : Type 0} (Stands : T → Node → Type 0) (views : T → ℕ → Di
     of_lines = refl;
     of_replies = refl;
     clock = clock;
-    stands = stands;
+    stands = λ goes. stands (λ is. one_goes served.reply goes is);
     leaves = leaves;
     halt = halt;
   }
@@ -250,18 +273,18 @@ module _ {T : Type 0} (Stands : T → Node → Type 0) (views : T → ℕ → Di
       one_of_front P (front ++ back) (states_of_lines device [] (node_after_line served node)) image (one_of_back P front back image h)
 
   -- a command was carried out, and something followed that leads from the node at the reply to the end
-  carried_chain : (old mid new : T) (times later : Times) (node : Node) (line : Option (List ℕ)) (c : Command) (now : ℕ) (r : Reply) (tended : List NodeEvent)
+  carried_chain : RestsOn Stands views Halts told → (old mid new : T) (times later : Times) (node : Node) (line : Option (List ℕ)) (c : Command) (now : ℕ) (r : Reply) (tended : List NodeEvent)
       → IsCommand (line_end_of line) c → Ticks times now later → (from : ActsFrom Stands views Halts told old node c (bounded_time now) r mid)
       → MatchBool (goes_on r) (TendsEach 0 (node_or (node_after from.work node) from.restarted) tended) (tended ≡ [])
       → IsLegalOn told (node_or (node_after from.work node) from.restarted) tended
-      → Stands new (node_after tended (node_or (node_after from.work node) from.restarted))
+      → (r ≢ reply.Halted → Stands new (node_after tended (node_or (node_after from.work node) from.restarted)))
       → LeavesEach views (node_or (node_after from.work node) from.restarted) (λ device. states_while device tended (node_or (node_after from.work node) from.restarted)) mid new
       → (r ≡ reply.Halted → Halts new node (node_after tended (node_or (node_after from.work node) from.restarted)))
       → ChainOf old times node (line ∷ []) (r ∷ []) new later
-  carried_chain old mid new times later node line c now r tended is ticks from tends legal stands leaves halt =
+  carried_chain on old mid new times later node line c now r tended is ticks from tends legal stands leaves halt =
       let served : Served = record { line = line; time = Some now; reply = r; work = from.work; restarted = from.restarted; tended = tended } in
       let serves : Serves (left_between views old mid) told node served = record {
-        answers = answers_of (left_between views old mid) node line c now from.work from.restarted r tended is from.carried;
+        answers = answers_of (left_between views old mid) told node line c now from.work from.restarted r tended is from.carried;
         work = from.legal;
         tends = tends;
         tending = legal;
@@ -271,8 +294,8 @@ module _ {T : Type 0} (Stands : T → Node → Type 0) (views : T → ℕ → Di
       one_chain old new times later node served
       (serves_more (left_between views old mid) (left_between views old new) (first_images old mid new one two) told node (served ∷ []) (serves, tt)).0
       (later, ticks, refl) stands
-      (leaves_both node (node_at_reply served node) (λ device. states_while device from.work node) (λ device. states_while device tended (node_at_reply served node))
-      (λ device. states_of_lines device (served ∷ []) node) old mid new (reply_setups (left_between views old mid) told node served serves)
+      (leaves_both on node (node_at_reply served node) (λ device. states_while device from.work node) (λ device. states_while device tended (node_at_reply served node))
+      (λ device. states_of_lines device (served ∷ []) node) old mid new (λ is. reply_setups (left_between views old mid) node served (subst (λ (b : Bool). Serves (left_between views old mid) b node served) is serves))
       (λ P device image h. in_work P device node served image h) (λ P device image h. in_tending P device node served image h) from.leaves leaves) halt
 
   -- a line was declined, and tending followed
@@ -283,12 +306,12 @@ module _ {T : Type 0} (Stands : T → Node → Type 0) (views : T → ℕ → Di
       let served : Served = record { line = line; time = None; reply = r; work = []; restarted = None; tended = tend.tended } in
       one_chain old new times times node served
       (record {
-        answers = declines_of (left_between views old new) node line r tend.tended why_so;
+        answers = declines_of (left_between views old new) told node line r tend.tended why_so;
         work = tt;
         tends = goes_tends r (TendsEach 0 node tend.tended) (tend.tended ≡ []) goes tend.tends;
         tending = tend.legal;
       })
-      refl tend.stands
+      refl (λ other. tend.stands)
       (leaves_wider node (λ device. states_while device tend.tended node) (λ device. states_of_lines device (served ∷ []) node) old new (λ P device image h. in_tending P device node served image h) tend.leaves)
       (λ is. absurd (goes_not_halted r goes is))
 
@@ -304,16 +327,16 @@ module _ {T : Type 0} (Stands : T → Node → Type 0) (views : T → ℕ → Di
   TurnOf line old times r new later = WholeTurn (ActsBy Stands views Halts told) (TendsBy Stands views told) (line_end_of line) old times r new later
 
   -- a whole turn
-  pub turn_chain : (old new : T) (times later : Times) (node : Node) (line : Option (List ℕ)) (r : Reply)
+  pub turn_chain : RestsOn Stands views Halts told → (old new : T) (times later : Times) (node : Node) (line : Option (List ℕ)) (r : Reply)
       → TurnOf line old times r new later → Stands old node → ChainOf old times node (line ∷ []) (r ∷ []) new later × (goes_on r ≡ true)
-  turn_chain old new times later node line r turn stands = elim turn.answer [
+  turn_chain on old new times later node line r turn stands = elim turn.answer [
     | inl carries ↦
         let from : ActsFrom Stands views Halts told old node carries.command (bounded_time carries.now) r turn.answered = carries.acted node stands in
         let at_reply : Node = node_or (node_after from.work node) from.restarted in
-        let tend : TendsFrom Stands views told turn.answered at_reply new = turn.tended at_reply from.stands in
-        let goes : goes_on r ≡ true = goes_of r turn.no_halt (carried_no_bye (left_between views old turn.answered) node carries.command (bounded_time carries.now) from.work from.restarted r carries.goes_on from.carried) in (
-          carried_chain old turn.answered new times later node line carries.command carries.now r tend.tended carries.is_command carries.ticks from
-              (goes_tends r (TendsEach 0 at_reply tend.tended) (tend.tended ≡ []) goes tend.tends) tend.legal tend.stands tend.leaves (λ is. absurd (turn.no_halt is)),
+        let tend : TendsFrom Stands views told turn.answered at_reply new = turn.tended at_reply (from.stands turn.no_halt) in
+        let goes : goes_on r ≡ true = goes_of r turn.no_halt (carried_no_bye (left_between views old turn.answered) told node carries.command (bounded_time carries.now) from.work from.restarted r carries.goes_on from.carried) in (
+          carried_chain on old turn.answered new times later node line carries.command carries.now r tend.tended carries.is_command carries.ticks from
+              (goes_tends r (TendsEach 0 at_reply tend.tended) (tend.tended ≡ []) goes tend.tends) tend.legal (λ other. tend.stands) tend.leaves (λ is. absurd (turn.no_halt is)),
           goes,
         )
     | inr declines ↦
@@ -323,36 +346,37 @@ module _ {T : Type 0} (Stands : T → Node → Type 0) (views : T → ℕ → Di
   ]
 
   -- `quit`, which isn't followed by tending
-  pub quit_chain : Rests Stands views → (old new : T) (times later : Times) (node : Node) (line : Option (List ℕ)) (r : Reply)
+  pub quit_chain : RestsOn Stands views Halts told → (old new : T) (times later : Times) (node : Node) (line : Option (List ℕ)) (r : Reply)
       → Quits (line_end_of line) old times r new later → Stands old node → ChainOf old times node (line ∷ []) (r ∷ []) new later
-  quit_chain rests old new times later node line r quits stands =
+  quit_chain on old new times later node line r quits stands =
       subst (λ (t : T). ChainOf old times node (line ∷ []) (r ∷ []) t later) (sym quits.same_store)
       (subst (λ (b : Reply). ChainOf old times node (line ∷ []) (b ∷ []) old later) (sym quits.farewell)
-      (carried_chain old old old times later node line command.Quit quits.now reply.Bye [] quits.is_quit quits.ticks
-      (record { work = []; restarted = None; carried = inl (inl (refl, (refl, refl))); legal = tt; stands = stands; leaves = rests old node stands; halt = λ is. absurd (bye_not_halted is) })
-      refl tt stands (rests old node stands) (λ is. absurd (bye_not_halted is))))
+      (carried_chain on old old old times later node line command.Quit quits.now reply.Bye [] quits.is_quit quits.ticks
+      (record { work = []; restarted = None; carried = inl (inl (refl, (refl, refl))); legal = tt; stands = λ other. stands; leaves = on.rests old node stands; halt = λ is. absurd (bye_not_halted is) })
+      refl tt (λ other. stands) (on.rests old node stands) (λ is. absurd (bye_not_halted is))))
 
   -- a halt, which ends the run
-  pub halt_chain : Rests Stands views → (old new : T) (times later : Times) (node : Node) (line : Option (List ℕ))
+  pub halt_chain : RestsOn Stands views Halts told → (old new : T) (times later : Times) (node : Node) (line : Option (List ℕ))
       → Answers (ActsBy Stands views Halts told) (line_end_of line) old times reply.Halted new later → Stands old node → ChainOf old times node (line ∷ []) (reply.Halted ∷ []) new later
-  halt_chain rests old new times later node line (inl carries) stands =
+  halt_chain on old new times later node line (inl carries) stands =
       let from : ActsFrom Stands views Halts told old node carries.command (bounded_time carries.now) reply.Halted new = carries.acted node stands in
-      carried_chain old new new times later node line carries.command carries.now reply.Halted [] carries.is_command carries.ticks from
-      refl tt from.stands (rests new (node_or (node_after from.work node) from.restarted) from.stands) from.halt
-  halt_chain rests old new times later node line (inr declines) stands = absurd (fail_is_no_halt line reply.Halted declines.why refl)
+      carried_chain on old new new times later node line carries.command carries.now reply.Halted [] carries.is_command carries.ticks from
+      refl tt from.stands (on.halted new node (node_or (node_after from.work node) from.restarted) (from.halt refl)) from.halt
+  halt_chain on old new times later node line (inr declines) stands = absurd (fail_is_no_halt line reply.Halted declines.why refl)
 
   -- all turns of some lines, by one induction
-  pub turns_chain : Rests Stands views → (lines : List (Option (List ℕ))) (rs : List Reply) (old new : T) (times later : Times) (node : Node)
+  pub turns_chain : RestsOn Stands views Halts told → (lines : List (Option (List ℕ))) (rs : List Reply) (old new : T) (times later : Times) (node : Node)
       → Turns (ActsBy Stands views Halts told) (TendsBy Stands views told) (map line_end_of lines) old times rs new later → Stands old node
       → ChainOf old times node lines rs new later × AllByRecursion (λ r. goes_on r ≡ true) rs
-  turns_chain rests [] [] old new times later node turns stands =
-      (subst (λ (t : T). ChainOf old times node [] [] t later) (sym turns.0) (subst (λ (t : Times). ChainOf old times node [] [] old t) (sym turns.1) (chain_none rests old times node stands)), tt)
-  turns_chain rests (line ∷ lines) (r ∷ rs) old new times later node turns stands =
-      let first : ChainOf old times node (line ∷ []) (r ∷ []) turns.0 turns.1 × (goes_on r ≡ true) = turn_chain old turns.0 times turns.1 node line r turns.2 stands in
-      let second = turns_chain rests lines rs turns.0 new turns.1 later (node_after_lines first.0.served node) turns.3 first.0.stands in (
-        chain_then old turns.0 new times turns.1 later node (line ∷ []) lines (r ∷ []) rs first.0 second.0
+  turns_chain on [] [] old new times later node turns stands =
+      (subst (λ (t : T). ChainOf old times node [] [] t later) (sym turns.0) (subst (λ (t : Times). ChainOf old times node [] [] old t) (sym turns.1) (chain_none on old times node stands)), tt)
+  turns_chain on (line ∷ lines) (r ∷ rs) old new times later node turns stands =
+      let first : ChainOf old times node (line ∷ []) (r ∷ []) turns.0 turns.1 × (goes_on r ≡ true) = turn_chain on old turns.0 times turns.1 node line r turns.2 stands in
+      let second = turns_chain on lines rs turns.0 new turns.1 later (node_after_lines first.0.served node) turns.3
+      (first.0.stands (halted_of first.0.served ∙ ap halted_in first.0.of_replies ∙ go_halted (r ∷ []) (first.1, tt))) in (
+        chain_then on old turns.0 new times turns.1 later node (line ∷ []) lines (r ∷ []) rs first.0 second.0
             (go_in_halt (Halts new) node (first.0.served ++ second.0.served) (subst AllGo (sym (map-append (λ s. s.reply) first.0.served second.0.served ∙ (λ i. first.0.of_replies i ++ second.0.of_replies i))) (first.1, second.1))),
         (first.1, second.1),
       )
-  turns_chain rests [] (r ∷ rs) old new times later node turns stands = absurd turns
-  turns_chain rests (line ∷ lines) [] old new times later node turns stands = absurd turns
+  turns_chain on [] (r ∷ rs) old new times later node turns stands = absurd turns
+  turns_chain on (line ∷ lines) [] old new times later node turns stands = absurd turns

@@ -11,15 +11,15 @@ use Rattle.node_session.specs.declared.ended.Ended.{Ended}
 use Rattle.node_session.specs.declared.ended.Ended.TheVariants.{Finish, Quit, SourceFault, SinkFault, Memory, Halted, Long}
 use Rattle.node_session.specs.Turns.{Times}
 use Rattle.node_session.specs.Session.{Ran}
-use Rattle.node_model.specs.Run.{ImagesLeft, Served, IsRun, ClosesEach, EndsOnce, goes_on, halts, is_halted, node_after_line, node_after_lines, last_node, states_from, states_while, states_of_lines, states_of_run}
+use Rattle.node_model.specs.Run.{ImagesLeft, Served, ServesAll, IsRun, ClosesEach, EndsOnce, goes_on, halts, is_halted, node_after_line, node_after_lines, last_node, states_from, states_while, states_of_lines, states_of_run}
 use Rattle.node_model.specs.declared.run_end.RunEnd.{RunEnd}
 use Rattle.node_model.specs.declared.run_end.RunEnd.TheVariants as end
 use Rattle.node_model.specs.Outside.{Outside, RoseOn, RoseInLast, counts_of}
 use Rattle.node_model.specs.RunEnd.{HasCause, IsServedThrough, EndsAtRestart, input_limit}
 use Rattle.node_model.specs.Headline.{LeavesLast, LeavesSome}
-use Rattle.node_model.specs.Meaning.{left_between, LeavesEach, Rests, ActsBy, TendsBy, GoesOn, Enters, ClosesFrom}
+use Rattle.node_model.specs.Meaning.{left_between, LeavesEach, ActsBy, TendsBy, GoesOn, Enters, ClosesFrom}
 use Rattle.node_run.specs.Chain.{EndsWith, InHalt, Lifted}
-use Rattle.node_run.specs.Whole.{CloseAfter, UnlessHalted, RunsWhole, ClosesWith, HaltsWith, Concludes}
+use Rattle.node_run.specs.Whole.{RestsOn, RunsWhole, ClosesWith, HaltsWith, Concludes}
 use Rattle.node_run.proofs.Ends.{ran_lifts}
 use Rattle.node_run.proofs.States.{lines_setups, on_same, first_of_lines, serves_more}
 use Rattle.node_run.proofs.Replies.{match_true, match_false}
@@ -29,6 +29,10 @@ one_state : (device : ℕ) (slot : Option Slot) (image : List ℕ) → MatchOpti
 one_state device None image h = tt
 one_state device (Some slot) image (inl h) = h
 one_state device (Some slot) image (inr h) = absurd h
+
+true_of : (b : Bool) (P Q : Type 0) → b ≡ true → MatchBool b P Q → P
+true_of true P Q is h = h
+true_of false P Q is h = let e : false ≡ true = is in cc
 
 -- ---- causes
 
@@ -78,6 +82,14 @@ in_halt_more P Q more node [] h = tt
 in_halt_more P Q more node (served ∷ []) h = λ is. more node (node_after_line served node) (h is)
 in_halt_more P Q more node (served ∷ next ∷ lines) h = in_halt_more P Q more (node_after_line served node) (next ∷ lines) h
 
+-- A run with a refused restart ends in it.
+pub halt_last : (P : Node → Node → Type 0) (node : Node) (lines : List Served) → EndsOnce lines → is_halted lines ≡ true → InHalt P node lines → (before : Node) × P before (node_after_lines lines node)
+halt_last P node [] once is h = let e : false ≡ true = is in cc
+halt_last P node (served ∷ []) once is h = (node, h (halt_of served.reply (or_is (halts served.reply) false is refl)))
+halt_last P node (served ∷ next ∷ lines) once is h =
+    let more = goes_more served.reply (EndsOnce (next ∷ lines)) (next ∷ lines) next lines once refl in
+    halt_last P (node_after_line served node) (next ∷ lines) more.0 (or_goes (halts served.reply) (is_halted (next ∷ lines)) more.1 is) h
+
 -- The end has its cause.
 module _ (Halts : (before after : Node) → Type 0) (o : Outside) (first : Node) (served : List Served) (unserved : List (Option (List ℕ))) (closing : List NodeEvent) where
   abbrev Cause : RunEnd → Type 0
@@ -90,13 +102,13 @@ module _ (Halts : (before after : Node) → Type 0) (o : Outside) (first : Node)
   closed_cause end.SourceFault out closes = absurd closes
   closed_cause end.SinkFault out closes = absurd closes
   closed_cause end.NoMemory out closes = absurd closes
-  closed_cause (end.DeviceRefused device) out closes = absurd closes
+  closed_cause (end.DeviceRefused device why) out closes = absurd closes
   closed_cause end.InputTooLong out closes = absurd closes
 
   halted_cause : (e : RunEnd) → EndsAtRestart o served → EndsOnce served → InHalt Halts first served → HaltsWith e Halts first → Cause e
   halted_cause (end.DeviceFault device) ends once halt so =
       inr (ends, rose_in_last device first served once ends.halted (in_halt_more Halts (λ a b. RoseOn device (counts_of a) (counts_of b)) so first served halt))
-  halted_cause (end.DeviceRefused device) ends once halt so = (ends, so)
+  halted_cause (end.DeviceRefused device why) ends once halt so = (ends, so)
   halted_cause end.NoMemory ends once halt so = tt
   halted_cause end.Served ends once halt so = absurd so
   halted_cause end.WordsRefused ends once halt so = absurd so
@@ -120,12 +132,11 @@ module _ {T : Type 0} (Stands : T → Node → Type 0) (views : T → ℕ → Di
   -- ---- the session, and the closing of each device
 
   -- a run that is closed
-  run_closes : (limit : ℕ) (bytes output : List ℕ) (left : Option (List ℕ)) (times : Times) (node : Node) (old new end : T) (result : Ended)
+  run_closes : RestsOn Stands views Halts told → (limit : ℕ) (bytes output : List ℕ) (left : Option (List ℕ)) (times : Times) (node : Node) (old new end : T) (result : Ended)
       → (l : Lifted Stands views Halts told limit bytes output left times node old new result) → length bytes ≤ limit → is_halted l.served ≡ false
-      → (c : ClosesFrom Stands views told Says new (node_after_lines l.served node) end)
-      → UnlessHalted Says (last_node node l.served c.closing) result
+      → ClosesFrom Stands views told Says new (node_after_lines l.served node) end
       → RunsWhole Stands views Halts told Says limit bytes output left times node old new end result
-  run_closes limit bytes output left times node old new end result l within goes c says =
+  run_closes on limit bytes output left times node old new end result l within goes c =
       let last : Node = node_after_lines l.served node in
       record {
         lifted = l;
@@ -139,21 +150,22 @@ module _ {T : Type 0} (Stands : T → Node → Type 0) (views : T → ℕ → Di
           closes = match_false (is_halted l.served) (c.closing ≡ []) (ClosesEach 0 last c.closing) goes c.closes;
           legal = c.legal;
         };
-        stands = c.stands;
-        leaves = leaves_both Stands views Halts told node last (λ device. states_of_lines device l.served node) (λ device. states_while device c.closing last)
+        stands = λ _. c.stands;
+        halt = λ is. let e : true ≡ false = sym is ∙ goes in cc;
+        leaves = leaves_both Stands views Halts told on node last (λ device. states_of_lines device l.served node) (λ device. states_while device c.closing last)
             (λ device. states_of_run device node l.served c.closing) old new end
-            (lines_setups (left_between views old new) told node l.served l.serves)
+            (λ is. lines_setups (left_between views old new) node l.served (subst (λ (b : Bool). ServesAll (left_between views old new) b node l.served) is l.serves))
             (λ P device image h. one_of_front P (states_of_lines device l.served node) (states_while device c.closing last) image h)
             (λ P device image h. one_of_back P (states_of_lines device l.served node) (states_while device c.closing last) image h)
             l.leaves c.leaves;
-        says = says;
+        says = λ _. c.says;
       }
 
   -- a refused restart is followed by nothing
-  run_halts : (limit : ℕ) (bytes output : List ℕ) (left : Option (List ℕ)) (times : Times) (node : Node) (old new : T)
-      → (l : Lifted Stands views Halts told limit bytes output left times node old new Halted) → length bytes ≤ limit → is_halted l.served ≡ true
-      → RunsWhole Stands views Halts told Says limit bytes output left times node old new new Halted
-  run_halts limit bytes output left times node old new l within halted = record {
+  run_halts : (limit : ℕ) (bytes output : List ℕ) (left : Option (List ℕ)) (times : Times) (node : Node) (old new : T) (result : Ended)
+      → (l : Lifted Stands views Halts told limit bytes output left times node old new result) → length bytes ≤ limit → is_halted l.served ≡ true
+      → RunsWhole Stands views Halts told Says limit bytes output left times node old new new result
+  run_halts limit bytes output left times node old new result l within halted = record {
     lifted = l;
     within = within;
     closing = [];
@@ -163,49 +175,31 @@ module _ {T : Type 0} (Stands : T → Node → Type 0) (views : T → ℕ → Di
       closes = match_true (is_halted l.served) ([] ≡ []) (ClosesEach 0 (node_after_lines l.served node) []) halted refl;
       legal = tt;
     };
-    stands = l.stands;
+    stands = λ goes. let e : true ≡ false = sym halted ∙ goes in cc;
+    halt = λ _. l.halt;
     leaves = leaves_wider Stands views Halts told node (λ device. states_of_lines device l.served node) (λ device. states_of_run device node l.served []) old new
         (λ P device image h. one_of_front P (states_of_lines device l.served node) (states_while device [] (node_after_lines l.served node)) image h) l.leaves;
-    says = tt;
+    says = λ goes. let e : true ≡ false = sym halted ∙ goes in cc;
   }
 
-  run_ends : (limit : ℕ) (bytes output : List ℕ) (left : Option (List ℕ)) (times : Times) (node : Node) (old new end : T) (result : Ended)
-      → (l : Lifted Stands views Halts told limit bytes output left times node old new result) → length bytes ≤ limit
-      → (result ≡ SinkFault → is_halted l.served ≡ false)
-      → CloseAfter Stands views told Says new end result
-      → RunsWhole Stands views Halts told Says limit bytes output left times node old new end result
-  run_ends limit bytes output left times node old new end (Finish n) l within goes close =
-      let c : ClosesFrom Stands views told Says new (node_after_lines l.served node) end = close (node_after_lines l.served node) l.stands in
-      run_closes limit bytes output left times node old new end (Finish n) l within l.ends.4 c c.says
-  run_ends limit bytes output left times node old new end (Quit n) l within goes close =
-      let c : ClosesFrom Stands views told Says new (node_after_lines l.served node) end = close (node_after_lines l.served node) l.stands in
-      run_closes limit bytes output left times node old new end (Quit n) l within l.ends.3 c c.says
-  run_ends limit bytes output left times node old new end SourceFault l within goes close =
-      let c : ClosesFrom Stands views told Says new (node_after_lines l.served node) end = close (node_after_lines l.served node) l.stands in
-      run_closes limit bytes output left times node old new end SourceFault l within l.ends.4 c c.says
-  run_ends limit bytes output left times node old new end SinkFault l within goes close =
-      let c : ClosesFrom Stands views told Says new (node_after_lines l.served node) end = close (node_after_lines l.served node) l.stands in
-      run_closes limit bytes output left times node old new end SinkFault l within (goes refl) c c.says
-  run_ends limit bytes output left times node old new end Memory l within goes close =
-      let c : ClosesFrom Stands views told Says new (node_after_lines l.served node) end = close (node_after_lines l.served node) l.stands in
-      run_closes limit bytes output left times node old new end Memory l within l.ends c c.says
-  run_ends limit bytes output left times node old new end Halted l within goes close =
-      subst (λ (e : T). RunsWhole Stands views Halts told Says limit bytes output left times node old new e Halted) (sym close)
-      (run_halts limit bytes output left times node old new l within l.ends.1)
-  run_ends limit bytes output left times node old new end (Long n) l within goes close =
-      let c : ClosesFrom Stands views told Says new (node_after_lines l.served node) end = close (node_after_lines l.served node) l.stands in
-      run_closes limit bytes output left times node old new end (Long n) l within l.ends.4 c c.says
-
-  -- A session over a store, and what is done behind it, are a run of each node that the store stood for, where no store halted whose
-  -- last replies couldn't be written.
-  pub ran_whole : Rests Stands views → (limit : ℕ) (taken taken' : List ℕ) (left left' : Option (List ℕ)) (written written' : Option (List ℕ)) (old new end : T) (times later : Times) (node : Node) (result : Ended)
+  -- A session over a store, and what is done behind it, are a run of each node that the store stood for: where no restart was refused each
+  -- device is closed, and else nothing is done.
+  pub ran_whole : RestsOn Stands views Halts told → (limit : ℕ) (taken taken' : List ℕ) (left left' : Option (List ℕ)) (written written' : Option (List ℕ)) (old new end : T) (times later : Times) (node : Node) (result : Ended)
       → (ran : Ran (ActsBy Stands views Halts told) (TendsBy Stands views told) limit taken taken' left left' written written' old new times later result) → Stands old node
-      → ((l : Lifted Stands views Halts told limit ran.bytes ran.output left' times node old new result) → result ≡ SinkFault → is_halted l.served ≡ false)
-      → CloseAfter Stands views told Says new end result
+      → ((last : Node) → Stands new last → ClosesFrom Stands views told Says new last end)
+      → ((before last : Node) → Halts new before last → end ≡ new)
       → RunsWhole Stands views Halts told Says limit ran.bytes ran.output left' times node old new end result
-  ran_whole rests limit taken taken' left left' written written' old new end times later node result ran stands goes close =
-      let l = ran_lifts Stands views Halts told rests limit taken taken' left left' written written' old new times later node result ran stands in
-      run_ends limit ran.bytes ran.output left' times node old new end result l ran.within (goes l) close
+  ran_whole on limit taken taken' left left' written written' old new end times later node result ran stands closes stays = by (is_halted l.served) refl
+    where
+      l : Lifted Stands views Halts told limit ran.bytes ran.output left' times node old new result
+      l = ran_lifts Stands views Halts told on limit taken taken' left left' written written' old new times later node result ran stands
+
+      by : (b : Bool) → is_halted l.served ≡ b → RunsWhole Stands views Halts told Says limit ran.bytes ran.output left' times node old new end result
+      by false goes = run_closes on limit ran.bytes ran.output left' times node old new end result l ran.within goes (closes (node_after_lines l.served node) (l.stands goes))
+      by true halted =
+          let last = halt_last (Halts new) node l.served l.once halted l.halt in
+          subst (λ (e : T). RunsWhole Stands views Halts told Says limit ran.bytes ran.output left' times node old new e result) (sym (stays last.0 (node_after_lines l.served node) last.1))
+          (run_halts limit ran.bytes ran.output left' times node old new result l ran.within halted)
 
   -- ---- since the entry
 
@@ -233,8 +227,36 @@ module _ {T : Type 0} (Stands : T → Node → Type 0) (views : T → ℕ → Di
         | inr since_start ↦ (leaves device).each image since_start
       ]
 
+  -- What holds of each node for which the store stands, and of each with which it halted, holds of the last that was served.
+  pub last_served : (limit : ℕ) (bytes output : List ℕ) (left : Option (List ℕ)) (times : Times) (node : Node) (old new : T) (result : Ended)
+      → (l : Lifted Stands views Halts told limit bytes output left times node old new result) (P : Node → Type 0)
+      → ((n : Node) → Stands new n → P n) → ((before n : Node) → Halts new before n → P n) → P (node_after_lines l.served node)
+  last_served limit bytes output left times node old new result l P stood halted = by (is_halted l.served) refl
+    where
+      by : (b : Bool) → is_halted l.served ≡ b → P (node_after_lines l.served node)
+      by false goes = stood (node_after_lines l.served node) (l.stands goes)
+      by true is = let last = halt_last (Halts new) node l.served l.once is l.halt in halted last.0 (node_after_lines l.served node) last.1
+
+  -- and of the last of all
+  pub last_closed : (limit : ℕ) (bytes output : List ℕ) (left : Option (List ℕ)) (times : Times) (node : Node) (old new end : T) (result : Ended)
+      → (w : RunsWhole Stands views Halts told Says limit bytes output left times node old new end result) (P : Node → Type 0)
+      → ((n : Node) → Stands end n → P n) → ((before n : Node) → Halts end before n → P n) → P (last_node node w.lifted.served w.closing)
+  last_closed limit bytes output left times node old new end result w P stood halted = by (is_halted w.lifted.served) refl
+    where
+      by : (b : Bool) → is_halted w.lifted.served ≡ b → P (last_node node w.lifted.served w.closing)
+      by false goes = stood (last_node node w.lifted.served w.closing) (w.stands goes)
+      by true is =
+          let back = halt_last (Halts end) node w.lifted.served w.is_run.ends is (w.halt is) in
+          let none : w.closing ≡ [] = true_of (is_halted w.lifted.served) (w.closing ≡ []) (ClosesEach 0 (node_after_lines w.lifted.served node) w.closing) is w.is_run.closes in
+          subst (λ (events : List NodeEvent). P (last_node node w.lifted.served events)) (sym none) (halted back.0 (node_after_lines w.lifted.served node) back.1)
+
   -- what a crash may leave at the end survives the last state
-  pub last_images : Rests Stands views → (may_leave : ImagesLeft) (end : T) (last : Node) → Stands end last
-      → ((device : ℕ) (image : List ℕ) → may_leave device image → meanwhile (views end device) (views end device) image) → LeavesLast may_leave last
-  last_images rests may_leave end last stands law device image left =
-      one_state device (slice_get last device) image ((rests end last stands device).each image (law device image left))
+  pub last_images : RestsOn Stands views Halts told → (may_leave : ImagesLeft) (limit : ℕ) (bytes output : List ℕ) (left : Option (List ℕ)) (times : Times) (node : Node) (old new end : T) (result : Ended)
+      → (w : RunsWhole Stands views Halts told Says limit bytes output left times node old new end result)
+      → ((device : ℕ) (image : List ℕ) → may_leave device image → meanwhile (views end device) (views end device) image)
+      → LeavesLast may_leave (last_node node w.lifted.served w.closing)
+  last_images on may_leave limit bytes output left times node old new end result w law device image was =
+      let last : Node = last_node node w.lifted.served w.closing in
+      let rests : LeavesEach views last (λ d. states_while d [] last) end end =
+      last_closed limit bytes output left times node old new end result w (λ n. LeavesEach views n (λ d. states_while d [] n) end end) (λ n stands. on.rests end n stands) (λ before n halts. on.halted end before n halts) in
+      one_state device (slice_get last device) image ((rests device).each image (law device image was))

@@ -33,14 +33,15 @@ InHalt Halts node [] = Unit {0}
 InHalt Halts node (served ∷ []) = served.reply ≡ reply.Halted → Halts node (node_after_line served node)
 InHalt Halts node (served ∷ next ∷ lines) = InHalt Halts (node_after_line served node) (next ∷ lines)
 
--- From a state for which the store stood these lines are served with these replies, and the store stands for the state after them.
+-- From a state for which the store stood these lines are served with these replies, and the store stands for the state after them, unless
+-- it halted.
 pub record Chain {T : Type 0} (Stands : T → Node → Type 0) (views : T → ℕ → DiskView) (Halts : T → (before after : Node) → Type 0) (told : Bool) (old : T) (times : Times) (node : Node) (lines : List (Option (List ℕ))) (replies : List Reply) (new : T) (later : Times) : Type 0 where
   pub served : List Served
   pub serves : ServesAll (left_between views old new) told node served
   pub of_lines : map (λ s. s.line) served ≡ lines
   pub of_replies : replies_of served ≡ replies
   pub clock : TicksAll times (times_of served) later
-  pub stands : Stands new (node_after_lines served node)
+  pub stands : is_halted served ≡ false → Stands new (node_after_lines served node)
   pub leaves : LeavesEach views node (λ device. states_of_lines device served node) old new
   pub halt : InHalt (Halts new) node served
 
@@ -62,7 +63,7 @@ pub record Lifted {T : Type 0} (Stands : T → Node → Type 0) (views : T → �
   pub ended : Bool
   pub serves : ServesAll (left_between views old new) told node served
   pub once : EndsOnce served
-  pub stands : Stands new (node_after_lines served node)
+  pub stands : is_halted served ≡ false → Stands new (node_after_lines served node)
   pub leaves : LeavesEach views node (λ device. states_of_lines device served node) old new
   pub halt : InHalt (Halts new) node served
   pub takes : TakesLines bytes ended served unserved

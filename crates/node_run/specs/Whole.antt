@@ -1,50 +1,40 @@
 -- Crate node_run. A whole run over a store: its session, the closing of each device behind it, how it ends, and what is known of it
 -- besides.
-use Rattle.std.specs.Prelude.{◌≡◌, ℕ, ◌<◌, ◌≤◌, Bool, List, Option, length, map}
+use Rattle.std.specs.Prelude.{◌≡◌, ℕ, ◌<◌, ◌≤◌, Bool, true, false, List, [], Option, length, map}
 use Rattle.fault_count.specs.Counts.{Rose}
 use Rattle.disk_model.specs.Disk.{DiskView}
 use Rattle.device_model.specs.Book.{Setup}
+use Rattle.device_model.specs.Device.{State}
 use Rattle.node_model.specs.Commands.{Node, NodeEvent, IsNumbered}
 use Rattle.node_session.specs.declared.ended.Ended.{Ended}
 use Rattle.node_session.specs.declared.ended.Ended.TheVariants.{Finish, Quit, SourceFault, SinkFault, Memory, Halted, Long}
 use Rattle.node_session.specs.Turns.{Times}
 use Rattle.node_model.specs.declared.run_end.RunEnd.{RunEnd}
 use Rattle.node_model.specs.declared.run_end.RunEnd.TheVariants as end
-use Rattle.node_model.specs.Run.{Served, IsRun, last_node, states_of_run}
+use Rattle.node_model.specs.Run.{Served, IsRun, is_halted, last_node, states_while, states_of_run}
 use Rattle.node_model.specs.Outside.{Outside, NoneFell, RoseOn, counts_of}
 use Rattle.node_model.specs.RunEnd.{AllQuiet, FailsToClose}
-use Rattle.node_model.specs.Meaning.{left_between, LeavesEach, ClosesBy}
-use Rattle.node_run.specs.Chain.{Lifted}
+use Rattle.node_model.specs.Meaning.{left_between, LeavesEach, Rests}
+use Rattle.node_run.specs.Chain.{InHalt, Lifted}
 
--- Behind a session each device is closed; behind a refused restart nothing is done.
-abbrev pub CloseAfter : {T : Type 0} → (Stands : T → Node → Type 0) → (views : T → ℕ → DiskView) → (told : Bool) → (Says : Node → Type 0) → (new end : T) → Ended → Type 0
-CloseAfter Stands views told Says new end Halted = end ≡ new
-CloseAfter Stands views told Says new end (Finish n) = ClosesBy Stands views told Says new end
-CloseAfter Stands views told Says new end (Quit n) = ClosesBy Stands views told Says new end
-CloseAfter Stands views told Says new end SourceFault = ClosesBy Stands views told Says new end
-CloseAfter Stands views told Says new end SinkFault = ClosesBy Stands views told Says new end
-CloseAfter Stands views told Says new end Memory = ClosesBy Stands views told Says new end
-CloseAfter Stands views told Says new end (Long n) = ClosesBy Stands views told Says new end
-
--- it holds of the last state, unless a restart was refused
-abbrev pub UnlessHalted : (Node → Type 0) → Node → Ended → Type 0
-UnlessHalted Says last Halted = Unit {0}
-UnlessHalted Says last (Finish n) = Says last
-UnlessHalted Says last (Quit n) = Says last
-UnlessHalted Says last SourceFault = Says last
-UnlessHalted Says last SinkFault = Says last
-UnlessHalted Says last Memory = Says last
-UnlessHalted Says last (Long n) = Says last
+-- What a run rests on. Where nothing is done, each image of now survives the state for which the store stands, or with which it halted;
+-- and where the disks may tell anything, nothing is said of images.
+pub record RestsOn {T : Type 0} (Stands : T → Node → Type 0) (views : T → ℕ → DiskView) (Halts : T → (before after : Node) → Type 0) (told : Bool) : Type 0 where
+  pub rests : Rests Stands views
+  pub halted : (store : T) (before after : Node) → Halts store before after → LeavesEach views after (λ device. states_while device [] after) store store
+  pub blind : told ≡ false → (node : Node) (states : ℕ → List State) (old new : T) → LeavesEach views node states old new
 
 -- A session over a store, which was at old before it, new behind it and end in the end, is a run of the node that the store stood for.
+-- Behind it each device is closed, unless a restart was refused.
 pub record RunsWhole {T : Type 0} (Stands : T → Node → Type 0) (views : T → ℕ → DiskView) (Halts : T → (before after : Node) → Type 0) (told : Bool) (Says : Node → Type 0) (limit : ℕ) (bytes output : List ℕ) (left : Option (List ℕ)) (times : Times) (node : Node) (old new end : T) (result : Ended) : Type 0 where
   pub lifted : Lifted Stands views Halts told limit bytes output left times node old new result
   pub within : length bytes ≤ limit
   pub closing : List NodeEvent
   pub is_run : IsRun (left_between views old end) told node lifted.served closing
-  pub stands : Stands end (last_node node lifted.served closing)
+  pub stands : is_halted lifted.served ≡ false → Stands end (last_node node lifted.served closing)
+  pub halt : is_halted lifted.served ≡ true → InHalt (Halts end) node lifted.served
   pub leaves : LeavesEach views node (λ device. states_of_run device node lifted.served closing) old end
-  pub says : UnlessHalted Says (last_node node lifted.served closing) result
+  pub says : is_halted lifted.served ≡ false → Says (last_node node lifted.served closing)
 
 -- How a run may end behind a session that went well: nothing is pending, or a device failed in the closing flush.
 abbrev pub ClosesWith : RunEnd → (first : Node) → List Served → List NodeEvent → Type 0
@@ -55,7 +45,7 @@ ClosesWith _ first lines closing = ⊥
 -- And behind one in which a restart was refused: where a device failed, its count rose in the restart.
 abbrev pub HaltsWith : RunEnd → (Halts : (before after : Node) → Type 0) → (first : Node) → Type 0
 HaltsWith (end.DeviceFault device) Halts first = (before after : Node) → Halts before after → RoseOn device (counts_of before) (counts_of after)
-HaltsWith (end.DeviceRefused device) Halts first = device < length first
+HaltsWith (end.DeviceRefused device why) Halts first = device < length first
 HaltsWith end.NoMemory Halts first = Unit {0}
 HaltsWith _ Halts first = ⊥
 

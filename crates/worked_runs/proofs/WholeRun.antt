@@ -200,6 +200,7 @@ holds image sound = record {
   left_now = λ d i h. absurd h;
   left_since = λ d i h. absurd h;
   committed = (first_commits, (second_commits, (third_commits, tt)));
+  unrefused = tt;
 }
 
 -- no run ends with a status that isn't there
@@ -210,7 +211,7 @@ no_other_status (end.DeviceFault device) is = cc
 no_other_status end.SourceFault is = cc
 no_other_status end.SinkFault is = cc
 no_other_status end.NoMemory is = cc
-no_other_status (end.DeviceRefused device) is = cc
+no_other_status (end.DeviceRefused n why) is = cc
 no_other_status end.InputTooLong is = cc
 
 -- nor of itself with a disk's fault where no disk has failed
