@@ -6,7 +6,6 @@ use Rattle.std.proofs.lemmas.Bool.{false≢true}
 use Rattle.std.proofs.lemmas.List.{append-nil}
 use Rattle.std.specs.Result.{IsErr}
 use Rattle.fault_count.specs.Counts.{Rose}
-use Rattle.rec_format.specs.Versions.{top_number}
 use Rattle.device_model.specs.Book as book
 use Rattle.device_model.specs.Book.{Setup, Buffer}
 use Rattle.device_model.specs.Device.{State}
@@ -23,6 +22,7 @@ use Rattle.block_shelf.specs.View.{ShelfView, IsShelf, IsBufferOf, StandInOrder,
 use Rattle.block_shelf.specs.Standing.{StandsFor, book_phase, book_buffer}
 use Rattle.block_shelf.specs.Flushes.{FirstLeaves, FlushMakes}
 use Rattle.block_shelf.specs.Calls.{Goes}
+use Rattle.block_shelf.proofs.Blocks.{at_most}
 use Rattle.shard_core.specs.Calls.{FlushesAll}
 use Rattle.shard_core.proofs.Going.{after_both, goes_then}
 use Rattle.shard_core.proofs.FlushSteps.{StandRight, flush_all_first, flush_none, flush_is_one, count_both, stops_in_front, stops_behind}
@@ -44,23 +44,17 @@ stand_right (b ∷ bs) order = (each bs order.0, stand_right bs order.1)
     each [] all = tt
     each (c ∷ cs) all = ((all.0.0, phase_same b.phase ∙ all.0.1), each cs all.1)
 
--- as many buffers as numbers at most
-buffers_fit : (bs : List BufferState) (low next : ℕ) → StandInOrder bs → AllByRecursion (λ b. low ≤ b.number) bs → AllByRecursion (λ b. b.number < next) bs → low ≤ next → low + length bs ≤ next
-buffers_fit [] low next order above below le = omega arith
-buffers_fit (b ∷ bs) low next order above below le =
-    let rest : b.number + 1 + length bs ≤ next = buffers_fit bs (b.number + 1) next order.1 (all_map (λ c. (b.number < c.number) × (is_unsealed b.phase ≡ false)) (λ c. b.number + 1 ≤ c.number) bs (λ c h. omega (arith, h.0)) order.0) below.1 (omega (arith, below.0)) in
-    omega (arith, rest, above.0)
-
-few_buffers : {D : Type 0} (view : D → DiskView) (shelf : ShelfView D) → IsShelf view shelf → length shelf.buffers ≤ shelf.next_number
+-- as many buffers as blocks at most
+pub few_buffers : {D : Type 0} (view : D → DiskView) (shelf : ShelfView D) → IsShelf view shelf → length shelf.buffers ≤ 65536
 few_buffers view shelf kept =
-    let fit : 0 + length shelf.buffers ≤ shelf.next_number = buffers_fit shelf.buffers 0 shelf.next_number kept.order (all_map (IsBufferOf shelf.geometry shelf.next_number) (λ b. 0 ≤ b.number) shelf.buffers (λ b h. omega arith) kept.buffers)
-    (all_map (IsBufferOf shelf.geometry shelf.next_number) (λ b. b.number < shelf.next_number) shelf.buffers (λ b h. h.number) kept.buffers) (omega arith) in
-    omega arith
+    let fit : length shelf.buffers ≤ shelf.geometry.blocks = at_most shelf.geometry.blocks shelf.buffers shelf.free kept.apart
+    (all_map (IsBufferOf shelf.geometry shelf.next_number) (λ b. b.block < shelf.geometry.blocks) shelf.buffers (λ b h. h.block) kept.buffers) in
+    omega (arith, fit, kept.geometry.blocks)
 
--- with those that were flushed before they are as many as numbers at most, also before the first
+-- with those that were flushed before they are as many as blocks at most, also before the first
 pub fits_before : {D : Type 0} (view : D → DiskView) (count : ℕ) (shelf : ShelfView D) → IsShelf view shelf
-    → (count ≡ 0) ⊎ (count + length shelf.buffers ≤ top_number + 1) → count + length shelf.buffers ≤ top_number + 1
-fits_before view count shelf kept (inl none) = omega (arith, none, few_buffers view shelf kept, kept.number.1)
+    → (count ≡ 0) ⊎ (count + length shelf.buffers ≤ 65536) → count + length shelf.buffers ≤ 65536
+fits_before view count shelf kept (inl none) = omega (arith, none, few_buffers view shelf kept)
 fits_before view count shelf kept (inr few) = few
 
 -- ---- the loop
@@ -152,6 +146,10 @@ Fewer result old new = IfOk result (λ number. MatchOption number (new ≡ old) 
 pub where_err : {E : Type 0} (result : Result ℕ E) (whole steps : List Step) → IsErr result → StopsIn whole steps → FlushesAll result whole steps
 where_err (Ok n) whole steps is stops = absurd (false≢true is)
 where_err (Err e) whole steps is stops = stops
+
+pub where_ok : {T E : Type 0} (result : Result T E) (P : T → Type 0) → IsErr result → IfOk result P
+where_ok (Ok x) P is = absurd (false≢true is)
+where_ok (Err e) P is = tt
 
 pub on_err : {T E : Type 0} (result : Result T E) (P : Type 0) → P → OnErr result P
 on_err (Ok x) P p = tt

@@ -24,5 +24,6 @@ pub mod FoundCopies
 pub mod Beginning
 pub mod Places
 pub mod Tallies
+pub mod FewNumbers
 pub mod Headers
 pub mod Again

@@ -87,13 +87,22 @@ module _ {D : Type 0} (view : D → DiskView) (shard : ShardView D) (s : State) 
   some_sprigs : 0 < shard.set.sprigs
   some_sprigs = omega (arith, whole.settings.sprigs)
 
+  -- At most 2^32 entries are of each kind.
+  pub few_puts : put_count s ≤ 2 ^ 32
+  few_puts = few_entries view shard s is whole agrees (λ d. entry_passes is_put (entry s d)) (λ d passes. passed is_put (entry s d) passes)
+
+  pub few_tombstones : tombstone_count s ≤ 2 ^ 32
+  few_tombstones = few_entries view shard s is whole agrees (λ d. entry_passes is_tombstone (entry s d)) (λ d passes. passed is_tombstone (entry s d) passes)
+
+  pub few_covered : covered_count s ≤ 2 ^ 32
+  few_covered =
+      few_entries view shard s is whole agrees (λ d. entry_passes is_put (entry s d) && entry_is_covered s d)
+      (λ d passes. passed is_put (entry s d) (and_left (entry_passes is_put (entry s d)) (entry_is_covered s d) passes))
+
   -- The tally of a shard tells how many records, tombstones and covered records the state has.
   pub tally_tells : record { records : (tally_sum shard.sprigs).records ≡ put_count s; tombstones : (tally_sum shard.sprigs).tombstones ≡ tombstone_count s; covered : (tally_sum shard.sprigs).covered ≡ covered_count s }
   tally_tells = record {
-    records = unturned (put_count s) _ (puts_sum (setup_of shard) shard.sprigs s some_devices some_sprigs agrees.sprigs)
-        (few_entries view shard s is whole agrees (λ d. entry_passes is_put (entry s d)) (λ d passes. passed is_put (entry s d) passes));
-    tombstones = unturned (tombstone_count s) _ (tombstones_sum (setup_of shard) shard.sprigs s some_devices some_sprigs agrees.sprigs)
-        (few_entries view shard s is whole agrees (λ d. entry_passes is_tombstone (entry s d)) (λ d passes. passed is_tombstone (entry s d) passes));
-    covered = unturned (covered_count s) _ (covered_sum (setup_of shard) shard.sprigs s some_devices some_sprigs agrees.sprigs)
-        (few_entries view shard s is whole agrees (λ d. entry_passes is_put (entry s d) && entry_is_covered s d) (λ d passes. passed is_put (entry s d) (and_left (entry_passes is_put (entry s d)) (entry_is_covered s d) passes)));
+    records = unturned (put_count s) _ (puts_sum (setup_of shard) shard.sprigs s some_devices some_sprigs agrees.sprigs) few_puts;
+    tombstones = unturned (tombstone_count s) _ (tombstones_sum (setup_of shard) shard.sprigs s some_devices some_sprigs agrees.sprigs) few_tombstones;
+    covered = unturned (covered_count s) _ (covered_sum (setup_of shard) shard.sprigs s some_devices some_sprigs agrees.sprigs) few_covered;
   }

@@ -1,5 +1,5 @@
 -- Crate shard_core. The numbers of a device, and the tally of its sprigs, which a shard keeps.
-use Rattle.std.specs.Prelude.{◌≡◌, ◌%◌, ◌^◌, List, length, sum_by}
+use Rattle.std.specs.Prelude.{◌≡◌, ◌%◌, ◌^◌, ◌<◌, List, length, sum_by}
 use Rattle.rec_format.specs.declared.entry.Counts.{Counts}
 use Rattle.device_model.specs.Book.{held_blocks}
 use Rattle.device_model.specs.Device.{State, put_count, tombstone_count, covered_count}
@@ -20,6 +20,16 @@ counts_of s = record {
   queued = length s.book.queue;
   held = length (held_blocks s.book.holds);
 }
+
+-- each of the numbers is so small that those of 16 devices add up without going around
+pub record AreFew (counts : Counts) : Type 0 where
+  pub records : counts.records < 2 ^ 60
+  pub tombstones : counts.tombstones < 2 ^ 60
+  pub covered : counts.covered < 2 ^ 60
+  pub free : counts.free < 2 ^ 60
+  pub pending : counts.pending < 2 ^ 60
+  pub queued : counts.queued < 2 ^ 60
+  pub held : counts.held < 2 ^ 60
 
 -- the tallies of all sprigs together, where a sum goes around at 2^64
 abbrev pub tally_sum : List SprigState → Tally

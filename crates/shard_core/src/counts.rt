@@ -2,7 +2,7 @@
 ghost use Rattle.std.specs.Prelude.{◌≡◌, ◌≤◌, length};
 ghost use Rattle.device_model.specs.Device.{State};
 ghost use Rattle.device_model.specs.Steps.{part_total};
-ghost use Rattle.shard_core.specs.Numbers.{counts_of, tally_sum};
+ghost use Rattle.shard_core.specs.Numbers.{AreFew, counts_of, tally_sum};
 ghost use Rattle.shard_core.specs.Stands.{Agrees};
 ghost use Rattle.shard_core.specs.View.{setup_of};
 
@@ -14,9 +14,11 @@ use sprig_tree::{Sprig, Tally};
 
 impl<D: Disk> Shard<D> {
     /// How many records, tombstones and covered records there are, expired ones too; how many blocks are free, how many buffers aren't
-    /// flushed, how many blocks wait to be vacated, and how many are held. It goes over nothing, and takes no memory.
+    /// flushed, how many blocks wait to be vacated, and how many are held. Each is so small that those of 16 devices add up in a `u64`. It
+    /// goes over nothing, and takes no memory.
     pub fn counts(&self) -> Counts
-        ensures { (s : State) → Agrees self.now s → result ≡ counts_of s }
+        ensures state { (s : State) → Agrees self.now s → result ≡ counts_of s }
+        ensures few { (s : State) → Agrees self.now s → AreFew result }
     {
         // By its shape the device has at most 2^32 places, and each entry has a copy at a place of its own, so no sum went around.
         let _shape = self.shelf.geometry();

@@ -1,5 +1,5 @@
 // How what waits in write buffers comes to the disk.
-ghost use Rattle.std.specs.Prelude.{◌≡◌, ◌≢◌, false, [], List, OnOk, OnErr};
+ghost use Rattle.std.specs.Prelude.{◌≡◌, ◌≢◌, ◌<◌, ◌^◌, false, [], List, IfOk, OnOk, OnErr};
 ghost use Rattle.std.specs.List.{AllByRecursion};
 ghost use Rattle.fault_count.specs.Counts.{Rose};
 ghost use Rattle.disk_model.specs.Disk.{IsHonest};
@@ -25,6 +25,7 @@ use disk_model::{Disk, DiskFault};
 pub(crate) fn flush_sealed<D: Disk>(shelf: &mut Shelf<D>) -> Result<u64, DiskFault>
     ensures flushed { (setup : Setup) (s : State) → IsSetupOf setup shelf.old → StandsFor setup shelf.old s
         → (steps : List Step) × FlushesAll result (flush_all s.book) steps × Goes D.view setup steps shelf.old s shelf.new }
+    ensures few { IfOk result (λ n. n < 2 ^ 60) }
     ensures quiet { AllByRecursion (λ b. is_unsealed b.phase ≡ false) shelf.old.buffers → OnOk result (shelf.new.buffers ≡ []) }
     ensures left { OnErr result (shelf.new.buffers ≢ []) }
     ensures cause { OnErr result (Rose (D.view shelf.old.disk).faults (D.view shelf.new.disk).faults) }
@@ -44,6 +45,7 @@ impl<D: Disk> Shard<D> {
     /// After a fault those that were flushed stay so. It takes no memory. After `Ok` nothing is pending.
     pub fn flush(&mut self) -> Result<u64, DiskFault>
         ensures makes { (s : State) → Agrees self.old s → Makes D.view flush_call (flush_answer result) self.old s self.new }
+        ensures few { IfOk result (λ n. n < 2 ^ 60) }
         ensures quiet { OnOk result (self.new.shelf.buffers ≡ []) }
         ensures left { OnErr result (self.new.shelf.buffers ≢ []) }
         ensures later { IsLater (D.view self.old.shelf.disk) (D.view self.new.shelf.disk) }

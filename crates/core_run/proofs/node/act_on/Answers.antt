@@ -54,4 +54,4 @@ pub returns-in-Stat-clause-acts : goal.returns-in-Stat-clause-acts
 returns-in-Stat-clause-acts g c =
     let d = g.D.Disk in
     subst (λ (command : Command). ActsOn d.view c.args.shard.now command c.args.now (reply.StatOf c.counts.result) c.args.shard.now) (sym c.in-Stat.is)
-    (acts_stat d.view g.met.D.Disk.is_disk c.args.shard.now c.args.now (reply.StatOf c.counts.result) c.counts.result refl c.counts.ensures)
+    (acts_stat d.view g.met.D.Disk.is_disk c.args.shard.now c.args.now (reply.StatOf c.counts.result) c.counts.result refl c.counts.ensures.state)

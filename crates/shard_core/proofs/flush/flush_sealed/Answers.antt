@@ -1,4 +1,4 @@
-use Rattle.std.proofs.Common.{inl, inr, ◌≡◌, ℕ, refl, ◌∙◌, ap, subst, arith}
+use Rattle.std.proofs.Common.{inl, inr, ◌≡◌, ◌<◌, ◌^◌, ℕ, refl, ◌∙◌, ap, subst, arith}
 use Rattle.std.specs.Prelude.{Option, Some, None, Result, Ok, Err, OnErr}
 use Rattle.fault_count.specs.Counts.{Rose}
 use Rattle.device_model.specs.Legal.{flush_all}
@@ -7,7 +7,7 @@ use Rattle.block_shelf.specs.View.{ShelfView}
 use Rattle.block_shelf.specs.Flushes.{FirstLeaves}
 use Rattle.shard_core.proofs.Going.{goes_none}
 use Rattle.shard_core.proofs.Later.{later_none, later_then, shape_then}
-use Rattle.shard_core.proofs.FlushLoop.{Stepped, Fewer, fits_before, one_fewer, setup_stays, went_on, went_all, went_stopped, quiet_on, none_left, where_err, on_err, rose_since}
+use Rattle.shard_core.proofs.FlushLoop.{Stepped, Fewer, fits_before, one_fewer, setup_stays, went_on, went_all, went_stopped, quiet_on, none_left, where_err, where_ok, on_err, rose_since}
 use Rattle.disk_model.specs.Disk.{IsDisk}
 use Rattle.shard_core.proofs.flush.flush_sealed.Goals as goal
 
@@ -106,6 +106,14 @@ returns-clause-flushed g c = λ setup s is stands.
     subst (λ (r : Result (Option ℕ) DiskFault). Stepped g.D.Disk.view r mid new) is_none c.flush_step.ensures.flushed in
     went_all g.D.Disk.view setup c.loop-count.count old mid new s
     (setup_stays setup old mid c.loop-count.invariant.shape is) (c.loop-count.invariant.went setup s is stands) c.flush_step.ensures.whole c.loop-count.invariant.honest DiskFault stepped
+
+pub returns-in_err-flush_step-clause-few : goal.returns-in_err-flush_step-clause-few
+returns-in_err-flush_step-clause-few g c = where_ok c.from_residual.result (λ n. n < 2 ^ 60) c.from_residual.ensures.0
+
+pub returns-clause-few : goal.returns-clause-few
+returns-clause-few g c =
+    let few = fits_before g.D.Disk.view c.loop-count.count c.loop-count.shelf c.flush_step.ensures.whole c.loop-count.invariant.few in
+    omega (arith, few)
 
 pub returns-clause-quiet : goal.returns-clause-quiet
 returns-clause-quiet g c = λ quiet.

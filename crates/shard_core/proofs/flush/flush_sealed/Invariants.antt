@@ -1,6 +1,5 @@
 use Rattle.std.proofs.Common.{◌≡◌, ◌+◌, ◌≤◌, length}
 use Rattle.std.specs.Prelude.{◌⊎◌}
-use Rattle.rec_format.specs.Versions.{top_number}
 use Rattle.device_model.specs.Book.{Setup}
 use Rattle.device_model.specs.Device.{State}
 use Rattle.disk_model.specs.Disk.{IsHonest}
@@ -12,7 +11,7 @@ use Rattle.shard_core.proofs.flush.flush_sealed.Given as goal
 
 abbrev pub invariant-loop-count : goal.invariant-loop-count
 invariant-loop-count g l = record {
-  few : (l.count ≡ 0) ⊎ (l.count + length l.shelf.buffers ≤ top_number + 1);
+  few : (l.count ≡ 0) ⊎ (l.count + length l.shelf.buffers ≤ 65536);
   went : (setup : Setup) (s : State) → IsSetupOf setup l.fn.shelf → StandsFor setup l.fn.shelf s
       → Went g.D.Disk.view setup l.count l.fn.shelf s l.shelf;
   quiet : FillsNone l.fn.shelf → FillsNone l.shelf;

@@ -19,7 +19,7 @@ returns-in-Ok g c now =
     subst (λ (old : NodeView g.row.D.Denot). ActsAlone d.view old command.Restart now told (record { shard = Some c.in-Ok.shard; stopped = c.self.inside.stopped }))
     (sym (as_serving c.self.inside.shard c.self.inside.stopped c.in-Some.shard was mine.0) ∙ c.self.view_is)
     (subst (λ (o : Option (StartRefusal g.row.D.Denot)). ActsAlone d.view (serving c.in-Some.shard) command.Restart now told (record { shard = Some c.in-Ok.shard; stopped = o })) (sym mine.0)
-    (restarts_so d.view g.met.D.Disk.is_disk c.in-Some.shard now c.self.inside.set mine.1 c.stop.result c.stop.ensures c.in-Ok.shard c.counts-counts.result e.shape e.stands e.read e.again c.counts-counts.ensures))
+    (restarts_so d.view g.met.D.Disk.is_disk c.in-Some.shard now c.self.inside.set mine.1 c.stop.result c.stop.ensures c.in-Ok.shard c.counts-counts.result e.shape e.stands e.read e.again c.counts-counts.ensures.state))
 
 pub returns-in-Err : goal.returns-in-Err
 returns-in-Err g c now =
