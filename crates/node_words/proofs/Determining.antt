@@ -1,0 +1,54 @@
+-- The options of a job say one value at most.
+use Rattle.std.proofs.Common.{◌≡◌, ℕ, ◌<◌, ◌^◌, Bool, true, false, List, [], ◌∷◌, Option, Some, None, refl, sym, ◌∙◌, ap, lit<, arith}
+use Rattle.node_words.specs.declared.job.Shape.{Shape}
+use Rattle.node_words.specs.declared.job.Tuning.{Tuning}
+use Rattle.node_words.specs.declared.job.Job.{Job}
+use Rattle.node_words.specs.declared.job.Job.TheVariants.{Format, Run}
+use Rattle.node_words.specs.Words.{Text, Pair, number, power, choice, yes_no, Says, HasRows, shape_rows, tuning_rows, rows_of, command_of}
+use Rattle.node_words.proofs.Numbers.{one_number}
+
+one_value : (said : Option Text) (least greatest default m n : ℕ) → greatest < 2 ^ 64 → Says said (number least greatest default m) → Says said (number least greatest default n) → m ≡ n
+one_value None least greatest default m n small one two = one ∙ sym two
+one_value (Some text) least greatest default m n small one two = one_number least greatest text m n small one two
+
+one_power : (said : Option Text) (least greatest default m n : ℕ) → greatest < 2 ^ 64 → Says said (power least greatest default m) → Says said (power least greatest default n) → m ≡ n
+one_power None least greatest default m n small one two = one ∙ sym two
+one_power (Some text) least greatest default m n small one two = one_number least greatest text m n small one.0 two.0
+
+yes_is_no : {A : Type 0} → yes_no true ≡ yes_no false → A
+yes_is_no is = cc
+
+one_choice : (said : Option Text) (a b : Bool) → Says said (choice a) → Says said (choice b) → a ≡ b
+one_choice None a b one two = one ∙ sym two
+one_choice (Some text) true true one two = refl
+one_choice (Some text) false false one two = refl
+one_choice (Some text) true false one two = yes_is_no (sym one ∙ two)
+one_choice (Some text) false true one two = yes_is_no (sym two ∙ one)
+
+one_shape : (pairs : List Pair) (s t : Shape) → HasRows pairs (shape_rows s) → HasRows pairs (shape_rows t) → s ≡ t
+one_shape pairs s t one two =
+    let size = one_power _ 16384 1048576 1048576 s.block_size t.block_size (lit< tt) one.0 two.0 in
+    let blocks = one_value _ 8 65536 64 s.blocks t.blocks (lit< tt) one.1.0 two.1.0 in
+    λ i. record { block_size = size i; blocks = blocks i }
+
+one_tuning : (pairs : List Pair) (s t : Tuning) → HasRows pairs (tuning_rows s) → HasRows pairs (tuning_rows t) → s ≡ t
+one_tuning pairs s t one two =
+    let sprigs = one_value _ 1 256 16 s.sprigs t.sprigs (lit< tt) one.0 two.0 in
+    let lwm = one_value _ 0 0 0 s.lwm t.lwm (lit< tt) one.1.0 two.1.0 in
+    let pending = one_value _ 4 64 16 s.pending t.pending (lit< tt) one.1.1.0 two.1.1.0 in
+    let cache = one_value _ 0 0 0 s.cache t.cache (lit< tt) one.1.1.1.0 two.1.1.1.0 in
+    let commit = one_choice _ s.commit t.commit one.1.1.1.1.0 two.1.1.1.1.0 in
+    let raid_age = one_value _ 0 315360000 86400 s.raid_age t.raid_age (lit< tt) one.1.1.1.1.1.0 two.1.1.1.1.1.0 in
+    λ i. record { sprigs = sprigs i; lwm = lwm i; pending = pending i; cache = cache i; commit = commit i; raid_age = raid_age i }
+
+-- ---- the command word tells the command
+
+-- the first byte of a text
+abbrev initial : Text → ℕ
+initial [] = 0
+initial (byte ∷ bytes) = byte
+
+pub one_job : (pairs : List Pair) (j k : Job) → command_of j ≡ command_of k → HasRows pairs (rows_of j) → HasRows pairs (rows_of k) → j ≡ k
+one_job pairs (Format s) (Format t) same one two = ap Format (one_shape pairs s t one two)
+one_job pairs (Run s) (Run t) same one two = ap Run (one_tuning pairs s t one two)
+one_job pairs j k same one two = let wrong = ap initial same in absurd (omega arith)

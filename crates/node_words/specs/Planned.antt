@@ -1,0 +1,12 @@
+-- Crate node_words. What is prepared for a list of words.
+use Rattle.std.specs.Prelude.{List, ◌≡◌}
+use Rattle.node_words.specs.declared.job.Job.{Job}
+use Rattle.node_words.specs.declared.plan.Plan.{Plan}
+use Rattle.node_words.specs.Words.{Text, Asks}
+use Rattle.node_words.specs.Planning.{made_length}
+
+-- the words ask for a job that is prepared so
+pub record IsPlanned (words : List Text) (plan : Plan) : Type 0 where
+  pub job : Job
+  pub asks : Asks words job plan.names
+  pub make_len : plan.make_len ≡ made_length job

@@ -1,0 +1,14 @@
+-- Crate node_words. What has to be made before a job is carried out.
+use Rattle.std.specs.Prelude.{ℕ, ◌+◌, ◌*◌, Option, Some, None}
+use Rattle.node_words.specs.declared.job.Shape.{Shape}
+use Rattle.node_words.specs.declared.job.Job.{Job}
+use Rattle.node_words.specs.declared.job.Job.TheVariants as job
+
+-- the bytes of a device: a header sector, and the blocks
+abbrev pub file_length : Shape → ℕ
+file_length shape = 4096 + shape.blocks * shape.block_size
+
+-- the bytes of each device, where the job makes them
+abbrev pub made_length : Job → Option ℕ
+made_length (job.Format shape) = Some (file_length shape)
+made_length (job.Run tuning) = None

@@ -1,0 +1,127 @@
+-- Crate node_words. The lists of words that are accepted, and what they ask for.
+use Rattle.std.specs.Prelude.{ℕ, ◌≤◌, Bool, true, false, List, [], ◌∷◌, ◌++◌, length, flat_map, map, codes, decimal, Option, Some, None, ◌≡◌, ◌≢◌, Contains, bytes_eq, if◌then◌else◌}
+use Rattle.std.specs.List.{AllByRecursion}
+use Rattle.std.specs.Int.{IsPowerOfTwo}
+use Rattle.node_words.specs.declared.job.Shape.{Shape}
+use Rattle.node_words.specs.declared.job.Tuning.{Tuning}
+use Rattle.node_words.specs.declared.job.Job.{Job}
+use Rattle.node_words.specs.declared.job.Job.TheVariants as job
+
+-- the bytes of a word
+abbrev pub Text : Type 0
+Text = List ℕ
+
+-- an option with its value
+abbrev pub Pair : Type 0
+Pair = Text × Text
+
+-- ---- what an option may say
+
+-- a number in a range, a power of two in a range, or `yes` or `no`; with the value that is asked for
+pub data Value : Type 0 where
+  number : (least greatest default value : ℕ) → Value
+  power : (least greatest default value : ℕ) → Value
+  choice : (value : Bool) → Value
+
+-- how a choice is spelled
+abbrev pub yes_no : Bool → Text
+yes_no true = codes "yes"
+yes_no false = codes "no"
+
+-- decimal digits without a leading zero, in the range
+pub record IsNumber (least greatest : ℕ) (text : Text) (value : ℕ) : Type 0 where
+  pub spelled : text ≡ decimal value
+  pub low : least ≤ value
+  pub high : value ≤ greatest
+
+-- what was given is this value; where nothing was given it is the default, of a choice `no`
+abbrev pub Says : Option Text → Value → Type 0
+Says None (number least greatest default value) = value ≡ default
+Says (Some text) (number least greatest default value) = IsNumber least greatest text value
+Says None (power least greatest default value) = value ≡ default
+Says (Some text) (power least greatest default value) = IsNumber least greatest text value × IsPowerOfTwo value
+Says None (choice value) = value ≡ false
+Says (Some text) (choice value) = text ≡ yes_no value
+
+-- ---- the table
+
+-- an option's name with its range, its default, and where its value goes
+abbrev pub Row : Type 0
+Row = Text × Value
+
+-- the options of a shape
+abbrev pub shape_rows : Shape → List Row
+shape_rows shape =
+    (codes "--block-size", power 16384 1048576 1048576 shape.block_size)
+    ∷ (codes "--blocks", number 8 65536 64 shape.blocks)
+    ∷ []
+
+-- the options of a run; low-water marks and the post-write queue aren't built yet, so only 0 is accepted for them
+abbrev pub tuning_rows : Tuning → List Row
+tuning_rows tuning =
+    (codes "--sprigs", number 1 256 16 tuning.sprigs)
+    ∷ (codes "--lwm", number 0 0 0 tuning.lwm)
+    ∷ (codes "--pending", number 4 64 16 tuning.pending)
+    ∷ (codes "--cache", number 0 0 0 tuning.cache)
+    ∷ (codes "--commit", choice tuning.commit)
+    ∷ (codes "--raid-age", number 0 315360000 86400 tuning.raid_age)
+    ∷ []
+
+-- ---- the commands
+
+-- the command word of a job
+abbrev pub command_of : Job → Text
+command_of (job.Format shape) = codes "format"
+command_of (job.Run tuning) = codes "run"
+
+-- the options of a job
+abbrev pub rows_of : Job → List Row
+rows_of (job.Format shape) = shape_rows shape
+rows_of (job.Run tuning) = tuning_rows tuning
+
+-- ---- device names
+
+-- not empty, and no dash in front
+abbrev pub IsName : Text → Type 0
+IsName [] = ⊥
+IsName (byte ∷ bytes) = byte ≢ 45
+
+-- each differs from the later ones
+abbrev pub AllDiffer : List Text → Type 0
+AllDiffer [] = Unit {0}
+AllDiffer (text ∷ texts) = AllByRecursion (λ other. text ≢ other) texts × AllDiffer texts
+
+-- 1 to 16 names that differ
+pub record AreNames (names : List Text) : Type 0 where
+  pub some : 1 ≤ length names
+  pub not_many : length names ≤ 16
+  pub each : AllByRecursion IsName names
+  pub differ : AllDiffer names
+
+-- ---- the whole list
+
+-- the options that have a row
+abbrev pub names_in : List Row → List Text
+names_in rows = map (λ row. row.0) rows
+
+-- the value that an option was given
+abbrev pub given : Text → List Pair → Option Text
+given name [] = None
+given name (pair ∷ pairs) = if bytes_eq pair.0 name then Some pair.1 else given name pairs
+
+-- the options that were given say what stands in the rows
+abbrev pub HasRows : List Pair → List Row → Type 0
+HasRows pairs rows = AllByRecursion (λ row. Says (given row.0 pairs) row.1) rows
+
+-- each option is one of the job's, is given at most once, and says what the job has
+pub record AreOptions (pairs : List Pair) (rows : List Row) : Type 0 where
+  pub known : AllByRecursion (λ pair. Contains (names_in rows) pair.0) pairs
+  pub once : AllDiffer (map (λ pair. pair.0) pairs)
+  pub values : HasRows pairs rows
+
+-- the words are the command word of a job, options with their values in any order, and device names
+pub record Asks (words : List Text) (job : Job) (names : List Text) : Type 0 where
+  pub pairs : List Pair
+  pub list : words ≡ command_of job ∷ flat_map (λ pair. pair.0 ∷ pair.1 ∷ []) pairs ++ names
+  pub options : AreOptions pairs (rows_of job)
+  pub named : AreNames names

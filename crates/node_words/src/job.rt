@@ -1,0 +1,36 @@
+// What the words can ask for.
+
+/// The blocks of each device that is made.
+#[derive(Clone, Copy, Debug, PartialEq, Eq, Drop)]
+pub struct Shape {
+    /// Bytes of a block, a power of two from 16,384 to 1,048,576.
+    pub block_size: u32,
+    /// Blocks of a device, 8 to 65,536.
+    pub blocks: u32,
+}
+
+/// How devices are run.
+#[derive(Clone, Copy, Debug, PartialEq, Eq, Drop)]
+pub struct Tuning {
+    /// Sprigs in each partition, 1 to 256.
+    pub sprigs: u32,
+    /// The low-water mark of defragmentation in percent of a block. It is 0 until blocks are vacated.
+    pub lwm: u32,
+    /// The most write buffers of a device that may wait to be flushed, 4 to 64.
+    pub pending: u32,
+    /// The blocks that the post-write queue of a device keeps in memory. It is 0 until a device has one.
+    pub cache: u32,
+    /// Whether a write is flushed before it is answered.
+    pub commit: bool,
+    /// The age in seconds from which a tombstone may go, at most 315,360,000.
+    pub raid_age: u64,
+}
+
+/// A job with its options. The options' defaults stand in for those that weren't given.
+#[derive(Clone, Copy, Debug, PartialEq, Eq, Drop)]
+pub enum Job {
+    /// Make empty devices.
+    Format(Shape),
+    /// Serve standard input.
+    Run(Tuning),
+}

@@ -1,0 +1,46 @@
+// The options of each job. A row has the name, the least and the greatest value, and the default.
+ghost use Rattle.node_words.specs.Reading.{ReadsRows, AsksForRows, ReadsJob};
+ghost use Rattle.node_words.specs.Words.{shape_rows, tuning_rows, rows_of};
+
+use crate::options::Options;
+use crate::{Job, Shape, Tuning};
+
+// What the options say of the devices to be made.
+fn shape_of(options: &mut Options<'_>) -> Option<Shape>
+    ensures value { ReadsRows shape_rows options.old.pairs result }
+    ensures asked { AsksForRows shape_rows options.old options.new result }
+{
+    Some(Shape {
+        block_size: options.power("--block-size", 16_384, 1_048_576, 1_048_576)?,
+        blocks: options.number("--blocks", 8, 65_536, 64)?,
+    })
+}
+
+// What the options say of how devices are run. Low-water marks and the post-write queue aren't built yet, so only 0 is
+// accepted for them.
+fn tuning_of(options: &mut Options<'_>) -> Option<Tuning>
+    ensures value { ReadsRows tuning_rows options.old.pairs result }
+    ensures asked { AsksForRows tuning_rows options.old options.new result }
+{
+    Some(Tuning {
+        sprigs: options.number("--sprigs", 1, 256, 16)?,
+        lwm: options.number("--lwm", 0, 0, 0)?,
+        pending: options.number("--pending", 4, 64, 16)?,
+        cache: options.number("--cache", 0, 0, 0)?,
+        commit: options.choice("--commit")?,
+        raid_age: u64::from(options.number("--raid-age", 0, 315_360_000, 86_400)?),
+    })
+}
+
+/// The job of a command word, with its options; each option of the job has then been asked for. It is none where there
+/// is no such command, or an option says what its row doesn't allow.
+pub fn job_of(word: &str, options: &mut Options<'_>) -> Option<Job>
+    ensures value { ReadsJob word.now options.old.pairs result }
+    ensures asked { AsksForRows rows_of options.old options.new result }
+{
+    match word {
+        "format" => Some(Job::Format(shape_of(options)?)),
+        "run" => Some(Job::Run(tuning_of(options)?)),
+        _ => None,
+    }
+}
