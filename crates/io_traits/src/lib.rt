@@ -6,6 +6,7 @@ mod clock;
 mod sink;
 mod source;
 mod standard;
+mod system_clock;
 mod traits;
 
 pub use both::Both;
@@ -14,6 +15,7 @@ pub use sink::TextSink;
 pub use source::TextSource;
 pub use standard::{StandardInput, StandardOutput};
 use std::alloc::AllocError;
+pub use system_clock::SystemClock;
 pub use traits::{Clock, Ends, Sink, SinkFault, Source, SourceFault};
 
 /// There was no memory for it.
