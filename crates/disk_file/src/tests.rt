@@ -1,0 +1,205 @@
+use super::*;
+use disk_model::{Disk, DiskFault};
+use std::cell::Cell;
+use std::fs::{File, Metadata, OpenFile, OpenOptions};
+use std::io::{Seek, SeekFrom};
+use std::os::fd::{AsRawFd, RawFd};
+use std::os::unix::fs::FileExt;
+use std::test::Fail;
+use std::{fs, io};
+
+// Makes a file of this length, or one anew.
+fn fresh(rt: &HostRuntime, path: &str, len: u64) -> io::Result<File> {
+    let _ = fs::remove_file(rt, path);
+    let file = File::create_new(rt, path)?;
+    file.set_len(len)?;
+    Ok(file)
+}
+
+fn open_again(rt: &HostRuntime, path: &str) -> io::Result<File> {
+    OpenOptions::new().read(true).write(true).open(rt, path)
+}
+
+// A disk that may go to another thread.
+fn size_of<D: Disk + Send>(disk: &D) -> u64 {
+    disk.len()
+}
+
+#[test]
+fn what_is_written_is_read_again(rt: HostRuntime) -> Result<(), Fail> {
+    let path = "disk_file_again";
+    let mut disk = FileDisk::new(fresh(&rt, path, 8192)?, 8192);
+    assert_eq!(rt; disk.len(), 8192);
+    assert_eq!(rt; size_of(&disk), 8192);
+    assert_eq!(rt; disk.write_at(4000, b"record"), Ok(()));
+    assert_eq!(rt; disk.sync(), Ok(()));
+    drop(disk);
+    let mut disk = FileDisk::new(open_again(&rt, path)?, 8192);
+    assert_eq!(rt; disk.len(), 8192);
+    let mut out = [1; 8];
+    assert_eq!(rt; disk.read_at(3999, &mut out), Ok(()));
+    assert_eq!(rt; out, *b"\0record\0");
+    fs::remove_file(&rt, path)?;
+    Ok(())
+}
+
+#[test]
+fn a_file_that_was_cut_is_not_made_longer(rt: HostRuntime) -> Result<(), Fail> {
+    let path = "disk_file_cut";
+    let mut disk = FileDisk::new(fresh(&rt, path, 8192)?, 8192);
+    let other = open_again(&rt, path)?;
+    other.set_len(100)?;
+    assert_eq!(rt; disk.len(), 8192);
+    assert_eq!(rt; disk.write_at(92, b"the last"), Ok(()));
+    assert_eq!(rt; disk.write_at(93, b"too long"), Err(DiskFault));
+    assert_eq!(rt; disk.write_at(4000, b"far"), Err(DiskFault));
+    let mut out = [0; 8];
+    assert_eq!(rt; disk.read_at(92, &mut out), Ok(()));
+    assert_eq!(rt; out, *b"the last");
+    assert_eq!(rt; disk.read_at(93, &mut out), Err(DiskFault));
+    assert_eq!(rt; other.metadata()?.len(), 100);
+    fs::remove_file(&rt, path)?;
+    Ok(())
+}
+
+// What a file of the tests does, and how often it was asked to sync.
+#[derive(Drop)]
+struct Behaviour {
+    calls: Cell<u64>,
+    /// How many bytes more it takes.
+    room: Cell<u64>,
+    /// How many syncs fail from here on.
+    failing: Cell<u64>,
+    syncs: Cell<u64>,
+}
+
+impl Behaviour {
+    fn new(room: u64) -> Behaviour {
+        Behaviour {
+            calls: Cell::new(0),
+            room: Cell::new(room),
+            failing: Cell::new(0),
+            syncs: Cell::new(0),
+        }
+    }
+
+    // Whether this call is interrupted, as every second one is.
+    fn interrupts(&self) -> bool {
+        let calls = self.calls.get();
+        self.calls.set(calls.wrapping_add(1));
+        calls % 2 == 0
+    }
+}
+
+// A file of 100 bytes that moves one byte in each call.
+#[derive(Drop)]
+struct SlowFile<'a> {
+    behaviour: &'a Behaviour,
+}
+
+impl<'a> FileExt for SlowFile<'a> {
+    fn read_at(&self, buf: &mut [u8], _offset: u64) -> io::Result<usize> {
+        if self.behaviour.interrupts() {
+            return Err(io::ErrorKind::Interrupted.into());
+        }
+        let Some(byte) = buf.first_mut() else {
+            return Ok(0);
+        };
+        *byte = b'x';
+        Ok(1)
+    }
+
+    fn write_at(&self, buf: &[u8], _offset: u64) -> io::Result<usize> {
+        if self.behaviour.interrupts() {
+            return Err(io::ErrorKind::Interrupted.into());
+        }
+        let Some(room) = self.behaviour.room.get().checked_sub(1) else {
+            return Err(io::ErrorKind::StorageFull.into());
+        };
+        self.behaviour.room.set(room);
+        Ok(buf.len().min(1))
+    }
+}
+
+impl<'a> AsRawFd for SlowFile<'a> {
+    fn as_raw_fd(&self) -> RawFd {
+        -1
+    }
+}
+
+impl<'a> Seek for SlowFile<'a> {
+    fn seek(&mut self, _to: SeekFrom) -> io::Result<u64> {
+        Ok(100)
+    }
+}
+
+impl<'a> OpenFile for SlowFile<'a> {
+    fn metadata(&self) -> io::Result<Metadata> {
+        Err(io::ErrorKind::Unsupported.into())
+    }
+
+    fn set_len(&self, _size: u64) -> io::Result<()> {
+        Err(io::ErrorKind::Unsupported.into())
+    }
+
+    fn sync_all(&self) -> io::Result<()> {
+        Err(io::ErrorKind::Unsupported.into())
+    }
+
+    fn sync_data(&self) -> io::Result<()> {
+        let syncs = self.behaviour.syncs.get();
+        self.behaviour.syncs.set(syncs.wrapping_add(1));
+        if let Some(failing) = self.behaviour.failing.get().checked_sub(1) {
+            self.behaviour.failing.set(failing);
+            return Err(io::ErrorKind::Other.into());
+        }
+        Ok(())
+    }
+}
+
+#[test]
+fn short_and_interrupted_calls_go_on(rt: HostRuntime) -> Result<(), Fail> {
+    let behaviour = Behaviour::new(5);
+    let file = SlowFile {
+        behaviour: &behaviour,
+    };
+    let mut disk = FileDisk::new(file, 100);
+    assert_eq!(rt; disk.len(), 100);
+    let mut out = [0; 3];
+    assert_eq!(rt; disk.read_at(0, &mut out), Ok(()));
+    assert_eq!(rt; out, *b"xxx");
+    assert_eq!(rt; disk.write_at(0, b"abc"), Ok(()));
+    assert_eq!(rt; disk.write_at(3, b"def"), Err(DiskFault));
+    assert_eq!(rt; behaviour.room.get(), 0);
+    Ok(())
+}
+
+#[test]
+fn what_a_failed_sync_lost_has_to_be_written_again(rt: HostRuntime) -> Result<(), Fail> {
+    let behaviour = Behaviour::new(100);
+    let file = SlowFile {
+        behaviour: &behaviour,
+    };
+    let mut disk = FileDisk::new(file, 100);
+    assert_eq!(rt; disk.len(), 100);
+    assert_eq!(rt; disk.write_at(40, b"old"), Ok(()));
+    assert_eq!(rt; disk.sync(), Ok(()));
+    assert_eq!(rt; disk.write_at(10, b"a body"), Ok(()));
+    assert_eq!(rt; disk.write_at(0, b"gate"), Ok(()));
+    behaviour.failing.set(1);
+    assert_eq!(rt;
+        (disk.sync(), disk.sync()),
+        (Err(DiskFault), Err(DiskFault))
+    );
+    assert_eq!(rt; disk.write_at(0, b"gate"), Ok(()));
+    assert_eq!(rt; disk.write_at(11, b" body"), Ok(()));
+    assert_eq!(rt; disk.sync(), Err(DiskFault));
+    let room = behaviour.room.replace(0);
+    assert_eq!(rt; disk.write_at(10, b"a body"), Err(DiskFault));
+    behaviour.room.set(room);
+    assert_eq!(rt; disk.sync(), Err(DiskFault));
+    assert_eq!(rt; disk.write_at(10, b"a body"), Ok(()));
+    assert_eq!(rt; (disk.sync(), disk.sync()), (Ok(()), Ok(())));
+    assert_eq!(rt; behaviour.syncs.get(), 7);
+    Ok(())
+}
