@@ -1,9 +1,18 @@
-//! A disk over a file or a block device of the system. No clause tells what the file holds, nor what a crash leaves of it.
+//! A disk over a file or a block device of the system, and how one is opened or made. No clause tells what the file holds, nor what
+//! a crash leaves of it.
 #![tactic(auto)]
 
+mod device_file;
+#[cfg(test)]
+mod device_tests;
 mod file_disk;
+mod standard;
 #[cfg(test)]
 mod tests;
 mod unsynced;
+mod watch;
 
+pub use device_file::{OpenFault, make_device, open_device};
 pub use file_disk::FileDisk;
+pub use standard::fill_standard;
+pub use watch::{Progress, Watch};

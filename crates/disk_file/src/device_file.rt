@@ -1,0 +1,152 @@
+// Devices by their names: what is there is opened, and where nothing is there a new file is made.
+use crate::{FileDisk, Watch};
+use std::alloc::Global;
+use std::fs::{File, OpenOptions, TryLockError, remove_file};
+use std::io;
+use std::io::{ErrorKind, Seek, SeekFrom};
+use std::os::unix::fs::{FileExt, FileTypeExt};
+use std::path::Path;
+use std::rt::Files;
+use thiserror::Error;
+
+/// How many bytes of a new file are written at once.
+const PIECE: u64 = 1 << 20;
+
+/// Why a device isn't opened or made.
+#[derive(Debug, Drop, Error)]
+pub enum OpenFault {
+    #[error("there is no such file")]
+    Missing,
+    #[error("it can't be opened: {0}")]
+    Refused(io::Error),
+    #[error("it is in use by another process")]
+    InUse,
+    #[error("it is neither a file nor a block device")]
+    NoStorage,
+    /// The file is longer than what was asked for; both in bytes.
+    #[error("the file has {len} bytes, which is more than the {asked} asked for")]
+    Longer { len: u64, asked: u64 },
+    #[error("it can't be made: {0}")]
+    Unmade(io::Error),
+}
+
+// What was found under a name, open to read and write, and locked; its length in bytes.
+#[derive(Drop)]
+struct Found {
+    file: File,
+    is_file: bool,
+    len: u64,
+}
+
+/// The whole file or block device of this name. It is locked, so that no other process opens it like this meanwhile.
+pub fn open_device<R: Files<File = File>>(rt: &R, name: &str) -> Result<FileDisk<File>, OpenFault> {
+    let found = find(rt, name)?;
+    Ok(FileDisk::new(found.file, found.len))
+}
+
+/// Where nothing has this name, a new file of `len` bytes, each of which was written once and synced, as its folder was. Where that
+/// fails the file is removed again. What is there already is opened as by `open_device`: of a block device it is the first `len`
+/// bytes, a longer file is refused, and what is shorter is handed on as it is.
+pub fn make_device<R: Files<File = File>, W: Watch>(
+    rt: &R,
+    alloc: Global,
+    name: &str,
+    len: u64,
+    watch: &mut W,
+) -> Result<FileDisk<File>, OpenFault> {
+    let file = match File::create_new(rt, name) {
+        Ok(file) => file,
+        Err(error) if error.kind() == ErrorKind::AlreadyExists => return open_up_to(rt, name, len),
+        Err(error) => return Err(OpenFault::Unmade(error)),
+    };
+    let made = fill_locked(rt, alloc, name, &file, len, watch);
+    watch.end();
+    if let Err(fault) = made {
+        let _ = remove_file(rt, name);
+        return Err(fault);
+    }
+    Ok(FileDisk::new(file, len))
+}
+
+// The first bytes of what is there, at most so many.
+fn open_up_to<R: Files<File = File>>(
+    rt: &R,
+    name: &str,
+    asked: u64,
+) -> Result<FileDisk<File>, OpenFault> {
+    let Found { file, is_file, len } = find(rt, name)?;
+    if is_file && len > asked {
+        return Err(OpenFault::Longer { len, asked });
+    }
+    Ok(FileDisk::new(file, len.min(asked)))
+}
+
+// Opens what is there.
+fn find<R: Files<File = File>>(rt: &R, name: &str) -> Result<Found, OpenFault> {
+    let opened = OpenOptions::new().read(true).write(true).open(rt, name);
+    let mut file = opened.map_err(refusal)?;
+    let kind = file.metadata().map_err(OpenFault::Refused)?.file_type();
+    if !kind.is_file() && !kind.is_block_device() {
+        return Err(OpenFault::NoStorage);
+    }
+    lock(&file)?;
+    let len = file.seek(SeekFrom::End(0)).map_err(OpenFault::Refused)?;
+    Ok(Found {
+        file,
+        is_file: kind.is_file(),
+        len,
+    })
+}
+
+// Why something can't be opened.
+fn refusal(error: io::Error) -> OpenFault {
+    match error.kind() {
+        ErrorKind::NotFound => OpenFault::Missing,
+        ErrorKind::IsADirectory => OpenFault::NoStorage,
+        _ => OpenFault::Refused(error),
+    }
+}
+
+fn lock(file: &File) -> Result<(), OpenFault> {
+    match file.try_lock() {
+        Ok(()) => Ok(()),
+        Err(TryLockError::WouldBlock) => Err(OpenFault::InUse),
+        Err(TryLockError::Error(error)) => Err(OpenFault::Refused(error)),
+    }
+}
+
+// Locks a new file, and writes and syncs it and its folder.
+fn fill_locked<R: Files<File = File>, W: Watch>(
+    rt: &R,
+    alloc: Global,
+    name: &str,
+    file: &File,
+    len: u64,
+    watch: &mut W,
+) -> Result<(), OpenFault> {
+    lock(file)?;
+    fill(alloc, file, len, watch).map_err(OpenFault::Unmade)?;
+    sync_folder(rt, name).map_err(OpenFault::Unmade)
+}
+
+// Writes so many zeros from the front on, and syncs them. Each byte is written, so that the drive has room for all.
+fn fill<W: Watch>(alloc: Global, file: &File, len: u64, watch: &mut W) -> io::Result<()> {
+    let zeros = vec![in alloc; 0; PIECE as usize]?;
+    let mut done = 0;
+    while done < len {
+        let count = (len - done).min(PIECE);
+        file.write_all_at(&zeros[..count as usize], done)?;
+        done += count;
+        watch.tell(done, len);
+    }
+    file.sync_all()
+}
+
+// The name of a new file is kept by its folder.
+fn sync_folder<R: Files<File = File>>(rt: &R, name: &str) -> io::Result<()> {
+    let folder = match Path::new(name).parent() {
+        Some(folder) if !folder.as_str().is_empty() => folder.as_str(),
+        _ => ".",
+    };
+    File::open(rt, folder)?.sync_all()
+}
