@@ -9,7 +9,7 @@ use Rattle.node_model.specs.declared.run_end.RunEnd.{RunEnd}
 use Rattle.node_model.specs.declared.run_end.RunEnd.TheVariants as end
 use Rattle.node_model.specs.Commands.{Slot, Node, NodeEvent}
 use Rattle.node_model.specs.Run.{Served, is_halted, last_node}
-use Rattle.node_model.specs.Notes.{fault_note, refusal_note}
+use Rattle.node_model.specs.Notes.{fault_note, short_note, refusal_note}
 use Rattle.node_model.specs.Outside.{Outside, written_text, has_quit, RoseOn, RoseInLast, RoseInClosing}
 
 abbrev pub status_of : RunEnd → ℕ
@@ -20,6 +20,7 @@ status_of end.SourceFault = 4
 status_of end.SinkFault = 5
 status_of end.NoMemory = 6
 status_of (end.DeviceRefused device why) = 7
+status_of (end.DeviceShort device size) = 7
 status_of end.InputTooLong = 10
 
 -- what it says of the disk
@@ -36,6 +37,7 @@ note_of end.SourceFault = codes "source fault"
 note_of end.SinkFault = codes "sink fault"
 note_of end.NoMemory = codes "no memory"
 note_of (end.DeviceRefused device why) = refusal_note device (refusal_of why)
+note_of (end.DeviceShort device size) = short_note device size
 note_of end.InputTooLong = codes "input too long"
 
 -- ---- words of the causes
@@ -88,6 +90,7 @@ HasCause end.SourceFault o first lines unserved closing = IsCutShort o lines uns
 HasCause end.SinkFault o first lines unserved closing = Rose o.before.sink o.after.sink
 HasCause end.NoMemory o first lines unserved closing = Unit {0}
 HasCause (end.DeviceRefused device why) o first lines unserved closing = EndsAtRestart o lines × (device < length first)
+HasCause (end.DeviceShort device size) o first lines unserved closing = ⊥
 HasCause end.InputTooLong o first lines unserved closing = IsCutShort o lines unserved × (length o.taken ≡ input_limit)
 
 -- the device is refused for this, by what it reads, as one of so many

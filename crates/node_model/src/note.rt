@@ -3,7 +3,7 @@ ghost use Rattle.std.specs.Prelude.{◌≡◌, ◌≤◌, ◌∷◌, ◌++◌, [
 ghost use Rattle.hex.specs.Hex.{encode_lower};
 ghost use Rattle.block_format.specs.Refusals.{not_formatted, other_shape, damaged_block};
 ghost use Rattle.line_proto.specs.Lines.{words_line};
-ghost use Rattle.node_model.specs.Notes.{refusal_note};
+ghost use Rattle.node_model.specs.Notes.{refusal_note, short_note};
 
 use arrayvec::ArrayString;
 use block_format::Geometry;
@@ -73,6 +73,17 @@ impl Note {
         let mut text = front(device);
         text.push_str(" ");
         text.push_str(word);
+        Note { text }
+    }
+
+    // A note on a device whose disk has too few bytes for its shape.
+    pub(crate) fn short(device: u16, size: u64) -> Self
+        ensures { result ≡ short_note device size }
+    {
+        let mut digits = Buffer::new();
+        let mut text = front(device);
+        text.push_str(" short: ");
+        text.push_str(digits.format(size));
         Note { text }
     }
 

@@ -65,6 +65,8 @@ pub enum RunEnd {
     NoMemory,
     /// This device wasn't taken into use, for what its disk reads.
     DeviceRefused { device: u16, why: DeviceRefusal },
+    /// The disk of this device has too few bytes to be formatted in the shape that was asked for: it has `len`.
+    DeviceShort { device: u16, len: u64 },
     /// As many bytes as a run may take were taken, without the end or `quit` among them.
     InputTooLong,
 }
@@ -81,7 +83,7 @@ impl RunEnd {
             RunEnd::SourceFault => 4,
             RunEnd::SinkFault => 5,
             RunEnd::NoMemory => 6,
-            RunEnd::DeviceRefused { .. } => 7,
+            RunEnd::DeviceRefused { .. } | RunEnd::DeviceShort { .. } => 7,
             RunEnd::InputTooLong => 10,
         }
     }
@@ -98,6 +100,7 @@ impl RunEnd {
             RunEnd::SinkFault => Note::of("sink fault"),
             RunEnd::NoMemory => Note::of("no memory"),
             RunEnd::DeviceRefused { device, why } => why.note(*device),
+            RunEnd::DeviceShort { device, len } => Note::short(*device, *len),
             RunEnd::InputTooLong => Note::of("input too long"),
         }
     }

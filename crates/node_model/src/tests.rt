@@ -1,4 +1,4 @@
-use crate::{DeviceRefusal, RunEnd};
+use crate::{DeviceRefusal, Report, RunEnd};
 use block_format::Geometry;
 
 #[test]
@@ -59,5 +59,33 @@ fn a_refused_device_has_a_note_that_says_why(rt: HostRuntime) {
         let end = RunEnd::DeviceRefused { device, why };
         assert_eq!(rt; end.note().as_str(), want);
         assert_eq!(rt; end.status(), 7);
+    }
+}
+
+#[test]
+fn a_short_device_has_a_note_with_its_length(rt: HostRuntime) {
+    for (device, len, want) in [
+        (0, 4096, "device 0 short: 4096"),
+        (15, 0, "device 15 short: 0"),
+        (
+            u16::MAX,
+            u64::MAX,
+            "device 65535 short: 18446744073709551615",
+        ),
+    ] {
+        let end = RunEnd::DeviceShort { device, len };
+        assert_eq!(rt; end.note().as_str(), want);
+        assert_eq!(rt; end.status(), 7);
+    }
+}
+
+#[test]
+fn a_report_tells_how_many_were_formatted(rt: HostRuntime) {
+    for (devices, want) in [
+        (1, "formatted 1\n"),
+        (16, "formatted 16\n"),
+        (u16::MAX, "formatted 65535\n"),
+    ] {
+        assert_eq!(rt; Report::formatted(devices).as_str(), want);
     }
 }

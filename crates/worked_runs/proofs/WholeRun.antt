@@ -212,6 +212,7 @@ no_other_status end.SourceFault is = cc
 no_other_status end.SinkFault is = cc
 no_other_status end.NoMemory is = cc
 no_other_status (end.DeviceRefused n why) is = cc
+no_other_status (end.DeviceShort n size) is = cc
 no_other_status end.InputTooLong is = cc
 
 -- nor of itself with a disk's fault where no disk has failed

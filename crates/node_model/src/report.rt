@@ -1,0 +1,50 @@
+// What a command besides `run` writes of its devices.
+ghost use Rattle.std.specs.Prelude.{◌≡◌, ◌∷◌, ◌++◌, []};
+ghost use Rattle.node_model.specs.Notes.{formatted_text};
+
+use arrayvec::ArrayString;
+use itoa::Buffer;
+use std::marker::Model;
+
+// The most bytes that a report has.
+const ROOM: usize = 32;
+
+/// What a command writes of its devices, a line with its LF.
+#[derive(Drop)]
+pub struct Report {
+    text: ArrayString<ROOM>,
+}
+
+impl Model for Report {
+    ghost use Rattle.std.specs.Prelude.{List, ℕ};
+
+    ghost Value = { List ℕ };
+
+    ghost view = { λ r. r.text.bytes };
+}
+
+impl Report {
+    /// That so many devices were formatted.
+    pub fn formatted(devices: u16) -> Self
+        ensures { result ≡ formatted_text devices ++ 10 ∷ [] }
+    {
+        let mut digits = Buffer::new();
+        let mut text = ArrayString::new();
+        text.push_str("formatted ");
+        text.push_str(digits.format(devices));
+        text.push_str("\n");
+        Report { text }
+    }
+
+    pub fn as_slice(&self) -> &[u8]
+        ensures { result.now ≡ self.now }
+    {
+        self.text.as_str().as_bytes()
+    }
+
+    pub fn as_str(&self) -> &str
+        ensures { result.now ≡ self.now }
+    {
+        self.text.as_str()
+    }
+}
