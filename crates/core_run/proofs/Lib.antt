@@ -3,3 +3,4 @@ pub mod Acting
 pub mod Later
 pub mod Serving
 pub mod Restarting
+pub mod Formats

@@ -1,1 +1,2 @@
 pub mod OneDevice
+pub mod Formatting
