@@ -73,10 +73,11 @@ pub record EndsAtRestart (o : Outside) (lines : List Served) : Type 0 where
   pub written : o.written ≡ written_text lines
   pub halted : IsTrue (is_halted lines)
 
--- the disk of this device failed in the closing flush, and a buffer is left
+-- The disk of this device failed in the closing flush, and a buffer is left there; no lower device has one.
 pub record FailsToClose (device : ℕ) (first : Node) (lines : List Served) (closing : List NodeEvent) : Type 0 where
   pub rose : RoseInClosing device first lines closing
   pub left : IsQuiet (slice_get (last_node first lines closing) device) → ⊥
+  pub lower : (other : ℕ) → other < device → IsQuiet (slice_get (last_node first lines closing) other)
 
 -- ---- the cause
 

@@ -1,4 +1,2 @@
-mod Ending
-mod Serving
 mod TwoWords
-mod Resting
+mod Fitting

@@ -1,4 +1,1 @@
 pub mod Asking
-pub mod Concluding
-pub mod Promises
-pub mod Behind

@@ -1,6 +1,6 @@
 use native.Mathlib.Omega.{arith}
 use Rattle.std.proofs.Common.{refl}
-use Rattle.node_prog.proofs.Ending.{fits}
+use Rattle.node_prog.proofs.Fitting.{fits}
 use Rattle.node_prog.proofs.memory.formatted_disk.Goals as goal
 
 pub format_disk-requires-clause-geometry : goal.format_disk-requires-clause-geometry

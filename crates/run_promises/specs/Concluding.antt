@@ -1,5 +1,5 @@
--- Crate node_prog. The end of a run, by how a start was refused, or by how its session ended and what was behind it.
-use Rattle.std.specs.Prelude.{ℕ, Result, Ok, Err}
+-- Crate run_promises. The end of a run, by how a start was refused, or by how its session ended and what was behind it.
+use Rattle.std.specs.Prelude.{ℕ, Option, Some, None}
 use Rattle.node_session.specs.declared.ended.Ended.{Ended}
 use Rattle.node_session.specs.declared.ended.Ended.TheVariants.{Finish, Quit, SourceFault, SinkFault, Memory, Halted, Long}
 use Rattle.cold_scan.specs.declared.header.StartCause.{StartCause}
@@ -15,10 +15,10 @@ refusal_end device (why.NotFormatted first) = end.DeviceRefused device (because.
 refusal_end device (why.OtherGeometry kept asked size) = end.DeviceRefused device (because.OtherGeometry kept asked.device asked.devices size)
 refusal_end device (why.DamagedBlock block place) = end.DeviceRefused device (because.DamagedBlock block place)
 
--- behind a session that went well
-abbrev pub closed_end : {E : Type 0} → Result ℕ E → RunEnd
-closed_end (Ok flushed) = end.Served
-closed_end (Err fault) = end.DeviceFault 0
+-- behind a session that went well: all devices were closed, or the disk of this one failed
+abbrev pub closed_end : (failed : Option ℕ) → RunEnd
+closed_end None = end.Served
+closed_end (Some device) = end.DeviceFault device
 
 -- A session that went well, or in which a restart was refused, ends as what is behind it: its closing, or that refusal. The end of any
 -- other stays.

@@ -1,0 +1,3 @@
+pub mod Concluding
+pub mod Promises
+pub mod Behind

@@ -1,0 +1,176 @@
+-- Crate run_promises. What a run over the devices of a node promises.
+use Rattle.std.specs.Prelude.{◌≡◌, ◌⊎◌, ℕ, ◌+◌, Bool, false, List, [], ◌∷◌, ◌++◌, length, map, Option}
+use Rattle.std.specs.List.{AllByRecursion}
+use Rattle.disk_model.specs.Disk.{DiskView, IsOnly, IsHonest, meanwhile}
+use Rattle.device_model.specs.Book.{Setup}
+use Rattle.block_format.specs.declared.geometry.Geometry.{Geometry}
+use Rattle.block_format.specs.Layout.{Body}
+use Rattle.recovery.specs.Sound.{IsSound}
+use Rattle.io_traits.specs.Sink.{Extends}
+use Rattle.io_traits.specs.Source.{Shortens}
+use Rattle.shard_core.specs.declared.settings.Settings.{Settings}
+use Rattle.shard_core.specs.View.{setup_for}
+use Rattle.block_shelf.specs.Disks.{OnlyRead}
+use Rattle.cold_scan.specs.declared.header.Asked.{Asked}
+use Rattle.cold_scan.specs.Starting.{Passes}
+use Rattle.cold_scan.specs.Found.{found_state}
+use Rattle.core_run.specs.Views.{asked, view_at, AreLater}
+use Rattle.node_model.specs.declared.run_end.RunEnd.{RunEnd}
+use Rattle.node_model.specs.Commands.{Slot, Node}
+use Rattle.node_model.specs.Run.{ImagesLeft}
+use Rattle.node_model.specs.Outside.{Outside}
+use Rattle.node_model.specs.RunEnd.{status_of, note_of, HasStartCause}
+use Rattle.node_model.specs.Headline.{StartsFrom, HoldsReplies, HoldsThroughout}
+
+-- ---- what a run is over
+
+-- What is seen of the link and of the disks' counts of faults, in order, before a run and after it.
+pub record Ends : Type 0 where
+  pub taken : List ℕ
+  pub left : Option (List ℕ)
+  pub written : Option (List ℕ)
+  pub source : ℕ
+  pub sink : ℕ
+  pub disks : List ℕ
+
+-- the status and the note tell this end
+abbrev pub IsTold : RunEnd → (status : ℕ) → (note : List ℕ) → Type 0
+IsTold end status note = (status ≡ status_of end) × (note ≡ note_of end)
+
+-- each disk is the one at its place before, and nothing was written to it
+abbrev pub ReadAlone : {D : Type 0} → (view : D → DiskView) → (old new : List D) → Type 0
+ReadAlone view [] new = new ≡ []
+ReadAlone view (disk ∷ old) [] = ⊥
+ReadAlone view (disk ∷ old) (last ∷ new) = OnlyRead (view disk) (view last) × ReadAlone view old new
+
+-- what each disk reads
+abbrev pub reads_of : {D : Type 0} → (view : D → DiskView) → List D → List (List ℕ)
+reads_of view disks = map (λ disk. (view disk).seen) disks
+
+abbrev pub TellEach : {D : Type 0} → (view : D → DiskView) → List D → Type 0
+TellEach view disks = AllByRecursion (λ disk. (view disk).tells) disks
+
+abbrev pub HonestEach : {D : Type 0} → (view : D → DiskView) → List D → Type 0
+HonestEach view disks = AllByRecursion (λ disk. IsHonest (view disk)) disks
+
+-- what each reads is the one image that a crash may leave of it
+abbrev pub OnlyEach : {D : Type 0} → (view : D → DiskView) → List D → Type 0
+OnlyEach view disks = AllByRecursion (λ disk. IsOnly (view disk).seen (view disk).may_leave) disks
+
+-- What is known of the disks that were handed in, and of those handed back, in order: whether each tells its bytes, what they read,
+-- whether each is honest, and whether what it reads is its one image; that the second are the first at a later time, and that nothing
+-- was written to any in between; and which images a crash may have left of each device since the entry, and may leave now.
+pub record DisksOf : Type 1 where
+  pub tells : Type 0
+  pub reads : List (List ℕ)
+  pub honest : Type 0
+  pub only : Type 0
+  pub same_later : Type 0
+  pub read_alone : Type 0
+  pub since : ImagesLeft
+  pub now : ImagesLeft
+
+abbrev pub disks_between : {D : Type 0} → (view : D → DiskView) → (old new : List D) → DisksOf
+disks_between view old new = record {
+  tells = TellEach view old;
+  reads = reads_of view old;
+  honest = HonestEach view old;
+  only = OnlyEach view old;
+  same_later = AreLater view old new;
+  read_alone = ReadAlone view old new;
+  since = λ device. meanwhile (view_at view old device) (view_at view new device);
+  now = λ device. (view_at view new device).may_leave;
+}
+
+-- ---- where it starts
+
+-- the setups of devices of these shapes that are run with these settings
+abbrev pub setups_for : Settings → List Geometry → List Setup
+setups_for set geometries = map (λ g. setup_for g set) geometries
+
+-- these shapes are those of devices of so many, numbered from this one on
+abbrev pub AreNumbered : (device devices : ℕ) → List Geometry → Type 0
+AreNumbered device devices [] = Unit {0}
+AreNumbered device devices (g ∷ geometries) = (g.device ≡ device) × (g.devices ≡ devices) × AreNumbered (device + 1) devices geometries
+
+-- each of these reads passes as a device of so many, numbered from this one on, of the shape at its place
+abbrev pub PassEach : (device devices : ℕ) → List Geometry → (reads : List (List ℕ)) → Type 0
+PassEach device devices [] reads = reads ≡ []
+PassEach device devices (g ∷ geometries) [] = ⊥
+PassEach device devices (g ∷ geometries) (bytes ∷ reads) =
+    ((bodies : List Body) × Passes (asked device devices) bytes g bodies) × PassEach (device + 1) devices geometries reads
+
+-- each of these reads is a sound image for the setup at its place
+abbrev pub SoundEach : List Setup → (reads : List (List ℕ)) → Type 0
+SoundEach [] reads = reads ≡ []
+SoundEach (setup ∷ setups) [] = ⊥
+SoundEach (setup ∷ setups) (bytes ∷ reads) = ((bodies : List Body) × IsSound setup bytes bodies) × SoundEach setups reads
+
+-- A device of the first node of a run, over any disk: it has this shape and these settings, as a start from some bodies leaves it. Where
+-- the disks tell their bytes, sound or not, these are the bodies behind its open gates.
+abbrev pub FoundOn : Settings → Asked → Geometry → (tells : Type 0) → (bytes : List ℕ) → Slot → Type 0
+FoundOn set place g tells bytes slot =
+    (slot.setup ≡ setup_for g set) × (bodies : List Body) × (slot.state ≡ found_state slot.setup bodies) × (tells → Passes place bytes g bodies)
+
+-- the first node, device by device, numbered from this one on
+abbrev pub StartsFound : Settings → (device devices : ℕ) → List Geometry → (tells : Type 0) → (reads : List (List ℕ)) → Node → Type 0
+StartsFound set device devices [] tells reads node = node ≡ []
+StartsFound set device devices (g ∷ geometries) tells [] node = ⊥
+StartsFound set device devices (g ∷ geometries) tells (bytes ∷ reads) [] = ⊥
+StartsFound set device devices (g ∷ geometries) tells (bytes ∷ reads) (slot ∷ node) =
+    FoundOn set (asked device devices) g tells bytes slot × StartsFound set (device + 1) devices geometries tells reads node
+
+-- ---- how it ends
+
+-- A device wasn't taken into use. Nothing was taken and nothing written, and the disks were read alone.
+pub record NeverServed (d : DisksOf) (end : RunEnd) (before after : Ends) : Type 0 where
+  pub cause : HasStartCause end d.tells d.reads before.disks after.disks
+  pub taken : after.taken ≡ before.taken
+  pub written : after.written ≡ before.written
+  pub disks : d.read_alone
+
+-- what is known of a run from outside
+abbrev pub outside : RunEnd → (bytes output : List ℕ) → (ended : Bool) → (times : Option (List ℕ)) → (before after : Ends) → (images : List (List ℕ)) → Outside
+outside end bytes output ended times before after images = record {
+  end = end;
+  taken = bytes;
+  written = output;
+  ended = ended;
+  left = after.left;
+  times = times;
+  before = record { disks = before.disks; source = before.source; sink = before.sink };
+  after = record { disks = after.disks; source = after.source; sink = after.sink };
+  images = images;
+}
+
+-- All devices were taken into use, and the bytes written are the front of the reply texts of a run over the bytes taken.
+-- Over any disks it is a run from what the start found, which is what their bytes have where they tell them; over disks whose bytes are
+-- sound images it is a run from the start states of those images. In both a get is answered by what was read, or by
+-- `err damaged`, since the disks aren't known to be honest. Over honest disks, each with one image, which is sound, the run keeps all
+-- promises: no read finds damage, each image that a crash might have left of a device since the entry survives some state of it in the
+-- run, each that one may leave now survives its last, and what was answered as done with commit on is flushed.
+pub record IsServed (set : Settings) (d : DisksOf) (end : RunEnd) (times : Option (List ℕ)) (before after : Ends) : Type 0 where
+  pub geometries : List Geometry
+  pub count : length geometries ≡ length d.reads
+  pub place : AreNumbered 0 (length d.reads) geometries
+  pub disks : d.same_later
+  pub passes : d.tells → PassEach 0 (length d.reads) geometries d.reads
+  pub bytes : List ℕ
+  pub output : List ℕ
+  pub takes : after.taken ≡ before.taken ++ bytes
+  pub shortens : Shortens before.left after.left bytes
+  pub extends : Extends before.written after.written output
+  pub replies : (ended : Bool) × HoldsReplies (StartsFound set 0 (length d.reads) geometries d.tells d.reads) false (setups_for set geometries)
+      (outside end bytes output ended times before after []) (λ device image. ⊥)
+  pub from_image : d.tells → SoundEach (setups_for set geometries) d.reads
+      → (ended : Bool) × HoldsReplies (StartsFrom d.reads) false (setups_for set geometries)
+      (outside end bytes output ended times before after d.reads) (λ device image. ⊥)
+  pub throughout : d.honest → d.only → SoundEach (setups_for set geometries) d.reads
+      → (ended : Bool) × HoldsThroughout (setups_for set geometries)
+      (outside end bytes output ended times before after d.reads) d.since d.now
+
+-- The promise of a run: its status and its note tell how it ended, and what has to hold where it ended so holds.
+pub record Runs (set : Settings) (d : DisksOf) (status : ℕ) (note : List ℕ) (times : Option (List ℕ)) (before after : Ends) : Type 0 where
+  pub end : RunEnd
+  pub told : IsTold end status note
+  pub kept : NeverServed d end before after ⊎ IsServed set d end times before after
