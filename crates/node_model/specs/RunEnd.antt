@@ -99,10 +99,10 @@ abbrev pub IsRefusedOn : (device : ℕ) → (reads : List (List ℕ)) → Refusa
 IsRefusedOn device reads why = MatchOption (slice_get reads device) ⊥ (λ bytes. IsRefusedFor device (length reads) bytes why)
 
 -- Why a run ended so at its start, before it took anything: by the counts of its disks before and after it, and by what each of them
--- reads, where they tell that.
-abbrev pub HasStartCause : RunEnd → (tells : Type 0) → (reads : List (List ℕ)) → (before after : List ℕ) → Type 0
+-- reads, where it tells that.
+abbrev pub HasStartCause : RunEnd → (tells : ℕ → Type 0) → (reads : List (List ℕ)) → (before after : List ℕ) → Type 0
 HasStartCause (end.DeviceFault device) tells reads before after = RoseOn device before after
 HasStartCause end.NoMemory tells reads before after = Unit {0}
 HasStartCause (end.DeviceRefused device why) tells reads before after =
-    (device < length reads) × (tells → IsRefusedOn device reads (refusal_of why))
+    (device < length reads) × (tells device → IsRefusedOn device reads (refusal_of why))
 HasStartCause _ tells reads before after = ⊥

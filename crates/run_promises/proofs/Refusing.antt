@@ -15,7 +15,8 @@ use Rattle.node_model.specs.RunEnd.{IsRefusedOn, HasStartCause}
 use Rattle.core_run.specs.Views.{asked, faults_of}
 use Rattle.core_run.specs.Starts.{RefusesAt}
 use Rattle.run_promises.specs.Concluding.{refusal_end}
-use Rattle.run_promises.specs.Promises.{Ends, ReadAlone, reads_of, TellEach, NeverServed, disks_between}
+use Rattle.run_promises.specs.Promises.{Ends, ReadAlone, reads_of, NeverServed, disks_between}
+use Rattle.run_promises.proofs.Starting.{tells_at}
 use Rattle.run_promises.proofs.Disks.{as_many, read_alone_none}
 
 some_more : {A : Type 0} (P Q : A → Type 0) (item : Option A) → ((x : A) → P x → Q x) → MatchOption item ⊥ P → MatchOption item ⊥ Q
@@ -40,15 +41,15 @@ module _ {D : Type 0} (view : D → DiskView) (set : Settings) where
   refused_there (suc place) device devices cause (x ∷ old) (y ∷ new) refuses = behind_one place (length old) (refused_there place (device + 1) devices cause old new refuses.1)
 
   -- the bytes of the disk that was refused
-  refused_bytes : (place device devices n : ℕ) (cause : StartCause) (old new : List D) → n ≡ device + place → RefusesAt view set place device devices cause old new → TellEach view old
+  refused_bytes : (place device devices n : ℕ) (cause : StartCause) (old new : List D) → n ≡ device + place → RefusesAt view set place device devices cause old new → tells_at view old place
       → MatchOption (slice_get (reads_of view old) place) ⊥ (λ (bytes : List ℕ). IsRefused (asked n devices) bytes cause)
   refused_bytes place device devices n cause [] new is refuses tells = absurd refuses
   refused_bytes place device devices n cause (x ∷ old) [] is refuses tells = absurd refuses
   refused_bytes zero device devices n cause (x ∷ old) (y ∷ new) is refuses tells =
       let same : device ≡ n = omega (arith, is) in
-      subst (λ (k : ℕ). IsRefused (asked k devices) (view x).seen cause) same (refuses.0.bytes tells.0)
+      subst (λ (k : ℕ). IsRefused (asked k devices) (view x).seen cause) same (refuses.0.bytes tells)
   refused_bytes (suc place) device devices n cause (x ∷ old) (y ∷ new) is refuses tells =
-      refused_bytes place (device + 1) devices n cause old new (one_on device place n is) refuses.1 tells.1
+      refused_bytes place (device + 1) devices n cause old new (one_on device place n is) refuses.1 tells
 
   -- where it failed, its count rose
   refused_rose : (place device devices : ℕ) (cause : StartCause) (old new : List D) → cause ≡ why.Fault → RefusesAt view set place device devices cause old new
@@ -68,11 +69,11 @@ module _ {D : Type 0} (view : D → DiskView) (set : Settings) where
 
   module _ (place : ℕ) (old new : List D) where
     abbrev Has : RunEnd → Type 0
-    Has how = HasStartCause how (TellEach view old) (reads_of view old) (faults_of view old) (faults_of view new)
+    Has how = HasStartCause how (tells_at view old) (reads_of view old) (faults_of view old) (faults_of view new)
 
     -- the device is there, and is refused for this by what it reads
     is_refused : (cause : StartCause) (refusal : Refusal) → refused_one place (length old) cause refusal → RefusesAt view set place 0 (length old) cause old new
-        → (place < length (reads_of view old)) × (TellEach view old → IsRefusedOn place (reads_of view old) refusal)
+        → (place < length (reads_of view old)) × (tells_at view old place → IsRefusedOn place (reads_of view old) refusal)
     is_refused cause refusal so refuses = (
       subst (λ (n : ℕ). place < n) (sym count) (refused_there place 0 (length old) cause old new refuses),
       λ tells. some_more (λ (bytes : List ℕ). IsRefused (asked place (length old)) bytes cause) (λ (bytes : List ℕ). IsRefusedFor place (length (reads_of view old)) bytes refusal)
@@ -103,8 +104,8 @@ module _ {D : Type 0} (view : D → DiskView) (set : Settings) where
       → before.disks ≡ faults_of view old → after.disks ≡ faults_of view given → after.taken ≡ before.taken → after.written ≡ before.written
       → NeverServed (disks_between view old given) how before after
   never_served is_disk before after how place count cause old new given many back is refuses at_first at_last taken written = record {
-    cause = subst (λ (counts : List ℕ). HasStartCause how (TellEach view old) (reads_of view old) counts after.disks) (sym at_first)
-        (subst (λ (counts : List ℕ). HasStartCause how (TellEach view old) (reads_of view old) (faults_of view old) counts) (sym at_last) (refusal_cause place old given how cause is so));
+    cause = subst (λ (counts : List ℕ). HasStartCause how (tells_at view old) (reads_of view old) counts after.disks) (sym at_first)
+        (subst (λ (counts : List ℕ). HasStartCause how (tells_at view old) (reads_of view old) (faults_of view old) counts) (sym at_last) (refusal_cause place old given how cause is so));
     taken = taken;
     written = written;
     disks = refused_alone is_disk place 0 (length old) cause old given so;

@@ -32,11 +32,11 @@ use Rattle.node_run.proofs.Whole.{ran_whole, halt_last, last_served, last_closed
 use Rattle.node_run.proofs.Holds.{run_replies, run_holds}
 use Rattle.run_promises.specs.Concluding.{session_end, refusal_end}
 use Rattle.run_promises.specs.Behind.{WasClosed, WasRefused, IsBehind}
-use Rattle.run_promises.specs.Promises.{Ends, reads_of, TellEach, HonestEach, OnlyEach, setups_for, AreNumbered, PassEach, StartsFound, IsServed, disks_between, outside}
+use Rattle.run_promises.specs.Promises.{Ends, reads_of, HonestEach, OnlyEach, setups_for, AreNumbered, PassEach, StartsFound, IsServed, disks_between, outside}
 use Rattle.run_promises.proofs.Disks.{as_many, are_later_none, are_later_then, later_count, later_at, none_fell, read_are_later, is_disk_at}
 use Rattle.run_promises.proofs.Standing.{serves_or_halts, one_refusal, each_count, each_stands, each_counted}
 use Rattle.run_promises.proofs.Resting.{nothing_left, now_survives, rest_on_any, rest_on_safe}
-use Rattle.run_promises.proofs.Starting.{geometries_of, started_count, started_read, started_numbered, started_passes, first_setups, first_numbered, found_node, sound_node, safe_node, entered}
+use Rattle.run_promises.proofs.Starting.{geometries_of, started_count, started_read, started_numbered, started_passes, first_setups, first_numbered, tells_at, tell_each, found_node, sound_node, safe_node, entered}
 use Rattle.run_promises.proofs.Ending.{closes_with, halts_with, closed_never, cause_never}
 
 module _ {D : Type 0} (view : D → DiskView) where
@@ -283,16 +283,16 @@ module _ {D : Type 0} (view : D → DiskView) where
 
     -- the number of disks is that of what they read
     abbrev ServedOver : ℕ → Type 0
-    ServedOver n = (count : length (geometries_of shards) ≡ n) × AreNumbered 0 n (geometries_of shards) × (TellEach view disks → PassEach 0 n (geometries_of shards) Reads)
-        × ((ended : Bool) × HoldsReplies (StartsFound set 0 n (geometries_of shards) (TellEach view disks) Reads) false Setups (OutsideOf ended []) (λ device image. ⊥))
+    ServedOver n = (count : length (geometries_of shards) ≡ n) × AreNumbered 0 n (geometries_of shards) × PassEach 0 n (geometries_of shards) (tells_at view disks) Reads
+        × ((ended : Bool) × HoldsReplies (StartsFound set 0 n (geometries_of shards) (tells_at view disks) Reads) false Setups (OutsideOf ended []) (λ device image. ⊥))
 
     served_count : ServedOver (length disks)
     served_count =
-        let found = found_node view set (TellEach view disks) 0 (length disks) disks shards (λ tells. tells) started in (
+        let found = found_node view set 0 (length disks) disks shards started in (
           as_many (λ (shard : ShardView D). shard.shelf.geometry) shards ∙ started_count view set 0 (length disks) disks shards started,
           started_numbered view set 0 (length disks) disks shards started,
           started_passes view set 0 (length disks) disks shards started,
-          replies_from (StartsFound set 0 (length disks) (geometries_of shards) (TellEach view disks) Reads) [] found.0 found.1 found.2,
+          replies_from (StartsFound set 0 (length disks) (geometries_of shards) (tells_at view disks) Reads) [] found.0 found.1 found.2,
         )
 
     serving_so : IsServed set (disks_between view disks (disks_of end)) (session_end result behind) times before after
@@ -311,7 +311,7 @@ module _ {D : Type 0} (view : D → DiskView) where
           extends = ran.extends;
           replies = served.3;
           from_image = λ tells sound.
-              let begins = sound_node view set 0 (length disks) disks shards tells started sound in
+              let begins = sound_node view set 0 (length disks) disks shards (tell_each view disks tells) started sound in
               replies_from (StartsFrom Reads) Reads begins.0 begins.1 begins.2;
           throughout = λ honest only sound.
               let begins = safe_node view set 0 (length disks) disks shards honest started sound in

@@ -1,5 +1,7 @@
 -- The first node of a run, behind a start of each disk: over any disks, from sound images, and over honest disks.
-use Rattle.std.proofs.Common.{◌≡◌, ℕ, zero, suc, ◌+◌, List, [], ◌∷◌, length, map, refl, sym, ◌∙◌, ap, subst}
+use native.Mathlib.Omega.{arith}
+use Rattle.std.proofs.Common.{◌≡◌, ℕ, zero, suc, ◌+◌, ◌<◌, List, [], ◌∷◌, length, map, refl, sym, ◌∙◌, ap, subst}
+use Rattle.std.specs.List.{AllByRecursion}
 use Rattle.disk_model.specs.Disk.{DiskView, meanwhile}
 use Rattle.device_model.specs.Book.{Setup}
 use Rattle.device_model.specs.Device.{State}
@@ -18,12 +20,31 @@ use Rattle.node_model.specs.Headline.{StartsFrom, On}
 use Rattle.core_run.specs.Views.{nowhere, disks_served, view_at}
 use Rattle.core_run.specs.Starts.{Started, StartsEach}
 use Rattle.core_run.specs.Standing.{StandsOn, StandsSafelyOn, Each}
-use Rattle.run_promises.specs.Promises.{ReadAlone, reads_of, TellEach, HonestEach, OnlyEach, setups_for, AreNumbered, PassEach, SoundEach, StartsFound}
+use Rattle.run_promises.specs.Promises.{ReadAlone, reads_of, AllTell, HonestEach, OnlyEach, setups_for, AreNumbered, PassEach, SoundEach, StartsFound}
 use Rattle.run_promises.proofs.Standing.{slot_survives}
 
 -- the shapes of the devices
 abbrev pub geometries_of : {D : Type 0} → List (ShardView D) → List Geometry
 geometries_of shards = map (λ shard. shard.shelf.geometry) shards
+
+-- whether the disk at a place tells its bytes
+abbrev pub tells_at : {D : Type 0} → (view : D → DiskView) → List D → ℕ → Type 0
+tells_at view disks place = (view_at view disks place).tells
+
+-- all of them do
+abbrev pub TellEach : {D : Type 0} → (view : D → DiskView) → List D → Type 0
+TellEach view disks = AllByRecursion (λ disk. (view disk).tells) disks
+
+one_more : (place n : ℕ) → place < n → suc place < suc n
+one_more place n is = omega (arith, is)
+
+first_one : (n : ℕ) → 0 < suc n
+first_one n = omega arith
+
+pub tell_each : {D : Type 0} (view : D → DiskView) (disks : List D) → AllTell (tells_at view disks) (length (reads_of view disks)) → TellEach view disks
+tell_each view [] tells = tt
+tell_each view (disk ∷ disks) tells =
+    (tells 0 (first_one (length (reads_of view disks))), tell_each view disks (λ place is. tells (suc place) (one_more place (length (reads_of view disks)) is)))
 
 module _ {D : Type 0} (view : D → DiskView) (set : Settings) where
   -- the device of the model for a shard in a state
@@ -58,13 +79,12 @@ module _ {D : Type 0} (view : D → DiskView) (set : Settings) where
   started_numbered device devices (disk ∷ disks) [] each = absurd each
   started_numbered device devices (disk ∷ disks) (shard ∷ shards) each = (each.0.device_is, each.0.devices_is, started_numbered (device + 1) devices disks shards each.1)
 
-  pub started_passes : (device devices : ℕ) (disks : List D) (shards : List (ShardView D)) → StartsEach view set device devices disks shards → TellEach view disks
-      → PassEach device devices (geometries_of shards) (reads_of view disks)
-  started_passes device devices [] shards each tells = subst (λ (ss : List (ShardView D)). PassEach device devices (geometries_of ss) []) (sym each) refl
-  started_passes device devices (disk ∷ disks) [] each tells = absurd each
-  started_passes device devices (disk ∷ disks) (shard ∷ shards) each tells =
-      let begins = each.0.begins tells.0 in
-      ((begins.bodies, begins.passes), started_passes (device + 1) devices disks shards each.1 tells.1)
+  pub started_passes : (device devices : ℕ) (disks : List D) (shards : List (ShardView D)) → StartsEach view set device devices disks shards
+      → PassEach device devices (geometries_of shards) (tells_at view disks) (reads_of view disks)
+  started_passes device devices [] shards each = subst (λ (ss : List (ShardView D)). PassEach device devices (geometries_of ss) (tells_at view []) []) (sym each) refl
+  started_passes device devices (disk ∷ disks) [] each = absurd each
+  started_passes device devices (disk ∷ disks) (shard ∷ shards) each =
+      (λ told. let begins = each.0.begins told in (begins.bodies, begins.passes), started_passes (device + 1) devices disks shards each.1)
 
   -- ---- what holds of a node for which they stand
 
@@ -91,20 +111,19 @@ module _ {D : Type 0} (view : D → DiskView) (set : Settings) where
   -- ---- the first node
 
   -- over any disks
-  abbrev pub Finds : (tells : Type 0) → (device devices : ℕ) → List D → List (ShardView D) → Type 0
-  Finds tells device devices disks shards = (node : Node) × Each (StandsOn view) shards node × StartsFound set device devices (geometries_of shards) tells (reads_of view disks) node
+  abbrev pub Finds : (device devices : ℕ) → List D → List (ShardView D) → Type 0
+  Finds device devices disks shards = (node : Node) × Each (StandsOn view) shards node × StartsFound set device devices (geometries_of shards) (tells_at view disks) (reads_of view disks) node
 
-  pub found_node : (tells : Type 0) (device devices : ℕ) (disks : List D) (shards : List (ShardView D)) → (tells → TellEach view disks) → StartsEach view set device devices disks shards
-      → Finds tells device devices disks shards
-  found_node tells device devices [] shards told each = subst (λ (ss : List (ShardView D)). Finds tells device devices [] ss) (sym each) ([], refl, refl)
-  found_node tells device devices (disk ∷ disks) [] told each = absurd each
-  found_node tells device devices (disk ∷ disks) (shard ∷ shards) told each =
+  pub found_node : (device devices : ℕ) (disks : List D) (shards : List (ShardView D)) → StartsEach view set device devices disks shards → Finds device devices disks shards
+  found_node device devices [] shards each = subst (λ (ss : List (ShardView D)). Finds device devices [] ss) (sym each) ([], refl, refl)
+  found_node device devices (disk ∷ disks) [] each = absurd each
+  found_node device devices (disk ∷ disks) (shard ∷ shards) each =
       let stands = each.0.stands in
-      let rest = found_node tells (device + 1) devices disks shards (λ t. (told t).1) each.1 in
+      let rest = found_node (device + 1) devices disks shards each.1 in
       let s : State = found_state (setup_of shard) stands.bodies in (
         slot_for shard s ∷ rest.0,
         (stands_for shard s stands.agrees, rest.1),
-        ((setup_set _ disk shard each.0, stands.bodies, refl, λ t. stands.passes (told t).0), rest.2),
+        ((setup_set _ disk shard each.0, stands.bodies, refl, stands.passes), rest.2),
       )
 
   -- from sound images
@@ -163,8 +182,3 @@ module _ {D : Type 0} (view : D → DiskView) (set : Settings) where
       (subst (λ (bytes : List ℕ). (view shard.shelf.disk).may_leave bytes) (sym (only.0.alone image (each.0.read.images honest.0 image left))) (each.0.only honest.0.told).holds)
   entered device devices (disk ∷ disks) (shard ∷ shards) (slot ∷ node) honest only each stands (suc n) image left =
       entered (device + 1) devices disks shards node honest.1 only.1 each.1 stands.1 n image left
-
--- honest disks tell their bytes
-pub honest_tell : {D : Type 0} (view : D → DiskView) (disks : List D) → HonestEach view disks → TellEach view disks
-honest_tell view [] honest = tt
-honest_tell view (disk ∷ disks) honest = (honest.0.told, honest_tell view disks honest.1)

@@ -1,5 +1,5 @@
 -- Crate run_promises. What a run over the devices of a node promises.
-use Rattle.std.specs.Prelude.{◌≡◌, ◌⊎◌, ℕ, ◌+◌, Bool, false, List, [], ◌∷◌, ◌++◌, length, map, Option}
+use Rattle.std.specs.Prelude.{◌≡◌, ◌⊎◌, ℕ, suc, ◌+◌, ◌<◌, Bool, false, List, [], ◌∷◌, ◌++◌, length, map, Option}
 use Rattle.std.specs.List.{AllByRecursion}
 use Rattle.disk_model.specs.Disk.{DiskView, IsOnly, IsHonest, meanwhile}
 use Rattle.device_model.specs.Book.{Setup}
@@ -47,9 +47,6 @@ ReadAlone view (disk ∷ old) (last ∷ new) = OnlyRead (view disk) (view last) 
 abbrev pub reads_of : {D : Type 0} → (view : D → DiskView) → List D → List (List ℕ)
 reads_of view disks = map (λ disk. (view disk).seen) disks
 
-abbrev pub TellEach : {D : Type 0} → (view : D → DiskView) → List D → Type 0
-TellEach view disks = AllByRecursion (λ disk. (view disk).tells) disks
-
 abbrev pub HonestEach : {D : Type 0} → (view : D → DiskView) → List D → Type 0
 HonestEach view disks = AllByRecursion (λ disk. IsHonest (view disk)) disks
 
@@ -57,11 +54,11 @@ HonestEach view disks = AllByRecursion (λ disk. IsHonest (view disk)) disks
 abbrev pub OnlyEach : {D : Type 0} → (view : D → DiskView) → List D → Type 0
 OnlyEach view disks = AllByRecursion (λ disk. IsOnly (view disk).seen (view disk).may_leave) disks
 
--- What is known of the disks that were handed in, and of those handed back, in order: whether each tells its bytes, what they read,
--- whether each is honest, and whether what it reads is its one image; that the second are the first at a later time, and that nothing
+-- What is known of the disks that were handed in, and of those handed back, in order: of each whether it tells its bytes, and what it
+-- reads; whether all are honest, and whether what each reads is its one image; that the second are the first at a later time, and that nothing
 -- was written to any in between; and which images a crash may have left of each device since the entry, and may leave now.
 pub record DisksOf : Type 1 where
-  pub tells : Type 0
+  pub tells : ℕ → Type 0
   pub reads : List (List ℕ)
   pub honest : Type 0
   pub only : Type 0
@@ -72,7 +69,7 @@ pub record DisksOf : Type 1 where
 
 abbrev pub disks_between : {D : Type 0} → (view : D → DiskView) → (old new : List D) → DisksOf
 disks_between view old new = record {
-  tells = TellEach view old;
+  tells = λ device. (view_at view old device).tells;
   reads = reads_of view old;
   honest = HonestEach view old;
   only = OnlyEach view old;
@@ -93,12 +90,17 @@ abbrev pub AreNumbered : (device devices : ℕ) → List Geometry → Type 0
 AreNumbered device devices [] = Unit {0}
 AreNumbered device devices (g ∷ geometries) = (g.device ≡ device) × (g.devices ≡ devices) × AreNumbered (device + 1) devices geometries
 
--- each of these reads passes as a device of so many, numbered from this one on, of the shape at its place
-abbrev pub PassEach : (device devices : ℕ) → List Geometry → (reads : List (List ℕ)) → Type 0
-PassEach device devices [] reads = reads ≡ []
-PassEach device devices (g ∷ geometries) [] = ⊥
-PassEach device devices (g ∷ geometries) (bytes ∷ reads) =
-    ((bodies : List Body) × Passes (asked device devices) bytes g bodies) × PassEach (device + 1) devices geometries reads
+-- so many devices tell their bytes, each
+abbrev pub AllTell : (tells : ℕ → Type 0) → (devices : ℕ) → Type 0
+AllTell tells devices = (device : ℕ) → device < devices → tells device
+
+-- Each of these reads passes as a device of so many, numbered from this one on, of the shape at its place, where the one at that place
+-- tells its bytes.
+abbrev pub PassEach : (device devices : ℕ) → List Geometry → (tells : ℕ → Type 0) → (reads : List (List ℕ)) → Type 0
+PassEach device devices [] tells reads = reads ≡ []
+PassEach device devices (g ∷ geometries) tells [] = ⊥
+PassEach device devices (g ∷ geometries) tells (bytes ∷ reads) =
+    (tells 0 → (bodies : List Body) × Passes (asked device devices) bytes g bodies) × PassEach (device + 1) devices geometries (λ place. tells (suc place)) reads
 
 -- each of these reads is a sound image for the setup at its place
 abbrev pub SoundEach : List Setup → (reads : List (List ℕ)) → Type 0
@@ -107,18 +109,18 @@ SoundEach (setup ∷ setups) [] = ⊥
 SoundEach (setup ∷ setups) (bytes ∷ reads) = ((bodies : List Body) × IsSound setup bytes bodies) × SoundEach setups reads
 
 -- A device of the first node of a run, over any disk: it has this shape and these settings, as a start from some bodies leaves it. Where
--- the disks tell their bytes, sound or not, these are the bodies behind its open gates.
+-- its disk tells its bytes, sound or not, these are the bodies behind its open gates.
 abbrev pub FoundOn : Settings → Asked → Geometry → (tells : Type 0) → (bytes : List ℕ) → Slot → Type 0
 FoundOn set place g tells bytes slot =
     (slot.setup ≡ setup_for g set) × (bodies : List Body) × (slot.state ≡ found_state slot.setup bodies) × (tells → Passes place bytes g bodies)
 
--- the first node, device by device, numbered from this one on
-abbrev pub StartsFound : Settings → (device devices : ℕ) → List Geometry → (tells : Type 0) → (reads : List (List ℕ)) → Node → Type 0
+-- the first node, device by device, numbered from this one on, where it is known of each place whether the disk there tells its bytes
+abbrev pub StartsFound : Settings → (device devices : ℕ) → List Geometry → (tells : ℕ → Type 0) → (reads : List (List ℕ)) → Node → Type 0
 StartsFound set device devices [] tells reads node = node ≡ []
 StartsFound set device devices (g ∷ geometries) tells [] node = ⊥
 StartsFound set device devices (g ∷ geometries) tells (bytes ∷ reads) [] = ⊥
 StartsFound set device devices (g ∷ geometries) tells (bytes ∷ reads) (slot ∷ node) =
-    FoundOn set (asked device devices) g tells bytes slot × StartsFound set (device + 1) devices geometries tells reads node
+    FoundOn set (asked device devices) g (tells 0) bytes slot × StartsFound set (device + 1) devices geometries (λ place. tells (suc place)) reads node
 
 -- ---- how it ends
 
@@ -144,8 +146,8 @@ outside end bytes output ended times before after images = record {
 }
 
 -- All devices were taken into use, and the bytes written are the front of the reply texts of a run over the bytes taken.
--- Over any disks it is a run from what the start found, which is what their bytes have where they tell them; over disks whose bytes are
--- sound images it is a run from the start states of those images. In both a get is answered by what was read, or by
+-- Over any disks it is a run from what the start found, which is what the bytes of each have where it tells them; over disks whose bytes
+-- are sound images it is a run from the start states of those images. In both a get is answered by what was read, or by
 -- `err damaged`, since the disks aren't known to be honest. Over honest disks, each with one image, which is sound, the run keeps all
 -- promises: no read finds damage, each image that a crash might have left of a device since the entry survives some state of it in the
 -- run, each that one may leave now survives its last, and what was answered as done with commit on is flushed.
@@ -154,7 +156,7 @@ pub record IsServed (set : Settings) (d : DisksOf) (end : RunEnd) (times : Optio
   pub count : length geometries ≡ length d.reads
   pub place : AreNumbered 0 (length d.reads) geometries
   pub disks : d.same_later
-  pub passes : d.tells → PassEach 0 (length d.reads) geometries d.reads
+  pub passes : PassEach 0 (length d.reads) geometries d.tells d.reads
   pub bytes : List ℕ
   pub output : List ℕ
   pub takes : after.taken ≡ before.taken ++ bytes
@@ -162,7 +164,7 @@ pub record IsServed (set : Settings) (d : DisksOf) (end : RunEnd) (times : Optio
   pub extends : Extends before.written after.written output
   pub replies : (ended : Bool) × HoldsReplies (StartsFound set 0 (length d.reads) geometries d.tells d.reads) false (setups_for set geometries)
       (outside end bytes output ended times before after []) (λ device image. ⊥)
-  pub from_image : d.tells → SoundEach (setups_for set geometries) d.reads
+  pub from_image : AllTell d.tells (length d.reads) → SoundEach (setups_for set geometries) d.reads
       → (ended : Bool) × HoldsReplies (StartsFrom d.reads) false (setups_for set geometries)
       (outside end bytes output ended times before after d.reads) (λ device image. ⊥)
   pub throughout : d.honest → d.only → SoundEach (setups_for set geometries) d.reads
