@@ -55,8 +55,8 @@ abbrev pub OnlyEach : {D : Type 0} → (view : D → DiskView) → List D → Ty
 OnlyEach view disks = AllByRecursion (λ disk. IsOnly (view disk).seen (view disk).may_leave) disks
 
 -- What is known of the disks that were handed in, and of those handed back, in order: of each whether it tells its bytes, and what it
--- reads; whether all are honest, and whether what each reads is its one image; that the second are the first at a later time, and that nothing
--- was written to any in between; and which images a crash may have left of each device since the entry, and may leave now.
+-- reads; whether all are honest, and whether what each reads is its one image; that the second are the first at a later time, and that
+-- nothing was written to any in between; and which images a crash may have left of each device since the entry, and may leave now.
 pub record DisksOf : Type 1 where
   pub tells : ℕ → Type 0
   pub reads : List (List ℕ)
