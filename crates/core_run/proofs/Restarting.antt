@@ -1,213 +1,234 @@
--- What a restart comes to, by the start of the device from the disk on which it stood.
-use Rattle.std.proofs.Common.{◌≡◌, inl, inr, ℕ, zero, suc, true, false, List, [], ◌∷◌, refl, sym, ◌∙◌, ap, subst}
+-- What a restart comes to, by the starts of all devices from the disks on which they stood.
+use Rattle.std.proofs.Common.{◌≡◌, inl, inr, ℕ, suc, ◌+◌, ◌≤◌, true, false, List, [], ◌∷◌, length, refl, sym, ◌∙◌, ap, subst, arith}
 use Rattle.std.specs.Prelude.{Some}
-use Rattle.disk_model.specs.Disk.{DiskView, IsDisk, IsHonest}
-use Rattle.disk_model.specs.Runs.{OneOf, Leaves}
-use Rattle.rec_format.specs.declared.entry.Counts.{Counts}
+use Rattle.disk_model.specs.Disk.{DiskView, IsDisk, meanwhile}
 use Rattle.device_model.specs.Book.{Setup}
-use Rattle.device_model.specs.Device.{State, put_count, tombstone_count}
-use Rattle.recovery.specs.Surviving.{Survives}
-use Rattle.block_shelf.specs.Disks.{OnlyRead}
+use Rattle.device_model.specs.Device.{put_count, tombstone_count}
+use Rattle.rec_format.specs.declared.entry.Counts.{Counts}
 use Rattle.line_proto.specs.declared.command.Command.TheVariants as command
 use Rattle.line_proto.specs.declared.reply.Reply.TheVariants as reply
-use Rattle.node_model.specs.Commands.{Node, total}
-use Rattle.node_model.specs.Run.{IsSameDevice, states_while}
-use Rattle.node_model.specs.Meaning.{ActsFrom, LeavesEach, left_between}
 use Rattle.cold_scan.specs.Found.{found_state}
-use Rattle.shard_core.specs.View.{ShardView, setup_of, setup_for}
-use Rattle.shard_core.specs.declared.settings.Settings.{Settings}
-use Rattle.shard_core.specs.Stands.{Agrees, IsSafe}
-use Rattle.shard_core.specs.Starting.{StandsForBodies}
-use Rattle.cold_scan.specs.Starting.{FaultRose}
-use Rattle.shard_core.specs.Again.{StartsAgain, IsNoRefusal}
-use Rattle.shard_core.specs.Numbers.{counts_of}
-use Rattle.cold_scan.specs.declared.device.StartRefusal.{StartRefusal}
 use Rattle.cold_scan.specs.declared.header.StartCause.{StartCause}
-use Rattle.shard_core.proofs.Going.{safe_survives}
-use Rattle.core_run.specs.OneDevice.{IsItsOnly, serving, halted, slot_of, views_of, unknown, the_only, StandsOn, StandsSafelyOn, StandsAlone, StandsSafely, HaltsAlone, HaltsSafely, ActsAlone}
-use Rattle.core_run.proofs.Acting.{shard_slot, nothing_left, one_total}
-use Rattle.core_run.proofs.Later.{later_read}
-use Rattle.core_run.proofs.Serving.{one_shard, serves_or_halts}
+use Rattle.shard_core.specs.declared.settings.Settings.{Settings}
+use Rattle.shard_core.specs.View.{ShardView, setup_of, setup_for}
+use Rattle.shard_core.specs.Again as again
+use Rattle.node_model.specs.Commands.{Slot, Node, total, node_counts}
+use Rattle.node_model.specs.Run.{ImagesLeft, IsSameDevice, RestartsEach}
+use Rattle.node_model.specs.Outside.{RoseOn, counts_of}
+use Rattle.recovery.specs.Start.{Restarts}
+use Rattle.node_model.specs.Meaning.{ActsFrom, left_between}
+use Rattle.core_run.specs.Views.{NodeView, AreDevices, serving, halted, disks_served, view_at, views_of, unknown, asked, faults_of}
+use Rattle.core_run.specs.Starts.{Started, StartsEach, RefusesAt}
+use Rattle.core_run.specs.Standing.{Each, StandsOn, StandsSafelyOn, StandsFor, StandsSafely, Halts, HaltsSafely}
+use Rattle.core_run.specs.Calls.{Acts, Restarted}
+use Rattle.core_run.proofs.Making.{each_more, nothing_left}
+use Rattle.core_run.proofs.Nodes.{one_shards, serves_or_halts}
+use Rattle.core_run.proofs.Replying.{restart_goes_on}
+use Rattle.core_run.proofs.Reading.{ReadEach, read_later, starts_read, refuses_read, left_read, counted_now, same_states, counts_now, counts_before, left_now, place_within, refused_rose, not_refused}
 
-two_goes_on : (a b : ℕ) → reply.Done2 a b ≡ reply.Halted → ⊥
-two_goes_on a b is = cc
-
-module _ {D : Type 0} (view : D → DiskView) (is_disk : (disk : D) → IsDisk (view disk)) (old : ShardView D) (now : ℕ) where
-  abbrev Before : State → Node
-  Before s = shard_slot view old s ∷ []
-
-  -- the images of a disk that was only read survive the state that they survived before
-  left_by_reading : (s : State) (disk : D) → OnlyRead (view old.shelf.disk) (view disk) → IsHonest (view old.shelf.disk) → IsSafe view old s
-      → Leaves (OneOf (Survives (setup_of old)) (s ∷ [])) (view old.shelf.disk) (view disk)
-  left_by_reading s disk read honest safe = record {
-    time = read.time;
-    each = λ image was. inl (safe_survives (setup_of old) view old.shelf s safe.safe image (read.images honest image was));
+module _ {D : Type 0} (view : D → DiskView) (set : Settings) where
+  -- the setup of a device that was started again on the disk of one
+  same_device : (device devices : ℕ) (old new : ShardView D) → old.set ≡ set → old.shelf.geometry.device ≡ device → old.shelf.geometry.devices ≡ devices → Started view set (asked device devices) old.shelf.disk new
+      → IsSameDevice (setup_of old) (setup_of new)
+  same_device device devices old new set_is device_is devices_is started = record {
+    device_is = started.device_is ∙ sym device_is;
+    devices_is = started.devices_is ∙ sym devices_is;
+    settings = λ i. setup_by (setup_of new) ((started.device_is ∙ sym device_is) i) ((started.devices_is ∙ sym devices_is) i) ((started.set_is ∙ sym set_is) i);
   }
+    where
+      -- all but the shape is by the settings and the device's numbers
+      setup_by : Setup → (device devices : ℕ) → Settings → Setup
+      setup_by shape device devices set = record shape {
+        device = device;
+        devices = devices;
+        sprigs = set.sprigs;
+        lwm = set.lwm;
+        pending_limit = set.pending;
+        commit = set.commit;
+        raid_age = set.raid_age;
+      }
 
-  -- ---- it went well
+  -- ---- all were started
 
-  module _ (new : ShardView D) (a b : ℕ)
-      (read : OnlyRead (view old.shelf.disk) (view new.shelf.disk)) (set_is : new.set ≡ old.set)
-      (device_is : new.shelf.geometry.device ≡ old.shelf.geometry.device) (devices_is : new.shelf.geometry.devices ≡ old.shelf.geometry.devices)
-      (found : StandsForBodies view the_only (view old.shelf.disk) new)
-      (counts : (s : State) → Agrees new s → (a ≡ put_count s) × (b ≡ tombstone_count s))
-      (again : IsHonest (view old.shelf.disk) → (s : State) → Agrees old s → IsSafe view old s → StartsAgain view old s new) where
-    abbrev After : State → Node
-    After s = shard_slot view new s ∷ []
+  -- over any disks: the state behind a start from the bodies that were read
+  record AgainAny (left : ImagesLeft) (device : ℕ) (node : Node) (fresh : List (ShardView D)) : Type 0 where
+    after : Node
+    restarts : RestartsEach left false device node after
+    stands : Each (StandsOn view) fresh after
 
-    same : IsSameDevice (setup_of old) (setup_of new)
-    same = record { device_is = device_is; devices_is = devices_is; settings = settings }
-      where
-        -- all but the shape is by the settings and the device's numbers
-        setup_by : Setup → (device devices : ℕ) → Settings → Setup
-        setup_by shape device devices set = record shape {
-          device = device;
-          devices = devices;
-          sprigs = set.sprigs;
-          lwm = set.lwm;
-          pending_limit = set.pending;
-          commit = set.commit;
-          raid_age = set.raid_age;
-        }
+  again_any : (left : ImagesLeft) (device devices : ℕ) (olds fresh : List (ShardView D)) (node : Node) → AreDevices set device devices olds → StartsEach view set device devices (disks_served olds) fresh
+      → Each (StandsOn view) olds node → AgainAny left device node fresh
+  again_any left device devices [] fresh node are starts stands = record {
+    after = [];
+    restarts = subst (λ (n : Node). RestartsEach left false device n []) (sym stands) refl;
+    stands = subst (λ (s : List (ShardView D)). Each (StandsOn view) s []) (sym starts) refl;
+  }
+  again_any left device devices (old ∷ olds) [] node are starts stands = absurd starts
+  again_any left device devices (old ∷ olds) (new ∷ fresh) [] are starts stands = absurd stands
+  again_any left device devices (old ∷ olds) (new ∷ fresh) (slot ∷ node) are starts stands =
+      let started = starts.0 in
+      let found = started.stands in
+      let rest = again_any left (device + 1) devices olds fresh node are.3 starts.1 stands.1 in
+      let one : Slot = record { setup = setup_of new; state = found_state (setup_of new) found.bodies; faults = (view new.shelf.disk).faults } in
+      record {
+        after = one ∷ rest.after;
+        restarts = (
+          subst (λ (n : ℕ). n ≤ (view new.shelf.disk).faults) (sym stands.0.faults_is) started.read.later,
+          (subst (λ (setup : Setup). IsSameDevice setup (setup_of new)) (sym stands.0.setup_is) (same_device device devices old new are.0 are.1 are.2 started), found.bodies, refl),
+          rest.restarts,
+        );
+        stands = (record { setup_is = refl; faults_is = refl; agrees = found.agrees }, rest.stands);
+      }
 
-        settings : setup_of new ≡ record (setup_of old) { capacity = (setup_of new).capacity; blocks = (setup_of new).blocks }
-        settings = (λ i. setup_by (setup_of new) (device_is i) (devices_is i) (set_is i))
+  -- over honest disks that were safe: a state that a restart may go to, from an image that the disk might have left
+  record AgainSafe (left : ImagesLeft) (device : ℕ) (node : Node) (fresh : List (ShardView D)) : Type 0 where
+    after : Node
+    restarts : RestartsEach left true device node after
+    stands : Each (StandsSafelyOn view) fresh after
 
-    told_so : (s : State) → Agrees new s → reply.Done2 a b ≡ reply.Done2 (total put_count (After s)) (total tombstone_count (After s))
-    told_so s agrees =
-        let is = counts s agrees in
-        (λ i. reply.Done2 (is.0 i) (is.1 i)) ∙ (λ i. reply.Done2 (one_total put_count (shard_slot view new s) i) (one_total tombstone_count (shard_slot view new s) i))
-
-    any : (s : State) → ActsFrom (StandsAlone view) unknown (HaltsAlone view) false (serving old) (Before s) command.Restart now (reply.Done2 a b) (serving new)
-    any s =
-        let after : State = found_state (setup_of new) found.bodies in
+  module _ (is_disk : (disk : D) → IsDisk (view disk)) where
+    again_safe : (left : ImagesLeft) (device devices : ℕ) (olds fresh : List (ShardView D)) (node : Node) → AreDevices set device devices olds → StartsEach view set device devices (disks_served olds) fresh
+        → Each (StandsSafelyOn view) olds node
+        → ((place : ℕ) (image : List ℕ) → meanwhile (view_at view (disks_served olds) place) (view_at view (disks_served fresh) place) image → left (device + place) image)
+        → AgainSafe left device node fresh
+    again_safe left device devices [] fresh node are starts stands was = record {
+      after = [];
+      restarts = subst (λ (n : Node). RestartsEach left true device n []) (sym stands) refl;
+      stands = subst (λ (s : List (ShardView D)). Each (StandsSafelyOn view) s []) (sym starts) refl;
+    }
+    again_safe left device devices (old ∷ olds) [] node are starts stands was = absurd starts
+    again_safe left device devices (old ∷ olds) (new ∷ fresh) [] are starts stands was = absurd stands
+    again_safe left device devices (old ∷ olds) (new ∷ fresh) (slot ∷ node) are starts stands was =
+        let started = starts.0 in
+        let safe = stands.0 in
+        let begun : again.StartsAgain view old slot.state new = started.again safe.honest old slot.state refl are.0 are.1 are.2 safe.stands.agrees safe.safe in
+        let setups : setup_of new ≡ setup_of old = ap (λ g. setup_for g new.set) begun.geometry ∙ ap (λ s. setup_for old.shelf.geometry s) (started.set_is ∙ sym are.0) in
+        let here : device + 0 ≡ device = omega arith in
+        let moment = (view old.shelf.disk).moment in
+        let image_left : left device begun.image =
+        subst (λ (n : ℕ). left n begun.image) here
+        (was 0 begun.image (started.read.time.kept moment begun.image (is_disk old.shelf.disk).now_had ((is_disk old.shelf.disk).now_since moment begun.image (is_disk old.shelf.disk).now_had begun.left))) in
+        let rest = again_safe left (device + 1) devices olds fresh node are.3 starts.1 stands.1
+        (λ place image since. let further : device + suc place ≡ device + 1 + place = omega arith in subst (λ (n : ℕ). left n image) further (was (suc place) image since)) in
+        let one : Slot = record { setup = setup_of new; state = begun.state; faults = (view new.shelf.disk).faults } in
         record {
-          work = [];
-          restarted = Some (After after);
-          carried = inl (inr (refl, (refl, After after, refl, inl ((read.later, (same, found.bodies, refl), refl), told_so after found.agrees))));
-          legal = tt;
-          stands = λ goes. (new, refl, record { state = after; is_one = refl; agrees = found.agrees });
-          leaves = nothing_left (serving old) (serving new) (Before s) _;
-          halt = λ is. absurd (two_goes_on a b is);
+          after = one ∷ rest.after;
+          restarts = (
+            subst (λ (n : ℕ). n ≤ (view new.shelf.disk).faults) (sym safe.stands.faults_is) started.read.later,
+            (setups ∙ sym safe.stands.setup_is, begun.image, image_left, subst (λ (setup : Setup). Restarts setup slot.state begun.image begun.state) (sym safe.stands.setup_is) begun.restarts),
+            rest.restarts,
+          );
+          stands = (record { stands = record { setup_is = refl; faults_is = refl; agrees = begun.agrees }; honest = started.read.honest safe.honest; safe = begun.safe }, rest.stands);
         }
 
-    safe : (s : State) → IsHonest (view old.shelf.disk) → Agrees old s → IsSafe view old s
-        → ActsFrom (StandsSafely view) (views_of view) (HaltsSafely view) true (serving old) (Before s) command.Restart now (reply.Done2 a b) (serving new)
-    safe s honest agrees is_safe =
-        let starts = again honest s agrees is_safe in
-        let setups : setup_of new ≡ setup_of old = ap (λ g. setup_for g new.set) starts.geometry ∙ ap (λ set. setup_for old.shelf.geometry set) set_is in
-        record {
-          work = [];
-          restarted = Some (After starts.state);
-          carried = inl (inr (refl, (refl, After starts.state, refl, inl ((read.later, (setups, starts.image, was starts.image starts.left, starts.restarts), refl), told_so starts.state starts.agrees))));
-          legal = tt;
-          stands = λ goes. (new, refl, record { state = starts.state; is_one = refl; agrees = starts.agrees; honest = read.honest honest; safe = starts.safe });
-          leaves = leaves;
-          halt = λ is. absurd (two_goes_on a b is);
-        }
-      where
-        was : (image : List ℕ) → (view old.shelf.disk).may_leave image → left_between (views_of view) (serving old) (serving new) 0 image
-        was image left = read.time.kept (view old.shelf.disk).moment image (is_disk old.shelf.disk).now_had
-            ((is_disk old.shelf.disk).now_since (view old.shelf.disk).moment image (is_disk old.shelf.disk).now_had left)
+    module _ (olds fresh : List (ShardView D)) (counts : Counts) (now : ℕ) (are : AreDevices set 0 (length olds) olds) (starts : StartsEach view set 0 (length olds) (disks_served olds) fresh)
+        (told : (node : Node) → Each (StandsOn view) fresh node → counts ≡ node_counts node) where
+      abbrev Left : ImagesLeft
+      Left = left_between (views_of view) (serving olds) (serving fresh)
 
-        leaves : LeavesEach (views_of view) (Before s) (λ device. states_while device [] (Before s)) (serving old) (serving new)
-        leaves zero = left_by_reading s new.shelf.disk read honest is_safe
-        leaves (suc n) = record { time = read.time; each = λ image left. tt }
+      read : ReadEach view (disks_served olds) (disks_served fresh)
+      read = starts_read view set 0 (length olds) (disks_served olds) fresh starts
 
-    pub acts_again : ActsAlone view (serving old) command.Restart now (reply.Done2 a b) (serving new)
-    acts_again = record {
-      later = later_read view old.shelf.disk new.shelf.disk read;
-      any = λ node stands.
-          let here = subst (λ (s : ShardView D). StandsOn view s node) (sym (one_shard old stands.0 stands.1)) stands.2 in
-          subst (λ (n : Node). ActsFrom (StandsAlone view) unknown (HaltsAlone view) false (serving old) n command.Restart now (reply.Done2 a b) (serving new)) (sym here.is_one) (any here.state);
-      safe = λ node stands.
-          let here = subst (λ (s : ShardView D). StandsSafelyOn view s node) (sym (one_shard old stands.0 stands.1)) stands.2 in
-          subst (λ (n : Node). ActsFrom (StandsSafely view) (views_of view) (HaltsSafely view) true (serving old) n command.Restart now (reply.Done2 a b) (serving new)) (sym here.is_one)
-          (safe here.state here.honest here.agrees here.safe);
-      stored = λ shard is. tt;
-      stays = λ refusal is. absurd (serves_or_halts old refusal is);
-    }
+      reply_is : (after : Node) → Each (StandsOn view) fresh after → reply.Done2 counts.records counts.tombstones ≡ reply.Done2 (total put_count after) (total tombstone_count after)
+      reply_is after stands = ap (λ (c : Counts). reply.Done2 c.records c.tombstones) (told after stands)
 
-  -- ---- it was refused
+      any : (node : Node) → Each (StandsOn view) olds node
+          → ActsFrom (StandsFor view) unknown (Halts view) false (serving olds) node command.Restart now (reply.Done2 counts.records counts.tombstones) (serving fresh)
+      any node stands =
+          let made = again_any (left_between (unknown {T = NodeView D}) (serving olds) (serving fresh)) 0 (length olds) olds fresh node are starts stands in
+          record {
+            work = [];
+            restarted = Some made.after;
+            carried = inl (inr (refl, (refl, made.after, refl, inl (made.restarts, reply_is made.after made.stands))));
+            legal = tt;
+            stands = λ goes. (fresh, refl, made.stands);
+            leaves = nothing_left (serving olds) (serving fresh) node _;
+            halt = λ is. absurd (restart_goes_on counts.records counts.tombstones is);
+          }
 
-  module _ (refusal : StartRefusal D) (read : OnlyRead (view old.shelf.disk) (view refusal.disk))
-      (rose : FaultRose refusal.cause (view old.shelf.disk).faults (view refusal.disk).faults)
-      (unrefused : IsHonest (view old.shelf.disk) → (s : State) → Agrees old s → IsSafe view old s → IsNoRefusal refusal.cause) where
-    abbrev Halted : State → Node
-    Halted s = slot_of (setup_of old) s (view refusal.disk).faults ∷ []
+      safe : (node : Node) → Each (StandsSafelyOn view) olds node
+          → ActsFrom (StandsSafely view) (views_of view) (HaltsSafely view) true (serving olds) node command.Restart now (reply.Done2 counts.records counts.tombstones) (serving fresh)
+      safe node stands =
+          let made = again_safe Left 0 (length olds) olds fresh node are starts stands (λ place image since. let same : place ≡ 0 + place = omega arith in subst (λ (n : ℕ). Left n image) same since) in
+          let plain = each_more (StandsSafelyOn view) (StandsOn view) (λ shard slot s. s.stands) fresh made.after made.stands in
+          record {
+            work = [];
+            restarted = Some made.after;
+            carried = inl (inr (refl, (refl, made.after, refl, inl (made.restarts, reply_is made.after plain))));
+            legal = tt;
+            stands = λ goes. (fresh, refl, made.stands);
+            leaves = left_read view is_disk olds (disks_served fresh) node stands read;
+            halt = λ is. absurd (restart_goes_on counts.records counts.tombstones is);
+          }
 
-    halts : (s : State) → HaltsAlone view (halted refusal) (Before s) (Halted s)
-    halts s = record {
-      refusal = refusal;
-      is_halted = refl;
-      setup = setup_of old;
-      state = s;
-      is_one = refl;
-      rose = λ is. subst (λ (c : StartCause). FaultRose c (view old.shelf.disk).faults (view refusal.disk).faults) is rose;
-    }
+      pub restart_done : Acts view (serving olds) command.Restart now (reply.Done2 counts.records counts.tombstones) (serving fresh)
+      restart_done = record {
+        later = read_later view (disks_served olds) (disks_served fresh) read;
+        any = λ node stands. any node (subst (λ (s : List (ShardView D)). Each (StandsOn view) s node) (sym (one_shards olds stands.0 stands.1)) stands.2);
+        safe = λ node stands. safe node (subst (λ (s : List (ShardView D)). Each (StandsSafelyOn view) s node) (sym (one_shards olds stands.0 stands.1)) stands.2);
+        stored = λ shards same. tt;
+        again = λ shards same is. (set, subst (λ (s : List (ShardView D)). Restarted view set s (serving fresh)) (one_shards olds shards same) (inl (fresh, refl, starts)));
+        stays = λ why disks same. absurd (serves_or_halts olds why disks same);
+      }
 
-    any_refused : (s : State) → ActsFrom (StandsAlone view) unknown (HaltsAlone view) false (serving old) (Before s) command.Restart now reply.Halted (halted refusal)
-    any_refused s = record {
-      work = [];
-      restarted = Some (Halted s);
-      carried = inl (inr (refl, (refl, Halted s, refl, inr ((refl, refl, read.later, refl), refl))));
-      legal = tt;
-      stands = λ goes. absurd (goes refl);
-      leaves = nothing_left (serving old) (halted refusal) (Before s) _;
-      halt = λ is. halts s;
-    }
+    -- ---- one was refused
 
-    safe_refused : (s : State) → IsHonest (view old.shelf.disk) → Agrees old s → IsSafe view old s
-        → ActsFrom (StandsSafely view) (views_of view) (HaltsSafely view) true (serving old) (Before s) command.Restart now reply.Halted (halted refusal)
-    unfolding halts
-    safe_refused s honest agrees is_safe = record {
-      work = [];
-      restarted = Some (Halted s);
-      carried = inl (inr (refl, (refl, Halted s, refl, inr ((refl, refl, read.later, refl), refl))));
-      legal = tt;
-      stands = λ goes. absurd (goes refl);
-      leaves = leaves;
-      halt = λ is. record {
-        halts = halts s;
-        unrefused = unrefused honest s agrees is_safe;
-        left = λ image left. safe_survives (setup_of old) view old.shelf s is_safe.safe image (read.images honest image
-            ((is_disk refusal.disk).now_since (view old.shelf.disk).moment image (read.time.stays (view old.shelf.disk).moment read.time.started) left));
-      };
-    }
-      where
-        leaves : LeavesEach (views_of view) (Before s) (λ device. states_while device [] (Before s)) (serving old) (halted refusal)
-        leaves zero = left_by_reading s refusal.disk read honest is_safe
-        leaves (suc n) = record { time = read.time; each = λ image left. tt }
+    module _ (olds : List (ShardView D)) (reason : ℕ × StartCause) (disks : List D) (now : ℕ) (are : AreDevices set 0 (length olds) olds)
+        (refuses : RefusesAt view set reason.0 0 (length olds) reason.1 (disks_served olds) disks) where
+      read_all : ReadEach view (disks_served olds) disks
+      read_all = refuses_read view is_disk set reason.0 0 (length olds) reason.1 (disks_served olds) disks refuses
 
-    pub acts_refused : ActsAlone view (serving old) command.Restart now reply.Halted (halted refusal)
-    acts_refused = record {
-      later = later_read view old.shelf.disk refusal.disk read;
-      any = λ node stands.
-          let here = subst (λ (s : ShardView D). StandsOn view s node) (sym (one_shard old stands.0 stands.1)) stands.2 in
-          subst (λ (n : Node). ActsFrom (StandsAlone view) unknown (HaltsAlone view) false (serving old) n command.Restart now reply.Halted (halted refusal)) (sym here.is_one) (any_refused here.state);
-      safe = λ node stands.
-          let here = subst (λ (s : ShardView D). StandsSafelyOn view s node) (sym (one_shard old stands.0 stands.1)) stands.2 in
-          subst (λ (n : Node). ActsFrom (StandsSafely view) (views_of view) (HaltsSafely view) true (serving old) n command.Restart now reply.Halted (halted refusal)) (sym here.is_one)
-          (safe_refused here.state here.honest here.agrees here.safe);
-      stored = λ shard is. tt;
-      stays = λ other is. absurd (serves_or_halts old other is);
-    }
+      halts : (node : Node) → Each (StandsOn view) olds node → Halts view (halted reason disks) node (counted_now view is_disk node disks)
+      halts node stands = record {
+        device = reason.0;
+        cause = reason.1;
+        disks = disks;
+        is_halted = refl;
+        there = place_within view set reason.0 0 (length olds) reason.1 (disks_served olds) disks refuses;
+        counts = counts_now view is_disk olds disks node stands read_all;
+        rose = λ is.
+            subst (λ (before : List ℕ). RoseOn reason.0 before (counts_of (counted_now view is_disk node disks))) (sym (counts_before view is_disk olds node stands))
+            (subst (λ (after : List ℕ). RoseOn reason.0 (faults_of view (disks_served olds)) after) (sym (counts_now view is_disk olds disks node stands read_all))
+            (refused_rose view set reason.0 0 (length olds) reason.1 (disks_served olds) disks refuses is));
+      }
 
-  -- ---- by what the start says
+      any_refused : (node : Node) → Each (StandsOn view) olds node
+          → ActsFrom (StandsFor view) unknown (Halts view) false (serving olds) node command.Restart now reply.Halted (halted reason disks)
+      any_refused node stands = record {
+        work = [];
+        restarted = Some (counted_now view is_disk node disks);
+        carried = inl (inr (refl, (refl, counted_now view is_disk node disks, refl, inr (same_states view is_disk olds disks node stands read_all, refl))));
+        legal = tt;
+        stands = λ goes. absurd (goes refl);
+        leaves = nothing_left (serving olds) (halted reason disks) node _;
+        halt = λ is. halts node stands;
+      }
 
-  module _ (set : Settings) (mine : IsItsOnly set old) where
-    pub restarts_so : (disk : D) → disk ≡ old.shelf.disk → (new : ShardView D) (counts : Counts) → IsItsOnly set new → StandsForBodies view the_only (view disk) new → OnlyRead (view disk) (view new.shelf.disk)
-        → (IsHonest (view disk) → (o : ShardView D) (s : State) → o.shelf.disk ≡ disk → o.set ≡ set → o.shelf.geometry.device ≡ 0 → o.shelf.geometry.devices ≡ 1 → Agrees o s → IsSafe view o s → StartsAgain view o s new)
-        → ((s : State) → Agrees new s → counts ≡ counts_of s) → ActsAlone view (serving old) command.Restart now (reply.Done2 counts.records counts.tombstones) (serving new)
-    restarts_so disk is new counts its stands read again told =
-        acts_again new counts.records counts.tombstones (subst (λ (d : D). OnlyRead (view d) (view new.shelf.disk)) is read) (its.0 ∙ sym mine.0) (its.1 ∙ sym mine.1) (its.2 ∙ sym mine.2)
-        (subst (λ (d : D). StandsForBodies view the_only (view d) new) is stands)
-        (λ s agrees. (ap (λ c. c.records) (told s agrees), ap (λ c. c.tombstones) (told s agrees)))
-        (λ honest s agrees safe. again (subst (λ (d : D). IsHonest (view d)) (sym is) honest) old s (sym is) mine.0 mine.1 mine.2 agrees safe)
+      safe_refused : (node : Node) → Each (StandsSafelyOn view) olds node
+          → ActsFrom (StandsSafely view) (views_of view) (HaltsSafely view) true (serving olds) node command.Restart now reply.Halted (halted reason disks)
+      unfolding halts
+      safe_refused node stands =
+          let plain = each_more (StandsSafelyOn view) (StandsOn view) (λ shard slot s. s.stands) olds node stands in
+          record {
+            work = [];
+            restarted = Some (counted_now view is_disk node disks);
+            carried = inl (inr (refl, (refl, counted_now view is_disk node disks, refl, inr (same_states view is_disk olds disks node plain read_all, refl))));
+            legal = tt;
+            stands = λ goes. absurd (goes refl);
+            leaves = left_read view is_disk olds disks node stands read_all;
+            halt = λ is. record {
+              halts = halts node plain;
+              unrefused = not_refused view set reason.0 0 (length olds) reason.1 olds disks node are refuses stands;
+              left = left_now view is_disk olds disks node stands read_all;
+            };
+          }
 
-    pub refuses_so : (disk : D) → disk ≡ old.shelf.disk → (refusal : StartRefusal D) → OnlyRead (view disk) (view refusal.disk) → FaultRose refusal.cause (view disk).faults (view refusal.disk).faults
-        → (IsHonest (view disk) → (o : ShardView D) (s : State) → o.shelf.disk ≡ disk → o.set ≡ set → o.shelf.geometry.device ≡ 0 → o.shelf.geometry.devices ≡ 1 → Agrees o s → IsSafe view o s → IsNoRefusal refusal.cause)
-        → ActsAlone view (serving old) command.Restart now reply.Halted (halted refusal)
-    refuses_so disk is refusal read rose again =
-        acts_refused refusal (subst (λ (d : D). OnlyRead (view d) (view refusal.disk)) is read) (subst (λ (d : D). FaultRose refusal.cause (view d).faults (view refusal.disk).faults) is rose)
-        (λ honest s agrees safe. again (subst (λ (d : D). IsHonest (view d)) (sym is) honest) old s (sym is) mine.0 mine.1 mine.2 agrees safe)
+      pub restart_refused : Acts view (serving olds) command.Restart now reply.Halted (halted reason disks)
+      restart_refused = record {
+        later = read_later view (disks_served olds) disks read_all;
+        any = λ node stands. any_refused node (subst (λ (s : List (ShardView D)). Each (StandsOn view) s node) (sym (one_shards olds stands.0 stands.1)) stands.2);
+        safe = λ node stands. safe_refused node (subst (λ (s : List (ShardView D)). Each (StandsSafelyOn view) s node) (sym (one_shards olds stands.0 stands.1)) stands.2);
+        stored = λ shards same. tt;
+        again = λ shards same is. (set, subst (λ (s : List (ShardView D)). Restarted view set s (halted reason disks)) (one_shards olds shards same) (inr (reason, disks, refl, refuses)));
+        stays = λ why kept same. absurd (serves_or_halts olds why kept same);
+      }

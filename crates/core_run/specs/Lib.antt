@@ -1,2 +1,6 @@
-pub mod OneDevice
+pub mod Views
+pub mod Starts
+pub mod Standing
+pub mod Calls
+pub mod Turns
 pub mod Formatting

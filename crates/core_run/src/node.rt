@@ -1,41 +1,39 @@
-// A node over one device.
-ghost use Rattle.std.specs.Prelude.{◌≡◌, ◌≢◌, ◌≤◌, ◌^◌, ◌∷◌, [], ℕ, vec_len, IfErr, IsSome, MatchOption, MatchResult};
-ghost use Rattle.shard_core.specs.View.{IsSettings};
-ghost use Rattle.device_model.specs.Device.{State};
-ghost use Rattle.device_model.specs.Events.{flush_call};
-ghost use Rattle.shard_core.specs.Stands.{Agrees};
-ghost use Rattle.shard_core.specs.Calls.{Makes, flush_answer};
-ghost use Rattle.shard_core.specs.View.{ShardView, SameSetup};
+// A node over its devices.
+ghost use Rattle.std.specs.Prelude.{◌≡◌, ◌≢◌, ◌≤◌, ◌<◌, ◌^◌, None, ℕ, List, length, vec_len, MatchOption, MatchResult, option_map};
+ghost use Rattle.rec_format.specs.declared.version.Digest.{Digest};
+ghost use Rattle.rec_format.specs.Places.{device_number};
+ghost use Rattle.shard_core.specs.View.{IsSettings, ShardView};
 ghost use Rattle.line_proto.specs.Built.{IsInRange};
-ghost use Rattle.core_run.specs.OneDevice.{serving, halted, disks_of, ActsOn, ActsAlone, ClosesAlone, Started, NotStarted};
+ghost use Rattle.core_run.specs.Views.{serving, halted, disks_of};
+ghost use Rattle.core_run.specs.Starts.{StartsEach, RefusesAt};
+ghost use Rattle.core_run.specs.Turns.{RepliesOn, GoesOn};
+ghost use Rattle.core_run.specs.Calls.{Acts, Closes, digest_of};
 
+use crate::devices::{close_each, counts_of, flush_each, tend_each};
 use crate::replies::{delete_reply, flush_reply, known_reply, read_reply, write_reply};
-use disk_model::{Disk, DiskFault};
+use crate::starts::{start_all, stop_all};
+use disk_model::Disk;
 use line_proto::{Command, Reply, Store};
-use shard_core::{Asked, Settings, Shard, StartCause, StartRefusal};
+use partition_map::device_of;
+use rec_format::Digest;
+use shard_core::{Settings, Shard, StartCause};
 use std::alloc::Global;
 use std::marker::Model;
 
-// The one device of so many.
-const ONLY: Asked = Asked {
-    device: 0,
-    devices: 1,
-};
-
-/// The devices of a node. At present it has one.
+/// The devices of a node, 1 to 16.
 #[derive(Drop)]
 pub struct Node<D: Disk> {
-    // The device that is served; there is none behind a restart that was refused.
-    shard: Option<Shard<D>>,
-    // Behind such a restart its disk, and why it was refused.
-    stopped: Option<StartRefusal<D>>,
+    // The devices that are served, in order; there are none behind a restart that was refused.
+    shards: Vec<Shard<D>>,
+    // Behind such a restart the device that was refused, and why.
+    refused: Option<(u16, StartCause)>,
     // What each device is run with.
     set: Settings,
-    // The emptied list of the disks, so that handing them back takes no memory.
-    spare: Vec<D>,
+    // Behind such a restart the disks, in order. Else it is empty, with room for them, so that handing them back takes no memory.
+    disks: Vec<D>,
 }
 
-/// A device that a node can't be started with, and all of its disks, in order.
+/// A device that a node can't be started with, and why, and all disks, in order.
 pub struct NodeRefusal<D> {
     pub device: u16,
     pub cause: StartCause,
@@ -43,70 +41,67 @@ pub struct NodeRefusal<D> {
 }
 
 impl<D: Disk> Model for Node<D> {
-    ghost use Rattle.std.specs.Prelude.{◌≡◌, ◌≤◌, None, IsSome, MatchOption, vec_len, vec_capacity};
+    ghost use Rattle.std.specs.Prelude.{vec_capacity};
     ghost use Rattle.std.specs.Coded.{codes};
     ghost use Rattle.hold_book.specs.Holds.{hold_state_code};
-    ghost use Rattle.shard_core.specs.View.{IsSettings};
-    ghost use Rattle.core_run.specs.OneDevice.{NodeView, IsItsOnly};
+    ghost use Rattle.core_run.specs.Views.{NodeView, IsNode};
 
     ghost Value = { NodeView D };
 
     ghost coded = { Prim.hlevel (codes, hold_state_code) };
 
-    ghost view = { λ n. record { shard = n.shard; stopped = n.stopped } };
+    ghost view = { λ n. record { shards = n.shards.items; refused = n.refused; disks = n.disks.items } };
 
-    ghost invariant = { λ n. (vec_len n.spare ≡ 0) × (1 ≤ vec_capacity n.spare) × IsSettings n.set × MatchOption n.shard (IsSome n.stopped)
-        (λ shard. (n.stopped ≡ None) × IsItsOnly n.set shard) };
+    ghost invariant = { λ n. IsNode n.set (vec_capacity n.shards) (vec_capacity n.disks) (record { shards = n.shards.items; refused = n.refused; disks = n.disks.items }) };
 }
 
 impl<D: Disk> Node<D> {
-    /// Starts each device. A refusal tells the first device that isn't taken into use and why, and hands the disks back.
+    /// Starts each device from its disk, 1 to 16 of them. A refusal tells the first device that isn't taken into use and why, and hands the
+    /// disks back.
     pub fn start(alloc: Global, mut disks: Vec<D>, set: Settings) -> Result<Node<D>, NodeRefusal<D>>
-        requires disks { vec_len disks ≡ 1 }
+        requires disks { (1 ≤ vec_len disks) × (vec_len disks ≤ 16) }
         requires set { IsSettings set }
-        ensures begun { (disk : D) → disks.items ≡ disk ∷ [] → MatchResult result (λ node. (shard : ShardView D) × (node ≡ serving shard) × Started D.view set disk shard)
-            (λ refusal. (new : D) × (refusal.disks.items ≡ new ∷ []) × NotStarted D.view refusal.cause disk new) }
-        ensures which { IfErr result (λ refusal. refusal.device ≡ 0) }
+        ensures begun { MatchResult result (λ node. (shards : List (ShardView D)) × (node ≡ serving shards) × StartsEach D.view set 0 (vec_len disks) disks.items shards)
+            (λ refusal. RefusesAt D.view set refusal.device 0 (vec_len disks) refusal.cause disks.items refusal.disks.items) }
     {
-        let Some(disk) = disks.pop() else {
-            unreachable!();
+        let Ok(mut shards) = Vec::with_capacity(alloc, disks.len()) else {
+            return Err(NodeRefusal {
+                device: 0,
+                cause: StartCause::Memory,
+                disks,
+            });
         };
-        match Shard::start(alloc, disk, ONLY, set) {
-            Ok(shard) => Ok(Node {
-                shard: Some(shard),
-                stopped: None,
+        match start_all(alloc, &mut disks, &mut shards, set) {
+            Ok(()) => Ok(Node {
+                shards,
+                refused: None,
                 set,
-                spare: disks,
+                disks,
             }),
-            Err(StartRefusal { disk, cause }) => {
-                disks.push_reserved(disk);
-                Err(NodeRefusal {
-                    device: 0,
-                    cause,
-                    disks,
-                })
-            }
+            Err((device, cause)) => Err(NodeRefusal {
+                device,
+                cause,
+                disks,
+            }),
         }
     }
 
-    // Drops all buffers and starts the device again from its disk. Where that is refused the node halts.
+    // Drops all buffers and starts each device again from its disk. Where one is refused the node halts.
     fn restart(&mut self, alloc: Global) -> Reply
-        ensures { (now : ℕ) → ActsAlone D.view self.old Command.Restart now result self.new }
+        requires served { self.old.refused ≡ None }
+        ensures { (now : ℕ) → Acts D.view self.old Command.Restart now result self.new }
     {
-        let Some(shard) = self.shard.take() else {
-            return Reply::Halted;
-        };
-        match Shard::start(alloc, shard.stop(), ONLY, self.set) {
-            Ok(shard) => {
-                let counts = shard.counts();
-                self.shard = Some(shard);
+        stop_all(&mut self.shards, &mut self.disks);
+        match start_all(alloc, &mut self.disks, &mut self.shards, self.set) {
+            Ok(()) => {
+                let counts = counts_of(&self.shards);
                 Reply::Done2 {
                     a: counts.records,
                     b: counts.tombstones,
                 }
             }
-            Err(refusal) => {
-                self.stopped = Some(refusal);
+            Err(why) => {
+                self.refused = Some(why);
                 Reply::Halted
             }
         }
@@ -114,98 +109,111 @@ impl<D: Disk> Node<D> {
 
     /// The device whose restart was refused, and why, where one was. Such a node answers every command by `Halted`, and does nothing.
     pub fn halted(&self) -> Option<(u16, StartCause)>
-        ensures { MatchOption result ((shard : ShardView D) × (self.now ≡ serving shard))
-            (λ why. (refusal : StartRefusal D) × (self.now ≡ halted refusal) × (why.0 ≡ 0) × (why.1 ≡ refusal.cause)) }
+        ensures { MatchOption result ((shards : List (ShardView D)) × (self.now ≡ serving shards)) (λ why. (disks : List D) × (self.now ≡ halted why disks)) }
     {
-        match &self.stopped {
-            Some(refusal) => Some((0, refusal.cause)),
-            None => None,
-        }
+        self.refused
     }
 
-    /// Flushes all that a device has pending, for the end of a run; answers how many buffers it flushed. At present there is device 0,
-    /// and no restart of it may have been refused.
-    pub fn flush_device(&mut self, device: u16) -> Result<u64, DiskFault>
-        requires device { device ≡ 0 }
-        requires served { IsSome self.old.shard }
-        ensures closes { ClosesAlone D.view result self.old self.new }
-        ensures answer { (old new : ShardView D) → self.old ≡ serving old → self.new ≡ serving new → (s : State) → Agrees old s → Makes D.view flush_call (flush_answer result) old s new }
+    /// Flushes all that each device has pending, for the end of a run, also behind a device that fails; answers the first that failed.
+    /// No restart may have been refused.
+    pub fn close(&mut self) -> Option<u16>
+        requires served { (shards : List (ShardView D)) × (self.old ≡ serving shards) }
+        ensures { Closes D.view result self.old self.new }
     {
-        prove!(device == 0);
-        let Some(shard) = &mut self.shard else {
-            unreachable!();
-        };
-        shard.flush()
+        close_each(&mut self.shards)
     }
 
-    /// Gives the disks back, in order. At present there is one.
+    /// Gives the disks back, in order.
     pub fn stop(self) -> Vec<D>
-        ensures disks { result.items ≡ disks_of self }
-        ensures one { (disk : D) × (result.items ≡ disk ∷ []) }
+        ensures { result.items ≡ disks_of self }
     {
         let Node {
-            shard,
-            stopped,
-            mut spare,
+            mut shards,
+            refused,
+            mut disks,
             ..
         } = self;
-        if let Some(shard) = shard {
-            spare.push_reserved(shard.stop());
-        } else if let Some(refusal) = stopped {
-            spare.push_reserved(refusal.disk);
+        if refused.is_none() {
+            stop_all(&mut shards, &mut disks);
         }
-        spare
+        disks
     }
 }
 
-// Carries out a command but a restart on the device that is served.
-fn act_on<D: Disk>(shard: &mut Shard<D>, alloc: Global, command: &Command, now: u64) -> Reply
+// The digest that a command is on.
+fn digest_of<'a>(command: &'a Command) -> Option<&'a Digest>
+    ensures { option_map (λ digest. digest.now) result ≡ digest_of command.now }
+{
+    match command {
+        Command::Put { digest, .. }
+        | Command::Get(digest)
+        | Command::Meta(digest)
+        | Command::Del(digest)
+        | Command::Bury(digest) => Some(digest),
+        _ => None,
+    }
+}
+
+// Carries out a command on a digest of the device.
+fn act_on<D: Disk>(
+    shard: &mut Shard<D>,
+    alloc: Global,
+    command: &Command,
+    digest: &Digest,
+    now: u64,
+) -> Reply
     requires time { now ≤ 2 ^ 61 }
     requires range { IsInRange command.now }
-    requires goes_on { command.now ≢ Command.Quit }
-    requires other { command.now ≢ Command.Restart }
-    requires place { (shard.old.shelf.geometry.device ≡ 0) × (shard.old.shelf.geometry.devices ≡ 1) }
-    ensures acts { ActsOn D.view shard.old command.now now result shard.new }
-    ensures same { SameSetup shard.old shard.new }
+    requires on { digest_of command.now ≡ Some digest.now }
+    requires place { device_number shard.old.shelf.geometry.devices digest.now ≡ shard.old.shelf.geometry.device }
+    ensures replies { RepliesOn D.view shard.old command.now now result shard.new }
+    ensures goes { GoesOn D.view shard.old shard.new }
 {
     match command {
         Command::Put {
-            digest,
             ttl,
             expect,
             payload,
+            ..
         } => write_reply(shard.put(alloc, digest, *ttl, payload.as_slice(), *expect, now)),
-        Command::Get(digest) => read_reply(shard.get(alloc, digest, now)),
-        Command::Meta(digest) => known_reply(shard.meta(digest, now)),
-        Command::Del(digest) => delete_reply(shard.delete(alloc, digest, now)),
-        Command::Bury(digest) => write_reply(shard.bury(alloc, digest, now)),
-        Command::Flush => flush_reply(shard.flush()),
-        Command::Stat => Reply::StatOf(shard.counts()),
+        Command::Get(_) => read_reply(shard.get(alloc, digest, now)),
+        Command::Meta(_) => known_reply(shard.meta(digest, now)),
+        Command::Del(_) => delete_reply(shard.delete(alloc, digest, now)),
+        Command::Bury(_) => write_reply(shard.bury(alloc, digest, now)),
         _ => unreachable!(),
     }
 }
 
 impl<D: Disk> Store for Node<D> {
-    ghost use Rattle.core_run.specs.OneDevice.{ActsAlone, TendsAlone};
+    ghost use Rattle.core_run.specs.Calls.{Acts, Tends};
 
-    ghost acts = { ActsAlone D.view };
+    ghost acts = { Acts D.view };
 
-    ghost tends = { TendsAlone D.view };
+    ghost tends = { Tends D.view };
 
     fn act(&mut self, alloc: Global, command: &Command, now: u64) -> Reply {
-        if let Command::Restart = command {
-            return self.restart(alloc);
-        }
-        let Some(shard) = &mut self.shard else {
+        if self.refused.is_some() {
             return Reply::Halted;
-        };
-        act_on(shard, alloc, command, now)
+        }
+        if let Some(digest) = digest_of(command) {
+            let device = device_of(digest, self.shards.len() as u16);
+            return act_on(
+                &mut self.shards[usize::from(device)],
+                alloc,
+                command,
+                digest,
+                now,
+            );
+        }
+        match command {
+            Command::Flush => flush_reply(flush_each(&mut self.shards)),
+            Command::Stat => Reply::StatOf(counts_of(&self.shards)),
+            Command::Restart => self.restart(alloc),
+            _ => unreachable!(),
+        }
     }
 
     fn tend(&mut self, _alloc: Global) {
-        let Some(shard) = &mut self.shard else {
-            return;
-        };
-        shard.tend();
+        tend_each(&mut self.shards);
     }
 }

@@ -3,7 +3,7 @@ ghost use Rattle.std.specs.Prelude.{◌≡◌, Option};
 ghost use Rattle.rec_format.specs.declared.version.Version.{Version};
 ghost use Rattle.node_model.specs.Commands.{answer_reply, fault_of, meta_reply, one_sum};
 ghost use Rattle.shard_core.specs.Calls.{cause_of_write, delete_answer, meta_of, read_answer, write_answer};
-ghost use Rattle.core_run.specs.OneDevice.{flush_outcome};
+ghost use Rattle.core_run.specs.Calls.{flush_outcome};
 
 use disk_model::DiskFault;
 use line_proto::{LineFault, Reply};

@@ -124,10 +124,15 @@ fn what_is_sealed_is_flushed(rt: HostRuntime) -> Result<(), Fail> {
     );
     let put = put_of(alloc, first, 1, None)?;
     assert!(rt; matches!(&node.act(alloc, &put, 1000), Reply::Done2 { a: 2, b: 1000 }));
+    let Reply::StatOf(before) = node.act(alloc, &Command::Stat, 1000) else {
+        return Err(Fail::new("it tells no numbers"));
+    };
     assert!(rt; node.halted().is_none());
-    assert!(rt; matches!(&node.flush_device(0), Ok(1)));
-    assert!(rt; node.halted().is_none());
-    assert!(rt; matches!(&node.flush_device(0), Ok(0)));
+    assert!(rt; node.close().is_none());
+    let Reply::StatOf(after) = node.act(alloc, &Command::Stat, 1000) else {
+        return Err(Fail::new("it tells no numbers"));
+    };
+    assert_eq!(rt; (before.pending, after.pending), (1, 0));
     assert_eq!(rt; node.stop().len(), 1);
     Ok(())
 }
@@ -205,5 +210,59 @@ fn a_node_restarts_until_its_disk_fails(rt: HostRuntime) -> Result<(), Fail> {
     assert!(rt; matches!(&node.act(alloc, &put, 1000), Reply::Halted));
     node.tend(alloc);
     assert_eq!(rt; node.stop().len(), 1);
+    Ok(())
+}
+
+/// A disk that is formatted as one of two devices.
+fn one_of_two(rt: &impl Abort, alloc: Global, device: u16) -> Result<MemDisk, Fail>
+    requires { device < 2 }
+{
+    let mut disk = MemDisk::new(alloc, DEVICE_BYTES)?;
+    assert!(rt; disk.len() == DEVICE_BYTES);
+    let shape = Geometry {
+        device,
+        devices: 2,
+        ..SHAPE
+    };
+    format_disk(&mut disk, &shape)?;
+    Ok(disk)
+}
+
+/// A digest of each of two devices, which is told by its first byte.
+const EVEN: Digest = Digest([0; 20]);
+
+const ODD: Digest = Digest([1; 20]);
+
+/// Of two devices the second has a disk whose sync fails: a flush is a fault, the numbers are sums, and the closing names the second.
+#[test]
+fn two_devices_are_served(rt: HostRuntime) -> Result<(), Fail> {
+    let alloc = rt.alloc();
+    let mut second = one_of_two(&rt, alloc, 1)?;
+    // The start syncs once; the two syncs behind it are those of a body.
+    for skip in [1, 1] {
+        second.fail_after(DiskCall::Sync, skip)?;
+    }
+    let mut disks = vec![in alloc; one_of_two(&rt, alloc, 0)?]?;
+    disks.push(second)?;
+    let Ok(mut node) = Node::start(alloc, disks, SET) else {
+        return Err(Fail::new("they aren't taken into use"));
+    };
+    for digest in [EVEN, ODD] {
+        let put = put_of(alloc, digest, 5, None)?;
+        assert!(rt; matches!(&node.act(alloc, &put, 1000), Reply::Done2 { a: 1, b: 1000 }));
+    }
+    let Reply::StatOf(counts) = node.act(alloc, &Command::Stat, 1000) else {
+        return Err(Fail::new("it tells no numbers"));
+    };
+    assert_eq!(rt; (counts.records, counts.free, counts.pending), (2, 30, 2));
+    assert!(rt;
+        matches!(
+            &node.act(alloc, &Command::Flush, 1000),
+            Reply::Fail(LineFault::Fault)
+        )
+    );
+    assert!(rt; node.halted().is_none());
+    assert!(rt; matches!(node.close(), Some(1)));
+    assert_eq!(rt; node.stop().len(), 2);
     Ok(())
 }

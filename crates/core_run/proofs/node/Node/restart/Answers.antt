@@ -1,33 +1,49 @@
-use Rattle.std.proofs.Common.{sym, ◌∙◌, subst}
-use Rattle.std.specs.Prelude.{Option, Some}
-use Rattle.line_proto.specs.declared.command.Command.TheVariants as command
-use Rattle.line_proto.specs.declared.reply.Reply.TheVariants as reply
+use Rattle.std.proofs.Common.{List, length, arith, sym, subst, ap}
+use Rattle.std.specs.Prelude.{vec_len, vec_capacity}
 use Rattle.shard_core.specs.View.{ShardView}
-use Rattle.cold_scan.specs.declared.device.StartRefusal.{StartRefusal}
-use Rattle.core_run.specs.OneDevice.{NodeView, IsItsOnly, serving, ActsAlone}
-use Rattle.core_run.proofs.Serving.{as_serving, none_stopped}
-use Rattle.core_run.proofs.Restarting.{restarts_so, refuses_so}
+use Rattle.core_run.specs.Standing.{Each, StandsOn}
+use Rattle.core_run.proofs.Stopped.{few_fresh, keeps_again, roomy, done_again, keeps_halted, refused_again}
 use Rattle.core_run.proofs.node.Node.restart.Goals as goal
+
+pub counts_of-counts-requires : goal.counts_of-counts-requires
+counts_of-counts-requires g c =
+    let e = (c.in-Ok.ensures {u = tt}).starts in
+    let few = few_fresh g.D.Disk.view g.met.D.Disk.is_disk c.self.inside.set (vec_capacity c.self.inside.shards) (vec_capacity c.self.inside.disks) c.self.inside.shards.items c.self.inside.refused c.self.inside.disks.items c.self.invariant c.args.self.now c.self.view_is c.requires.served
+    c.stop_all.new.disks.items (vec_len c.stop_all.new.disks) c.stop_all.ensures.disks c.stop_all.new.disks.ok.0
+    c.start_all.new.shards.items c.start_all.new.disks.items (vec_capacity c.start_all.new.disks) e.1 e.0 in
+    let same = ap length c.deref.ensures.value in
+    record { few = omega (arith, few, same) }
+
+pub invariant_of-self : goal.invariant_of-self
+invariant_of-self g c =
+    let e = c.in-Ok.ensures {u = tt} in
+    let room = e.room.1 in
+    let kept = c.stop_all.ensures.room.1 in
+    let fits = roomy g.D.Disk.view g.met.D.Disk.is_disk c.self.inside.set (vec_capacity c.self.inside.shards) (vec_capacity c.self.inside.disks) c.self.inside.shards.items c.self.inside.refused c.self.inside.disks.items c.self.invariant c.args.self.now c.self.view_is c.requires.served
+    c.stop_all.new.disks.items (vec_len c.stop_all.new.disks) c.stop_all.ensures.disks c.stop_all.new.disks.ok.0
+    c.start_all.new.shards.items c.start_all.new.disks.items (vec_capacity c.start_all.new.disks) e.starts.1 e.starts.0 in
+    keeps_again g.D.Disk.view g.met.D.Disk.is_disk c.self.inside.set (vec_capacity c.self.inside.shards) (vec_capacity c.self.inside.disks) c.self.inside.shards.items c.self.inside.refused c.self.inside.disks.items c.self.invariant c.args.self.now c.self.view_is c.requires.served
+    c.stop_all.new.disks.items (vec_len c.stop_all.new.disks) c.stop_all.ensures.disks c.stop_all.new.disks.ok.0
+    c.start_all.new.shards.items c.start_all.new.disks.items (vec_capacity c.start_all.new.disks) e.starts.1 e.starts.0 (vec_capacity c.start_all.new.shards) (omega (arith, room, kept, fits))
 
 pub returns-in-Ok : goal.returns-in-Ok
 returns-in-Ok g c now =
-    let d = g.D.Disk in
-    let e = c.in-Ok.ensures {u = tt} in
-    let was = sym c.take.ensures.value ∙ c.in-Some.is in
-    let mine = none_stopped c.self.inside.shard c.self.inside.stopped (IsItsOnly c.self.inside.set) c.self.invariant.3 c.in-Some.shard was in
-    let told = reply.Done2 c.counts-counts.result.records c.counts-counts.result.tombstones in
-    subst (λ (old : NodeView g.row.D.Denot). ActsAlone d.view old command.Restart now told (record { shard = Some c.in-Ok.shard; stopped = c.self.inside.stopped }))
-    (sym (as_serving c.self.inside.shard c.self.inside.stopped c.in-Some.shard was mine.0) ∙ c.self.view_is)
-    (subst (λ (o : Option (StartRefusal g.row.D.Denot)). ActsAlone d.view (serving c.in-Some.shard) command.Restart now told (record { shard = Some c.in-Ok.shard; stopped = o })) (sym mine.0)
-    (restarts_so d.view g.met.D.Disk.is_disk c.in-Some.shard now c.self.inside.set mine.1 c.stop.result c.stop.ensures c.in-Ok.shard c.counts-counts.result e.shape e.stands e.read e.again c.counts-counts.ensures.state))
+    let e = (c.in-Ok.ensures {u = tt}).starts in
+    done_again g.D.Disk.view g.met.D.Disk.is_disk c.self.inside.set (vec_capacity c.self.inside.shards) (vec_capacity c.self.inside.disks) c.self.inside.shards.items c.self.inside.refused c.self.inside.disks.items c.self.invariant c.args.self.now c.self.view_is c.requires.served
+    c.stop_all.new.disks.items (vec_len c.stop_all.new.disks) c.stop_all.ensures.disks c.stop_all.new.disks.ok.0
+    c.start_all.new.shards.items c.start_all.new.disks.items (vec_capacity c.start_all.new.disks) e.1 e.0 c.counts_of-counts.result now
+    (λ node stands. c.counts_of-counts.ensures node (subst (λ (s : List (ShardView g.row.D.Denot)). Each (StandsOn g.D.Disk.view) s node) (sym c.deref.ensures.value) stands))
+
+pub invariant_of-self-in-Err : goal.invariant_of-self-in-Err
+invariant_of-self-in-Err g c =
+    let e = (c.in-Err.ensures {u = tt}).starts in
+    keeps_halted g.D.Disk.view g.met.D.Disk.is_disk c.self.inside.set (vec_capacity c.self.inside.shards) (vec_capacity c.self.inside.disks) c.self.inside.shards.items c.self.inside.refused c.self.inside.disks.items c.self.invariant c.args.self.now c.self.view_is c.requires.served
+    c.stop_all.new.disks.items (vec_len c.stop_all.new.disks) c.stop_all.ensures.disks c.stop_all.new.disks.ok.0
+    c.in-Err.why c.start_all.new.disks.items e.0 (vec_capacity c.start_all.new.shards) (vec_capacity c.start_all.new.disks) c.start_all.new.shards.items e.1
 
 pub returns-in-Err : goal.returns-in-Err
 returns-in-Err g c now =
-    let d = g.D.Disk in
-    let e = c.in-Err.ensures {u = tt} in
-    let was = sym c.take.ensures.value ∙ c.in-Some.is in
-    let mine = none_stopped c.self.inside.shard c.self.inside.stopped (IsItsOnly c.self.inside.set) c.self.invariant.3 c.in-Some.shard was in
-    subst (λ (old : NodeView g.row.D.Denot). ActsAlone d.view old command.Restart now reply.Halted (record { shard = c.take.new.self; stopped = Some c.in-Err.refusal }))
-    (sym (as_serving c.self.inside.shard c.self.inside.stopped c.in-Some.shard was mine.0) ∙ c.self.view_is)
-    (subst (λ (o : Option (ShardView g.row.D.Denot)). ActsAlone d.view (serving c.in-Some.shard) command.Restart now reply.Halted (record { shard = o; stopped = Some c.in-Err.refusal })) (sym c.take.ensures.after)
-    (refuses_so d.view g.met.D.Disk.is_disk c.in-Some.shard now c.self.inside.set mine.1 c.stop.result c.stop.ensures c.in-Err.refusal e.read e.cause e.again))
+    let e = (c.in-Err.ensures {u = tt}).starts in
+    refused_again g.D.Disk.view g.met.D.Disk.is_disk c.self.inside.set (vec_capacity c.self.inside.shards) (vec_capacity c.self.inside.disks) c.self.inside.shards.items c.self.inside.refused c.self.inside.disks.items c.self.invariant c.args.self.now c.self.view_is c.requires.served
+    c.stop_all.new.disks.items (vec_len c.stop_all.new.disks) c.stop_all.ensures.disks c.stop_all.new.disks.ok.0
+    c.in-Err.why c.start_all.new.disks.items e.0 c.start_all.new.shards.items e.1 now

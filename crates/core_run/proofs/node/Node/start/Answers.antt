@@ -1,27 +1,20 @@
-use Rattle.std.proofs.Common.{refl, ◌≡◌, List, [], ◌∷◌, ◌++◌, sym, ◌∙◌, subst}
-use Rattle.core_run.specs.OneDevice.{Started}
+use Rattle.std.proofs.Common.{◌≤◌, ℕ, arith, refl, subst}
+use Rattle.std.specs.Prelude.{None, vec_len, vec_capacity}
+use Rattle.core_run.specs.Starts.{StartsEach}
+use Rattle.core_run.proofs.Startings.{node_started, lacks_memory}
+use Rattle.core_run.proofs.Reading.{only_read}
 use Rattle.core_run.proofs.node.Node.start.Goals as goal
 
--- the last of a list of one is that one
-last_alone : {X : Type 0} (front : List X) (last only : X) → front ++ last ∷ [] ≡ only ∷ [] → last ≡ only
-last_alone [] last only same = cc
-last_alone (x ∷ []) last only same = cc
-last_alone (x ∷ y ∷ front) last only same = cc
+pub returns-in_default : goal.returns-in_default
+returns-in_default g c =
+    record { begun = lacks_memory g.D.Disk.view c.args.set (only_read g.D.Disk.view g.met.D.Disk.is_disk) 0 (vec_len c.args.disks) c.args.disks.items (subst (λ (n : ℕ). 1 ≤ n) c.args.disks.ok.0 c.requires.disks.0) }
 
-pub returns-in-Ok-clause-begun : goal.returns-in-Ok-clause-begun
-returns-in-Ok-clause-begun g c disk alone =
-    let e = c.in-Ok.ensures {u = tt} in
-    let same : c.in-Some.disk ≡ disk = last_alone c.pop.new.self.items c.in-Some.disk disk (sym (c.in-Some.ensures {u = tt}).items ∙ alone) in (
-      c.in-Ok.shard,
-      refl,
-      subst (λ (d : g.row.D.Denot). Started g.D.Disk.view c.args.set d c.in-Ok.shard) same (record {
-        stands = e.stands;
-        begins = e.begins;
-        only = e.only;
-        safe = e.safe;
-        set_is = e.shape.0;
-        device_is = e.shape.1;
-        devices_is = e.shape.2;
-        read = e.read;
-      }),
-    )
+pub invariant_of-result : goal.invariant_of-result
+invariant_of-result g c =
+    let e = c.in-Ok-start_all.ensures {u = tt} in
+    let many = c.args.disks.ok.0 in
+    let room = c.args.disks.ok.1 in
+    let kept = e.room.1 in
+    node_started g.D.Disk.view c.args.set 0 (vec_capacity c.start_all.new.disks) c.args.disks.items c.start_all.new.shards.items None c.start_all.new.disks.items c.requires.set refl e.starts.1
+    (subst (λ (n : ℕ). 1 ≤ n) many c.requires.disks.0) (subst (λ (n : ℕ). n ≤ 16) many c.requires.disks.1) (omega (arith, many, room, kept))
+    (subst (λ (n : ℕ). StartsEach g.D.Disk.view c.args.set 0 n c.args.disks.items c.start_all.new.shards.items) many e.starts.0)

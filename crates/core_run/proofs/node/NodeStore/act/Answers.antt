@@ -1,20 +1,102 @@
-use Rattle.std.proofs.Common.{sym, ◌∙◌, subst}
+use Rattle.std.proofs.Common.{◌≡◌, ◌<◌, ℕ, List, length, get_or, set, arith, sym, subst, ap, ◌∙◌}
+use Rattle.std.specs.Prelude.{Some, slice_get, option_map, vec_len, vec_capacity}
+use Rattle.std.specs.Vec.{with_items}
+use Rattle.std.proofs.lemmas.List.{with_items_is}
+use Rattle.rec_format.specs.Places.{device_number}
 use Rattle.line_proto.specs.declared.command.Command.{Command}
-use Rattle.std.specs.Prelude.{Option, Some}
-use Rattle.cold_scan.specs.declared.device.StartRefusal.{StartRefusal}
-use Rattle.core_run.specs.OneDevice.{NodeView, IsItsOnly, serving, ActsAlone}
-use Rattle.core_run.proofs.Serving.{as_serving, none_stopped, acts_serving}
+use Rattle.line_proto.specs.declared.command.Command.TheVariants as command
+use Rattle.line_proto.specs.declared.reply.Reply.TheVariants as reply
+use Rattle.shard_core.specs.View.{ShardView}
+use Rattle.core_run.specs.Views.{NodeView, IsNode}
+use Rattle.core_run.specs.Standing.{Each, StandsOn}
+use Rattle.core_run.specs.Calls.{Acts}
+use Rattle.core_run.specs.Turns.{FlushesEach}
+use Rattle.core_run.proofs.Making.{there_is}
+use Rattle.core_run.proofs.Commands.{digest_acts, flush_acts, stat_acts, acts_halted}
+use Rattle.core_run.proofs.Keeping.{SameEach, seen_so, node_kept, node_halts, acts_so, same_all, devices_of, device_at, same_at, same_flushed, same_length, not_some, is_there}
+use Rattle.core_run.proofs.node.NodeStore.act.Given.{Over}
 use Rattle.core_run.proofs.node.NodeStore.act.Goals as goal
 
-pub returns-in-Restart : goal.returns-in-Restart
-returns-in-Restart g c =
-    subst (λ (command : Command). ActsAlone g.D.Disk.view c.args.self.now command c.args.now c.restart.result c.restart.new.self) (sym c.in-Restart.is) (c.restart.ensures c.args.now)
+pub returns-then-is_some : goal.returns-then-is_some
+returns-then-is_some g c =
+    let some = is_there c.self.inside.refused c.is_some.result c.is_some.ensures c.if-is_some.true in
+    subst (λ (n : NodeView g.row.D.Denot). Acts g.D.Disk.view n c.args.command.now c.args.now reply.Halted n)
+    (sym (node_halts c.self.inside.set (vec_capacity c.self.inside.shards) (vec_capacity c.self.inside.disks) c.self.inside.shards.items c.self.inside.refused c.self.inside.disks.items some.0 some.1 c.self.invariant) ∙ c.self.view_is)
+    (acts_halted g.D.Disk.view g.met.D.Disk.is_disk some.0 c.self.inside.disks.items c.args.command.now c.args.now)
 
-pub returns : goal.returns
-returns g c =
-    let d = g.D.Disk in
-    let mine = none_stopped c.self.inside.shard c.self.inside.stopped (IsItsOnly c.self.inside.set) c.self.invariant.3 c.in-Some.shard c.in-Some.is in
-    subst (λ (old : NodeView g.row.D.Denot). ActsAlone d.view old c.args.command.now c.args.now c.act_on.result (record { shard = Some c.act_on.new.shard; stopped = c.self.inside.stopped }))
-    (sym (as_serving c.self.inside.shard c.self.inside.stopped c.in-Some.shard c.in-Some.is mine.0) ∙ c.self.view_is)
-    (subst (λ (o : Option (StartRefusal g.row.D.Denot)). ActsAlone d.view (serving c.in-Some.shard) c.args.command.now c.args.now c.act_on.result (record { shard = Some c.act_on.new.shard; stopped = o })) (sym mine.0)
-    (acts_serving d.view c.in-Some.shard c.act_on.new.shard c.args.command.now c.args.now c.act_on.result c.act_on.ensures.acts))
+-- the device of the digest
+device_there : {X : Type 0} (shards : List X) (n len device from : ℕ) (x : X) → len ≡ n → n ≡ length shards → device < len → from ≡ device → x ≡ get_or shards from x → slice_get shards from ≡ Some x
+device_there shards n len device from x len_is n_is below is value =
+    let within : from < length shards = omega (arith, len_is, n_is, below, is) in there_is shards from x within ∙ ap (λ y. Some y) (sym value)
+
+pub act_on-requires-clause-place : goal.act_on-requires-clause-place
+act_on-requires-clause-place g c =
+    let none = not_some c.self.inside.refused c.is_some.result c.is_some.ensures c.if-is_some.false in
+    let devices = devices_of c.self.inside.set (vec_capacity c.self.inside.shards) (vec_capacity c.self.inside.disks) c.self.inside.shards.items c.self.inside.refused c.self.inside.disks.items none c.self.invariant in
+    let many : c.len.result ≡ length c.self.inside.shards.items = c.len.ensures ∙ c.self.inside.shards.ok.0 in
+    let at = device_there c.self.inside.shards.items (vec_len c.self.inside.shards) c.len.result c.device_of-device.result c.from.result c.index_mut.result.now c.len.ensures c.self.inside.shards.ok.0 c.device_of-device.ensures.below
+    c.from.ensures c.index_mut.ensures.value in
+    let mine = device_at c.self.inside.set 0 (length c.self.inside.shards.items) c.self.inside.shards.items c.from.result c.index_mut.result.now devices.3 at in
+    let named = mine.0 in
+    let here : c.from.result ≡ c.index_mut.result.now.shelf.geometry.device = omega (arith, named) in
+    ap (λ (n : ℕ). device_number n c.in-Some.digest.now) (mine.1 ∙ sym many) ∙ sym (c.from.ensures ∙ c.device_of-device.ensures.value) ∙ here
+
+-- ---- a command on a digest
+
+there : (g : Over) (c : goal.After-self-1 g) → slice_get c.self.inside.shards.items c.from.result ≡ Some c.index_mut.result.now
+there g c =
+    device_there c.self.inside.shards.items (vec_len c.self.inside.shards) c.len.result c.device_of-device.result c.from.result c.index_mut.result.now c.len.ensures c.self.inside.shards.ok.0 c.device_of-device.ensures.below
+    c.from.ensures c.index_mut.ensures.value
+
+pub invariant_of-self : goal.invariant_of-self
+invariant_of-self g c =
+    node_kept c.self.inside.set (vec_capacity c.self.inside.shards) (vec_capacity c.self.inside.disks) c.self.inside.shards.items (set c.self.inside.shards.items c.from.result c.act_on.new.shard) c.self.inside.refused c.self.inside.disks.items
+    (same_at c.self.inside.shards.items c.from.result c.index_mut.result.now c.act_on.new.shard (there g c) c.act_on.ensures.goes.shape) c.self.invariant
+
+pub returns-in-Some : goal.returns-in-Some
+returns-in-Some g c =
+    let none = not_some c.self.inside.refused c.is_some.result c.is_some.ensures c.if-is_some.false in
+    let many : c.len.result ≡ length c.self.inside.shards.items = c.len.ensures ∙ c.self.inside.shards.ok.0 in
+    let place = c.from.ensures ∙ c.device_of-device.ensures.value ∙ ap (λ (n : ℕ). device_number n c.in-Some.digest.now) many in
+    acts_so g.D.Disk.view c.self.inside.set (vec_capacity c.self.inside.shards) (vec_capacity c.self.inside.disks) c.self.inside.shards.items (set c.self.inside.shards.items c.from.result c.act_on.new.shard) c.self.inside.refused c.self.inside.disks.items c.args.self.now c.args.command.now c.args.now c.act_on.result
+    c.self.invariant none (same_at c.self.inside.shards.items c.from.result c.index_mut.result.now c.act_on.new.shard (there g c) c.act_on.ensures.goes.shape) c.self.view_is
+    (digest_acts g.D.Disk.view g.met.D.Disk.is_disk c.self.inside.shards.items c.from.result c.in-Some.digest.now c.index_mut.result.now c.act_on.new.shard place (there g c) c.act_on.ensures.goes
+    c.args.command.now c.args.now c.act_on.result (sym c.digest_of.ensures ∙ ap (option_map (λ d. d.now)) c.in-Some.is) c.act_on.ensures.replies)
+
+-- ---- a flush
+
+flushed : (g : Over) (c : goal.After-flush_reply g) → FlushesEach g.D.Disk.view c.flush_each.result 0 c.self.inside.shards.items c.flush_each.new.shards
+flushed g c = subst (λ (s : List (ShardView g.row.D.Denot)). FlushesEach g.D.Disk.view c.flush_each.result 0 s c.flush_each.new.shards) c.deref_mut.ensures.value c.flush_each.ensures
+
+same : (g : Over) (c : goal.After-flush_reply g) → SameEach c.self.inside.shards.items c.flush_each.new.shards
+same g c = same_flushed g.D.Disk.view c.flush_each.result 0 c.self.inside.shards.items c.flush_each.new.shards (flushed g c)
+
+items_are : (g : Over) (c : goal.After-flush_reply g) → (with_items c.self.inside.shards c.flush_each.new.shards).items ≡ c.flush_each.new.shards
+items_are g c = with_items_is c.self.inside.shards c.flush_each.new.shards (same_length c.self.inside.shards.items c.flush_each.new.shards (same g c) ∙ sym c.self.inside.shards.ok.0)
+
+pub invariant_of-self-in-Flush : goal.invariant_of-self-in-Flush
+invariant_of-self-in-Flush g c =
+    subst (λ (s : List (ShardView g.row.D.Denot)). IsNode c.self.inside.set (vec_capacity c.self.inside.shards) (vec_capacity c.self.inside.disks) (seen_so s c.self.inside.refused c.self.inside.disks.items)) (sym (items_are g c))
+    (node_kept c.self.inside.set (vec_capacity c.self.inside.shards) (vec_capacity c.self.inside.disks) c.self.inside.shards.items c.flush_each.new.shards c.self.inside.refused c.self.inside.disks.items (same g c) c.self.invariant)
+
+pub returns-in-Flush : goal.returns-in-Flush
+returns-in-Flush g c =
+    let none = not_some c.self.inside.refused c.is_some.result c.is_some.ensures c.if-is_some.false in
+    subst (λ (x : Command). Acts g.D.Disk.view c.args.self.now x c.args.now c.flush_reply.result (seen_so (with_items c.self.inside.shards c.flush_each.new.shards).items c.self.inside.refused c.self.inside.disks.items))
+    (sym c.in-Flush.is)
+    (subst (λ (s : List (ShardView g.row.D.Denot)). Acts g.D.Disk.view c.args.self.now command.Flush c.args.now c.flush_reply.result (seen_so s c.self.inside.refused c.self.inside.disks.items)) (sym (items_are g c))
+    (acts_so g.D.Disk.view c.self.inside.set (vec_capacity c.self.inside.shards) (vec_capacity c.self.inside.disks) c.self.inside.shards.items c.flush_each.new.shards c.self.inside.refused c.self.inside.disks.items c.args.self.now command.Flush c.args.now c.flush_reply.result c.self.invariant none (same g c) c.self.view_is
+    (flush_acts g.D.Disk.view g.met.D.Disk.is_disk c.flush_each.result c.self.inside.shards.items c.flush_each.new.shards c.args.now c.flush_reply.result (flushed g c) c.flush_reply.ensures)))
+
+pub returns-in-Stat : goal.returns-in-Stat
+returns-in-Stat g c =
+    let none = not_some c.self.inside.refused c.is_some.result c.is_some.ensures c.if-is_some.false in
+    subst (λ (x : Command). Acts g.D.Disk.view c.args.self.now x c.args.now (reply.StatOf c.counts_of.result) c.args.self.now) (sym c.in-Stat.is)
+    (subst (λ (n : NodeView g.row.D.Denot). Acts g.D.Disk.view c.args.self.now command.Stat c.args.now (reply.StatOf c.counts_of.result) n) c.self.view_is
+    (acts_so g.D.Disk.view c.self.inside.set (vec_capacity c.self.inside.shards) (vec_capacity c.self.inside.disks) c.self.inside.shards.items c.self.inside.shards.items c.self.inside.refused c.self.inside.disks.items c.args.self.now command.Stat c.args.now (reply.StatOf c.counts_of.result) c.self.invariant none
+    (same_all c.self.inside.shards.items) c.self.view_is
+    (stat_acts g.D.Disk.view g.met.D.Disk.is_disk c.self.inside.shards.items c.args.now c.counts_of.result
+    (λ node stands. c.counts_of.ensures node (subst (λ (s : List (ShardView g.row.D.Denot)). Each (StandsOn g.D.Disk.view) s node) (sym c.deref.ensures.value) stands)))))
+
+pub returns-in-Restart : goal.returns-in-Restart
+returns-in-Restart g c = subst (λ (x : Command). Acts g.D.Disk.view c.args.self.now x c.args.now c.restart.result c.restart.new.self) (sym c.in-Restart.is) (c.restart.ensures c.args.now)

@@ -1,16 +1,32 @@
-use Rattle.std.proofs.Common.{sym, ◌∙◌, subst}
-use Rattle.std.specs.Prelude.{Option, Some}
-use Rattle.cold_scan.specs.declared.device.StartRefusal.{StartRefusal}
-use Rattle.core_run.specs.OneDevice.{NodeView, IsItsOnly, serving, TendsAlone}
-use Rattle.core_run.proofs.Acting.{tends}
-use Rattle.core_run.proofs.Serving.{as_serving, none_stopped, tends_serving}
+use Rattle.std.proofs.Common.{◌≡◌, ℕ, List, length, sym, subst, ◌∙◌}
+use Rattle.std.proofs.lemmas.List.{with_items_is}
+use Rattle.std.specs.Prelude.{vec_capacity}
+use Rattle.std.specs.Vec.{with_items}
+use Rattle.shard_core.specs.View.{ShardView}
+use Rattle.core_run.specs.Views.{NodeView, IsNode}
+use Rattle.core_run.specs.Calls.{Tends}
+use Rattle.core_run.specs.Turns.{Through, TendTurn}
+use Rattle.core_run.proofs.Keeping.{SameEach, seen_so, node_kept, same_through, same_length, tends_so}
+use Rattle.core_run.proofs.node.NodeStore.tend.Given.{Over}
 use Rattle.core_run.proofs.node.NodeStore.tend.Goals as goal
+
+turned : (g : Over) (c : goal.After-self-1 g) → Through {A = ℕ} (TendTurn g.D.Disk.view) (length c.self.inside.shards.items) 0 c.self.inside.shards.items c.tend_each.new.shards 0
+turned g c = subst (λ (s : List (ShardView g.row.D.Denot)). Through {A = ℕ} (TendTurn g.D.Disk.view) (length s) 0 s c.tend_each.new.shards 0) c.deref_mut.ensures.value c.tend_each.ensures
+
+same : (g : Over) (c : goal.After-self-1 g) → SameEach c.self.inside.shards.items c.tend_each.new.shards
+same g c = same_through (TendTurn {A = ℕ} g.D.Disk.view) (λ a old new b turn. turn.goes.shape) 0 0 c.self.inside.shards.items c.tend_each.new.shards (turned g c)
+
+items_are : (g : Over) (c : goal.After-self-1 g) → (with_items c.self.inside.shards c.tend_each.new.shards).items ≡ c.tend_each.new.shards
+items_are g c = with_items_is c.self.inside.shards c.tend_each.new.shards (same_length c.self.inside.shards.items c.tend_each.new.shards (same g c) ∙ sym c.self.inside.shards.ok.0)
+
+pub invariant_of-self : goal.invariant_of-self
+invariant_of-self g c =
+    subst (λ (s : List (ShardView g.row.D.Denot)). IsNode c.self.inside.set (vec_capacity c.self.inside.shards) (vec_capacity c.self.inside.disks) (seen_so s c.self.inside.refused c.self.inside.disks.items)) (sym (items_are g c))
+    (node_kept c.self.inside.set (vec_capacity c.self.inside.shards) (vec_capacity c.self.inside.disks) c.self.inside.shards.items c.tend_each.new.shards c.self.inside.refused c.self.inside.disks.items (same g c) c.self.invariant)
 
 pub returns : goal.returns
 returns g c =
-    let d = g.D.Disk in
-    let mine = none_stopped c.self.inside.shard c.self.inside.stopped (IsItsOnly c.self.inside.set) c.self.invariant.3 c.in-Some.shard c.in-Some.is in
-    subst (λ (old : NodeView g.row.D.Denot). TendsAlone d.view old (record { shard = Some c.tend.new.self; stopped = c.self.inside.stopped }))
-    (sym (as_serving c.self.inside.shard c.self.inside.stopped c.in-Some.shard c.in-Some.is mine.0) ∙ c.self.view_is)
-    (subst (λ (o : Option (StartRefusal g.row.D.Denot)). TendsAlone d.view (serving c.in-Some.shard) (record { shard = Some c.tend.new.self; stopped = o })) (sym mine.0)
-    (tends_serving d.view c.in-Some.shard c.tend.new.self (tends d.view c.in-Some.shard c.tend.new.self c.tend.ensures.shape c.tend.ensures.later c.tend.ensures.honest c.tend.ensures.makes)))
+    subst (λ (old : NodeView g.row.D.Denot). Tends g.D.Disk.view old (seen_so (with_items c.self.inside.shards c.tend_each.new.shards).items c.self.inside.refused c.self.inside.disks.items)) c.self.view_is
+    (subst (λ (s : List (ShardView g.row.D.Denot)). Tends g.D.Disk.view (seen_so c.self.inside.shards.items c.self.inside.refused c.self.inside.disks.items) (seen_so s c.self.inside.refused c.self.inside.disks.items)) (sym (items_are g c))
+    (tends_so g.D.Disk.view g.met.D.Disk.is_disk c.self.inside.set (vec_capacity c.self.inside.shards) (vec_capacity c.self.inside.disks) c.self.inside.shards.items c.tend_each.new.shards c.self.inside.refused c.self.inside.disks.items 0 0
+    c.self.invariant (turned g c)))

@@ -1,0 +1,233 @@
+-- Each command of a node that serves, and of one that halted, means what it has to mean.
+use Rattle.std.proofs.Common.{◌≡◌, inl, inr, ℕ, zero, suc, ◌<◌, true, false, List, [], ◌∷◌, length, set, refl, sym, ◌∙◌, ap, subst, arith}
+use Rattle.std.specs.Prelude.{◌≢◌, Option, Some, Result, Ok, Err, MatchOption, slice_get}
+use Rattle.disk_model.specs.Disk.{DiskView, IsDisk}
+use Rattle.rec_format.specs.declared.version.Digest.{Digest}
+use Rattle.rec_format.specs.declared.entry.Counts.{Counts}
+use Rattle.rec_format.specs.Places.{device_number}
+use Rattle.device_model.specs.Device.{State, seen}
+use Rattle.device_model.specs.Events.{Event, Call, put_call, get_call, delete_call, bury_call}
+use Rattle.line_proto.specs.declared.command.Command.{Command}
+use Rattle.line_proto.specs.declared.command.Command.TheVariants as command
+use Rattle.line_proto.specs.declared.reply.Reply.{Reply}
+use Rattle.line_proto.specs.declared.reply.Reply.TheVariants as reply
+use Rattle.cold_scan.specs.declared.header.StartCause.{StartCause}
+use Rattle.node_model.specs.Commands.{Slot, Node, NodeEvent, Does, on_device, answer_reply, meta_reply, seen_on, one_sum, node_counts}
+use Rattle.node_model.specs.Meaning.{ActsFrom}
+use Rattle.shard_core.specs.View.{ShardView}
+use Rattle.shard_core.specs.Stands.{Agrees}
+use Rattle.shard_core.specs.Calls.{GetsStored}
+use Rattle.core_run.specs.Views.{serving, halted, disks_served, views_of, unknown, AreLater}
+use Rattle.core_run.specs.Standing.{Each, StandsOn, StandsSafelyOn, StandsFor, StandsSafely, Halts, HaltsSafely}
+use Rattle.core_run.specs.Calls.{digest_of, flush_outcome, RepliesStored, Acts, Tends}
+use Rattle.core_run.specs.Turns.{GoesOn, RepliesTo, RepliesOn, TendTurn, Through, FlushesEach}
+use Rattle.core_run.proofs.Places.{events_of, nones, no_events}
+use Rattle.core_run.proofs.Making.{Made, slot_at, each_length, each_more, along_none}
+use Rattle.core_run.proofs.Acting.{Safely, over_any, over_safe, event_turn, flush_turns, tend_turns}
+use Rattle.core_run.proofs.Replying.{known_goes_on, stat_goes_on, flushed_goes_on, one_digest}
+use Rattle.core_run.proofs.Nodes.{one_shards, serves_or_halts, later_same, later_at, later_through, acts_any, acts_safe, tends_any, tends_safe}
+
+-- a device that stays as it is leaves the list
+set_same : {S : Type 0} (items : List S) (place : ℕ) (item : S) → slice_get items place ≡ Some item → set items place item ≡ items
+set_same [] place item there = cc
+set_same (x ∷ items) zero item there = let same : x ≡ item = cc in ap (λ (y : _). y ∷ items) (sym same)
+set_same (x ∷ items) (suc place) item there = ap (λ (l : List _). x ∷ l) (set_same items place item there)
+
+-- a place of a list is within it
+within : {S : Type 0} (items : List S) (place : ℕ) (item : S) → slice_get items place ≡ Some item → place < length items
+within [] place item there = cc
+within (x ∷ items) zero item there = omega arith
+within (x ∷ items) (suc place) item there = let less = within items place item there in omega (arith, less)
+
+module _ {D : Type 0} (view : D → DiskView) (is_disk : (disk : D) → IsDisk (view disk)) where
+  -- ---- a command, whatever it is, by what it comes to from each state
+
+  module _ (olds news : List (ShardView D)) (c : Command) (now : ℕ) (r : Reply) (later : AreLater view (disks_served olds) (disks_served news)) (other : c ≢ command.Restart) (stored : RepliesStored view olds c now r)
+      (any : (node : Node) → Each (StandsOn view) olds node → ActsFrom (StandsFor view) unknown (Halts view) false (serving olds) node c now r (serving news))
+      (safe : (node : Node) → Each (StandsSafelyOn view) olds node → ActsFrom (StandsSafely view) (views_of view) (HaltsSafely view) true (serving olds) node c now r (serving news)) where
+    pub acts_serving : Acts view (serving olds) c now r (serving news)
+    acts_serving = record {
+      later = later;
+      any = λ node stands. any node (subst (λ (s : List (ShardView D)). Each (StandsOn view) s node) (sym (one_shards olds stands.0 stands.1)) stands.2);
+      safe = λ node stands. safe node (subst (λ (s : List (ShardView D)). Each (StandsSafelyOn view) s node) (sym (one_shards olds stands.0 stands.1)) stands.2);
+      stored = λ shards same. subst (λ (s : List (ShardView D)). RepliesStored view s c now r) (one_shards olds shards same) stored;
+      again = λ shards same is. absurd (other is);
+      stays = λ why disks same. absurd (serves_or_halts olds why disks same);
+    }
+
+  -- ---- a command on a digest
+
+  module _ (olds : List (ShardView D)) (digest : Digest) (old new : ShardView D) (at : slice_get olds (device_number (length olds) digest) ≡ Some old) (goes : GoesOn view old new) where
+    abbrev Place : ℕ
+    Place = device_number (length olds) digest
+
+    abbrev News : List (ShardView D)
+    News = set olds Place new
+
+    later : AreLater view (disks_served olds) (disks_served News)
+    later = later_at view is_disk olds Place old new at goes.later
+
+    module _ (call : Call) (c : Command) (now : ℕ) (r : Reply) (replies : RepliesTo view call old r new) (other : c ≢ command.Restart) (stored : RepliesStored view olds c now r)
+        (does : (node : Node) (event : Event) (work : List NodeEvent) → work ≡ on_device (device_number (length node) digest) event ∷ [] → event.call ≡ call → r ≡ answer_reply event.answer → Does node c now work r) where
+      at_node : (node : Node) (event : Event) (work : List NodeEvent) → length node ≡ length olds → work ≡ on_device Place event ∷ [] → work ≡ on_device (device_number (length node) digest) event ∷ []
+      at_node node event work same is = is ∙ ap (λ (n : ℕ). on_device (device_number n digest) event ∷ []) (sym same)
+
+      from_any : (node : Node) → Each (StandsOn view) olds node → ActsFrom (StandsFor view) unknown (Halts view) false (serving olds) node c now r (serving News)
+      from_any node stands =
+          let t = event_turn view (StandsOn view) (Made false (StandsOn view)) (over_any view) olds Place old new node call replies.0 (within olds Place old at) at goes replies.3 stands in
+          acts_any view olds News node t.0 t.1 c now r
+          (does node t.2 (events_of t.0) (at_node node t.2 (events_of t.0) (each_length (StandsOn view) olds node stands) t.5) t.3 (replies.1 ∙ ap answer_reply (sym t.4))) replies.2
+
+      from_safe : (node : Node) → Each (StandsSafelyOn view) olds node → ActsFrom (StandsSafely view) (views_of view) (HaltsSafely view) true (serving olds) node c now r (serving News)
+      from_safe node stands =
+          let t = event_turn view (StandsSafelyOn view) (Safely view) (over_safe view is_disk) olds Place old new node call replies.0 (within olds Place old at) at goes replies.3 stands in
+          acts_safe view olds News node t.0 t.1 c now r
+          (does node t.2 (events_of t.0) (at_node node t.2 (events_of t.0) (each_length (StandsSafelyOn view) olds node stands) t.5) t.3 (replies.1 ∙ ap answer_reply (sym t.4))) replies.2
+
+      event_acts : Acts view (serving olds) c now r (serving News)
+      event_acts = acts_serving olds News c now r later other stored from_any from_safe
+
+    -- what is known of a record
+    module _ (now : ℕ) (r : Reply) (same : new ≡ old) (knows : (s : State) → Agrees old s → r ≡ meta_reply (seen s now digest)) where
+      news_same : News ≡ olds
+      news_same = ap (λ (s : ShardView D). set olds Place s) same ∙ set_same olds Place old at
+
+      told : (node : Node) → Each (StandsOn view) olds node → r ≡ meta_reply (seen_on (slice_get node (device_number (length node) digest)) now digest)
+      told node stands =
+          let here = slot_at (StandsOn view) olds node Place old stands at in
+          let place : slice_get node (device_number (length node) digest) ≡ Some here.0 =
+          ap (λ (n : ℕ). slice_get node (device_number n digest)) (each_length (StandsOn view) olds node stands) ∙ here.1 in
+          knows here.0.state here.2.agrees ∙ ap (λ (slot : Option Slot). meta_reply (seen_on slot now digest)) (sym place)
+
+      goes_on : (node : Node) → Each (StandsOn view) olds node → r ≢ reply.Halted
+      goes_on node stands = λ h. known_goes_on _ (sym (told node stands) ∙ h)
+
+      still : List NodeEvent
+      still = []
+
+      know_any : (node : Node) → Each (StandsOn view) olds node → ActsFrom (StandsFor view) unknown (Halts view) false (serving olds) node (command.Meta digest) now r (serving olds)
+      know_any node stands =
+          acts_any view olds olds node (nones (length olds)) (along_none (Made false (StandsOn view)) (StandsOn view) (over_any view).rests olds node stands) (command.Meta digest) now r
+          (no_events (length olds), told node stands) (goes_on node stands)
+
+      know_safe : (node : Node) → Each (StandsSafelyOn view) olds node → ActsFrom (StandsSafely view) (views_of view) (HaltsSafely view) true (serving olds) node (command.Meta digest) now r (serving olds)
+      know_safe node stands =
+          let plain = each_more (StandsSafelyOn view) (StandsOn view) (λ shard slot s. s.stands) olds node stands in
+          acts_safe view olds olds node (nones (length olds)) (along_none (Safely view) (StandsSafelyOn view) (over_safe view is_disk).rests olds node stands) (command.Meta digest) now r
+          (no_events (length olds), told node plain) (goes_on node plain)
+
+      meta_acts : Acts view (serving olds) (command.Meta digest) now r (serving News)
+      meta_acts = subst (λ (s : List (ShardView D)). Acts view (serving olds) (command.Meta digest) now r (serving s)) (sym news_same)
+          (acts_serving olds olds (command.Meta digest) now r (later_same view is_disk (disks_served olds)) (λ is. cc) tt know_any know_safe)
+
+    by_command : (c : Command) (now : ℕ) (r : Reply) → digest_of c ≡ Some digest → RepliesOn view old c now r new → Acts view (serving olds) c now r (serving News)
+    by_command (command.Put d ttl expect payload) now r on replies =
+        let same : d ≡ digest = one_digest d digest on in
+        subst (λ (x : Digest). Acts view (serving olds) (command.Put x ttl expect payload) now r (serving News)) (sym same)
+        (event_acts (put_call digest ttl expect payload now) (command.Put digest ttl expect payload) now r (subst (λ (x : Digest). RepliesTo view (put_call x ttl expect payload now) old r new) same replies)
+        (λ is. cc) tt (λ node event work at is_call given. (event, at, is_call, given)))
+    by_command (command.Get d) now r on replies =
+        let same : d ≡ digest = one_digest d digest on in
+        let mine = subst (λ (x : Digest). RepliesOn view old (command.Get x) now r new) same replies in
+        subst (λ (x : Digest). Acts view (serving olds) (command.Get x) now r (serving News)) (sym same)
+        (event_acts (get_call digest now) (command.Get digest) now r mine.0 (λ is. cc)
+        (mine.1.0, mine.1.1, subst (λ (o : Option (ShardView D)). MatchOption o ⊥ (λ shard. GetsStored view shard digest now mine.1.0)) (sym at) mine.1.2)
+        (λ node event work at is_call given. (event, at, is_call, given)))
+    by_command (command.Meta d) now r on replies =
+        let same : d ≡ digest = one_digest d digest on in
+        subst (λ (x : Digest). Acts view (serving olds) (command.Meta x) now r (serving News)) (sym same)
+        (meta_acts now r replies.0 (λ s agrees. replies.1 s agrees ∙ ap (λ (x : Digest). meta_reply (seen s now x)) same))
+    by_command (command.Del d) now r on replies =
+        let same : d ≡ digest = one_digest d digest on in
+        subst (λ (x : Digest). Acts view (serving olds) (command.Del x) now r (serving News)) (sym same)
+        (event_acts (delete_call digest now) (command.Del digest) now r (subst (λ (x : Digest). RepliesTo view (delete_call x now) old r new) same replies)
+        (λ is. cc) tt (λ node event work at is_call given. (event, at, is_call, given)))
+    by_command (command.Bury d) now r on replies =
+        let same : d ≡ digest = one_digest d digest on in
+        subst (λ (x : Digest). Acts view (serving olds) (command.Bury x) now r (serving News)) (sym same)
+        (event_acts (bury_call digest now) (command.Bury digest) now r (subst (λ (x : Digest). RepliesTo view (bury_call x now) old r new) same replies)
+        (λ is. cc) tt (λ node event work at is_call given. (event, at, is_call, given)))
+    by_command command.Flush now r on replies = cc
+    by_command command.Defrag now r on replies = cc
+    by_command command.Expire now r on replies = cc
+    by_command command.Raid now r on replies = cc
+    by_command command.Stat now r on replies = cc
+    by_command command.Restart now r on replies = cc
+    by_command command.Quit now r on replies = cc
+
+  pub digest_acts : (olds : List (ShardView D)) (place : ℕ) (digest : Digest) (old new : ShardView D) → place ≡ device_number (length olds) digest → slice_get olds place ≡ Some old → GoesOn view old new
+      → (c : Command) (now : ℕ) (r : Reply) → digest_of c ≡ Some digest → RepliesOn view old c now r new → Acts view (serving olds) c now r (serving (set olds place new))
+  digest_acts olds place digest old new is at goes c now r on replies =
+      subst (λ (n : ℕ). Acts view (serving olds) c now r (serving (set olds n new))) (sym is)
+      (by_command olds digest old new (subst (λ (n : ℕ). slice_get olds n ≡ Some old) is at) goes c now r on replies)
+
+  -- ---- a flush
+
+  flush_later : {E : Type 0} (flushed : Result ℕ E) (a : ℕ) (olds news : List (ShardView D)) → FlushesEach view flushed a olds news → AreLater view (disks_served olds) (disks_served news)
+  flush_later (Ok n) a [] news each = ap disks_served each.0
+  flush_later (Err fault) a [] news each = absurd each
+  flush_later (Ok n) a (old ∷ olds) [] each = absurd each
+  flush_later (Err fault) a (old ∷ olds) [] each = absurd each
+  flush_later (Ok n) a (old ∷ olds) (new ∷ news) (mid, turn, more) = (turn.1.goes.later, flush_later (Ok n) mid olds news more)
+  flush_later (Err fault) a (old ∷ olds) (new ∷ news) (inl (fails, same)) =
+      (fails.goes.later, subst (λ (s : List (ShardView D)). AreLater view (disks_served olds) (disks_served s)) (sym same) (later_same view is_disk (disks_served olds)))
+  flush_later (Err fault) a (old ∷ olds) (new ∷ news) (inr (mid, turn, more)) = (turn.1.goes.later, flush_later (Err fault) mid olds news more)
+
+  pub flush_acts : {E : Type 0} (flushed : Result ℕ E) (olds news : List (ShardView D)) (now : ℕ) (r : Reply) → FlushesEach view flushed 0 olds news → r ≡ one_sum (flush_outcome flushed)
+      → Acts view (serving olds) command.Flush now r (serving news)
+  flush_acts flushed olds news now r each is =
+      acts_serving olds news command.Flush now r (flush_later flushed 0 olds news each) (λ e. cc) tt
+      (λ node stands.
+      let t = flush_turns view (StandsOn view) (Made false (StandsOn view)) (over_any view) flushed 0 olds news node each stands in
+      acts_any view olds news node t.0 t.1 command.Flush now r (flush_outcome flushed, t.2, is) (λ h. flushed_goes_on flushed (sym is ∙ h)))
+      (λ node stands.
+      let t = flush_turns view (StandsSafelyOn view) (Safely view) (over_safe view is_disk) flushed 0 olds news node each stands in
+      acts_safe view olds news node t.0 t.1 command.Flush now r (flush_outcome flushed, t.2, is) (λ h. flushed_goes_on flushed (sym is ∙ h)))
+
+  -- ---- the numbers
+
+  pub stat_acts : (olds : List (ShardView D)) (now : ℕ) (counts : Counts) → ((node : Node) → Each (StandsOn view) olds node → counts ≡ node_counts node)
+      → Acts view (serving olds) command.Stat now (reply.StatOf counts) (serving olds)
+  stat_acts olds now counts told =
+      acts_serving olds olds command.Stat now (reply.StatOf counts) (later_same view is_disk (disks_served olds)) (λ e. cc) tt
+      (λ node stands.
+      acts_any view olds olds node (nones (length olds)) (along_none (Made false (StandsOn view)) (StandsOn view) (over_any view).rests olds node stands) command.Stat now (reply.StatOf counts)
+      (no_events (length olds), ap reply.StatOf (told node stands)) (stat_goes_on counts))
+      (λ node stands.
+      let plain = each_more (StandsSafelyOn view) (StandsOn view) (λ shard slot s. s.stands) olds node stands in
+      acts_safe view olds olds node (nones (length olds)) (along_none (Safely view) (StandsSafelyOn view) (over_safe view is_disk).rests olds node stands) command.Stat now (reply.StatOf counts)
+      (no_events (length olds), ap reply.StatOf (told node plain)) (stat_goes_on counts))
+
+  -- ---- tending
+
+  pub tend_tends : {A : Type 0} (a b : A) (olds news : List (ShardView D)) → Through (TendTurn view) (length olds) a olds news b → Tends view (serving olds) (serving news)
+  tend_tends {A} a b olds news through = record {
+    later = later_through view (TendTurn {A = A} view) (λ x old new y turn. turn.goes.later) a b olds news through;
+    any = λ node stands.
+        let here = subst (λ (s : List (ShardView D)). Each (StandsOn view) s node) (sym (one_shards olds stands.0 stands.1)) stands.2 in
+        let t = tend_turns view (StandsOn view) (Made false (StandsOn view)) (over_any view) a b olds news node through here in tends_any view olds news node t.0 t.1 t.2;
+    safe = λ node stands.
+        let here = subst (λ (s : List (ShardView D)). Each (StandsSafelyOn view) s node) (sym (one_shards olds stands.0 stands.1)) stands.2 in
+        let t = tend_turns view (StandsSafelyOn view) (Safely view) (over_safe view is_disk) a b olds news node through here in tends_safe view olds news node t.0 t.1 t.2;
+    stays = λ why disks same. absurd (serves_or_halts olds why disks same);
+  }
+
+  -- ---- a node that halted
+
+  pub acts_halted : (why : ℕ × StartCause) (disks : List D) (c : Command) (now : ℕ) → Acts view (halted why disks) c now reply.Halted (halted why disks)
+  acts_halted why disks c now = record {
+    later = later_same view is_disk disks;
+    any = λ node stands. absurd (serves_or_halts stands.0 why disks (sym stands.1));
+    safe = λ node stands. absurd (serves_or_halts stands.0 why disks (sym stands.1));
+    stored = λ shards same. absurd (serves_or_halts shards why disks (sym same));
+    again = λ shards same is. absurd (serves_or_halts shards why disks (sym same));
+    stays = λ other kept same. (refl, refl);
+  }
+
+  pub tends_halted : (why : ℕ × StartCause) (disks : List D) → Tends view (halted why disks) (halted why disks)
+  tends_halted why disks = record {
+    later = later_same view is_disk disks;
+    any = λ node stands. absurd (serves_or_halts stands.0 why disks (sym stands.1));
+    safe = λ node stands. absurd (serves_or_halts stands.0 why disks (sym stands.1));
+    stays = λ other kept same. refl;
+  }

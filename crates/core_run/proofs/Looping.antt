@@ -1,0 +1,92 @@
+-- A loop over all devices, turn by turn.
+use Rattle.std.proofs.Common.{◌≡◌, inl, inr, Bool, true, false, ℕ, zero, suc, ◌+◌, ◌<◌, ◌≤◌, List, [], ◌∷◌, length, get_or, set, refl, sym, ◌∙◌, ap, subst, arith}
+use Rattle.std.specs.Prelude.{Option, Some, None, Result, Ok, Err, IsErr, is_err, is_some, not}
+use Rattle.disk_model.specs.Disk.{DiskView}
+use Rattle.disk_model.specs.declared.disk.DiskFault.{DiskFault}
+use Rattle.shard_core.specs.View.{ShardView}
+use Rattle.core_run.specs.Turns.{Through, FlushTurn, FlushesOn, FlushesEach, first_failed}
+
+module _ {A S : Type 0} (Turn : A → S → S → A → Type 0) where
+  -- the next element takes its turn
+  pub through_step : (k : ℕ) (a : A) (olds mid : List S) (b : A) (d x : S) (c : A) → Through Turn k a olds mid b → k < length mid → Turn b (get_or mid k d) x c → Through Turn (suc k) a olds (set mid k x) c
+  through_step zero a [] mid b d x c through there turn = let none : length mid ≡ 0 = ap length through.0 in absurd (omega (arith, none))
+  through_step zero a (o ∷ olds) [] b d x c through there turn = absurd (omega arith)
+  through_step zero a (o ∷ olds) (m ∷ mid) b d x c through there turn =
+      let first : m ≡ o = cc in
+      let rest : mid ≡ olds = cc in
+      (c, subst (λ (s : S). Turn a s x c) first (subst (λ (n : A). Turn n m x c) through.1 turn), (rest, refl))
+  through_step (suc k) a [] mid b d x c through there turn = absurd through
+  through_step (suc k) a (o ∷ olds) [] b d x c through there turn = absurd through
+  through_step (suc k) a (o ∷ olds) (m ∷ mid) b d x c through there turn =
+      (through.0, through.1, through_step k through.0 olds mid b d x c through.2 (omega arith) turn)
+
+  pub through_length : (k : ℕ) (a : A) (olds news : List S) (b : A) → Through Turn k a olds news b → length news ≡ length olds
+  through_length zero a olds news b through = ap length through.0
+  through_length (suc k) a [] news b through = absurd through
+  through_length (suc k) a (o ∷ olds) [] b through = absurd through
+  through_length (suc k) a (o ∷ olds) (x ∷ news) b through = ap suc (through_length k through.0 olds news b through.2)
+
+  pub through_within : (k : ℕ) (a : A) (olds news : List S) (b : A) → Through Turn k a olds news b → k ≤ length olds
+  through_within zero a olds news b through = omega arith
+  through_within (suc k) a [] news b through = absurd through
+  through_within (suc k) a (o ∷ olds) [] b through = absurd through
+  through_within (suc k) a (o ∷ olds) (x ∷ news) b through = let less = through_within k through.0 olds news b through.2 in omega (arith, less)
+
+  -- and it is the next by its index
+  pub through_next : (k : ℕ) (a : A) (olds mid : List S) (b : A) (d x : S) (c : A) → Through Turn k a olds mid b → k < length mid → Turn b (get_or mid k d) x c → Through Turn (k + 1) a olds (set mid k x) c
+  through_next k a olds mid b d x c through there turn =
+      let next : suc k ≡ k + 1 = omega arith in subst (λ (n : ℕ). Through Turn n a olds (set mid k x) c) next (through_step k a olds mid b d x c through there turn)
+
+  -- all took their turns
+  pub through_all : (k : ℕ) (a : A) (olds news : List S) (b : A) → Through Turn k a olds news b → (k < length news → ⊥) → Through Turn (length olds) a olds news b
+  through_all k a olds news b through over =
+      let within = through_within k a olds news b through in
+      let same = through_length k a olds news b through in
+      let all : k ≡ length olds = omega (arith, within, same, over) in
+      subst (λ (n : ℕ). Through Turn n a olds news b) all through
+
+module _ {D : Type 0} (E : Type 0) (view : D → DiskView) where
+  pub flushed_all : (a : ℕ) (olds news : List (ShardView D)) (b : ℕ) → Through (FlushTurn E view) (length olds) a olds news b → FlushesEach {E = E} view (Ok b) a olds news
+  flushed_all a [] news b through = through
+  flushed_all a (o ∷ olds) [] b through = absurd through
+  flushed_all a (o ∷ olds) (x ∷ news) b through = (through.0, through.1, flushed_all through.0 olds news b through.2)
+
+  -- the next device fails
+  pub flush_fails : (fault : E) (k : ℕ) (a : ℕ) (olds mid : List (ShardView D)) (b : ℕ) (d x : ShardView D) → Through (FlushTurn E view) k a olds mid b → k < length mid
+      → FlushesOn view (Err fault) (get_or mid k d) x → FlushesEach {E = E} view (Err fault) a olds (set mid k x)
+  flush_fails fault zero a [] mid b d x through there turn = let none : length mid ≡ 0 = ap length through.0 in absurd (omega (arith, none))
+  flush_fails fault zero a (o ∷ olds) [] b d x through there turn = absurd (omega arith)
+  flush_fails fault zero a (o ∷ olds) (m ∷ mid) b d x through there turn =
+      let first : m ≡ o = cc in
+      let rest : mid ≡ olds = cc in
+      inl (subst (λ (s : ShardView D). FlushesOn view (Err fault) s x) first turn, rest)
+  flush_fails fault (suc k) a [] mid b d x through there turn = absurd through
+  flush_fails fault (suc k) a (o ∷ olds) [] b d x through there turn = absurd through
+  flush_fails fault (suc k) a (o ∷ olds) (m ∷ mid) b d x through there turn =
+      inr (through.0, through.1, flush_fails fault k through.0 olds mid b d x through.2 (omega arith) turn)
+
+-- what holds of an error holds of an answer that is one
+pub err_alone : {A E : Type 0} (Holds : Result A E → Type 0) (r : Result A E) → IsErr r → ((fault : E) → Holds (Err fault)) → Holds r
+err_alone Holds (Ok a) is each = let e : false ≡ true = is in cc
+err_alone Holds (Err fault) is each = each fault
+
+-- ---- the first that failed
+
+module _ {E : Type 0} (device : ℕ) where
+  pub failed_first : (failed : Option ℕ) (r : Result ℕ E) (told none : Bool) → told ≡ is_err r → is_some failed ≡ not none → told ≡ true → none ≡ true → Some device ≡ first_failed device failed r
+  failed_first None (Err fault) told none is is_none err first = refl
+  failed_first None (Ok n) told none is is_none err first = let e : false ≡ true = sym is ∙ err in cc
+  failed_first (Some earlier) r told none is is_none err first = let e : true ≡ false = is_none ∙ ap not first in cc
+
+  pub failed_kept : (failed : Option ℕ) (r : Result ℕ E) (none : Bool) → is_some failed ≡ not none → none ≡ false → failed ≡ first_failed device failed r
+  failed_kept None r none is_none some = let e : false ≡ true = is_none ∙ ap not some in cc
+  failed_kept (Some earlier) r none is_none some = refl
+
+  pub failed_none : (failed : Option ℕ) (r : Result ℕ E) (told : Bool) → told ≡ is_err r → told ≡ false → failed ≡ first_failed device failed r
+  failed_none (Some earlier) r told is ok = refl
+  failed_none None (Ok n) told is ok = refl
+  failed_none None (Err fault) told is ok = let e : true ≡ false = sym is ∙ ok in cc
+
+-- a fault has no fields
+pub one_fault : (a b : DiskFault) → a ≡ b
+one_fault a b = refl

@@ -1,0 +1,62 @@
+-- What the replies to the devices' answers are not.
+use Rattle.std.proofs.Common.{◌≡◌, ℕ, Bool, true, false}
+use Rattle.std.specs.Prelude.{Option, Some, None, Result, Ok, Err}
+use Rattle.rec_format.specs.declared.version.Digest.{Digest}
+use Rattle.rec_format.specs.declared.version.Stamp.{Stamp}
+use Rattle.rec_format.specs.declared.version.Version.{Version}
+use Rattle.rec_format.specs.declared.entry.Counts.{Counts}
+use Rattle.block_shelf.specs.declared.refusals.ReadRefusal.{ReadRefusal}
+use Rattle.block_shelf.specs.declared.refusals.ReadRefusal.TheVariants as read
+use Rattle.shard_core.specs.declared.refusals.WriteRefusal.{WriteRefusal}
+use Rattle.shard_core.specs.declared.refusals.WriteRefusal.TheVariants as write
+use Rattle.shard_core.specs.Calls.{write_answer, delete_answer, read_answer}
+use Rattle.line_proto.specs.declared.reply.Reply.TheVariants as reply
+use Rattle.node_model.specs.Commands.{answer_reply, meta_reply, one_sum}
+use Rattle.core_run.specs.Calls.{flush_outcome}
+
+-- ---- no reply halts
+
+pub written_goes_on : (r : Result Stamp WriteRefusal) → answer_reply (write_answer r) ≡ reply.Halted → ⊥
+written_goes_on (Ok stamp) e = cc
+written_goes_on (Err (write.Big units capacity)) e = cc
+written_goes_on (Err (write.Gen seen)) e = cc
+written_goes_on (Err write.Spent) e = cc
+written_goes_on (Err (write.Load pending)) e = cc
+written_goes_on (Err (write.Space free)) e = cc
+written_goes_on (Err write.Memory) e = cc
+written_goes_on (Err write.Fault) e = cc
+
+pub deleted_goes_on : (r : Result Bool WriteRefusal) → answer_reply (delete_answer r) ≡ reply.Halted → ⊥
+deleted_goes_on (Ok true) e = cc
+deleted_goes_on (Ok false) e = cc
+deleted_goes_on (Err (write.Big units capacity)) e = cc
+deleted_goes_on (Err (write.Gen seen)) e = cc
+deleted_goes_on (Err write.Spent) e = cc
+deleted_goes_on (Err (write.Load pending)) e = cc
+deleted_goes_on (Err (write.Space free)) e = cc
+deleted_goes_on (Err write.Memory) e = cc
+deleted_goes_on (Err write.Fault) e = cc
+
+pub read_goes_on : (r : Result (Option Version) ReadRefusal) → answer_reply (read_answer r) ≡ reply.Halted → ⊥
+read_goes_on (Ok None) e = cc
+read_goes_on (Ok (Some v)) e = cc
+read_goes_on (Err (read.Damaged kept bytes)) e = cc
+read_goes_on (Err read.Memory) e = cc
+read_goes_on (Err read.Fault) e = cc
+
+pub known_goes_on : (v : Option Version) → meta_reply v ≡ reply.Halted → ⊥
+known_goes_on None e = cc
+known_goes_on (Some v) e = cc
+
+pub stat_goes_on : (counts : Counts) → reply.StatOf counts ≡ reply.Halted → ⊥
+stat_goes_on counts e = cc
+
+pub restart_goes_on : (a b : ℕ) → reply.Done2 a b ≡ reply.Halted → ⊥
+restart_goes_on a b e = cc
+
+pub flushed_goes_on : {E : Type 0} (flushed : Result ℕ E) → one_sum (flush_outcome flushed) ≡ reply.Halted → ⊥
+flushed_goes_on (Ok n) e = cc
+flushed_goes_on (Err fault) e = cc
+
+pub one_digest : (a b : Digest) → ◌≡◌ {A = Option Digest} (Some a) (Some b) → a ≡ b
+one_digest a b is = cc

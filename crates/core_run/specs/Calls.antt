@@ -1,0 +1,82 @@
+-- Crate core_run. What the calls of a node mean by what is seen of it.
+use Rattle.std.specs.Prelude.{◌≡◌, ◌⊎◌, ℕ, ◌<◌, true, false, List, length, Option, Some, None, MatchOption, Result, Ok, Err, slice_get}
+use Rattle.disk_model.specs.Disk.{DiskView}
+use Rattle.rec_format.specs.declared.version.Digest.{Digest}
+use Rattle.rec_format.specs.declared.version.Version.{Version}
+use Rattle.device_model.specs.Events.{disk_fault}
+use Rattle.rec_format.specs.Places.{device_number}
+use Rattle.block_shelf.specs.declared.refusals.ReadRefusal.{ReadRefusal}
+use Rattle.cold_scan.specs.declared.header.StartCause.{StartCause}
+use Rattle.shard_core.specs.declared.settings.Settings.{Settings}
+use Rattle.shard_core.specs.View.{ShardView}
+use Rattle.shard_core.specs.Calls.{GetsStored, read_answer}
+use Rattle.line_proto.specs.declared.command.Command.{Command}
+use Rattle.line_proto.specs.declared.command.Command.TheVariants as command
+use Rattle.line_proto.specs.declared.reply.Reply.{Reply}
+use Rattle.line_proto.specs.declared.reply.Reply.TheVariants as reply
+use Rattle.node_model.specs.Commands.{Node, Outcome, did, stopped, answer_reply}
+use Rattle.node_model.specs.Outside.{RoseOn}
+use Rattle.node_model.specs.RunEnd.{IsQuiet, AllQuiet}
+use Rattle.node_model.specs.Meaning.{ActsBy, TendsBy, ClosesBy}
+use Rattle.core_run.specs.Views.{NodeView, serving, halted, disks_served, disks_of, views_of, unknown, faults_of, AreLater}
+use Rattle.core_run.specs.Starts.{StartsEach, RefusesAt}
+use Rattle.core_run.specs.Standing.{StandsFor, StandsSafely, Halts, HaltsSafely}
+
+-- the digest that a command is on
+abbrev pub digest_of : Command → Option Digest
+digest_of (command.Put digest ttl expect payload) = Some digest
+digest_of (command.Get digest) = Some digest
+digest_of (command.Meta digest) = Some digest
+digest_of (command.Del digest) = Some digest
+digest_of (command.Bury digest) = Some digest
+digest_of _ = None
+
+-- what a flush of all devices comes to
+abbrev pub flush_outcome : {E : Type 0} → Result ℕ E → Outcome
+flush_outcome (Ok flushed) = did flushed 0
+flush_outcome (Err fault) = stopped disk_fault
+
+-- A get is replied as its record is stored on its device: as it was put, where its block has a write buffer, and else as it stands at its
+-- place, on a disk that tells its bytes; `err damaged` comes then exactly where no head of the record stands there.
+abbrev pub RepliesStored : {D : Type 0} → (view : D → DiskView) → List (ShardView D) → Command → ℕ → Reply → Type 0
+RepliesStored view shards (command.Get digest) now r =
+    (got : Result (Option Version) ReadRefusal) × (r ≡ answer_reply (read_answer got))
+    × MatchOption (slice_get shards (device_number (length shards) digest)) ⊥ (λ shard. GetsStored view shard digest now got)
+RepliesStored view shards _ now r = Unit {0}
+
+-- The devices were started again from their disks, all of them; or one was refused, and then none is served.
+abbrev pub Restarted : {D : Type 0} → (view : D → DiskView) → Settings → List (ShardView D) → NodeView D → Type 0
+Restarted {D} view set shards new =
+    ((fresh : List (ShardView D)) × (new ≡ serving fresh) × StartsEach view set 0 (length shards) (disks_served shards) fresh)
+    ⊎ ((why : ℕ × StartCause) × (disks : List D) × (new ≡ halted why disks) × RefusesAt view set why.0 0 (length shards) why.1 (disks_served shards) disks)
+
+-- Each command is carried out from each state for which the node stood: over every disk, where what is read may be anything, and over
+-- honest ones, with what a crash leaves meanwhile. A get is replied as its record is stored. A restart goes to a state behind a start of
+-- each device from its disk, or one is refused, and then the node halts. A node that halted answers so from then on, and does nothing.
+pub record Acts {D : Type 0} (view : D → DiskView) (old : NodeView D) (c : Command) (now : ℕ) (r : Reply) (new : NodeView D) : Type 0 where
+  pub later : AreLater view (disks_of old) (disks_of new)
+  pub any : ActsBy (StandsFor view) unknown (Halts view) false old c now r new
+  pub safe : ActsBy (StandsSafely view) (views_of view) (HaltsSafely view) true old c now r new
+  pub stored : (shards : List (ShardView D)) → old ≡ serving shards → RepliesStored view shards c now r
+  pub again : (shards : List (ShardView D)) → old ≡ serving shards → c ≡ command.Restart → (set : Settings) × Restarted view set shards new
+  pub stays : (why : ℕ × StartCause) (disks : List D) → old ≡ halted why disks → (r ≡ reply.Halted) × (new ≡ old)
+
+pub record Tends {D : Type 0} (view : D → DiskView) (old new : NodeView D) : Type 0 where
+  pub later : AreLater view (disks_of old) (disks_of new)
+  pub any : TendsBy (StandsFor view) unknown false old new
+  pub safe : TendsBy (StandsSafely view) (views_of view) true old new
+  pub stays : (why : ℕ × StartCause) (disks : List D) → old ≡ halted why disks → new ≡ old
+
+-- ---- the end of a run
+
+-- Behind the closing of all devices nothing is pending; or the disk of this one failed, which has a buffer left, and no lower one has.
+abbrev pub ClosedSo : (failed : Option ℕ) → (before after : List ℕ) → Node → Type 0
+ClosedSo None before after node = AllQuiet node
+ClosedSo (Some device) before after node =
+    (IsQuiet (slice_get node device) → ⊥) × RoseOn device before after × ((lower : ℕ) → lower < device → IsQuiet (slice_get node lower))
+
+-- Each device is closed, from each state for which the node stood, over every disk and over honest ones.
+pub record Closes {D : Type 0} (view : D → DiskView) (failed : Option ℕ) (old new : NodeView D) : Type 0 where
+  pub later : AreLater view (disks_of old) (disks_of new)
+  pub any : ClosesBy (StandsFor view) unknown false (ClosedSo failed (faults_of view (disks_of old)) (faults_of view (disks_of new))) old new
+  pub safe : ClosesBy (StandsSafely view) (views_of view) true (ClosedSo failed (faults_of view (disks_of old)) (faults_of view (disks_of new))) old new
