@@ -1,4 +1,4 @@
-ghost use Rattle.std.specs.Prelude.{◌≤◌, ◌≢◌, IfOk};
+ghost use Rattle.std.specs.Prelude.{◌≤◌, ◌<◌, ◌≢◌, vec_len, IfOk};
 ghost use Rattle.line_proto.specs.Built.{IsInRange};
 ghost use Rattle.line_proto.specs.declared.command.Command.{Command};
 
@@ -44,7 +44,13 @@ fn formatted(rt: &impl Abort, alloc: Global) -> Result<MemDisk, Fail> {
 }
 
 fn started(alloc: Global, disk: MemDisk) -> Result<Node<MemDisk>, Fail> {
-    match Node::start(alloc, vec![in alloc; disk]?, SET) {
+    started_on(alloc, vec![in alloc; disk]?)
+}
+
+fn started_on(alloc: Global, disks: Vec<MemDisk>) -> Result<Node<MemDisk>, Fail>
+    requires { (1 ≤ vec_len disks) × (vec_len disks ≤ 16) }
+{
+    match Node::start(alloc, disks, SET) {
         Ok(node) => Ok(node),
         Err(
             NodeRefusal {
@@ -238,15 +244,13 @@ const ODD: Digest = Digest([1; 20]);
 fn two_devices_are_served(rt: HostRuntime) -> Result<(), Fail> {
     let alloc = rt.alloc();
     let mut second = one_of_two(&rt, alloc, 1)?;
-    // The start syncs once; the two syncs behind it are those of a body.
-    for skip in [1, 1] {
+    // The start syncs once; the two syncs behind it are those of its body, which is written twice.
+    for skip in [1, 2] {
         second.fail_after(DiskCall::Sync, skip)?;
     }
     let mut disks = vec![in alloc; one_of_two(&rt, alloc, 0)?]?;
     disks.push(second)?;
-    let Ok(mut node) = Node::start(alloc, disks, SET) else {
-        return Err(Fail::new("they aren't taken into use"));
-    };
+    let mut node = started_on(alloc, disks)?;
     for digest in [EVEN, ODD] {
         let put = put_of(alloc, digest, 5, None)?;
         assert!(rt; matches!(&node.act(alloc, &put, 1000), Reply::Done2 { a: 1, b: 1000 }));
