@@ -1,3 +1,5 @@
+ghost use Rattle.std.specs.Prelude.{◌≤◌, length};
+
 use super::{FormatRefusal, format_devices};
 use block_format::Gate;
 use cold_scan::{Asked, Finding, StartRefusal, scan};
@@ -12,6 +14,13 @@ const BLOCKS: u32 = 8;
 
 /// The bytes of a device of this shape: a header of 4,096 bytes, and the blocks.
 const DEVICE_BYTES: u64 = 135_168;
+
+/// Formats disks in this shape.
+fn formatted(disks: &mut [MemDisk]) -> Result<(), FormatRefusal>
+    requires { (1 ≤ length disks.old) × (length disks.old ≤ 16) }
+{
+    format_devices(disks, BLOCK_SIZE, BLOCKS)
+}
 
 /// The disk is the device with this number of so many, and has no open block.
 fn assert_empty(
@@ -52,7 +61,7 @@ fn each_disk_is_the_device_of_its_place(rt: HostRuntime) -> Result<(), Fail> {
         MemDisk::new(alloc, DEVICE_BYTES)?,
         MemDisk::new(alloc, DEVICE_BYTES + 1)?,
     ];
-    assert_eq!(rt; format_devices(&mut disks, BLOCK_SIZE, BLOCKS), Ok(()));
+    assert_eq!(rt; formatted(&mut disks), Ok(()));
     let [first, second] = disks;
     assert_empty(&rt, alloc, first, 0, 2)?;
     assert_empty(&rt, alloc, second, 1, 2)
@@ -70,7 +79,7 @@ fn a_short_disk_leaves_all_as_they_were(rt: HostRuntime) -> Result<(), Fail> {
         device: 1,
         len: 135_167,
     };
-    assert_eq!(rt; format_devices(&mut disks, BLOCK_SIZE, BLOCKS), Err(want));
+    assert_eq!(rt; formatted(&mut disks), Err(want));
     for disk in &disks {
         assert_eq!(rt; disk.moments(), 1);
     }
@@ -88,7 +97,7 @@ fn it_stops_at_the_disk_that_fails(rt: HostRuntime) -> Result<(), Fail> {
         MemDisk::new(alloc, DEVICE_BYTES)?,
     ];
     let want = FormatRefusal::Fault { device: 1 };
-    assert_eq!(rt; format_devices(&mut disks, BLOCK_SIZE, BLOCKS), Err(want));
+    assert_eq!(rt; formatted(&mut disks), Err(want));
     let [first, second, third] = disks;
     assert_empty(&rt, alloc, first, 0, 3)?;
     assert!(rt; second.moments() > 1);
