@@ -83,8 +83,8 @@ impl Replies {
     }
 }
 
-// Writes all of the text, in as many calls as the sink wants, and flushes it.
-fn send<K: Sink>(link: &mut K, text: &[u8]) -> Result<(), SinkFault>
+/// Writes all of the text, in as many calls as the sink wants, and flushes it.
+pub fn send<K: Sink>(link: &mut K, text: &[u8]) -> Result<(), SinkFault>
     ensures bytes { Sends text.now [] (K.written link.old) (K.written link.new) result }
     ensures cause { IsCaused (K.sink_faults link.old) (K.sink_faults link.new) result }
     ensures left { K.left link.new ≡ K.left link.old }
