@@ -1,2 +1,2 @@
-mod TwoWords
-mod Fitting
+pub mod Made
+pub mod Asked

@@ -1,21 +1,27 @@
-//! The program: it serves the lines of a session over one device in memory.
+//! The program: it makes devices, or serves the lines of standard input over them.
 #![tactic(auto)]
 
-mod memory;
+mod devices;
+mod format;
+#[cfg(test)]
+mod in_memory;
 mod outcome;
 #[cfg(test)]
 mod restarts;
 mod run;
+mod settings;
+#[cfg(test)]
+mod several;
 #[cfg(test)]
 mod tests;
 mod top;
-mod words;
 
-use crate::memory::{formatted_disk, still_clock};
+use crate::devices::{Undone, devices_of};
 use crate::top::node_top;
+use disk_file::fill_standard;
 use disk_model::NoMemory;
-use io_traits::{Both, StandardInput, StandardOutput};
-use node_model::{Note, RunEnd};
+use io_traits::{Both, StandardInput, StandardOutput, SystemClock};
+use node_model::Note;
 use std::alloc::AllocError;
 use std::env::args;
 use std::io::ErrorKind;
@@ -30,25 +36,30 @@ fn words_of(rt: &HostRuntime) -> Result<Vec<String>, NoMemory> {
     }
 }
 
-// Serves the standard streams as the words say, and tells the status with its note.
-fn serve(rt: &HostRuntime) -> Result<(u8, Note), NoMemory> {
-    let alloc = rt.alloc();
+// Does what the words ask for over the devices that they name and the standard streams, and tells the status with its note.
+fn carry_out(rt: &HostRuntime) -> Result<(u8, Note), Undone> {
+    fill_standard(rt).map_err(Undone::Streams)?;
     let words = words_of(rt)?;
-    let disks = vec![in alloc; formatted_disk(alloc)?]?;
-    let mut clock = still_clock(alloc)?;
+    let disks = devices_of(rt, &words)?;
+    let mut clock = SystemClock::new(rt);
     let mut link = Both {
         source: StandardInput::new(rt.stdin()),
         sink: StandardOutput::new(rt.stdout()),
     };
-    let outcome = node_top(alloc, &words, disks, &mut link, &mut clock);
+    let outcome = node_top(rt.alloc(), &words, disks, &mut link, &mut clock);
     Ok((outcome.status, outcome.note))
 }
 
 fn main(rt: HostRuntime) -> ExitCode {
-    let want = RunEnd::NoMemory;
-    let (status, note) = serve(&rt).unwrap_or((want.status(), want.note()));
-    if status != 0 {
-        let _ = eprintln!(rt; "{}", note.as_str());
+    match carry_out(&rt) {
+        Ok((0, _)) => ExitCode::SUCCESS,
+        Ok((status, note)) => {
+            let _ = eprintln!(rt; "{}", note.as_str());
+            ExitCode::from(status)
+        }
+        Err(undone) => {
+            let _ = eprintln!(rt; "{undone}");
+            ExitCode::from(undone.status())
+        }
     }
-    ExitCode::from(status)
 }

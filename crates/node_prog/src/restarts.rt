@@ -1,10 +1,9 @@
 // Sessions with `restart` and `stat`, as tables of lines and their replies.
 ghost use Rattle.shard_core.specs.View.{IsSettings};
 
-use crate::memory::formatted_disk;
+use crate::in_memory::{SETTINGS, formatted_disk};
 use crate::outcome::Outcome;
 use crate::run::run_with;
-use crate::words::run_settings;
 use disk_model::{Disk, DiskCall, MemDisk};
 use io_traits::{Both, ListClock, TextSink, TextSource};
 use shard_core::Settings;
@@ -176,10 +175,7 @@ fn run_at(
         source: TextSource::new(input, Vec::new(alloc)),
         sink: TextSink::new(alloc, Vec::new(alloc)),
     };
-    let set = Settings {
-        commit,
-        ..run_settings()
-    };
+    let set = Settings { commit, ..SETTINGS };
     let disks = vec![in alloc; disk]?;
     let outcome = run_with(alloc, set, disks, &mut link, &mut clock);
     let text = link.sink.written().to_vec(alloc)?;

@@ -1,12 +1,9 @@
 ghost use Rattle.shard_core.specs.View.{IsSettings};
 
-use super::*;
-use crate::memory::{formatted_disk, still_clock};
+use crate::in_memory::{Ending, SETTINGS, formatted_disk, link_over, serve_words, still_clock};
 use crate::outcome::Outcome;
 use crate::run::run_with;
-use crate::words::run_settings;
 use disk_model::{Disk, DiskCall, MemDisk};
-use io_traits::{TextSink, TextSource};
 use shard_core::Settings;
 use std::alloc::Global;
 use std::process::Abort;
@@ -21,13 +18,6 @@ const FLUSH: &[u8] = b"flush\n";
 // What `GET` answers behind `PUT`.
 const SEEN: &[u8] = b"val 1 1000 0 aa\n";
 
-// How the program ended over one disk, and what it wrote.
-#[derive(Drop)]
-struct Ending {
-    outcome: Outcome<MemDisk>,
-    text: Vec<u8>,
-}
-
 // The program over this disk, with these words and this input; the calls of the source and of the sink with these numbers fail.
 fn serve_disk(
     alloc: Global,
@@ -37,19 +27,8 @@ fn serve_disk(
     source_fails: &[u64],
     sink_fails: &[u64],
 ) -> Result<Ending, Fail> {
-    let mut owned: Vec<String> = Vec::new(alloc);
-    for &word in words {
-        owned.push(String::from_str(alloc, word)?)?;
-    }
-    let mut link = Both {
-        source: TextSource::new(input.to_vec(alloc)?, source_fails.to_vec(alloc)?),
-        sink: TextSink::new(alloc, sink_fails.to_vec(alloc)?),
-    };
-    let mut clock = still_clock(alloc)?;
-    let disks = vec![in alloc; disk]?;
-    let outcome = node_top(alloc, &owned, disks, &mut link, &mut clock);
-    let text = link.sink.written().to_vec(alloc)?;
-    Ok(Ending { outcome, text })
+    let mut link = link_over(alloc, input, source_fails, sink_fails)?;
+    serve_words(alloc, words, vec![in alloc; disk]?, &mut link)
 }
 
 // The same over a formatted disk, with the words `run d0`.
@@ -75,13 +54,14 @@ fn words_are_accepted_or_refused(rt: HostRuntime) -> Result<(), Fail> {
     let alloc = rt.alloc();
     let ending = serve_text(alloc, b"", &[], &[])?;
     assert!(rt; is_so(&ending, 0, "", b""));
-    let refused: [&[&str]; 6] = [
+    let refused: [&[&str]; 7] = [
         &[],
         &["run"],
         &["run", ""],
         &["run", "-d0"],
         &["walk", "d0"],
-        &["run", "d0", "d1"],
+        &["run", "d0", "d0"],
+        &["run", "--lwm", "100", "d0"],
     ];
     for words in refused {
         let ending = serve_disk(alloc, words, formatted_disk(alloc)?, GET, &[], &[])?;
@@ -463,10 +443,7 @@ fn a_crash_leaves_what_was_flushed(rt: HostRuntime) -> Result<(), Fail> {
 fn run_over(alloc: Global, set: Settings, disk: MemDisk, input: &[u8]) -> Result<Ending, Fail>
     requires { IsSettings set }
 {
-    let mut link = Both {
-        source: TextSource::new(input.to_vec(alloc)?, Vec::new(alloc)),
-        sink: TextSink::new(alloc, Vec::new(alloc)),
-    };
+    let mut link = link_over(alloc, input, &[], &[])?;
     let mut clock = still_clock(alloc)?;
     let disks = vec![in alloc; disk]?;
     let outcome = run_with(alloc, set, disks, &mut link, &mut clock);
@@ -491,7 +468,7 @@ fn as_many_wait_as_may(rt: HostRuntime) -> Result<(), Fail> {
     }
     let set = Settings {
         pending: 4,
-        ..run_settings()
+        ..SETTINGS
     };
     let ending = run_over(alloc, set, disk, &input)?;
     let text = b"ok 1 1000\nok 1 1000\nok 1 1000\nok 1 1000\nerr load\nok 1 1000\n";
@@ -527,7 +504,7 @@ fn a_commit_waits_for_the_disk(rt: HostRuntime) -> Result<(), Fail> {
     let alloc = rt.alloc();
     let set = Settings {
         commit: true,
-        ..run_settings()
+        ..SETTINGS
     };
     let mut input = PUT.to_vec(alloc)?;
     input.extend_from_slice(GET)?;
