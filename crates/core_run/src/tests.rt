@@ -62,6 +62,14 @@ fn started_on(alloc: Global, disks: Vec<MemDisk>) -> Result<Node<MemDisk>, Fail>
     }
 }
 
+/// Closes a node that serves.
+fn close(node: &mut Node<MemDisk>) -> Result<Option<u16>, Fail> {
+    let None = node.halted() else {
+        return Err(Fail::new("it halted"));
+    };
+    Ok(node.close())
+}
+
 #[test]
 fn a_record_is_put_and_seen(rt: HostRuntime) -> Result<(), Fail> {
     let alloc = rt.alloc();
@@ -133,8 +141,7 @@ fn what_is_sealed_is_flushed(rt: HostRuntime) -> Result<(), Fail> {
     let Reply::StatOf(before) = node.act(alloc, &Command::Stat, 1000) else {
         return Err(Fail::new("it tells no numbers"));
     };
-    assert!(rt; node.halted().is_none());
-    assert!(rt; node.close().is_none());
+    assert!(rt; close(&mut node)?.is_none());
     let Reply::StatOf(after) = node.act(alloc, &Command::Stat, 1000) else {
         return Err(Fail::new("it tells no numbers"));
     };
@@ -265,8 +272,7 @@ fn two_devices_are_served(rt: HostRuntime) -> Result<(), Fail> {
             Reply::Fail(LineFault::Fault)
         )
     );
-    assert!(rt; node.halted().is_none());
-    assert!(rt; matches!(node.close(), Some(1)));
+    assert!(rt; matches!(close(&mut node)?, Some(1)));
     assert_eq!(rt; node.stop().len(), 2);
     Ok(())
 }
