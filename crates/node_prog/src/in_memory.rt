@@ -92,11 +92,12 @@ pub fn serve_words(
     for &word in words {
         owned.push(String::from_str(alloc, word)?)?;
     }
-    if !names_so_many(&owned, disks.len()) {
+    let listed = owned.as_slice();
+    if !names_so_many(listed, disks.len()) {
         return Err(Fail::new("there are more disks, or fewer"));
     }
     let mut clock = still_clock(alloc)?;
-    let outcome = node_top(alloc, &owned, disks, link, &mut clock);
+    let outcome = node_top(alloc, listed, disks, link, &mut clock);
     let text = link.sink.written().to_vec(alloc)?;
     Ok(Ending { outcome, text })
 }
