@@ -1,10 +1,11 @@
 -- The options of a job say one value at most.
-use Rattle.std.proofs.Common.{◌≡◌, ℕ, ◌<◌, ◌^◌, Bool, true, false, List, [], ◌∷◌, Option, Some, None, refl, sym, ◌∙◌, ap, lit<, arith}
+use Rattle.std.proofs.Common.{◌≡◌, ℕ, ◌<◌, ◌^◌, Bool, true, false, List, [], ◌∷◌, ◌++◌, Option, Some, None, refl, sym, ◌∙◌, ap, lit<, arith}
+use Rattle.std.proofs.lemmas.Fmt.{decimal_injective}
 use Rattle.node_words.specs.declared.job.Shape.{Shape}
 use Rattle.node_words.specs.declared.job.Tuning.{Tuning}
 use Rattle.node_words.specs.declared.job.Job.{Job}
-use Rattle.node_words.specs.declared.job.Job.TheVariants.{Format, Run}
-use Rattle.node_words.specs.Words.{Text, Pair, number, power, choice, yes_no, Says, HasRows, shape_rows, tuning_rows, rows_of, command_of}
+use Rattle.node_words.specs.declared.job.Job.TheVariants.{Format, Run, Check, Generate}
+use Rattle.node_words.specs.Words.{Text, Pair, number, power, choice, yes_no, Says, Row, HasRows, shape_rows, tuning_rows, rows_of, first_words, IsCounted}
 use Rattle.node_words.proofs.Numbers.{one_number}
 
 one_value : (said : Option Text) (least greatest default m n : ℕ) → greatest < 2 ^ 64 → Says said (number least greatest default m) → Says said (number least greatest default n) → m ≡ n
@@ -25,6 +26,11 @@ one_choice (Some text) false false one two = refl
 one_choice (Some text) true false one two = yes_is_no (sym one ∙ two)
 one_choice (Some text) false true one two = yes_is_no (sym two ∙ one)
 
+-- the rows in front, and those behind them
+pub apart : (pairs : List Pair) (rows more : List Row) → HasRows pairs (rows ++ more) → HasRows pairs rows × HasRows pairs more
+apart pairs [] more has = (tt, has)
+apart pairs (row ∷ rows) more has = let rest = apart pairs rows more has.1 in ((has.0, rest.0), rest.1)
+
 one_shape : (pairs : List Pair) (s t : Shape) → HasRows pairs (shape_rows s) → HasRows pairs (shape_rows t) → s ≡ t
 one_shape pairs s t one two =
     let size = one_power _ 16384 1048576 1048576 s.block_size t.block_size (lit< tt) one.0 two.0 in
@@ -41,14 +47,28 @@ one_tuning pairs s t one two =
     let raid_age = one_value _ 0 315360000 86400 s.raid_age t.raid_age (lit< tt) one.1.1.1.1.1.0 two.1.1.1.1.1.0 in
     λ i. record { sprigs = sprigs i; lwm = lwm i; pending = pending i; cache = cache i; commit = commit i; raid_age = raid_age i }
 
--- ---- the command word tells the command
+-- ---- the first words tell the command
 
--- the first byte of a text
-abbrev initial : Text → ℕ
+-- the first byte of the first word
+abbrev pub initial : List Text → ℕ
 initial [] = 0
-initial (byte ∷ bytes) = byte
+initial ([] ∷ words) = 0
+initial ((byte ∷ bytes) ∷ words) = byte
 
-pub one_job : (pairs : List Pair) (j k : Job) → command_of j ≡ command_of k → HasRows pairs (rows_of j) → HasRows pairs (rows_of k) → j ≡ k
-one_job pairs (Format s) (Format t) same one two = ap Format (one_shape pairs s t one two)
-one_job pairs (Run s) (Run t) same one two = ap Run (one_tuning pairs s t one two)
-one_job pairs j k same one two = let wrong = ap initial same in absurd (omega arith)
+-- the second word
+abbrev second : List Text → Text
+second (word ∷ text ∷ words) = text
+second words = []
+
+pub one_job : (pairs : List Pair) (j k : Job) → first_words j ≡ first_words k → IsCounted j → IsCounted k → HasRows pairs (rows_of j) → HasRows pairs (rows_of k) → j ≡ k
+one_job pairs (Format s) (Format t) same some more one two = ap Format (one_shape pairs s t one two)
+one_job pairs (Run s) (Run t) same some more one two = ap Run (one_tuning pairs s t one two)
+one_job pairs Check Check same some more one two = refl
+one_job pairs (Generate m s t) (Generate n u v) same some more one two =
+    let a = apart pairs (shape_rows s) (tuning_rows t) one in
+    let b = apart pairs (shape_rows u) (tuning_rows v) two in
+    let count = decimal_injective m n (let high = some.1 in omega arith) (let high = more.1 in omega arith) (ap second same) in
+    let shape = one_shape pairs s u a.0 b.0 in
+    let tuning = one_tuning pairs t v a.1 b.1 in
+    λ i. Generate (count i) (shape i) (tuning i)
+one_job pairs j k same some more one two = let wrong = ap initial same in absurd (omega arith)

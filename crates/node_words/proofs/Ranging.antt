@@ -6,11 +6,12 @@ use Rattle.std.proofs.Math.Pow.{pow_mono}
 use Rattle.node_words.specs.declared.job.Shape.{Shape}
 use Rattle.node_words.specs.declared.job.Tuning.{Tuning}
 use Rattle.node_words.specs.declared.job.Job.{Job}
-use Rattle.node_words.specs.declared.job.Job.TheVariants.{Format, Run}
+use Rattle.node_words.specs.declared.job.Job.TheVariants.{Format, Run, Check, Generate}
 use Rattle.node_words.specs.declared.request.Request.{Request}
-use Rattle.node_words.specs.Words.{Text, Pair, Says, number, power, HasRows, shape_rows, tuning_rows, rows_of, Asks}
+use Rattle.node_words.specs.Words.{Text, Pair, Says, number, power, HasRows, shape_rows, tuning_rows, rows_of, IsCounted, Asks}
 use Rattle.node_words.specs.Ranges.{IsBlockSize, IsShape, IsTuning, IsInRange}
 use Rattle.node_words.specs.Reading.{asked_for}
+use Rattle.node_words.proofs.Determining.{apart}
 
 number_in : (said : Option Text) (least greatest default n : ℕ) → least ≤ default → default ≤ greatest → Says said (number least greatest default n) → (least ≤ n) × (n ≤ greatest)
 number_in None least greatest default n low high is = (omega arith, omega arith)
@@ -46,12 +47,16 @@ tuning_in pairs tuning has = record {
   raid_age = (number_in _ 0 315360000 86400 tuning.raid_age (lit≤ tt) (lit≤ tt) has.1.1.1.1.1.0).1;
 }
 
-job_in : (pairs : List Pair) (job : Job) → HasRows pairs (rows_of job) → IsInRange job
-job_in pairs (Format shape) has = shape_in pairs shape has
-job_in pairs (Run tuning) has = tuning_in pairs tuning has
+job_in : (pairs : List Pair) (job : Job) → IsCounted job → HasRows pairs (rows_of job) → IsInRange job
+job_in pairs (Format shape) counted has = shape_in pairs shape has
+job_in pairs (Run tuning) counted has = tuning_in pairs tuning has
+job_in pairs Check counted has = tt
+job_in pairs (Generate count shape tuning) counted has =
+    let parts = apart pairs (shape_rows shape) (tuning_rows tuning) has in
+    (counted.0, counted.1, shape_in pairs shape parts.0, tuning_in pairs tuning parts.1)
 
 -- what was read is in range
 pub read_in : (words : List Text) (read : Option Request) → ((job : Job) (names : List Text) → (asked_for read ≡ Some (job, names)) ↔ Asks words job names) → IfSome read (λ request. IsInRange request.job)
 read_in words None exact = tt
 read_in words (Some request) exact =
-    let asks = (exact request.job (map string_bytes request.names.now)).0 refl in job_in asks.pairs request.job asks.options.values
+    let asks = (exact request.job (map string_bytes request.names.now)).0 refl in job_in asks.pairs request.job asks.counted asks.options.values

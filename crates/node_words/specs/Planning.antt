@@ -12,3 +12,5 @@ file_length shape = 4096 + shape.blocks * shape.block_size
 abbrev pub made_length : Job → Option ℕ
 made_length (job.Format shape) = Some (file_length shape)
 made_length (job.Run tuning) = None
+made_length job.Check = None
+made_length (job.Generate count shape tuning) = Some (file_length shape)

@@ -69,15 +69,24 @@ tuning_rows tuning =
 
 -- ---- the commands
 
--- the command word of a job
-abbrev pub command_of : Job → Text
-command_of (job.Format shape) = codes "format"
-command_of (job.Run tuning) = codes "run"
+-- the words in front of a job's options: the command word, and behind `gen` the number of records
+abbrev pub first_words : Job → List Text
+first_words (job.Format shape) = codes "format" ∷ []
+first_words (job.Run tuning) = codes "run" ∷ []
+first_words job.Check = codes "check" ∷ []
+first_words (job.Generate count shape tuning) = codes "gen" ∷ decimal count ∷ []
+
+-- a number among them is from one to a million
+abbrev pub IsCounted : Job → Type 0
+IsCounted (job.Generate count shape tuning) = (1 ≤ count) × (count ≤ 1000000)
+IsCounted _ = Unit {0}
 
 -- the options of a job
 abbrev pub rows_of : Job → List Row
 rows_of (job.Format shape) = shape_rows shape
 rows_of (job.Run tuning) = tuning_rows tuning
+rows_of job.Check = []
+rows_of (job.Generate count shape tuning) = shape_rows shape ++ tuning_rows tuning
 
 -- ---- device names
 
@@ -119,9 +128,10 @@ pub record AreOptions (pairs : List Pair) (rows : List Row) : Type 0 where
   pub once : AllDiffer (map (λ pair. pair.0) pairs)
   pub values : HasRows pairs rows
 
--- the words are the command word of a job, options with their values in any order, and device names
+-- the words are the first words of a job, options with their values in any order, and device names
 pub record Asks (words : List Text) (job : Job) (names : List Text) : Type 0 where
   pub pairs : List Pair
-  pub list : words ≡ command_of job ∷ flat_map (λ pair. pair.0 ∷ pair.1 ∷ []) pairs ++ names
+  pub list : words ≡ first_words job ++ flat_map (λ pair. pair.0 ∷ pair.1 ∷ []) pairs ++ names
+  pub counted : IsCounted job
   pub options : AreOptions pairs (rows_of job)
   pub named : AreNames names

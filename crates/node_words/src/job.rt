@@ -33,4 +33,15 @@ pub enum Job {
     Format(Shape),
     /// Serve standard input.
     Run(Tuning),
+    /// Tell what is on devices, and change nothing.
+    Check,
+    /// Make devices and fill them.
+    Generate {
+        /// How many records are put, 1 to 1,000,000.
+        count: u32,
+        /// The blocks of each device.
+        shape: Shape,
+        /// How the devices are run meanwhile.
+        tuning: Tuning,
+    },
 }

@@ -1,8 +1,8 @@
 //! The words of a command line: which lists are accepted, and what each asks for.
 //!
-//! A list is a command word, then options with their values in any order, each at most once, then the names of 1 to 16
-//! devices that differ. `read_words` answers the job with its options and the names; `names_of` what has to be made before
-//! it is carried out.
+//! A list is a command word, behind `gen` a number, then options with their values in any order, each at most once, then
+//! the names of 1 to 16 devices that differ. `read_words` answers the job with its options and the names; `names_of` what
+//! has to be made before it is carried out.
 #![tactic(auto)]
 
 mod job;

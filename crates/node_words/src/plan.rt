@@ -27,8 +27,8 @@ impl Job {
         ensures { result ≡ made_length self.now }
     {
         match self {
-            Job::Format(shape) => Some(shape.file_length()),
-            Job::Run(_) => None,
+            Job::Format(shape) | Job::Generate { shape, .. } => Some(shape.file_length()),
+            Job::Run(_) | Job::Check => None,
         }
     }
 }

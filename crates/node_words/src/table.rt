@@ -1,6 +1,7 @@
 // The options of each job. A row has the name, the least and the greatest value, and the default.
+ghost use Rattle.std.specs.Prelude.{◌≤◌, [], ◌∷◌, codes, decimal, IfSome};
 ghost use Rattle.node_words.specs.Reading.{ReadsRows, AsksForRows, ReadsJob};
-ghost use Rattle.node_words.specs.Words.{shape_rows, tuning_rows, rows_of};
+ghost use Rattle.node_words.specs.Words.{shape_rows, tuning_rows, rows_of, IsCounted};
 
 use crate::options::Options;
 use crate::{Job, Shape, Tuning};
@@ -32,15 +33,30 @@ fn tuning_of(options: &mut Options<'_>) -> Option<Tuning>
     })
 }
 
-/// The job of a command word, with its options; each option of the job has then been asked for. It is none where there
-/// is no such command, or an option says what its row doesn't allow.
+/// The job of a command word alone, with its options; each option of the job has then been asked for. It is none where
+/// there is no such command, or an option says what its row doesn't allow.
 pub fn job_of(word: &str, options: &mut Options<'_>) -> Option<Job>
-    ensures value { ReadsJob word.now options.old.pairs result }
+    ensures value { ReadsJob (word.now ∷ []) options.old.pairs result }
     ensures asked { AsksForRows rows_of options.old options.new result }
 {
     match word {
         "format" => Some(Job::Format(shape_of(options)?)),
         "run" => Some(Job::Run(tuning_of(options)?)),
+        "check" => Some(Job::Check),
         _ => None,
     }
+}
+
+/// The job of `gen` and its number, likewise.
+pub fn generate_of(count: u32, options: &mut Options<'_>) -> Option<Job>
+    requires { (1 ≤ count) × (count ≤ 1000000) }
+    ensures counted { IfSome result IsCounted }
+    ensures value { ReadsJob (codes "gen" ∷ decimal count ∷ []) options.old.pairs result }
+    ensures asked { AsksForRows rows_of options.old options.new result }
+{
+    Some(Job::Generate {
+        count,
+        shape: shape_of(options)?,
+        tuning: tuning_of(options)?,
+    })
 }

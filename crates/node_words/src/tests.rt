@@ -30,6 +30,16 @@ const MOST: Tuning = Tuning {
     raid_age: 315_360_000,
 };
 
+const SMALL: Shape = Shape {
+    block_size: 16_384,
+    blocks: 64,
+};
+
+const FULL: Shape = Shape {
+    block_size: 1_048_576,
+    blocks: 64,
+};
+
 fn format_of(block_size: u32, blocks: u32) -> Job {
     Job::Format(Shape { block_size, blocks })
 }
@@ -124,6 +134,50 @@ fn runs_are_read(rt: HostRuntime) -> Result<(), Fail> {
 }
 
 #[test]
+fn checks_are_read(rt: HostRuntime) -> Result<(), Fail> {
+    for (line, names) in [("check d0 d1", 2), ("check check", 1), ("check gen 10", 2)] {
+        check_accepted(&rt, rt.alloc(), line, Job::Check, names)?;
+    }
+    Ok(())
+}
+
+#[test]
+fn generators_are_read(rt: HostRuntime) -> Result<(), Fail> {
+    let committed = Tuning {
+        commit: true,
+        ..TUNING
+    };
+    let rows = [
+        ("gen 1 d0", 1, FULL, TUNING, 1),
+        ("gen 1000000 d0", 1_000_000, FULL, TUNING, 1),
+        ("gen 10 gen 10", 10, FULL, TUNING, 2),
+        (
+            "gen 10 --commit yes --block-size 16384 d0 d1",
+            10,
+            SMALL,
+            committed,
+            2,
+        ),
+        (
+            "gen 7 --raid-age 0 --block-size 16384 --cache 0 --commit yes --blocks 64 --lwm 0 --sprigs 1 --pending 4 d0",
+            7,
+            SMALL,
+            LEAST,
+            1,
+        ),
+    ];
+    for (line, count, shape, tuning, names) in rows {
+        let job = Job::Generate {
+            count,
+            shape,
+            tuning,
+        };
+        check_accepted(&rt, rt.alloc(), line, job, names)?;
+    }
+    Ok(())
+}
+
+#[test]
 fn other_numbers_are_refused(rt: HostRuntime) -> Result<(), Fail> {
     check_refused(
         &rt,
@@ -155,6 +209,16 @@ fn other_numbers_are_refused(rt: HostRuntime) -> Result<(), Fail> {
             "run --raid-age 315360001 d0",
             "run --commit maybe d0",
             "run --commit Yes d0",
+            "gen 0 d0",
+            "gen 1000001 d0",
+            "gen 01 d0",
+            "gen +1 d0",
+            "gen 1e3 d0",
+            "gen  d0",
+            "gen 4294967297 d0",
+            "gen d0",
+            "gen 10 --lwm 1 d0",
+            "gen 10 --blocks 7 d0",
         ],
     )
 }
@@ -186,6 +250,11 @@ fn other_options_are_refused(rt: HostRuntime) -> Result<(), Fail> {
             "run d0 --sprigs 4",
             "run d0 --sprigs 4 d1",
             "--sprigs 4 run d0",
+            "check --blocks 8 d0",
+            "check --sprigs 4 d0",
+            "gen --blocks 8 10 d0",
+            "gen 10 --blocks 8 --sprigs 4 --blocks 8 d0",
+            "gen 10 --port 3000 d0",
         ],
     )
 }
@@ -204,9 +273,16 @@ fn other_words_are_refused(rt: HostRuntime) -> Result<(), Fail> {
             "Run d0",
             "runs d0",
             " run d0",
-            "check d0",
             "serve d0",
-            "gen 10 d0",
+            "checks d0",
+            "Gen 10 d0",
+            "10 gen d0",
+            "check",
+            "check d0 d0",
+            "gen",
+            "gen 10",
+            "gen 10 -",
+            "gen 10 d0 d0",
             "format",
             "run",
             "run ",
@@ -237,6 +313,11 @@ fn plans_follow(rt: HostRuntime) -> Result<(), Fail> {
         ),
         ("run one two", None),
         ("run --sprigs 4 one two", None),
+        ("check one two", None),
+        (
+            "gen 10 --block-size 16384 --blocks 16 one two",
+            Some(266_240),
+        ),
     ];
     for (line, make_len) in rows {
         let Some(plan) = names_of(alloc, &words_of(alloc, line)?)? else {
