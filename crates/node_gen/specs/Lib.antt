@@ -1,0 +1,5 @@
+pub mod Script
+pub mod Places
+pub mod Replies
+pub mod Falling
+pub mod Summary
