@@ -1,11 +1,8 @@
 use super::*;
 use disk_model::Disk;
-use std::cell::Cell;
-use std::fmt::Display;
+use std::fs;
 use std::fs::File;
-use std::io::IsTerminal;
 use std::test::Fail;
-use std::{fs, io};
 
 const MIB: u64 = 1 << 20;
 
@@ -96,45 +93,8 @@ fn what_cannot_be_a_device_is_refused(rt: HostRuntime) -> Result<(), Fail> {
     Ok(())
 }
 
-// A stream that counts what is written to it.
-#[derive(Drop)]
-struct Stream<'a> {
-    terminal: bool,
-    writes: &'a Cell<u64>,
-}
-
-impl<'a> IsTerminal for Stream<'a> {
-    fn is_terminal(&self) -> bool {
-        self.terminal
-    }
-}
-
-impl<'a> Eprint for Stream<'a> {
-    fn eprint<D: Display + Drop>(&self, _value: D) -> io::Result<()> {
-        self.writes.set(self.writes.get().wrapping_add(1));
-        Ok(())
-    }
-
-    fn eprintln<D: Display + Drop>(&self, value: D) -> io::Result<()> {
-        self.eprint(value)
-    }
-}
-
 #[test]
-fn progress_is_told_to_a_terminal_alone(rt: HostRuntime) -> Result<(), Fail> {
-    for (terminal, count) in [(true, 3), (false, 0)] {
-        let writes = Cell::new(0);
-        let mut progress = Progress::new(Stream {
-            terminal,
-            writes: &writes,
-        });
-        progress.tell(1, 1000);
-        progress.tell(2, 1000);
-        progress.tell(900, 1000);
-        progress.end();
-        progress.end();
-        assert_eq!(rt; writes.get(), count);
-    }
+fn streams_that_are_there_stay(rt: HostRuntime) -> Result<(), Fail> {
     fill_standard(&rt)?;
     Ok(())
 }

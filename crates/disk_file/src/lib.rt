@@ -15,4 +15,4 @@ mod watch;
 pub use device_file::{OpenFault, make_device, open_device};
 pub use file_disk::FileDisk;
 pub use standard::fill_standard;
-pub use watch::{Progress, Watch};
+pub use watch::Watch;
