@@ -1,13 +1,14 @@
 // What a command besides `run` writes of its devices.
 ghost use Rattle.std.specs.Prelude.{◌≡◌, ◌∷◌, ◌++◌, []};
-ghost use Rattle.node_model.specs.Notes.{formatted_text};
+ghost use Rattle.node_model.specs.Notes.{formatted_text, check_text};
 
 use arrayvec::ArrayString;
+use device_check::DeviceCheck;
 use itoa::Buffer;
 use std::marker::Model;
 
 // The most bytes that a report has.
-const ROOM: usize = 32;
+const ROOM: usize = 118;
 
 /// What a command writes of its devices, a line with its LF.
 #[derive(Drop)]
@@ -32,6 +33,26 @@ impl Report {
         let mut text = ArrayString::new();
         text.push_str("formatted ");
         text.push_str(digits.format(devices));
+        text.push_str("\n");
+        Report { text }
+    }
+
+    /// What is on a device.
+    pub fn checked(device: u16, check: &DeviceCheck) -> Self
+        ensures { result ≡ check_text device check.now.opened check.now.copies check.now.records check.now.tombstones ++ 10 ∷ [] }
+    {
+        let mut digits = Buffer::new();
+        let mut text = ArrayString::new();
+        text.push_str("device ");
+        text.push_str(digits.format(device));
+        text.push_str(" open ");
+        text.push_str(digits.format(check.opened));
+        text.push_str(" copies ");
+        text.push_str(digits.format(check.copies));
+        text.push_str(" records ");
+        text.push_str(digits.format(check.records));
+        text.push_str(" tombstones ");
+        text.push_str(digits.format(check.tombstones));
         text.push_str("\n");
         Report { text }
     }

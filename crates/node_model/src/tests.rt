@@ -1,5 +1,6 @@
 use crate::{DeviceRefusal, Report, RunEnd};
 use block_format::Geometry;
+use device_check::DeviceCheck;
 
 #[test]
 fn a_refused_device_has_a_note_that_says_why(rt: HostRuntime) {
@@ -87,5 +88,31 @@ fn a_report_tells_how_many_were_formatted(rt: HostRuntime) {
         (u16::MAX, "formatted 65535\n"),
     ] {
         assert_eq!(rt; Report::formatted(devices).as_str(), want);
+    }
+}
+
+#[test]
+fn a_report_tells_what_is_on_a_device(rt: HostRuntime) {
+    let some = DeviceCheck {
+        opened: 2,
+        copies: 2,
+        records: 0,
+        tombstones: 1,
+    };
+    let most = DeviceCheck {
+        opened: u32::MAX,
+        copies: u64::MAX,
+        records: u64::MAX,
+        tombstones: u64::MAX,
+    };
+    for (device, check, want) in [
+        (0, some, "device 0 open 2 copies 2 records 0 tombstones 1\n"),
+        (
+            u16::MAX,
+            most,
+            "device 65535 open 4294967295 copies 18446744073709551615 records 18446744073709551615 tombstones 18446744073709551615\n",
+        ),
+    ] {
+        assert_eq!(rt; Report::checked(device, &check).as_str(), want);
     }
 }

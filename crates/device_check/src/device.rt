@@ -1,0 +1,46 @@
+// A whole device, read and counted.
+ghost use Rattle.std.specs.Prelude.{IfOk, IfErr, MatchResult};
+ghost use Rattle.block_shelf.specs.Disks.{OnlyRead};
+ghost use Rattle.cold_scan.specs.Starting.{IsRefused, FaultRose};
+ghost use Rattle.device_check.specs.Checked.{ChecksOn};
+
+use crate::DeviceCheck;
+use crate::counts::{kinds_of, opened_of};
+use cold_scan::{Asked, Finding, StartRefusal, scan};
+use disk_model::Disk;
+use std::alloc::Global;
+
+/// Reads a device as a cold start does, and counts what is there. A device that a start refuses is refused for the same cause. The disk is
+/// handed back.
+pub fn check_device<D: Disk>(
+    alloc: Global,
+    disk: D,
+    asked: Asked,
+) -> Result<(D, DeviceCheck), StartRefusal<D>>
+    ensures checked { IfOk result (λ r. ChecksOn asked (D.view disk) r.1) }
+    ensures refused { (D.view disk).tells → IfErr result (λ refusal. IsRefused asked (D.view disk).seen refusal.cause) }
+    ensures cause { IfErr result (λ refusal. FaultRose refusal.cause (D.view disk).faults (D.view refusal.disk).faults) }
+    ensures read { MatchResult result (λ r. OnlyRead (D.view disk) (D.view r.0)) (λ refusal. OnlyRead (D.view disk) (D.view refusal.disk)) }
+{
+    let finding = match scan(alloc, disk, asked) {
+        Ok(finding) => finding,
+        Err(refusal) => return Err(refusal),
+    };
+    let opened = opened_of(&finding.gates);
+    let (records, tombstones) = kinds_of(&finding.latest);
+    let check = DeviceCheck {
+        opened,
+        copies: finding.copies,
+        records,
+        tombstones,
+    };
+    let Finding {
+        disk,
+        geometry: _,
+        gates: _,
+        latest: _,
+        copies: _,
+        next_number: _,
+    } = finding;
+    Ok((disk, check))
+}
