@@ -9,8 +9,3 @@ mod starts;
 
 pub use format::{FormatRefusal, format_devices};
 pub use node::{Node, NodeRefusal};
-
-#[cfg(test)]
-mod format_tests;
-#[cfg(test)]
-mod tests;

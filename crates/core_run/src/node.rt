@@ -4,7 +4,9 @@ ghost use Rattle.rec_format.specs.declared.version.Digest.{Digest};
 ghost use Rattle.rec_format.specs.Places.{device_number};
 ghost use Rattle.shard_core.specs.View.{IsSettings, ShardView};
 ghost use Rattle.line_proto.specs.Built.{IsInRange};
+ghost use Rattle.node_model.specs.Commands.{Slot, node_counts};
 ghost use Rattle.core_run.specs.Views.{serving, halted, disks_of};
+ghost use Rattle.core_run.specs.Standing.{StandsFor};
 ghost use Rattle.core_run.specs.Starts.{StartsEach, RefusesAt};
 ghost use Rattle.core_run.specs.Turns.{RepliesOn, GoesOn};
 ghost use Rattle.core_run.specs.Calls.{Acts, Closes, digest_of};
@@ -15,7 +17,7 @@ use crate::starts::{start_all, stop_all};
 use disk_model::Disk;
 use line_proto::{Command, Reply, Store};
 use partition_map::device_of;
-use rec_format::Digest;
+use rec_format::{Counts, Digest};
 use shard_core::{Settings, Shard, StartCause};
 use std::alloc::Global;
 use std::marker::Model;
@@ -121,6 +123,13 @@ impl<D: Disk> Node<D> {
         ensures { Closes D.view result self.old self.new }
     {
         close_each(&mut self.shards)
+    }
+
+    /// The numbers of all devices together.
+    pub fn counts(&self) -> Counts
+        ensures { (node : List Slot) → StandsFor D.view self.now node → result ≡ node_counts node }
+    {
+        counts_of(&self.shards)
     }
 
     /// Gives the disks back, in order.

@@ -16,7 +16,7 @@ use Rattle.node_run.specs.Chain.{EndsWith}
 use Rattle.node_run.specs.Whole.{RestsOn, RunsWhole, Frames, Concludes}
 use Rattle.node_run.proofs.Whole.{cause_of, run_since, images_since, last_images}
 
-at_end_of : (left : Option (List ℕ)) → IsAtEnd left → IfSome left (λ bytes. bytes ≡ [])
+pub at_end_of : (left : Option (List ℕ)) → IsAtEnd left → IfSome left (λ bytes. bytes ≡ [])
 at_end_of None h = tt
 at_end_of (Some bytes) h = h
 
@@ -25,7 +25,7 @@ module _ {T : Type 0} (Stands : T → Node → Type 0) (views : T → ℕ → Di
   WholeOf o node old new end result = RunsWhole Stands views Halts told Says input_limit o.taken o.written o.left o.times node old new end result
 
   -- The promises on replies.
-  pub run_replies : (Starts : Node → Type 0) (setups : List Setup) (o : Outside) (entry : ℕ → DiskView) (node : Node) (old new end : T) (result : Ended)
+  unfoldable pub run_replies : (Starts : Node → Type 0) (setups : List Setup) (o : Outside) (entry : ℕ → DiskView) (node : Node) (old new end : T) (result : Ended)
       → (w : WholeOf o node old new end result) → o.ended ≡ w.lifted.ended
       → Frames Starts setups o node (last_node node w.lifted.served w.closing) → Concludes (Halts new) o node w.lifted.served w.closing result
       → GoesOn views entry old
@@ -54,7 +54,7 @@ module _ {T : Type 0} (Stands : T → Node → Type 0) (views : T → ℕ → Di
 
 module _ {T : Type 0} (Stands : T → Node → Type 0) (views : T → ℕ → DiskView) (Halts : T → (before after : Node) → Type 0) (Says : Node → Type 0) where
   -- All of the promises, over disks that tell what they hold.
-  pub run_holds : RestsOn Stands views Halts true → (setups : List Setup) (o : Outside) (entry : ℕ → DiskView) (may_leave : ImagesLeft) (node : Node) (old new end : T) (result : Ended)
+  unfoldable pub run_holds : RestsOn Stands views Halts true → (setups : List Setup) (o : Outside) (entry : ℕ → DiskView) (may_leave : ImagesLeft) (node : Node) (old new end : T) (result : Ended)
       → (w : WholeOf Stands views Halts true Says o node old new end result) → o.ended ≡ w.lifted.ended
       → Frames (StartsFrom o.images) setups o node (last_node node w.lifted.served w.closing) → Concludes (Halts new) o node w.lifted.served w.closing result
       → Enters views entry node old

@@ -5,3 +5,4 @@ pub mod Starting
 pub mod Ending
 pub mod Refusing
 pub mod Serving
+pub mod Ready

@@ -1,6 +1,7 @@
 -- A session over started devices, and what is behind it, are a run, with its promises.
 use Rattle.std.proofs.Common.{◌≡◌, ◌⊎◌, ℕ, ◌<◌, length, Bool, true, false, List, [], refl, inl, inr, subst, sym, ap, ◌∙◌}
 use Rattle.std.specs.Prelude.{Option, None, ◌^◌}
+use Rattle.rec_format.specs.declared.entry.Counts.{Counts}
 use Rattle.fault_count.specs.Counts.{Rose}
 use Rattle.disk_model.specs.Disk.{DiskView, IsDisk, meanwhile}
 use Rattle.device_model.specs.Book.{Setup}
@@ -18,7 +19,7 @@ use Rattle.node_model.specs.Commands.{Node, NodeEvent, IsNumbered}
 use Rattle.node_model.specs.Run.{Served, EndsOnce, is_halted, node_after_lines, last_node}
 use Rattle.node_model.specs.Outside.{Outside, NoneFell, RoseOn, counts_of}
 use Rattle.node_model.specs.RunEnd.{input_limit}
-use Rattle.node_model.specs.Headline.{StartsFrom, HoldsReplies, HoldsThroughout, IsNeverRefused}
+use Rattle.node_model.specs.Headline.{StartsFrom, IsNeverRefused}
 use Rattle.node_model.specs.Meaning.{ActsBy, TendsBy, ClosesFrom, Enters}
 use Rattle.core_run.specs.Views.{NodeView, serving, halted, disks_served, disks_of, views_of, view_at, unknown, faults_of, AreLater}
 use Rattle.core_run.specs.Starts.{StartsEach}
@@ -32,7 +33,7 @@ use Rattle.node_run.proofs.Whole.{ran_whole, halt_last, last_served, last_closed
 use Rattle.node_run.proofs.Holds.{run_replies, run_holds}
 use Rattle.run_promises.specs.Concluding.{session_end, refusal_end}
 use Rattle.run_promises.specs.Behind.{WasClosed, WasRefused, IsBehind}
-use Rattle.run_promises.specs.Promises.{Ends, reads_of, HonestEach, OnlyEach, setups_for, AreNumbered, PassEach, StartsFound, IsServed, disks_between, outside}
+use Rattle.run_promises.specs.Promises.{Ends, reads_of, HonestEach, OnlyEach, setups_for, AreNumbered, PassEach, StartsFound, IsCount, CountedReplies, CountedThroughout, IsServed, ServedCounting, disks_between, outside}
 use Rattle.run_promises.proofs.Disks.{as_many, are_later_none, are_later_then, later_count, later_at, none_fell, read_are_later, is_disk_at}
 use Rattle.run_promises.proofs.Standing.{serves_or_halts, one_refusal, each_count, each_stands, each_counted}
 use Rattle.run_promises.proofs.Resting.{nothing_left, now_survives, rest_on_any, rest_on_safe}
@@ -58,9 +59,9 @@ module _ {D : Type 0} (view : D → DiskView) where
 
   -- ---- what is behind a session
 
-  module _ (failed : Option ℕ) (new end : NodeView D) (behind : RunEnd) where
+  module _ (failed : Option ℕ) (new end : NodeView D) (behind : RunEnd) (counted : Option Counts) where
     abbrev pub How : Type 0
-    How = WasClosed view failed new end behind ⊎ WasRefused new end behind
+    How = WasClosed view failed new end behind counted ⊎ WasRefused new end behind counted
 
     -- what a closing says of the last state
     abbrev pub Says : How → Node → Type 0
@@ -82,6 +83,18 @@ module _ {D : Type 0} (view : D → DiskView) where
     later_behind : ((disk : D) → IsDisk (view disk)) → How → LaterDisks new end
     later_behind is_disk (inl c) = c.closes.later
     later_behind is_disk (inr r) = subst (λ (n : NodeView D). LaterDisks new n) (sym r.stays) (are_later_none view is_disk (disks_of new))
+
+    -- The numbers that were told are those of the last node, or a restart was refused.
+    pub count_at : How → (first : Node) (served : List Served) (closing : List NodeEvent)
+        → (is_halted served ≡ false → StandsFor view end (last_node first served closing))
+        → (is_halted served ≡ true → (before : Node) × Halts view new before (node_after_lines served first)) → IsCount counted first served closing
+    count_at how first served closing stands halts = by how (is_halted served) refl
+      where
+        by : How → (b : Bool) → is_halted served ≡ b → IsCount counted first served closing
+        by (inl c) false goes = subst (λ (n : Option Counts). IsCount n first served closing) (sym c.is_counted) (c.counts_are (last_node first served closing) (stands goes))
+        by (inl c) true is = let h = (halts is).1 in absurd (serves_or_halts c.shards (h.device, h.cause) h.disks (sym c.serves ∙ h.is_halted))
+        by (inr r) false goes = let s = stands goes in absurd (serves_or_halts s.0 r.refused r.disks (sym s.1 ∙ r.stays ∙ r.halts))
+        by (inr r) true is = subst (λ (n : Option Counts). IsCount n first served closing) (sym r.uncounted) is
 
     -- How a run ends, of which a halted store stands for nothing, and any other for a state.
     module _ (Stop : Node → Node → Type 0) (is_stop : (before after : Node) → Stop before after → Halts view new before after)
@@ -139,10 +152,10 @@ module _ {D : Type 0} (view : D → DiskView) where
   -- ---- how it ends
 
   module _ (is_disk : (disk : D) → IsDisk (view disk))
-      (before after : Ends) (set : Settings) (disks : List D) (shards : List (ShardView D)) (new end : NodeView D) (times later : Times) (result : Ended) (failed : Option ℕ) (behind : RunEnd)
+      (before after : Ends) (set : Settings) (disks : List D) (shards : List (ShardView D)) (new end : NodeView D) (times later : Times) (result : Ended) (failed : Option ℕ) (behind : RunEnd) (counted : Option Counts)
       (ran : Ran (Acts view) (Tends view) (2 ^ 40) before.taken after.taken before.left after.left before.written after.written (serving shards) new times later result)
       (started : StartsEach view set 0 (length disks) disks shards)
-      (how : WasClosed view failed new end behind ⊎ WasRefused new end behind)
+      (how : WasClosed view failed new end behind counted ⊎ WasRefused new end behind counted)
       (source : result ≡ SourceFault → Rose before.source after.source) (sink : result ≡ SinkFault → Rose before.sink after.sink)
       (at_first : before.disks ≡ faults_of view disks) (at_last : after.disks ≡ faults_of view (disks_of end)) where
     abbrev old : NodeView D
@@ -167,7 +180,7 @@ module _ {D : Type 0} (view : D → DiskView) where
     up_to_closing = are_later_then view disks (disks_served shards) (disks_of new) from_entry in_session
 
     abbrev SaysHow : Node → Type 0
-    SaysHow = Says failed new end behind how
+    SaysHow = Says failed new end behind counted how
 
     abbrev OutsideOf : (ended : Bool) → (images : List (List ℕ)) → Outside
     OutsideOf ended images = outside (session_end result behind) ran.bytes ran.output ended times before after images
@@ -192,24 +205,28 @@ module _ {D : Type 0} (view : D → DiskView) where
 
     -- the promises on replies, over any disks
     replies_from : (Starts : Node → Type 0) (images : List (List ℕ)) (first : Node) → Each (StandsOn view) shards first → Starts first
-        → (ended : Bool) × HoldsReplies Starts false Setups (OutsideOf ended images) (λ device image. ⊥)
+        → (ended : Bool) × CountedReplies counted Starts Setups (OutsideOf ended images)
+    unfolding run_replies
     replies_from Starts images first agree starts =
         let w : RunsWhole (StandsFor view) unknown (Halts view) false SaysHow input_limit ran.bytes ran.output after.left times first old new end result =
         ran_whole (StandsFor view) unknown (Halts view) false SaysHow (rest_on_any view) _ _ _ _ _ _ _ old new end times later first result
         (ran_more (Acts view) (ActsBy (StandsFor view) unknown (Halts view) false) (Tends view) (TendsBy (StandsFor view) unknown false)
         (λ o c now r n acts. acts.any) (λ o n tends. tends.any) _ _ _ _ _ _ _ old new times later result ran)
-        (shards, refl, agree) (closes_any failed new end behind how) (stays_so failed new end behind how) in
+        (shards, refl, agree) (closes_any failed new end behind counted how) (stays_so failed new end behind counted how) in
         let last : Node = last_node first w.lifted.served w.closing in
         let at_new : IsCounted new (node_after_lines w.lifted.served first) =
         last_served (StandsFor view) unknown (Halts view) false SaysHow _ _ _ _ _ first old new result w.lifted (IsCounted new) (counted_any new) (counted_halted new) in
         let at_end : IsCounted end last =
         last_closed (StandsFor view) unknown (Halts view) false SaysHow _ _ _ _ _ first old new end result w (IsCounted end) (counted_any end) (counted_halted end) in (
           w.lifted.ended,
-          run_replies (StandsFor view) unknown (Halts view) false SaysHow Starts Setups (OutsideOf w.lifted.ended images)
-              (unknown old) first old new end result w refl (frames Starts w.lifted.ended images first last agree starts at_end)
-              (concludes failed new end behind (Halts view new) (λ a b h. h) ran.bytes ran.output w.lifted.ended times before after images first w.lifted.served w.lifted.unserved w.closing
-              (many first agree) w.lifted.once w.lifted.halt (λ goes. let stands = w.lifted.stands goes in (stands.0, stands.1)) at_new at_end how input_limit result w.lifted.ends w.says source sink)
-              (λ (device : ℕ). (nothing_left old old first (λ n. []) device).time),
+          (
+            run_replies (StandsFor view) unknown (Halts view) false SaysHow Starts Setups (OutsideOf w.lifted.ended images)
+                (unknown old) first old new end result w refl (frames Starts w.lifted.ended images first last agree starts at_end)
+                (concludes failed new end behind counted (Halts view new) (λ a b h. h) ran.bytes ran.output w.lifted.ended times before after images first w.lifted.served w.lifted.unserved w.closing
+                (many first agree) w.lifted.once w.lifted.halt (λ goes. let stands = w.lifted.stands goes in (stands.0, stands.1)) at_new at_end how input_limit result w.lifted.ends w.says source sink)
+                (λ (device : ℕ). (nothing_left old old first (λ n. []) device).time),
+            count_at failed new end behind counted how first w.lifted.served w.closing w.stands (λ is. halt_last (Halts view new) first w.lifted.served w.lifted.once is w.lifted.halt),
+          ),
         )
 
     -- ---- over honest disks, each with one image, which is sound
@@ -224,7 +241,7 @@ module _ {D : Type 0} (view : D → DiskView) where
           (ran_more (Acts view) (ActsBy (StandsSafely view) (views_of view) (HaltsSafely view) true)
           (Tends view) (TendsBy (StandsSafely view) (views_of view) true)
           (λ o c now r n acts. acts.safe) (λ o n tends. tends.safe) _ _ _ _ _ _ _ old new times later result ran)
-          (shards, refl, safely) (closes_safe failed new end behind how) (λ a b h. stays_so failed new end behind how a b h.halts)
+          (shards, refl, safely) (closes_safe failed new end behind counted how) (λ a b h. stays_so failed new end behind counted how a b h.halts)
 
       enters : Enters (views_of view) (λ device. view_at view disks device) First old
       enters = record {
@@ -239,14 +256,14 @@ module _ {D : Type 0} (view : D → DiskView) where
           served : List Served
           served = safe_run.lifted.served
 
-          halted_never : (r : WasRefused new end behind) → is_halted served ≡ true → IsNeverRefused (refusal_end r.refused.0 r.refused.1)
+          halted_never : (r : WasRefused new end behind counted) → is_halted served ≡ true → IsNeverRefused (refusal_end r.refused.0 r.refused.1)
           halted_never r is =
               let last = halt_last (HaltsSafely view new) First served safe_run.lifted.once is safe_run.lifted.halt in
               let h = last.1.halts in
               cause_never r.refused.0 r.refused.1
               (subst (λ (refused : ℕ × StartCause). IsNoRefusal refused.1) (one_refusal (h.device, h.cause) r.refused h.disks r.disks (sym h.is_halted ∙ r.halts)) last.1.unrefused)
 
-          by : (b : Bool) → is_halted served ≡ b → (how' : WasClosed view failed new end behind ⊎ WasRefused new end behind) → IsNeverRefused behind
+          by : (b : Bool) → is_halted served ≡ b → (how' : WasClosed view failed new end behind counted ⊎ WasRefused new end behind counted) → IsNeverRefused behind
           by b is (inl c) = subst IsNeverRefused (sym c.is_end) (closed_never failed)
           by true is (inr r) = subst IsNeverRefused (sym r.is_end) (halted_never r is)
           by false is (inr r) = let s = safe_run.lifted.stands is in absurd (serves_or_halts s.0 r.refused r.disks (sym s.1 ∙ r.halts))
@@ -260,7 +277,8 @@ module _ {D : Type 0} (view : D → DiskView) where
           of Halted = by (is_halted served) refl how
           of (Long n) = tt
 
-      holds : (ended : Bool) × HoldsThroughout Setups (OutsideOf ended Reads) (λ device. meanwhile (view_at view disks device) (view_at view (disks_of end) device)) (λ device. (view_at view (disks_of end) device).may_leave)
+      holds : (ended : Bool) × CountedThroughout counted Setups (OutsideOf ended Reads) (λ device. meanwhile (view_at view disks device) (view_at view (disks_of end) device)) (λ device. (view_at view (disks_of end) device).may_leave)
+      unfolding run_holds run_replies
       holds =
           let w = safe_run in
           let last : Node = last_node First w.lifted.served w.closing in
@@ -269,14 +287,19 @@ module _ {D : Type 0} (view : D → DiskView) where
           let at_end : IsCounted end last =
           last_closed (StandsSafely view) (views_of view) (HaltsSafely view) true SaysHow _ _ _ _ _ First old new end result w (IsCounted end) (counted_safe end) (λ a b h. counted_halted end a b h.halts) in (
             w.lifted.ended,
-            run_holds (StandsSafely view) (views_of view) (HaltsSafely view) SaysHow (rest_on_safe view is_disk) Setups (OutsideOf w.lifted.ended Reads)
-                (λ device. view_at view disks device) (λ device. (view_at view (disks_of end) device).may_leave) First old new end result w refl
-                (frames (StartsFrom Reads) w.lifted.ended Reads First last agreed starts at_end)
-                (concludes failed new end behind (HaltsSafely view new) (λ a b h. h.halts) ran.bytes ran.output w.lifted.ended times before after Reads First w.lifted.served w.lifted.unserved w.closing
-                (many First agreed) w.lifted.once w.lifted.halt (λ goes. let stands = w.lifted.stands goes in (stands.0, stands.1)) at_new at_end how input_limit result w.lifted.ends w.says source sink)
-                enters
-                (λ device image left. let law = is_disk_at view is_disk (disks_of end) device in law.now_since (view_at view (disks_of end) device).moment image law.now_had left)
-                unrefused,
+            (
+              run_holds (StandsSafely view) (views_of view) (HaltsSafely view) SaysHow (rest_on_safe view is_disk) Setups (OutsideOf w.lifted.ended Reads)
+                  (λ device. view_at view disks device) (λ device. (view_at view (disks_of end) device).may_leave) First old new end result w refl
+                  (frames (StartsFrom Reads) w.lifted.ended Reads First last agreed starts at_end)
+                  (concludes failed new end behind counted (HaltsSafely view new) (λ a b h. h.halts) ran.bytes ran.output w.lifted.ended times before after Reads First w.lifted.served w.lifted.unserved w.closing
+                  (many First agreed) w.lifted.once w.lifted.halt (λ goes. let stands = w.lifted.stands goes in (stands.0, stands.1)) at_new at_end how input_limit result w.lifted.ends w.says source sink)
+                  enters
+                  (λ device image left. let law = is_disk_at view is_disk (disks_of end) device in law.now_since (view_at view (disks_of end) device).moment image law.now_had left)
+                  unrefused,
+              count_at failed new end behind counted how First w.lifted.served w.closing
+                  (λ goes. let stands = w.stands goes in (stands.0, stands.1, each_stands view stands.0 (last_node First w.lifted.served w.closing) stands.2))
+                  (λ is. let at = halt_last (HaltsSafely view new) First w.lifted.served w.lifted.once is w.lifted.halt in (at.0, at.1.halts)),
+            ),
           )
 
     -- ---- all together
@@ -284,7 +307,7 @@ module _ {D : Type 0} (view : D → DiskView) where
     -- the number of disks is that of what they read
     abbrev ServedOver : ℕ → Type 0
     ServedOver n = (count : length (geometries_of shards) ≡ n) × AreNumbered 0 n (geometries_of shards) × PassEach 0 n (geometries_of shards) (tells_at view disks) Reads
-        × ((ended : Bool) × HoldsReplies (StartsFound set 0 n (geometries_of shards) (tells_at view disks) Reads) false Setups (OutsideOf ended []) (λ device image. ⊥))
+        × ((ended : Bool) × CountedReplies counted (StartsFound set 0 n (geometries_of shards) (tells_at view disks) Reads) Setups (OutsideOf ended []))
 
     served_count : ServedOver (length disks)
     served_count =
@@ -302,10 +325,11 @@ module _ {D : Type 0} (view : D → DiskView) where
           geometries = geometries_of shards;
           count = served.0;
           place = served.1;
-          disks = are_later_then view disks (disks_of new) (disks_of end) up_to_closing (later_behind failed new end behind is_disk how);
+          disks = are_later_then view disks (disks_of new) (disks_of end) up_to_closing (later_behind failed new end behind counted is_disk how);
           passes = served.2;
           bytes = ran.bytes;
           output = ran.output;
+          counted = counted;
           takes = ran.takes;
           shortens = ran.shortens;
           extends = ran.extends;
@@ -318,19 +342,20 @@ module _ {D : Type 0} (view : D → DiskView) where
               holds honest only begins.0 begins.1 begins.2;
         }
 
-    is_served : (how_ends : RunEnd) → how_ends ≡ session_end result behind → IsServed set (disks_between view disks (disks_of end)) how_ends times before after
-    is_served how_ends is = subst (λ (e : RunEnd). IsServed set (disks_between view disks (disks_of end)) e times before after) (sym is) serving_so
+    is_served : (how_ends : RunEnd) → how_ends ≡ session_end result behind → ServedCounting set (disks_between view disks (disks_of end)) how_ends counted times before after
+    unfolding serving_so
+    is_served how_ends is = subst (λ (e : RunEnd). ServedCounting set (disks_between view disks (disks_of end)) e counted times before after) (sym is) (serving_so, refl)
 
   -- The same by what is behind the session, of so many disks that are handed in, and those that are given back.
-  pub served_behind : ((disk : D) → IsDisk (view disk)) → (before after : Ends) (set : Settings) (disks given : List D) (shards : List (ShardView D)) (node new end : NodeView D) (times later : Times) (result : Ended) (behind : RunEnd) (count : ℕ)
+  pub served_behind : ((disk : D) → IsDisk (view disk)) → (before after : Ends) (set : Settings) (disks given : List D) (shards : List (ShardView D)) (node new end : NodeView D) (times later : Times) (result : Ended) (behind : RunEnd) (counted : Option Counts) (count : ℕ)
       → count ≡ length disks → given ≡ disks_of end
       → node ≡ serving shards → Ran (Acts view) (Tends view) (2 ^ 40) before.taken after.taken before.left after.left before.written after.written node new times later result
-      → StartsEach view set 0 count disks shards → IsBehind view new end behind
+      → StartsEach view set 0 count disks shards → IsBehind view new end behind counted
       → (result ≡ SourceFault → Rose before.source after.source) → (result ≡ SinkFault → Rose before.sink after.sink)
       → before.disks ≡ faults_of view disks → after.disks ≡ faults_of view given → (how_ends : RunEnd) → how_ends ≡ session_end result behind
-      → IsServed set (disks_between view disks given) how_ends times before after
-  served_behind is_disk before after set disks given shards node new end times later result behind count many back serves ran started how source sink at_first at_last how_ends is =
-      subst (λ (handed : List D). IsServed set (disks_between view disks handed) how_ends times before after) (sym back) (by how)
+      → ServedCounting set (disks_between view disks given) how_ends counted times before after
+  served_behind is_disk before after set disks given shards node new end times later result behind counted count many back serves ran started how source sink at_first at_last how_ends is =
+      subst (λ (handed : List D). ServedCounting set (disks_between view disks handed) how_ends counted times before after) (sym back) (by how)
     where
       from : Ran (Acts view) (Tends view) (2 ^ 40) before.taken after.taken before.left after.left before.written after.written (serving shards) new times later result
       from = subst (λ (n : NodeView D). Ran (Acts view) (Tends view) (2 ^ 40) before.taken after.taken before.left after.left before.written after.written n new times later result) serves ran
@@ -341,6 +366,6 @@ module _ {D : Type 0} (view : D → DiskView) where
       counts : after.disks ≡ faults_of view (disks_of end)
       counts = at_last ∙ ap (faults_of view) back
 
-      by : IsBehind view new end behind → IsServed set (disks_between view disks (disks_of end)) how_ends times before after
-      by (inl closed) = is_served is_disk before after set disks shards new end times later result closed.0 behind from each (inl closed.1) source sink at_first counts how_ends is
-      by (inr refused) = is_served is_disk before after set disks shards new end times later result None behind from each (inr refused) source sink at_first counts how_ends is
+      by : IsBehind view new end behind counted → ServedCounting set (disks_between view disks (disks_of end)) how_ends counted times before after
+      by (inl closed) = is_served is_disk before after set disks shards new end times later result closed.0 behind counted from each (inl closed.1) source sink at_first counts how_ends is
+      by (inr refused) = is_served is_disk before after set disks shards new end times later result None behind counted from each (inr refused) source sink at_first counts how_ends is

@@ -1,6 +1,7 @@
 -- Crate run_promises. What a run over the devices of a node promises.
-use Rattle.std.specs.Prelude.{◌≡◌, ◌⊎◌, ℕ, suc, ◌+◌, ◌<◌, Bool, false, List, [], ◌∷◌, ◌++◌, length, map, Option}
+use Rattle.std.specs.Prelude.{◌≡◌, ◌⊎◌, ℕ, suc, ◌+◌, ◌<◌, Bool, false, List, [], ◌∷◌, ◌++◌, length, map, Option, Some, None, IsTrue}
 use Rattle.std.specs.List.{AllByRecursion}
+use Rattle.rec_format.specs.declared.entry.Counts.{Counts}
 use Rattle.disk_model.specs.Disk.{DiskView, IsOnly, IsHonest, meanwhile}
 use Rattle.device_model.specs.Book.{Setup}
 use Rattle.block_format.specs.declared.geometry.Geometry.{Geometry}
@@ -16,8 +17,8 @@ use Rattle.cold_scan.specs.Starting.{Passes}
 use Rattle.cold_scan.specs.Found.{found_state}
 use Rattle.core_run.specs.Views.{asked, view_at, AreLater}
 use Rattle.node_model.specs.declared.run_end.RunEnd.{RunEnd}
-use Rattle.node_model.specs.Commands.{Slot, Node}
-use Rattle.node_model.specs.Run.{ImagesLeft}
+use Rattle.node_model.specs.Commands.{Slot, Node, NodeEvent, node_counts}
+use Rattle.node_model.specs.Run.{ImagesLeft, Served, is_halted, last_node}
 use Rattle.node_model.specs.Outside.{Outside}
 use Rattle.node_model.specs.RunEnd.{status_of, note_of, HasStartCause}
 use Rattle.node_model.specs.Headline.{StartsFrom, HoldsReplies, HoldsThroughout}
@@ -145,6 +146,21 @@ outside end bytes output ended times before after images = record {
   images = images;
 }
 
+-- The devices were counted at the end of a run: the numbers are those of its last node. They weren't where a restart was refused.
+abbrev pub IsCount : Option Counts → (first : Node) → List Served → (closing : List NodeEvent) → Type 0
+IsCount None first lines closing = IsTrue (is_halted lines)
+IsCount (Some counts) first lines closing = counts ≡ node_counts (last_node first lines closing)
+
+-- the promises on replies, with the numbers at the end of that run
+abbrev pub CountedReplies : Option Counts → (Starts : Node → Type 0) → List Setup → Outside → Type 0
+CountedReplies counted Starts setups o =
+    (holds : HoldsReplies Starts false setups o (λ device image. ⊥)) × IsCount counted holds.first holds.lines holds.closing
+
+-- all promises, with the numbers at the end of that run
+abbrev pub CountedThroughout : Option Counts → List Setup → Outside → (since now : ImagesLeft) → Type 0
+CountedThroughout counted setups o since now =
+    (holds : HoldsThroughout setups o since now) × IsCount counted holds.replies.first holds.replies.lines holds.replies.closing
+
 -- All devices were taken into use, and the bytes written are the front of the reply texts of a run over the bytes taken.
 -- Over any disks it is a run from what the start found, which is what the bytes of each have where it tells them; over disks whose bytes
 -- are sound images it is a run from the start states of those images. In both a get is answered by what was read, or by
@@ -159,17 +175,33 @@ pub record IsServed (set : Settings) (d : DisksOf) (end : RunEnd) (times : Optio
   pub passes : PassEach 0 (length d.reads) geometries d.tells d.reads
   pub bytes : List ℕ
   pub output : List ℕ
+  pub counted : Option Counts
   pub takes : after.taken ≡ before.taken ++ bytes
   pub shortens : Shortens before.left after.left bytes
   pub extends : Extends before.written after.written output
-  pub replies : (ended : Bool) × HoldsReplies (StartsFound set 0 (length d.reads) geometries d.tells d.reads) false (setups_for set geometries)
-      (outside end bytes output ended times before after []) (λ device image. ⊥)
+  pub replies : (ended : Bool) × CountedReplies counted (StartsFound set 0 (length d.reads) geometries d.tells d.reads) (setups_for set geometries)
+      (outside end bytes output ended times before after [])
   pub from_image : AllTell d.tells (length d.reads) → SoundEach (setups_for set geometries) d.reads
-      → (ended : Bool) × HoldsReplies (StartsFrom d.reads) false (setups_for set geometries)
-      (outside end bytes output ended times before after d.reads) (λ device image. ⊥)
+      → (ended : Bool) × CountedReplies counted (StartsFrom d.reads) (setups_for set geometries)
+      (outside end bytes output ended times before after d.reads)
   pub throughout : d.honest → d.only → SoundEach (setups_for set geometries) d.reads
-      → (ended : Bool) × HoldsThroughout (setups_for set geometries)
+      → (ended : Bool) × CountedThroughout counted (setups_for set geometries)
       (outside end bytes output ended times before after d.reads) d.since d.now
+
+-- What the promise of all asks of the disks: they are honest, each has one image, and that is sound for the device that a start finds there.
+abbrev pub AreReady : Settings → DisksOf → Type 0
+AreReady set d =
+    d.honest × d.only
+    × ((geometries : List Geometry) → AreNumbered 0 (length d.reads) geometries → PassEach 0 (length d.reads) geometries d.tells d.reads → SoundEach (setups_for set geometries) d.reads)
+
+-- So it was served, and these are the numbers.
+abbrev pub ServedCounting : Settings → DisksOf → RunEnd → Option Counts → (times : Option (List ℕ)) → (before after : Ends) → Type 0
+ServedCounting set d end counted times before after = (served : IsServed set d end times before after) × (served.counted ≡ counted)
+
+-- A run came out so, with the numbers that its devices were counted to at its end.
+abbrev pub RunsCounting : Settings → DisksOf → RunEnd → Option Counts → (times : Option (List ℕ)) → (before after : Ends) → Type 0
+RunsCounting set d end counted times before after =
+    (NeverServed d end before after × (counted ≡ None)) ⊎ ServedCounting set d end counted times before after
 
 -- The promise of a run: its status and its note tell how it ended, and what has to hold where it ended so holds.
 pub record Runs (set : Settings) (d : DisksOf) (status : ℕ) (note : List ℕ) (times : Option (List ℕ)) (before after : Ends) : Type 0 where

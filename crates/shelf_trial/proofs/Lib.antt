@@ -1,0 +1,2 @@
+pub mod TestDisks
+pub mod TestPlaces
