@@ -9,6 +9,7 @@ use Rattle.core_run.specs.Formatting.{GoesOn, EachDisk}
 use Rattle.node_model.specs.declared.run_end.RunEnd.{RunEnd}
 use Rattle.shard_core.specs.declared.settings.Settings.{Settings}
 use Rattle.run_promises.specs.Promises.{Ends, IsTold, DisksOf, Runs}
+use Rattle.node_prog.specs.Generating.{Generates}
 use Rattle.node_prog.specs.Formatting.{device_of, HasFormatCause, TakesNothing, WritesFront, Formats}
 
 -- Where all is so of the disks as a slice, it is so of the list that they came from, and of the one that they went back to.
@@ -35,6 +36,14 @@ front text line sent unsent before after is parts extends rose = record { output
 pub same_shape : {D : Type 0} {view : D → DiskView} {old new : List D} {status : ℕ} {note : List ℕ} {before after : Ends} (s t : Shape) → s ≡ t
     → Formats view s old new status note before after → Formats view t old new status note before after
 same_shape {D} {view} {old} {new} {status} {note} {before} {after} s t same = subst (λ (shape : Shape). Formats view shape old new status note before after) same
+
+-- and so of a load of as many records
+pub same_load : {D : Type 0} {view : D → DiskView} {old new : List D} {status : ℕ} {note : List ℕ} {times : Option (List ℕ)} {before after : Ends} (m n : ℕ) (s t : Shape) (a b : Settings) → m ≡ n → s ≡ t → a ≡ b
+    → Generates view m s a old new status note times before after → Generates view n t b old new status note times before after
+same_load {D} {view} {old} {new} {status} {note} {times} {before} {after} m n s t a b number shape set promised =
+    subst (λ (set' : Settings). Generates view n t set' old new status note times before after) set
+    (subst (λ (shape' : Shape). Generates view n shape' a old new status note times before after) shape
+    (subst (λ (records : ℕ). Generates view records s a old new status note times before after) number promised))
 
 -- and so for settings
 pub same_settings : {d : DisksOf} {status : ℕ} {note : List ℕ} {times : Option (List ℕ)} {before after : Ends} (s t : Settings) → s ≡ t

@@ -12,8 +12,8 @@ use node_model::{Report, RunEnd};
 use node_session::send;
 use node_words::Shape;
 
-// The end where disks weren't formatted.
-fn after_format(refusal: FormatRefusal) -> RunEnd
+/// The end where disks weren't formatted.
+pub fn after_format(refusal: FormatRefusal) -> RunEnd
     ensures { result ≡ format_end refusal }
 {
     match refusal {

@@ -1,10 +1,16 @@
-//! The program: it makes devices, or serves the lines of standard input over them.
+//! The program: it makes devices, serves the lines of standard input or a script of its own over them, or tells what is on them.
 #![tactic(auto)]
 
+mod check;
+#[cfg(test)]
+mod checks;
 mod devices;
 mod format;
 #[cfg(test)]
 mod in_memory;
+mod load;
+#[cfg(test)]
+mod loads;
 mod outcome;
 #[cfg(test)]
 mod restarts;
@@ -21,7 +27,10 @@ use crate::top::node_top;
 use disk_file::fill_standard;
 use disk_model::NoMemory;
 use io_traits::{Both, StandardInput, StandardOutput, SystemClock};
+use node_gen::lines_of;
 use node_model::Note;
+use node_progress::{Cleared, CountedClock, Progress};
+use node_words::{Job, read_words};
 use std::alloc::AllocError;
 use std::env::args;
 use std::io::ErrorKind;
@@ -36,17 +45,28 @@ fn words_of(rt: &HostRuntime) -> Result<Vec<String>, NoMemory> {
     }
 }
 
+// How many lines are served, where the words tell that.
+fn lines_asked(words: &[String]) -> Option<u64> {
+    match read_words(words)?.job {
+        Job::Generate { count, .. } => Some(lines_of(count)),
+        Job::Format(_) | Job::Run(_) | Job::Check => None,
+    }
+}
+
 // Does what the words ask for over the devices that they name and the standard streams, and tells the status with its note.
 fn carry_out(rt: &HostRuntime) -> Result<(u8, Note), Undone> {
     fill_standard(rt).map_err(Undone::Streams)?;
     let words = words_of(rt)?;
-    let disks = devices_of(rt, &words)?;
-    let mut clock = SystemClock::new(rt);
-    let mut link = Both {
+    let progress = Progress::new(rt.stderr());
+    let disks = devices_of(rt, &words, &progress)?;
+    let mut clock = CountedClock::new(SystemClock::new(rt), &progress, lines_asked(&words));
+    let streams = Both {
         source: StandardInput::new(rt.stdin()),
         sink: StandardOutput::new(rt.stdout()),
     };
+    let mut link = Cleared::new(streams, &progress);
     let outcome = node_top(rt.alloc(), &words, disks, &mut link, &mut clock);
+    progress.end();
     Ok((outcome.status, outcome.note))
 }
 

@@ -5,11 +5,11 @@ use Rattle.node_prog.proofs.Asked.{ExactPlan, no_plan, plan_names}
 use Rattle.node_prog.proofs.devices.devices_of.Goals as goal
 
 pub returns-in_default : goal.returns-in_default
-returns-in_default c job names asks =
+returns-in_default g c job names asks =
     no_plan (map string_bytes c.args.words.now) (subst (λ (read : Option Plan). ExactPlan (map string_bytes c.args.words.now) read) c.in_default.is c.in_ok-plan.ensures) job names asks
 
 pub returns : goal.returns
-returns c job names asks =
+returns g c job names asks =
     let all : c.loop-at.at ≡ c.len-at-end.result = omega (arith, c.loop-at-test.false, c.loop-at.auto.at-end) in
     c.loop-at.invariant ∙ all ∙ c.len-at-end.ensures
     ∙ ap (λ (texts : List (List ℕ)). length texts)

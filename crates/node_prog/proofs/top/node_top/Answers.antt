@@ -1,9 +1,9 @@
-use Rattle.std.proofs.Common.{◌≡◌, refl, ◌∙◌, ap, map}
+use Rattle.std.proofs.Common.{refl, ◌∙◌, ap, map}
 use Rattle.std.specs.Prelude.{string_bytes}
-use Rattle.node_words.specs.declared.job.Job.TheVariants.{Format, Run}
-use Rattle.node_prog.proofs.Asked.{nothing, they_ask, one_job, few, one_shape, one_tuning, not_both}
+use Rattle.node_words.specs.declared.job.Job.TheVariants.{Format, Run, Check, Generate}
+use Rattle.node_prog.proofs.Asked.{nothing, they_ask, one_job, few, one_shape, one_tuning, one_load, not_both}
 use Rattle.node_prog.specs.Settling.{settings_of}
-use Rattle.node_prog.proofs.Made.{same_shape, same_settings}
+use Rattle.node_prog.proofs.Made.{same_shape, same_settings, same_load}
 use Rattle.node_prog.proofs.top.node_top.Goals as goal
 
 pub returns-in_default-clause-formatted : goal.returns-in_default-clause-formatted
@@ -12,11 +12,23 @@ returns-in_default-clause-formatted g c shape names asks = nothing (map string_b
 pub returns-in_default-clause-served : goal.returns-in_default-clause-served
 returns-in_default-clause-served g c tuning names asks = nothing (map string_bytes c.args.words.now) c.in_default.ensures.exact (Run tuning) names asks
 
+pub returns-in_default-clause-checked : goal.returns-in_default-clause-checked
+returns-in_default-clause-checked g c names asks = nothing (map string_bytes c.args.words.now) c.in_default.ensures.exact Check names asks
+
+pub returns-in_default-clause-generated : goal.returns-in_default-clause-generated
+returns-in_default-clause-generated g c records shape tuning names asks = nothing (map string_bytes c.args.words.now) c.in_default.ensures.exact (Generate records shape tuning) names asks
+
 pub format_with-requires-clause-disks : goal.format_with-requires-clause-disks
 format_with-requires-clause-disks g c = few (map string_bytes c.args.words.now) c.in-Some.request.job (map string_bytes c.in-Some.request.names.now) c.in-Some.ensures.exact _ c.requires.disks
 
 pub run_with-requires-clause-disks : goal.run_with-requires-clause-disks
 run_with-requires-clause-disks g c = few (map string_bytes c.args.words.now) c.in-Some.request.job (map string_bytes c.in-Some.request.names.now) c.in-Some.ensures.exact _ c.requires.disks
+
+pub check_with-requires : goal.check_with-requires
+check_with-requires g c = record { disks = few (map string_bytes c.args.words.now) c.in-Some.request.job (map string_bytes c.in-Some.request.names.now) c.in-Some.ensures.exact _ c.requires.disks }
+
+pub gen_with-requires-clause-disks : goal.gen_with-requires-clause-disks
+gen_with-requires-clause-disks g c = few (map string_bytes c.args.words.now) c.in-Some.request.job (map string_bytes c.in-Some.request.names.now) c.in-Some.ensures.exact _ c.requires.disks
 
 pub returns-in-Format-clause-refused : goal.returns-in-Format-clause-refused
 returns-in-Format-clause-refused g c none =
@@ -24,15 +36,19 @@ returns-in-Format-clause-refused g c none =
 
 pub returns-in-Format-clause-formatted : goal.returns-in-Format-clause-formatted
 returns-in-Format-clause-formatted g c shape names asks =
-    let asked : c.in-Some.request.job ≡ Format shape =
-    one_job (map string_bytes c.args.words.now) c.in-Some.request.job (map string_bytes c.in-Some.request.names.now) c.in-Some.ensures.exact (Format shape) names asks in
-    (same_shape c.in-Format.shape shape (one_shape c.in-Some.request.job c.in-Format.shape shape c.in-Format.is asked) c.format_with.ensures, refl)
+    (same_shape c.in-Format.shape shape (one_shape c.in-Some.request.job c.in-Format.shape shape c.in-Format.is (one_job (map string_bytes c.args.words.now) c.in-Some.request.job (map string_bytes c.in-Some.request.names.now) c.in-Some.ensures.exact (Format shape) names asks)) c.format_with.ensures, refl)
 
 pub returns-in-Format-clause-served : goal.returns-in-Format-clause-served
 returns-in-Format-clause-served g c tuning names asks =
-    let asked : c.in-Some.request.job ≡ Run tuning =
-    one_job (map string_bytes c.args.words.now) c.in-Some.request.job (map string_bytes c.in-Some.request.names.now) c.in-Some.ensures.exact (Run tuning) names asks in
-    not_both c.in-Some.request.job c.in-Format.shape tuning c.in-Format.is asked
+    not_both c.in-Some.request.job (Format c.in-Format.shape) (Run tuning) c.in-Format.is (one_job (map string_bytes c.args.words.now) c.in-Some.request.job (map string_bytes c.in-Some.request.names.now) c.in-Some.ensures.exact (Run tuning) names asks) (λ same. cc)
+
+pub returns-in-Format-clause-checked : goal.returns-in-Format-clause-checked
+returns-in-Format-clause-checked g c names asks =
+    not_both c.in-Some.request.job (Format c.in-Format.shape) Check c.in-Format.is (one_job (map string_bytes c.args.words.now) c.in-Some.request.job (map string_bytes c.in-Some.request.names.now) c.in-Some.ensures.exact Check names asks) (λ same. cc)
+
+pub returns-in-Format-clause-generated : goal.returns-in-Format-clause-generated
+returns-in-Format-clause-generated g c records shape tuning names asks =
+    not_both c.in-Some.request.job (Format c.in-Format.shape) (Generate records shape tuning) c.in-Format.is (one_job (map string_bytes c.args.words.now) c.in-Some.request.job (map string_bytes c.in-Some.request.names.now) c.in-Some.ensures.exact (Generate records shape tuning) names asks) (λ same. cc)
 
 pub returns-in-Run-clause-refused : goal.returns-in-Run-clause-refused
 returns-in-Run-clause-refused g c none =
@@ -40,13 +56,58 @@ returns-in-Run-clause-refused g c none =
 
 pub returns-in-Run-clause-formatted : goal.returns-in-Run-clause-formatted
 returns-in-Run-clause-formatted g c shape names asks =
-    let asked : c.in-Some.request.job ≡ Format shape =
-    one_job (map string_bytes c.args.words.now) c.in-Some.request.job (map string_bytes c.in-Some.request.names.now) c.in-Some.ensures.exact (Format shape) names asks in
-    not_both c.in-Some.request.job shape c.in-Run.tuning asked c.in-Run.is
+    not_both c.in-Some.request.job (Run c.in-Run.tuning) (Format shape) c.in-Run.is (one_job (map string_bytes c.args.words.now) c.in-Some.request.job (map string_bytes c.in-Some.request.names.now) c.in-Some.ensures.exact (Format shape) names asks) (λ same. cc)
 
 pub returns-in-Run-clause-served : goal.returns-in-Run-clause-served
 returns-in-Run-clause-served g c tuning names asks =
-    let asked : c.in-Some.request.job ≡ Run tuning =
-    one_job (map string_bytes c.args.words.now) c.in-Some.request.job (map string_bytes c.in-Some.request.names.now) c.in-Some.ensures.exact (Run tuning) names asks in
     same_settings c.settings_of.result (settings_of tuning)
-    (c.settings_of.ensures.exact ∙ ap settings_of (one_tuning c.in-Some.request.job c.in-Run.tuning tuning c.in-Run.is asked)) c.run_with.ensures.replies
+    (c.settings_of.ensures.exact ∙ ap settings_of (one_tuning c.in-Some.request.job c.in-Run.tuning tuning c.in-Run.is (one_job (map string_bytes c.args.words.now) c.in-Some.request.job (map string_bytes c.in-Some.request.names.now) c.in-Some.ensures.exact (Run tuning) names asks))) c.run_with.ensures.replies
+
+pub returns-in-Run-clause-checked : goal.returns-in-Run-clause-checked
+returns-in-Run-clause-checked g c names asks =
+    not_both c.in-Some.request.job (Run c.in-Run.tuning) Check c.in-Run.is (one_job (map string_bytes c.args.words.now) c.in-Some.request.job (map string_bytes c.in-Some.request.names.now) c.in-Some.ensures.exact Check names asks) (λ same. cc)
+
+pub returns-in-Run-clause-generated : goal.returns-in-Run-clause-generated
+returns-in-Run-clause-generated g c records shape tuning names asks =
+    not_both c.in-Some.request.job (Run c.in-Run.tuning) (Generate records shape tuning) c.in-Run.is (one_job (map string_bytes c.args.words.now) c.in-Some.request.job (map string_bytes c.in-Some.request.names.now) c.in-Some.ensures.exact (Generate records shape tuning) names asks) (λ same. cc)
+
+pub returns-in-Check-clause-refused : goal.returns-in-Check-clause-refused
+returns-in-Check-clause-refused g c none =
+    absurd (none _ _ (they_ask (map string_bytes c.args.words.now) c.in-Some.request.job (map string_bytes c.in-Some.request.names.now) c.in-Some.ensures.exact))
+
+pub returns-in-Check-clause-formatted : goal.returns-in-Check-clause-formatted
+returns-in-Check-clause-formatted g c shape names asks =
+    not_both c.in-Some.request.job Check (Format shape) c.in-Check.is (one_job (map string_bytes c.args.words.now) c.in-Some.request.job (map string_bytes c.in-Some.request.names.now) c.in-Some.ensures.exact (Format shape) names asks) (λ same. cc)
+
+pub returns-in-Check-clause-served : goal.returns-in-Check-clause-served
+returns-in-Check-clause-served g c tuning names asks =
+    not_both c.in-Some.request.job Check (Run tuning) c.in-Check.is (one_job (map string_bytes c.args.words.now) c.in-Some.request.job (map string_bytes c.in-Some.request.names.now) c.in-Some.ensures.exact (Run tuning) names asks) (λ same. cc)
+
+pub returns-in-Check-clause-checked : goal.returns-in-Check-clause-checked
+returns-in-Check-clause-checked g c names asks = (c.check_with.ensures, refl)
+
+pub returns-in-Check-clause-generated : goal.returns-in-Check-clause-generated
+returns-in-Check-clause-generated g c records shape tuning names asks =
+    not_both c.in-Some.request.job Check (Generate records shape tuning) c.in-Check.is (one_job (map string_bytes c.args.words.now) c.in-Some.request.job (map string_bytes c.in-Some.request.names.now) c.in-Some.ensures.exact (Generate records shape tuning) names asks) (λ same. cc)
+
+pub returns-in-Generate-clause-refused : goal.returns-in-Generate-clause-refused
+returns-in-Generate-clause-refused g c none =
+    absurd (none _ _ (they_ask (map string_bytes c.args.words.now) c.in-Some.request.job (map string_bytes c.in-Some.request.names.now) c.in-Some.ensures.exact))
+
+pub returns-in-Generate-clause-formatted : goal.returns-in-Generate-clause-formatted
+returns-in-Generate-clause-formatted g c shape names asks =
+    not_both c.in-Some.request.job (Generate c.in-Generate.count c.in-Generate.shape c.in-Generate.tuning) (Format shape) c.in-Generate.is (one_job (map string_bytes c.args.words.now) c.in-Some.request.job (map string_bytes c.in-Some.request.names.now) c.in-Some.ensures.exact (Format shape) names asks) (λ same. cc)
+
+pub returns-in-Generate-clause-served : goal.returns-in-Generate-clause-served
+returns-in-Generate-clause-served g c tuning names asks =
+    not_both c.in-Some.request.job (Generate c.in-Generate.count c.in-Generate.shape c.in-Generate.tuning) (Run tuning) c.in-Generate.is (one_job (map string_bytes c.args.words.now) c.in-Some.request.job (map string_bytes c.in-Some.request.names.now) c.in-Some.ensures.exact (Run tuning) names asks) (λ same. cc)
+
+pub returns-in-Generate-clause-checked : goal.returns-in-Generate-clause-checked
+returns-in-Generate-clause-checked g c names asks =
+    not_both c.in-Some.request.job (Generate c.in-Generate.count c.in-Generate.shape c.in-Generate.tuning) Check c.in-Generate.is (one_job (map string_bytes c.args.words.now) c.in-Some.request.job (map string_bytes c.in-Some.request.names.now) c.in-Some.ensures.exact Check names asks) (λ same. cc)
+
+pub returns-in-Generate-clause-generated : goal.returns-in-Generate-clause-generated
+returns-in-Generate-clause-generated g c records shape tuning names asks =
+    let same = one_load c.in-Some.request.job c.in-Generate.count records c.in-Generate.shape shape c.in-Generate.tuning tuning c.in-Generate.is (one_job (map string_bytes c.args.words.now) c.in-Some.request.job (map string_bytes c.in-Some.request.names.now) c.in-Some.ensures.exact (Generate records shape tuning) names asks) in
+    same_load c.in-Generate.count records c.in-Generate.shape shape c.settings_of-in-Generate.result (settings_of tuning) same.0 same.1
+    (c.settings_of-in-Generate.ensures.exact ∙ ap settings_of same.2) c.gen_with.ensures
