@@ -1,6 +1,6 @@
 // `check` over disks in memory: what is written of each, and how it ends.
 use crate::check::check_with;
-use crate::in_memory::{DEVICE_BYTES, Ending, formatted_disk, link_over, serve_words};
+use crate::in_memory::{DEVICE_BYTES, Ending, ends_so, formatted_disk, link_over, serve_words};
 use disk_model::{Disk, DiskCall, MemDisk};
 use std::alloc::Global;
 use std::test::Fail;
@@ -17,12 +17,6 @@ const FIRST: &[u8] = b"device 0 open 2 copies 2 records 0 tombstones 1\n";
 
 const BOTH: &[u8] =
     b"device 0 open 2 copies 2 records 0 tombstones 1\ndevice 1 open 1 copies 3 records 2 tombstones 0\n";
-
-fn is_so(ending: &Ending, status: u8, note: &str, text: &[u8]) -> bool {
-    ending.outcome.status == status
-        && ending.outcome.note.as_slice() == note.as_bytes()
-        && ending.text.as_slice() == text
-}
 
 // How `check` over these disks ends; the calls of the sink with these numbers fail.
 fn check_over(alloc: Global, disks: Vec<MemDisk>, sink_fails: &[u64]) -> Result<Ending, Fail> {
@@ -94,12 +88,12 @@ fn damage_last(disks: &mut Vec<MemDisk>) -> Result<(), Fail> {
 fn each_device_has_its_line(rt: HostRuntime) -> Result<(), Fail> {
     let alloc = rt.alloc();
     let ending = check_over(alloc, one_device(alloc)?, &[])?;
-    assert!(rt; is_so(&ending, 0, "", FIRST));
+    assert!(rt; ends_so(&ending, 0, "", FIRST));
     let ending = check_over(alloc, two_devices(alloc)?, &[])?;
-    assert!(rt; is_so(&ending, 0, "", BOTH));
+    assert!(rt; ends_so(&ending, 0, "", BOTH));
     // The disks are in order, and as they were.
     let ending = check_over(alloc, ending.outcome.disks, &[])?;
-    assert!(rt; is_so(&ending, 0, "", BOTH));
+    assert!(rt; ends_so(&ending, 0, "", BOTH));
     Ok(())
 }
 
@@ -109,13 +103,13 @@ fn a_refused_device_ends_it(rt: HostRuntime) -> Result<(), Fail> {
     let mut disks = two_devices(alloc)?;
     damage_last(&mut disks)?;
     let ending = check_over(alloc, disks, &[])?;
-    assert!(rt; is_so(&ending, 7, "device 1 block 0 damaged at 32", FIRST));
+    assert!(rt; ends_so(&ending, 7, "device 1 block 0 damaged at 32", FIRST));
     let mut disks = ending.outcome.disks;
     assert_eq!(rt; disks.len(), 2);
     disks.reverse();
     let ending = check_over(alloc, disks, &[])?;
     let note = "device 0 is 1 of 2, asked 0 of 2, length 266240";
-    assert!(rt; is_so(&ending, 7, note, b""));
+    assert!(rt; ends_so(&ending, 7, note, b""));
     assert_eq!(rt; ending.outcome.disks.len(), 2);
     Ok(())
 }
@@ -129,14 +123,14 @@ fn a_fault_ends_it(rt: HostRuntime) -> Result<(), Fail> {
         .ok_or("no disk")?
         .fail_after(DiskCall::Read, 0)?;
     let ending = check_over(alloc, disks, &[])?;
-    assert!(rt; is_so(&ending, 3, "device 0 fault", b""));
+    assert!(rt; ends_so(&ending, 3, "device 0 fault", b""));
     let mut disks = two_devices(alloc)?;
     disks
         .last_mut()
         .ok_or("no disk")?
         .fail_after(DiskCall::Read, 0)?;
     let ending = check_over(alloc, disks, &[])?;
-    assert!(rt; is_so(&ending, 3, "device 1 fault", FIRST));
+    assert!(rt; ends_so(&ending, 3, "device 1 fault", FIRST));
     Ok(())
 }
 
@@ -144,10 +138,10 @@ fn a_fault_ends_it(rt: HostRuntime) -> Result<(), Fail> {
 fn a_sink_that_fails_ends_it(rt: HostRuntime) -> Result<(), Fail> {
     let alloc = rt.alloc();
     let ending = check_over(alloc, one_device(alloc)?, &[0])?;
-    assert!(rt; is_so(&ending, 5, "sink fault", b""));
+    assert!(rt; ends_so(&ending, 5, "sink fault", b""));
     let ending = check_over(alloc, two_devices(alloc)?, &[2])?;
-    assert!(rt; is_so(&ending, 5, "sink fault", FIRST));
+    assert!(rt; ends_so(&ending, 5, "sink fault", FIRST));
     let ending = check_over(alloc, ending.outcome.disks, &[])?;
-    assert!(rt; is_so(&ending, 0, "", BOTH));
+    assert!(rt; ends_so(&ending, 0, "", BOTH));
     Ok(())
 }

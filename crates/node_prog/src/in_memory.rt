@@ -71,6 +71,13 @@ pub struct Ending {
     pub text: Vec<u8>,
 }
 
+/// Whether it ended with this status and note, and wrote just this text.
+pub fn ends_so(ending: &Ending, status: u8, note: &str, text: &[u8]) -> bool {
+    ending.outcome.status == status
+        && ending.outcome.note.as_slice() == note.as_bytes()
+        && ending.text.as_slice() == text
+}
+
 // Whether the words name so many devices, or ask for nothing.
 fn names_so_many(words: &[String], count: usize) -> bool
     ensures { IsTrue result → (job : Job) (names : List (List ℕ)) → Asks (map string_bytes words.now) job names → count ≡ length names }

@@ -1,5 +1,5 @@
 // `gen`, as a table of disks and what is written, and what `check` finds on its devices.
-use crate::in_memory::{DEVICE_BYTES, Ending, link_over, serve_words};
+use crate::in_memory::{DEVICE_BYTES, Ending, ends_so, link_over, serve_words};
 use disk_model::{DiskCall, MemDisk};
 use std::alloc::Global;
 use std::ops::Range;
@@ -48,12 +48,6 @@ const LOADS: [Load; 6] = [
     (&[DEVICE_BYTES], None, &[0], 5, "sink fault", b""),
 ];
 
-fn is_so(ending: &Ending, status: u8, note: &str, text: &[u8]) -> bool {
-    ending.outcome.status == status
-        && ending.outcome.note.as_slice() == note.as_bytes()
-        && ending.text.as_slice() == text
-}
-
 // Ten records over these disks, of which the first fails at these calls.
 fn load_over(
     alloc: Global,
@@ -97,7 +91,7 @@ fn a_load_is_summed_up(rt: HostRuntime) -> Result<(), Fail> {
     let alloc = rt.alloc();
     for (lens, failing, sink_fails, status, note, text) in LOADS {
         let ending = load_over(alloc, lens, failing, sink_fails)?;
-        assert!(rt; is_so(&ending, status, note, text), "{note}");
+        assert!(rt; ends_so(&ending, status, note, text), "{note}");
         assert_eq!(rt; ending.outcome.disks.len(), lens.len());
     }
     Ok(())
@@ -111,7 +105,7 @@ fn a_load_is_checked(rt: HostRuntime) -> Result<(), Fail> {
     let mut link = link_over(alloc, b"", &[], &[])?;
     let ending = serve_words(alloc, &["check", "d0"], loaded.outcome.disks, &mut link)?;
     assert!(rt;
-        is_so(
+        ends_so(
             &ending,
             0,
             "",

@@ -1,5 +1,5 @@
 // `format`, and runs over two devices, as tables of words, disks and what is written.
-use crate::in_memory::{DEVICE_BYTES, Ending, link_over, serve_words};
+use crate::in_memory::{DEVICE_BYTES, Ending, ends_so, link_over, serve_words};
 use disk_model::{Disk, DiskCall, MemDisk};
 use std::alloc::Global;
 use std::process::Abort;
@@ -62,12 +62,6 @@ const MADE: [Made; 7] = [
     (FORMAT_TWO, &[0, 0], 7, "device 0 short: 0", b""),
 ];
 
-fn is_so(ending: &Ending, status: u8, note: &str, text: &[u8]) -> bool {
-    ending.outcome.status == status
-        && ending.outcome.note.as_slice() == note.as_bytes()
-        && ending.text.as_slice() == text
-}
-
 // Disks of these lengths that were never written to.
 fn blank_disks(alloc: Global, lens: &[u64]) -> Result<Vec<MemDisk>, Fail> {
     let mut disks = Vec::new(alloc);
@@ -93,7 +87,7 @@ fn devices_are_made_or_left(rt: HostRuntime) -> Result<(), Fail> {
     let alloc = rt.alloc();
     for (words, lens, status, note, text) in MADE {
         let ending = serve_over(alloc, words, blank_disks(alloc, lens)?, b"")?;
-        assert!(rt; is_so(&ending, status, note, text), "{note}");
+        assert!(rt; ends_so(&ending, status, note, text), "{note}");
         assert_eq!(rt; ending.outcome.disks.len(), lens.len());
         for disk in &ending.outcome.disks {
             assert_eq!(rt; disk.moments() == 1, status != 0);
@@ -110,13 +104,13 @@ fn a_disk_fails_to_be_made(rt: HostRuntime) -> Result<(), Fail> {
     let second = disks.last_mut().ok_or("no disk")?;
     second.fail_after(DiskCall::Sync, 1)?;
     let ending = serve_over(alloc, FORMAT_TWO, disks, b"")?;
-    assert!(rt; is_so(&ending, 3, "device 1 fault", b""));
+    assert!(rt; ends_so(&ending, 3, "device 1 fault", b""));
     let disks = blank_disks(alloc, &[DEVICE_BYTES])?;
     let mut link = link_over(alloc, b"", &[], &[0])?;
     let ending = serve_words(alloc, FORMAT, disks, &mut link)?;
-    assert!(rt; is_so(&ending, 5, "sink fault", b""));
+    assert!(rt; ends_so(&ending, 5, "sink fault", b""));
     let ending = serve_over(alloc, &["run", "d0"], ending.outcome.disks, b"quit\n")?;
-    assert!(rt; is_so(&ending, 0, "", b"bye\n"));
+    assert!(rt; ends_so(&ending, 0, "", b"bye\n"));
     Ok(())
 }
 
@@ -182,7 +176,7 @@ const SESSIONS: [Session; 5] = [
 fn two_devices(rt: &impl Abort, alloc: Global) -> Result<Vec<MemDisk>, Fail> {
     let disks = blank_disks(alloc, &[DEVICE_BYTES, DEVICE_BYTES])?;
     let ending = serve_over(alloc, FORMAT_TWO, disks, b"")?;
-    assert!(rt; is_so(&ending, 0, "", b"formatted 2\n"));
+    assert!(rt; ends_so(&ending, 0, "", b"formatted 2\n"));
     Ok(ending.outcome.disks)
 }
 
@@ -195,7 +189,7 @@ fn each_session_over_two_devices_ends_so(rt: HostRuntime) -> Result<(), Fail> {
             disks.last_mut().ok_or("no disk")?.fail_after(kind, skip)?;
         }
         let ending = serve_over(alloc, words, disks, input)?;
-        assert!(rt; is_so(&ending, status, note, text), "{note}");
+        assert!(rt; ends_so(&ending, status, note, text), "{note}");
     }
     Ok(())
 }
@@ -206,11 +200,11 @@ fn the_next_run_finds_both_devices(rt: HostRuntime) -> Result<(), Fail> {
     let alloc = rt.alloc();
     let ending = serve_over(alloc, RUN_TWO, two_devices(&rt, alloc)?, PUTS_FLUSHED)?;
     let ending = serve_over(alloc, RUN_TWO, ending.outcome.disks, GETS)?;
-    assert!(rt; is_so(&ending, 0, "", b"val 1 1000 0 aa\nval 1 1000 0 bb\n"));
+    assert!(rt; ends_so(&ending, 0, "", b"val 1 1000 0 aa\nval 1 1000 0 bb\n"));
     let mut disks = ending.outcome.disks;
     disks.reverse();
     let ending = serve_over(alloc, RUN_TWO, disks, GETS)?;
     let note = "device 0 is 1 of 2, asked 0 of 2, length 266240";
-    assert!(rt; is_so(&ending, 7, note, b""));
+    assert!(rt; ends_so(&ending, 7, note, b""));
     Ok(())
 }

@@ -1,6 +1,8 @@
 ghost use Rattle.shard_core.specs.View.{IsSettings};
 
-use crate::in_memory::{Ending, SETTINGS, formatted_disk, link_over, serve_words, still_clock};
+use crate::in_memory::{
+    Ending, SETTINGS, ends_so, formatted_disk, link_over, serve_words, still_clock,
+};
 use crate::outcome::Outcome;
 use crate::run::run_with;
 use disk_model::{Disk, DiskCall, MemDisk};
@@ -43,10 +45,7 @@ fn serve_text(
 }
 
 fn is_so(ending: &Ending, status: u8, note: &str, text: &[u8]) -> bool {
-    ending.outcome.status == status
-        && ending.outcome.note.as_slice() == note.as_bytes()
-        && ending.text.as_slice() == text
-        && ending.outcome.disks.len() == 1
+    ends_so(ending, status, note, text) && ending.outcome.disks.len() == 1
 }
 
 #[test]
