@@ -5,3 +5,4 @@ pub mod Steps
 pub mod Events
 pub mod Legal
 pub mod Passes
+pub mod Vacating

@@ -24,11 +24,11 @@ use Rattle.kept_trail.specs.Numbers.{AddsNone, AddsOnly, AddsPlaced}
 use Rattle.kept_trail.specs.Needs.{HasRoomFor, IsBacked}
 use Rattle.kept_trail.proofs.Placing.{placed_places}
 use Rattle.kept_trail.proofs.Whole.{step_whole}
-use Rattle.kept_images.specs.Kept.{possible_in, IsInOrder, IsKept}
+use Rattle.kept_images.specs.Kept.{possible_in, BookInOrder, IsInOrder, IsKept}
 use Rattle.kept_images.specs.Changes.{Appends}
-use Rattle.kept_images.proofs.Stepping.{WaitedOrCame, step_in_order, step_kept, whole_kept, none_in}
+use Rattle.kept_images.proofs.Stepping.{WaitedOrCame, book_in_order, step_book, step_in_order, step_kept, whole_kept, none_in}
 
-module _ (setup : Setup) (s : State) (old new : Records) (order : IsInOrder setup s old) (stream : Stream) (units : ℕ) (digest : Digest) (v : Version) (appends : Appends setup stream units digest v s.book old new) where
+module _ (setup : Setup) (s : State) (old new : Records) (order : BookInOrder setup s old) (stream : Stream) (units : ℕ) (digest : Digest) (v : Version) (appends : Appends setup stream units digest v s.book old new) where
   abbrev number : ℕ
   number = placing_number setup stream units s.book
 
@@ -66,36 +66,52 @@ module _ (setup : Setup) (s : State) (old new : Records) (digest : Digest) (v : 
       ap top_of (wrote_history setup s digest v digest)
       ∙ ap (λ (b : Bool). top_of (cond b (write v (placing_number setup client (version_units v) s.book ∷ []) ∷ history s digest) (history s digest))) (same_digest_refl digest)
 
+  -- over every disk
+  pub wrote_booked : BookInOrder setup s old → Appends setup client (version_units v) digest v s.book old new → BookInOrder setup (after_step setup (wrote digest v) s) new
+  wrote_booked order appends =
+      step_book setup s old new (wrote digest v) order appends.room
+      (λ n le. still_empty setup s old new order client (version_units v) digest v appends n (subst (λ (b : Book). b.next_number ≤ n) wrote_book le) (subst (λ (b : Book). s.book.next_number ≤ b.next_number) wrote_book (next_number_rises setup (wrote digest v) s)))
+
   pub wrote_in_order : IsInOrder setup s old → Appends setup client (version_units v) digest v s.book old new → IsInOrder setup (after_step setup (wrote digest v) s) new
   wrote_in_order order appends =
       step_in_order setup s old new (wrote digest v) order appends.room appends.only (step_whole setup s new order.numbered (whole_kept s old new appends.keeps order.whole) [] (wrote digest v) appends.there)
-      (λ n le. still_empty setup s old new order client (version_units v) digest v appends n (subst (λ (b : Book). b.next_number ≤ n) wrote_book le) (subst (λ (b : Book). s.book.next_number ≤ b.next_number) wrote_book (next_number_rises setup (wrote digest v) s)))
+      (λ n le. still_empty setup s old new (book_in_order order) client (version_units v) digest v appends n (subst (λ (b : Book). b.next_number ≤ n) wrote_book le) (subst (λ (b : Book). s.book.next_number ≤ b.next_number) wrote_book (next_number_rises setup (wrote digest v) s)))
 
   -- A version that may be written is appended to the client stream.
   pub wrote_kept : (g : Geometry) (images : Images) → IsKept setup g s old images → MayBeWritten setup s digest v → Appends setup client (version_units v) digest v s.book old new → IsKept setup g (after_step setup (wrote digest v) s) new images
   wrote_kept g images kept may appends =
       let order = wrote_in_order kept.order appends in
       step_kept setup g s old new images (wrote digest v) kept appends.room may appends.keeps order (λ c image bodies r. appends.there)
-      (came setup s old new kept.order client (version_units v) digest v appends g images (after_step setup (wrote digest v) s) wrote_book order.within.places wrote_entry)
+      (came setup s old new (book_in_order kept.order) client (version_units v) digest v appends g images (after_step setup (wrote digest v) s) wrote_book order.within.places wrote_entry)
 
 -- ---- a version that is moved
 
-module _ (setup : Setup) (s : State) (old new : Records) (digest : Digest) (copy : Live) (live : live_of digest s.book.live ≡ Some copy) (v : Version) (top : entry s digest ≡ Some v) where
-  moved_is : after_step setup (moved digest) s ≡ moved_state setup digest (Some copy) s
+module _ (setup : Setup) (s : State) (old new : Records) (digest : Digest) (copy : Live) (live : live_of digest s.book.live ≡ Some copy) where
+  pub moved_is : after_step setup (moved digest) s ≡ moved_state setup digest (Some copy) s
   unfolding after_step
   moved_is = ap (λ (o : Option Live). moved_state setup digest o s) live
 
   pub moved_book : (after_step setup (moved digest) s).book ≡ placed setup defrag digest copy.units s.book
   moved_book = ap (λ (t : State). t.book) moved_is
 
-  moved_entry : entry (after_step setup (moved digest) s) digest ≡ Some v
+  moved_room : CanPlace setup defrag copy.units s.book → HasRoomFor setup s (moved digest)
+  moved_room can = subst (λ (o : Option Live). MatchOption o (Unit {0}) (λ l. CanPlace setup defrag l.units s.book)) (sym live) can
+
+  -- over every disk, whatever version was read
+  pub moved_booked : (v : Version) → BookInOrder setup s old → Appends setup defrag copy.units digest v s.book old new → BookInOrder setup (after_step setup (moved digest) s) new
+  moved_booked v order appends =
+      step_book setup s old new (moved digest) order (moved_room appends.room)
+      (λ n le. still_empty setup s old new order defrag copy.units digest v appends n (subst (λ (b : Book). b.next_number ≤ n) moved_book le) (subst (λ (b : Book). s.book.next_number ≤ b.next_number) moved_book (next_number_rises setup (moved digest) s)))
+
+module _ (setup : Setup) (s : State) (old new : Records) (digest : Digest) (copy : Live) (live : live_of digest s.book.live ≡ Some copy) (v : Version) (top : entry s digest ≡ Some v) where
+  pub moved_entry : entry (after_step setup (moved digest) s) digest ≡ Some v
   moved_entry =
-      ap (λ (t : State). entry t digest) moved_is ∙ ap top_of (history_with_number digest (placing_number setup defrag copy.units s.book) s.log)
+      ap (λ (t : State). entry t digest) (moved_is setup s old new digest copy live) ∙ ap top_of (history_with_number digest (placing_number setup defrag copy.units s.book) s.log)
       ∙ number_top (placing_number setup defrag copy.units s.book) (history s digest) ∙ top
 
   module _ (appends : Appends setup defrag copy.units digest v s.book old new) where
     room : HasRoomFor setup s (moved digest)
-    room = subst (λ (o : Option Live). MatchOption o (Unit {0}) (λ l. CanPlace setup defrag l.units s.book)) (sym live) appends.room
+    room = moved_room setup s old new digest copy live appends.room
 
     adds : AddsPlaced setup s (moved digest) old new
     adds = subst (λ (o : Option Live). MatchOption o (AddsNone old new) (λ l. (w : Version) × (entry s digest ≡ Some w) × AddsOnly (placing_number setup defrag l.units s.book) digest w old new)) (sym live) (v, top, appends.only)
@@ -108,11 +124,11 @@ module _ (setup : Setup) (s : State) (old new : Records) (digest : Digest) (copy
     pub moved_in_order : IsInOrder setup s old → IsInOrder setup (after_step setup (moved digest) s) new
     moved_in_order order =
         step_in_order setup s old new (moved digest) order room adds (step_whole setup s new order.numbered (whole_kept s old new appends.keeps order.whole) [] (moved digest) (backed []))
-        (λ n le. still_empty setup s old new order defrag copy.units digest v appends n (subst (λ (b : Book). b.next_number ≤ n) moved_book le) (subst (λ (b : Book). s.book.next_number ≤ b.next_number) moved_book (next_number_rises setup (moved digest) s)))
+        (λ n le. still_empty setup s old new (book_in_order order) defrag copy.units digest v appends n (subst (λ (b : Book). b.next_number ≤ n) (moved_book setup s old new digest copy live) le) (subst (λ (b : Book). s.book.next_number ≤ b.next_number) (moved_book setup s old new digest copy live) (next_number_rises setup (moved digest) s)))
 
     -- The copy of an entry is appended to the other stream.
     pub moved_kept : (g : Geometry) (images : Images) → IsKept setup g s old images → IsKept setup g (after_step setup (moved digest) s) new images
     moved_kept g images kept =
         let order = moved_in_order kept.order in
         step_kept setup g s old new images (moved digest) kept room tt appends.keeps order (λ c image bodies r. backed bodies)
-        (came setup s old new kept.order defrag copy.units digest v appends g images (after_step setup (moved digest) s) moved_book order.within.places moved_entry)
+        (came setup s old new (book_in_order kept.order) defrag copy.units digest v appends g images (after_step setup (moved digest) s) (moved_book setup s old new digest copy live) order.within.places moved_entry)

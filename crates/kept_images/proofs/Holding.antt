@@ -52,7 +52,7 @@ module _ (setup : Setup) (g : Geometry) (s : State) (records : Records) (gates :
   pub moved_holds : (new : Records) (digest : Digest) (copy : Live) (v : Version) → live_of digest s.book.live ≡ Some copy → entry s digest ≡ Some v → Appends setup defrag copy.units digest v s.book records new
       → (has_room setup defrag copy.units s.book ≡ false → gates (first_block s.book.free) ≡ Shut) → HoldsGates setup g (after_step setup (moved digest) s) new gates images
   moved_holds new digest copy v live top appends shut = record {
-    knows = subst (λ (b : Book). KnowsGates g b images gates) (sym (moved_book setup s records new digest copy live v top)) (knows_placed setup g defrag digest copy.units s.book images gates holds.held.order.numbered.counted shut holds.knows);
+    knows = subst (λ (b : Book). KnowsGates g b images gates) (sym (moved_book setup s records new digest copy live)) (knows_placed setup g defrag digest copy.units s.book images gates holds.held.order.numbered.counted shut holds.knows);
     held = moved_kept setup s records new digest copy live v top appends g (loosened g gates images) holds.held;
   }
 

@@ -34,7 +34,7 @@ use Rattle.kept_trail.proofs.Placing.{place, seal_places}
 use Rattle.kept_trail.proofs.Records.{step_written}
 use Rattle.kept_trail.proofs.Whole.{step_whole, flushed_whole}
 use Rattle.kept_trail.proofs.Within.{step_within}
-use Rattle.kept_images.specs.Kept.{HaveBegun, IsLeftIn, possible_in, IsInOrder, IsKept}
+use Rattle.kept_images.specs.Kept.{HaveBegun, IsLeftIn, possible_in, BookInOrder, IsInOrder, IsKept}
 use Rattle.kept_images.specs.Changes.{AllShow, is_plain}
 use Rattle.kept_images.proofs.Reading.{shown_there}
 
@@ -67,6 +67,19 @@ WaitedOrCame setup g s after old new images = (number block : ℕ) (digest : Dig
     → possible_in g s.book old images block digest v ⊎ ((block < setup.blocks) × (entry after digest ≡ Some v))
 
 -- over every disk
+pub book_in_order : {setup : Setup} {s : State} {records : Records} → IsInOrder setup s records → BookInOrder setup s records
+book_in_order order = record { booked = order.booked; numbered = order.numbered; within = order.within; ahead = order.ahead }
+
+pub step_book : (setup : Setup) (s : State) (old new : Records) (step : Step) → BookInOrder setup s old → HasRoomFor setup s step
+    → ((number : ℕ) → (after_step setup step s).book.next_number ≤ number → new number ≡ []) → BookInOrder setup (after_step setup step s) new
+step_book setup s old new step order room ahead = record {
+  booked = step_booked setup s order.booked step room;
+  numbered = step_numbered setup s order.numbered step;
+  within = step_within setup s order.within step room;
+  ahead = ahead;
+}
+
+-- where each record is what its history says
 pub step_in_order : (setup : Setup) (s : State) (old new : Records) (step : Step) → IsInOrder setup s old → HasRoomFor setup s step → AddsPlaced setup s step old new → RecordsWhole (after_step setup step s) new
     → ((number : ℕ) → (after_step setup step s).book.next_number ≤ number → new number ≡ []) → IsInOrder setup (after_step setup step s) new
 step_in_order setup s old new step order room adds whole ahead = record {
@@ -130,6 +143,14 @@ forgotten_in_order setup s old new keeps none order = record {
   within = order.within;
   written = λ n. all_from _ (new n) (λ r there. all_at _ (old n) r (order.written n) (none n r there));
   whole = whole_kept s old new keeps order.whole;
+  ahead = λ n le. none_in (new n) (λ r there. let was = subst (λ (l : List (Digest × Version)). Contains l r) (order.ahead n le) (none n r there) in omega (arith, was.1));
+}
+
+pub forgotten_book : (setup : Setup) (s : State) (old new : Records) → AddsNone old new → BookInOrder setup s old → BookInOrder setup s new
+forgotten_book setup s old new none order = record {
+  booked = order.booked;
+  numbered = order.numbered;
+  within = order.within;
   ahead = λ n le. none_in (new n) (λ r there. let was = subst (λ (l : List (Digest × Version)). Contains l r) (order.ahead n le) (none n r there) in omega (arith, was.1));
 }
 
@@ -216,18 +237,25 @@ plain_places setup s (scanned_block copies) is = refl
 plain_places setup s (compared_part part) is = refl
 plain_places setup s (done_part part) is = refl
 
-module _ (setup : Setup) (s : State) (records : Records) (order : IsInOrder setup s records) where
+module _ (setup : Setup) (s : State) (records : Records) (order : BookInOrder setup s records) where
   still_ahead : (step : Step) (number : ℕ) → (after_step setup step s).book.next_number ≤ number → records number ≡ []
   still_ahead step number le = let up = next_number_rises setup step s in order.ahead number (omega arith)
 
+  pub plain_book : (step : Step) → is_plain step ≡ true → BookInOrder setup (after_step setup step s) records
+  plain_book step is = step_book setup s records records step order (plain_room setup s step is) (still_ahead step)
+
+  pub flushed_book : (number : ℕ) → BookInOrder setup (after_step setup (flushed_buffer number) s) records
+  flushed_book number = step_book setup s records records (flushed_buffer number) order tt (still_ahead (flushed_buffer number))
+
+module _ (setup : Setup) (s : State) (records : Records) (order : IsInOrder setup s records) where
   pub plain_in_order : (step : Step) → is_plain step ≡ true → IsInOrder setup (after_step setup step s) records
   plain_in_order step is =
       step_in_order setup s records records step order (plain_room setup s step is) (plain_adds setup s step records is)
-      (step_whole setup s records order.numbered order.whole [] step (plain_backed setup s step records [] is)) (still_ahead step)
+      (step_whole setup s records order.numbered order.whole [] step (plain_backed setup s step records [] is)) (still_ahead setup s records (book_in_order order) step)
 
   pub flushed_in_order : (number : ℕ) → IsInOrder setup (after_step setup (flushed_buffer number) s) records
   flushed_in_order number =
-      step_in_order setup s records records (flushed_buffer number) order tt (λ n r there. there) (flushed_whole setup s records order.numbered order.whole number) (still_ahead (flushed_buffer number))
+      step_in_order setup s records records (flushed_buffer number) order tt (λ n r there. there) (flushed_whole setup s records order.numbered order.whole number) (still_ahead setup s records (book_in_order order) (flushed_buffer number))
 
 -- ---- the places behind a flush
 

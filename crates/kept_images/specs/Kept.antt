@@ -53,7 +53,15 @@ possible_in g book records images block digest v = ((number : ℕ) × WaitsIn bo
 
 -- ---- what is kept
 
--- What the book, the histories and the records of buffers keep, over every disk. Buffers that are to come have no records.
+-- What the book and the numbers of histories and buffers keep, over every disk. Buffers that are to come have no records.
+pub record BookInOrder (setup : Setup) (s : State) (records : Records) : Type 0 where
+  pub booked : IsBooked s.book
+  pub numbered : HasNumbers s
+  pub within : IsWithin setup s.book
+  pub ahead : (number : ℕ) → s.book.next_number ≤ number → records number ≡ []
+
+-- What the records of buffers keep besides, where each has the version that its history says: what is moved may be another one over a
+-- disk that doesn't give what was written.
 pub record IsInOrder (setup : Setup) (s : State) (records : Records) : Type 0 where
   pub booked : IsBooked s.book
   pub numbered : HasNumbers s

@@ -19,11 +19,11 @@ pub found : (o : Option LiveCopy) (P : LiveCopy → Type 0) → IsSomeAnd o P �
 found None P h = absurd h
 found (Some c) P h = (c, refl, h)
 
-absent_first : (u : ℕ) (c : LiveCopy) (cs : List LiveCopy) → copy_at u (c ∷ cs) ≡ None → eqb c.unit u ≡ false
+pub absent_first : (u : ℕ) (c : LiveCopy) (cs : List LiveCopy) → copy_at u (c ∷ cs) ≡ None → eqb c.unit u ≡ false
 absent_first u c cs absent =
     false_from_ne_true (eqb c.unit u) (λ same. some_is_not_none c (sym (cond-true (eqb c.unit u) (Some c) (copy_at u cs) same) ∙ absent))
 
-absent_rest : (u : ℕ) (c : LiveCopy) (cs : List LiveCopy) → copy_at u (c ∷ cs) ≡ None → copy_at u cs ≡ None
+pub absent_rest : (u : ℕ) (c : LiveCopy) (cs : List LiveCopy) → copy_at u (c ∷ cs) ≡ None → copy_at u cs ≡ None
 absent_rest u c cs absent = sym (cond-false (eqb c.unit u) (Some c) (copy_at u cs) (absent_first u c cs absent)) ∙ absent
 
 other_back : (a b : ℕ) → eqb a b ≡ false → eqb b a ≡ false

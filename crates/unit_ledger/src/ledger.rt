@@ -1,6 +1,7 @@
 // The live copies of all blocks of a device.
 ghost use Rattle.std.specs.Prelude.{◌≡◌, ◌+◌, ◌-◌, ◌≤◌, ◌<◌, [], ◌∷◌, ◌++◌, ◌==◌, length, filter, sum_by, replicate, None, IsSomeAnd, IsOk, IfOk, OnOk, OnErr};
 ghost use Rattle.unit_ledger.specs.Rolls.{empty_roll, copies_in, spare_of, rolled_use, copy_at, without_unit, live_from, with_roll, GainsRoom};
+ghost use Rattle.unit_ledger.specs.Order.{by_unit, digests_by_unit, AreByUnit};
 
 use crate::NoMemory;
 use crate::roll::{LiveCopy, Roll};
@@ -89,5 +90,16 @@ impl Ledger {
         ensures sum { result ≡ sum_by (λ l. l.units) (filter (λ l. l.block == block) (live_from 0 self.now)) }
     {
         self.rolls[block as usize].used()
+    }
+
+    /// The digests of the live copies of a block, in the order in which these stand there.
+    pub fn digests(&self, alloc: Global, block: u32) -> Result<Vec<Digest>, NoMemory>
+        requires { block < length self.now }
+        ensures value { IfOk result (λ digests. digests.items ≡ digests_by_unit (copies_in block self.now)) }
+
+        // That is each copy once, in rising unit.
+        ensures order { AreByUnit (copies_in block self.now) (by_unit (copies_in block self.now)) }
+    {
+        self.rolls[block as usize].digests(alloc)
     }
 }

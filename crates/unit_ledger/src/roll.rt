@@ -1,6 +1,7 @@
 // The live copies of one block.
-ghost use Rattle.std.specs.Prelude.{◌≡◌, ◌+◌, ◌-◌, ◌≤◌, [], ◌∷◌, ◌++◌, sum_by, None, IsSomeAnd, IsOk, OnOk, OnErr};
+ghost use Rattle.std.specs.Prelude.{◌≡◌, ◌+◌, ◌-◌, ◌≤◌, [], ◌∷◌, ◌++◌, sum_by, None, IsSomeAnd, IsOk, IfOk, OnOk, OnErr};
 ghost use Rattle.unit_ledger.specs.Rolls.{empty_roll, copy_at, without_unit};
+ghost use Rattle.unit_ledger.specs.Order.{by_unit, digests_by_unit, AreByUnit};
 
 use crate::NoMemory;
 use rec_format::Digest;
@@ -78,5 +79,14 @@ impl Roll {
         ensures { result ≡ sum_by (λ c. c.units) self.now.copies }
     {
         self.sum
+    }
+
+    pub fn digests(&self, alloc: Global) -> Result<Vec<Digest>, NoMemory>
+        ensures value { IfOk result (λ digests. digests.items ≡ digests_by_unit self.now.copies) }
+        ensures order { AreByUnit self.now.copies (by_unit self.now.copies) }
+    {
+        let mut copies = Vec::from_slice(alloc, &self.row)?;
+        copies.sort_unstable_by_key(|copy| copy.unit);
+        copies.iter().map(|copy| copy.digest).collect(alloc)
     }
 }

@@ -26,7 +26,7 @@ whole size new items same size_is =
 
 -- the records are read back from the bytes
 pub seen_is : (b : BufferState) (count : ℕ) (bytes : List ℕ) → AllRecorded b.records → count ≡ length b.records → bytes ≡ bytes_of b
-    → seen_buffer b.number b.block b.capacity count b.phase bytes ≡ b
+    → seen_buffer b.number b.block b.capacity count b.phase b.stream bytes ≡ b
 seen_is b count bytes each count_is text =
     let behind : drop 32 bytes ≡ records_text b.records ++ zeros_in b = ap (drop 32) text in
     let records : records_in count (drop 32 bytes) ≡ b.records =
@@ -94,7 +94,7 @@ module _ (b : BufferState) (used : ℕ) (bytes : List ℕ) (keeps : KeepsBody b 
     text = text;
   }
 
-  pub seen_next : (count : ℕ) (two : List ℕ) → count ≡ length b.records + 1 → two ≡ bytes_of next → seen_buffer b.number b.block b.capacity count b.phase two ≡ next
+  pub seen_next : (count : ℕ) (two : List ℕ) → count ≡ length b.records + 1 → two ≡ bytes_of next → seen_buffer b.number b.block b.capacity count b.phase b.stream two ≡ next
   seen_next count two count_is text =
       seen_is next count two (recorded_push b.records (d, v) keeps.each ok) (count_is ∙ sym (length_push b.records (d, v))) text
 

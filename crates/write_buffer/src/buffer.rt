@@ -4,18 +4,19 @@ ghost use Rattle.rec_format.specs.Versions.{IsVersion, version_units, block_capa
 ghost use Rattle.block_format.specs.Layout.{IsBlockSize, IsBody};
 ghost use Rattle.write_buffer.specs.declared.phase.Phase.TheVariants.{Filling, Sealed};
 ghost use Rattle.write_buffer.specs.Phases.{phase_rank, later_phase};
-ghost use Rattle.write_buffer.specs.Buffers.{empty_buffer, used_units, body_in, bytes_of, with_record, with_phase};
+ghost use Rattle.write_buffer.specs.Buffers.{empty_buffer, used_units, body_in, bytes_of, with_record, with_phase, in_stream};
 
 use crate::NoMemory;
 use crate::parts::{put_head, put_record};
 use crate::phase::Phase;
+use crate::stream::Stream;
 use block_format::{BODY_HEAD_BYTES, SECTOR_BYTES, capacity};
 use rec_format::{Digest, UNIT_BYTES, Version, units_of};
 use std::alloc::Global;
 use std::marker::Model;
 
 /// The body of one write block in memory: its number, its block, how many units it can hold, its records in the order
-/// in which they came, and its phase.
+/// in which they came, its phase, and the stream whose records it takes.
 #[derive(Drop)]
 pub struct Buffer {
     bytes: Vec<u8>,
@@ -25,6 +26,7 @@ pub struct Buffer {
     count: u32,
     used: u32,
     phase: Phase,
+    stream: Stream,
 }
 
 impl Model for Buffer {
@@ -32,13 +34,13 @@ impl Model for Buffer {
 
     ghost Value = { BufferState };
 
-    ghost view = { λ b. seen_buffer b.number b.block b.capacity b.count b.phase b.bytes.items };
+    ghost view = { λ b. seen_buffer b.number b.block b.capacity b.count b.phase b.stream b.bytes.items };
 
-    ghost invariant = { λ b. KeepsBody (seen_buffer b.number b.block b.capacity b.count b.phase b.bytes.items) b.used b.bytes.items };
+    ghost invariant = { λ b. KeepsBody (seen_buffer b.number b.block b.capacity b.count b.phase b.stream b.bytes.items) b.used b.bytes.items };
 }
 
 impl Buffer {
-    /// An empty buffer of a block, which is being filled. All its memory is taken here; `block_size` is in bytes.
+    /// An empty buffer of a block, which is being filled with the records of clients. All its memory is taken here; `block_size` is in bytes.
     pub fn new(alloc: Global, number: u64, block: u32, block_size: u32) -> Result<Buffer, NoMemory>
         requires number { number ≤ top_number }
         requires size { IsBlockSize block_size }
@@ -58,7 +60,16 @@ impl Buffer {
             count: 0,
             used: 0,
             phase: Phase::Filling,
+            stream: Stream::Client,
         })
+    }
+
+    /// The same buffer, which takes the records of this stream.
+    pub fn in_stream(mut self, stream: Stream) -> Buffer
+        ensures { result ≡ in_stream stream self }
+    {
+        self.stream = stream;
+        self
     }
 
     /// The units that are left.
@@ -149,5 +160,12 @@ impl Buffer {
         ensures { result ≡ self.now.phase }
     {
         self.phase
+    }
+
+    /// The stream whose records it takes.
+    pub fn stream(&self) -> Stream
+        ensures { result ≡ self.now.stream }
+    {
+        self.stream
     }
 }

@@ -5,12 +5,14 @@
 mod buffer;
 mod parts;
 mod phase;
+mod stream;
 #[cfg(test)]
 mod tests;
 
 pub use buffer::Buffer;
 pub use phase::Phase;
 use std::alloc::AllocError;
+pub use stream::Stream;
 
 /// Want of memory.
 pub type NoMemory = AllocError;

@@ -42,7 +42,10 @@ fn fills_the_example(rt: HostRuntime) -> Result<(), Fail> {
     buffer.set_phase(Phase::GateBegun);
     buffer.set_phase(Phase::BodyDone);
     assert!(rt; buffer.phase() == Phase::GateBegun);
-    let body = buffer.into_body();
+    assert!(rt; buffer.stream() == Stream::Client);
+    let moves = buffer.in_stream(Stream::Defrag);
+    assert!(rt; moves.stream() == Stream::Defrag && moves.phase() == Phase::GateBegun);
+    let body = moves.into_body();
     assert_eq!(rt; body.len(), 12_288);
     assert!(rt; body[16] == 2 && body[20] == 8);
     assert!(rt; body[32..96] == FRONT[32..]);

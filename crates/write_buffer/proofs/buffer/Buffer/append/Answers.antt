@@ -18,11 +18,11 @@ put_record-requires-clause-room c =
 pub overflow_add-self : goal.overflow_add-self
 overflow_add-self c =
     let count = length-records_in c.self.inside.count (drop 32 c.self.inside.bytes.items) in
-    omega (arith, count, count_within (seen_buffer c.self.inside.number c.self.inside.block c.self.inside.capacity c.self.inside.count c.self.inside.phase c.self.inside.bytes.items).records, c.self.invariant.fits, c.self.invariant.capacity)
+    omega (arith, count, count_within (seen_buffer c.self.inside.number c.self.inside.block c.self.inside.capacity c.self.inside.count c.self.inside.phase c.self.inside.stream c.self.inside.bytes.items).records, c.self.invariant.fits, c.self.invariant.capacity)
 
 -- the buffer before
 abbrev before : goal.After-self-4-1 → BufferState
-before c = seen_buffer c.self.inside.number c.self.inside.block c.self.inside.capacity c.self.inside.count c.self.inside.phase c.self.inside.bytes.items
+before c = seen_buffer c.self.inside.number c.self.inside.block c.self.inside.capacity c.self.inside.count c.self.inside.phase c.self.inside.stream c.self.inside.bytes.items
 
 room_before : (c : goal.After-self-4-1) → used_units (before c) + version_units c.args.version.now ≤ (before c).capacity
 room_before c = subst (λ (b : BufferState). used_units b + version_units c.args.version.now ≤ b.capacity) (sym c.self.view_is) c.requires.room

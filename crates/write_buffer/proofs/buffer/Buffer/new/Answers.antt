@@ -2,6 +2,7 @@
 use Rattle.std.proofs.Common.{◌≡◌, ℕ, ◌+◌, ◌-◌, ◌*◌, List, ◌++◌, length, take, drop, replicate, refl, sym, ap, ◌∙◌, subst, arith}
 use Rattle.std.proofs.lemmas.List.{length-replicate}
 use Rattle.write_buffer.specs.declared.phase.Phase.TheVariants.{Filling}
+use Rattle.write_buffer.specs.declared.stream.Stream.TheVariants.{Client}
 use Rattle.write_buffer.specs.Buffers.{BufferState, KeepsBody, bytes_of, empty_buffer, seen_buffer}
 use Rattle.write_buffer.proofs.Appending.{empty_text, keeps_empty, seen_is, whole}
 use Rattle.write_buffer.proofs.Sizes.{body_size, sized}
@@ -29,7 +30,7 @@ text_made c =
     whole c.in_ok-bytes.bytes.len c.put_head.new.bytes c.in_ok-bytes.bytes.items (c.put_head.auto.bytes ∙ ap length c.deref_mut.ensures.value) c.in_ok-bytes.bytes.ok.0
     ∙ empty_text c.args.number c.args.block c.capacity.result (c.args.block_size - 4096) c.deref_mut.result.now c.put_head.new.bytes (capacity_is c) (c.deref_mut.ensures.value ∙ c.in_ok-bytes.ensures.items_if_clones_equal (λ y h. h)) c.put_head.ensures
 
-seen_made : (c : goal.After-capacity) → seen_buffer c.args.number c.args.block c.capacity.result 0 Filling (take c.in_ok-bytes.bytes.len (c.put_head.new.bytes ++ drop (length c.put_head.new.bytes) c.in_ok-bytes.bytes.items)) ≡ empty_buffer c.args.number c.args.block c.capacity.result
+seen_made : (c : goal.After-capacity) → seen_buffer c.args.number c.args.block c.capacity.result 0 Filling Client (take c.in_ok-bytes.bytes.len (c.put_head.new.bytes ++ drop (length c.put_head.new.bytes) c.in_ok-bytes.bytes.items)) ≡ empty_buffer c.args.number c.args.block c.capacity.result
 seen_made c = seen_is (empty_buffer c.args.number c.args.block c.capacity.result) 0 _ tt refl (text_made c)
 
 pub invariant_of-result : goal.invariant_of-result
