@@ -7,6 +7,7 @@ use Rattle.device_model.specs.Book.{Setup}
 use Rattle.device_model.specs.Device.{State}
 use Rattle.device_model.specs.Steps.{Step, states_through}
 use Rattle.recovery.specs.Surviving.{Survives}
+use Rattle.write_buffer.specs.declared.stream.Stream.{Stream}
 use Rattle.unit_ledger.specs.Rolls.{BlockRoll}
 use Rattle.hold_book.specs.Holds.{HoldState}
 use Rattle.block_shelf.specs.declared.refusals.PutRefusal.{PutRefusal}
@@ -15,7 +16,7 @@ use Rattle.block_shelf.specs.View.{ShelfView}
 use Rattle.block_shelf.specs.Calls.{Goes}
 use Rattle.block_shelf.specs.Changes.{SameButRoom, with_begun}
 use Rattle.block_shelf.specs.Appends.{refused_steps, with_first_shut, ready_for}
-use Rattle.block_shelf.proofs.Roomed.{room_placed, room_safe, room_disk}
+use Rattle.block_shelf.proofs.Roomed.{room_placed, room_queued, room_safe, room_disk}
 
 pub err_said : {A E : Type 0} (r : Result A E) (said : E) (P : A → Type 0) (Q : E → Type 0) → IsErrAnd r (λ e. e ≡ said) → Q said → MatchResult r P Q
 err_said (Ok a) said P Q is holds = absurd is
@@ -34,6 +35,7 @@ unfailed_steps Fault other = absurd (other refl)
 pub goes_behind : {D : Type 0} (view : D → DiskView) (setup : Setup) (steps : List Step) (s : State) (old mid new : ShelfView D) → SameButRoom old mid → Goes view setup steps mid s new → Goes view setup steps old s new
 goes_behind {D} view setup steps s old mid new same goes = record {
   stands = goes.stands;
+  queued = λ queued. goes.queued (room_queued old mid same setup s queued);
   placed = λ honest placed. goes.placed (now honest) (room_placed old mid same view s placed);
   safe = λ honest safe. goes.safe (now honest) (room_safe old mid same setup view s safe);
   leaves = λ honest safe. subst (λ (disk : D). Leaves (OneOf (Survives setup) (states_through setup steps s)) (view disk) (view new.disk)) (room_disk old mid same) (goes.leaves (now honest) (room_safe old mid same setup view s safe));
@@ -42,14 +44,14 @@ goes_behind {D} view setup steps s old mid new same goes = record {
     now : IsHonest (view old.disk) → IsHonest (view mid.disk)
     now honest = subst (λ (disk : D). IsHonest (view disk)) (sym (room_disk old mid same)) honest
 
-module _ {D : Type 0} (old mid new : ShelfView D) (same : SameButRoom old mid) where
-  pub ready_is : new ≡ with_begun (with_first_shut new.disk mid) → with_first_shut new.disk mid ≡ ready_for new old
+module _ {D : Type 0} (stream : Stream) (old mid new : ShelfView D) (same : SameButRoom old mid) where
+  pub ready_is : new ≡ with_begun stream (with_first_shut new.disk mid) → with_first_shut new.disk mid ≡ ready_for new old
   ready_is begun =
       ap (with_first_shut new.disk) same.rest
       ∙ ap (λ (rolls : List BlockRoll). record (with_first_shut new.disk old) { rolls = rolls; holds = mid.holds }) (sym (ap (λ (x : ShelfView D). x.rolls) begun))
       ∙ ap (λ (holds : HoldState). record (with_first_shut new.disk old) { rolls = new.rolls; holds = holds }) (sym (ap (λ (x : ShelfView D). x.holds) begun))
 
-  pub goes_begun : (view : D → DiskView) (setup : Setup) (s : State) (r : Result (Unit {0}) PutRefusal) → OnOk r (new ≡ with_begun (with_first_shut new.disk mid))
+  pub goes_begun : (view : D → DiskView) (setup : Setup) (s : State) (r : Result (Unit {0}) PutRefusal) → OnOk r (new ≡ with_begun stream (with_first_shut new.disk mid))
       → MatchResult r (λ done. Goes view setup [] mid s (with_first_shut new.disk mid)) (λ refusal. Goes view setup (refused_steps refusal) mid s new)
       → MatchResult r (λ done. Goes view setup [] old s (ready_for new old)) (λ refusal. Goes view setup (refused_steps refusal) old s new)
   goes_begun view setup s (Ok done) begun goes = subst (Goes view setup [] old s) (ready_is begun) (goes_behind view setup [] s old mid (with_first_shut new.disk mid) same goes)

@@ -29,10 +29,10 @@ use Rattle.kept_images.proofs.Gates.{gates_elsewhere, over_seen}
 use Rattle.kept_images.proofs.Loosening.{gate_own, gate_other}
 use Rattle.kept_images.proofs.Held.{knows_same, held_fewer}
 use Rattle.kept_images.proofs.Holding.{plain_holds}
-use Rattle.kept_images.proofs.Stepping.{plain_in_order}
+use Rattle.kept_images.proofs.Stepping.{plain_book}
 use Rattle.kept_images.proofs.Worked.{HasClosed, close_call}
 use Rattle.block_shelf.specs.View.{ShelfView, IsShelf, IsBufferOf, HasItsBody, WaitsShut, gate_at, records_of}
-use Rattle.block_shelf.specs.Standing.{StandsFor, IsPlaced, ImagesHold}
+use Rattle.block_shelf.specs.Standing.{StandsFor, QueueStands, IsPlaced, ImagesHold}
 use Rattle.block_shelf.specs.Calls.{Goes}
 use Rattle.block_shelf.specs.Changes.{with_gate_known}
 
@@ -89,6 +89,7 @@ module _ {D : Type 0} (view : D → DiskView) (shelf : ShelfView D) (disk : D) (
     packed = is.packed;
     waits = waits shelf.buffers unbuffered is.waits;
     ready = λ honest. readies (was_honest honest) shelf.buffers unbuffered is.buffers (is.ready (was_honest honest));
+    queue = is.queue;
     stand = λ honest k k_lt.
         subst (GateStands shelf.geometry (view disk).may_leave k) (sym (gates_with shelf.gates block gate lt k))
         (⊎_elim (λ (e : k ≡ block). subst (λ (x : Gate). GateStands shelf.geometry (view disk).may_leave k x) (sym (gate_own block k gate (gate_at shelf.gates) e)) (subst (λ (j : ℕ). GateStands shelf.geometry (view disk).may_leave j gate) (sym e) (stands honest)))
@@ -129,6 +130,7 @@ module _ {D : Type 0} (view : D → DiskView) (shelf : ShelfView D) (disk : D) (
     -- the bodies stay as they are
     pub still_placed : IsHonest (view shelf.disk) → ((digest : Digest) (l : Live) → live_of digest s.book.live ≡ Some l → l.block < shelf.geometry.blocks) → (gate : Gate) → IsPlaced view shelf s → IsPlaced view (with_gate_known disk block gate shelf) s
     still_placed honest within gate placed = record {
+      buffered = placed.buffered;
       there = λ e l v is_live is_entry none c image.
           let t = torn honest c (now_within c image) in
           let d = changes honest c image in
@@ -160,6 +162,7 @@ module _ {D : Type 0} (view : D → DiskView) (shelf : ShelfView D) (disk : D) (
       pub goes_unsure : Goes view setup [] shelf s (with_gate_known disk block Unsure shelf)
       goes_unsure = record {
         stands = still_stands Unsure;
+        queued = λ queued. record { same = queued.same; all = queued.all };
         placed = λ honest placed. still_placed honest within Unsure placed;
         safe = λ honest safe. unsure_safe honest safe unshut free;
         leaves = λ honest safe. leaves_more (λ c survives. inl survives) (closing_leaves honest safe unshut free);
@@ -168,6 +171,7 @@ module _ {D : Type 0} (view : D → DiskView) (shelf : ShelfView D) (disk : D) (
       pub goes_shut : (IsHonest (view shelf.disk) → IsShut shelf.geometry block (view disk).may_leave) → Goes view setup [] shelf s (with_gate_known disk block Shut shelf)
       goes_shut shut = record {
         stands = still_stands Shut;
+        queued = λ queued. record { same = queued.same; all = queued.all };
         placed = λ honest placed. still_placed honest within Shut placed;
         safe = λ honest safe. shut_safe honest safe unshut free (shut honest);
         leaves = λ honest safe. leaves_more (λ c survives. inl survives) (closing_leaves honest safe unshut free);
@@ -189,14 +193,18 @@ module _ {D : Type 0} (view : D → DiskView) (setup : Setup) (shelf : ShelfView
     next = stands.next;
     holds = record { known = stands.holds.known; there = stands.holds.there };
     lives = record { known = stands.lives.known; there = stands.lives.there };
-    listed = record { all = λ b lt may. back_there s.book.free b (stands.listed.all b lt may); one = stands.listed.one };
-    order = plain_in_order setup s (records_of shelf.buffers) stands.order closing_failed refl;
+    listed = record { all = λ b lt may. back_there s.book.free b (stands.listed.all b lt may); one = stands.listed.one; own = stands.listed.own };
+    order = plain_book setup s (records_of shelf.buffers) stands.order closing_failed refl;
     entries = λ l live. let old = stands.entries l live in record { version = old.version; entry_is = old.entry_is; lies = old.lies };
   }
 
+  pub passed_queued : QueueStands setup shelf s → QueueStands setup (record shelf { free = first_to_back shelf.free }) (after_step setup closing_failed s)
+  unfolding after_step
+  passed_queued queued = record { same = queued.same; all = queued.all }
+
   pub passed_placed : IsPlaced view shelf s → IsPlaced view (record shelf { free = first_to_back shelf.free }) (after_step setup closing_failed s)
   unfolding after_step
-  passed_placed placed = record { there = λ e l v is_live is_entry none c image. placed.there e l v is_live is_entry none c image }
+  passed_placed placed = record { buffered = placed.buffered; there = λ e l v is_live is_entry none c image. placed.there e l v is_live is_entry none c image }
 
   pub passed_safe : ImagesHold setup view shelf s → ImagesHold setup view (record shelf { free = first_to_back shelf.free }) (after_step setup closing_failed s)
   passed_safe safe = plain_holds setup shelf.geometry s (records_of shelf.buffers) (gate_at shelf.gates) (view shelf.disk).may_leave safe closing_failed refl tt

@@ -1,17 +1,18 @@
 -- A copy of a shelf is no longer live: what every shelf keeps, and the state that it stands for then.
-use Rattle.std.proofs.Common.{◌≡◌, ◌≢◌, inl, ⊎_elim, ℕ, ◌+◌, ◌<◌, ◌≤◌, Bool, true, false, cond, ◌&&◌, List, [], ◌∷◌, ◌++◌, map, length, sum_by, refl, sym, ◌∙◌, ap, subst, arith, append_assoc}
+use Rattle.std.proofs.Common.{◌≡◌, ◌≢◌, inl, ⊎_elim, ℕ, ◌+◌, ◌<◌, ◌≤◌, Bool, true, false, not, cond, ◌&&◌, List, [], ◌∷◌, ◌++◌, map, length, sum_by, refl, sym, ◌∙◌, ap, subst, arith, append_assoc}
 use Rattle.std.specs.Prelude.{Some, IsSomeAnd, Contains, ◌==◌}
 use Rattle.std.specs.List.{AllByRecursion}
 use Rattle.std.proofs.lemmas.Bool.{both_ways, and_parts, or_cases, cond-false, eqb-true}
 use Rattle.std.proofs.lemmas.List.{append-nil, length-set, length-append}
 use Rattle.std.proofs.lemmas.List.Sums.{sum_by-cons}
 use Rattle.disk_model.specs.Disk.{DiskView, IsDisk}
-use Rattle.disk_model.specs.Runs.{OneOf, leaves_none}
+use Rattle.disk_model.specs.Runs.{OneOf}
 use Rattle.rec_format.specs.declared.version.Digest.{Digest}
+use Rattle.rec_format.specs.declared.version.Version.{Version}
 use Rattle.rec_format.specs.Places.{same_digest}
 use Rattle.rec_format.proofs.Laws.{same_digest_refl, same_digest_is}
 use Rattle.device_model.specs.Histories.{dropped, top_of}
-use Rattle.device_model.specs.Book.{Setup, Buffer, Live, live_of, may_be_free}
+use Rattle.device_model.specs.Book.{Setup, Buffer, Live, live_of, may_be_free, use_of}
 use Rattle.device_model.specs.Device.{State, entry, history, entry_is_covered}
 use Rattle.device_model.specs.Steps.{removed, after_step, states_through}
 use Rattle.recovery.specs.Surviving.{Survives}
@@ -21,22 +22,24 @@ use Rattle.recovery.proofs.Opening.{all_joined}
 use Rattle.recovery.proofs.Each.{all_map}
 use Rattle.write_buffer.specs.Buffers.{BufferState, used_units}
 use Rattle.unit_ledger.specs.declared.roll.LiveCopy.{LiveCopy}
-use Rattle.unit_ledger.specs.Rolls.{BlockRoll, copies_in, copy_at, live_in_block}
+use Rattle.unit_ledger.specs.Rolls.{BlockRoll, copies_in, copy_at, live_in_block, rolled_use}
+use Rattle.defrag_queue.specs.Queues.{QueueState, requeued}
 use Rattle.hold_book.specs.Holds.{Holds, IsHeld, has_hold, with_pair, HoldState, HoldsBelow}
 use Rattle.hold_book.proofs.Laws.{has_hold-with_hold}
 use Rattle.kept_trail.specs.Trail.{places_of, IsBooked}
 use Rattle.kept_trail.proofs.Books.{live_there, others_live}
-use Rattle.kept_images.proofs.Held.{held_survives}
 use Rattle.kept_images.proofs.Holding.{plain_holds}
-use Rattle.kept_images.proofs.Stepping.{plain_in_order}
+use Rattle.kept_images.proofs.Stepping.{plain_book}
 use Rattle.block_shelf.specs.declared.place.Place.{Place}
-use Rattle.block_shelf.specs.View.{ShelfView, IsShelf, IsRoll, ArePacked, IsUnused, AreApart, records_of, gate_at}
-use Rattle.block_shelf.specs.Standing.{StandsFor, IsPlaced, LivesSame, book_buffer}
+use Rattle.block_shelf.specs.View.{ShelfView, IsShelf, IsRoll, IsSetupOf, ArePacked, IsUnused, AreApart, records_of, gate_at}
+use Rattle.block_shelf.specs.Standing.{StandsFor, QueueStands, IsPlaced, LivesSame, book_buffer}
 use Rattle.block_shelf.specs.Calls.{Goes, copy_live}
-use Rattle.block_shelf.specs.Changes.{without_copy, with_free, rolls_without}
+use Rattle.block_shelf.specs.Changes.{has_buffer_in, without_copy, with_free, with_requeued, rolls_without}
 use Rattle.block_shelf.proofs.Blocks.{apart_push, apart_back, few}
 use Rattle.block_shelf.proofs.Frees.{IsVacant, vacant_from, vacant_is}
-use Rattle.block_shelf.proofs.Dropping.{dropped_buffers, dropped_next, dropped_holds, dropped_lives, left_live, stays_live, dropped_listed, dropped_frees, fewer, fewer_units}
+use Rattle.block_shelf.proofs.Dropping.{dropped_book, dropped_buffers, dropped_next, dropped_holds, dropped_lives, left_live, stays_live, dropped_listed, dropped_frees, fewer, fewer_own, fewer_units, use_elsewhere}
+use Rattle.block_shelf.proofs.Going.{stays}
+use Rattle.block_shelf.proofs.QueueSteps.{has_buffer_is, marked_as, queue_considered, queued_alike, rolled_is_use}
 use Rattle.block_shelf.proofs.Rolls.{same_unit, left_roll, left_packed, no_copies, each_left, left_there, left_from}
 
 -- ---- what every shelf keeps
@@ -66,6 +69,7 @@ held_shelf view shelf holds below free is = record {
   waits = is.waits;
   ready = is.ready;
   stand = is.stand;
+  queue = is.queue;
 }
 
 -- one more hold, of a block that isn't free
@@ -104,6 +108,7 @@ module _ {D : Type 0} (view : D → DiskView) (shelf : ShelfView D) (is : IsShel
     waits = is.waits;
     ready = is.ready;
     stand = is.stand;
+    queue = is.queue;
   }
     where
       lt : place.block < length shelf.rolls
@@ -131,6 +136,7 @@ module _ {D : Type 0} (view : D → DiskView) (shelf : ShelfView D) (is : IsShel
       waits = is.waits;
       ready = is.ready;
       stand = is.stand;
+      queue = is.queue;
     }
       where
         blocks : (bs : List BufferState) → AllByRecursion (λ b. b.block ≢ block) bs → AllByRecursion (λ x. x ≢ block) (map (λ b. b.block) bs)
@@ -144,16 +150,10 @@ module _ {D : Type 0} (view : D → DiskView) (shelf : ShelfView D) (is : IsShel
         subst (λ (n : ℕ). n ≤ shelf.geometry.blocks) (length-append shelf.free (block ∷ []))
         (few shelf.geometry.blocks (shelf.free ++ block ∷ []) (apart_push shelf.free block free unlisted) (all_joined (λ b. b < shelf.geometry.blocks) shelf.free (block ∷ []) is.free (below, tt)))
 
--- ---- copies that take room
-
-pub no_units : (cs : List LiveCopy) → AllByRecursion (λ c. 1 ≤ c.units) cs → sum_by (λ c. c.units) cs ≡ 0 → cs ≡ []
-no_units [] takes none = refl
-no_units (c ∷ cs) takes none = let first = takes.0 in absurd (omega (arith, sum_by-cons (λ (d : LiveCopy). d.units) c cs, first, none))
-
 -- ---- the state
 
 module _ {D : Type 0} (view : D → DiskView) (is_disk : (disk : D) → IsDisk (view disk)) (setup : Setup) (shelf : ShelfView D) (s : State) (is : IsShelf view shelf) (stands : StandsFor setup shelf s)
-    (blocks : setup.blocks ≡ shelf.geometry.blocks) (digest : Digest) (place : Place) (live : Contains s.book.live (copy_live digest place)) (below : place.block < shelf.geometry.blocks) where
+    (of_shelf : IsSetupOf setup shelf) (digest : Digest) (place : Place) (live : Contains s.book.live (copy_live digest place)) (below : place.block < shelf.geometry.blocks) where
   abbrev after : State
   after = after_step setup (removed digest) s
 
@@ -202,8 +202,8 @@ module _ {D : Type 0} (view : D → DiskView) (is_disk : (disk : D) → IsDisk (
       by true is = absurd (both_ways (same_digest digest e) other (subst (λ (d : Digest). same_digest digest d ≡ true) (sym (same_digest_is e digest is)) (same_digest_refl digest)))
 
   -- with these free blocks the shelf stands for the state behind it
-  stands_with : (free : List ℕ) → after.book.free ≡ free → StandsFor setup (record (without_copy place shelf) { free = free }) after
-  stands_with free same = record {
+  stands_with : (free : List ℕ) (queue : QueueState) → after.book.free ≡ free → StandsFor setup (record (without_copy place shelf) { free = free; queue = queue }) after
+  stands_with free queue same = record {
     buffers = dropped_buffers setup s digest ∙ stands.buffers;
     free = same;
     next = dropped_next setup s digest ∙ stands.next;
@@ -213,20 +213,18 @@ module _ {D : Type 0} (view : D → DiskView) (is_disk : (disk : D) → IsDisk (
     };
     lives = lives_left;
     listed = dropped_listed setup s digest booked stands.listed;
-    order = plain_in_order setup s (records_of shelf.buffers) stands.order (removed digest) refl;
+    order = plain_book setup s (records_of shelf.buffers) stands.order (removed digest) refl;
     entries = λ l there.
         let left = left_live setup s digest l (subst (λ (x : List Live). Contains x l) (dropped_lives setup s digest) there) in
         let old = stands.entries l left.0 in
         record { version = old.version; entry_is = entry_left l.digest left.1 ∙ old.entry_is; lies = old.lies };
   }
 
-  placed_with : (free : List ℕ) → IsPlaced view shelf s → IsPlaced view (record (without_copy place shelf) { free = free }) after
-  placed_with free placed = record {
-    there = λ e l v is_live is_entry none c image.
-        let left = left_live setup s digest l (subst (λ (x : List Live). Contains x l) (dropped_lives setup s digest) (live_there e after.book.live l is_live)) in
-        let own = live_own e after.book.live l is_live in
-        let other : same_digest digest e ≡ false = subst (λ (d : Digest). same_digest digest d ≡ false) (sym own) left.1 in
-        placed.there e l v (sym (others_live digest e s.book.live (turned e other)) ∙ ap (live_of e) (sym (dropped_lives setup s digest)) ∙ is_live) (sym (entry_left e other) ∙ is_entry) none c image;
+  -- another digest's copy lies where it lay
+  placed_with : (free : List ℕ) (queue : QueueState) → IsPlaced view shelf s → IsPlaced view (record (without_copy place shelf) { free = free; queue = queue }) after
+  placed_with free queue placed = record {
+    buffered = λ e l v is_live is_entry. placed.buffered e l v (was_live e l is_live) (was_entry e l v is_live is_entry);
+    there = λ e l v is_live is_entry. placed.there e l v (was_live e l is_live) (was_entry e l v is_live is_entry);
   }
     where
       turned : (e : Digest) → same_digest digest e ≡ false → same_digest e digest ≡ false
@@ -244,13 +242,50 @@ module _ {D : Type 0} (view : D → DiskView) (is_disk : (disk : D) → IsDisk (
           by true is found rest = let same : m ≡ l = cc in same_digest_is e m.digest is ∙ ap (λ (x : Live). x.digest) same
           by false is found rest = rest found
 
-  pub goes_with : entry_is_covered s digest ≡ false → (free : List ℕ) → after.book.free ≡ free → Goes view setup (removed digest ∷ []) shelf s (record (without_copy place shelf) { free = free })
+      apart : (e : Digest) (l : Live) → live_of e after.book.live ≡ Some l → same_digest digest e ≡ false
+      apart e l is_live =
+          let left = left_live setup s digest l (subst (λ (x : List Live). Contains x l) (dropped_lives setup s digest) (live_there e after.book.live l is_live)) in
+          subst (λ (d : Digest). same_digest digest d ≡ false) (sym (live_own e after.book.live l is_live)) left.1
+
+      was_live : (e : Digest) (l : Live) → live_of e after.book.live ≡ Some l → live_of e s.book.live ≡ Some l
+      was_live e l is_live = sym (others_live digest e s.book.live (turned e (apart e l is_live))) ∙ ap (live_of e) (sym (dropped_lives setup s digest)) ∙ is_live
+
+      was_entry : (e : Digest) (l : Live) (v : Version) → live_of e after.book.live ≡ Some l → entry after e ≡ Some v → entry s e ≡ Some v
+      was_entry e l v is_live is_entry = sym (entry_left e (apart e l is_live)) ∙ is_entry
+
+  -- ---- the queue
+
+  -- the block is considered
+  abbrev pub requeued_view : ShelfView D
+  requeued_view = with_requeued place.block (without_copy place shelf)
+
+  lt_setup : place.block < setup.blocks
+  lt_setup = subst (λ (n : ℕ). place.block < n) (sym of_shelf.shape.blocks) below
+
+  use_is : rolled_use place.block rolls ≡ use_of (fewer setup s digest) place.block
+  use_is = rolled_is_use rolls (fewer setup s digest) place.block (record {
+    known = λ k c there. lives_left.known k c (subst (λ (l : List Live). Contains l (live_in_block k c)) (sym (dropped_lives setup s digest)) there);
+    there = λ k c there. subst (λ (l : List Live). Contains l (live_in_block k c)) (dropped_lives setup s digest) (lives_left.there k c there);
+  })
+      (each_left (λ j cs. IsRoll cs) place.block place.unit shelf.rolls lt place.block (is.each place.block) (λ roll. left_roll place.unit (copies_in place.block shelf.rolls) roll))
+      (fewer_own setup s digest booked stands.listed)
+
+  queued_with : (free : List ℕ) → QueueStands setup shelf s → QueueStands setup (record requeued_view { free = free }) after
+  queued_with free queued =
+      queue_considered setup shelf (record requeued_view { free = free }) s after (fewer setup s digest) (dropped_book setup s digest) refl
+      (subst (λ (n : ℕ). AllByRecursion (λ b. b < n) shelf.queue.queue) (sym of_shelf.shape.blocks) is.queue.below) queued place.block lt_setup
+      (ap (λ (t : Bool). requeued t place.block shelf.queue.queue) (marked_as setup shelf (fewer setup s digest) place.block (rolled_use place.block rolls) (not (has_buffer_in shelf.buffers place.block)) of_shelf is.queue use_is
+      (ap not (has_buffer_is shelf.buffers (fewer setup s digest) place.block stands.buffers))))
+      (λ b lt other. queued_alike setup s.book (fewer setup s digest) b refl
+      (ap (sum_by (λ (l : Live). l.units)) (use_elsewhere digest b s.book.live (λ l there same at. other (sym at ∙ ap (λ (x : Live). x.block) (sym (stands.listed.one (copy_live digest place) l live there same)))))))
+
+  goes_with : entry_is_covered s digest ≡ false → (free : List ℕ) → after.book.free ≡ free → Goes view setup (removed digest ∷ []) shelf s (record requeued_view { free = free })
   goes_with uncovered free same = record {
-    stands = stands_with free same;
-    placed = λ honest placed. placed_with free placed;
+    stands = stands_with free requeued_view.queue same;
+    queued = queued_with free;
+    placed = λ honest placed. placed_with free requeued_view.queue placed;
     safe = λ honest safe. plain_holds setup shelf.geometry s (records_of shelf.buffers) (gate_at shelf.gates) (view shelf.disk).may_leave safe (removed digest) refl uncovered;
-    leaves = λ honest safe. leaves_none (OneOf (Survives setup) (states_through setup (removed digest ∷ []) s)) (view shelf.disk) (is_disk shelf.disk)
-        (λ c image. inl (held_survives setup shelf.geometry s (records_of shelf.buffers) (gate_at shelf.gates) (view shelf.disk).may_leave safe.held c image));
+    leaves = λ honest safe. stays view setup shelf s (is_disk shelf.disk) (OneOf (Survives setup) (states_through setup (removed digest ∷ []) s)) (λ c h. inl h) safe;
   }
 
   -- ---- whether the block is free then
@@ -262,7 +297,7 @@ module _ {D : Type 0} (view : D → DiskView) (is_disk : (disk : D) → IsDisk (
       over [] = refl
       over (b ∷ bs) = ap (λ (l : List (ℕ × ℕ)). (b.number, b.block) ∷ l) (over bs)
 
-  is_vacant : IsUnused (without_copy place shelf) place.block → IsVacant (fewer setup s digest) place.block
+  is_vacant : IsUnused requeued_view place.block → IsVacant (fewer setup s digest) place.block
   is_vacant unused = record {
     places = λ n there.
         let b = map_from (λ (x : BufferState). (x.number, x.block)) shelf.buffers (n, place.block) (subst (λ (l : List (ℕ × ℕ)). Contains l (n, place.block)) places_same there) in
@@ -274,7 +309,7 @@ module _ {D : Type 0} (view : D → DiskView) (is_disk : (disk : D) → IsDisk (
     holds = λ n there. unused.holds (n, stands.holds.known n place.block there);
   }
 
-  is_unused : IsVacant (fewer setup s digest) place.block → IsUnused (without_copy place shelf) place.block
+  is_unused : IsVacant (fewer setup s digest) place.block → IsUnused requeued_view place.block
   is_unused vacant = record {
     buffers = all_from (λ b. b.block ≢ place.block) shelf.buffers
         (λ b there at. vacant.places b.number (subst (λ (l : List (ℕ × ℕ)). Contains l (b.number, place.block)) (sym places_same)
@@ -286,13 +321,13 @@ module _ {D : Type 0} (view : D → DiskView) (is_disk : (disk : D) → IsDisk (
 
   frees : (may : Bool) → may_be_free (fewer setup s digest) place.block ≡ may → after.book.free ≡ shelf.free ++ cond may (place.block ∷ []) []
   frees may is_may =
-      dropped_frees setup s digest booked stands.listed (copy_live digest place) live (same_digest_refl digest) (subst (λ (n : ℕ). place.block < n) (sym blocks) below)
+      dropped_frees setup s digest booked stands.listed (copy_live digest place) live (same_digest_refl digest) lt_setup
       ∙ ap (λ (l : List ℕ). l ++ cond (may_be_free (fewer setup s digest) place.block) (place.block ∷ []) []) stands.free ∙ ap (λ (b : Bool). shelf.free ++ cond b (place.block ∷ []) []) is_may
 
-  pub goes_freed : entry_is_covered s digest ≡ false → IsUnused (without_copy place shelf) place.block → Goes view setup (removed digest ∷ []) shelf s (with_free place.block (without_copy place shelf))
+  pub goes_freed : entry_is_covered s digest ≡ false → IsUnused requeued_view place.block → Goes view setup (removed digest ∷ []) shelf s (with_free place.block requeued_view)
   goes_freed uncovered unused = goes_with uncovered (shelf.free ++ place.block ∷ []) (frees true (vacant_is (fewer setup s digest) place.block (is_vacant unused)))
 
-  pub goes_kept : entry_is_covered s digest ≡ false → (IsUnused (without_copy place shelf) place.block → ⊥) → Goes view setup (removed digest ∷ []) shelf s (without_copy place shelf)
+  pub goes_kept : entry_is_covered s digest ≡ false → (IsUnused requeued_view place.block → ⊥) → Goes view setup (removed digest ∷ []) shelf s requeued_view
   goes_kept uncovered used = goes_with uncovered shelf.free (frees false (by (may_be_free (fewer setup s digest) place.block) refl) ∙ append-nil shelf.free)
     where
       by : (may : Bool) → may_be_free (fewer setup s digest) place.block ≡ may → may_be_free (fewer setup s digest) place.block ≡ false

@@ -1,8 +1,8 @@
 -- A copy is no longer live: the book behind it, and the shelf.
 use Rattle.std.proofs.Common.{◌≡◌, ◌≢◌, ◌⊎◌, inl, inr, ℕ, ◌<◌, ◌≤◌, Bool, true, false, not, ◌&&◌, cond, List, [], ◌∷◌, ◌++◌, refl, sym, ◌∙◌, ap, subst, arith}
-use Rattle.std.specs.Prelude.{Contains}
+use Rattle.std.specs.Prelude.{Contains, filter, ◌==◌}
 use Rattle.std.specs.List.{AllByRecursion}
-use Rattle.std.proofs.lemmas.Bool.{cases_Bool, not-true}
+use Rattle.std.proofs.lemmas.Bool.{cases_Bool, cond-false, ne_eqb, not-true}
 use Rattle.rec_format.specs.declared.version.Digest.{Digest}
 use Rattle.rec_format.specs.Places.{same_digest}
 use Rattle.rec_format.proofs.Laws.{same_digest_is}
@@ -10,11 +10,12 @@ use Rattle.device_model.specs.Book.{Setup, Book, Live, without_live, may_be_free
 use Rattle.device_model.specs.Device.{State}
 use Rattle.device_model.specs.Steps.{removed, after_step}
 use Rattle.recovery.proofs.Growing.{all_from, all_at}
-use Rattle.recovery.proofs.Members.{filter_there, filter_from}
+use Rattle.recovery.proofs.Members.{filter_there, filter_from, first_there, rest_there}
 use Rattle.kept_trail.specs.Trail.{IsBooked}
 use Rattle.kept_trail.proofs.Books.{used_not_free}
-use Rattle.block_shelf.specs.Standing.{IsListed}
+use Rattle.block_shelf.specs.Standing.{HaveOwnDigests, IsListed}
 use Rattle.block_shelf.proofs.Frees.{IsVacant, vacant_from, vacant_is, filter_one, refreshed_free, refreshed_all, updated_more, not_in, is_in_there}
+use Rattle.block_shelf.proofs.QueueSteps.{own_digests_kept}
 
 -- ---- the book
 
@@ -41,6 +42,10 @@ module _ (setup : Setup) (s : State) (digest : Digest) where
   unfolding after_step dropped_live refreshed
   dropped_lives = refl
 
+  pub dropped_book : after.book ≡ refreshed setup fewer
+  unfolding after_step dropped_live
+  dropped_book = refl
+
   dropped_free : after.book.free ≡ (refreshed setup fewer).free
   unfolding after_step dropped_live
   dropped_free = refl
@@ -56,6 +61,18 @@ module _ (setup : Setup) (s : State) (digest : Digest) where
   pub stays_live : (m : Live) → Contains s.book.live m → same_digest digest m.digest ≡ false → Contains (without_live digest s.book.live) m
   stays_live m there other = filter_there (λ (l : Live). not (same_digest digest l.digest)) s.book.live m (ap not other) there
 
+-- in a block in which the copy didn't lie as much is live as before
+pub use_elsewhere : (digest : Digest) (block : ℕ) (live : List Live) → ((l : Live) → Contains live l → same_digest digest l.digest ≡ true → l.block ≢ block)
+    → filter (λ l. l.block == block) (without_live digest live) ≡ filter (λ l. l.block == block) live
+use_elsewhere digest block [] apart = refl
+use_elsewhere digest block (l ∷ live) apart = by (same_digest digest l.digest) refl (use_elsewhere digest block live (λ m there. apart m (rest_there l live m there)))
+  where
+    by : (b : Bool) → same_digest digest l.digest ≡ b → filter (λ m. m.block == block) (without_live digest live) ≡ filter (λ m. m.block == block) live
+        → filter (λ m. m.block == block) (cond (not b) (l ∷ without_live digest live) (without_live digest live)) ≡ filter (λ m. m.block == block) (l ∷ live)
+    by true same rest =
+        rest ∙ sym (cond-false (l.block == block) (l ∷ filter (λ (m : Live). m.block == block) live) (filter (λ (m : Live). m.block == block) live) (ne_eqb l.block block (apart l (first_there l live) same)))
+    by false other rest = ap (λ (ls : List Live). cond (l.block == block) (l ∷ ls) ls) rest
+
 module _ (setup : Setup) (s : State) (digest : Digest) (booked : IsBooked s.book) (listed : IsListed setup s.book) where
   abbrev fewer' : Book
   fewer' = fewer setup s digest
@@ -63,11 +80,15 @@ module _ (setup : Setup) (s : State) (digest : Digest) (booked : IsBooked s.book
   abbrev after' : State
   after' = after_step setup (removed digest) s
 
+  pub fewer_own : HaveOwnDigests fewer'.live
+  fewer_own = own_digests_kept (λ l. not (same_digest digest l.digest)) s.book.live listed.own
+
   pub dropped_listed : IsListed setup after'.book
   dropped_listed = record {
     all = λ b lt may. subst (λ (l : List ℕ). Contains l b) (sym (dropped_free setup s digest)) (refreshed_all setup fewer' b lt (sym (dropped_may setup s digest b) ∙ may));
     one = λ l m in_l in_m same.
         listed.one l m (left_live setup s digest l (subst (λ (x : List Live). Contains x l) (dropped_lives setup s digest) in_l)).0 (left_live setup s digest m (subst (λ (x : List Live). Contains x m) (dropped_lives setup s digest) in_m)).0 same;
+    own = subst HaveOwnDigests (sym (dropped_lives setup s digest)) fewer_own;
   }
 
   still_vacant : (b : ℕ) → IsVacant s.book b → IsVacant fewer' b

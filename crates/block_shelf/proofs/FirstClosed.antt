@@ -28,7 +28,7 @@ use Rattle.block_shelf.specs.Appends.{with_first_shut, with_first_unclosed}
 use Rattle.block_shelf.proofs.Blocks.{apart_from, apart_push}
 use Rattle.block_shelf.proofs.Sealing.{all_before_map}
 use Rattle.block_shelf.proofs.InNew.{first_and_rest}
-use Rattle.block_shelf.proofs.Closing.{gate_shelf, goes_shut, goes_unsure, passed_stands, passed_placed, passed_safe}
+use Rattle.block_shelf.proofs.Closing.{gate_shelf, goes_shut, goes_unsure, passed_stands, passed_queued, passed_placed, passed_safe}
 use Rattle.block_shelf.proofs.Roomed.{goes_nowhere}
 
 -- ---- the first free block goes to the back
@@ -71,6 +71,7 @@ passed_shelf view shelf is = record {
   waits = is.waits;
   ready = is.ready;
   stand = is.stand;
+  queue = is.queue;
 }
 
 -- ---- its gate
@@ -145,6 +146,7 @@ module _ {D : Type 0} (view : D → DiskView) (is_disk : (disk : D) → IsDisk (
         let goes : Goes view setup [] shelf s mid = goes_unsure view shelf disk first is (is_disk disk) (is_disk shelf.disk) below unbuffered later.size was_honest later.time torn setup s stands open_still there in
         record {
           stands = passed_stands view setup mid s goes.stands;
+          queued = λ queued. passed_queued view setup mid s (goes.queued queued);
           placed = λ h placed. passed_placed view setup mid s (goes.placed h placed);
           safe = λ h safe. passed_safe view setup mid s (goes.safe h safe);
           leaves = λ h safe. leaves_more (λ c image. one_of_front (Survives setup) (s ∷ []) (after_step setup closing_failed s ∷ []) c image) (goes.leaves h safe);

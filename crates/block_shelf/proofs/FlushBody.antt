@@ -1,5 +1,6 @@
--- The body of the first buffer is written, behind a gate that is shut.
-use Rattle.std.proofs.Common.{◌≡◌, inl, ℕ, ◌+◌, ◌-◌, true, false, List, [], ◌∷◌, refl, sym, ap, ◌∙◌, subst}
+-- The body of a sealed buffer is written, behind a gate that is shut.
+use Rattle.std.proofs.Common.{◌≡◌, inl, ℕ, ◌+◌, ◌-◌, ◌<◌, true, false, List, [], ◌∷◌, ◌++◌, refl, sym, ap, ◌∙◌, subst}
+use Rattle.std.specs.List.{AllByRecursion}
 use Rattle.std.proofs.lemmas.Bool.{false≢true}
 use Rattle.disk_model.specs.Disk.{Images, DiskView, IsHonest, Within, TornFrom, meanwhile}
 use Rattle.device_model.specs.Book.{Setup}
@@ -11,56 +12,72 @@ use Rattle.write_buffer.specs.declared.phase.Phase.{Phase}
 use Rattle.write_buffer.specs.declared.phase.Phase.TheVariants.{Sealed, BodyDone}
 use Rattle.write_buffer.specs.Phases.{later_phase}
 use Rattle.write_buffer.specs.Buffers.{BufferState, bytes_of, with_phase}
+use Rattle.kept_trail.specs.Trail.{Records}
 use Rattle.kept_images.specs.Changes.{ChangesIn}
 use Rattle.kept_images.specs.Gates.{GateStands}
 use Rattle.kept_images.specs.Held.{HoldsGates, IsKeptLoosened}
 use Rattle.kept_images.proofs.Held.{held_survives, held_fewer, body_held, body_knows}
 use Rattle.kept_images.proofs.Knowing.{knows_fewer}
 use Rattle.kept_images.proofs.Parts.{body_changes}
-use Rattle.block_shelf.specs.View.{ShelfView, IsShelf, is_unsealed, is_written, has_begun, records_of, gate_at}
+use Rattle.block_shelf.specs.View.{ShelfView, IsShelf, IsBufferOf, WaitsShut, is_unsealed, is_written, has_begun, records_of, gate_at}
 use Rattle.block_shelf.specs.Standing.{StandsFor, ImagesHold, book_phase}
 use Rattle.block_shelf.specs.Calls.{Goes}
-use Rattle.block_shelf.proofs.FlushShelf.{KeepsDisk, now_within, written, written_shelf, still_stands, still_placed}
+use Rattle.block_shelf.proofs.Between.{all_own, records_same}
+use Rattle.block_shelf.proofs.FlushShelf.{KeepsDisk, now_within, written, own, written_shelf, still_stands, still_queued, still_placed}
 
-module _ {D : Type 0} (view : D → DiskView) (shelf : ShelfView D) (disk : D) (b : BufferState) (rest : List BufferState) (is : IsShelf view (record shelf { buffers = b ∷ rest })) (call : KeepsDisk view shelf.disk disk) (sealed : b.phase ≡ Sealed)
+-- the gate of a buffer that waits is shut
+waits_shut : {D : Type 0} (view : D → DiskView) (shelf : ShelfView D) (front : List BufferState) (b : BufferState) (behind : List BufferState) → shelf.buffers ≡ front ++ b ∷ behind → IsShelf view shelf → b.phase ≡ Sealed → gate_at shelf.gates b.block ≡ Shut
+waits_shut view shelf front b behind parts is sealed = all_own (WaitsShut shelf.gates) front b behind (subst (AllByRecursion (WaitsShut shelf.gates)) parts is.waits) (ap has_begun sealed)
+
+module _ {D : Type 0} (view : D → DiskView) (shelf : ShelfView D) (disk : D) (front : List BufferState) (b : BufferState) (behind : List BufferState) (is : IsShelf view (record shelf { buffers = front ++ b ∷ behind })) (call : KeepsDisk view shelf.disk disk) (sealed : b.phase ≡ Sealed)
     (torn : IsHonest (view shelf.disk) → TornFrom (block_place shelf.geometry b.block + 4096) (shelf.geometry.block_size - 4096) (view shelf.disk).may_leave (meanwhile (view shelf.disk) (view disk)))
     (still : IsHonest (view shelf.disk) → IsShut shelf.geometry b.block (meanwhile (view shelf.disk) (view disk))) where
+  abbrev old : ShelfView D
+  old = record shelf { buffers = front ++ b ∷ behind }
+
   abbrev since : Images
   since = meanwhile (view shelf.disk) (view disk)
 
-  abbrev fewer : Within since (view disk).may_leave
+  abbrev records : Records
+  records = records_of (front ++ b ∷ behind)
+
+  fewer : Within since (view disk).may_leave
   fewer = now_within view shelf.disk disk call
 
   away : IsHonest (view shelf.disk) → ChangesIn shelf.geometry b.block (view shelf.disk).may_leave since
   away honest = body_changes shelf.geometry b.block is.geometry (view shelf.disk).may_leave since (torn honest)
 
   is_shut : gate_at shelf.gates b.block ≡ Shut
-  is_shut = is.waits.0 (ap has_begun sealed)
+  is_shut = waits_shut view old front b behind refl is sealed
 
-  pub body_shelf : (p : Phase) → is_unsealed p ≡ false → (IsHonest (view disk) → is_written p ≡ true → HasOneBody shelf.geometry b.block (bytes_of b) (view disk).may_leave) → IsShelf view (written view shelf disk b rest p shelf.gates)
+  below : b.block < shelf.geometry.blocks
+  below = (own view shelf disk front b behind is call away).block
+
+  pub body_shelf : (p : Phase) → is_unsealed p ≡ false → (IsHonest (view disk) → is_written p ≡ true → HasOneBody shelf.geometry b.block (bytes_of b) (view disk).may_leave) → IsShelf view (written view shelf disk front b behind p shelf.gates)
   body_shelf p unfilled body =
-      written_shelf view shelf disk b rest is call away p shelf.gates unfilled refl (λ k other. refl) (λ unbegun. is_shut) body
+      written_shelf view shelf disk front b behind is call away p shelf.gates unfilled refl (λ k other. refl) (λ unbegun. is_shut) body
       (λ honest. subst (GateStands shelf.geometry (view disk).may_leave b.block) (sym is_shut) (λ c image. still (call.was_honest honest) c (fewer c image)))
 
-  module _ (setup : Setup) (s : State) (stands : StandsFor setup (record shelf { buffers = b ∷ rest }) s) where
-    module _ (honest : IsHonest (view shelf.disk)) (safe : ImagesHold setup view (record shelf { buffers = b ∷ rest }) s) where
-      in_since : IsKeptLoosened setup shelf.geometry s (records_of (b ∷ rest)) (gate_at shelf.gates) since
-      in_since = body_held setup shelf.geometry s (records_of (b ∷ rest)) (gate_at shelf.gates) (view shelf.disk).may_leave since b.block is.buffers.0.block safe.held is_shut
-          (subst (GateStands shelf.geometry (view shelf.disk).may_leave b.block) is_shut (safe.knows.stands b.block is.buffers.0.block)) (still honest) (torn honest)
+  module _ (setup : Setup) (s : State) (stands : StandsFor setup old s) where
+    module _ (honest : IsHonest (view shelf.disk)) (safe : ImagesHold setup view old s) where
+      in_since : IsKeptLoosened setup shelf.geometry s records (gate_at shelf.gates) since
+      in_since = body_held setup shelf.geometry s records (gate_at shelf.gates) (view shelf.disk).may_leave since b.block below safe.held is_shut
+          (subst (GateStands shelf.geometry (view shelf.disk).may_leave b.block) is_shut (safe.knows.stands b.block below)) (still honest) (torn honest)
 
-      body_safe : HoldsGates setup shelf.geometry s (records_of (b ∷ rest)) (gate_at shelf.gates) (view disk).may_leave
+      body_safe : HoldsGates setup shelf.geometry s records (gate_at shelf.gates) (view disk).may_leave
       body_safe = record {
         knows = knows_fewer shelf.geometry s.book since (view disk).may_leave (gate_at shelf.gates) fewer
-            (body_knows shelf.geometry is.geometry s.book (gate_at shelf.gates) (view shelf.disk).may_leave since b.block is.buffers.0.block safe.knows is_shut (still honest) (torn honest));
-        held = held_fewer setup shelf.geometry s (records_of (b ∷ rest)) (gate_at shelf.gates) (gate_at shelf.gates) since (view disk).may_leave (λ k lt unsure. unsure) fewer in_since;
+            (body_knows shelf.geometry is.geometry s.book (gate_at shelf.gates) (view shelf.disk).may_leave since b.block below safe.knows is_shut (still honest) (torn honest));
+        held = held_fewer setup shelf.geometry s records (gate_at shelf.gates) (gate_at shelf.gates) since (view disk).may_leave (λ k lt unsure. unsure) fewer in_since;
       }
 
-    pub goes_body : (p : Phase) → book_phase p ≡ book_phase b.phase → Goes view setup [] (record shelf { buffers = b ∷ rest }) s (written view shelf disk b rest p shelf.gates)
+    pub goes_body : (p : Phase) → book_phase p ≡ book_phase b.phase → Goes view setup [] old s (written view shelf disk front b behind p shelf.gates)
     goes_body p same = record {
-      stands = still_stands view shelf disk b rest is call away setup s stands p shelf.gates same;
-      placed = λ honest placed. still_placed view shelf disk b rest is call away setup s stands p shelf.gates honest placed;
-      safe = body_safe;
-      leaves = λ honest safe. record { time = call.time; each = λ c left. inl (held_survives setup shelf.geometry s (records_of (b ∷ rest)) (gate_at shelf.gates) since (in_since honest safe) c left) };
+      stands = still_stands view shelf disk front b behind is call away setup s stands p shelf.gates same;
+      queued = still_queued view shelf disk front b behind is call away setup s stands p shelf.gates;
+      placed = λ honest placed. still_placed view shelf disk front b behind is call away setup s stands p shelf.gates honest placed;
+      safe = λ honest safe. subst (λ (r : Records). HoldsGates setup shelf.geometry s r (gate_at shelf.gates) (view disk).may_leave) (sym (records_same front b behind p)) (body_safe honest safe);
+      leaves = λ honest safe. record { time = call.time; each = λ c left. inl (held_survives setup shelf.geometry s records (gate_at shelf.gates) since (in_since honest safe) c left) };
     }
 
 -- the phase behind the write of a body
@@ -69,12 +86,20 @@ settled_phase b c set phase = set ∙ ap (λ (q : Phase). with_phase (later_phas
 
 -- ---- as the call finds it
 
-module _ {D : Type 0} (view : D → DiskView) (shelf : ShelfView D) (disk : D) (b : BufferState) (rest : List BufferState) (parts : shelf.buffers ≡ b ∷ rest) (shelf_is : IsShelf view shelf) (call : KeepsDisk view shelf.disk disk) (sealed : b.phase ≡ Sealed)
-    (block : ℕ) (at : block ≡ b.block)
+-- the gate is shut before
+pub shut_before : {D : Type 0} (view : D → DiskView) (shelf : ShelfView D) (front : List BufferState) (b : BufferState) (behind : List BufferState) → shelf.buffers ≡ front ++ b ∷ behind → IsShelf view shelf → b.phase ≡ Sealed → (block : ℕ) → block ≡ b.block
+    → IsHonest (view shelf.disk) → IsShut shelf.geometry block (view shelf.disk).may_leave
+shut_before view shelf front b behind parts is sealed block at honest =
+    subst (λ (k : ℕ). IsShut shelf.geometry k (view shelf.disk).may_leave) (sym at)
+    (subst (GateStands shelf.geometry (view shelf.disk).may_leave b.block) (waits_shut view shelf front b behind parts is sealed)
+    (is.stand honest b.block (all_own (IsBufferOf shelf.geometry shelf.next_number) front b behind (subst (AllByRecursion (IsBufferOf shelf.geometry shelf.next_number)) parts is.buffers)).block))
+
+module _ {D : Type 0} (view : D → DiskView) (shelf : ShelfView D) (disk : D) (front : List BufferState) (b : BufferState) (behind : List BufferState) (parts : shelf.buffers ≡ front ++ b ∷ behind) (shelf_is : IsShelf view shelf)
+    (call : KeepsDisk view shelf.disk disk) (sealed : b.phase ≡ Sealed) (block : ℕ) (at : block ≡ b.block)
     (torn : IsHonest (view shelf.disk) → TornFrom (block_place shelf.geometry block + 4096) (shelf.geometry.block_size - 4096) (view shelf.disk).may_leave (meanwhile (view shelf.disk) (view disk)))
     (still : IsHonest (view shelf.disk) → IsShut shelf.geometry block (meanwhile (view shelf.disk) (view disk))) where
-  is_first : IsShelf view (record shelf { buffers = b ∷ rest })
-  is_first = subst (λ (bs : List BufferState). IsShelf view (record shelf { buffers = bs })) parts shelf_is
+  is_between : IsShelf view (record shelf { buffers = front ++ b ∷ behind })
+  is_between = subst (λ (bs : List BufferState). IsShelf view (record shelf { buffers = bs })) parts shelf_is
 
   torn_b : IsHonest (view shelf.disk) → TornFrom (block_place shelf.geometry b.block + 4096) (shelf.geometry.block_size - 4096) (view shelf.disk).may_leave (meanwhile (view shelf.disk) (view disk))
   torn_b honest = subst (λ (k : ℕ). TornFrom (block_place shelf.geometry k + 4096) (shelf.geometry.block_size - 4096) (view shelf.disk).may_leave (meanwhile (view shelf.disk) (view disk))) at (torn honest)
@@ -85,20 +110,22 @@ module _ {D : Type 0} (view : D → DiskView) (shelf : ShelfView D) (disk : D) (
   abbrev Goes_to : ShelfView D → Type 0
   Goes_to new = (setup : Setup) (s : State) → StandsFor setup shelf s → Goes view setup [] shelf s new
 
-  -- it failed
-  pub tried_shelf : IsShelf view (record shelf { disk = disk; buffers = b ∷ rest })
-  tried_shelf = body_shelf view shelf disk b rest is_first call sealed torn_b still_b b.phase (ap is_unsealed sealed) (λ honest was. absurd (false≢true (sym (ap is_written sealed) ∙ was)))
+  -- to a later phase, or to none
+  goes_to : (p : Phase) → book_phase p ≡ book_phase b.phase → Goes_to (record shelf { disk = disk; buffers = front ++ with_phase p b ∷ behind })
+  goes_to p same setup s stands =
+      subst (λ (bs : List BufferState). Goes view setup [] (record shelf { buffers = bs }) s (record shelf { disk = disk; buffers = front ++ with_phase p b ∷ behind })) (sym parts)
+      (goes_body view shelf disk front b behind is_between call sealed torn_b still_b setup s (subst (λ (bs : List BufferState). StandsFor setup (record shelf { buffers = bs }) s) parts stands) p same)
 
-  pub tried_goes : Goes_to (record shelf { disk = disk; buffers = b ∷ rest })
-  tried_goes setup s stands =
-      subst (λ (bs : List BufferState). Goes view setup [] (record shelf { buffers = bs }) s (record shelf { disk = disk; buffers = b ∷ rest })) (sym parts)
-      (goes_body view shelf disk b rest is_first call sealed torn_b still_b setup s (subst (λ (bs : List BufferState). StandsFor setup (record shelf { buffers = bs }) s) parts stands) b.phase refl)
+  -- it failed
+  pub tried_shelf : IsShelf view (record shelf { disk = disk; buffers = front ++ b ∷ behind })
+  tried_shelf = body_shelf view shelf disk front b behind is_between call sealed torn_b still_b b.phase (ap is_unsealed sealed) (λ honest was. absurd (false≢true (sym (ap is_written sealed) ∙ was)))
+
+  pub tried_goes : Goes_to (record shelf { disk = disk; buffers = front ++ b ∷ behind })
+  tried_goes setup s stands = goes_to b.phase refl setup s stands
 
   -- it went well
-  pub done_shelf : (IsHonest (view disk) → HasOneBody shelf.geometry b.block (bytes_of b) (view disk).may_leave) → IsShelf view (record shelf { disk = disk; buffers = with_phase BodyDone b ∷ rest })
-  done_shelf body = body_shelf view shelf disk b rest is_first call sealed torn_b still_b BodyDone refl (λ honest was. body honest)
+  pub done_shelf : (IsHonest (view disk) → HasOneBody shelf.geometry b.block (bytes_of b) (view disk).may_leave) → IsShelf view (record shelf { disk = disk; buffers = front ++ with_phase BodyDone b ∷ behind })
+  done_shelf body = body_shelf view shelf disk front b behind is_between call sealed torn_b still_b BodyDone refl (λ honest was. body honest)
 
-  pub done_goes : Goes_to (record shelf { disk = disk; buffers = with_phase BodyDone b ∷ rest })
-  done_goes setup s stands =
-      subst (λ (bs : List BufferState). Goes view setup [] (record shelf { buffers = bs }) s (record shelf { disk = disk; buffers = with_phase BodyDone b ∷ rest })) (sym parts)
-      (goes_body view shelf disk b rest is_first call sealed torn_b still_b setup s (subst (λ (bs : List BufferState). StandsFor setup (record shelf { buffers = bs }) s) parts stands) BodyDone (ap book_phase (sym sealed)))
+  pub done_goes : Goes_to (record shelf { disk = disk; buffers = front ++ with_phase BodyDone b ∷ behind })
+  done_goes setup s stands = goes_to BodyDone (ap book_phase (sym sealed)) setup s stands

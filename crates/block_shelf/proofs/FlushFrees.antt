@@ -10,7 +10,7 @@ use Rattle.recovery.proofs.Members.{filter_there, filter_from}
 use Rattle.kept_trail.specs.Trail.{places_of, IsBooked}
 use Rattle.kept_trail.proofs.Flushing.{map_kept}
 use Rattle.kept_trail.proofs.Placing.{place}
-use Rattle.block_shelf.specs.Standing.{IsListed}
+use Rattle.block_shelf.specs.Standing.{IsListed, HaveOwnDigests}
 use Rattle.block_shelf.proofs.Frees.{IsVacant, vacant_from, vacant_is, refreshed_free, refreshed_all, updated_more}
 
 module _ (setup : Setup) (s : State) (number : ℕ) where
@@ -40,6 +40,11 @@ module _ (setup : Setup) (s : State) (number : ℕ) where
   pub flushed_lives : after.book.live ≡ s.book.live
   unfolding after_step with_flushed refreshed
   flushed_lives = refl
+
+  -- free blocks and queue are brought up to date
+  pub flushed_is : after.book ≡ refreshed setup left
+  unfolding after_step with_flushed
+  flushed_is = refl
 
   flushed_refreshed : after.book.free ≡ (refreshed setup left).free
   unfolding after_step with_flushed
@@ -86,4 +91,5 @@ module _ (setup : Setup) (s : State) (number : ℕ) where
     flushed_listed listed = record {
       all = λ b lt may. subst (λ (l : List ℕ). Contains l b) (sym flushed_refreshed) (refreshed_all setup left b lt (sym (flushed_may b) ∙ may));
       one = λ l m in_l in_m same. listed.one l m (subst (λ (x : List Live). Contains x l) flushed_lives in_l) (subst (λ (x : List Live). Contains x m) flushed_lives in_m) same;
+      own = subst HaveOwnDigests (sym flushed_lives) listed.own;
     }

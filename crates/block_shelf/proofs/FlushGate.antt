@@ -1,7 +1,7 @@
--- The gate of the first buffer is written, over its body, for the first time or again.
-use Rattle.std.proofs.Common.{◌≡◌, inl, inr, ℕ, ◌<◌, true, List, [], ◌∷◌, map, length, refl, sym, ap, ◌∙◌, subst}
-use Rattle.std.specs.Prelude.{slice_set, Contains}
-use Rattle.std.proofs.lemmas.Bool.{false≢true, or_left, and_from, eq-eqb}
+-- The gate of a sealed buffer is written, over its body, for the first time or again.
+use Rattle.std.proofs.Common.{◌≡◌, inl, inr, ℕ, ◌<◌, Bool, true, ◌&&◌, List, ◌∷◌, ◌++◌, map, length, refl, sym, ap, ◌∙◌, subst}
+use Rattle.std.specs.Prelude.{◌==◌, slice_set, Contains}
+use Rattle.std.proofs.lemmas.Bool.{false≢true, and_from, eq-eqb}
 use Rattle.std.proofs.lemmas.List.{length-set, get_or-set_same, get_or-set_other, set-set}
 use Rattle.disk_model.specs.Disk.{Images, DiskView, IsHonest, Within, TornFrom, meanwhile}
 use Rattle.rec_format.specs.Versions.{block_capacity}
@@ -17,22 +17,23 @@ use Rattle.write_buffer.specs.declared.phase.Phase.{Phase}
 use Rattle.write_buffer.specs.declared.phase.Phase.TheVariants.{Filling, Sealed, BodyDone, GateBegun}
 use Rattle.write_buffer.specs.Phases.{later_phase}
 use Rattle.write_buffer.specs.Buffers.{BufferState, bytes_of, body_in, with_phase}
-use Rattle.recovery.proofs.Members.{first_there}
+use Rattle.recovery.proofs.Members.{map_there}
 use Rattle.kept_trail.specs.Trail.{Records, places_of}
+use Rattle.kept_trail.proofs.Places.{any_there}
 use Rattle.kept_images.specs.Changes.{ChangesIn, IsOpening}
 use Rattle.kept_images.specs.Gates.{GateStands, StandsOver, IsBodyWith, with_gate}
 use Rattle.kept_images.specs.Held.{HoldsGates}
-use Rattle.kept_images.proofs.Buffers.{records_found}
 use Rattle.kept_images.proofs.Held.{held_known, knows_known}
 use Rattle.kept_images.proofs.Holding.{plain_holds}
 use Rattle.kept_images.proofs.Parts.{gate_changes, body_stays}
 use Rattle.kept_images.proofs.Worked.{HasOpened, open_call, opening_begun}
-use Rattle.block_shelf.specs.View.{ShelfView, IsShelf, is_written, records_of, gate_at}
+use Rattle.block_shelf.specs.View.{ShelfView, IsShelf, IsBufferOf, HasItsBody, is_written, records_of, gate_at}
 use Rattle.block_shelf.specs.Standing.{StandsFor, ImagesHold, book_buffer, book_phase}
 use Rattle.block_shelf.specs.Calls.{Goes}
-use Rattle.block_shelf.specs.Flushes.{gate_steps, first_gate_steps}
+use Rattle.block_shelf.specs.Flushes.{gate_steps}
+use Rattle.block_shelf.proofs.Between.{all_own, own_there, records_at, records_same}
 use Rattle.block_shelf.proofs.Closing.{gates_with, holds_same}
-use Rattle.block_shelf.proofs.FlushShelf.{KeepsDisk, now_within, written, written_shelf, still_stands, begun_stands, still_placed, begun_placed}
+use Rattle.block_shelf.proofs.FlushShelf.{KeepsDisk, now_within, written, own, written_shelf, still_stands, begun_stands, still_queued, begun_queued, still_placed, begun_placed}
 
 -- no phase is later than that
 pub begun_phase : (b c : BufferState) → c ≡ with_phase (later_phase b.phase GateBegun) b → c ≡ with_phase GateBegun b
@@ -45,16 +46,18 @@ begun_phase b c set = set ∙ ap (λ (q : Phase). with_phase q b) (latest b.phas
     latest GateBegun = refl
 
 -- a buffer whose gate has begun is begun in the book
-begun_first : (s : State) (b : BufferState) (rest : List BufferState) → b.phase ≡ GateBegun → s.book.buffers ≡ map book_buffer (b ∷ rest) → is_begun (pending_of s.book) b.number ≡ true
-begun_first s b rest phase is =
-    subst (λ (l : List Buffer). is_begun (map (λ x. (x.number, is_opening x.phase)) l) b.number ≡ true) (sym is)
-    (or_left _ _ (and_from _ _ (eq-eqb b.number b.number refl) (ap (λ (p : Phase). is_opening (book_phase p)) phase)))
+begun_between : (s : State) (front : List BufferState) (b : BufferState) (behind : List BufferState) → b.phase ≡ GateBegun → s.book.buffers ≡ map book_buffer (front ++ b ∷ behind) → is_begun (pending_of s.book) b.number ≡ true
+begun_between s front b behind phase is =
+    any_there (λ (p : ℕ × Bool). p.0 == b.number && p.1) (pending_of s.book) (b.number, is_opening (book_phase b.phase))
+    (subst (λ (l : List Buffer). Contains (map {B = ℕ × Bool} (λ x. (x.number, is_opening x.phase)) l) (b.number, is_opening (book_phase b.phase))) (sym is)
+    (map_there {Y = ℕ × Bool} (λ x. (x.number, is_opening x.phase)) (map book_buffer (front ++ b ∷ behind)) (book_buffer b) (map_there book_buffer (front ++ b ∷ behind) b (own_there front b behind))))
+    (and_from (b.number == b.number) (is_opening (book_phase b.phase)) (eq-eqb b.number b.number refl) (ap (λ (p : Phase). is_opening (book_phase p)) phase))
 
-module _ {D : Type 0} (view : D → DiskView) (shelf : ShelfView D) (disk : D) (b : BufferState) (rest : List BufferState) (is : IsShelf view (record shelf { buffers = b ∷ rest })) (call : KeepsDisk view shelf.disk disk)
+module _ {D : Type 0} (view : D → DiskView) (shelf : ShelfView D) (disk : D) (front : List BufferState) (b : BufferState) (behind : List BufferState) (is : IsShelf view (record shelf { buffers = front ++ b ∷ behind })) (call : KeepsDisk view shelf.disk disk)
     (has_body : is_written b.phase ≡ true) (is_body : IsBody (block_capacity shelf.geometry.block_size) (bytes_of b) (body_in b))
     (torn : IsHonest (view shelf.disk) → TornFrom (block_place shelf.geometry b.block) 4096 (view shelf.disk).may_leave (meanwhile (view shelf.disk) (view disk))) where
   abbrev old : ShelfView D
-  old = record shelf { buffers = b ∷ rest }
+  old = record shelf { buffers = front ++ b ∷ behind }
 
   abbrev before : Images
   before = (view shelf.disk).may_leave
@@ -69,23 +72,26 @@ module _ {D : Type 0} (view : D → DiskView) (shelf : ShelfView D) (disk : D) (
   gates = gate_at shelf.gates
 
   abbrev records : Records
-  records = records_of (b ∷ rest)
+  records = records_of (front ++ b ∷ behind)
 
   -- the shelf behind it
   abbrev opening_view : Gate → ShelfView D
-  opening_view gate = written view shelf disk b rest GateBegun (slice_set shelf.gates b.block gate)
+  opening_view gate = written view shelf disk front b behind GateBegun (slice_set shelf.gates b.block gate)
 
   fewer : Within since now
   fewer = now_within view shelf.disk disk call
 
-  lt : b.block < length shelf.gates
-  lt = subst (λ (n : ℕ). b.block < n) (sym is.gates) is.buffers.0.block
-
   away : IsHonest (view shelf.disk) → ChangesIn shelf.geometry b.block before since
   away honest = gate_changes shelf.geometry b.block is.geometry before since (torn honest)
 
+  below : b.block < shelf.geometry.blocks
+  below = (own view shelf disk front b behind is call away).block
+
+  lt : b.block < length shelf.gates
+  lt = subst (λ (n : ℕ). b.block < n) (sym is.gates) below
+
   the_body : IsHonest (view shelf.disk) → HasOneBody shelf.geometry b.block (bytes_of b) before
-  the_body honest = (is.ready honest).0 has_body
+  the_body honest = all_own (HasItsBody shelf.geometry before) front b behind (is.ready honest) has_body
 
   still_body : IsHonest (view shelf.disk) → HasOneBody shelf.geometry b.block (bytes_of b) now
   still_body honest c image = let t = torn honest c (fewer c image) in body_stays shelf.geometry b.block is.geometry t.0 c t.2 ∙ the_body honest t.0 t.1
@@ -95,7 +101,7 @@ module _ {D : Type 0} (view : D → DiskView) (shelf : ShelfView D) (disk : D) (
 
   gate_shelf : (gate : Gate) → (IsHonest (view disk) → GateStands shelf.geometry now b.block gate) → IsShelf view (opening_view gate)
   gate_shelf gate stands =
-      written_shelf view shelf disk b rest is call away GateBegun (slice_set shelf.gates b.block gate) refl (length-set shelf.gates b.block gate) (λ k other. get_or-set_other shelf.gates b.block k gate Shut other)
+      written_shelf view shelf disk front b behind is call away GateBegun (slice_set shelf.gates b.block gate) refl (length-set shelf.gates b.block gate) (λ k other. get_or-set_other shelf.gates b.block k gate Shut other)
       (λ unbegun. absurd (false≢true (sym unbegun))) (λ honest was. still_body (call.was_honest honest))
       (λ honest. subst (GateStands shelf.geometry now b.block) (sym (get_or-set_same shelf.gates b.block gate Shut lt)) (stands honest))
 
@@ -108,18 +114,18 @@ module _ {D : Type 0} (view : D → DiskView) (shelf : ShelfView D) (disk : D) (
   -- ---- the state
 
   with_own : IsBodyWith shelf.geometry b.block (bytes_of b) (records b.number)
-  with_own = record { body = body_in b; placed = refl; same = sym (records_found b.number b.records (map (λ c. (c.number, c.records)) rest) [] tt); is_body = is_body }
+  with_own = record { body = body_in b; placed = refl; same = sym (records_at front b behind is.order); is_body = is_body }
 
   module _ (setup : Setup) (s : State) (stands : StandsFor setup old s) where
-    placed_first : Contains (places_of s.book) (b.number, b.block)
-    placed_first =
+    placed_between : Contains (places_of s.book) (b.number, b.block)
+    placed_between =
         subst (λ (l : List Buffer). Contains (map {B = ℕ × ℕ} (λ x. (x.number, x.block)) l) (b.number, b.block)) (sym stands.buffers)
-        (first_there (b.number, b.block) (map {B = ℕ × ℕ} (λ x. (x.number, x.block)) (map book_buffer rest)))
+        (map_there {Y = ℕ × ℕ} (λ x. (x.number, x.block)) (map book_buffer (front ++ b ∷ behind)) (book_buffer b) (map_there book_buffer (front ++ b ∷ behind) b (own_there front b behind)))
 
     -- from a state in which the write of the gate has begun
     module _ (then : State) (opening : IsOpening then.book b.number b.block) (holds : ImagesHold setup view old s → HoldsGates setup shelf.geometry then records gates before) (honest : IsHonest (view shelf.disk)) (safe : ImagesHold setup view old s) where
       opens : HasOpened setup shelf.geometry then records gates b.number b.block (bytes_of b) since now
-      opens = open_call setup shelf.geometry then records gates before since now b.number b.block (bytes_of b) is.buffers.0.block (holds safe) opening (the_body honest) with_own (torn honest) fewer
+      opens = open_call setup shelf.geometry then records gates before since now b.number b.block (bytes_of b) below (holds safe) opening (the_body honest) with_own (torn honest) fewer
 
       unsure_safe : HoldsGates setup shelf.geometry then records (gate_at (slice_set shelf.gates b.block Unsure)) now
       unsure_safe = holds_same setup shelf.geometry then records (with_gate b.block Unsure gates) (gate_at (slice_set shelf.gates b.block Unsure)) now (gates_with shelf.gates b.block Unsure lt) opens.failed
@@ -137,6 +143,11 @@ module _ {D : Type 0} (view : D → DiskView) (shelf : ShelfView D) (disk : D) (
     HoldsAfter gate = (then : State) → IsOpening then.book b.number b.block → (ImagesHold setup view old s → HoldsGates setup shelf.geometry then records gates before) → IsHonest (view shelf.disk) → ImagesHold setup view old s
         → HoldsGates setup shelf.geometry then records (gate_at (slice_set shelf.gates b.block gate)) now
 
+    -- the records are those of the buffers then
+    renamed : (then : State) (gate : Gate) → HoldsGates setup shelf.geometry then records (gate_at (slice_set shelf.gates b.block gate)) now
+        → HoldsGates setup shelf.geometry then (records_of (front ++ with_phase GateBegun b ∷ behind)) (gate_at (slice_set shelf.gates b.block gate)) now
+    renamed then gate holds = subst (λ (r : Records). HoldsGates setup shelf.geometry then r (gate_at (slice_set shelf.gates b.block gate)) now) (sym (records_same front b behind GateBegun)) holds
+
     goes_gate : (gate : Gate) → HoldsAfter gate → Goes view setup (gate_steps b.phase b.number) old s (opening_view gate)
     goes_gate gate after = by b.phase refl
       where
@@ -144,9 +155,10 @@ module _ {D : Type 0} (view : D → DiskView) (shelf : ShelfView D) (disk : D) (
         by Filling phase = absurd (false≢true (ap is_written (sym phase) ∙ has_body))
         by Sealed phase = absurd (false≢true (ap is_written (sym phase) ∙ has_body))
         by BodyDone phase = record {
-          stands = begun_stands view shelf disk b rest is call away setup s stands (slice_set shelf.gates b.block gate);
-          placed = λ honest placed. begun_placed view shelf disk b rest is call away setup s stands (slice_set shelf.gates b.block gate) honest placed;
-          safe = λ honest safe. after then opening holds honest safe;
+          stands = begun_stands view shelf disk front b behind is call away setup s stands (slice_set shelf.gates b.block gate);
+          placed = λ honest placed. begun_placed view shelf disk front b behind is call away setup s stands (slice_set shelf.gates b.block gate) honest placed;
+          queued = begun_queued view shelf disk front b behind is call away setup s stands (slice_set shelf.gates b.block gate);
+          safe = λ honest safe. renamed then gate (after then opening holds honest safe);
           leaves = λ honest safe. record { time = call.time; each = λ c left. inr (inl ((opens then opening holds honest safe).meanwhile c left)) };
         }
           where
@@ -154,19 +166,20 @@ module _ {D : Type 0} (view : D → DiskView) (shelf : ShelfView D) (disk : D) (
             then = after_step setup (gate_begun b.number) s
 
             opening : IsOpening then.book b.number b.block
-            opening = opening_begun setup s b.number b.block placed_first
+            opening = opening_begun setup s b.number b.block placed_between
 
             holds : ImagesHold setup view old s → HoldsGates setup shelf.geometry then records gates before
             holds safe = plain_holds setup shelf.geometry s records gates before safe (gate_begun b.number) refl tt
         by GateBegun phase = record {
-          stands = still_stands view shelf disk b rest is call away setup s stands GateBegun (slice_set shelf.gates b.block gate) (ap book_phase (sym phase));
-          placed = λ honest placed. still_placed view shelf disk b rest is call away setup s stands GateBegun (slice_set shelf.gates b.block gate) honest placed;
-          safe = λ honest safe. after s opening (λ held. held) honest safe;
+          stands = still_stands view shelf disk front b behind is call away setup s stands GateBegun (slice_set shelf.gates b.block gate) (ap book_phase (sym phase));
+          placed = λ honest placed. still_placed view shelf disk front b behind is call away setup s stands GateBegun (slice_set shelf.gates b.block gate) honest placed;
+          queued = still_queued view shelf disk front b behind is call away setup s stands GateBegun (slice_set shelf.gates b.block gate);
+          safe = λ honest safe. renamed s gate (after s opening (λ held. held) honest safe);
           leaves = λ honest safe. record { time = call.time; each = λ c left. inl ((opens s opening (λ held. held) honest safe).meanwhile c left) };
         }
           where
             opening : IsOpening s.book b.number b.block
-            opening = record { placed = placed_first; begun = begun_first s b rest phase stands.buffers }
+            opening = record { placed = placed_between; begun = begun_between s front b behind phase stands.buffers }
 
     pub goes_unsure : Goes view setup (gate_steps b.phase b.number) old s (opening_view Unsure)
     goes_unsure = goes_gate Unsure unsure_safe
@@ -176,39 +189,39 @@ module _ {D : Type 0} (view : D → DiskView) (shelf : ShelfView D) (disk : D) (
 
 -- ---- as the call finds it
 
-module _ {D : Type 0} (view : D → DiskView) (shelf : ShelfView D) (disk : D) (b : BufferState) (rest : List BufferState) (parts : shelf.buffers ≡ b ∷ rest) (shelf_is : IsShelf view shelf) (call : KeepsDisk view shelf.disk disk)
+module _ {D : Type 0} (view : D → DiskView) (shelf : ShelfView D) (disk : D) (front : List BufferState) (b : BufferState) (behind : List BufferState) (parts : shelf.buffers ≡ front ++ b ∷ behind) (shelf_is : IsShelf view shelf) (call : KeepsDisk view shelf.disk disk)
     (has_body : is_written b.phase ≡ true) (is_body : IsBody b.capacity (bytes_of b) (body_in b)) (block : ℕ) (at : block ≡ b.block)
     (torn : IsHonest (view shelf.disk) → TornFrom (block_place shelf.geometry block) 4096 (view shelf.disk).may_leave (meanwhile (view shelf.disk) (view disk))) where
-  is_first : IsShelf view (record shelf { buffers = b ∷ rest })
-  is_first = subst (λ (bs : List BufferState). IsShelf view (record shelf { buffers = bs })) parts shelf_is
+  is_between : IsShelf view (record shelf { buffers = front ++ b ∷ behind })
+  is_between = subst (λ (bs : List BufferState). IsShelf view (record shelf { buffers = bs })) parts shelf_is
 
   own_body : IsBody (block_capacity shelf.geometry.block_size) (bytes_of b) (body_in b)
-  own_body = subst (λ (n : ℕ). IsBody n (bytes_of b) (body_in b)) is_first.buffers.0.capacity is_body
+  own_body = subst (λ (n : ℕ). IsBody n (bytes_of b) (body_in b)) (all_own (IsBufferOf shelf.geometry shelf.next_number) front b behind is_between.buffers).capacity is_body
 
   torn_b : IsHonest (view shelf.disk) → TornFrom (block_place shelf.geometry b.block) 4096 (view shelf.disk).may_leave (meanwhile (view shelf.disk) (view disk))
   torn_b honest = subst (λ (k : ℕ). TornFrom (block_place shelf.geometry k) 4096 (view shelf.disk).may_leave (meanwhile (view shelf.disk) (view disk))) at (torn honest)
 
   abbrev tried_view : ShelfView D
-  tried_view = record shelf { disk = disk; buffers = with_phase GateBegun b ∷ rest; gates = slice_set shelf.gates block Unsure }
+  tried_view = record shelf { disk = disk; buffers = front ++ with_phase GateBegun b ∷ behind; gates = slice_set shelf.gates block Unsure }
 
   -- it is unsure first, and known then
   abbrev done_view : ShelfView D
-  done_view = record shelf { disk = disk; buffers = with_phase GateBegun b ∷ rest; gates = slice_set (slice_set shelf.gates block Unsure) block Set }
+  done_view = record shelf { disk = disk; buffers = front ++ with_phase GateBegun b ∷ behind; gates = slice_set (slice_set shelf.gates block Unsure) block Set }
 
   abbrev Goes_to : ShelfView D → Type 0
-  Goes_to new = (setup : Setup) (s : State) → StandsFor setup shelf s → Goes view setup (first_gate_steps shelf.buffers) shelf s new
+  Goes_to new = (setup : Setup) (s : State) → StandsFor setup shelf s → Goes view setup (gate_steps b.phase b.number) shelf s new
 
-  goes_from : (new : ShelfView D) → ((setup : Setup) (s : State) → StandsFor setup (record shelf { buffers = b ∷ rest }) s → Goes view setup (gate_steps b.phase b.number) (record shelf { buffers = b ∷ rest }) s new) → Goes_to new
+  goes_from : (new : ShelfView D) → ((setup : Setup) (s : State) → StandsFor setup (record shelf { buffers = front ++ b ∷ behind }) s → Goes view setup (gate_steps b.phase b.number) (record shelf { buffers = front ++ b ∷ behind }) s new) → Goes_to new
   goes_from new goes setup s stands =
-      subst (λ (bs : List BufferState). Goes view setup (first_gate_steps bs) (record shelf { buffers = bs }) s new) (sym parts) (goes setup s (subst (λ (bs : List BufferState). StandsFor setup (record shelf { buffers = bs }) s) parts stands))
+      subst (λ (bs : List BufferState). Goes view setup (gate_steps b.phase b.number) (record shelf { buffers = bs }) s new) (sym parts) (goes setup s (subst (λ (bs : List BufferState). StandsFor setup (record shelf { buffers = bs }) s) parts stands))
 
   -- it failed
   pub tried_gate_shelf : IsShelf view tried_view
-  tried_gate_shelf = subst (λ (k : ℕ). IsShelf view (record shelf { disk = disk; buffers = with_phase GateBegun b ∷ rest; gates = slice_set shelf.gates k Unsure })) (sym at) (unsure_shelf view shelf disk b rest is_first call has_body own_body torn_b)
+  tried_gate_shelf = subst (λ (k : ℕ). IsShelf view (record shelf { disk = disk; buffers = front ++ with_phase GateBegun b ∷ behind; gates = slice_set shelf.gates k Unsure })) (sym at) (unsure_shelf view shelf disk front b behind is_between call has_body own_body torn_b)
 
   pub tried_gate_goes : Goes_to tried_view
-  tried_gate_goes = subst (λ (k : ℕ). Goes_to (record shelf { disk = disk; buffers = with_phase GateBegun b ∷ rest; gates = slice_set shelf.gates k Unsure })) (sym at)
-      (goes_from (record shelf { disk = disk; buffers = with_phase GateBegun b ∷ rest; gates = slice_set shelf.gates b.block Unsure }) (λ setup s stands. goes_unsure view shelf disk b rest is_first call has_body own_body torn_b setup s stands))
+  tried_gate_goes = subst (λ (k : ℕ). Goes_to (record shelf { disk = disk; buffers = front ++ with_phase GateBegun b ∷ behind; gates = slice_set shelf.gates k Unsure })) (sym at)
+      (goes_from (record shelf { disk = disk; buffers = front ++ with_phase GateBegun b ∷ behind; gates = slice_set shelf.gates b.block Unsure }) (λ setup s stands. goes_unsure view shelf disk front b behind is_between call has_body own_body torn_b setup s stands))
 
   -- it went well
   module _ (opened : IsHonest (view disk) → IsOpened shelf.geometry block (view disk).may_leave) where
@@ -219,9 +232,9 @@ module _ {D : Type 0} (view : D → DiskView) (shelf : ShelfView D) (disk : D) (
     gates_same = set-set shelf.gates block Unsure Set ∙ ap (λ (k : ℕ). slice_set shelf.gates k Set) at
 
     pub done_gate_shelf : IsShelf view done_view
-    done_gate_shelf = subst (λ (l : List Gate). IsShelf view (record shelf { disk = disk; buffers = with_phase GateBegun b ∷ rest; gates = l })) (sym gates_same) (set_shelf view shelf disk b rest is_first call has_body own_body torn_b opened_b)
+    done_gate_shelf = subst (λ (l : List Gate). IsShelf view (record shelf { disk = disk; buffers = front ++ with_phase GateBegun b ∷ behind; gates = l })) (sym gates_same) (set_shelf view shelf disk front b behind is_between call has_body own_body torn_b opened_b)
 
     pub done_gate_goes : (IsHonest (view shelf.disk) → IsHonest (view disk)) → Goes_to done_view
-    done_gate_goes stays = subst (λ (l : List Gate). Goes_to (record shelf { disk = disk; buffers = with_phase GateBegun b ∷ rest; gates = l })) (sym gates_same)
-        (goes_from (record shelf { disk = disk; buffers = with_phase GateBegun b ∷ rest; gates = slice_set shelf.gates b.block Set })
-        (λ setup s stands. goes_set view shelf disk b rest is_first call has_body own_body torn_b setup s stands (λ honest. opened_b (stays honest))))
+    done_gate_goes stays = subst (λ (l : List Gate). Goes_to (record shelf { disk = disk; buffers = front ++ with_phase GateBegun b ∷ behind; gates = l })) (sym gates_same)
+        (goes_from (record shelf { disk = disk; buffers = front ++ with_phase GateBegun b ∷ behind; gates = slice_set shelf.gates b.block Set })
+        (λ setup s stands. goes_set view shelf disk front b behind is_between call has_body own_body torn_b setup s stands (λ honest. opened_b (stays honest))))

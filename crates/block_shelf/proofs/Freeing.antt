@@ -1,21 +1,36 @@
 -- Blocks that nothing keeps come to the back of the free ones, one after another.
-use Rattle.std.proofs.Common.{◌≡◌, ◌≢◌, inl, inr, ℕ, zero, suc, ◌+◌, ◌-◌, ◌<◌, ◌≤◌, Bool, true, false, cond, List, [], ◌∷◌, ◌++◌, length, sum_by, refl, sym, ◌∙◌, ap, subst, arith, append_assoc}
+use Rattle.std.proofs.Common.{◌≡◌, ◌≢◌, inl, inr, ℕ, zero, suc, ◌+◌, ◌-◌, ◌<◌, ◌≤◌, Bool, true, false, cond, List, [], ◌∷◌, ◌++◌, length, take, sum_by, refl, sym, ◌∙◌, ap, subst, arith, append_assoc}
 use Rattle.std.specs.Prelude.{filter, ◌==◌, ◌↔◌, IsTrue, MatchBool}
 use Rattle.std.specs.List.{AllByRecursion, range_with_len}
-use Rattle.std.proofs.lemmas.Bool.{cond-true, cond-false, eqb-true, eqb-false}
+use Rattle.std.proofs.lemmas.Bool.{cond-true, cond-false, eqb-true, eqb-false, ne_eqb}
 use Rattle.std.proofs.lemmas.List.{append-nil, length-append}
 use Rattle.std.proofs.lemmas.List.Elements.{filter-append}
+use Rattle.std.proofs.lemmas.List.Sums.{sum_by-cons}
+use Rattle.std.proofs.Math.Seq.{take-length}
 use Rattle.unit_ledger.specs.declared.roll.LiveCopy.{LiveCopy}
 use Rattle.write_buffer.specs.Buffers.{BufferState}
 use Rattle.unit_ledger.specs.Rolls.{BlockRoll, copies_in, rolled_use}
+use Rattle.recovery.proofs.Each.{all_map}
 use Rattle.recovery.proofs.Growing.{all_from}
 use Rattle.recovery.proofs.Opening.{all_joined}
+use Rattle.recovery.proofs.Placing.{any_none}
 use Rattle.block_shelf.specs.View.{AreApart, IsRoll}
+use Rattle.block_shelf.specs.Changes.{has_buffer_in}
 use Rattle.block_shelf.specs.LetGo.{IsBare, IsFreeOrLetGo}
-use Rattle.block_shelf.proofs.DropSteps.{no_units}
 use Rattle.block_shelf.proofs.Blocks.{apart_push, few}
 
 -- ---- whether a block is kept
+
+-- live copies take room
+pub no_units : (cs : List LiveCopy) → AllByRecursion (λ c. 1 ≤ c.units) cs → sum_by (λ c. c.units) cs ≡ 0 → cs ≡ []
+no_units [] takes none = refl
+no_units (c ∷ cs) takes none = let first = takes.0 in absurd (omega (arith, sum_by-cons (λ (d : LiveCopy). d.units) c cs, first, none))
+
+-- no buffer has a block: the loop went over all of them
+pub none_has : (buffers : List BufferState) (block n : ℕ) → AllByRecursion (λ b. b.block ≢ block) (take n buffers) → n ≤ length buffers → length buffers ≤ n → false ≡ has_buffer_in buffers block
+none_has buffers block n none within all =
+    sym (any_none (λ b. b.block == block) buffers (all_map (λ b. b.block ≢ block) (λ b. (b.block == block) ≡ false) buffers (λ b other. ne_eqb b.block block other)
+    (subst (AllByRecursion (λ b. b.block ≢ block)) (ap (λ (m : ℕ). take m buffers) (let e : n ≡ length buffers = omega (arith, within, all) in e) ∙ take-length buffers) none)))
 
 pub told_bare : (buffers : List BufferState) (rolls : List BlockRoll) (block n : ℕ) → n ≡ rolled_use block rolls → IsRoll (copies_in block rolls) → AllByRecursion (λ b. b.block ≢ block) buffers → MatchBool (n == 0) (IsBare buffers rolls block) (IsBare buffers rolls block → ⊥)
 told_bare buffers rolls block n same roll unbuffered = by (n == 0) refl

@@ -1,34 +1,34 @@
--- Where few blocks are free, the buffer that is being filled is sealed if it holds a block in which nothing is live.
+-- Where few blocks are free, a buffer that takes records is sealed if it holds a block in which nothing is live.
 use Rattle.std.proofs.Common.{◌≡◌, ◌≢◌, ◌⊎◌, inl, inr, ⊎_elim, ℕ, ◌+◌, ◌<◌, ◌≤◌, Bool, true, false, ◌&&◌, List, [], ◌∷◌, ◌++◌, map, length, sum_by, refl, sym, ◌∙◌, ap, subst, arith}
-use Rattle.std.specs.Prelude.{Option, Some, None, filter, Contains, ◌==◌, nat_le, IsTrue, MatchBool, slice_get, ◌-◌}
+use Rattle.std.specs.Prelude.{Option, Some, None, filter, Contains, ◌==◌, nat_le, IsTrue, MatchBool}
 use Rattle.std.specs.List.{AllByRecursion}
-use Rattle.std.proofs.lemmas.Bool.{false≢true, eq-eqb, eqb-true, ne_eqb, leb-true, le-leb, and_parts, cases_eq}
-use Rattle.std.proofs.lemmas.List.{append-nil}
-use Rattle.std.proofs.lemmas.Option.{slice_get_within, get_or_from_slice_get}
+use Rattle.std.proofs.lemmas.Bool.{false≢true, both_ways, eq-eqb, eqb-true, ne_eqb, leb-true, le-leb, and_parts, cases_eq}
 use Rattle.std.proofs.lemmas.List.Sums.{sum_by-cons}
-use Rattle.disk_model.specs.Disk.{DiskView, IsDisk}
-use Rattle.device_model.specs.Book.{Setup, Buffer, Live, client, defrag, filling_buffer, holds_dead, use_of}
+use Rattle.disk_model.specs.Disk.{DiskView, IsDisk, IsHonest}
+use Rattle.device_model.specs.Book.{Setup, Book, Buffer, Live, client, defrag, filling_buffer, holds_dead, use_of}
 use Rattle.device_model.specs.Device.{State}
-use Rattle.device_model.specs.Steps.{Step}
+use Rattle.device_model.specs.Steps.{Step, after_step, after_steps}
 use Rattle.device_model.specs.Legal.{seal_if, seal_low}
-use Rattle.recovery.proofs.Growing.{all_from, cons_cases}
-use Rattle.recovery.proofs.Members.{filter_there, first_there, rest_there}
+use Rattle.recovery.proofs.Growing.{all_from, all_at}
+use Rattle.recovery.proofs.Members.{filter_there, first_there, rest_there, map_there, map_from}
 use Rattle.kept_trail.proofs.Places.{any_there, some_at}
-use Rattle.write_buffer.specs.declared.phase.Phase.{Phase}
-use Rattle.write_buffer.specs.declared.phase.Phase.TheVariants.{Filling, Sealed, BodyDone, GateBegun}
+use Rattle.write_buffer.specs.declared.stream.Stream.{Stream}
+use Rattle.write_buffer.specs.declared.stream.Stream.TheVariants.{Client, Defrag}
 use Rattle.write_buffer.specs.Buffers.{BufferState}
 use Rattle.unit_ledger.specs.declared.roll.LiveCopy.{LiveCopy}
 use Rattle.unit_ledger.specs.Rolls.{copies_in, live_in_block}
 use Rattle.hold_book.specs.Holds.{has_hold}
-use Rattle.block_shelf.specs.View.{ShelfView, IsShelf, StandInOrder, is_unsealed}
-use Rattle.block_shelf.specs.Standing.{StandsFor, book_buffer}
+use Rattle.block_shelf.specs.View.{ShelfView, IsShelf, StandInOrder, fills, is_stream}
+use Rattle.block_shelf.specs.Standing.{StandsFor, book_buffer, book_stream}
 use Rattle.block_shelf.specs.Calls.{Goes}
-use Rattle.block_shelf.specs.Low.{HoldsDead, FillsOverDead, IsLow, with_sealed}
-use Rattle.block_shelf.proofs.Filling.{filling_last, last_filling}
+use Rattle.block_shelf.specs.Changes.{sealed_buffer, sealed_in}
+use Rattle.block_shelf.specs.Low.{HoldsDead, FillsOverDead, IsLow, SealsLow, with_sealed}
+use Rattle.block_shelf.proofs.Filling.{IsFilling, fills_parts, found_fills, found_there, stream_self}
 use Rattle.block_shelf.proofs.Frees.{filter_none, part_of_sum}
-use Rattle.block_shelf.proofs.LastBuffer.{last_read}
-use Rattle.block_shelf.proofs.Sealing.{no_defrag, none_behind}
-use Rattle.block_shelf.proofs.SealSteps.{goes_sealed, goes_nowhere}
+use Rattle.block_shelf.proofs.Going.{goes_none, goes_then}
+use Rattle.block_shelf.proofs.Sealing.{seals_in}
+use Rattle.block_shelf.proofs.SealSteps.{goes_sealed, other_after, still_told}
+use Rattle.block_shelf.proofs.Streams.{in_own, in_other}
 
 -- ---- blocks in which nothing is live
 
@@ -42,46 +42,25 @@ pub one_passed : (held : ℕ → Bool) (used : ℕ → ℕ) (copies : ℕ → Li
 one_passed held used copies is k passed before b lt own none =
     ⊎_elim (λ (e : b ≡ k). false≢true (sym (passed (is k ∙ ap (sum_by (λ (c : LiveCopy). c.units)) (ap copies (sym e) ∙ none))) ∙ ap held (sym e) ∙ own)) (λ (other : b ≢ k). before b (omega (arith, other, lt)) own none) (cases_eq b k)
 
--- ---- the buffer that is being filled
+-- ---- the buffer that takes the records of a stream
 
-unsealed_filling : (phase : Phase) → is_unsealed phase ≡ true → phase ≡ Filling
-unsealed_filling Filling is = refl
-unsealed_filling Sealed is = absurd (false≢true is)
-unsealed_filling BodyDone is = absurd (false≢true is)
-unsealed_filling GateBegun is = absurd (false≢true is)
+pub stands_there : (front : List BufferState) (b : BufferState) (behind : List BufferState) → Contains (front ++ b ∷ behind) b
+stands_there [] b behind = first_there b behind
+stands_there (x ∷ front) b behind = rest_there x (front ++ b ∷ behind) b (stands_there front b behind)
 
--- it is the last
-record FillsLast (bs : List BufferState) (b : BufferState) : Type 0 where
-  front : List BufferState
-  parts : bs ≡ front ++ b ∷ []
-  fills : b.phase ≡ Filling
-
-fills_last : (bs : List BufferState) (b : BufferState) → Contains bs b → is_unsealed b.phase ≡ true → StandInOrder bs → FillsLast bs b
-fills_last [] b there fills order = absurd (omega (arith, there.1))
-fills_last (x ∷ bs) b there fills order = by (cons_cases x bs b there) (λ more. fills_last bs b more fills order.1)
+-- two that do have one number
+same_filling : (stream : Stream) (bs : List BufferState) (b c : BufferState) → StandInOrder bs → Contains bs b → Contains bs c → fills stream b ≡ true → fills stream c ≡ true → b.number ≡ c.number
+same_filling stream bs b c order in_b in_c fills_b fills_c = ap (λ (x : Buffer). x.number) (one (sym (found_there stream bs b order in_b fills_b) ∙ found_there stream bs c order in_c fills_c))
   where
-    by : (x ≡ b) ⊎ Contains bs b → (Contains bs b → FillsLast bs b) → FillsLast (x ∷ bs) b
-    by (inl e) rest =
-        let filling : b.phase ≡ Filling = unsealed_filling b.phase fills in
-        record { front = []; parts = ap (λ (l : List BufferState). x ∷ l) (none_behind x (ap (λ (y : BufferState). y.phase) e ∙ filling) bs order.0) ∙ ap (λ (y : BufferState). y ∷ []) e; fills = filling }
-    by (inr more) rest = let last = rest more in record { front = x ∷ last.front; parts = ap (λ (l : List BufferState). x ∷ l) last.parts; fills = last.fills }
+    one : {x y : Buffer} → Some x ≡ Some y → x ≡ y
+    one e = cc
 
--- what is true of the last buffer decides
-module _ {D : Type 0} (shelf : ShelfView D) (b : BufferState) (last : slice_get shelf.buffers (length shelf.buffers - 1) ≡ Some b) where
-  pub last_there : Contains shelf.buffers b
-  last_there = (length shelf.buffers - 1, slice_get_within shelf.buffers (length shelf.buffers - 1) b last, get_or_from_slice_get shelf.buffers (length shelf.buffers - 1) b b last)
-
-  pub last_told : StandInOrder shelf.buffers → FillsOverDead shelf → (b.phase ≡ Filling) × HoldsDead shelf b.number
-  last_told order over = by (fills_last shelf.buffers over.buffer over.there over.fills order)
-    where
-      by : FillsLast shelf.buffers over.buffer → (b.phase ≡ Filling) × HoldsDead shelf b.number
-      by is =
-          let e : b ≡ over.buffer = last_read is.front over.buffer shelf.buffers (length shelf.buffers) is.parts refl b (sym (get_or_from_slice_get shelf.buffers (length shelf.buffers - 1) b b last)) in
-          (ap (λ (x : BufferState). x.phase) e ∙ is.fills, subst (λ (x : BufferState). HoldsDead shelf x.number) (sym e) over.holds)
-
-  pub over_last : StandInOrder shelf.buffers → b.phase ≡ Filling → (n : ℕ) → n ≡ b.number → (r : Bool) → MatchBool r (HoldsDead shelf n) (HoldsDead shelf n → ⊥) → MatchBool r (FillsOverDead shelf) (FillsOverDead shelf → ⊥)
-  over_last order fills n is true told = record { buffer = b; there = last_there; fills = ap is_unsealed fills; holds = subst (HoldsDead shelf) is told }
-  over_last order fills n is false told = λ over. told (subst (HoldsDead shelf) (sym is) (last_told order over).1)
+-- what is true of it decides
+pub over_filling : {D : Type 0} (stream : Stream) (shelf : ShelfView D) (b : BufferState) → StandInOrder shelf.buffers → Contains shelf.buffers b → fills stream b ≡ true → (n : ℕ) → n ≡ b.number
+    → (r : Bool) → MatchBool r (HoldsDead shelf n) (HoldsDead shelf n → ⊥) → MatchBool r (FillsOverDead stream shelf) (FillsOverDead stream shelf → ⊥)
+over_filling stream shelf b order there is n number true told = record { buffer = b; there = there; fills = is; holds = subst (HoldsDead shelf) number told }
+over_filling stream shelf b order there is n number false told = λ over.
+    told (subst (HoldsDead shelf) (sym (number ∙ same_filling stream shelf.buffers b over.buffer order there over.there is over.fills)) over.holds)
 
 -- ---- the book
 
@@ -104,73 +83,155 @@ module _ {D : Type 0} (view : D → DiskView) (shelf : ShelfView D) (is : IsShel
       let known = stands.lives.known l.block c there in
       let gone = subst (λ (cs : List LiveCopy). Contains cs c) dead (subst (λ (b : ℕ). Contains (copies_in b shelf.rolls) c) at known) in omega (arith, gone.1)))))
 
-  -- the filling buffer of the book, if there is one, holds a dead block just where that of the shelf does
-  dead_is : FillsOverDead shelf → holds_dead s.book (filling_buffer client s.book.buffers) ≡ true
-  dead_is over = by (fills_last shelf.buffers over.buffer over.there over.fills is.order)
-    where
-      hold : ℕ × ℕ
-      hold = (over.buffer.number, over.holds.block)
+  module _ (stream : Stream) where
+    abbrev found : Option Buffer
+    found = filling_buffer (book_stream stream) s.book.buffers
 
-      by : FillsLast shelf.buffers over.buffer → holds_dead s.book (filling_buffer client s.book.buffers) ≡ true
-      by last =
-          let found = ap (filling_buffer client) (stands.buffers ∙ ap (map book_buffer) last.parts) ∙ last_filling last.front over.buffer (subst StandInOrder last.parts is.order) last.fills in
-          ap (holds_dead s.book) found
-          ∙ any_there (λ (h : ℕ × ℕ). (h.0 == over.buffer.number) && (use_of s.book h.1 == 0)) s.book.holds hold (stands.holds.there over.buffer.number over.holds.block over.holds.held)
-          (ap (λ (x : Bool). x && (use_of s.book over.holds.block == 0)) (eq-eqb over.buffer.number over.buffer.number refl) ∙ eq-eqb (use_of s.book over.holds.block) 0 (none_use over.holds.block over.holds.dead))
+    -- the filling buffer of the book, if there is one, holds a dead block just where that of the shelf does
+    dead_is : FillsOverDead stream shelf → holds_dead s.book found ≡ true
+    dead_is over =
+        let hold : ℕ × ℕ = (over.buffer.number, over.holds.block) in
+        ap (holds_dead s.book) (ap (filling_buffer (book_stream stream)) stands.buffers ∙ found_there stream shelf.buffers over.buffer is.order over.there over.fills)
+        ∙ any_there (λ (h : ℕ × ℕ). (h.0 == over.buffer.number) && (use_of s.book h.1 == 0)) s.book.holds hold (stands.holds.there over.buffer.number over.holds.block over.holds.held)
+        (ap (λ (x : Bool). x && (use_of s.book over.holds.block == 0)) (eq-eqb over.buffer.number over.buffer.number refl) ∙ eq-eqb (use_of s.book over.holds.block) 0 (none_use over.holds.block over.holds.dead))
 
-  is_dead : holds_dead s.book (filling_buffer client s.book.buffers) ≡ true → FillsOverDead shelf
-  is_dead told = by (filling_buffer client s.book.buffers) refl told
-    where
-      by : (o : Option Buffer) → filling_buffer client s.book.buffers ≡ o → holds_dead s.book o ≡ true → FillsOverDead shelf
-      by None found told = absurd (false≢true told)
-      by (Some b) found told =
-          let last = filling_last shelf.buffers b is.order (ap (filling_buffer client) (sym stands.buffers) ∙ found) in
-          let some = some_at (λ (h : ℕ × ℕ). (h.0 == b.number) && (use_of s.book h.1 == 0)) s.book.holds told in
-          let two = and_parts (some.0.0 == b.number) (use_of s.book some.0.1 == 0) some.2 in
-          let number : some.0.0 ≡ last.last.number = eqb-true some.0.0 b.number two.0 ∙ sym (ap (λ (x : Buffer). x.number) last.same) in
-          record {
-            buffer = last.last;
-            there = subst (λ (bs : List BufferState). Contains bs last.last) (sym last.parts) (at_end last.front last.last);
-            fills = ap is_unsealed last.fills;
-            holds = record {
-              block = some.0.1;
-              held = subst (λ (n : ℕ). IsTrue (has_hold shelf.holds.holds n some.0.1)) number (stands.holds.known some.0.0 some.0.1 some.1);
-              dead = use_none some.0.1 (eqb-true (use_of s.book some.0.1) 0 two.1);
-            };
-          }
-        where
-          at_end : (front : List BufferState) (x : BufferState) → Contains (front ++ x ∷ []) x
-          at_end [] x = first_there x []
-          at_end (y ∷ front) x = rest_there y (front ++ x ∷ []) x (at_end front x)
-
-  module _ (is_disk : (disk : D) → IsDisk (view disk)) where
-    -- the model's steps: one seal, or none
-    steps_are : seal_low setup s.book ≡ seal_if (nat_le (length shelf.free) 6 && holds_dead s.book (filling_buffer client s.book.buffers)) client
-    steps_are =
-        ap (λ (o : Option Buffer). seal_if (low && holds_dead s.book (filling_buffer client s.book.buffers)) client ++ seal_if (low && holds_dead s.book o) defrag) (ap (filling_buffer defrag) stands.buffers ∙ no_defrag shelf.buffers)
-        ∙ ap (λ (b : Bool). seal_if (low && holds_dead s.book (filling_buffer client s.book.buffers)) client ++ seal_if b defrag) (and_false low) ∙ append-nil (seal_if (low && holds_dead s.book (filling_buffer client s.book.buffers)) client)
-        ∙ ap (λ (b : Bool). seal_if (b && holds_dead s.book (filling_buffer client s.book.buffers)) client) (ap (λ (l : List ℕ). nat_le (length l) 6) stands.free)
+    is_dead : holds_dead s.book found ≡ true → FillsOverDead stream shelf
+    is_dead told = by found refl told
       where
-        low : Bool
-        low = nat_le (length s.book.free) 6
+        by : (o : Option Buffer) → found ≡ o → holds_dead s.book o ≡ true → FillsOverDead stream shelf
+        by None is_found told = absurd (false≢true told)
+        by (Some b) is_found told =
+            let one : IsFilling stream shelf.buffers b = found_fills stream shelf.buffers b (ap (filling_buffer (book_stream stream)) (sym stands.buffers) ∙ is_found) in
+            let some = some_at (λ (h : ℕ × ℕ). (h.0 == b.number) && (use_of s.book h.1 == 0)) s.book.holds told in
+            let two = and_parts (some.0.0 == b.number) (use_of s.book some.0.1 == 0) some.2 in
+            let number : some.0.0 ≡ one.buffer.number = eqb-true some.0.0 b.number two.0 ∙ sym (ap (λ (x : Buffer). x.number) one.same) in
+            record {
+              buffer = one.buffer;
+              there = subst (λ (bs : List BufferState). Contains bs one.buffer) (sym one.parts) (stands_there one.front one.buffer one.behind);
+              fills = one.fills;
+              holds = record {
+                block = some.0.1;
+                held = subst (λ (n : ℕ). IsTrue (has_hold shelf.holds.holds n some.0.1)) number (stands.holds.known some.0.0 some.0.1 some.1);
+                dead = use_none some.0.1 (eqb-true (use_of s.book some.0.1) 0 two.1);
+              };
+            }
 
-        and_false : (b : Bool) → (b && false) ≡ false
-        and_false true = refl
-        and_false false = refl
+    abbrev low : Bool
+    low = nat_le (length s.book.free) 6 && holds_dead s.book found
 
-    pub goes_low : IsLow shelf → Goes view setup (seal_low setup s.book) shelf s (with_sealed shelf)
-    goes_low low =
-        subst (λ (steps : List Step). Goes view setup steps shelf s (with_sealed shelf))
-        (sym (steps_are ∙ ap (λ (b : Bool). seal_if (b && holds_dead s.book (filling_buffer client s.book.buffers)) client) (le-leb (length shelf.free) 6 low.few) ∙ ap (λ (b : Bool). seal_if b client) (dead_is low.over)))
-        (goes_sealed view is_disk setup shelf s stands)
+    low_is : IsLow stream shelf → low ≡ true
+    low_is is_low = ap (λ (x : Bool). x && holds_dead s.book found) (ap (λ (l : List ℕ). nat_le (length l) 6) stands.free ∙ le-leb (length shelf.free) 6 is_low.few) ∙ dead_is is_low.over
 
-    pub goes_high : (IsLow shelf → ⊥) → Goes view setup (seal_low setup s.book) shelf s shelf
-    goes_high high =
-        subst (λ (steps : List Step). Goes view setup steps shelf s shelf)
-        (sym (steps_are ∙ ap (λ (b : Bool). seal_if b client) (by (nat_le (length shelf.free) 6) (holds_dead s.book (filling_buffer client s.book.buffers)) refl refl)))
-        (goes_nowhere view is_disk setup shelf s stands)
+    high_is : (IsLow stream shelf → ⊥) → low ≡ false
+    high_is high = by (nat_le (length s.book.free) 6) (holds_dead s.book found) refl refl
       where
-        by : (few dead : Bool) → nat_le (length shelf.free) 6 ≡ few → holds_dead s.book (filling_buffer client s.book.buffers) ≡ dead → (few && dead) ≡ false
+        by : (few dead : Bool) → nat_le (length s.book.free) 6 ≡ few → holds_dead s.book found ≡ dead → (few && dead) ≡ false
         by false dead is_few told = refl
         by true false is_few told = refl
-        by true true is_few told = absurd (high (record { few = leb-true (length shelf.free) 6 is_few; over = is_dead told }))
+        by true true is_few told = absurd (high (record { few = leb-true (length shelf.free) 6 (sym (ap (λ (l : List ℕ). nat_le (length l) 6) stands.free) ∙ is_few); over = is_dead told }))
+
+    -- one seal of the stream, or none
+    pub goes_where_low : IsDisk (view shelf.disk) → (new : ShelfView D) → SealsLow stream shelf new → Goes view setup (seal_if low (book_stream stream)) shelf s new
+    goes_where_low is_disk new (inl (is_low, is_new)) =
+        subst (Goes view setup (seal_if low (book_stream stream)) shelf s) (sym is_new)
+        (subst (λ (c : Bool). Goes view setup (seal_if c (book_stream stream)) shelf s (with_sealed stream shelf)) (sym (low_is is_low)) (goes_sealed setup stream shelf s view is_disk stands))
+    goes_where_low is_disk new (inr (high, is_new)) =
+        subst (Goes view setup (seal_if low (book_stream stream)) shelf s) (sym is_new)
+        (subst (λ (c : Bool). Goes view setup (seal_if c (book_stream stream)) shelf s shelf) (sym (high_is high)) (goes_none view setup shelf s is_disk stands))
+
+-- ---- both streams, one after the other
+
+-- what decides of the second stream is as it was
+still_low : (setup : Setup) (c : Bool) (s : State) → (nat_le (length (after_steps setup (seal_if c client) s).book.free) 6 && holds_dead (after_steps setup (seal_if c client) s).book (filling_buffer defrag (after_steps setup (seal_if c client) s).book.buffers))
+    ≡ (nat_le (length s.book.free) 6 && holds_dead s.book (filling_buffer defrag s.book.buffers))
+unfolding after_step
+still_low setup true s = ap (λ (o : Option Buffer). nat_le (length s.book.free) 6 && holds_dead s.book o) (other_after setup true s)
+still_low setup false s = refl
+
+pub goes_low : {D : Type 0} (view : D → DiskView) (old mid new : ShelfView D) → IsShelf view old → IsShelf view mid → (setup : Setup) (s : State) → StandsFor setup old s → IsDisk (view old.disk) → IsDisk (view mid.disk)
+    → SealsLow Client old mid → SealsLow Defrag mid new → Goes view setup (seal_low setup s.book) old s new
+goes_low {D} view old mid new is_old is_mid setup s stands disk_old disk_mid first then =
+    let low : Bool = nat_le (length s.book.free) 6 && holds_dead s.book (filling_buffer client s.book.buffers) in
+    let after : State = after_steps setup (seal_if low client) s in
+    let one = goes_where_low view old is_old setup s stands Client disk_old mid first in
+    let two = goes_where_low view mid is_mid setup after one.stands Defrag disk_mid new then in
+    goes_then view setup (seal_if low client) (seal_if (nat_le (length s.book.free) 6 && holds_dead s.book (filling_buffer defrag s.book.buffers)) defrag) old mid new s
+    (λ honest. subst (λ (disk : D). IsHonest (view disk)) (sym (same_disk first)) honest) one
+    (subst (λ (c : Bool). Goes view setup (seal_if c defrag) mid after new) (still_low setup low s) two)
+  where
+    same_disk : SealsLow Client old mid → mid.disk ≡ old.disk
+    same_disk (inl (is_low, is)) = ap (λ (v : ShelfView D). v.disk) is
+    same_disk (inr (high, is)) = ap (λ (v : ShelfView D). v.disk) is
+
+-- ---- which buffers are sealed
+
+module _ {D : Type 0} where
+  -- a buffer of the other stream stays
+  other_stays : (stream : Stream) (old new : ShelfView D) (b : BufferState) → Contains old.buffers b → is_stream stream b.stream ≡ false → SealsLow stream old new → Contains new.buffers b
+  other_stays stream old new b there other (inl (is_low, is)) =
+      subst (λ (v : ShelfView D). Contains v.buffers b) (sym is) (subst (Contains (map (sealed_in stream) old.buffers)) (in_other stream b other) (map_there (sealed_in stream) old.buffers b there))
+  other_stays stream old new b there other (inr (high, is)) = subst (λ (v : ShelfView D). Contains v.buffers b) (sym is) there
+
+  own_sealed : (stream : Stream) (old new : ShelfView D) (b : BufferState) → Contains old.buffers b → b.stream ≡ stream → IsLow stream old → SealsLow stream old new → Contains new.buffers (sealed_buffer b)
+  own_sealed stream old new b there own is_low (inl (told, is)) =
+      subst (λ (v : ShelfView D). Contains v.buffers (sealed_buffer b)) (sym is)
+      (subst (Contains (map (sealed_in stream) old.buffers)) (in_own stream b (ap (is_stream stream) own ∙ stream_self stream)) (map_there (sealed_in stream) old.buffers b there))
+  own_sealed stream old new b there own is_low (inr (high, is)) = absurd (high is_low)
+
+  own_stays : (stream : Stream) (old new : ShelfView D) (b : BufferState) → Contains old.buffers b → (IsLow stream old → ⊥) → SealsLow stream old new → Contains new.buffers b
+  own_stays stream old new b there high (inl (is_low, is)) = absurd (high is_low)
+  own_stays stream old new b there high (inr (is_high, is)) = subst (λ (v : ShelfView D). Contains v.buffers b) (sym is) there
+
+  -- what a seal of the clients' stream leaves of the other
+  module _ (old mid : ShelfView D) where
+    low_still : SealsLow Client old mid → IsLow Defrag old → IsLow Defrag mid
+    low_still (inr (high, is)) low = subst (IsLow Defrag) (sym is) low
+    low_still (inl (was, is)) low =
+        let b = low.over.buffer in
+        let other : is_stream Client b.stream ≡ false = ap (is_stream Client) (fills_parts Defrag b low.over.fills).1 in
+        let holds = low.over.holds in
+        subst (IsLow Defrag) (sym is) (record {
+          few = low.few;
+          over = record {
+            buffer = b;
+            there = subst (Contains (map (sealed_in Client) old.buffers)) (in_other Client b other) (map_there (sealed_in Client) old.buffers b low.over.there);
+            fills = low.over.fills;
+            holds = record { block = holds.block; held = holds.held; dead = holds.dead };
+          };
+        })
+
+    low_before : SealsLow Client old mid → IsLow Defrag mid → IsLow Defrag old
+    low_before (inr (high, is)) low = subst (IsLow Defrag) is low
+    low_before (inl (was, is)) low = before (subst (IsLow Defrag) is low)
+      where
+        before : IsLow Defrag (with_sealed Client old) → IsLow Defrag old
+        before low =
+            let b = low.over.buffer in
+            let from = map_from (sealed_in Client) old.buffers b low.over.there in
+            let stream = sym (still_told (λ (c : BufferState). c.stream) (λ c. refl) (sealed_in Client) (seals_in Client) from.0) ∙ ap (λ (c : BufferState). c.stream) from.2 ∙ (fills_parts Defrag b low.over.fills).1 in
+            let same : from.0 ≡ b = sym (in_other Client from.0 (ap (is_stream Client) stream)) ∙ from.2 in
+            let holds = low.over.holds in
+            record {
+              few = low.few;
+              over = record {
+                buffer = b;
+                there = subst (Contains old.buffers) same from.1;
+                fills = low.over.fills;
+                holds = record { block = holds.block; held = holds.held; dead = holds.dead };
+              };
+            }
+
+  module _ (old mid new : ShelfView D) (first : SealsLow Client old mid) (then : SealsLow Defrag mid new) (b : BufferState) (there : Contains old.buffers b) where
+    pub low_sealed : IsLow b.stream old → Contains new.buffers (sealed_buffer b)
+    low_sealed = by b.stream refl
+      where
+        by : (stream : Stream) → b.stream ≡ stream → IsLow stream old → Contains new.buffers (sealed_buffer b)
+        by Client own low = other_stays Defrag mid new (sealed_buffer b) (own_sealed Client old mid b there own low first) (ap (is_stream Defrag) own) then
+        by Defrag own low = own_sealed Defrag mid new b (other_stays Client old mid b there (ap (is_stream Client) own) first) own (low_still old mid first low) then
+
+    pub high_stays : (IsLow b.stream old → ⊥) → Contains new.buffers b
+    high_stays = by b.stream refl
+      where
+        by : (stream : Stream) → b.stream ≡ stream → (IsLow stream old → ⊥) → Contains new.buffers b
+        by Client own high = other_stays Defrag mid new b (own_stays Client old mid b there high first) (ap (is_stream Defrag) own) then
+        by Defrag own high = own_stays Defrag mid new b (other_stays Client old mid b there (ap (is_stream Client) own) first) (λ low. high (low_before old mid first low)) then

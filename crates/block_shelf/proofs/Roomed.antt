@@ -12,7 +12,7 @@ use Rattle.hold_book.specs.Holds.{Holds, has_hold}
 use Rattle.kept_images.proofs.Held.{held_survives}
 use Rattle.block_shelf.specs.declared.place.Place.{Place}
 use Rattle.block_shelf.specs.View.{ShelfView, IsShelf, gate_at, records_of}
-use Rattle.block_shelf.specs.Standing.{StandsFor, IsPlaced, ImagesHold}
+use Rattle.block_shelf.specs.Standing.{StandsFor, QueueStands, IsPlaced, ImagesHold}
 use Rattle.block_shelf.specs.Calls.{Goes, IsPriorIn}
 use Rattle.block_shelf.specs.Changes.{SameButRoom}
 use Rattle.block_shelf.proofs.Rooms.{roomed_shelf}
@@ -40,7 +40,10 @@ module _ {D : Type 0} (old new : ShelfView D) (same : SameButRoom old new) where
   })
 
   pub room_placed : (view : D → DiskView) (s : State) → IsPlaced view old s → IsPlaced view new s
-  room_placed view s placed = subst (λ (x : ShelfView D). IsPlaced view x s) (sym same.rest) (record { there = placed.there })
+  room_placed view s placed = subst (λ (x : ShelfView D). IsPlaced view x s) (sym same.rest) (record { buffered = placed.buffered; there = placed.there })
+
+  pub room_queued : (setup : Setup) (s : State) → QueueStands setup old s → QueueStands setup new s
+  room_queued setup s queued = subst (λ (x : ShelfView D). QueueStands setup x s) (sym same.rest) (record { same = queued.same; all = queued.all })
 
   pub room_safe : (setup : Setup) (view : D → DiskView) (s : State) → ImagesHold setup view old s → ImagesHold setup view new s
   room_safe setup view s safe = subst (λ (x : ShelfView D). ImagesHold setup view x s) (sym same.rest) safe
@@ -72,6 +75,7 @@ module _ {D : Type 0} (view : D → DiskView) (is_disk : (disk : D) → IsDisk (
   pub goes_nowhere : (shelf : ShelfView D) → StandsFor setup shelf s → Goes view setup [] shelf s shelf
   goes_nowhere shelf stands = record {
     stands = stands;
+    queued = λ queued. queued;
     placed = λ honest placed. placed;
     safe = λ honest safe. safe;
     leaves = λ honest safe. leaves_none (OneOf (Survives setup) (s ∷ [])) (view shelf.disk) (is_disk shelf.disk)
@@ -81,6 +85,7 @@ module _ {D : Type 0} (view : D → DiskView) (is_disk : (disk : D) → IsDisk (
   pub goes_room : (old new : ShelfView D) → SameButRoom old new → StandsFor setup old s → Goes view setup [] old s new
   goes_room old new same stands = record {
     stands = room_stands old new same setup s stands;
+    queued = λ queued. room_queued old new same setup s queued;
     placed = λ honest placed. room_placed old new same view s placed;
     safe = λ honest safe. room_safe old new same setup view s safe;
     leaves = λ honest safe. subst (λ (disk : D). Leaves (OneOf (Survives setup) (s ∷ [])) (view old.disk) (view disk)) (sym (room_disk old new same)) ((goes_nowhere old stands).leaves honest safe);

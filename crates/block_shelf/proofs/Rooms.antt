@@ -45,4 +45,5 @@ roomed_shelf view shelf rolls holds is same held = record {
   waits = is.waits;
   ready = is.ready;
   stand = is.stand;
+  queue = is.queue;
 }

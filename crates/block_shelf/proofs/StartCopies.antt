@@ -1,7 +1,7 @@
 -- A start from entries, and from a sound image: the state's versions are those of copies, which lie where the book says.
 use Rattle.std.proofs.Common.{◌≡◌, ⊎_elim, ℕ, ◌+◌, ◌*◌, ◌<◌, Bool, true, false, cond, List, [], ◌∷◌, map, refl, sym, ◌∙◌, ap, subst, arith}
 use Rattle.std.specs.Prelude.{Option, Some, None, IfSome, find, Contains, option_map}
-use Rattle.std.specs.List.{range_with_len}
+use Rattle.std.specs.List.{AllByRecursion, range_with_len}
 use Rattle.disk_model.specs.Disk.{Images, DiskView, IsOnly}
 use Rattle.rec_format.specs.declared.version.Digest.{Digest}
 use Rattle.rec_format.specs.declared.version.Version.{Version}
@@ -31,12 +31,13 @@ use Rattle.kept_images.specs.Held.{AreSure}
 use Rattle.kept_images.proofs.Knowing.{IsSeen}
 use Rattle.kept_images.proofs.Starting.{start_in_order, entries_in_order}
 use Rattle.kept_images.proofs.Holding.{start_holds}
+use Rattle.kept_images.proofs.Stepping.{book_in_order}
 use Rattle.block_shelf.specs.declared.place.Place.{Place}
 use Rattle.block_shelf.specs.declared.place.ShelfLimits.{ShelfLimits}
 use Rattle.block_shelf.specs.View.{ShelfView, IsSetupOf, GatesStand, gate_at}
-use Rattle.block_shelf.specs.Standing.{StandsFor, IsPlaced, ImagesHold}
+use Rattle.block_shelf.specs.Standing.{StandsFor, QueueStands, IsPlaced, ImagesHold, StandsBehind}
 use Rattle.block_shelf.specs.Starting.{LiesIn, CanBeLive, StartsWith, AreLive, AllHave, place_of_copy}
-use Rattle.block_shelf.proofs.StartStates.{from_found, begun_one, stands_with}
+use Rattle.block_shelf.proofs.StartStates.{from_found, own_found, begun_one, queued_with, stands_with}
 
 -- of each digest the state's version and its live copy are those of one of these copies
 pub record ShowsCopies (copies : List Copy) (look : Digest → Option Copy) (s : State) : Type 0 where
@@ -67,8 +68,9 @@ module _ (copies : List Copy) (look : Digest → Option Copy) (s : State) (shows
       by None is there same = absurd (cc)
       by (Some c) is there same = (c, is, record { live_is = cc; listed = there.0; named = same_digest_is d c.digest there.1 })
 
-  shown_placed : {D : Type 0} (view : D → DiskView) (shelf : ShelfView D) → AllHave shelf.geometry (view shelf.disk).may_leave copies → IsPlaced view shelf s
-  shown_placed view shelf have = record {
+  shown_placed : {D : Type 0} (view : D → DiskView) (shelf : ShelfView D) → shelf.buffers ≡ [] → AllHave shelf.geometry (view shelf.disk).may_leave copies → IsPlaced view shelf s
+  shown_placed view shelf unbuffered have = record {
+    buffered = λ d l v live version. subst (AllByRecursion (λ b. b.block ≡ l.block → StandsBehind l.unit d v b.records)) (sym unbuffered) tt;
     there = λ d l v live version none image left.
         let one = live_copied d l live in
         let c = one.0 in
@@ -131,8 +133,8 @@ module _ (setup : Setup) (found : List Copy) (next_number : ℕ) where
   unfolding entries_state cold_book refreshed
   entries_lives = refl
 
-  pub entries_placed : {D : Type 0} (view : D → DiskView) (shelf : ShelfView D) → AllHave shelf.geometry (view shelf.disk).may_leave found → IsPlaced view shelf (entries_state setup found next_number)
-  entries_placed view shelf have = shown_placed found (find_copy found) (entries_state setup found next_number) entries_show view shelf have
+  pub entries_placed : {D : Type 0} (view : D → DiskView) (shelf : ShelfView D) → shelf.buffers ≡ [] → AllHave shelf.geometry (view shelf.disk).may_leave found → IsPlaced view shelf (entries_state setup found next_number)
+  entries_placed view shelf unbuffered have = shown_placed found (find_copy found) (entries_state setup found next_number) entries_show view shelf unbuffered have
 
 -- ---- a start from a sound image
 
@@ -186,36 +188,57 @@ module _ {D : Type 0} (view : D → DiskView) (disk : D) (g : Geometry) (limits 
   shape : IsShapeOf setup g
   shape = subst (IsShapeOf setup) (ap (λ (v : ShelfView D). v.geometry) starts.parts) is.shape
 
-  pub entries_stand : (found : List Copy) → AreLive live found → StandsFor setup shelf (entries_state setup found next_number)
-  entries_stand found are =
-      let s : State = entries_state setup found next_number in
-      let same = from_found live found are in
-      let lives = entries_lives setup found next_number in
-      stands_with setup g live can (map live_copy found) same next_number shape.blocks disk limits gates shelf starts s (entries_book setup found next_number)
-      (entries_in_order setup found next_number
-      (all_from (λ c. c.block < setup.blocks) found (λ c there. subst (λ (n : ℕ). c.block < n) (sym shape.blocks) (all_at (LiesIn g) live (c.digest, place_of_copy c) can.each (are.there c there)).block)))
-      (λ l there. shown_versions found (find_copy found) s (entries_show setup found next_number)
-      (λ x y in_x in_y. begun_one setup g live can (map live_copy found) same next_number shape.blocks x y (subst (λ (ls : List Live). Contains ls x) lives in_x) (subst (λ (ls : List Live). Contains ls y) lives in_y))
-      l (subst (λ (ls : List Live). Contains ls l) (sym lives) there))
+  mark : setup.lwm ≡ limits.lwm
+  mark = is.lwm ∙ ap (λ (v : ShelfView D). v.limits.lwm) starts.parts
+
+  module _ (found : List Copy) (are : AreLive live found) where
+    pub entries_stand : StandsFor setup shelf (entries_state setup found next_number)
+    entries_stand =
+        let s : State = entries_state setup found next_number in
+        let same = from_found live found are in
+        let own = own_found found are.once in
+        let lives = entries_lives setup found next_number in
+        stands_with setup g live can (map live_copy found) same own next_number shape.blocks disk limits gates shelf starts s (entries_book setup found next_number)
+        (book_in_order (entries_in_order setup found next_number
+        (all_from (λ c. c.block < setup.blocks) found (λ c there. subst (λ (n : ℕ). c.block < n) (sym shape.blocks) (all_at (LiesIn g) live (c.digest, place_of_copy c) can.each (are.there c there)).block))))
+        (λ l there. shown_versions found (find_copy found) s (entries_show setup found next_number)
+        (λ x y in_x in_y. begun_one setup g live can (map live_copy found) same own next_number shape.blocks x y (subst (λ (ls : List Live). Contains ls x) lives in_x) (subst (λ (ls : List Live). Contains ls y) lives in_y))
+        l (subst (λ (ls : List Live). Contains ls l) (sym lives) there))
+
+    pub entries_queued : QueueStands setup shelf (entries_state setup found next_number)
+    entries_queued =
+        queued_with setup g live can (map live_copy found) (from_found live found are) (own_found found are.once) next_number shape.blocks disk limits gates shelf starts (entries_state setup found next_number)
+        (entries_book setup found next_number) shape.capacity mark
 
   module _ (image : List ℕ) (bodies : List Body) (sound : IsSound setup image bodies) where
-    pub start_stands : AreLive live (cold_copies (copies_of bodies)) → next_number ≡ greatest_number bodies + 1 → StandsFor setup shelf (start_state setup bodies)
-    start_stands are next =
-        let s : State = start_state setup bodies in
-        let cold = cold_copies (copies_of bodies) in
-        let same = from_found live cold are in
-        let lives = start_lives setup image bodies sound in
-        stands_with setup g live can (map live_copy cold) same next_number shape.blocks disk limits gates shelf starts s (start_book setup image bodies sound ∙ ap (cold_book setup (map live_copy cold)) (sym next))
-        (start_in_order setup g shape is_g image bodies sound)
-        (λ l there. shown_versions (copies_of bodies) (λ d. cold_copy d (copies_of bodies)) s (start_show setup image bodies sound)
-        (λ x y in_x in_y. begun_one setup g live can (map live_copy cold) same next_number shape.blocks x y (subst (λ (ls : List Live). Contains ls x) lives in_x) (subst (λ (ls : List Live). Contains ls y) lives in_y))
-        l (subst (λ (ls : List Live). Contains ls l) (sym lives) there))
+    abbrev cold : List Copy
+    cold = cold_copies (copies_of bodies)
+
+    module _ (are : AreLive live cold) (next : next_number ≡ greatest_number bodies + 1) where
+      start_is : (start_state setup bodies).book ≡ cold_book setup (map live_copy cold) next_number
+      start_is = start_book setup image bodies sound ∙ ap (cold_book setup (map live_copy cold)) (sym next)
+
+      pub start_stands : StandsFor setup shelf (start_state setup bodies)
+      start_stands =
+          let s : State = start_state setup bodies in
+          let same = from_found live cold are in
+          let own = own_found cold are.once in
+          let lives = start_lives setup image bodies sound in
+          stands_with setup g live can (map live_copy cold) same own next_number shape.blocks disk limits gates shelf starts s start_is
+          (book_in_order (start_in_order setup g shape is_g image bodies sound))
+          (λ l there. shown_versions (copies_of bodies) (λ d. cold_copy d (copies_of bodies)) s (start_show setup image bodies sound)
+          (λ x y in_x in_y. begun_one setup g live can (map live_copy cold) same own next_number shape.blocks x y (subst (λ (ls : List Live). Contains ls x) lives in_x) (subst (λ (ls : List Live). Contains ls y) lives in_y))
+          l (subst (λ (ls : List Live). Contains ls l) (sym lives) there))
+
+      pub start_queued : QueueStands setup shelf (start_state setup bodies)
+      start_queued =
+          queued_with setup g live can (map live_copy cold) (from_found live cold are) (own_found cold are.once) next_number shape.blocks disk limits gates shelf starts (start_state setup bodies) start_is shape.capacity mark
 
     module _ (only : IsOnly image (view disk).may_leave) where
       pub start_placed : IsPlaced view shelf (start_state setup bodies)
       start_placed =
           subst (λ (v : ShelfView D). IsPlaced view v (start_state setup bodies)) (sym starts.parts)
-          (shown_placed (copies_of bodies) (λ d. cold_copy d (copies_of bodies)) (start_state setup bodies) (start_show setup image bodies sound) view _ (all_have setup image bodies sound g shape is_g (view disk).may_leave only))
+          (shown_placed (copies_of bodies) (λ d. cold_copy d (copies_of bodies)) (start_state setup bodies) (start_show setup image bodies sound) view _ refl (all_have setup image bodies sound g shape is_g (view disk).may_leave only))
 
       pub start_safe : GatesStand g (view disk).may_leave gates → AreSure g (gate_at gates) → ImagesHold setup view shelf (start_state setup bodies)
       start_safe stand sure =

@@ -11,7 +11,14 @@ use Rattle.rec_format.specs.Versions.{block_capacity}
 use Rattle.disk_model.specs.Bytes.{Apart}
 use Rattle.block_format.specs.declared.geometry.Geometry.{Geometry}
 use Rattle.block_format.specs.Layout.{IsGeometry}
+use Rattle.device_model.specs.Book.{is_in}
+use Rattle.recovery.proofs.Growing.{all_at}
+use Rattle.recovery.proofs.Members.{filter_from}
 use Rattle.recovery.proofs.Opening.{all_parted}
+use Rattle.kept_trail.proofs.Places.{none_from}
+use Rattle.kept_trail.proofs.Within.{range_below}
+use Rattle.defrag_queue.specs.Queues.{requeued}
+use Rattle.defrag_queue.proofs.Marks as queue
 use Rattle.write_buffer.proofs.Sizes.{sized, body_size}
 use Rattle.unit_ledger.specs.declared.roll.LiveCopy.{LiveCopy}
 use Rattle.unit_ledger.specs.Rolls.{BlockRoll, copy_at, copies_in, rolled_use, with_roll, GainsRoom}
@@ -230,3 +237,17 @@ passing p k found new is passes more =
 pub failing : (p : ℕ → Bool) (k : ℕ) (found : List ℕ) → found ≡ filter p (range_with_len 0 k) → p k ≡ false → found ≡ filter p (range_with_len 0 (k + 1))
 failing p k found is fails =
     is ∙ sym (filter_more p k ∙ ap (λ (l : List ℕ). filter p (range_with_len 0 k) ++ l) (cond-false (p k) (k ∷ []) [] fails) ∙ append-nil (filter p (range_with_len 0 k)))
+
+-- a block that is considered behind those before it
+pub considering : (p : ℕ → Bool) (k : ℕ) → requeued (p k) k (filter p (range_with_len 0 k)) ≡ filter p (range_with_len 0 (k + 1))
+considering p k = by (p k) refl
+  where
+    before : List ℕ
+    before = filter p (range_with_len 0 k)
+
+    out : is_in before k ≡ false
+    out = none_from (λ b. b == k) before (λ b there. ne_eqb b k (λ e. let lt : b < k = all_at (λ m. m < k) (range_with_len 0 k) b (range_below 0 k k (omega arith)) (filter_from p (range_with_len 0 k) b there).0 in absurd (omega (arith, e, lt))))
+
+    by : (t : Bool) → p k ≡ t → requeued (p k) k before ≡ filter p (range_with_len 0 (k + 1))
+    by true is = ap (λ (t : Bool). requeued t k before) is ∙ cond-false (is_in before k) before (before ++ k ∷ []) out ∙ sym (filter_more p k ∙ ap (λ (l : List ℕ). before ++ l) (cond-true (p k) (k ∷ []) [] is))
+    by false is = ap (λ (t : Bool). requeued t k before) is ∙ queue.stays k before out ∙ sym (filter_more p k ∙ ap (λ (l : List ℕ). before ++ l) (cond-false (p k) (k ∷ []) [] is) ∙ append-nil before)

@@ -8,7 +8,7 @@ use Rattle.std.proofs.lemmas.List.Sums.{sum_by-cons}
 use Rattle.disk_model.specs.Bytes.{Apart}
 use Rattle.disk_model.specs.Disk.{DiskView, IsHonest}
 use Rattle.rec_format.specs.declared.version.Digest.{Digest}
-use Rattle.rec_format.specs.Versions.{top_number}
+use Rattle.rec_format.specs.Versions.{block_capacity, top_number}
 use Rattle.block_format.specs.declared.geometry.Geometry.{Geometry}
 use Rattle.block_format.specs.declared.geometry.Gate.{Gate}
 use Rattle.block_format.specs.Layout.{IsGeometry, device_end}
@@ -19,12 +19,13 @@ use Rattle.kept_trail.proofs.Places.{none_at}
 use Rattle.kept_trail.proofs.Within.{range_below}
 use Rattle.unit_ledger.specs.declared.roll.LiveCopy.{LiveCopy}
 use Rattle.unit_ledger.specs.Rolls.{BlockRoll, copy_at, copies_in, rolled_use, HaveOwnUnits}
+use Rattle.defrag_queue.specs.Queues.{QueueState, is_below_mark}
 use Rattle.hold_book.specs.Holds.{HoldState, HoldsBelow, Holds, IsHeld, has_hold}
 use Rattle.hold_book.proofs.Laws.{HoldsBelow-empty}
 use Rattle.block_shelf.specs.declared.place.Place.{Place}
 use Rattle.block_shelf.specs.declared.place.ShelfLimits.{ShelfLimits}
-use Rattle.block_shelf.specs.View.{ShelfView, IsShelf, IsRoll, AreLimits, AreApart, GatesStand}
-use Rattle.block_shelf.specs.Starting.{LiesIn, CanBeLive, copy_of_place, copies_at, blocks_without}
+use Rattle.block_shelf.specs.View.{ShelfView, IsShelf, IsQueueOf, IsRoll, AreLimits, AreApart, GatesStand}
+use Rattle.block_shelf.specs.Starting.{LiesIn, CanBeLive, copy_of_place, copies_at, blocks_below, blocks_without}
 use Rattle.block_shelf.proofs.StartRolls.{AreAllApart, each_at, apart_at}
 
 -- ---- the blocks without a live copy
@@ -54,6 +55,22 @@ pub free_is : (g : Geometry) (live : List (Digest × Place)) (rolls : List Block
 free_is g live rolls can copies =
     filter_alike (λ b. rolled_use b rolls == 0) (λ b. not (list_any (λ (x : Digest × Place). x.1.block == b) live))
     (λ b. ap (λ (cs : List LiveCopy). sum_by (λ (c : LiveCopy). c.units) cs == 0) (copies b) ∙ unused_is live b (takes_room g live can.each)) (range_with_len 0 g.blocks)
+
+-- a block is queued where what is live in it is as little
+pub queue_is : (g : Geometry) (live : List (Digest × Place)) (rolls : List BlockRoll) (lwm : ℕ) → ((block : ℕ) → copies_in block rolls ≡ copies_at block live)
+    → filter (λ b. is_below_mark (block_capacity g.block_size) lwm (rolled_use b rolls) true) (range_with_len 0 g.blocks) ≡ blocks_below live g lwm
+queue_is g live rolls lwm copies =
+    filter_alike (λ b. is_below_mark (block_capacity g.block_size) lwm (rolled_use b rolls) true) (λ b. is_below_mark (block_capacity g.block_size) lwm (sum_by (λ (c : LiveCopy). c.units) (copies_at b live)) true)
+    (λ b. ap (λ (cs : List LiveCopy). is_below_mark (block_capacity g.block_size) lwm (sum_by (λ (c : LiveCopy). c.units) cs) true) (copies b)) (range_with_len 0 g.blocks)
+
+-- the blocks of a device that pass a test
+pub passing_below : (p : ℕ → Bool) (blocks : ℕ) → AllByRecursion (λ b. b < blocks) (filter p (range_with_len 0 blocks))
+passing_below p blocks = all_from (λ b. b < blocks) (filter p (range_with_len 0 blocks))
+    (λ b there. all_at (λ k. k < blocks) (range_with_len 0 blocks) b (range_below 0 blocks blocks (omega arith)) (filter_from p (range_with_len 0 blocks) b there).0)
+
+pub start_queue : (g : Geometry) (limits : ShelfLimits) (p : ℕ → Bool) (q : QueueState) → (q.blocks ≡ g.blocks) × (q.capacity ≡ block_capacity g.block_size) × (q.lwm ≡ limits.lwm) → q.queue ≡ filter p (range_with_len 0 g.blocks)
+    → IsQueueOf g limits q
+start_queue g limits p q shape is = record { blocks = shape.0; capacity = shape.1; lwm = shape.2; below = subst (AllByRecursion (λ b. b < g.blocks)) (sym is) (passing_below p g.blocks) }
 
 -- ---- numbers that rise are apart
 
@@ -105,21 +122,21 @@ roll_at g live can b = record {
 
 -- ---- the shelf
 
-module _ {D : Type 0} (view : D → DiskView) (disk : D) (g : Geometry) (limits : ShelfLimits) (gates : List Gate) (live : List (Digest × Place)) (next_number : ℕ) (rolls : List BlockRoll) (holds : HoldState) where
+module _ {D : Type 0} (view : D → DiskView) (disk : D) (g : Geometry) (limits : ShelfLimits) (gates : List Gate) (live : List (Digest × Place)) (next_number : ℕ) (rolls : List BlockRoll) (holds : HoldState) (queue : QueueState) where
   abbrev pub begun_with : List ℕ → ShelfView D
-  begun_with free = record { disk = disk; geometry = g; limits = limits; buffers = []; gates = gates; rolls = rolls; holds = holds; free = free; next_number = next_number }
+  begun_with free = record { disk = disk; geometry = g; limits = limits; buffers = []; gates = gates; rolls = rolls; holds = holds; free = free; queue = queue; next_number = next_number }
 
   pub start_shelf : IsGeometry g → device_end g ≤ (view disk).extent → AreLimits limits → (1 ≤ next_number) × (next_number ≤ top_number + 1) → length gates ≡ g.blocks
-      → (IsHonest (view disk) → GatesStand g (view disk).may_leave gates) → CanBeLive g live → length rolls ≡ g.blocks → ((block : ℕ) → copies_in block rolls ≡ copies_at block live) → holds.holds ≡ set.empty
+      → (IsHonest (view disk) → GatesStand g (view disk).may_leave gates) → CanBeLive g live → length rolls ≡ g.blocks → ((block : ℕ) → copies_in block rolls ≡ copies_at block live) → holds.holds ≡ set.empty → IsQueueOf g limits queue
       → IsShelf view (begun_with (blocks_without live g.blocks))
-  start_shelf geometry room are number count stand can size copies none = record {
+  start_shelf geometry room are number count stand can size copies none queued = record {
     geometry = geometry;
     limits = are;
     room = room;
     number = number;
     buffers = tt;
     order = tt;
-    free = all_from (λ b. b < g.blocks) (blocks_without live g.blocks) (λ b there. all_at (λ k. k < g.blocks) (range_with_len 0 g.blocks) b (range_below 0 g.blocks g.blocks (omega arith)) (filter_from is_free (range_with_len 0 g.blocks) b there).0);
+    free = passing_below is_free g.blocks;
     apart = rising_apart is_free 0 g.blocks;
     gates = count;
     rolls = size;
@@ -133,6 +150,7 @@ module _ {D : Type 0} (view : D → DiskView) (disk : D) (g : Geometry) (limits 
     waits = tt;
     ready = λ honest. tt;
     stand = stand;
+    queue = queued;
   }
     where
       is_free : ℕ → Bool

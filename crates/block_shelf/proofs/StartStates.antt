@@ -1,14 +1,14 @@
 -- For which states a shelf stands behind a start.
-use Rattle.std.proofs.Common.{◌≡◌, ◌⊎◌, inl, inr, ℕ, ◌+◌, ◌<◌, ◌≤◌, Bool, true, false, not, ◌&&◌, List, [], ◌∷◌, map, refl, sym, ◌∙◌, ap, subst, arith}
+use Rattle.std.proofs.Common.{◌≡◌, ◌⊎◌, inl, inr, ℕ, ◌+◌, ◌<◌, ◌≤◌, Bool, true, false, not, ◌&&◌, List, [], ◌∷◌, map, sum_by, refl, sym, ◌∙◌, ap, subst, arith}
 use Rattle.std.specs.Prelude.{Some, filter, Contains, ◌==◌}
-use Rattle.std.specs.List.{AllByRecursion, list_any}
+use Rattle.std.specs.List.{AllByRecursion, IsDistinct, list_any, range_with_len}
 use Rattle.std.proofs.lemmas.Bool.{both_ways, false≢true, ne_eqb, eq-eqb, not-true, eqb-true}
 use Rattle.rec_format.specs.declared.version.Digest.{Digest}
 use Rattle.rec_format.specs.declared.version.Version.{Version}
 use Rattle.rec_format.specs.Places.{same_digest}
 use Rattle.rec_format.specs.Versions.{version_units, block_capacity}
 use Rattle.rec_format.proofs.Laws.{same_digest_is, same_digest_refl}
-use Rattle.device_model.specs.Book.{Setup, Book, Live, may_be_free, all_blocks, refreshed, cold_book}
+use Rattle.device_model.specs.Book.{Setup, Book, Live, may_be_free, may_be_queued, is_in, updated, use_of, all_blocks, refreshed, cold_book}
 use Rattle.device_model.specs.Device.{State, entry}
 use Rattle.block_format.specs.declared.geometry.Geometry.{Geometry}
 use Rattle.block_format.specs.declared.geometry.Gate.{Gate}
@@ -17,20 +17,23 @@ use Rattle.recovery.specs.Start.{live_copy}
 use Rattle.recovery.proofs.Growing.{all_from, all_at, cons_cases}
 use Rattle.recovery.proofs.Members.{map_there, map_from, filter_there, filter_from}
 use Rattle.kept_trail.proofs.Places.{none_from, none_at}
-use Rattle.kept_images.specs.Kept.{IsInOrder}
+use Rattle.kept_images.specs.Kept.{BookInOrder}
 use Rattle.kept_images.specs.Changes.{records_by}
 use Rattle.unit_ledger.specs.declared.roll.LiveCopy.{LiveCopy}
 use Rattle.unit_ledger.specs.Rolls.{live_in_block}
+use Rattle.defrag_queue.specs.Queues.{is_below_mark}
+use Rattle.defrag_queue.proofs.Refreshed as queue
 use Rattle.hold_book.specs.Holds.{Holds, has_hold}
 use Rattle.hold_book.proofs.Laws.{has_hold-empty}
 use Rattle.block_shelf.specs.declared.place.Place.{Place}
 use Rattle.block_shelf.specs.declared.place.ShelfLimits.{ShelfLimits}
-use Rattle.block_shelf.specs.View.{ShelfView}
-use Rattle.block_shelf.specs.Standing.{StandsFor, IsOfEntry, IsListed, HoldsSame, LivesSame}
+use Rattle.block_shelf.specs.View.{ShelfView, IsRoll}
+use Rattle.block_shelf.specs.Standing.{StandsFor, QueueStands, IsOfEntry, HaveOwnDigests, IsListed, HoldsSame, LivesSame}
 use Rattle.block_shelf.specs.Calls.{copy_live}
 use Rattle.block_shelf.specs.Starting.{LiesIn, AreTwo, AreEachTwo, CanBeLive, StartsWith, AreLive, copy_of_place, copies_at, blocks_without, place_of_copy}
 use Rattle.block_shelf.proofs.Frees.{vacant_is, vacant_from, refreshed_free, refreshed_all}
-use Rattle.block_shelf.proofs.StartShelf.{filter_alike}
+use Rattle.block_shelf.proofs.QueueSteps.{rolled_is_use}
+use Rattle.block_shelf.proofs.StartShelf.{filter_alike, roll_at}
 
 -- ---- the live copies, as the book lists them
 
@@ -43,6 +46,16 @@ from_found live found are = record {
   there = λ x there. let one = are.only x there in subst (Contains (map live_copy found)) (sym (ap (λ (y : Digest × Place). copy_live y.0 y.1) one.2)) (map_there live_copy found one.0 one.1);
   only = λ l there. let one = map_from live_copy found l there in ((one.0.digest, place_of_copy one.0), are.there one.0 one.1, one.2);
 }
+
+-- no digest is that of two
+pub own_found : (found : List Copy) → IsDistinct (λ c d. same_digest c.digest d.digest) found → HaveOwnDigests (map live_copy found)
+unfolding IsDistinct
+own_found [] once = tt
+own_found (c ∷ found) once = (over found once.0, own_found found once.1)
+  where
+    over : (ds : List Copy) → AllByRecursion (λ d. same_digest c.digest d.digest ≡ false) ds → AllByRecursion (λ l. same_digest c.digest l.digest ≡ false) (map live_copy ds)
+    over [] all = tt
+    over (d ∷ ds) all = (all.0, over ds all.1)
 
 two_same : (live : List (Digest × Place)) → AreEachTwo live → (x y : Digest × Place) → Contains live x → Contains live y → same_digest x.0 y.0 ≡ true → x ≡ y
 two_same [] two x y in_x in_y same = absurd (omega (arith, in_x.1))
@@ -96,9 +109,17 @@ module _ (setup : Setup) (lives : List Live) (next_number : ℕ) where
   unfolding cold_book
   cold_free = refl
 
+  cold_queued : book ≡ refreshed setup (bare lives next_number)
+  unfolding cold_book
+  cold_queued = refl
+
   cold_may : (b : ℕ) → may_be_free book b ≡ may_be_free (bare lives next_number) b
   unfolding cold_book refreshed
   cold_may b = refl
+
+refreshed_queue : (setup : Setup) (old : Book) → (refreshed setup old).queue ≡ updated (may_be_queued setup old) old.queue (all_blocks setup)
+unfolding refreshed
+refreshed_queue setup old = refl
 
 pub same_when : (b c : Bool) → (b ≡ true → c ≡ true) → (c ≡ true → b ≡ true) → b ≡ c
 same_when true c to back = sym (to refl)
@@ -109,7 +130,7 @@ and_true : (b : Bool) → (b && true) ≡ b
 and_true true = refl
 and_true false = refl
 
-module _ (setup : Setup) (g : Geometry) (live : List (Digest × Place)) (can : CanBeLive g live) (lives : List Live) (same : AreSame live lives) (next_number : ℕ)
+module _ (setup : Setup) (g : Geometry) (live : List (Digest × Place)) (can : CanBeLive g live) (lives : List Live) (same : AreSame live lives) (own : HaveOwnDigests lives) (next_number : ℕ)
     (blocks : setup.blocks ≡ g.blocks) where
   abbrev before : Book
   before = bare lives next_number
@@ -155,6 +176,7 @@ module _ (setup : Setup) (g : Geometry) (live : List (Digest × Place)) (can : C
   begun_listed = record {
     all = λ b lt may. subst (λ (l : List ℕ). Contains l b) (sym (cold_free setup lives next_number)) (refreshed_all setup before b lt (sym (cold_may setup lives next_number b) ∙ may));
     one = λ l m in_l in_m named. begun_one l m (subst (λ (x : List Live). Contains x l) (cold_lives setup lives next_number) in_l) (subst (λ (x : List Live). Contains x m) (cold_lives setup lives next_number) in_m) named;
+    own = subst HaveOwnDigests (sym (cold_lives setup lives next_number)) own;
   }
 
   -- ---- the shelf
@@ -165,7 +187,7 @@ module _ (setup : Setup) (g : Geometry) (live : List (Digest × Place)) (can : C
 
   module _ {D : Type 0} (disk : D) (limits : ShelfLimits) (gates : List Gate) (shelf : ShelfView D) (starts : StartsWith disk g limits gates live next_number shelf) (s : State) (is_book : s.book ≡ begun) where
     abbrev alike : ShelfView D
-    alike = record { disk = disk; geometry = g; limits = limits; buffers = []; gates = gates; rolls = shelf.rolls; holds = shelf.holds; free = blocks_without live g.blocks; next_number = next_number }
+    alike = record { disk = disk; geometry = g; limits = limits; buffers = []; gates = gates; rolls = shelf.rolls; holds = shelf.holds; free = blocks_without live g.blocks; queue = shelf.queue; next_number = next_number }
 
     holds_same : HoldsSame shelf.holds.holds begun
     holds_same = record {
@@ -206,7 +228,7 @@ module _ (setup : Setup) (g : Geometry) (live : List (Digest × Place)) (can : C
           };
         }
 
-    pub stands_with : IsInOrder setup s (records_by []) → HasVersions s → StandsFor setup shelf s
+    pub stands_with : BookInOrder setup s (records_by []) → HasVersions s → StandsFor setup shelf s
     stands_with order versions = subst (λ (v : ShelfView D). StandsFor setup v s) (sym starts.parts) (record {
       buffers = ap (λ (b : Book). b.buffers) is_book ∙ cold_buffers setup lives next_number;
       free = ap (λ (b : Book). b.free) is_book ∙ begun_free;
@@ -217,3 +239,24 @@ module _ (setup : Setup) (g : Geometry) (live : List (Digest × Place)) (can : C
       order = order;
       entries = λ l there. of_entry versions l (subst (λ (x : List Live). Contains x l) (ap (λ (b : Book). b.live) is_book ∙ cold_lives setup lives next_number) there);
     })
+
+    -- ---- the queue
+
+    use_is : (b : ℕ) → use_of before b ≡ sum_by (λ c. c.units) (copies_at b live)
+    use_is b =
+        sym (rolled_is_use shelf.rolls before b (record {
+          known = λ k c there. lives_same.known k c (subst (λ (x : List Live). Contains x (live_in_block k c)) (sym (cold_lives setup lives next_number)) there);
+          there = λ k c there. subst (λ (x : List Live). Contains x (live_in_block k c)) (cold_lives setup lives next_number) (lives_same.there k c there);
+        }) (subst IsRoll (sym (starts.copies b)) (roll_at g live can b)) own)
+        ∙ ap (sum_by (λ (c : LiveCopy). c.units)) (starts.copies b)
+
+    -- Those of little use are queued, the lowest first.
+    pub queued_with : setup.capacity ≡ block_capacity g.block_size → setup.lwm ≡ limits.lwm → QueueStands setup shelf s
+    queued_with capacity lwm = record {
+      same = ap (λ (b : Book). b.queue) (is_book ∙ cold_queued setup lives next_number) ∙ refreshed_queue setup before
+          ∙ filter_alike (λ b. may_be_queued setup before b && true) (λ b. is_below_mark (block_capacity g.block_size) limits.lwm (sum_by (λ (c : LiveCopy). c.units) (copies_at b live)) true)
+          (λ b. and_true (may_be_queued setup before b) ∙ (λ i. is_below_mark (capacity i) (lwm i) (use_is b i) true)) (all_blocks setup)
+          ∙ ap (λ (n : ℕ). filter (λ b. is_below_mark (block_capacity g.block_size) limits.lwm (sum_by (λ (c : LiveCopy). c.units) (copies_at b live)) true) (range_with_len 0 n)) blocks
+          ∙ sym starts.queued;
+      all = λ b lt. subst (λ (book : Book). is_in book.queue b ≡ may_be_queued setup book b) (sym (is_book ∙ cold_queued setup lives next_number)) (queue.refreshed_all setup before before refl tt b lt);
+    }

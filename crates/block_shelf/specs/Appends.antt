@@ -3,16 +3,18 @@ use Rattle.std.specs.Prelude.{◌≡◌, ◌≢◌, ℕ, ◌+◌, ◌<◌, ◌�
 use Rattle.rec_format.specs.declared.version.Digest.{Digest}
 use Rattle.rec_format.specs.declared.version.Version.{Version}
 use Rattle.rec_format.specs.Versions.{block_capacity, version_units}
-use Rattle.device_model.specs.Book.{Setup, Book, client, first_block, first_to_back, live_of}
-use Rattle.device_model.specs.Device.{State}
-use Rattle.device_model.specs.Steps.{Step, wrote, closing_failed, after_step, states_through}
+use Rattle.device_model.specs.Book.{Setup, Book, Live, first_block, first_to_back, live_of}
+use Rattle.device_model.specs.Device.{State, entry}
+use Rattle.device_model.specs.Steps.{Step, wrote, moved, closing_failed, after_step, states_through}
 use Rattle.device_model.specs.Events.{Cause, too_big, spent, overload, no_space}
-use Rattle.device_model.specs.Legal.{first_cause, no_place}
+use Rattle.device_model.specs.Legal.{first_cause, no_place, ReadInstead}
 use Rattle.disk_model.specs.Disk.{DiskView, IsHonest}
 use Rattle.disk_model.specs.Runs.{OneOf, Leaves}
 use Rattle.block_format.specs.declared.geometry.Geometry.{Geometry}
 use Rattle.block_format.specs.declared.geometry.Gate.TheVariants.{Shut, Unsure}
 use Rattle.recovery.specs.Surviving.{Survives}
+use Rattle.write_buffer.specs.declared.stream.Stream.{Stream}
+use Rattle.write_buffer.specs.declared.stream.Stream.TheVariants.{Client, Defrag}
 use Rattle.write_buffer.specs.Buffers.{BufferState, used_units}
 use Rattle.hold_book.specs.Holds.{with_pair}
 use Rattle.kept_facts.specs.Asking.{MayBeWritten}
@@ -22,13 +24,53 @@ use Rattle.block_shelf.specs.declared.place.Class.TheVariants as class
 use Rattle.block_shelf.specs.declared.refusals.PutRefusal.{PutRefusal}
 use Rattle.block_shelf.specs.declared.refusals.PutRefusal.TheVariants as put
 use Rattle.block_shelf.specs.View.{ShelfView, gate_at}
-use Rattle.block_shelf.specs.Standing.{StandsFor, ImagesHold, IsPlaced}
+use Rattle.block_shelf.specs.Standing.{StandsFor, QueueStands, ImagesHold, IsPlaced, book_stream}
 use Rattle.block_shelf.specs.Calls.{copy_live}
-use Rattle.block_shelf.specs.Changes.{HasRoom, SameButRoom, without_copy, with_written, with_gate_known}
+use Rattle.block_shelf.specs.Changes.{HasRoom, SameButRoom, without_copy, with_written, with_requeued, with_gate_known}
 
 -- so many units in a block of the device
 abbrev pub IsPlaceFor : Geometry → (units : ℕ) → Place → Type 0
 IsPlaceFor g units place = (place.units ≡ units) × (place.block < g.blocks) × (place.unit + place.units ≤ block_capacity g.block_size)
+
+-- ---- copies
+
+-- the stream to which a copy of this class goes
+abbrev pub stream_of : Class → Stream
+stream_of class.Put = Client
+stream_of class.Tomb = Client
+stream_of class.Move = Defrag
+
+-- the step that a copy of a version makes
+abbrev pub copy_step : Class → Digest → Version → Step
+copy_step class.Put digest v = wrote digest v
+copy_step class.Tomb digest v = wrote digest v
+copy_step class.Move digest v = moved digest
+
+-- A copy that is moved is that of the live entry, as it was read.
+pub record IsReadCopy (s : State) (digest : Digest) (copy : Version) : Type 0 where
+  pub version : Version
+  pub entry_is : entry s digest ≡ Some version
+  pub read : ReadInstead version copy
+  pub live : Live
+  pub is_live : live_of digest s.book.live ≡ Some live
+
+-- what a copy of this class has to be, over every disk
+abbrev pub IsCopyOf : Class → State → Digest → Version → Type 0
+IsCopyOf class.Put s digest copy = Unit {0}
+IsCopyOf class.Tomb s digest copy = Unit {0}
+IsCopyOf class.Move s digest copy = IsReadCopy s digest copy
+
+-- the version that was read is the entry's
+abbrev pub IsExact : Class → State → Digest → Version → Type 0
+IsExact class.Put s digest copy = Unit {0}
+IsExact class.Tomb s digest copy = Unit {0}
+IsExact class.Move s digest copy = entry s digest ≡ Some copy
+
+-- a new version may be written, and one that is moved is the entry's
+abbrev pub MayBeCopied : Setup → Class → State → Digest → Version → Type 0
+MayBeCopied setup class.Put s digest copy = MayBeWritten setup s digest copy
+MayBeCopied setup class.Tomb s digest copy = MayBeWritten setup s digest copy
+MayBeCopied setup class.Move s digest copy = entry s digest ≡ Some copy
 
 -- ---- why
 
@@ -36,11 +78,12 @@ IsPlaceFor g units place = (place.units ≡ units) × (place.block < g.blocks) �
 abbrev pub kept_free : Class → ℕ
 kept_free class.Put = 4
 kept_free class.Tomb = 2
+kept_free class.Move = 0
 
 -- why a copy of so many units isn't appended
 abbrev pub append_refusal : Setup → Class → (units : ℕ) → Book → Option Cause
 append_refusal setup kind units book =
-    first_cause (if nat_lt setup.capacity units then Some (too_big units setup.capacity) else None) (no_place setup client (kept_free kind) units book)
+    first_cause (if nat_lt setup.capacity units then Some (too_big units setup.capacity) else None) (no_place setup (book_stream (stream_of kind)) (kept_free kind) units book)
 
 -- Each cause of the state is told with its numbers. Want of memory is free, and a fault comes only where none of them stands.
 abbrev pub IsAppendRefusal : Option Cause → PutRefusal → Type 0
@@ -85,9 +128,9 @@ refused_steps put.Memory = []
 refused_steps put.Fault = closing_failed ∷ []
 
 -- what is known of gates behind an append: as before where there was room, and else the gate of the first free block is shut
-pub record ClosesFirst {D : Type 0} (units : ℕ) (old new : ShelfView D) : Type 0 where
-  pub in_room : HasRoom units old.buffers → new.gates ≡ old.gates
-  pub in_new : (HasRoom units old.buffers → ⊥) → new.gates ≡ slice_set old.gates (first_block old.free) Shut
+pub record ClosesFirst {D : Type 0} (stream : Stream) (units : ℕ) (old new : ShelfView D) : Type 0 where
+  pub in_room : HasRoom stream units old.buffers → new.gates ≡ old.gates
+  pub in_new : (HasRoom stream units old.buffers → ⊥) → new.gates ≡ slice_set old.gates (first_block old.free) Shut
 
 -- ---- the copy
 
@@ -96,19 +139,35 @@ abbrev pub IsWithout : {D : Type 0} → Option Place → (number : ℕ) → (old
 IsWithout None number old new = new ≡ old
 IsWithout (Some place) number old new = (new ≡ record (without_copy place old) { holds = new.holds }) × (new.holds.holds ≡ with_pair old.holds.holds number place.block)
 
--- The copy before goes, and a record comes into the last buffer and is live there. This is where it lies.
-pub record PutsCopy {D : Type 0} (digest : Digest) (v : Version) (prior : Option Place) (front : List BufferState) (last : BufferState) (old new : ShelfView D) (place : Place) : Type 0 where
-  pub without : ShelfView D
-  pub gone : IsWithout prior last.number old without
-  pub written : new ≡ with_written digest v front last without
-  pub place_is : place ≡ record { block = last.block; unit = used_units last; units = version_units v }
+-- the block of the copy before comes into the queue, or leaves it
+abbrev pub with_prior_requeued : {D : Type 0} → Option Place → ShelfView D → ShelfView D
+with_prior_requeued None shelf = shelf
+with_prior_requeued (Some place) shelf = with_requeued place.block shelf
 
--- A copy of a version comes to a shelf that stood for a state: it stands for the state after the write, in which the copy at this place is
--- live. Over an honest disk live copies stay where they are. Where its image was sound, each image that a crash meanwhile might have left
--- survives one of the two states, and what is held stays so if the version may be written.
-pub record TakesIn {D : Type 0} (view : D → DiskView) (setup : Setup) (digest : Digest) (v : Version) (old : ShelfView D) (s : State) (new : ShelfView D) (place : Place) : Type 0 where
-  pub live : live_of digest (after_step setup (wrote digest v) s).book.live ≡ Some (copy_live digest place)
-  pub stands : StandsFor setup new (after_step setup (wrote digest v) s)
-  pub placed : IsHonest (view old.disk) → IsPlaced view old s → IsPlaced view new (after_step setup (wrote digest v) s)
-  pub safe : IsHonest (view old.disk) → MayBeWritten setup s digest v → ImagesHold setup view old s → ImagesHold setup view new (after_step setup (wrote digest v) s)
-  pub leaves : IsHonest (view old.disk) → ImagesHold setup view old s → Leaves (OneOf (Survives setup) (states_through setup (wrote digest v ∷ []) s)) (view old.disk) (view new.disk)
+-- The copy before goes, and a record comes into a buffer and is live there. This is where it lies.
+pub record PutsCopy {D : Type 0} (digest : Digest) (v : Version) (prior : Option Place) (front : List BufferState) (b : BufferState) (behind : List BufferState) (old new : ShelfView D) (place : Place) : Type 0 where
+  pub without : ShelfView D
+  pub gone : IsWithout prior b.number old without
+  pub written : new ≡ with_prior_requeued prior (with_written digest v front b behind without)
+  pub place_is : place ≡ record { block = b.block; unit = used_units b; units = version_units v }
+
+-- A copy of a version is placed by a shelf that stood for a state: it stands for the state after its step, in which the copy at this place
+-- is live. No call of the disk is made. Over an honest disk live copies stay where they are if it is exact; where the image was sound, and it
+-- may be copied, what is held stays so.
+pub record Puts {D : Type 0} (view : D → DiskView) (setup : Setup) (kind : Class) (digest : Digest) (v : Version) (old : ShelfView D) (s : State) (new : ShelfView D) (place : Place) : Type 0 where
+  pub live : live_of digest (after_step setup (copy_step kind digest v) s).book.live ≡ Some (copy_live digest place)
+  pub stands : StandsFor setup new (after_step setup (copy_step kind digest v) s)
+  pub queued : QueueStands setup old s → QueueStands setup new (after_step setup (copy_step kind digest v) s)
+  pub placed : IsExact kind s digest v → IsPlaced view old s → IsPlaced view new (after_step setup (copy_step kind digest v) s)
+  pub safe : MayBeCopied setup kind s digest v → ImagesHold setup view old s → ImagesHold setup view new (after_step setup (copy_step kind digest v) s)
+
+-- A copy of a version comes to a shelf that stood for a state: it stands for the state after its step, in which the copy at this place is
+-- live. Over an honest disk live copies stay where they are if it is exact. Where the image was sound, each image that a crash meanwhile
+-- might have left survives one of the two states, and what is held stays so if it may be copied.
+pub record TakesIn {D : Type 0} (view : D → DiskView) (setup : Setup) (kind : Class) (digest : Digest) (v : Version) (old : ShelfView D) (s : State) (new : ShelfView D) (place : Place) : Type 0 where
+  pub live : live_of digest (after_step setup (copy_step kind digest v) s).book.live ≡ Some (copy_live digest place)
+  pub stands : StandsFor setup new (after_step setup (copy_step kind digest v) s)
+  pub queued : QueueStands setup old s → QueueStands setup new (after_step setup (copy_step kind digest v) s)
+  pub placed : IsHonest (view old.disk) → IsExact kind s digest v → IsPlaced view old s → IsPlaced view new (after_step setup (copy_step kind digest v) s)
+  pub safe : IsHonest (view old.disk) → MayBeCopied setup kind s digest v → ImagesHold setup view old s → ImagesHold setup view new (after_step setup (copy_step kind digest v) s)
+  pub leaves : IsHonest (view old.disk) → ImagesHold setup view old s → Leaves (OneOf (Survives setup) (states_through setup (copy_step kind digest v ∷ []) s)) (view old.disk) (view new.disk)

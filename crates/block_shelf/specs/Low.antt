@@ -1,10 +1,11 @@
 -- Crate block_shelf. Which buffer is sealed where few blocks are free.
-use Rattle.std.specs.Prelude.{ℕ, ◌≤◌, ◌≡◌, true, [], length, map, Contains, IsTrue}
+use Rattle.std.specs.Prelude.{ℕ, ◌≤◌, ◌≡◌, ◌⊎◌, true, [], length, map, Contains, IsTrue}
+use Rattle.write_buffer.specs.declared.stream.Stream.{Stream}
 use Rattle.write_buffer.specs.Buffers.{BufferState}
 use Rattle.unit_ledger.specs.Rolls.{copies_in}
 use Rattle.hold_book.specs.Holds.{has_hold}
-use Rattle.block_shelf.specs.View.{ShelfView, is_unsealed}
-use Rattle.block_shelf.specs.Changes.{sealed_buffer}
+use Rattle.block_shelf.specs.View.{ShelfView, fills}
+use Rattle.block_shelf.specs.Changes.{sealed_in}
 
 -- the buffer of this number holds a block in which nothing is live, whether or not a buffer has it
 pub record HoldsDead {D : Type 0} (shelf : ShelfView D) (number : ℕ) : Type 0 where
@@ -12,18 +13,22 @@ pub record HoldsDead {D : Type 0} (shelf : ShelfView D) (number : ℕ) : Type 0 
   pub held : IsTrue (has_hold shelf.holds.holds number block)
   pub dead : copies_in block shelf.rolls ≡ []
 
--- so does the buffer that is being filled
-pub record FillsOverDead {D : Type 0} (shelf : ShelfView D) : Type 0 where
+-- so does the buffer that takes the records of a stream
+pub record FillsOverDead {D : Type 0} (stream : Stream) (shelf : ShelfView D) : Type 0 where
   pub buffer : BufferState
   pub there : Contains shelf.buffers buffer
-  pub fills : is_unsealed buffer.phase ≡ true
+  pub fills : fills stream buffer ≡ true
   pub holds : HoldsDead shelf buffer.number
 
 -- and at most 6 blocks are free
-pub record IsLow {D : Type 0} (shelf : ShelfView D) : Type 0 where
+pub record IsLow {D : Type 0} (stream : Stream) (shelf : ShelfView D) : Type 0 where
   pub few : length shelf.free ≤ 6
-  pub over : FillsOverDead shelf
+  pub over : FillsOverDead stream shelf
 
--- all buffers are sealed
-abbrev pub with_sealed : {D : Type 0} → ShelfView D → ShelfView D
-with_sealed shelf = record shelf { buffers = map sealed_buffer shelf.buffers }
+-- the buffers of a stream are sealed
+abbrev pub with_sealed : {D : Type 0} → Stream → ShelfView D → ShelfView D
+with_sealed stream shelf = record shelf { buffers = map (sealed_in stream) shelf.buffers }
+
+-- they are where that is so, and else all stays
+abbrev pub SealsLow : {D : Type 0} → Stream → (old new : ShelfView D) → Type 0
+SealsLow stream old new = (IsLow stream old × (new ≡ with_sealed stream old)) ⊎ ((IsLow stream old → ⊥) × (new ≡ old))

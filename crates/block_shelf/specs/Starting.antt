@@ -1,6 +1,6 @@
 -- Crate block_shelf. How a shelf begins behind a start.
-use Rattle.std.specs.Prelude.{ℕ, ◌+◌, ◌*◌, ◌<◌, ◌≤◌, ◌≡◌, false, not, ◌==◌, List, [], ◌∷◌, map, filter, Contains}
-use Rattle.std.specs.List.{AllByRecursion, list_any, range_with_len}
+use Rattle.std.specs.Prelude.{ℕ, ◌+◌, ◌*◌, ◌<◌, ◌≤◌, ◌≡◌, true, false, not, sum_by, ◌==◌, List, [], ◌∷◌, map, filter, Contains}
+use Rattle.std.specs.List.{AllByRecursion, IsDistinct, list_any, range_with_len}
 use Rattle.std.specs.FinSet as set
 use Rattle.rec_format.specs.declared.version.Digest.{Digest}
 use Rattle.rec_format.specs.Places.{same_digest}
@@ -13,9 +13,10 @@ use Rattle.block_format.specs.Layout.{IsRecordAt, body_bytes}
 use Rattle.block_format.specs.Copies.{Copy}
 use Rattle.unit_ledger.specs.declared.roll.LiveCopy.{LiveCopy}
 use Rattle.unit_ledger.specs.Rolls.{copies_in}
+use Rattle.defrag_queue.specs.Queues.{is_below_mark}
 use Rattle.block_shelf.specs.declared.place.Place.{Place}
 use Rattle.block_shelf.specs.declared.place.ShelfLimits.{ShelfLimits}
-use Rattle.block_shelf.specs.View.{ShelfView}
+use Rattle.block_shelf.specs.View.{ShelfView, IsQueueOf}
 
 -- ---- the live copies of a start
 
@@ -53,7 +54,11 @@ copies_at block live = map copy_of_place (filter (λ x. x.1.block == block) live
 abbrev pub blocks_without : List (Digest × Place) → (blocks : ℕ) → List ℕ
 blocks_without live blocks = filter (λ b. not (list_any (λ x. x.1.block == b) live)) (range_with_len 0 blocks)
 
--- No buffer, no hold, and these copies are live; the blocks in which none lies are free.
+-- the blocks in which so little is live that they are to be vacated, the lowest first
+abbrev pub blocks_below : List (Digest × Place) → Geometry → (lwm : ℕ) → List ℕ
+blocks_below live g lwm = filter (λ b. is_below_mark (block_capacity g.block_size) lwm (sum_by (λ c. c.units) (copies_at b live)) true) (range_with_len 0 g.blocks)
+
+-- No buffer, no hold, and these copies are live; the blocks in which none lies are free, and those of little use are queued.
 pub record StartsWith {D : Type 0} (disk : D) (g : Geometry) (limits : ShelfLimits) (gates : List Gate) (live : List (Digest × Place)) (next_number : ℕ) (shelf : ShelfView D) : Type 0 where
   pub parts : shelf ≡ record {
     disk = disk;
@@ -64,19 +69,23 @@ pub record StartsWith {D : Type 0} (disk : D) (g : Geometry) (limits : ShelfLimi
     rolls = shelf.rolls;
     holds = shelf.holds;
     free = blocks_without live g.blocks;
+    queue = shelf.queue;
     next_number = next_number;
   }
   pub copies : (block : ℕ) → copies_in block shelf.rolls ≡ copies_at block live
   pub unheld : shelf.holds.holds ≡ set.empty
+  pub queue : IsQueueOf g limits shelf.queue
+  pub queued : shelf.queue.queue ≡ blocks_below live g limits.lwm
 
 -- ---- the copies that were found
 
 abbrev pub place_of_copy : Copy → Place
 place_of_copy c = record { block = c.block; unit = c.unit; units = version_units c.version }
 
--- these are live, and no others
+-- these are live, and no others; no digest is that of two
 pub record AreLive (live : List (Digest × Place)) (found : List Copy) : Type 0 where
   pub there : (c : Copy) → Contains found c → Contains live (c.digest, place_of_copy c)
+  pub once : IsDistinct (λ c d. same_digest c.digest d.digest) found
   pub only : (x : Digest × Place) → Contains live x → (c : Copy) × Contains found c × (x ≡ (c.digest, place_of_copy c))
 
 -- each image has their records

@@ -13,8 +13,9 @@ ghost use Rattle.block_shelf.specs.Disks.{IsLater};
 ghost use Rattle.block_shelf.specs.Standing.{StandsFor};
 ghost use Rattle.block_shelf.specs.Calls.{Goes};
 ghost use Rattle.block_shelf.specs.Changes.{SameButRoom, begin_refusal, begun_buffer, with_begun};
-ghost use Rattle.block_shelf.specs.Appends.{kept_free, IsAppendRefusal, IsLeftBy, refused_steps, ready_for, with_first_shut};
+ghost use Rattle.block_shelf.specs.Appends.{kept_free, IsAppendRefusal, IsLeftBy, refused_steps, ready_for, stream_of, with_first_shut};
 
+use crate::append::stream_of;
 use crate::close::shut_gate;
 use crate::seal::seal_each;
 use crate::{Class, PutRefusal, Shelf};
@@ -25,12 +26,12 @@ use write_buffer::Buffer;
 const LAST_NUMBER: u64 = 1 << 62;
 
 impl<D: Disk> Shelf<D> {
-    // Begins a buffer in the first free block, and seals the others. All memory is taken before the disk is called: for the buffer, for
-    // its place in the list, for a live copy in its block, and for a hold. A gate that isn't known to be shut is closed first; where that
-    // fails the block goes to the back of the free ones.
+    // Begins a buffer in the first free block, and seals the others of its stream. All memory is taken before the disk is called: for the
+    // buffer, for its place in the list, for a live copy in its block, and for a hold. A gate that isn't known to be shut is closed first;
+    // where that fails the block goes to the back of the free ones.
     pub(crate) fn begin(&mut self, alloc: Global, class: Class) -> Result<(), PutRefusal>
         ensures refusal { MatchResult result (λ done. begin_refusal (kept_free class) self.old ≡ None) (IsAppendRefusal (begin_refusal (kept_free class) self.old)) }
-        ensures begun { OnOk result (self.new ≡ with_begun (ready_for self.new self.old)) }
+        ensures begun { OnOk result (self.new ≡ with_begun (stream_of class) (ready_for self.new self.old)) }
         ensures ready { OnOk result (SameButRoom (with_first_shut self.new.disk self.old) (ready_for self.new self.old)) }
         ensures whole { OnOk result (IsShelf D.view (ready_for self.new self.old)) }
         ensures space { OnOk result (1 ≤ spare_of (first_block self.old.free) self.new.rolls) }
@@ -52,13 +53,14 @@ impl<D: Disk> Shelf<D> {
         else {
             return Err(PutRefusal::Memory);
         };
-        self.begin_with(buffer)
+        self.begin_with(buffer.in_stream(stream_of(class)))
     }
 
     // Whether a buffer may begin for a copy of this class, or why not.
-    fn may_begin(&self, class: Class) -> Result<(), PutRefusal>
+    pub(crate) fn may_begin(&self, class: Class) -> Result<(), PutRefusal>
         ensures refusal { MatchResult result (λ done. begin_refusal (kept_free class) self.now ≡ None) (IsAppendRefusal (begin_refusal (kept_free class) self.now)) }
         ensures unfailed { result ≢ Err PutRefusal.Fault }
+        ensures unwanting { result ≢ Err PutRefusal.Memory }
         ensures whole { IsShelf D.view self.now }
     {
         if self.next_number > LAST_NUMBER {
@@ -75,13 +77,13 @@ impl<D: Disk> Shelf<D> {
         Ok(())
     }
 
-    // This buffer, an empty one of the first free block, comes behind the others, which are sealed. Before that the gate of the block is
-    // closed, unless it is known to be shut. Only a place in the list is asked for, and that before the disk is called.
+    // This buffer, an empty one of the first free block, comes behind the others, and those of its stream are sealed. Before that the gate
+    // of the block is closed, unless it is known to be shut. Only a place in the list is asked for, and that before the disk is called.
     fn begin_with(&mut self, buffer: Buffer) -> Result<(), PutRefusal>
-        requires buffer { buffer ≡ begun_buffer self.old }
+        requires buffer { buffer ≡ begun_buffer buffer.stream self.old }
         requires number { self.old.next_number ≤ top_number }
         requires some { 0 < length self.old.free }
-        ensures begun { OnOk result (self.new ≡ with_begun (with_first_shut self.new.disk self.old)) }
+        ensures begun { OnOk result (self.new ≡ with_begun buffer.stream (with_first_shut self.new.disk self.old)) }
         ensures whole { OnOk result (IsShelf D.view (with_first_shut self.new.disk self.old)) }
         ensures refusal { IfErr result (IsAppendRefusal None) }
         ensures refused { IfErr result (IsLeftBy self.old self.new) }
@@ -95,6 +97,7 @@ impl<D: Disk> Shelf<D> {
         ensures honest { IsHonest (D.view self.old.disk) → IsHonest (D.view self.new.disk) }
     {
         let block = buffer.block();
+        let stream = buffer.stream();
         let Ok(()) = self.buffers.reserve(1) else {
             return Err(PutRefusal::Memory);
         };
@@ -102,7 +105,7 @@ impl<D: Disk> Shelf<D> {
             self.free.rotate_left(1);
             return Err(PutRefusal::Fault);
         };
-        seal_each(&mut self.buffers);
+        seal_each(&mut self.buffers, stream);
         self.buffers.push_reserved(buffer);
         self.free.pop_front();
         self.next_number += 1;
@@ -117,5 +120,6 @@ fn kept_free(class: Class) -> u32
     match class {
         Class::Put => 4,
         Class::Tomb => 2,
+        Class::Move => 0,
     }
 }

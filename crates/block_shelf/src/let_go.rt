@@ -5,6 +5,7 @@ ghost use Rattle.std.specs.VecDeque.{deque_capacity};
 ghost use Rattle.unit_ledger.specs.Rolls.{copies_in};
 ghost use Rattle.hold_book.specs.Holds.{HoldsBelow, without_buffer};
 ghost use Rattle.block_shelf.specs.View.{AreApart, IsRoll};
+ghost use Rattle.block_shelf.specs.Changes.{has_buffer_in};
 ghost use Rattle.block_shelf.specs.LetGo.{HasNoneOf, IsFirstOf, IsBare, IsLetGo, IsFreeOrLetGo};
 
 use hold_book::HoldBook;
@@ -72,8 +73,9 @@ pub(crate) fn is_bare(buffers: &[Buffer], ledger: &Ledger, block: u32) -> bool
 }
 
 // Whether one of some buffers has a block.
-fn has_block(buffers: &[Buffer], block: u32) -> bool
-    ensures { MatchBool result (AllByRecursion (λ b. b.block ≢ block) buffers.now → ⊥) (AllByRecursion (λ b. b.block ≢ block) buffers.now) }
+pub(crate) fn has_block(buffers: &[Buffer], block: u32) -> bool
+    ensures value { result ≡ has_buffer_in buffers.now block }
+    ensures told { MatchBool result (AllByRecursion (λ b. b.block ≢ block) buffers.now → ⊥) (AllByRecursion (λ b. b.block ≢ block) buffers.now) }
 {
     for buffer in buffers {
         if buffer.block() == block {

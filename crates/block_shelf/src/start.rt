@@ -1,9 +1,9 @@
 // How a shelf begins.
-ghost use Rattle.std.specs.Prelude.{◌≡◌, ◌+◌, ◌≤◌, ◌==◌, ℕ, List, length, filter, IfOk, MatchResult};
+ghost use Rattle.std.specs.Prelude.{◌≡◌, ◌+◌, ◌≤◌, ◌==◌, ℕ, true, List, length, filter, IfOk, MatchResult};
 ghost use Rattle.std.specs.List.{range_with_len};
 ghost use Rattle.std.specs.VecDeque.{deque_capacity};
 ghost use Rattle.disk_model.specs.Disk.{IsHonest, IsOnly};
-ghost use Rattle.rec_format.specs.Versions.{top_number};
+ghost use Rattle.rec_format.specs.Versions.{block_capacity, top_number};
 ghost use Rattle.device_model.specs.Book.{Setup};
 ghost use Rattle.block_format.specs.Layout.{IsGeometry, device_end, Body};
 ghost use Rattle.block_format.specs.Copies.{Copy, copies_of};
@@ -11,12 +11,14 @@ ghost use Rattle.recovery.specs.Sound.{IsSound};
 ghost use Rattle.recovery.specs.Start.{cold_copies, greatest_number, start_state, entries_state};
 ghost use Rattle.kept_images.specs.Held.{AreSure};
 ghost use Rattle.unit_ledger.specs.Rolls.{copies_in, rolled_use};
+ghost use Rattle.defrag_queue.specs.Queues.{is_below_mark};
 ghost use Rattle.block_shelf.specs.View.{AreLimits, GatesStand, IsSetupOf, gate_at};
-ghost use Rattle.block_shelf.specs.Standing.{StandsFor, IsPlaced, ImagesHold};
+ghost use Rattle.block_shelf.specs.Standing.{StandsFor, QueueStands, IsPlaced, ImagesHold};
 ghost use Rattle.block_shelf.specs.Starting.{CanBeLive, StartsWith, AreLive, AllHave, copies_at, blocks_without};
 
 use crate::{NoMemory, Place, Shelf, ShelfLimits};
-use block_format::{Gate, Geometry};
+use block_format::{Gate, Geometry, capacity};
+use defrag_queue::Queue;
 use disk_model::Disk;
 use hold_book::HoldBook;
 use rec_format::Digest;
@@ -58,30 +60,62 @@ fn unused_blocks(alloc: Global, blocks: u32, ledger: &Ledger) -> Result<VecDeque
     Ok(free)
 }
 
-// What a shelf keeps in memory from its start on: its live copies, and its free blocks, with room for all.
+// The blocks that are to be vacated, the lowest first.
+fn queue_of(
+    alloc: Global,
+    geometry: &Geometry,
+    lwm: u32,
+    ledger: &Ledger,
+) -> Result<Queue, NoMemory>
+    requires { length ledger.now ≡ geometry.now.blocks }
+    ensures shape { IfOk result (λ queue. (queue.blocks ≡ geometry.now.blocks) × (queue.capacity ≡ block_capacity geometry.now.block_size) × (queue.lwm ≡ lwm)) }
+    ensures blocks { IfOk result (λ queue. queue.queue ≡ filter (λ b. is_below_mark (block_capacity geometry.now.block_size) lwm (rolled_use b ledger.now) true) (range_with_len 0 geometry.now.blocks)) }
+{
+    let mut queue = Queue::new(alloc, geometry.blocks, capacity(geometry.block_size), lwm)?;
+    for block in 0..geometry.blocks {
+        queue.consider(block, ledger.used(block), true);
+    }
+    Ok(queue)
+}
+
+// What a shelf keeps in memory from its start on: its live copies, its free blocks, with room for all, and the blocks that are to be
+// vacated.
 #[derive(Drop)]
 struct Kept {
     ledger: Ledger,
     free: VecDeque<u32>,
+    queue: Queue,
 }
 
-fn kept_of(alloc: Global, geometry: &Geometry, live: &[(Digest, Place)]) -> Result<Kept, NoMemory>
+fn kept_of(
+    alloc: Global,
+    geometry: &Geometry,
+    lwm: u32,
+    live: &[(Digest, Place)],
+) -> Result<Kept, NoMemory>
     requires geometry { IsGeometry geometry.now }
     requires live { CanBeLive geometry.now live.now }
     ensures size { IfOk result (λ kept. length kept.ledger ≡ geometry.now.blocks) }
     ensures copies { IfOk result (λ kept. (block : ℕ) → copies_in block kept.ledger ≡ copies_at block live.now) }
     ensures free { IfOk result (λ kept. kept.free.items ≡ blocks_without live.now geometry.now.blocks) }
     ensures memory { IfOk result (λ kept. geometry.now.blocks ≤ deque_capacity kept.free) }
+    ensures shape { IfOk result (λ kept. (kept.queue.blocks ≡ geometry.now.blocks) × (kept.queue.capacity ≡ block_capacity geometry.now.block_size) × (kept.queue.lwm ≡ lwm)) }
+    ensures queue { IfOk result (λ kept. kept.queue.queue ≡ filter (λ b. is_below_mark (block_capacity geometry.now.block_size) lwm (rolled_use b kept.ledger) true) (range_with_len 0 geometry.now.blocks)) }
 {
     let ledger = ledger_of(alloc, geometry, live)?;
     let free = unused_blocks(alloc, geometry.blocks, &ledger)?;
-    Ok(Kept { ledger, free })
+    let queue = queue_of(alloc, geometry, lwm, &ledger)?;
+    Ok(Kept {
+        ledger,
+        free,
+        queue,
+    })
 }
 
 impl<D: Disk> Shelf<D> {
     /// The shelf of a device behind a start: these copies are live, no block has a buffer and none is held, and the blocks without a
-    /// live copy are free, the lowest first. There is one gate for each block. All memory is taken that a later call may not ask for.
-    /// No call of the disk is made, and for want of memory it comes back as it was.
+    /// live copy are free, the lowest first; those of little use wait to be vacated, the lowest first. There is one gate for each block.
+    /// All memory is taken that a later call may not ask for. No call of the disk is made, and for want of memory it comes back as it was.
     pub fn new(
         alloc: Global,
         disk: D,
@@ -102,9 +136,9 @@ impl<D: Disk> Shelf<D> {
 
         // Over any disk: from these entries, and from a sound image.
         ensures entries { IfOk result (λ shelf. (setup : Setup) (found : List Copy) → IsSetupOf setup shelf → AreLive live.now found
-            → StandsFor setup shelf (entries_state setup found next_number)) }
+            → StandsFor setup shelf (entries_state setup found next_number) × QueueStands setup shelf (entries_state setup found next_number)) }
         ensures image { IfOk result (λ shelf. (setup : Setup) (image : List ℕ) (bodies : List Body) → IsSetupOf setup shelf → IsSound setup image bodies
-            → AreLive live.now (cold_copies (copies_of bodies)) → next_number ≡ greatest_number bodies + 1 → StandsFor setup shelf (start_state setup bodies)) }
+            → AreLive live.now (cold_copies (copies_of bodies)) → next_number ≡ greatest_number bodies + 1 → StandsFor setup shelf (start_state setup bodies) × QueueStands setup shelf (start_state setup bodies)) }
 
         // Where each image has the copies, they lie where the entries say.
         ensures placed { IfOk result (λ shelf. (setup : Setup) (found : List Copy) → AllHave geometry (D.view disk).may_leave found
@@ -114,11 +148,15 @@ impl<D: Disk> Shelf<D> {
         ensures safe { IsHonest (D.view disk) → AreSure geometry (gate_at gates.items) → IfOk result (λ shelf. (setup : Setup) (image : List ℕ) (bodies : List Body) → IsSetupOf setup shelf
             → IsSound setup image bodies → IsOnly image (D.view disk).may_leave → IsPlaced D.view shelf (start_state setup bodies) × ImagesHold setup D.view shelf (start_state setup bodies)) }
     {
-        let kept = match kept_of(alloc, &geometry, live) {
+        let kept = match kept_of(alloc, &geometry, limits.lwm, live) {
             Ok(kept) => kept,
             Err(error) => return Err((disk, error)),
         };
-        let Kept { ledger, free } = kept;
+        let Kept {
+            ledger,
+            free,
+            queue,
+        } = kept;
         Ok(Shelf {
             disk,
             geometry,
@@ -128,6 +166,7 @@ impl<D: Disk> Shelf<D> {
             ledger,
             holds: HoldBook::new(alloc),
             free,
+            queue,
             next_number,
         })
     }

@@ -1,3 +1,4 @@
 pub mod Marks
 pub mod Rings
 pub mod Laws
+pub mod Refreshed

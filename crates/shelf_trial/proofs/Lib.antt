@@ -1,2 +1,2 @@
 pub mod TestDisks
-pub mod TestPlaces
+pub mod TestEntries

@@ -1,16 +1,20 @@
 ghost use Rattle.std.specs.Prelude.{◌≡◌, ◌<◌, ◌≤◌, ℕ, false, IfOk};
-ghost use Rattle.rec_format.specs.Versions.{IsVersion};
+ghost use Rattle.rec_format.specs.Entries.{Names};
+ghost use Rattle.rec_format.specs.Versions.{IsVersion, a_put};
 ghost use Rattle.block_format.specs.Layout.{IsGeometry, device_end};
 ghost use Rattle.disk_model.specs.Moments.{view_of};
 ghost use Rattle.block_flusher.specs.Images.{IsShut};
-ghost use Rattle.shelf_trial.specs.Trials.{IsNewShelf, numbered};
+ghost use Rattle.shelf_trial.specs.Trials.{IsNewShelf, numbered, place_of, place_if};
 
+mod moves;
 mod reuse;
 mod trial;
 mod unclosed;
 
-use block_format::{GATE_BYTES, Gate, Geometry, SECTOR_BYTES, capacity, is_open, read_body};
-use block_shelf::{Class, Place, PutRefusal, ReadRefusal, Shelf, ShelfLimits};
+use block_format::{Found, GATE_BYTES, Gate, Geometry, SECTOR_BYTES, capacity, is_open, read_body};
+use block_shelf::{
+    Class, Place, PutRefusal, ReadRefusal, Shelf, ShelfLimits, Vacancy, VacateRefusal,
+};
 use disk_model::{Disk, DiskCall, DiskFault, MemDisk};
 use rec_format::{Bytes, Digest, Entry, Kind, Stamp, Version};
 use std::alloc::Global;
@@ -87,7 +91,7 @@ fn shelf_of(
     let gates = vec![in alloc; Gate::Shut; shape.blocks as usize]?;
     let limits = ShelfLimits {
         sprigs: 16,
-        lwm: 0,
+        lwm: 50,
         pending,
         cache: 0,
     };
@@ -100,7 +104,8 @@ fn shelf_of(
 /// A put at time 1000, in this generation, that never expires.
 fn put_of(alloc: Global, gen_: u16, payload: &[u8]) -> Result<Version, Fail>
     requires { 1 ≤ gen_ }
-    ensures { IfOk result (λ v. IsVersion v × (v.payload ≡ payload.now) × (v.cover ≡ false)) }
+    ensures put { IfOk result (λ v. v ≡ a_put (record { lut = 1000; gen_ = gen_ }) 0 false payload.now) }
+    ensures whole { IfOk result IsVersion }
 {
     Ok(Version {
         kind: Kind::Put,
@@ -127,13 +132,14 @@ fn append(
     Ok(shelf.append(alloc, &numbered(byte), &version, None, class))
 }
 
-/// The entry of the first version of a digest at a place.
-fn entry_of(byte: u8, place: Place) -> Entry
-    ensures { result.units ≡ place.units }
+/// The entry of a put whose copy lies at a place.
+fn entry_of(byte: u8, gen_: u16, place: Place) -> Entry
+    ensures kept { (result.kind ≡ Kind.Put) × (result.stamp ≡ record { lut = 1000; gen_ = gen_ }) × (result.void ≡ 0) }
+    ensures place { place_of result ≡ place }
 {
     Entry {
         digest: numbered(byte),
-        stamp: Stamp { lut: 1000, gen_: 1 },
+        stamp: Stamp { lut: 1000, gen_ },
         void: 0,
         kind: Kind::Put,
         cover: false,
@@ -144,20 +150,60 @@ fn entry_of(byte: u8, place: Place) -> Entry
     }
 }
 
-/// Reads the first version of a digest at a place.
+/// The entry with its copy at another place.
+fn moved_to(entry: &Entry, place: Place) -> Entry
+    ensures { result ≡ record entry.now { block = place.block; unit = place.unit } }
+{
+    Entry {
+        block: place.block,
+        unit: place.unit,
+        ..*entry
+    }
+}
+
+/// Where the copy of an entry lies.
+fn place_of(entry: &Entry) -> Place
+    ensures { result ≡ place_of entry.now }
+{
+    place(entry.block, entry.unit, entry.units)
+}
+
+fn place_if(entry: Option<Entry>) -> Option<Place>
+    ensures { result ≡ place_if entry }
+{
+    match entry {
+        Some(entry) => Some(place_of(&entry)),
+        None => None,
+    }
+}
+
+/// Reads the copy of an entry.
 fn read(
+    rt: &impl Abort,
+    alloc: Global,
+    shelf: &mut Shelf<MemDisk>,
+    entry: &Entry,
+) -> Result<Version, ReadRefusal>
+    ensures named { IfOk result (Names entry.now) }
+    ensures same { shelf.new ≡ record shelf.old { disk = shelf.new.disk } }
+{
+    let shape = shelf.geometry();
+    let room = u64::from(capacity(shape.block_size));
+    assert!(rt; entry.block < shape.blocks);
+    assert!(rt; u64::from(entry.unit) + u64::from(entry.units) <= room);
+    assert!(rt; 3 <= entry.units);
+    shelf.read(alloc, place_of(entry), entry)
+}
+
+/// Reads the first version of a digest at a place.
+fn read_first(
     rt: &impl Abort,
     alloc: Global,
     shelf: &mut Shelf<MemDisk>,
     byte: u8,
     place: Place,
 ) -> Result<Version, ReadRefusal> {
-    let shape = shelf.geometry();
-    let room = u64::from(capacity(shape.block_size));
-    assert!(rt; place.block < shape.blocks);
-    assert!(rt; u64::from(place.unit) + u64::from(place.units) <= room);
-    assert!(rt; 3 <= place.units);
-    shelf.read(alloc, place, &entry_of(byte, place))
+    read(rt, alloc, shelf, &entry_of(byte, 1, place))
 }
 
 /// A first version with this payload was read.
@@ -181,7 +227,9 @@ fn is_fault(found: &Result<Version, ReadRefusal>) -> bool {
     }
 }
 
-fn place(block: u32, unit: u32, units: u32) -> Place {
+fn place(block: u32, unit: u32, units: u32) -> Place
+    ensures { result ≡ record { block = block; unit = unit; units = units } }
+{
     Place { block, unit, units }
 }
 
@@ -223,21 +271,21 @@ fn a_record_is_read_from_its_buffer_and_from_the_disk(rt: HostRuntime) -> Result
     let first = place(0, 0, 4);
     assert!(rt; append(&rt, alloc, &mut shelf, 1, b"hello", Class::Put)? == Ok(first));
     assert_eq!(rt; numbers(&shelf), (15, 1, 0));
-    assert!(rt; shows(&read(&rt, alloc, &mut shelf, 1, first), b"hello"));
+    assert!(rt; shows(&read_first(&rt, alloc, &mut shelf, 1, first), b"hello"));
     shelf.seal_for(1);
     assert_eq!(rt; shelf.flush_step(), Ok(None));
     shelf.seal_for(0);
-    assert!(rt; shows(&read(&rt, alloc, &mut shelf, 1, first), b"hello"));
+    assert!(rt; shows(&read_first(&rt, alloc, &mut shelf, 1, first), b"hello"));
     assert_eq!(rt; shelf.flush_step(), Ok(Some(1)));
     assert_eq!(rt; numbers(&shelf), (15, 0, 0));
-    assert!(rt; is_fault(&read(&rt, alloc, &mut shelf, 1, first)));
-    assert!(rt; shows(&read(&rt, alloc, &mut shelf, 1, first), b"hello"));
+    assert!(rt; is_fault(&read_first(&rt, alloc, &mut shelf, 1, first)));
+    assert!(rt; shows(&read_first(&rt, alloc, &mut shelf, 1, first), b"hello"));
     let second = place(1, 0, 4);
     assert!(rt; append(&rt, alloc, &mut shelf, 2, b"x", Class::Put)? == Ok(second));
     shelf.seal_streams();
     assert_eq!(rt; shelf.flush_step(), Ok(Some(2)));
     assert_eq!(rt; shelf.flush_step(), Ok(None));
-    assert!(rt; shows(&read(&rt, alloc, &mut shelf, 2, second), b"x"));
+    assert!(rt; shows(&read_first(&rt, alloc, &mut shelf, 2, second), b"x"));
     let mut disk = shelf.stop();
     assert_first_body(&rt, alloc, &mut disk)
 }
@@ -274,7 +322,7 @@ fn a_flush_is_tried_again(rt: HostRuntime) -> Result<(), Fail> {
         assert_eq!(rt; disk.moments(), failed, "{kind:?} {skip}");
         let mut shelf = failed_once(&rt, alloc, kind, skip)?;
         assert_eq!(rt; numbers(&shelf), (15, 1, 0));
-        let found = read(&rt, alloc, &mut shelf, 1, place(0, 0, 4));
+        let found = read_first(&rt, alloc, &mut shelf, 1, place(0, 0, 4));
         assert!(rt; shows(&found, b"hello"), "{kind:?} {skip}");
         assert_eq!(rt; shelf.flush_step(), Ok(Some(1)), "{kind:?} {skip}");
         let mut disk = shelf.stop();
@@ -284,8 +332,8 @@ fn a_flush_is_tried_again(rt: HostRuntime) -> Result<(), Fail> {
     Ok(())
 }
 
-// A put takes a block where more than 4 are free, a tombstone where more than 2 are. A refusal changes nothing, and what fits into the
-// buffer that is being filled goes well all the same.
+// A put takes a block where more than 4 are free, a tombstone where more than 2 are, and a copy that is moved where any is. A refusal
+// changes nothing, and what fits into the buffer that is being filled goes well all the same.
 #[test]
 fn a_copy_is_refused(rt: HostRuntime) -> Result<(), Fail> {
     let alloc = rt.alloc();
@@ -298,6 +346,7 @@ fn a_copy_is_refused(rt: HostRuntime) -> Result<(), Fail> {
     for (class, pending, number, count, refusal) in [
         (Class::Put, 64, 1, 4, PutRefusal::Space { free: 4 }),
         (Class::Tomb, 64, 1, 6, PutRefusal::Space { free: 2 }),
+        (Class::Move, 64, 1, 8, PutRefusal::Space { free: 0 }),
         (Class::Put, 4, 1, 4, PutRefusal::Load { pending: 4 }),
         (Class::Tomb, 4, 1, 4, PutRefusal::Load { pending: 4 }),
         (Class::Put, 4, SPENT - 4, 4, PutRefusal::Spent),

@@ -3,7 +3,7 @@ use super::trial::Trial;
 use super::*;
 
 /// A trial of a disk of zeros with so many blocks.
-fn trial_of(rt: &impl Abort, alloc: Global, blocks: u32) -> Result<Trial, Fail> {
+pub fn trial_of(rt: &impl Abort, alloc: Global, blocks: u32) -> Result<Trial, Fail> {
     assert!(rt; 8 <= blocks && blocks <= 16);
     let shape = shape_of(blocks);
     Trial::new(rt, alloc, zeros(alloc, &shape)?, &shape)
@@ -18,7 +18,7 @@ pub fn assert_flushes(rt: &impl Abort, trial: &mut Trial, number: u16) {
 
 /// The free blocks are these, in order, where none waits in a buffer: each put of record 3, which has no copy yet, takes the first of them, and
 /// its flush brings the block of the put before to the back. The next buffer has this number.
-fn assert_free(
+pub fn assert_free(
     rt: &impl Abort,
     trial: &mut Trial,
     number: u16,

@@ -8,7 +8,15 @@ const BLOCKS: u32 = 8;
 
 const SECTORS: u64 = 33;
 
-/// The greatest generation that a start would find in a block, 0 where its gate is closed.
+/// A record of this body is record 0, and its payload is `aa`.
+fn is_first(rt: &impl Abort, body: &[u8; BODY_BYTES], record: &Found) -> bool {
+    assert!(rt; record.unit <= 700);
+    let start = 80 + 16 * record.unit as usize;
+    let head = record.head;
+    head.digest == numbered(0) && head.length == 2 && &body[start..start + 2] == b"aa".as_slice()
+}
+
+/// The greatest generation of record 0 that a start would find in a block, 0 where there is none.
 fn newest_in(rt: &impl Abort, alloc: Global, disk: &mut MemDisk, block: u32) -> Result<u16, Fail> {
     assert!(rt; block < BLOCKS && disk.len() == SECTORS * 4096);
     let start = 4096 + u64::from(block) * 16_384;
@@ -24,12 +32,14 @@ fn newest_in(rt: &impl Abort, alloc: Global, disk: &mut MemDisk, block: u32) -> 
     };
     let mut newest = 0;
     for record in &found {
-        newest = newest.max(record.head.stamp.gen_);
+        if is_first(rt, &body, record) {
+            newest = newest.max(record.head.stamp.gen_);
+        }
     }
     Ok(newest)
 }
 
-/// The greatest generation that a start would find.
+/// The greatest generation of record 0 that a start would find.
 fn newest(rt: &impl Abort, alloc: Global, disk: &mut MemDisk) -> Result<u16, Fail> {
     let mut newest = 0;
     for block in 0..BLOCKS {
@@ -52,8 +62,8 @@ fn torn(rt: &impl Abort, disk: &MemDisk, moment: u64, count: usize) -> Result<Me
     Ok(image)
 }
 
-/// Each image of each moment from one on has a copy of these generations, the newest being at least and at most this.
-fn assert_left(
+/// Each image of each moment from one up to below another has record 0, in a generation that is at least and at most this.
+pub fn assert_left(
     rt: &impl Abort,
     alloc: Global,
     disk: &MemDisk,

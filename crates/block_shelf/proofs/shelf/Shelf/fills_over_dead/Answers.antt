@@ -1,30 +1,21 @@
-use Rattle.std.proofs.Common.{◌≡◌, ◌-◌, Bool, true, false, List, length, sym, ◌∙◌, ap, subst, rules}
-use denote.Enum.Bare.{sameb}
-use Rattle.std.proofs.lemmas.Bool.{false≢true}
-use Rattle.std.specs.Prelude.{MatchBool, Some, slice_get}
+use Rattle.std.proofs.Common.{◌≡◌, List, get_or, sym, ◌∙◌, ap, subst}
+use Rattle.std.proofs.lemmas.List.{get_or_at}
+use Rattle.std.specs.Prelude.{Contains}
 use Rattle.write_buffer.specs.Buffers.{BufferState}
-use Rattle.write_buffer.specs.declared.phase.Phase.{Phase}
-use Rattle.write_buffer.specs.declared.phase.Phase.TheVariants.{Filling}
-use Rattle.write_buffer.specs.contracts.phase.Phase.{the_type}
 use Rattle.block_shelf.specs.View.{ShelfView, StandInOrder}
-use Rattle.block_shelf.specs.Low.{FillsOverDead}
-use Rattle.block_shelf.proofs.OverDead.{last_told, over_last}
+use Rattle.block_shelf.specs.Changes.{FillsAt}
+use Rattle.block_shelf.proofs.OverDead.{over_filling, stands_there}
 use Rattle.block_shelf.proofs.shelf.Shelf.fills_over_dead.Goals as goal
 
-pub returns-then-eq : goal.returns-then-eq
-returns-then-eq g c =
-    let e : c.phase.result ≡ Filling = search rules in
-    let same = c.deref.ensures.value ∙ ap (λ (v : ShelfView g.row.D.Denot). v.buffers) c.self.view_is in
-    let last = subst (λ (bs : List BufferState). slice_get bs (length bs - 1) ≡ Some c.in-Some.buffer.now) same (sym c.in-Some.ensures.value) in
-    over_last c.args.self.now c.in-Some.buffer.now last (subst (λ (v : ShelfView g.row.D.Denot). StandInOrder v.buffers) c.self.view_is c.self.invariant.0.order) (sym c.phase.ensures ∙ e) c.number.result c.number.ensures.number
-    c.holds_dead.result c.holds_dead.ensures
-
-pub returns-else-eq : goal.returns-else-eq
-returns-else-eq g c =
-    let same = c.deref.ensures.value ∙ ap (λ (v : ShelfView g.row.D.Denot). v.buffers) c.self.view_is in
-    let last = subst (λ (bs : List BufferState). slice_get bs (length bs - 1) ≡ Some c.in-Some.buffer.now) same (sym c.in-Some.ensures.value) in
-    let order = subst (λ (v : ShelfView g.row.D.Denot). StandInOrder v.buffers) c.self.view_is c.self.invariant.0.order in
-    subst (λ (r : Bool). MatchBool r (FillsOverDead c.args.self.now) (FillsOverDead c.args.self.now → ⊥)) (sym c.if-eq.false)
-    (λ over.
-    let e : c.phase.result ≡ Filling = c.phase.ensures ∙ (last_told c.args.self.now c.in-Some.buffer.now last order over).0 in
-    let clash : false ≡ true = c.if-eq.ensures ∙ ap (λ (p : Phase). sameb the_type p Filling) e in false≢true clash)
+pub returns-in-Some : goal.returns-in-Some
+returns-in-Some g c =
+    let shelf = c.args.self.now in
+    let at : FillsAt c.args.stream c.in-Some.at shelf.buffers = c.in-Some.ensures in
+    let b = at.stands in
+    let other = c.index.result.now in
+    let read : c.index.result.now ≡ b.buffer =
+    c.index.ensures ∙ ap (λ (v : ShelfView g.row.D.Denot). get_or v.buffers c.in-Some.at other) c.self.view_is ∙ ap (λ (bs : List BufferState). get_or bs c.in-Some.at other) b.parts
+    ∙ get_or_at b.front b.buffer b.behind other c.in-Some.at b.before in
+    over_filling c.args.stream shelf b.buffer (subst (λ (v : ShelfView g.row.D.Denot). StandInOrder v.buffers) c.self.view_is c.self.invariant.0.order)
+    (subst (λ (bs : List BufferState). Contains bs b.buffer) (sym b.parts) (stands_there b.front b.buffer b.behind)) at.fills
+    c.number.result (c.number.ensures.number ∙ ap (λ (x : BufferState). x.number) read) c.holds_dead.result c.holds_dead.ensures

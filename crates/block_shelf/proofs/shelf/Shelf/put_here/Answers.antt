@@ -1,47 +1,91 @@
-use Rattle.std.proofs.Common.{◌≡◌, ℕ, [], ◌∷◌, ◌++◌, length, refl, sym, ◌∙◌, ap, subst}
+use Rattle.std.proofs.Common.{◌≡◌, ◌≢◌, ⊎_elim, ℕ, ◌+◌, ◌<◌, ◌≤◌, List, length, refl, sym, ◌∙◌, ap, subst, arith}
 use Rattle.std.specs.Prelude.{Option}
-use Rattle.rec_format.specs.Versions.{version_units}
-use Rattle.write_buffer.specs.Buffers.{BufferState, used_units}
+use Rattle.std.proofs.lemmas.Bool.{cases_eq}
+use Rattle.std.proofs.lemmas.List.{get_or-set_same, get_or-set_other}
+use Rattle.write_buffer.specs.Buffers.{BufferState}
+use Rattle.unit_ledger.specs.Rolls.{BlockRoll, empty_roll, spare_of}
 use Rattle.hold_book.specs.Holds.{with_pair}
 use Rattle.block_shelf.specs.declared.place.Place.{Place}
 use Rattle.block_shelf.specs.View.{ShelfView}
-use Rattle.block_shelf.specs.Changes.{with_written, without_copy}
-use Rattle.block_shelf.specs.Appends.{IsWithout}
-use Rattle.block_shelf.proofs.LastBuffer.{last_read}
+use Rattle.block_shelf.specs.Calls.{IsPriorIn}
+use Rattle.block_shelf.specs.Changes.{CanTake, StandsAt, rolls_without, with_requeued, with_written, without_copy}
+use Rattle.block_shelf.specs.Appends.{PutsCopy}
+use Rattle.block_shelf.proofs.OneRecord.{read_at}
 use Rattle.block_shelf.proofs.shelf.Shelf.put_here.Goals as goal
-use Rattle.block_shelf.proofs.shelf.Shelf.put_here.Goals.{in-Some, in-None}
 
-pub returns-clause-put : goal.returns-clause-put
-returns-clause-put g c front last split =
+-- a copy that goes leaves no less room
+room_left : (block unit : ℕ) (rolls : List BlockRoll) (k : ℕ) → block < length rolls → spare_of k rolls ≤ spare_of k (rolls_without block unit rolls)
+room_left block unit rolls k lt =
+    ⊎_elim (λ (e : k ≡ block).
+    let now : spare_of k (rolls_without block unit rolls) ≡ spare_of block rolls + 1 = ap (λ (j : ℕ). spare_of j (rolls_without block unit rolls)) e ∙ ap (λ (r : BlockRoll). r.spare) (get_or-set_same rolls block _ empty_roll lt) in
+    let was : spare_of k rolls ≡ spare_of block rolls = ap (λ (j : ℕ). spare_of j rolls) e in omega (arith, now, was))
+    (λ (other : k ≢ block). let same : spare_of k (rolls_without block unit rolls) ≡ spare_of k rolls = ap (λ (r : BlockRoll). r.spare) (get_or-set_other rolls block k _ empty_roll other) in omega (arith, same)) (cases_eq k block)
+
+pub write-place-requires-clause-room : goal.write-place-requires-clause-room
+write-place-requires-clause-room g c =
+    let p : Place = c.in-Some.before in
+    let old = c.args.self.now in
+    let can = c.requires.room in
+    let there = subst (IsPriorIn old) c.in-Some.is c.requires.prior in
+    let lt : p.block < length old.rolls = subst (λ (n : ℕ). p.block < n) (sym (ap (λ (x : ShelfView g.row.D.Denot). length x.rolls) (sym c.self.view_is) ∙ c.self.invariant.0.rolls ∙ ap (λ (x : ShelfView g.row.D.Denot). x.geometry.blocks) c.self.view_is)) there.0 in
+    let spare = can.space in
+    let more = room_left p.block p.unit old.rolls can.stands.buffer.block lt in
+    subst (CanTake {D = g.row.D.Denot} c.args.units c.args.at) (sym c.replace.ensures.taken)
+    (record { stands = can.stands; fills = can.fills; room = can.room; space = omega (arith, spare, more) })
+
+-- the same place in the list behind a replacement
+abbrev stands_still : {D : Type 0} (old new : ShelfView D) (p : Place) (at : ℕ) → new ≡ record (without_copy p old) { holds = new.holds } → StandsAt at old.buffers → StandsAt at new.buffers
+stands_still {D} old new p at taken s = record { front = s.front; buffer = s.buffer; behind = s.behind; parts = ap (λ (x : ShelfView D). x.buffers) taken ∙ s.parts; before = s.before }
+
+pub requeue-requires : goal.requeue-requires
+requeue-requires g c =
+    let there = subst (IsPriorIn c.args.self.now) c.in-Some.is c.requires.prior in
+    let written = c.write-place.ensures.written (stands_still c.args.self.now c.replace.new.self c.in-Some.before c.args.at c.replace.ensures.taken c.requires.room.stands) in
+    record { block = subst (λ (n : ℕ). c.in-Some.before.block < n) (sym (ap (λ (x : ShelfView g.row.D.Denot). x.geometry.blocks) (written.0) ∙ ap (λ (x : ShelfView g.row.D.Denot). x.geometry.blocks) c.replace.ensures.taken)) there.0 }
+
+pub returns-in-Some-clause-put : goal.returns-in-Some-clause-put
+returns-in-Some-clause-put g c s =
     let digest = c.args.digest.now in
     let v = c.args.version.now in
     let old = c.args.self.now in
-    let parts : c.self.inside.buffers.items ≡ front ++ last ∷ [] = ap (λ (x : ShelfView g.row.D.Denot). x.buffers) c.self.view_is ∙ split in
-    let size : length c.self.inside.buffers.items ≡ c.len-last.result = sym c.self.inside.buffers.ok.0 ∙ sym c.len-last.ensures in
-    let here : c.index.result.now ≡ last = last_read front last c.self.inside.buffers.items c.len-last.result parts size c.index.result.now c.index.ensures in
-    let number : c.number-number.result ≡ last.number = c.number-number.ensures.number ∙ ap (λ (b : BufferState). b.number) here in
-    let place_is : (w : Place) → w ≡ record { block = last.block; unit = used_units last; units = c.args.units } → w ≡ record { block = last.block; unit = used_units last; units = version_units v } =
-    λ w is. is ∙ ap (λ (n : ℕ). record { block = last.block; unit = used_units last; units = n }) c.requires.units in
-    elim c.match-prior.branch [
-      | in-Some w ↦
-          let p : Place = w.in-Some.place in
-          let mid : c.match-prior.self ≡ record (without_copy p old) { holds = w.replace.new.self.holds } = w.self-is ∙ w.replace.ensures.taken in
-          let written = c.write.ensures.written front last (ap (λ (x : ShelfView g.row.D.Denot). x.buffers) mid ∙ split) in
-          let held = w.replace.ensures.held ∙ ap (λ (n : ℕ). with_pair old.holds.holds n p.block) number in
-          let without : ShelfView g.row.D.Denot = record (without_copy p old) { holds = w.replace.new.self.holds } in
-          record {
-            without = without;
-            gone = subst (λ (o : Option Place). IsWithout o last.number old without) (sym w.in-Some.is) (refl, held);
-            written = written.0 ∙ ap (with_written digest v front last) mid;
-            place_is = place_is c.write.result written.1;
-          }
-      | in-None w ↦
-          let mid : c.match-prior.self ≡ old = w.self-is in
-          let written = c.write.ensures.written front last (ap (λ (x : ShelfView g.row.D.Denot). x.buffers) mid ∙ split) in
-          record {
-            without = old;
-            gone = subst (λ (o : Option Place). IsWithout o last.number old old) (sym w.in-None.is) refl;
-            written = written.0 ∙ ap (with_written digest v front last) mid;
-            place_is = place_is c.write.result written.1;
-          }
-    ]
+    let p : Place = c.in-Some.before in
+    let parts = ap (λ (x : ShelfView g.row.D.Denot). x.buffers) c.self.view_is ∙ s.parts in
+    let here : c.index.result.now ≡ s.buffer = read_at s.front s.buffer s.behind c.self.inside.buffers.items c.args.at parts s.before c.index.result.now c.index.ensures in
+    let number : c.number-number.result ≡ s.buffer.number = c.number-number.ensures.number ∙ ap (λ (b : BufferState). b.number) here in
+    let without : ShelfView g.row.D.Denot = record (without_copy p old) { holds = c.replace.new.self.holds } in
+    let written = c.write-place.ensures.written (stands_still old c.replace.new.self p c.args.at c.replace.ensures.taken s) in
+    subst (λ (o : Option Place). PutsCopy digest v o s.front s.buffer s.behind old c.requeue.new.self c.write-place.result) (sym c.in-Some.is)
+    (record {
+      without = without;
+      gone = (refl, c.replace.ensures.held ∙ ap (λ (n : ℕ). with_pair old.holds.holds n p.block) number);
+      written = c.requeue.ensures ∙ ap (with_requeued p.block) (written.0 ∙ ap (with_written digest v s.front s.buffer s.behind) c.replace.ensures.taken);
+      place_is = written.1;
+    })
+
+pub returns-in-None-clause-put : goal.returns-in-None-clause-put
+returns-in-None-clause-put g c s =
+    let old = c.args.self.now in
+    let written = c.write.ensures.written s in
+    subst (λ (o : Option Place). PutsCopy c.args.digest.now c.args.version.now o s.front s.buffer s.behind old c.write.new.self c.write.result) (sym c.in-None.is)
+    (record { without = old; gone = refl; written = written.0; place_is = written.1 })
+
+-- what the parts leave of the shelf
+all_is : {D : Type 0} (old replaced written new : ShelfView D) (p : Place) → replaced ≡ record (without_copy p old) { holds = replaced.holds } → (w : ShelfView D) → written ≡ record replaced { buffers = w.buffers; rolls = w.rolls } → new ≡ with_requeued p.block written
+    → new ≡ record old { buffers = w.buffers; rolls = w.rolls; holds = replaced.holds; queue = new.queue }
+all_is {D} old replaced written new p taken w was requeued =
+    requeued ∙ ap (λ (x : ShelfView D). record x { queue = (with_requeued p.block written).queue }) (was ∙ ap (λ (x : ShelfView D). record x { buffers = w.buffers; rolls = w.rolls }) taken)
+    ∙ ap (λ (x : ShelfView D). record old { buffers = w.buffers; rolls = w.rolls; holds = replaced.holds; queue = x.queue }) (sym requeued)
+
+pub returns-in-Some-clause-disk : goal.returns-in-Some-clause-disk
+returns-in-Some-clause-disk g c =
+    let old = c.args.self.now in
+    let s = stands_still old c.replace.new.self c.in-Some.before c.args.at c.replace.ensures.taken c.requires.room.stands in
+    let all = all_is old c.replace.new.self c.write-place.new.self c.requeue.new.self c.in-Some.before c.replace.ensures.taken (with_written c.args.digest.now c.args.version.now s.front s.buffer s.behind c.replace.new.self) (c.write-place.ensures.written s).0 c.requeue.ensures in
+    ap (λ (x : ShelfView g.row.D.Denot). x.disk) all
+
+pub returns-in-Some-clause-shape : goal.returns-in-Some-clause-shape
+returns-in-Some-clause-shape g c =
+    let old = c.args.self.now in
+    let s = stands_still old c.replace.new.self c.in-Some.before c.args.at c.replace.ensures.taken c.requires.room.stands in
+    let all = all_is old c.replace.new.self c.write-place.new.self c.requeue.new.self c.in-Some.before c.replace.ensures.taken (with_written c.args.digest.now c.args.version.now s.front s.buffer s.behind c.replace.new.self) (c.write-place.ensures.written s).0 c.requeue.ensures in
+    record { geometry = ap (λ (x : ShelfView g.row.D.Denot). x.geometry) all; limits = ap (λ (x : ShelfView g.row.D.Denot). x.limits) all }

@@ -1,0 +1,72 @@
+-- Where an append puts its copy: in a buffer that has room, or in one that has begun.
+use Rattle.std.proofs.Common.{◌≡◌, ℕ, ◌+◌, ◌-◌, ◌≤◌, List, [], length, map, refl, sym, ◌∙◌, ap, subst, arith}
+use Rattle.std.specs.Prelude.{Option}
+use Rattle.std.proofs.lemmas.List.{length_push}
+use Rattle.rec_format.specs.declared.version.Digest.{Digest}
+use Rattle.rec_format.specs.declared.version.Version.{Version}
+use Rattle.rec_format.specs.Versions.{block_capacity}
+use Rattle.device_model.specs.Book.{first_block}
+use Rattle.write_buffer.specs.declared.stream.Stream.{Stream}
+use Rattle.write_buffer.specs.Buffers.{BufferState}
+use Rattle.unit_ledger.specs.Rolls.{spare_of}
+use Rattle.block_shelf.specs.declared.place.Place.{Place}
+use Rattle.block_shelf.specs.View.{ShelfView}
+use Rattle.block_shelf.specs.Changes.{StandsAt, CanTake, HasRoom, HasRoomAt, SameButRoom, begun_buffer, sealed_in, with_begun}
+use Rattle.block_shelf.specs.Appends.{ClosesFirst, PutsCopy, ready_for}
+use Rattle.block_shelf.proofs.Appended.{put_is}
+
+pub told_room : (stream other : Stream) (n units : ℕ) (place at : ℕ) (buffers : List BufferState) → stream ≡ other → n ≡ units → at ≡ place → HasRoomAt stream n place buffers → HasRoomAt other units at buffers
+told_room stream other n units place at buffers of_stream same there room =
+    subst (λ (k : ℕ). HasRoomAt other units k buffers) (sym there) (subst (λ (m : ℕ). HasRoomAt other m place buffers) same (subst (λ (x : Stream). HasRoomAt x n place buffers) of_stream room))
+
+pub told_no_room : (stream other : Stream) (n units : ℕ) (buffers : List BufferState) → stream ≡ other → n ≡ units → (HasRoom stream n buffers → ⊥) → HasRoom other units buffers → ⊥
+told_no_room stream other n units buffers of_stream same none =
+    subst (λ (m : ℕ). HasRoom other m buffers → ⊥) same (subst (λ (x : Stream). HasRoom x n buffers → ⊥) of_stream none)
+
+-- ---- the buffer takes the copy
+
+-- where memory was taken for it
+pub can_in_room : {D : Type 0} (stream : Stream) (units at : ℕ) (old mid : ShelfView D) → SameButRoom old mid → (room : HasRoomAt stream units at old.buffers) → 1 ≤ spare_of room.stands.buffer.block mid.rolls → CanTake units at mid
+can_in_room {D} stream units at old mid same room space =
+    let s = room.stands in record {
+      stands = record { front = s.front; buffer = s.buffer; behind = s.behind; parts = ap (λ (x : ShelfView D). x.buffers) same.rest ∙ s.parts; before = s.before };
+      fills = room.fills;
+      room = room.room;
+      space = space;
+    }
+
+-- the buffer that has begun is the last one
+abbrev pub begun_stands : {D : Type 0} (stream : Stream) (old begun mid : ShelfView D) (at n : ℕ) → mid ≡ with_begun stream (ready_for begun old) → at ≡ n - 1 → n ≡ length mid.buffers → StandsAt at mid.buffers
+begun_stands {D} stream old begun mid at n is place count = record {
+  front = map (sealed_in stream) old.buffers;
+  buffer = begun_buffer stream old;
+  behind = [];
+  parts = ap (λ (x : ShelfView D). x.buffers) is;
+  before = let all : length mid.buffers ≡ length (map (sealed_in stream) old.buffers) + 1 = ap (λ (x : ShelfView D). length x.buffers) is ∙ length_push (map (sealed_in stream) old.buffers) (begun_buffer stream old) in omega (arith, all, place, count);
+}
+
+pub can_in_new : {D : Type 0} (stream : Stream) (units : ℕ) (old begun mid : ShelfView D) (at n : ℕ) → mid ≡ with_begun stream (ready_for begun old) → at ≡ n - 1 → n ≡ length mid.buffers → units ≤ block_capacity old.geometry.block_size
+    → 1 ≤ spare_of (first_block old.free) begun.rolls → CanTake units at mid
+can_in_new {D} stream units old begun mid at n is place count small space = record {
+  stands = begun_stands stream old begun mid at n is place count;
+  fills = refl;
+  room = let sum : units ≡ 0 + units = omega arith in subst (λ (m : ℕ). m ≤ block_capacity old.geometry.block_size) sum small;
+  space = subst (λ (x : ShelfView D). 1 ≤ spare_of (first_block old.free) x.rolls) (sym is) space;
+}
+
+-- ---- the gates
+
+pub put_gates : {D : Type 0} (digest : Digest) (v : Version) (prior : Option Place) (front : List BufferState) (b : BufferState) (behind : List BufferState) (shelf new : ShelfView D) (place : Place) → PutsCopy digest v prior front b behind shelf new place → new.gates ≡ shelf.gates
+put_gates {D} digest v prior front b behind shelf new place put = ap (λ (x : ShelfView D). x.gates) (put_is digest v prior front b behind shelf new place put)
+
+pub gates_in_room : {D : Type 0} (stream : Stream) (units at : ℕ) (old mid new : ShelfView D) → SameButRoom old mid → HasRoomAt stream units at old.buffers → new.gates ≡ mid.gates → ClosesFirst stream units old new
+gates_in_room {D} stream units at old mid new same room gates = record {
+  in_room = λ has. gates ∙ ap (λ (x : ShelfView D). x.gates) same.rest;
+  in_new = λ none. absurd (none (at, room));
+}
+
+pub gates_in_new : {D : Type 0} (stream : Stream) (units : ℕ) (old begun mid new : ShelfView D) → mid ≡ with_begun stream (ready_for begun old) → (HasRoom stream units old.buffers → ⊥) → new.gates ≡ mid.gates → ClosesFirst stream units old new
+gates_in_new {D} stream units old begun mid new is none gates = record {
+  in_room = λ has. absurd (none has);
+  in_new = λ never. gates ∙ ap (λ (x : ShelfView D). x.gates) is;
+}

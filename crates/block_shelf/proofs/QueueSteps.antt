@@ -1,0 +1,247 @@
+-- What is live in a block and whether it has a buffer, as the shelf and the book say it, and how the queue stands behind a change.
+use Rattle.std.proofs.Common.{◌≡◌, ◌≢◌, ◌⊎◌, inl, inr, ⊎_elim, ℕ, ◌+◌, ◌<◌, ◌≤◌, Bool, true, false, not, cond, List, [], ◌∷◌, ◌++◌, map, sum_by, refl, sym, ◌∙◌, ap, subst, arith}
+use Rattle.std.specs.Prelude.{Some, None, filter, Contains, ◌==◌}
+use Rattle.std.specs.List.{AllByRecursion, IsDistinct, list_any}
+use Rattle.std.proofs.lemmas.Bool.{both_ways, eq-eqb, eqb-true, not-true}
+use Rattle.std.proofs.lemmas.List.Sums.{sum_by-cons, sum_by-append}
+use Rattle.disk_model.specs.Disk.{DiskView}
+use Rattle.rec_format.specs.Places.{same_digest}
+use Rattle.rec_format.proofs.Laws.{same_digest_refl}
+use Rattle.device_model.specs.Book.{Setup, Book, Buffer, Live, use_of, has_buffer, is_in, without_live, may_be_queued, refreshed}
+use Rattle.device_model.specs.Device.{State}
+use Rattle.block_format.specs.declared.geometry.Geometry.{Geometry}
+use Rattle.recovery.proofs.Each.{all_map}
+use Rattle.recovery.proofs.Growing.{all_from, all_at, cons_cases}
+use Rattle.recovery.proofs.Members.{first_there, rest_there, map_there, map_from, filter_there, filter_from}
+use Rattle.recovery.proofs.Pending.{any_map}
+use Rattle.kept_trail.specs.Trail.{places_of}
+use Rattle.kept_trail.proofs.Places.{buffer_place}
+use Rattle.write_buffer.specs.Buffers.{BufferState}
+use Rattle.unit_ledger.specs.declared.roll.LiveCopy.{LiveCopy}
+use Rattle.unit_ledger.specs.Rolls.{BlockRoll, HaveOwnUnits, copies_in, copy_at, rolled_use, live_in_block}
+use Rattle.defrag_queue.specs.Queues.{QueueState, is_below_mark, requeued, considered}
+use Rattle.defrag_queue.proofs.Refreshed.{refreshed_one, refreshed_none, refreshed_all, requeued_below}
+use Rattle.block_shelf.specs.declared.place.ShelfLimits.{ShelfLimits}
+use Rattle.block_shelf.specs.View.{ShelfView, IsShelf, IsRoll, IsQueueOf, IsSetupOf}
+use Rattle.block_shelf.specs.Standing.{HaveOwnDigests, LivesSame, QueueStands, book_buffer}
+use Rattle.block_shelf.specs.Changes.{has_buffer_in}
+use Rattle.block_shelf.proofs.Rolls.{copy_found}
+
+-- ---- lists in which nothing stands twice
+
+abbrev pub StandOnce : {X : Type 0} → List X → Type 0
+StandOnce [] = Unit {0}
+StandOnce (x ∷ xs) = AllByRecursion (λ y. x ≢ y) xs × StandOnce xs
+
+-- an element stands between others
+record Parted {X : Type 0} (x : X) (xs : List X) : Type 0 where
+  front : List X
+  behind : List X
+  parts : xs ≡ front ++ x ∷ behind
+  others : (y : X) → x ≢ y → Contains xs y → Contains (front ++ behind) y
+
+parted : {X : Type 0} (x : X) (xs : List X) → Contains xs x → Parted x xs
+parted x [] there = absurd (omega (arith, there.1))
+parted {X} x (y ∷ xs) there = by (cons_cases y xs x there) (parted x xs)
+  where
+    by : (y ≡ x) ⊎ Contains xs x → (Contains xs x → Parted x xs) → Parted x (y ∷ xs)
+    by (inl e) rest = record {
+      front = [];
+      behind = xs;
+      parts = ap (λ (z : X). z ∷ xs) e;
+      others = λ z other in_all. ⊎_elim (λ (same : y ≡ z). absurd (other (sym e ∙ same))) (λ (more : Contains xs z). more) (cons_cases y xs z in_all);
+    }
+    by (inr more) rest =
+        let is = rest more in
+        record {
+          front = y ∷ is.front;
+          behind = is.behind;
+          parts = ap (λ (l : List X). y ∷ l) is.parts;
+          others = λ z other in_all.
+              ⊎_elim (λ (same : y ≡ z). subst (Contains (y ∷ (is.front ++ is.behind))) same (first_there y (is.front ++ is.behind)))
+              (λ (in_xs : Contains xs z). rest_there y (is.front ++ is.behind) z (is.others z other in_xs)) (cons_cases y xs z in_all);
+        }
+
+-- those that stand once within a list sum up to no more
+sum_within : {X : Type 0} (f : X → ℕ) (xs ys : List X) → StandOnce xs → ((x : X) → Contains xs x → Contains ys x) → sum_by f xs ≤ sum_by f ys
+sum_within f [] ys once within = omega arith
+sum_within {X} f (x ∷ xs) ys once within =
+    let is = parted x ys (within x (first_there x xs)) in
+    let rest = sum_within f xs (is.front ++ is.behind) once.1 (λ y there. is.others y (all_at (λ z. x ≢ z) xs y once.0 there) (within y (rest_there x xs y there))) in
+    let sum : sum_by f ys ≡ sum_by f (is.front ++ x ∷ is.behind) = ap (sum_by f) is.parts in
+    omega (arith, rest, sum, sum_by-cons f x xs, sum_by-append f is.front (x ∷ is.behind), sum_by-cons f x is.behind, sum_by-append f is.front is.behind)
+
+-- two lists of the same elements, in whatever order, have one sum
+pub same_sum : {X : Type 0} (f : X → ℕ) (xs ys : List X) → StandOnce xs → StandOnce ys → ((x : X) → Contains xs x → Contains ys x) → ((x : X) → Contains ys x → Contains xs x) → sum_by f xs ≡ sum_by f ys
+same_sum f xs ys once_xs once_ys to back = omega (arith, sum_within f xs ys once_xs to, sum_within f ys xs once_ys back)
+
+pub once_kept : {X : Type 0} (p : X → Bool) (xs : List X) → StandOnce xs → StandOnce (filter p xs)
+once_kept p [] once = tt
+once_kept {X} p (x ∷ xs) once = by (p x) (once_kept p xs once.1)
+  where
+    by : (b : Bool) → StandOnce (filter p xs) → StandOnce (cond b (x ∷ filter p xs) (filter p xs))
+    by true rest = (all_from (λ y. x ≢ y) (filter p xs) (λ y there. all_at (λ z. x ≢ z) xs y once.0 (filter_from p xs y there).0), rest)
+    by false rest = rest
+
+-- ---- live copies
+
+pub own_digests_once : (live : List Live) → HaveOwnDigests live → StandOnce live
+unfolding IsDistinct
+own_digests_once [] own = tt
+own_digests_once (l ∷ live) own = (
+  all_map (λ m. same_digest l.digest m.digest ≡ false) (λ m. l ≢ m) live
+      (λ m apart same. both_ways (same_digest l.digest m.digest) apart (ap (λ (x : Live). same_digest l.digest x.digest) (sym same) ∙ same_digest_refl l.digest)) own.0,
+  own_digests_once live own.1,
+)
+
+pub own_digests_kept : (p : Live → Bool) (live : List Live) → HaveOwnDigests live → HaveOwnDigests (filter p live)
+unfolding IsDistinct
+own_digests_kept p [] own = tt
+own_digests_kept p (l ∷ live) own = by (p l) (own_digests_kept p live own.1)
+  where
+    by : (b : Bool) → HaveOwnDigests (filter p live) → HaveOwnDigests (cond b (l ∷ filter p live) (filter p live))
+    by true rest =
+        (all_from (λ m. same_digest l.digest m.digest ≡ false) (filter p live) (λ m there. all_at (λ m. same_digest l.digest m.digest ≡ false) live m own.0 (filter_from p live m there).0), rest)
+    by false rest = rest
+
+-- another copy stands in the place of the digest's own
+pub own_digests_more : (l : Live) (live : List Live) → HaveOwnDigests live → HaveOwnDigests (l ∷ without_live l.digest live)
+unfolding IsDistinct
+own_digests_more l live own = (
+  all_from (λ m. same_digest l.digest m.digest ≡ false) (without_live l.digest live) (λ m there. not-true (same_digest l.digest m.digest) (filter_from (λ (x : Live). not (same_digest l.digest x.digest)) live m there).1),
+  own_digests_kept (λ m. not (same_digest l.digest m.digest)) live own,
+)
+
+-- the copies of a block begin at units of their own
+rolled_once : (block : ℕ) (cs : List LiveCopy) → HaveOwnUnits cs → StandOnce (map (live_in_block block) cs)
+rolled_once block [] own = tt
+rolled_once block (c ∷ cs) own = (all_from (λ m. live_in_block block c ≢ m) (map (live_in_block block) cs) apart, rolled_once block cs own.1)
+  where
+    apart : (m : Live) → Contains (map (live_in_block block) cs) m → live_in_block block c ≢ m
+    apart m there same =
+        let one = map_from (live_in_block block) cs m there in
+        let found : copy_at one.0.unit cs ≡ Some one.0 = copy_found cs one.0 own.1 one.1 in
+        let none : copy_at one.0.unit cs ≡ None = subst (λ (n : ℕ). copy_at n cs ≡ None) (ap (λ (l : Live). l.unit) (same ∙ sym one.2)) own.0 in
+        let clash : Some one.0 ≡ None = sym found ∙ none in absurd (cc)
+
+sum_in_block : (block : ℕ) (cs : List LiveCopy) → sum_by (λ (l : Live). l.units) (map (live_in_block block) cs) ≡ sum_by (λ (c : LiveCopy). c.units) cs
+sum_in_block block [] = refl
+sum_in_block block (c ∷ cs) =
+    sum_by-cons (λ (l : Live). l.units) (live_in_block block c) (map (live_in_block block) cs) ∙ ap (λ (n : ℕ). c.units + n) (sum_in_block block cs)
+    ∙ sym (sum_by-cons (λ (d : LiveCopy). d.units) c cs)
+
+-- what is live in a block takes as many units in the book as in the shelf
+pub rolled_is_use : (rolls : List BlockRoll) (book : Book) (block : ℕ) → LivesSame rolls book → IsRoll (copies_in block rolls) → HaveOwnDigests book.live → rolled_use block rolls ≡ use_of book block
+rolled_is_use rolls book block lives roll own =
+    sym (sum_in_block block (copies_in block rolls))
+    ∙ same_sum (λ (l : Live). l.units) (map (live_in_block block) (copies_in block rolls)) (filter (λ (l : Live). l.block == block) book.live) (rolled_once block (copies_in block rolls) roll.own)
+    (once_kept (λ (l : Live). l.block == block) book.live (own_digests_once book.live own)) to back
+  where
+    to : (l : Live) → Contains (map (live_in_block block) (copies_in block rolls)) l → Contains (filter (λ (m : Live). m.block == block) book.live) l
+    to l there =
+        let one = map_from (live_in_block block) (copies_in block rolls) l there in
+        filter_there (λ (m : Live). m.block == block) book.live l (eq-eqb l.block block (ap (λ (m : Live). m.block) (sym one.2))) (subst (Contains book.live) one.2 (lives.there block one.0 one.1))
+
+    back : (l : Live) → Contains (filter (λ (m : Live). m.block == block) book.live) l → Contains (map (live_in_block block) (copies_in block rolls)) l
+    back l there =
+        let was = filter_from (λ (m : Live). m.block == block) book.live l there in
+        let at : l.block ≡ block = eqb-true l.block block was.1 in
+        let c : LiveCopy = record { digest = l.digest; unit = l.unit; units = l.units } in
+        let is : live_in_block block c ≡ l = ap (λ (k : ℕ). live_in_block k c) (sym at) in
+        subst (Contains (map (live_in_block block) (copies_in block rolls))) is
+        (map_there (live_in_block block) (copies_in block rolls) c (lives.known block c (subst (Contains book.live) (sym is) was.0)))
+
+-- ---- buffers
+
+-- a block has a buffer in the book just where it has one in the shelf
+pub has_buffer_is : (buffers : List BufferState) (book : Book) (block : ℕ) → book.buffers ≡ map book_buffer buffers → has_buffer_in buffers block ≡ has_buffer book block
+has_buffer_is buffers book block is = sym (ap (list_any (λ (b : Buffer). b.block == block)) is ∙ any_map (λ (b : Buffer). b.block == block) book_buffer buffers)
+
+-- ---- whether a block is to be vacated
+
+-- books with the same places of buffers and the same live copies say the same
+pub queued_alike : (setup : Setup) (old new : Book) (block : ℕ) → has_buffer new block ≡ has_buffer old block → use_of new block ≡ use_of old block → may_be_queued setup new block ≡ may_be_queued setup old block
+queued_alike setup old new block buffer live =
+    ap (λ (x : Bool). is_below_mark setup.capacity setup.lwm (use_of new block) (not x)) buffer ∙ ap (λ (n : ℕ). is_below_mark setup.capacity setup.lwm n (not (has_buffer old block))) live
+
+pub queued_same : (setup : Setup) (old new : Book) → places_of new ≡ places_of old → new.live ≡ old.live → (block : ℕ) → may_be_queued setup new block ≡ may_be_queued setup old block
+queued_same setup old new places live block =
+    queued_alike setup old new block (buffer_place new block ∙ ap (list_any (λ (p : ℕ × ℕ). p.1 == block)) places ∙ sym (buffer_place old block))
+    (ap (λ (ls : List Live). sum_by (λ (l : Live). l.units) (filter (λ (l : Live). l.block == block) ls)) live)
+
+-- the shelf's mark is the book's
+pub marked_as : {D : Type 0} (setup : Setup) (shelf : ShelfView D) (book : Book) (block used : ℕ) (flushed : Bool) → IsSetupOf setup shelf → IsQueueOf shelf.geometry shelf.limits shelf.queue
+    → used ≡ use_of book block → flushed ≡ not (has_buffer book block) → is_below_mark shelf.queue.capacity shelf.queue.lwm used flushed ≡ may_be_queued setup book block
+marked_as setup shelf book block used flushed of_shelf is live unbuffered =
+    ap (λ (n : ℕ). is_below_mark n shelf.queue.lwm used flushed) (is.capacity ∙ sym of_shelf.shape.capacity)
+    ∙ ap (λ (n : ℕ). is_below_mark setup.capacity n used flushed) (is.lwm ∙ sym of_shelf.lwm)
+    ∙ ap (λ (n : ℕ). is_below_mark setup.capacity setup.lwm n flushed) live
+    ∙ ap (λ (x : Bool). is_below_mark setup.capacity setup.lwm (use_of book block) x) unbuffered
+
+-- ---- the queue behind a change
+
+module _ {D : Type 0} (setup : Setup) (old new : ShelfView D) (s t : State) where
+  -- neither the queue nor what decides of it changed
+  pub queue_same : new.queue.queue ≡ old.queue.queue → t.book.queue ≡ s.book.queue → places_of t.book ≡ places_of s.book → t.book.live ≡ s.book.live → QueueStands setup old s → QueueStands setup new t
+  queue_same queue booked places live was = record {
+    same = booked ∙ was.same ∙ sym queue;
+    all = λ b lt. ap (λ (q : List ℕ). is_in q b) booked ∙ was.all b lt ∙ sym (queued_same setup s.book t.book places live b);
+  }
+
+  -- The book was brought up to date behind a change. `mid` is the book before that.
+  module _ (mid : Book) (is : t.book ≡ refreshed setup mid) (waits : mid.queue ≡ s.book.queue) (below : AllByRecursion (λ b. b < setup.blocks) old.queue.queue) (was : QueueStands setup old s) where
+    below_booked : AllByRecursion (λ b. b < setup.blocks) s.book.queue
+    below_booked = subst (AllByRecursion (λ b. b < setup.blocks)) (sym was.same) below
+
+    all_then : (b : ℕ) → b < setup.blocks → is_in t.book.queue b ≡ may_be_queued setup t.book b
+    all_then b lt = subst (λ (book : Book). is_in book.queue b ≡ may_be_queued setup book b) (sym is) (refreshed_all setup s.book mid waits below_booked b lt)
+
+    -- no block came or went
+    pub queue_refreshed : new.queue.queue ≡ old.queue.queue → ((b : ℕ) → b < setup.blocks → may_be_queued setup mid b ≡ may_be_queued setup s.book b) → QueueStands setup new t
+    queue_refreshed queue still = record {
+      same = ap (λ (book : Book). book.queue) is ∙ refreshed_none setup s.book mid waits was.all still below_booked ∙ was.same ∙ sym queue;
+      all = all_then;
+    }
+
+    -- one block was considered
+    pub queue_considered : (k : ℕ) → k < setup.blocks → new.queue.queue ≡ requeued (may_be_queued setup mid k) k old.queue.queue
+        → ((b : ℕ) → b < setup.blocks → b ≢ k → may_be_queued setup mid b ≡ may_be_queued setup s.book b) → QueueStands setup new t
+    queue_considered k lt queue still = record {
+      same = ap (λ (book : Book). book.queue) is ∙ refreshed_one setup s.book mid k lt waits was.all still below_booked ∙ ap (requeued (may_be_queued setup mid k) k) was.same ∙ sym queue;
+      all = all_then;
+    }
+
+-- ---- the queue of a shelf
+
+-- a block of the device is considered
+pub considered_is : (g : Geometry) (limits : ShelfLimits) (q : QueueState) (block used : ℕ) (flushed : Bool) → block < g.blocks → IsQueueOf g limits q → IsQueueOf g limits (considered q block used flushed)
+considered_is g limits q block used flushed lt is = record {
+  blocks = is.blocks;
+  capacity = is.capacity;
+  lwm = is.lwm;
+  below = requeued_below g.blocks block (is_below_mark q.capacity q.lwm used flushed) q.queue is.below lt;
+}
+
+-- a shelf with another queue
+pub queue_shelf : {D : Type 0} (view : D → DiskView) (shelf : ShelfView D) (queue : QueueState) → IsShelf view shelf → IsQueueOf shelf.geometry shelf.limits queue → IsShelf view (record shelf { queue = queue })
+queue_shelf view shelf queue is queue_is = record {
+  geometry = is.geometry;
+  limits = is.limits;
+  room = is.room;
+  number = is.number;
+  buffers = is.buffers;
+  order = is.order;
+  free = is.free;
+  apart = is.apart;
+  gates = is.gates;
+  rolls = is.rolls;
+  each = is.each;
+  held = is.held;
+  vacant = is.vacant;
+  unheld = is.unheld;
+  packed = is.packed;
+  waits = is.waits;
+  ready = is.ready;
+  stand = is.stand;
+  queue = queue_is;
+}
