@@ -5,7 +5,7 @@ use Rattle.disk_model.specs.Disk.{Images, DiskView, IsHonest, IsOnly}
 use Rattle.rec_format.specs.declared.version.Digest.{Digest}
 use Rattle.rec_format.specs.Versions.{block_capacity}
 use Rattle.device_model.specs.Histories.{writes_of}
-use Rattle.device_model.specs.Book.{Setup, Book, cold_book, refreshed, Live, live_of}
+use Rattle.device_model.specs.Book.{Setup, Book, cold_book, refreshed, Live, live_of, is_in, may_be_queued}
 use Rattle.device_model.specs.Device.{State, history, entry}
 use Rattle.block_format.specs.declared.geometry.Geometry.{Geometry}
 use Rattle.block_format.specs.declared.geometry.Gate.{Gate}
@@ -25,9 +25,10 @@ use Rattle.kept_images.specs.Held.{HoldsGates}
 use Rattle.kept_images.specs.Changes.{records_by}
 use Rattle.kept_images.proofs.Held.{held_kept, held_sure, held_survives}
 use Rattle.kept_images.proofs.Starting.{restart_kept}
+use Rattle.kept_images.proofs.Stepping.{book_in_order}
 use Rattle.write_buffer.specs.Buffers.{BufferState}
 use Rattle.block_shelf.specs.View.{records_of, gate_at}
-use Rattle.block_shelf.specs.Standing.{StandsFor, IsOfEntry, HoldsSame, LivesSame, IsListed, book_buffer}
+use Rattle.block_shelf.specs.Standing.{StandsFor, QueueStands, IsOfEntry, HoldsSame, LivesSame, IsListed, book_buffer}
 use Rattle.part_laws.specs.Parts.{AreOwn, FitsParts}
 use Rattle.part_laws.specs.Starting.{AllHaveLatest}
 use Rattle.part_laws.proofs.Restarting.{new_top, restart_parts}
@@ -117,20 +118,27 @@ module _ {D : Type 0} (view : D → DiskView) (shard : ShardView D) (s new : Sta
     holds = subst (HoldsSame shard.shelf.holds.holds) (sym r.book) stands.holds;
     lives = subst (LivesSame shard.shelf.rolls) (sym r.book) stands.lives;
     listed = subst (IsListed setup) (sym r.book) stands.listed;
-    order = subst (IsInOrder setup new) no_records restart_is_kept.order;
+    order = book_in_order (subst (IsInOrder setup new) no_records restart_is_kept.order);
     entries = λ l there. entry_lies l (stands.entries l (subst (λ (b : Book). Contains b.live l) r.book there));
+  }
+
+  queue_again : QueueStands setup shard.shelf new
+  queue_again = record {
+    same = ap (λ (b : Book). b.queue) r.book ∙ start_agrees.shelf.queue.same;
+    all = λ block lt. subst (λ (b : Book). is_in b.queue block ≡ may_be_queued setup b block) (sym r.book) (start_agrees.shelf.queue.all block lt);
   }
 
   pub agrees_again : Agrees shard new
   agrees_again = record {
     sprigs = parts_fit;
     times = start_agrees.times;
-    shelf = record { stands = stands_again; queue = ap (λ (b : Book). b.queue) r.book ∙ start_agrees.shelf.queue };
+    shelf = record { stands = stands_again; queue = queue_again };
   }
 
   pub safe_again : IsSafe view shard new
   safe_again = record {
     placed = record {
+      buffered = λ digest l v live top. start_safe.placed.buffered digest l v (sym (ap (λ (b : Book). live_of digest b.live) r.book) ∙ live) (sym (same_entry digest) ∙ top);
       there = λ digest l v live top apart c may. start_safe.placed.there digest l v (sym (ap (λ (b : Book). live_of digest b.live) r.book) ∙ live) (sym (same_entry digest) ∙ top) apart c may;
     };
     safe = subst (λ (x : Records). HoldsGates setup g new x gates now) no_records (record {

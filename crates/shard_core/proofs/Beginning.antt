@@ -1,5 +1,5 @@
 -- For which states a shard stands behind a start.
-use Rattle.std.proofs.Common.{◌≡◌, ℕ, ◌+◌, ◌<◌, arith, [], ◌*◌, List, length, refl, sym, ◌∙◌, ap, subst}
+use Rattle.std.proofs.Common.{◌≡◌, ℕ, ◌+◌, ◌<◌, arith, ◌*◌, List, length, refl, sym, ◌∙◌, ap, subst}
 use Rattle.std.specs.Prelude.{option_map}
 use Rattle.std.specs.List.{AllByRecursion, range_with_len}
 use Rattle.disk_model.specs.Disk.{Images, DiskView, IsHonest, IsOnly}
@@ -25,7 +25,8 @@ use Rattle.block_shelf.specs.Starting.{StartsWith, AreLive, AllHave}
 use Rattle.shard_core.specs.declared.settings.Settings.{Settings}
 use Rattle.cold_scan.specs.declared.header.Asked.{Asked}
 use Rattle.shard_core.specs.declared.index.Finding.{Finding}
-use Rattle.shard_core.specs.Sprigs.{held, all_entries, HasTimes}
+use Rattle.shard_core.specs.Sprigs.{held, all_entries}
+use Rattle.shard_steps.specs.Sprigs.{HasTimes}
 use Rattle.shard_core.specs.View.{ShardView, IsSettings, limits_of, setup_for, setup_of}
 use Rattle.part_laws.specs.Parts.{FitsParts}
 use Rattle.sprig_tree.specs.State.{SprigState}
@@ -37,16 +38,17 @@ use Rattle.cold_scan.specs.Found.{IsSure}
 use Rattle.shard_core.specs.Finding.{AreLatest, IsFinding, BeginsOver, BeginsBehind, live_places, latest_copies}
 use Rattle.shard_core.proofs.FoundCopies.{latest_there, found_times, found_parts, sound_parts, held_is, live_are, free_are}
 use Rattle.shard_core.proofs.GatesKnown.{gates_sure}
-use Rattle.shard_core.proofs.Showing.{found_entry, found_queue, sound_own, start_queue}
+use Rattle.shard_core.proofs.Showing.{found_entry, sound_own}
 
 -- ---- from a shelf that begins
 
 -- what is known of a shelf that begins with these live copies
 pub record ShelfBegins {D : Type 0} (view : D → DiskView) (disk : D) (g : Geometry) (limits : ShelfLimits) (gates : List Gate) (live : List (Digest × Place)) (next : ℕ) (new : ShelfView D) : Type 0 where
   pub starts : StartsWith disk g limits gates live next new
-  pub entries : (setup : Setup) (found : List Copy) → IsSetupOf setup new → AreLive live found → shelf.StandsFor setup new (entries_state setup found next)
+  pub entries : (setup : Setup) (found : List Copy) → IsSetupOf setup new → AreLive live found
+      → shelf.StandsFor setup new (entries_state setup found next) × shelf.QueueStands setup new (entries_state setup found next)
   pub image : (setup : Setup) (image : List ℕ) (bodies : List Body) → IsSetupOf setup new → IsSound setup image bodies → AreLive live (cold_copies (copies_of bodies)) → next ≡ greatest_number bodies + 1
-      → shelf.StandsFor setup new (start_state setup bodies)
+      → shelf.StandsFor setup new (start_state setup bodies) × shelf.QueueStands setup new (start_state setup bodies)
   pub placed : (setup : Setup) (found : List Copy) → AllHave g (view disk).may_leave found → shelf.IsPlaced view new (entries_state setup found next)
   pub safe : IsHonest (view disk) → AreSure g (gate_at gates) → (setup : Setup) (image : List ℕ) (bodies : List Body) → IsSetupOf setup new → IsSound setup image bodies → IsOnly image (view disk).may_leave
       → shelf.IsPlaced view new (start_state setup bodies) × shelf.ImagesHold setup view new (start_state setup bodies)
@@ -76,9 +78,6 @@ module _ {D : Type 0} (view : D → DiskView) (disk : D) (g : Geometry) (gates :
     lwm = sym (ap (λ (l : ShelfLimits). l.lwm) limits_are);
   }
 
-  low_here : setup.lwm ≡ 0
-  low_here = ap (λ (x : Settings). x.lwm) set_is ∙ settings.lwm
-
   some_devices : 0 < g.devices
   some_devices = omega (arith, is_shape.device)
 
@@ -93,24 +92,22 @@ module _ {D : Type 0} (view : D → DiskView) (disk : D) (g : Geometry) (gates :
     live_here = subst (λ (h : Geometry). AreLive live (latest_copies h bodies)) (sym geometry_is) (live_are g set gates bodies finding found some_devices some_sprigs)
 
     -- sprigs and shelf of one state
-    agrees_with : (state : Setup → State) → FitsParts (setup_for g set) finding.sprigs.items (state (setup_for g set)) → shelf.StandsFor setup shard.shelf (state setup) → (state setup).book.queue ≡ [] → Agrees shard (state setup)
-    agrees_with state fits stands queue = record {
+    agrees_with : (state : Setup → State) → FitsParts (setup_for g set) finding.sprigs.items (state (setup_for g set)) → shelf.StandsFor setup shard.shelf (state setup) × shelf.QueueStands setup shard.shelf (state setup) → Agrees shard (state setup)
+    agrees_with state fits both = record {
       sprigs = subst (λ (l : List SprigState). FitsParts setup l (state setup)) (sym sprigs_are) (subst (λ (x : Setup). FitsParts x finding.sprigs.items (state x)) setup_is fits);
       times = subst (AllByRecursion HasTimes) (sym sprigs_are) (found_times g set gates bodies finding found);
-      shelf = record { stands = stands; queue = queue };
+      shelf = record { stands = both.0; queue = both.1 };
     }
 
     found_agrees : Agrees shard (found_state setup bodies)
     found_agrees =
         agrees_with (λ x. found_state x bodies) (found_parts g set gates bodies finding found)
-        (subst (λ (n : ℕ). shelf.StandsFor setup shard.shelf (entries_state setup latest (n + 1))) found.number (begins.entries setup latest is_setup live_here))
-        (found_queue setup bodies low_here)
+        (subst (λ (n : ℕ). shelf.StandsFor setup shard.shelf (entries_state setup latest (n + 1)) × shelf.QueueStands setup shard.shelf (entries_state setup latest (n + 1))) found.number (begins.entries setup latest is_setup live_here))
 
     start_agrees : (image : List ℕ) → IsSound setup image bodies → Agrees shard (start_state setup bodies)
     start_agrees image sound =
         agrees_with (λ x. start_state x bodies) (sound_parts g set gates bodies finding found image (subst (λ (x : Setup). IsSound x image bodies) (sym setup_is) sound))
         (begins.image setup image bodies is_setup sound (subst (λ (l : List Copy). AreLive live (cold_copies l)) (sound_own setup image bodies sound) live_here) (ap (λ (n : ℕ). n + 1) found.number))
-        (start_queue setup image bodies sound low_here)
 
     pub begins_behind : BeginsBehind view disk bodies shard
     begins_behind = record {

@@ -4,9 +4,9 @@ use Rattle.std.specs.Prelude.{Option, Some, None, MatchOption, MatchBool}
 use Rattle.std.specs.List.{AllByRecursion}
 use Rattle.rec_format.specs.declared.version.Digest.{Digest}
 use Rattle.rec_format.specs.declared.version.Version.{Version}
-use Rattle.device_model.specs.Book.{Setup, dropped_live}
+use Rattle.device_model.specs.Book.{Setup}
 use Rattle.device_model.specs.Device.{State, entry_is_covered, seen, part_of}
-use Rattle.device_model.specs.Steps.{removed, after_step}
+use Rattle.device_model.specs.Steps.{removed}
 use Rattle.device_model.specs.Events.{Event, delete_call, happened}
 use Rattle.device_model.specs.Legal.{Allowed, Only, Removes, Entombs}
 use Rattle.disk_model.specs.Disk.{DiskView}
@@ -16,11 +16,10 @@ use Rattle.part_laws.proofs.Edits.{each_without}
 use Rattle.part_laws.proofs.Taking.{removed_fits}
 use Rattle.block_shelf.specs.View.{ShelfView}
 use Rattle.block_shelf.specs.Calls.{Goes}
-use Rattle.shard_core.specs.Stands.{StandTogether}
-use Rattle.shard_core.specs.Calls.{StepMakes}
+use Rattle.shard_steps.specs.Standing.{StandTogether}
+use Rattle.shard_steps.specs.Events.{StepMakes}
 use Rattle.shard_core.specs.Writing.{IsEntombing}
-use Rattle.shard_core.proofs.Making.{makes_by}
-use Rattle.shard_core.proofs.Queues.{refreshed_queue}
+use Rattle.shard_steps.proofs.Making.{makes_by}
 
 module _ (setup : Setup) (s : State) (digest : Digest) (now : ℕ) where
   pub deletes_none : (told : Bool) (event : Event) → event.answer ≡ happened false → event.steps ≡ [] → seen s now digest ≡ None → Allowed setup told s event (delete_call digest now)
@@ -38,15 +37,11 @@ module _ (setup : Setup) (s : State) (digest : Digest) (now : ℕ) where
       subst (λ (o : Option Version). MatchOption o (Only event (happened false)) (λ w. Removes setup s event digest now)) (sym is)
       (subst (λ (b : Bool). MatchBool b (Entombs setup s event digest now (λ stamp. happened true)) ((event.answer ≡ happened true) × (event.steps ≡ removed digest ∷ []))) (sym bare) (answer, steps))
 
-  removed_queue : setup.lwm ≡ 0 → (after_step setup (removed digest) s).book.queue ≡ []
-  unfolding after_step dropped_live
-  removed_queue low = refreshed_queue setup low _
-
   -- of one that isn't covered the entry goes, and its copy is no longer live
-  pub makes_removed : {D : Type 0} (view : D → DiskView) (before after : SprigState) (old new : ShelfView D) (v : Version) → setup.lwm ≡ 0 → seen s now digest ≡ Some v → entry_is_covered s digest ≡ false
+  pub makes_removed : {D : Type 0} (view : D → DiskView) (before after : SprigState) (old new : ShelfView D) (v : Version) → seen s now digest ≡ Some v → entry_is_covered s digest ≡ false
       → (view old.disk).faults ≤ (view new.disk).faults → Goes view setup (removed digest ∷ []) old s new → StandTogether setup (part_of setup digest) before old s → Loses digest before after
       → StepMakes view setup (part_of setup digest) (delete_call digest now) (happened true) old s after new
-  makes_removed view before after old new v low is bare up goes stand loses =
+  makes_removed view before after old new v is bare up goes stand loses =
       let event : Event = record { call = delete_call digest now; answer = happened true; steps = removed digest ∷ []; faults_before = (view old.disk).faults; faults_after = (view new.disk).faults } in
       makes_by view setup old new s (delete_call digest now) (happened true) (removed digest ∷ []) (StandTogether setup (part_of setup digest) after new) up goes
       (deletes_bare false event v is bare refl refl) (λ honest safe. deletes_bare true event v is bare refl refl) (record {
@@ -54,5 +49,5 @@ module _ (setup : Setup) (s : State) (digest : Digest) (now : ℕ) where
           fits = removed_fits setup (part_of setup digest) before after s digest refl loses stand.sprig_stands.fits;
           times = subst (AllByRecursion (λ e. 1 ≤ e.stamp.lut)) (sym loses.entries) (each_without (λ e. 1 ≤ e.stamp.lut) digest before.entries stand.sprig_stands.times);
         };
-        shelf_stands = record { stands = goes.stands; queue = removed_queue low };
+        shelf_stands = record { stands = goes.stands; queue = goes.queued stand.shelf_stands.queue };
       })

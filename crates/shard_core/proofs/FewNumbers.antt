@@ -1,5 +1,5 @@
 -- Each of a shard's numbers is small: a device has at most 65,536 blocks, and at most 2^32 places.
-use Rattle.std.proofs.Common.{◌≡◌, ℕ, ◌<◌, ◌≤◌, List, length, map, nat_eq, sym, ◌∙◌, ap, subst, arith}
+use Rattle.std.proofs.Common.{◌≡◌, ℕ, ◌<◌, ◌≤◌, ◌^◌, List, length, map, nat_eq, sym, ◌∙◌, ap, subst, arith}
 use Rattle.std.proofs.lemmas.Bool.{eqb-true}
 use Rattle.std.proofs.lemmas.List.{length-map}
 use Rattle.std.proofs.lemmas.Map.Steps.{length-le_from_distinct_below}
@@ -30,14 +30,13 @@ few_held limit holds count below counts =
 
 -- The numbers of a state for which a shard stands are small, where its shelf counts the blocks that are held.
 pub few_counts : {D : Type 0} (view : D → DiskView) (shard : ShardView D) (s : State) → IsShelf view shard.shelf → IsWhole shard → Agrees shard s
-    → (held : ℕ) → CountsHeld shard.shelf.holds.holds held → AreFew (counts_of s)
-few_counts view shard s is whole agrees held counts =
+    → (held : ℕ) → CountsHeld shard.shelf.holds.holds held → (queued : ℕ) → queued ≡ length s.book.queue → queued < 2 ^ 32 → AreFew (counts_of s)
+few_counts view shard s is whole agrees held counts queued all_queued few_queued =
     let stands = agrees.shelf.stands in
     let blocks = shard.shelf.geometry.blocks in
     let free : length s.book.free ≤ blocks = subst (λ (l : List ℕ). length l ≤ blocks) (sym stands.free)
     (few blocks shard.shelf.free (apart_back (map (λ b. b.block) shard.shelf.buffers) shard.shelf.free is.apart) is.free) in
     let pending : length s.book.buffers ≡ length shard.shelf.buffers = ap length stands.buffers ∙ length-map shard.shelf.buffers book_buffer in
-    let queued : length s.book.queue ≡ 0 = ap length agrees.shelf.queue in
     let all_held : held ≡ length (held_blocks s.book.holds) = counted shard.shelf.holds.holds s.book held stands.holds counts in
     record {
       records = omega (arith, few_puts view shard s is whole agrees);
@@ -45,6 +44,6 @@ few_counts view shard s is whole agrees held counts =
       covered = omega (arith, few_covered view shard s is whole agrees);
       free = omega (arith, free, is.geometry.blocks);
       pending = omega (arith, pending, few_buffers view shard.shelf is);
-      queued = omega (arith, queued);
+      queued = omega (arith, all_queued, few_queued);
       held = omega (arith, all_held, few_held blocks shard.shelf.holds.holds held is.held counts, is.geometry.blocks);
     }

@@ -1,48 +1,34 @@
--- A flush of all sealed buffers, one after another: what each step adds, and how it ends.
-use Rattle.std.proofs.Common.{inl, inr, ◌≡◌, ℕ, ◌+◌, ◌<◌, ◌≤◌, true, false, List, [], ◌∷◌, ◌++◌, map, length, refl, sym, ◌∙◌, ap, subst, arith, append_assoc}
+-- A flush of the sealed buffers up to a number, one after another: what each step adds, and how it ends.
+use Rattle.std.proofs.Common.{inl, inr, ◌≡◌, ◌≢◌, ℕ, ◌+◌, ◌<◌, ◌≤◌, ◌^◌, true, false, List, [], ◌∷◌, ◌++◌, map, length, refl, sym, ◌∙◌, ap, subst, arith, append_assoc}
 use Rattle.std.specs.Prelude.{◌⊎◌, Option, Some, None, Result, Ok, Err, IfOk, OnErr, MatchOption}
 use Rattle.std.specs.List.{AllByRecursion}
 use Rattle.std.proofs.lemmas.Bool.{false≢true}
-use Rattle.std.proofs.lemmas.List.{append-nil}
+use Rattle.std.proofs.lemmas.List.{append-nil, length-append}
 use Rattle.std.specs.Result.{IsErr}
 use Rattle.fault_count.specs.Counts.{Rose}
-use Rattle.device_model.specs.Book as book
 use Rattle.device_model.specs.Book.{Setup, Buffer}
 use Rattle.device_model.specs.Device.{State}
 use Rattle.device_model.specs.Steps.{Step, after_steps}
-use Rattle.device_model.specs.Legal.{flush_all, flush_first, flush_count, StopsIn}
+use Rattle.device_model.specs.Legal.{first_sealed, flush_all, flush_between, flush_first, flush_count, StopsIn}
 use Rattle.disk_model.specs.Disk.{DiskView, IsHonest}
 use Rattle.recovery.specs.Sound.{IsShapeOf}
 use Rattle.recovery.proofs.Each.{all_map}
-use Rattle.write_buffer.specs.declared.phase.Phase.{Phase}
-use Rattle.write_buffer.specs.declared.phase.Phase.TheVariants.{Filling, Sealed, BodyDone, GateBegun}
-use Rattle.write_buffer.specs.Buffers.{BufferState}
+use Rattle.block_format.specs.declared.geometry.Gate.TheVariants.{Unsure}
+use Rattle.write_buffer.specs.declared.phase.Phase.TheVariants.{GateBegun}
+use Rattle.write_buffer.specs.Buffers.{BufferState, with_phase}
 use Rattle.block_shelf.specs.declared.place.ShelfLimits.{ShelfLimits}
-use Rattle.block_shelf.specs.View.{ShelfView, IsShelf, IsBufferOf, StandInOrder, IsSetupOf, SameShape, is_unsealed}
-use Rattle.block_shelf.specs.Standing.{StandsFor, book_phase, book_buffer}
-use Rattle.block_shelf.specs.Flushes.{FirstLeaves, FlushMakes}
+use Rattle.block_shelf.specs.View.{ShelfView, IsShelf, IsBufferOf, IsSetupOf, SameShape, is_unsealed, is_written}
+use Rattle.block_shelf.specs.Standing.{StandsFor, book_buffer}
+use Rattle.block_shelf.specs.Flushes.{FirstSealed, FirstLeaves, FirstStays, FlushMakes, with_disk, with_opening}
 use Rattle.block_shelf.specs.Calls.{Goes}
+use Rattle.block_shelf.proofs.Between.{all_without, all_instead}
 use Rattle.block_shelf.proofs.Blocks.{at_most}
+use Rattle.block_shelf.proofs.Going.{after_joined, goes_then}
 use Rattle.shard_core.specs.Calls.{FlushesAll}
-use Rattle.shard_core.proofs.Going.{after_both, goes_then}
-use Rattle.shard_core.proofs.FlushSteps.{StandRight, flush_all_first, flush_none, flush_is_one, count_both, stops_in_front, stops_behind}
+use Rattle.shard_core.specs.Writing.{EndsRight}
+use Rattle.shard_core.proofs.FlushSteps.{up_to, flushes, all_up_to, none_up_to, first_then, last_then, last_left, comes_to, still_most, still_ends, flush_is_one, count_both, stops_in_front, stops_behind}
 
--- ---- the order of the buffers
-
-phase_same : (p : Phase) → book.is_filling (book_phase p) ≡ is_unsealed p
-phase_same Filling = refl
-phase_same Sealed = refl
-phase_same BodyDone = refl
-phase_same GateBegun = refl
-
-pub stand_right : (bs : List BufferState) → StandInOrder bs → StandRight (map book_buffer bs)
-stand_right [] order = tt
-stand_right (b ∷ bs) order = (each bs order.0, stand_right bs order.1)
-  where
-    each : (cs : List BufferState) → AllByRecursion (λ c. (b.number < c.number) × (is_unsealed b.phase ≡ false)) cs
-        → AllByRecursion (λ c. (b.number < c.number) × (book.is_filling (book_phase b.phase) ≡ false)) (map book_buffer cs)
-    each [] all = tt
-    each (c ∷ cs) all = ((all.0.0, phase_same b.phase ∙ all.0.1), each cs all.1)
+-- ---- how many there are
 
 -- as many buffers as blocks at most
 pub few_buffers : {D : Type 0} (view : D → DiskView) (shelf : ShelfView D) → IsShelf view shelf → length shelf.buffers ≤ 65536
@@ -70,10 +56,10 @@ module _ {D : Type 0} (view : D → DiskView) where
   abbrev Going : Setup → List Step → ShelfView D → State → ShelfView D → Type 0
   Going setup steps old s new = Goes view setup steps old s new
 
-  -- so many buffers were flushed, and the rest is still to be
-  pub record Went (setup : Setup) (count : ℕ) (old : ShelfView D) (s : State) (new : ShelfView D) : Type 0 where
+  -- so many buffers were flushed, and the rest of those up to a number is still to be
+  pub record Went (setup : Setup) (last count : ℕ) (old : ShelfView D) (s : State) (new : ShelfView D) : Type 0 where
     pub steps : List Step
-    pub left : flush_all s.book ≡ steps ++ flush_all (after_steps setup steps s).book
+    pub left : flush_between 0 last s.book ≡ steps ++ flush_between 0 last (after_steps setup steps s).book
     pub counted : count ≡ flush_count steps
     pub goes : Going setup steps old s new
 
@@ -81,58 +67,146 @@ module _ {D : Type 0} (view : D → DiskView) where
   abbrev pub Stepped : {E : Type 0} → Result (Option ℕ) E → (old new : ShelfView D) → Type 0
   Stepped result old new = (setup : Setup) (s : State) → IsSetupOf setup old → StandsFor setup old s → (steps : List Step) × FlushMakes result (flush_first s.book) steps × Going setup steps old s new
 
-  module _ (setup : Setup) (count : ℕ) (old mid new : ShelfView D) (s : State) (is : IsSetupOf setup mid) (went : Went setup count old s mid) (kept : IsShelf view mid)
+  module _ (setup : Setup) (last count : ℕ) (old mid new : ShelfView D) (s : State) (is : IsSetupOf setup mid) (went : Went setup last count old s mid) (kept : IsShelf view mid)
       (honest : IsHonest (view old.disk) → IsHonest (view mid.disk)) where
     abbrev t : State
     t = after_steps setup went.steps s
 
-    right : StandRight t.book.buffers
-    right = subst StandRight (sym went.goes.stands.buffers) (stand_right mid.buffers kept.order)
+    -- the state's steps are those of the shelf's buffers
+    of_shelf : (shelf : ShelfView D) (u : State) → StandsFor setup shelf u → flush_between 0 last u.book ≡ flushes last shelf.buffers
+    of_shelf shelf u stands = ap (up_to last) stands.buffers
 
-    first_of : flush_all t.book ≡ flush_first t.book ++ flush_all (after_steps setup (flush_first t.book) t).book
-    first_of = flush_all_first setup t right
+    first_of : (first : FirstSealed mid.buffers) → first.buffer.number ≤ last → flush_between 0 last t.book ≡ flush_first t.book ++ flushes last (first.front ++ first.behind)
+    first_of first le =
+        of_shelf mid t went.goes.stands ∙ first_then mid.buffers kept.order first last le
+        ∙ ap (λ (l : List Buffer). first_sealed l ++ flushes last (first.front ++ first.behind)) (sym went.goes.stands.buffers)
 
-    pub went_on : (E : Type 0) (n : ℕ) → Stepped {E = E} (Ok (Some n)) mid new → Went setup (count + 1) old s new
-    went_on E n stepped =
-        let one = stepped setup t is went.goes.stands in
-        let law : flush_all t.book ≡ one.0 ++ flush_all (after_steps setup one.0 t).book = subst (λ (x : List Step). flush_all t.book ≡ x ++ flush_all (after_steps setup x t).book) (sym one.1.0) first_of in
-        let single : flush_count one.0 ≡ 1 = ap flush_count one.1.0 ∙ flush_is_one t one.1.1 n one.1.2 in
-        record {
-          steps = went.steps ++ one.0;
-          left = went.left ∙ ap (λ (x : List Step). went.steps ++ x) law ∙ sym (append_assoc went.steps one.0 (flush_all (after_steps setup one.0 t).book))
-              ∙ ap (λ (x : State). (went.steps ++ one.0) ++ flush_all x.book) (sym (after_both setup went.steps one.0 s));
-          counted = let both : flush_count (went.steps ++ one.0) ≡ flush_count went.steps + flush_count one.0 = count_both went.steps one.0 in omega (arith, both, single, went.counted);
-          goes = goes_then view setup went.steps one.0 old mid new s honest went.goes one.2;
-        }
+    module _ (E : Type 0) (n : ℕ) (stepped : Stepped {E = E} (Ok (Some n)) mid new) (leaves : FirstLeaves n mid new) (ends : EndsRight last mid.buffers) where
+      pub went_on : Went setup last (count + 1) old s new
+      went_on =
+          let one = stepped setup t is went.goes.stands in
+          let behind : flushes last (leaves.first.front ++ leaves.first.behind) ≡ flush_between 0 last (after_steps setup one.0 t).book =
+          ap (flushes last) (sym leaves.left) ∙ sym (of_shelf new (after_steps setup one.0 t) one.2.stands) in
+          let law : flush_between 0 last t.book ≡ one.0 ++ flush_between 0 last (after_steps setup one.0 t).book =
+          first_of leaves.first (comes_to mid.buffers kept.order leaves.first last ends) ∙ ap (λ (x : List Step). x ++ flushes last (leaves.first.front ++ leaves.first.behind)) (sym one.1.0)
+          ∙ ap (λ (x : List Step). one.0 ++ x) behind in
+          let single : flush_count one.0 ≡ 1 = ap flush_count one.1.0 ∙ flush_is_one t one.1.1 n one.1.2 in
+          record {
+            steps = went.steps ++ one.0;
+            left = went.left ∙ ap (λ (x : List Step). went.steps ++ x) law ∙ sym (append_assoc went.steps one.0 (flush_between 0 last (after_steps setup one.0 t).book))
+                ∙ ap (λ (x : State). (went.steps ++ one.0) ++ flush_between 0 last x.book) (sym (after_joined setup went.steps one.0 s));
+            counted = let both : flush_count (went.steps ++ one.0) ≡ flush_count went.steps + flush_count one.0 = count_both went.steps one.0 in omega (arith, both, single, went.counted);
+            goes = goes_then view setup went.steps one.0 old mid new s honest went.goes one.2;
+          }
 
     abbrev Ends : {E : Type 0} → Result ℕ E → Type 0
-    Ends result = (steps : List Step) × FlushesAll result (flush_all s.book) steps × Going setup steps old s new
+    Ends result = (steps : List Step) × FlushesAll result (flush_between 0 last s.book) steps × Going setup steps old s new
 
-    pub went_all : (E : Type 0) → Stepped {E = E} (Ok None) mid new → Ends {E = E} (Ok count)
-    went_all E stepped =
+    -- where no buffer is sealed it ends
+    pub went_all : (E : Type 0) → Stepped {E = E} (Ok None) mid new → AllByRecursion (λ b. is_unsealed b.phase ≡ true) mid.buffers → Ends {E = E} (Ok count)
+    went_all E stepped none =
         let one = stepped setup t is went.goes.stands in
-        let whole : went.steps ++ one.0 ≡ flush_all s.book = ap (λ (x : List Step). went.steps ++ x) (one.1.1 ∙ sym (flush_none t one.1.0)) ∙ sym went.left in
-        let same : went.steps ≡ flush_all s.book = sym (append-nil went.steps) ∙ ap (λ (x : List Step). went.steps ++ x) (sym one.1.1) ∙ whole in
+        let same : went.steps ≡ flush_between 0 last s.book =
+        sym (append-nil went.steps) ∙ ap (λ (x : List Step). went.steps ++ x) (sym (of_shelf mid t went.goes.stands ∙ none_up_to last mid.buffers none)) ∙ sym went.left in
+        let whole : went.steps ++ one.0 ≡ flush_between 0 last s.book = ap (λ (x : List Step). went.steps ++ x) one.1.1 ∙ append-nil went.steps ∙ same in
         (went.steps ++ one.0, (whole, went.counted ∙ ap flush_count same), goes_then view setup went.steps one.0 old mid new s honest went.goes one.2)
 
-    pub went_stopped : {E : Type 0} (e : E) → Stepped (Err e) mid new → Ends (Err e)
-    went_stopped e stepped =
+    pub went_stopped : {E : Type 0} (e : E) → Stepped (Err e) mid new → FirstStays mid new → EndsRight last mid.buffers → Ends (Err e)
+    went_stopped e stepped stays ends =
         let one = stepped setup t is went.goes.stands in
-        let here : StopsIn (flush_all t.book) one.0 = subst (λ (x : List Step). StopsIn x one.0) (sym first_of) (stops_in_front (flush_first t.book) one.0 (flush_all (after_steps setup (flush_first t.book) t).book) one.1) in
-        (went.steps ++ one.0, subst (λ (x : List Step). StopsIn x (went.steps ++ one.0)) (sym went.left) (stops_behind went.steps (flush_all t.book) one.0 here), goes_then view setup went.steps one.0 old mid new s honest went.goes one.2)
+        let rest : List Step = flushes last (stays.first.front ++ stays.first.behind) in
+        let here : StopsIn (flush_between 0 last t.book) one.0 =
+        subst (λ (x : List Step). StopsIn x one.0) (sym (first_of stays.first (comes_to mid.buffers kept.order stays.first last ends))) (stops_in_front (flush_first t.book) one.0 rest one.1) in
+        (went.steps ++ one.0, subst (λ (x : List Step). StopsIn x (went.steps ++ one.0)) (sym went.left) (stops_behind went.steps (flush_between 0 last t.book) one.0 here), goes_then view setup went.steps one.0 old mid new s honest went.goes one.2)
 
--- ---- no buffer takes records
+  -- behind the buffer of the last number it ends
+  pub went_through : (setup : Setup) (last count n : ℕ) (E : Type 0) (old mid new : ShelfView D) (s : State) → IsShelf view mid → FirstLeaves n mid new → last ≤ n → Went setup last count old s new
+      → (steps : List Step) × FlushesAll {E = E} (Ok count) (flush_between 0 last s.book) steps × Going setup steps old s new
+  went_through setup last count n E old mid new s kept leaves le went =
+      let none : flush_between 0 last (after_steps setup went.steps s).book ≡ [] =
+      ap (up_to last) went.goes.stands.buffers ∙ ap (flushes last) leaves.left ∙ last_then mid.buffers kept.order leaves.first last (subst (λ (k : ℕ). last ≤ k) (sym leaves.own) le) in
+      let same : went.steps ≡ flush_between 0 last s.book = sym (append-nil went.steps) ∙ ap (λ (x : List Step). went.steps ++ x) (sym none) ∙ sym went.left in
+      (went.steps, (same, went.counted ∙ ap flush_count same), went.goes)
+
+-- ---- all of them
+
+-- no buffer has a greater number than these
+pub numbers_most : {D : Type 0} (view : D → DiskView) (shelf : ShelfView D) → IsShelf view shelf → AllByRecursion (λ b. b.number ≤ 2 ^ 62) shelf.buffers
+numbers_most view shelf kept = all_map (IsBufferOf shelf.geometry shelf.next_number) (λ b. b.number ≤ 2 ^ 62) shelf.buffers (λ b of. below b.number of.number) kept.buffers
+  where
+    below : (n : ℕ) → n < shelf.next_number → n ≤ 2 ^ 62
+    below n lt = omega (arith, lt, kept.number.1)
+
+pub flush_is_all : {D : Type 0} (setup : Setup) (last : ℕ) (shelf : ShelfView D) (s : State) → StandsFor setup shelf s → AllByRecursion (λ b. b.number ≤ last) shelf.buffers → flush_between 0 last s.book ≡ flush_all s.book
+flush_is_all setup last shelf s stands most = all_up_to last s.book.buffers (subst (AllByRecursion (λ b. b.number ≤ last)) (sym stands.buffers) (mapped shelf.buffers most))
+  where
+    mapped : (bs : List BufferState) → AllByRecursion (λ b. b.number ≤ last) bs → AllByRecursion (λ b. b.number ≤ last) (map book_buffer bs)
+    mapped [] all = tt
+    mapped (b ∷ bs) all = (all.0, mapped bs all.1)
+
+-- ---- which buffers are left
+
+some_between : {X : Type 0} (front : List X) (x : X) (behind : List X) → front ++ x ∷ behind ≡ [] → ⊥
+some_between [] x behind is = absurd (cc)
+some_between (y ∷ front) x behind is = absurd (cc)
 
 pub record FillsNone {D : Type 0} (shelf : ShelfView D) : Type 0 where
   pub none_filling : AllByRecursion (λ b. is_unsealed b.phase ≡ false) shelf.buffers
 
 pub quiet_on : {D : Type 0} (number : ℕ) (old new : ShelfView D) → FillsNone old → FirstLeaves number old new → FillsNone new
 quiet_on number old new quiet leaves =
-    let all : AllByRecursion (λ b. is_unsealed b.phase ≡ false) (leaves.first ∷ new.buffers) = subst (AllByRecursion (λ b. is_unsealed b.phase ≡ false)) leaves.parts quiet.none_filling in
-    record { none_filling = all.1 }
+    let first = leaves.first in
+    let all = all_without (λ b. is_unsealed b.phase ≡ false) first.front first.buffer first.behind (subst (AllByRecursion (λ b. is_unsealed b.phase ≡ false)) first.parts quiet.none_filling) in
+    record { none_filling = subst (AllByRecursion (λ b. is_unsealed b.phase ≡ false)) (sym leaves.left) all }
 
 pub one_fewer : {D : Type 0} {number : ℕ} {old new : ShelfView D} → FirstLeaves number old new → length old.buffers ≡ length new.buffers + 1
-one_fewer {new} leaves = let count = ap length leaves.parts in omega (arith, count)
+one_fewer {new} leaves =
+    let first = leaves.first in
+    let before = ap length first.parts ∙ length-append first.front (first.buffer ∷ first.behind) in
+    let after = ap length leaves.left ∙ length-append first.front first.behind in
+    omega (arith, before, after)
+
+-- none has a greater number
+pub record AreUpTo {D : Type 0} (last : ℕ) (shelf : ShelfView D) : Type 0 where
+  pub most : AllByRecursion (λ b. b.number ≤ last) shelf.buffers
+
+-- a flush up to a number ends right
+pub record EndsWith {D : Type 0} (last : ℕ) (shelf : ShelfView D) : Type 0 where
+  pub right : EndsRight last shelf.buffers
+
+module _ {D : Type 0} (view : D → DiskView) (last n : ℕ) (old new : ShelfView D) (kept : IsShelf view old) (leaves : FirstLeaves n old new) where
+  pub most_on : AreUpTo last old → AreUpTo last new
+  most_on up = record { most = subst (AllByRecursion (λ b. b.number ≤ last)) (sym leaves.left) (still_most old.buffers kept.order leaves.first last up.most) }
+
+  pub ends_on : n < last → EndsWith last old → EndsWith last new
+  ends_on lt ends = record { right = subst (EndsRight last) (sym leaves.left) (still_ends old.buffers kept.order leaves.first last (subst (λ (k : ℕ). k < last) (sym leaves.own) lt) ends.right) }
+
+  pub all_gone : last ≤ n → AreUpTo last old → AllByRecursion (λ b. is_unsealed b.phase ≡ true) new.buffers
+  all_gone le up = subst (AllByRecursion (λ b. is_unsealed b.phase ≡ true)) (sym leaves.left) (last_left old.buffers kept.order leaves.first last (subst (λ (k : ℕ). last ≤ k) (sym leaves.own) le) up.most)
+
+-- after a fault the buffer is left, and none takes records that didn't
+pub stays_some : {D : Type 0} (old new : ShelfView D) → FirstStays old new → new.buffers ≢ []
+stays_some {D} old new stays none = by stays.stage
+  where
+    by : ((is_written stays.first.buffer.phase ≡ false) × (new ≡ with_disk new.disk old)) ⊎ (new ≡ with_opening new.disk Unsure old stays.first) → ⊥
+    by (inl same) = some_between stays.first.front stays.first.buffer stays.first.behind (sym stays.first.parts ∙ sym (ap (λ (x : ShelfView D). x.buffers) same.1) ∙ none)
+    by (inr opened) = some_between stays.first.front (with_phase GateBegun stays.first.buffer) stays.first.behind (sym (ap (λ (x : ShelfView D). x.buffers) opened) ∙ none)
+
+pub stays_quiet : {D : Type 0} (old new : ShelfView D) → FirstStays old new → FillsNone old → FillsNone new
+stays_quiet {D} old new stays quiet = by stays.stage
+  where
+    by : ((is_written stays.first.buffer.phase ≡ false) × (new ≡ with_disk new.disk old)) ⊎ (new ≡ with_opening new.disk Unsure old stays.first) → FillsNone new
+    by (inl same) = record { none_filling = subst (AllByRecursion (λ b. is_unsealed b.phase ≡ false)) (sym (ap (λ (x : ShelfView D). x.buffers) same.1)) quiet.none_filling }
+    by (inr opened) =
+        let first = stays.first in
+        let all = all_instead (λ b. is_unsealed b.phase ≡ false) first.front first.buffer (with_phase GateBegun first.buffer) first.behind
+        (subst (AllByRecursion (λ b. is_unsealed b.phase ≡ false)) first.parts quiet.none_filling) refl in
+        record { none_filling = subst (AllByRecursion (λ b. is_unsealed b.phase ≡ false)) (sym (ap (λ (x : ShelfView D). x.buffers) opened)) all }
+
+-- a shelf from which nothing was flushed yet is the first one
+pub whole_still : {D : Type 0} (view : D → DiskView) (old mid : ShelfView D) → (mid ≡ old) ⊎ IsShelf view old → IsShelf view mid → IsShelf view old
+whole_still view old mid (inl same) kept = subst (IsShelf view) same kept
+whole_still view old mid (inr kept) now = kept
 
 -- where every buffer takes records and none does, there is none
 pub none_left : (bs : List BufferState) → AllByRecursion (λ b. is_unsealed b.phase ≡ true) bs → AllByRecursion (λ b. is_unsealed b.phase ≡ false) bs → bs ≡ []

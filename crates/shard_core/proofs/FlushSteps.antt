@@ -1,100 +1,152 @@
--- The steps of a flush of all sealed buffers, buffer by buffer.
-use Rattle.std.proofs.Common.{◌≡◌, ℕ, ◌+◌, ◌<◌, Bool, true, false, not, cond, List, [], ◌∷◌, ◌++◌, map, refl, sym, ◌∙◌, ap, subst, arith, append_assoc}
-use Rattle.std.specs.Prelude.{◌==◌, filter, flat_map}
+-- The steps of a flush of the sealed buffers up to a number, buffer by buffer.
+use Rattle.std.proofs.Common.{◌≡◌, inl, inr, ℕ, ◌+◌, ◌<◌, ◌≤◌, Bool, true, false, ◌&&◌, cond, List, [], ◌∷◌, ◌++◌, map, refl, sym, ◌∙◌, ap, subst, arith, append_assoc}
+use Rattle.std.specs.Prelude.{◌⊎◌, nat_le, filter, flat_map, Contains}
 use Rattle.std.specs.List.{AllByRecursion}
-use Rattle.std.proofs.lemmas.Bool.{false≢true, eq-eqb, ne_eqb}
+use Rattle.std.proofs.lemmas.Bool.{false≢true, cond-true, cond-false, and_from, and_right, le-leb, lt-leb}
+use Rattle.std.proofs.lemmas.List.Elements.{Contains-append_cases}
 use Rattle.std.proofs.lemmas.List.Sums.{sum_by-append}
-use Rattle.device_model.specs.Book.{Setup, Buffer, Phase, Stream, filling, sealed, opening, is_filling, opened_if, with_flushed, refreshed}
+use Rattle.device_model.specs.Book.{Buffer, Phase, Stream, filling, sealed, opening, is_filling}
 use Rattle.device_model.specs.Device.{State}
-use Rattle.device_model.specs.Steps.{Step, flushed_buffer, after_step, after_steps}
-use Rattle.device_model.specs.Legal.{flush_of, flush_all, first_sealed, flush_first, is_flush, flush_count, StopsIn}
-
--- in rising number, and none but the last takes records
-abbrev pub StandRight : List Buffer → Type 0
-StandRight [] = Unit {0}
-StandRight (b ∷ bs) = AllByRecursion (λ c. (b.number < c.number) × (is_filling b.phase ≡ false)) bs × StandRight bs
+use Rattle.device_model.specs.Steps.{Step, flushed_buffer}
+use Rattle.device_model.specs.Legal.{flush_of, first_sealed, flush_first, is_flush, flush_count, StopsIn}
+use Rattle.recovery.proofs.Each.{all_map}
+use Rattle.recovery.proofs.Growing.{all_at}
+use Rattle.recovery.proofs.Opening.{all_joined, all_parted}
+use Rattle.write_buffer.specs.declared.phase.Phase as write_phase
+use Rattle.write_buffer.specs.declared.phase.Phase.TheVariants.{Filling, Sealed, BodyDone, GateBegun}
+use Rattle.write_buffer.specs.Buffers.{BufferState}
+use Rattle.block_shelf.specs.View.{StandInOrder, is_unsealed}
+use Rattle.block_shelf.specs.Standing.{book_buffer, book_phase}
+use Rattle.block_shelf.specs.Flushes.{FirstSealed}
+use Rattle.block_shelf.proofs.Between.{all_own, all_without, other_there}
+use Rattle.block_shelf.proofs.Filling.{phase_fills}
+use Rattle.shard_core.specs.Writing.{EndsRight}
 
 -- ---- one buffer
 
-abbrev opened : ℕ → List Buffer → List Buffer
-opened n bs = map (λ b. opened_if (b.number == n) b) bs
-
-abbrev others : ℕ → List Buffer → List Buffer
-others n bs = filter (λ b. not (b.number == n)) bs
-
-apart : (n m : ℕ) → n < m → (m == n) ≡ false
-apart n m lt = ne_eqb m n (λ e. clash (subst (λ (k : ℕ). n < k) e lt))
+-- one that takes records isn't flushed
+no_flush : (b : BufferState) → is_unsealed b.phase ≡ true → flush_of (book_buffer b) ≡ []
+no_flush b fills = by b.phase fills
   where
-    clash : n < n → ⊥
-    clash h = omega arith
+    by : (q : write_phase.Phase) → is_unsealed q ≡ true → flush_of (record (book_buffer b) { phase = book_phase q }) ≡ []
+    by Filling is = refl
+    by Sealed is = absurd (false≢true is)
+    by BodyDone is = absurd (false≢true is)
+    by GateBegun is = absurd (false≢true is)
 
--- buffers of greater numbers stay
-others_stay : (n : ℕ) (bs : List Buffer) → AllByRecursion (λ c. n < c.number) bs → others n bs ≡ bs
-others_stay n [] above = refl
-others_stay n (b ∷ bs) above = rw (apart n b.number above.0) (ap (λ l. b ∷ l) (others_stay n bs above.1))
+-- the steps of those up to a number
+abbrev pub up_to : (last : ℕ) → List Buffer → List Step
+up_to last bs = flat_map flush_of (filter (λ b. nat_le 0 b.number && nat_le b.number last) bs)
 
-opened_stay : (n : ℕ) (bs : List Buffer) → AllByRecursion (λ c. n < c.number) bs → opened n bs ≡ bs
-opened_stay n [] above = refl
-opened_stay n (b ∷ bs) above = rw (apart n b.number above.0) (ap (λ l. b ∷ l) (opened_stay n bs above.1))
+chosen : (last n : ℕ) → n ≤ last → (nat_le 0 n && nat_le n last) ≡ true
+chosen last n le = and_from (nat_le 0 n) (nat_le n last) (le-leb 0 n (omega arith)) (le-leb n last le)
 
-same_number : (n : ℕ) → (n == n) ≡ true
-same_number n = eq-eqb n n refl
+-- where none has a greater number these are the steps of all
+pub all_up_to : (last : ℕ) (bs : List Buffer) → AllByRecursion (λ b. b.number ≤ last) bs → up_to last bs ≡ flat_map flush_of bs
+all_up_to last [] all = refl
+all_up_to last (b ∷ bs) all = rw (chosen last b.number all.0) (ap (λ (l : List Step). flush_of b ++ l) (all_up_to last bs all.1))
 
--- a sealed buffer leaves, and those behind it stay
-first_flushed : (setup : Setup) (s : State) (number block : ℕ) (stream : Stream) (used : ℕ) (phase : Phase) (bs : List Buffer)
-    → let b : Buffer = record { number = number; block = block; stream = stream; used = used; phase = phase } in s.book.buffers ≡ b ∷ bs
-    → AllByRecursion (λ c. number < c.number) bs → is_filling phase ≡ false → (after_steps setup (flush_of b) s).book.buffers ≡ bs
-unfolding after_step with_flushed refreshed
-first_flushed setup s number block stream used filling bs is above filled = absurd (false≢true (sym filled))
-first_flushed setup s number block stream used sealed bs is above filled =
-    ap (λ l. others number (opened number l)) is
-    ∙ rw (same_number number, same_number number) (ap (others number) (opened_stay number bs above) ∙ others_stay number bs above)
-first_flushed setup s number block stream used opening bs is above filled =
-    ap (others number) is ∙ rw (same_number number) (others_stay number bs above)
+module _ (last : ℕ) where
+  abbrev pub flushes : List BufferState → List Step
+  flushes bs = up_to last (map book_buffer bs)
 
--- ---- all buffers
+  skipped : (b : BufferState) (bs : List BufferState) → is_unsealed b.phase ≡ true → flushes (b ∷ bs) ≡ flushes bs
+  skipped b bs fills = by (nat_le 0 b.number && nat_le b.number last)
+    where
+      rest : List Buffer
+      rest = filter (λ b. nat_le 0 b.number && nat_le b.number last) (map book_buffer bs)
 
-abbrev whole_of : List Buffer → List Step
-whole_of bs = flat_map flush_of bs
+      by : (c : Bool) → flat_map flush_of (cond c (book_buffer b ∷ rest) rest) ≡ flat_map flush_of rest
+      by true = ap (λ (l : List Step). l ++ flat_map flush_of rest) (no_flush b fills)
+      by false = refl
 
-all_numbers : (n : ℕ) (P : Type 0) (bs : List Buffer) → AllByRecursion (λ c. (n < c.number) × P) bs → AllByRecursion (λ c. n < c.number) bs
-all_numbers n P [] all = tt
-all_numbers n P (b ∷ bs) all = (all.0.0, all_numbers n P bs all.1)
+  front_skipped : (front bs : List BufferState) → AllByRecursion (λ b. is_unsealed b.phase ≡ true) front → flushes (front ++ bs) ≡ flushes bs
+  front_skipped [] bs all = refl
+  front_skipped (b ∷ front) bs all = skipped b (front ++ bs) all.0 ∙ front_skipped front bs all.1
 
--- the first sealed buffer and then the others
-first_then : (setup : Setup) (s : State) (bs : List Buffer) → s.book.buffers ≡ bs → StandRight bs → whole_of bs ≡ first_sealed bs ++ whole_of (after_steps setup (first_sealed bs) s).book.buffers
-first_then setup s [] is right = sym (ap whole_of is)
-first_then setup s (b ∷ bs) is right = by (is_filling b.phase) refl
-  where
-    by : (c : Bool) → is_filling b.phase ≡ c → flush_of b ++ whole_of bs ≡ cond c (first_sealed bs) (flush_of b) ++ whole_of (after_steps setup (cond c (first_sealed bs) (flush_of b)) s).book.buffers
-    by false not_filling =
-        ap (λ l. flush_of b ++ whole_of l) (sym (first_flushed setup s b.number b.block b.stream b.used b.phase bs is (all_numbers b.number (is_filling b.phase ≡ false) bs right.0) not_filling))
-    by true fills = alone bs is right.0
-      where
-        alone : (cs : List Buffer) → s.book.buffers ≡ b ∷ cs → AllByRecursion (λ c. (b.number < c.number) × (is_filling b.phase ≡ false)) cs
-            → flush_of b ++ whole_of cs ≡ first_sealed cs ++ whole_of (after_steps setup (first_sealed cs) s).book.buffers
-        alone [] same all = sym (ap whole_of same)
-        alone (c ∷ cs) same all = absurd (false≢true (sym all.0.1 ∙ fills))
+  taken : (b : BufferState) (bs : List BufferState) → b.number ≤ last → flushes (b ∷ bs) ≡ flush_of (book_buffer b) ++ flushes bs
+  taken b bs le = rw (chosen last b.number le) refl
 
-pub flush_all_first : (setup : Setup) (s : State) → StandRight s.book.buffers → flush_all s.book ≡ flush_first s.book ++ flush_all (after_steps setup (flush_first s.book) s).book
-flush_all_first setup s right = first_then setup s s.book.buffers refl right
+  none_above : (bs : List BufferState) → AllByRecursion (λ b. last < b.number) bs → flushes bs ≡ []
+  none_above [] all = refl
+  none_above (b ∷ bs) all = rw (and_right (nat_le 0 b.number) (nat_le b.number last) (lt-leb b.number last all.0)) (none_above bs all.1)
 
--- where none is sealed there is nothing to flush
-none_of : (number block : ℕ) (stream : Stream) (used : ℕ) (phase : Phase) (bs : List Buffer)
-    → let b : Buffer = record { number = number; block = block; stream = stream; used = used; phase = phase } in
-    first_sealed (b ∷ bs) ≡ [] → (flush_of b ≡ []) × (first_sealed bs ≡ [])
-none_of number block stream used filling bs none = (refl, none)
-none_of number block stream used sealed bs none = absurd (cc)
-none_of number block stream used opening bs none = absurd (cc)
+  -- where all take records there is nothing to flush
+  pub none_up_to : (bs : List BufferState) → AllByRecursion (λ b. is_unsealed b.phase ≡ true) bs → flushes bs ≡ []
+  none_up_to [] all = refl
+  none_up_to (b ∷ bs) all = skipped b bs all.0 ∙ none_up_to bs all.1
 
-none_sealed : (bs : List Buffer) → first_sealed bs ≡ [] → whole_of bs ≡ []
-none_sealed [] none = refl
-none_sealed (b ∷ bs) none =
-    let parts = none_of b.number b.block b.stream b.used b.phase bs none in
-    ap (λ l. l ++ whole_of bs) parts.0 ∙ none_sealed bs parts.1
+-- ---- the first sealed one
 
-pub flush_none : (s : State) → flush_first s.book ≡ [] → flush_all s.book ≡ []
-flush_none s none = none_sealed s.book.buffers none
+front_passed : (front : List BufferState) (bs : List BufferState) → AllByRecursion (λ b. is_unsealed b.phase ≡ true) front → first_sealed (map book_buffer (front ++ bs)) ≡ first_sealed (map book_buffer bs)
+front_passed [] bs all = refl
+front_passed (b ∷ front) bs all =
+    cond-true (is_filling (book_phase b.phase)) (first_sealed (map book_buffer (front ++ bs))) (flush_of (book_buffer b)) (phase_fills b.phase ∙ all.0) ∙ front_passed front bs all.1
+
+-- those behind it have greater numbers
+behind_above : (front : List BufferState) (b : BufferState) (behind : List BufferState) → StandInOrder (front ++ b ∷ behind) → AllByRecursion (λ c. b.number < c.number) behind
+behind_above [] b behind order = all_map _ (λ c. b.number < c.number) behind (λ c before. before.below) order.0
+behind_above (x ∷ front) b behind order = behind_above front b behind order.1
+
+module _ (buffers : List BufferState) (order : StandInOrder buffers) (first : FirstSealed buffers) where
+  abbrev rest : List BufferState
+  rest = first.front ++ first.behind
+
+  above : AllByRecursion (λ c. first.buffer.number < c.number) first.behind
+  above = behind_above first.front first.buffer first.behind (subst StandInOrder first.parts order)
+
+  first_is : first_sealed (map book_buffer buffers) ≡ flush_of (book_buffer first.buffer)
+  first_is =
+      ap (λ (l : List BufferState). first_sealed (map book_buffer l)) first.parts ∙ front_passed first.front (first.buffer ∷ first.behind) first.filling
+      ∙ cond-false (is_filling (book_phase first.buffer.phase)) (first_sealed (map book_buffer first.behind)) (flush_of (book_buffer first.buffer)) (phase_fills first.buffer.phase ∙ first.sealed)
+
+  -- it is flushed, and then the others
+  pub first_then : (last : ℕ) → first.buffer.number ≤ last → flushes last buffers ≡ first_sealed (map book_buffer buffers) ++ flushes last rest
+  first_then last le =
+      ap (flushes last) first.parts ∙ front_skipped last first.front (first.buffer ∷ first.behind) first.filling ∙ taken last first.buffer first.behind le
+      ∙ ap (λ (l : List Step). l ++ flushes last first.behind) (sym first_is) ∙ ap (λ (l : List Step). first_sealed (map book_buffer buffers) ++ l) (sym (front_skipped last first.front first.behind first.filling))
+
+  -- behind the last one nothing is left to flush
+  pub last_then : (last : ℕ) → last ≤ first.buffer.number → flushes last rest ≡ []
+  last_then last le =
+      front_skipped last first.front first.behind first.filling
+      ∙ none_above last first.behind (all_map (λ c. first.buffer.number < c.number) (λ c. last < c.number) first.behind (λ c lt. omega (arith, le, lt)) above)
+
+  -- and where none has a greater number only those that take records are left
+  pub last_left : (last : ℕ) → last ≤ first.buffer.number → AllByRecursion (λ b. b.number ≤ last) buffers → AllByRecursion (λ b. is_unsealed b.phase ≡ true) rest
+  last_left last le most = all_joined (λ b. is_unsealed b.phase ≡ true) first.front first.behind first.filling (none first.behind above (all_parted (λ b. b.number ≤ last) first.front (first.buffer ∷ first.behind) (subst (AllByRecursion (λ b. b.number ≤ last)) first.parts most)).1.1)
+    where
+      none : (bs : List BufferState) → AllByRecursion (λ c. first.buffer.number < c.number) bs → AllByRecursion (λ b. b.number ≤ last) bs → AllByRecursion (λ b. is_unsealed b.phase ≡ true) bs
+      none [] all_above all = tt
+      none (b ∷ bs) all_above all = absurd (omega (arith, le, all_above.0, all.0))
+
+  -- no sealed one has a lower number
+  lowest : (x : BufferState) → Contains buffers x → is_unsealed x.phase ≡ false → first.buffer.number ≤ x.number
+  lowest x there shut = in_parts (other_there first.front first.buffer first.behind x (subst (λ (l : List BufferState). Contains l x) first.parts there))
+    where
+      in_parts : (first.buffer ≡ x) ⊎ Contains (first.front ++ first.behind) x → first.buffer.number ≤ x.number
+      in_parts (inl same) = let numbers = ap (λ (b : BufferState). b.number) same in omega (arith, numbers)
+      in_parts (inr other) = among (Contains-append_cases first.front first.behind x other)
+        where
+          among : Contains first.front x ⊎ Contains first.behind x → first.buffer.number ≤ x.number
+          among (inl before) = absurd (false≢true (sym shut ∙ all_at (λ b. is_unsealed b.phase ≡ true) first.front x first.filling before))
+          among (inr after) = let lt = all_at (λ c. first.buffer.number < c.number) first.behind x above after in omega (arith, lt)
+
+  -- a flush that ends right comes to it, and ends right behind it if it isn't the last
+  pub comes_to : (last : ℕ) → EndsRight last buffers → first.buffer.number ≤ last
+  comes_to last (inl most) = all_own (λ b. b.number ≤ last) first.front first.buffer first.behind (subst (AllByRecursion (λ b. b.number ≤ last)) first.parts most)
+  comes_to last (inr (x, there, number, shut)) = let le = lowest x there shut in omega (arith, le, number)
+
+  pub still_most : (last : ℕ) → AllByRecursion (λ b. b.number ≤ last) buffers → AllByRecursion (λ b. b.number ≤ last) rest
+  still_most last most = all_without (λ b. b.number ≤ last) first.front first.buffer first.behind (subst (AllByRecursion (λ b. b.number ≤ last)) first.parts most)
+
+  pub still_ends : (last : ℕ) → first.buffer.number < last → EndsRight last buffers → EndsRight last rest
+  still_ends last lt (inl most) = inl (still_most last most)
+  still_ends last lt (inr (x, there, number, shut)) = by (other_there first.front first.buffer first.behind x (subst (λ (l : List BufferState). Contains l x) first.parts there))
+    where
+      by : (first.buffer ≡ x) ⊎ Contains (first.front ++ first.behind) x → EndsRight last (first.front ++ first.behind)
+      by (inl same) = let numbers = ap (λ (b : BufferState). b.number) same in absurd (omega (arith, numbers, lt, number))
+      by (inr other) = inr (x, other, number, shut)
 
 -- ---- how many
 
@@ -103,9 +155,9 @@ IsOne steps = (front : List Step) (number : ℕ) → steps ≡ front ++ flushed_
 
 one_of : (number block : ℕ) (stream : Stream) (used : ℕ) (phase : Phase) (bs : List Buffer)
     → let b : Buffer = record { number = number; block = block; stream = stream; used = used; phase = phase } in IsOne (first_sealed bs) → IsOne (first_sealed (b ∷ bs))
-one_of number block stream used filling bs rest = rest
-one_of number block stream used sealed bs rest = λ front n is. refl
-one_of number block stream used opening bs rest = λ front n is. refl
+one_of number block stream used filling bs one = one
+one_of number block stream used sealed bs one = λ front n is. refl
+one_of number block stream used opening bs one = λ front n is. refl
 
 first_is_one : (bs : List Buffer) → IsOne (first_sealed bs)
 first_is_one [] = nothing

@@ -39,13 +39,15 @@ use Rattle.block_shelf.specs.Starting.{LiesIn, AreTwo, AreEachTwo, CanBeLive, Ar
 use Rattle.block_shelf.proofs.StartShelf.{filter_alike}
 use Rattle.shard_core.specs.declared.settings.Settings.{Settings}
 use Rattle.shard_core.specs.declared.index.Finding.{Finding}
-use Rattle.shard_core.specs.Sprigs.{place_of, entry_in, held, all_entries, HasTimes}
+use Rattle.shard_core.specs.Sprigs.{entry_in, held, all_entries}
+use Rattle.shard_steps.specs.Sprigs.{place_of, HasTimes}
 use Rattle.shard_core.specs.View.{setup_for}
 use Rattle.cold_scan.specs.Starting.{own_copies}
 use Rattle.shard_core.specs.Starting.{blocks_behind}
 use Rattle.cold_scan.specs.Found.{found_state}
 use Rattle.cold_scan.specs.Found.{LiesBehind}
 use Rattle.shard_core.specs.Finding.{IsFinding, live_places, latest_copies}
+use Rattle.shard_core.proofs.FoundOnce.{found_once}
 use Rattle.shard_core.proofs.FoundEntries.{HaveOwnDigests, each_sprig, each_among, find_there, held_there, own_digests}
 use Rattle.shard_core.proofs.Showing.{sound_own}
 use Rattle.shard_core.proofs.Opened.{opened_apart}
@@ -205,6 +207,7 @@ module _ (g : Geometry) (set : Settings) (gates : List Gate) (bodies : List Body
     pub live_are : AreLive (live_places index) latest
     live_are = record {
       there = λ c there. map_there placed index (entry_for c) (held_there setup c.digest sprigs (entry_for c) (held_is c.digest ∙ ap (option_map entry_for) (cold_named own c there)));
+      once = found_once own;
       only = λ x there.
           let one = map_from placed index x there in
           let copy = all_at IsLatestOne index one.0 all_latest one.1 in

@@ -11,65 +11,38 @@ use Rattle.device_model.specs.Book.{Setup, live_of}
 use Rattle.device_model.specs.Device as device
 use Rattle.device_model.specs.Device.{State}
 use Rattle.device_model.specs.Events.{Event, get_call, found_version}
-use Rattle.device_model.specs.Legal.{Allowed, Reads, ReadInstead, WhereReads}
+use Rattle.device_model.specs.Legal.{Allowed, Reads, WhereReads}
 use Rattle.disk_model.specs.Disk.{DiskView, IsDisk, IsHonest}
 use Rattle.expiry_rule.specs.Seen.{seen_entry, is_live_entry}
-use Rattle.kept_images.proofs.Holding.{fewer_holds}
+use Rattle.write_buffer.specs.declared.stream.Stream.{Stream}
+use Rattle.write_buffer.specs.declared.stream.Stream.TheVariants.{Client, Defrag}
 use Rattle.block_shelf.specs.declared.place.Place.{Place}
 use Rattle.block_shelf.specs.declared.refusals.ReadRefusal.{ReadRefusal}
 use Rattle.block_shelf.specs.declared.refusals.ReadRefusal.TheVariants as read
-use Rattle.block_shelf.specs.View.{ShelfView, records_of, gate_at}
+use Rattle.block_shelf.specs.View.{ShelfView}
 use Rattle.block_shelf.specs.Disks.{OnlyRead}
-use Rattle.block_shelf.specs.Standing.{StandsFor, IsPlaced}
-use Rattle.block_shelf.specs.Calls.{Goes, copy_live}
+use Rattle.block_shelf.specs.Standing.{StandsFor, QueueStands, IsPlaced, IsCopyIn}
+use Rattle.block_shelf.specs.Calls.{copy_live}
 use Rattle.block_shelf.specs.Reads.{HasRead, IsUndamaged}
 use Rattle.rec_format.specs.Entries.{Names}
-use Rattle.shard_core.proofs.Going.{goes_none, safe_survives}
+use Rattle.block_shelf.proofs.Going.{goes_none}
 use Rattle.device_model.specs.Device.{part_of}
 use Rattle.sprig_tree.specs.Entries.{entry_of}
 use Rattle.sprig_tree.specs.State.{SprigState}
-use Rattle.shard_core.specs.Sprigs.{place_of}
-use Rattle.shard_core.specs.Stands.{StandTogether}
-use Rattle.shard_core.specs.Calls.{StepMakes, HasGot, read_answer}
-use Rattle.shard_core.proofs.Making.{makes_by}
-use Rattle.shard_core.proofs.Found.{SeenIs, seen_none, entry_named, live_found}
-
--- ---- a disk that was only read
-
-pub stands_over : {D : Type 0} (setup : Setup) (old : ShelfView D) (disk : D) (s : State) → StandsFor setup old s → StandsFor setup (record old { disk = disk }) s
-stands_over setup old disk s stands = record {
-  buffers = stands.buffers;
-  free = stands.free;
-  next = stands.next;
-  holds = stands.holds;
-  lives = stands.lives;
-  listed = stands.listed;
-  order = stands.order;
-  entries = stands.entries;
-}
-
-module _ {D : Type 0} (view : D → DiskView) where
-  pub goes_read : (setup : Setup) (old new : ShelfView D) (s : State) → new ≡ record old { disk = new.disk } → OnlyRead (view old.disk) (view new.disk) → IsDisk (view new.disk)
-      → StandsFor setup old s → Goes view setup [] old s new
-  goes_read setup old new s same only now stands = subst (λ (v : ShelfView D). Goes view setup [] old s v) (sym same) (record {
-    stands = stands_over setup old new.disk s stands;
-    placed = λ honest placed. record { there = λ d l v is there none c left. placed.there d l v is there none c (within honest c left) };
-    safe = λ honest safe. fewer_holds setup old.geometry s (records_of old.buffers) (gate_at old.gates) (view old.disk).may_leave safe (view new.disk).may_leave (within honest);
-    leaves = λ honest safe. record { time = only.time; each = λ c left. inl (safe_survives setup view old s safe c (only.images honest c left)) };
-  })
-    where
-      -- what may be left at the end might have been left before
-      within : IsHonest (view old.disk) → (c : List ℕ) → (view new.disk).may_leave c → (view old.disk).may_leave c
-      within honest c left = only.images honest c (now.now_since (view old.disk).moment c (only.time.stays (view old.disk).moment only.time.started) left)
+use Rattle.shard_steps.specs.Sprigs.{place_of}
+use Rattle.shard_steps.specs.Standing.{StandTogether}
+use Rattle.shard_core.specs.Calls.{HasGot, read_answer}
+use Rattle.shard_steps.specs.Events.{StepMakes}
+use Rattle.shard_steps.proofs.Making.{makes_by}
+use Rattle.shard_steps.proofs.Reading.{both_named, goes_read, stands_over}
+use Rattle.shard_core.proofs.Found.{SeenIs, seen_none}
+use Rattle.shard_steps.proofs.Found.{entry_named, live_found}
 
 -- ---- what was read
 
 abbrev pub shown : Result Version ReadRefusal → Result (Option Version) ReadRefusal
 shown (Ok v) = Ok (Some v)
 shown (Err refusal) = Err refusal
-
-both_named : (e : Entry) (v w : Version) → Names e v → Names e w → ReadInstead v w
-both_named e v w first then = record { kind = sym then.kind ∙ first.kind; stamp = sym then.stamp ∙ first.stamp; void = sym then.void ∙ first.void; units = sym then.units ∙ first.units }
 
 module _ {D : Type 0} (view : D → DiskView) (setup : Setup) (digest : Digest) (sprig : SprigState) (old new : ShelfView D) (s : State) (now : ℕ) (stand : StandTogether setup (part_of setup digest) sprig old s) where
   abbrev part : ℕ
@@ -111,7 +84,7 @@ module _ {D : Type 0} (view : D → DiskView) (setup : Setup) (digest : Digest) 
           sprig_stands = stand.sprig_stands;
           shelf_stands = record {
             stands = subst (λ (x : ShelfView D). StandsFor setup x s) (sym same) (stands_over setup old new.disk s stand.shelf_stands.stands);
-            queue = stand.shelf_stands.queue;
+            queue = subst (λ (x : ShelfView D). QueueStands setup x s) (sym same) (record { same = stand.shelf_stands.queue.same; all = stand.shelf_stands.queue.all });
           };
         })
 
@@ -144,9 +117,11 @@ pub shown_got : (e : Entry) (bytes : List ℕ) (r : Result Version ReadRefusal) 
 shown_got e bytes (Ok v) is = is
 shown_got e bytes (Err refusal) is = is
 
-pub shown_is : (o : Option Version) (v : Version) (Q : ReadRefusal → Type 0) (r : Result Version ReadRefusal) → o ≡ Some v → MatchResult r (λ w. w ≡ v) Q → MatchResult (shown r) (λ found. found ≡ o) Q
-shown_is o v Q (Ok w) some is = ap Some is ∙ sym some
-shown_is o v Q (Err refusal) some q = q
+-- a client's buffer has what was put
+pub shown_is : (o : Option Version) (v : Version) (stream : Stream) (Q : ReadRefusal → Type 0) (r : Result Version ReadRefusal) → stream ≡ Client → o ≡ Some v → MatchResult r (IsCopyIn stream v) Q → MatchResult (shown r) (λ found. found ≡ o) Q
+shown_is o v Client Q (Ok w) client some is = ap Some is ∙ sym some
+shown_is o v Defrag Q (Ok w) client some is = absurd cc
+shown_is o v stream Q (Err refusal) client some q = q
 
 pub shown_err : (P : Version → Type 0) (Q : ReadRefusal → Type 0) (r : Result Version ReadRefusal) → MatchResult r P Q → IfErr (shown r) Q
 shown_err P Q (Ok v) p = tt

@@ -1,9 +1,9 @@
 pub mod Formats
 pub mod GatesKnown
 pub mod CopyPlaces
-pub mod Going
 pub mod FlushSteps
 pub mod FlushLoop
+pub mod Committing
 pub mod Later
 pub mod Each
 pub mod Making
@@ -17,9 +17,9 @@ pub mod Latest
 pub mod Indexed
 pub mod Scanned
 pub mod Opened
-pub mod Queues
 pub mod Showing
 pub mod FoundEntries
+pub mod FoundOnce
 pub mod FoundCopies
 pub mod Beginning
 pub mod Places
@@ -27,3 +27,10 @@ pub mod Tallies
 pub mod FewNumbers
 pub mod Headers
 pub mod Again
+pub mod Causes
+pub mod Events
+pub mod Emptied
+pub mod Vacating
+pub mod Choosing
+pub mod Choices
+pub mod Tending

@@ -1,114 +1,34 @@
 -- A shelf that goes by an event's steps makes the event.
-use Rattle.std.proofs.Common.{◌≡◌, ℕ, ◌<◌, ◌≤◌, Bool, true, false, ◌&&◌, List, [], ◌∷◌, ◌++◌, length, set, get_or, refl, sym, ◌∙◌, ap, subst, inl, inr}
-use Rattle.std.specs.Prelude.{Some, None, Result, Ok, Err, OnErr, slice_get, is_some, flat_map, nat_le}
+use Rattle.std.proofs.Common.{◌≡◌, ℕ, ◌<◌, ◌≤◌, Bool, true, false, List, ◌++◌, length, set, get_or, refl, sym, ◌∙◌, ap, subst, inl, inr}
+use Rattle.std.specs.Prelude.{Some, None, Result, Ok, Err, OnErr, slice_get}
 use Rattle.std.specs.List.{AllByRecursion}
 use Rattle.fault_count.specs.Counts.{Rose}
-use Rattle.device_model.specs.Book.{Setup, Book, Buffer, Phase, Stream, client, defrag, filling, sealed, opening, filling_buffer, holds_dead, with_flushed, refreshed}
+use Rattle.device_model.specs.Book.{Setup}
 use Rattle.device_model.specs.Device.{State, part_of}
-use Rattle.device_model.specs.Steps.{Step, sealed_stream, gate_begun, flushed_buffer, closing_failed, after_step, after_steps}
+use Rattle.device_model.specs.Steps.{Step, after_steps}
 use Rattle.device_model.specs.Events.{Event, Call, Answer, counted, after_event}
 use Rattle.device_model.specs.Passes.{part_named}
 use Rattle.sprig_tree.specs.State.{SprigState}
-use Rattle.part_laws.specs.Sparing.{is_of_book, AreOfBook}
 use Rattle.part_laws.specs.Parts.{FitsParts, NamesOwn}
-use Rattle.part_laws.proofs.Writing.{book_fits}
 use Rattle.part_laws.proofs.Device.{parts_fit_on, parts_become}
 use Rattle.shard_core.proofs.Each.{all_get, all_set, get_there, set_same}
-use Rattle.shard_core.proofs.Queues.{refreshed_queue}
-use Rattle.device_model.specs.Legal.{Allowed, FlushEnds, flush_of, flush_all, seal_if, seal_all, seal_low}
-use Rattle.disk_model.specs.Disk.{DiskView, IsHonest}
-use Rattle.recovery.proofs.Opening.{all_joined, all_parted}
+use Rattle.device_model.specs.Legal.{Allowed, FlushEnds, flush_all}
+use Rattle.disk_model.specs.Disk.{DiskView}
 use Rattle.block_shelf.specs.View.{IsSetupOf, ShelfView}
-use Rattle.block_shelf.specs.Standing.{StandsFor}
 use Rattle.block_shelf.specs.Calls.{Goes}
 use Rattle.block_format.specs.declared.geometry.Geometry.{Geometry}
 use Rattle.shard_core.specs.declared.settings.Settings.{Settings}
 use Rattle.shard_core.specs.View.{ShardView, IsSettings, SameSetup, limits_of, setup_for, setup_of}
-use Rattle.shard_core.specs.Sprigs.{HasTimes, SameSprig, AreSame, entry_in, held}
+use Rattle.shard_core.specs.Sprigs.{AreSame, entry_in, held}
+use Rattle.shard_steps.specs.Sprigs.{HasTimes, SameSprig}
 use Rattle.sprig_tree.specs.Entries.{entry_of}
 use Rattle.rec_format.specs.declared.version.Digest.{Digest}
-use Rattle.shard_core.specs.Stands.{SprigStands, ShelfStands, StandTogether, ShelfIsSafe, Agrees, IsWhole}
-use Rattle.shard_core.specs.Calls.{MakesEvent, StepMakes, Makes, FlushesAll, flush_answer}
+use Rattle.shard_core.specs.Stands.{Agrees, IsWhole}
+use Rattle.shard_steps.specs.Standing.{ShelfStands, StandTogether}
+use Rattle.shard_core.specs.Calls.{Makes, FlushesAll, flush_answer}
+use Rattle.shard_steps.specs.Events.{StepMakes}
+use Rattle.shard_steps.proofs.Making.{IsFlushing, event_of, makes_by}
 use Rattle.block_shelf.specs.declared.place.ShelfLimits.{ShelfLimits}
-
--- ---- what sealing, closing and flushing leave as it was
-
-abbrev pub IsFlushing : Step → Type 0
-IsFlushing (sealed_stream stream) = Unit {0}
-IsFlushing (gate_begun number) = Unit {0}
-IsFlushing (flushed_buffer number) = Unit {0}
-IsFlushing closing_failed = Unit {0}
-IsFlushing _ = ⊥
-
-abbrev IsQueueFree : State → Type 0
-IsQueueFree s = s.book.queue ≡ []
-
-flushed_queue : (setup : Setup) → setup.lwm ≡ 0 → (number : ℕ) (book : Book) → (with_flushed setup number book).queue ≡ []
-unfolding with_flushed
-flushed_queue setup low number book = refreshed_queue setup low _
-
-step_queues_none : (setup : Setup) → setup.lwm ≡ 0 → (step : Step) (s : State) → IsFlushing step → IsQueueFree s → IsQueueFree (after_step setup step s)
-unfolding after_step with_flushed refreshed
-step_queues_none setup low (sealed_stream stream) s is none = none
-step_queues_none setup low (gate_begun number) s is none = none
-step_queues_none setup low (flushed_buffer number) s is none = flushed_queue setup low number s.book
-step_queues_none setup low closing_failed s is none = none
-step_queues_none setup low step s is none = absurd is
-
-steps_queue_none : (setup : Setup) → setup.lwm ≡ 0 → (steps : List Step) (s : State) → AllByRecursion IsFlushing steps → IsQueueFree s → IsQueueFree (after_steps setup steps s)
-steps_queue_none setup low [] s all none = none
-steps_queue_none setup low (step ∷ steps) s all none = steps_queue_none setup low steps (after_step setup step s) all.1 (step_queues_none setup low step s all.0 none)
-
-flushing_is_of_book : (step : Step) → IsFlushing step → is_of_book step ≡ true
-flushing_is_of_book (sealed_stream stream) is = refl
-flushing_is_of_book (gate_begun number) is = refl
-flushing_is_of_book (flushed_buffer number) is = refl
-flushing_is_of_book closing_failed is = refl
-flushing_is_of_book step is = absurd is
-
-flushing_are_of_book : (steps : List Step) → AllByRecursion IsFlushing steps → AreOfBook steps
-flushing_are_of_book [] all = tt
-flushing_are_of_book (step ∷ steps) all = (flushing_is_of_book step all.0, flushing_are_of_book steps all.1)
-
-seal_is_flushing : (c : Bool) (stream : Stream) → AllByRecursion IsFlushing (seal_if c stream)
-seal_is_flushing true stream = (tt, tt)
-seal_is_flushing false stream = tt
-
-pub seal_all_flushing : (book : Book) → AllByRecursion IsFlushing (seal_all book)
-seal_all_flushing book =
-    all_joined IsFlushing (seal_if (is_some (filling_buffer client book.buffers)) client) (seal_if (is_some (filling_buffer defrag book.buffers)) defrag)
-    (seal_is_flushing (is_some (filling_buffer client book.buffers)) client) (seal_is_flushing (is_some (filling_buffer defrag book.buffers)) defrag)
-
-pub seal_low_flushing : (setup : Setup) (book : Book) → AllByRecursion IsFlushing (seal_low setup book)
-seal_low_flushing setup book =
-    let low : Bool = nat_le (length book.free) 6 in
-    all_joined IsFlushing (seal_if (low && holds_dead book (filling_buffer client book.buffers)) client) (seal_if (low && holds_dead book (filling_buffer defrag book.buffers)) defrag)
-    (seal_is_flushing (low && holds_dead book (filling_buffer client book.buffers)) client) (seal_is_flushing (low && holds_dead book (filling_buffer defrag book.buffers)) defrag)
-
-one_flushing : (number block : ℕ) (stream : Stream) (used : ℕ) (phase : Phase) → AllByRecursion IsFlushing (flush_of (record { number = number; block = block; stream = stream; used = used; phase = phase }))
-one_flushing number block stream used filling = tt
-one_flushing number block stream used sealed = (tt, (tt, tt))
-one_flushing number block stream used opening = (tt, tt)
-
-buffers_flushing : (bs : List Buffer) → AllByRecursion IsFlushing (flat_map flush_of bs)
-buffers_flushing [] = tt
-buffers_flushing (b ∷ bs) = all_joined IsFlushing (flush_of b) (flat_map flush_of bs) (one_flushing b.number b.block b.stream b.used b.phase) (buffers_flushing bs)
-
-pub flushes_flushing : {E : Type 0} (result : Result ℕ E) (book : Book) (steps : List Step) → FlushesAll result (flush_all book) steps → AllByRecursion IsFlushing steps
-flushes_flushing (Ok n) book steps flushes = subst (AllByRecursion IsFlushing) (sym flushes.0) (buffers_flushing book.buffers)
-flushes_flushing (Err e) book steps stops = (all_parted IsFlushing steps (stops.0 ∷ stops.1) (subst (AllByRecursion IsFlushing) stops.2 (buffers_flushing book.buffers))).0
-
--- ---- a sprig and the shelf behind such steps
-
-module _ (setup : Setup) (part : ℕ) (sprig : SprigState) (s : State) (steps : List Step) (all : AllByRecursion IsFlushing steps) where
-  pub sprig_stays : SprigStands setup part sprig s → SprigStands setup part sprig (after_steps setup steps s)
-  sprig_stays stands = record { fits = book_fits setup part sprig s steps (flushing_are_of_book steps all) stands.fits; times = stands.times }
-
-  pub together_on : {D : Type 0} (new : ShelfView D) → setup.lwm ≡ 0 → SprigStands setup part sprig s → s.book.queue ≡ [] → StandsFor setup new (after_steps setup steps s) → StandTogether setup part sprig new (after_steps setup steps s)
-  together_on new low stands none shelf = record {
-    sprig_stands = sprig_stays stands;
-    shelf_stands = record { stands = shelf; queue = steps_queue_none setup low steps s all none };
-  }
 
 -- ---- how a flush ends
 
@@ -131,28 +51,6 @@ setup_is shard whole = setup_fits shard.shelf shard.set whole.limits
 
 pub setup_same : {D : Type 0} (old new : ShardView D) → SameSetup old new → setup_of old ≡ setup_of new
 setup_same old new shape = ap (λ (g : Geometry). setup_for g old.set) (sym shape.geometry) ∙ ap (λ (set : Settings). setup_for new.shelf.geometry set) (sym shape.set)
-
--- ---- the event
-
-module _ {D : Type 0} (view : D → DiskView) (setup : Setup) (old new : ShelfView D) (s : State) (call : Call) (answer : Answer) (steps : List Step) where
-  abbrev pub event_of : Event
-  event_of = record { call = call; answer = answer; steps = steps; faults_before = (view old.disk).faults; faults_after = (view new.disk).faults }
-
-  pub makes_by : (Stands : State → Type 0) → (view old.disk).faults ≤ (view new.disk).faults → Goes view setup steps old s new
-      → Allowed setup false s event_of call → (IsHonest (view old.disk) → ShelfIsSafe view setup old s → Allowed setup true s event_of call)
-      → Stands (after_steps setup steps s) → MakesEvent view setup call answer old s new Stands
-  makes_by Stands up goes allowed allowed_told stands = record {
-    event = event_of;
-    is_call = refl;
-    is_answer = refl;
-    follows = record { begins = refl; counts = up; allowed = allowed };
-    told = λ honest safe. record { begins = refl; counts = up; allowed = allowed_told honest safe };
-    counted = refl;
-    stands = stands;
-    placed = goes.placed;
-    safe = λ honest safe. record { placed = goes.placed honest safe.placed; safe = goes.safe honest safe.safe };
-    leaves = λ honest safe. goes.leaves honest safe.safe;
-  }
 
 -- ---- a shard
 
@@ -218,7 +116,7 @@ module _ {D : Type 0} (view : D → DiskView) (digest : Digest) (old new : Shard
 -- ---- a flush
 
 -- What sealing and flushing make of a shard, with an event that ends so, and names no part.
-module _ {D : Type 0} (view : D → DiskView) (old new : ShardView D) (s : State) (low : old.set.lwm ≡ 0) (agrees : Agrees old s) (shape : SameSetup old new) (sprigs : new.sprigs ≡ old.sprigs)
+module _ {D : Type 0} (view : D → DiskView) (old new : ShardView D) (s : State) (agrees : Agrees old s) (shape : SameSetup old new) (sprigs : new.sprigs ≡ old.sprigs)
     (up : (view old.shelf.disk).faults ≤ (view new.shelf.disk).faults) where
   pub makes_flush : {E : Type 0} (result : Result ℕ E) (call : Call) (first steps : List Step) → AllByRecursion IsFlushing first
       → let rest = flush_all (after_steps (setup_of old) first s).book in FlushesAll result rest steps → OnErr result (Rose (view old.shelf.disk).faults (view new.shelf.disk).faults)
@@ -227,12 +125,11 @@ module _ {D : Type 0} (view : D → DiskView) (old new : ShardView D) (s : State
       → Goes view (setup_of old) (first ++ steps) old.shelf s new.shelf
       → Makes view call (flush_answer result) old s new
   makes_flush result call first steps first_flushing flushes rose names none allowed goes =
-      let all : AllByRecursion IsFlushing (first ++ steps) = all_joined IsFlushing first steps first_flushing (flushes_flushing result (after_steps (setup_of old) first s).book steps flushes) in
       let event : Event = event_of view (setup_of old) old.shelf new.shelf s call (flush_answer result) (first ++ steps) in
       let may = λ (told : Bool). allowed event told (flush_ends result call (view old.shelf.disk).faults (view new.shelf.disk).faults first (flush_all (after_steps (setup_of old) first s).book) steps flushes rose) in
       makes_by view (setup_of old) old.shelf new.shelf s call (flush_answer result) (first ++ steps) (Agrees new) up goes (may false) (λ honest safe. may true) (record {
         sprigs = subst (λ (x : Setup). FitsParts x new.sprigs (after_event (setup_of old) event s)) (setup_same old new shape) (subst (λ (l : List SprigState). FitsParts (setup_of old) l (after_event (setup_of old) event s)) (sym sprigs)
             (parts_fit_on (setup_of old) false s event old.sprigs (may false) names agrees.sprigs none));
         times = subst (AllByRecursion HasTimes) (sym sprigs) agrees.times;
-        shelf = shelf_over old new shape (after_steps (setup_of old) (first ++ steps) s) (record { stands = goes.stands; queue = steps_queue_none (setup_of old) low (first ++ steps) s all agrees.shelf.queue });
+        shelf = shelf_over old new shape (after_steps (setup_of old) (first ++ steps) s) (record { stands = goes.stands; queue = goes.queued agrees.shelf.queue });
       })

@@ -25,11 +25,12 @@ use Rattle.block_shelf.specs.View.{ShelfView}
 use Rattle.block_shelf.specs.Appends.{append_refusal}
 use Rattle.shard_core.specs.declared.refusals.WriteRefusal.{WriteRefusal}
 use Rattle.shard_core.specs.declared.refusals.WriteRefusal.TheVariants as write
-use Rattle.shard_core.specs.Stands.{SprigStands, StandTogether}
-use Rattle.shard_core.specs.Calls.{StepMakes, cause_of_write}
+use Rattle.shard_steps.specs.Standing.{SprigStands, StandTogether}
+use Rattle.shard_core.specs.Calls.{cause_of_write}
+use Rattle.shard_steps.specs.Events.{StepMakes}
 use Rattle.shard_core.specs.Writing.{IsWriteOf, IsEntombing, WrittenOrNot, IsExpected, IsFit, IsUnfit}
-use Rattle.shard_core.proofs.Going.{goes_none}
-use Rattle.shard_core.proofs.Making.{makes_by}
+use Rattle.block_shelf.proofs.Going.{goes_none}
+use Rattle.shard_steps.proofs.Making.{makes_by}
 
 -- ---- the stamp
 

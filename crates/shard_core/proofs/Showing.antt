@@ -4,17 +4,16 @@ use Rattle.std.specs.Prelude.{◌==◌}
 use Rattle.std.proofs.lemmas.Bool.{cond-true, eq-eqb}
 use Rattle.rec_format.specs.declared.version.Digest.{Digest}
 use Rattle.rec_format.specs.Places.{device_number}
-use Rattle.device_model.specs.Book.{Setup, cold_book}
+use Rattle.device_model.specs.Book.{Setup}
 use Rattle.device_model.specs.Device.{entry}
 use Rattle.block_format.specs.Layout.{Body}
 use Rattle.block_format.specs.Copies.{Copy, copies_of, version_of, cold}
-use Rattle.recovery.specs.Start.{start_state, entries_state, greatest_number, cold_copies}
+use Rattle.recovery.specs.Start.{greatest_number, cold_copies}
 use Rattle.recovery.specs.Sound.{IsSound, NoStrays}
 use Rattle.recovery.proofs.StartLive.{found_first}
 use Rattle.part_laws.proofs.Starting.{entries_show}
 use Rattle.cold_scan.specs.Starting.{own_copies}
 use Rattle.cold_scan.specs.Found.{found_state}
-use Rattle.shard_core.proofs.Queues.{refreshed_queue}
 
 -- ---- from what was found, over any disk
 
@@ -25,10 +24,6 @@ module _ (setup : Setup) (bodies : List Body) where
   -- the versions are those of the latest copies
   pub found_entry : (d : Digest) → entry (found_state setup bodies) d ≡ cold d own
   found_entry d = (entries_show setup (cold_copies own) (greatest_number bodies + 1)).top d ∙ ap version_of (found_first d own)
-
-  pub found_queue : setup.lwm ≡ 0 → (found_state setup bodies).book.queue ≡ []
-  unfolding entries_state cold_book
-  found_queue low = refreshed_queue setup low _
 
 -- ---- from a sound image
 
@@ -41,7 +36,3 @@ all_own setup (c ∷ copies) none =
 module _ (setup : Setup) (image : List ℕ) (bodies : List Body) (sound : IsSound setup image bodies) where
   pub sound_own : own_copies setup.device setup.devices (copies_of bodies) ≡ copies_of bodies
   sound_own = all_own setup (copies_of bodies) sound.strays
-
-  pub start_queue : setup.lwm ≡ 0 → (start_state setup bodies).book.queue ≡ []
-  unfolding start_state cold_book
-  start_queue low = refreshed_queue setup low _

@@ -1,52 +1,68 @@
 -- A write makes one event that may follow, and sprig and shelf stand for the state after it.
-use Rattle.std.proofs.Common.{◌≡◌, inl, inr, ℕ, ◌<◌, ◌≤◌, Bool, true, false, List, [], ◌∷◌, ◌++◌, refl, sym, ◌∙◌, ap, subst}
-use Rattle.std.specs.Prelude.{Option, Some, None, map, Result, Ok, Err, if◌then◌else◌}
+use Rattle.std.proofs.Common.{◌≡◌, inl, inr, ℕ, ◌≤◌, Bool, true, false, List, [], ◌∷◌, ◌++◌, refl, sym, ◌∙◌, ap, subst}
+use Rattle.std.specs.Prelude.{Option, Some, None, Result, Ok, Err, if◌then◌else◌}
 use Rattle.std.specs.List.{AllByRecursion}
 use Rattle.fault_count.specs.Counts.{Rose}
 use Rattle.rec_format.specs.declared.version.Digest.{Digest}
 use Rattle.rec_format.specs.declared.version.Version.{Version}
 use Rattle.rec_format.specs.Entries.{entry_at}
 use Rattle.rec_format.specs.Versions.{version_units}
-use Rattle.device_model.specs.Book.{Setup, Book, Buffer, Live, client, has_room, placing_number, live_of, live_of_entry}
+use Rattle.device_model.specs.Book.{Setup, Book, Live, client, has_room, placing_number, live_of, live_of_entry}
 use Rattle.device_model.specs.Device.{State, part_of}
 use Rattle.device_model.specs.Steps.{Step, wrote, sealed_stream, after_step, after_steps}
 use Rattle.device_model.specs.Events.{Event, Call, Answer, refused, Cause, too_big, spent, overload, no_space, disk_fault}
-use Rattle.device_model.specs.Legal.{Allowed, Unless, WriteEnds, flush_between, flush_all, flush_count, StopsIn}
+use Rattle.device_model.specs.Legal.{Allowed, Unless, WriteEnds, flush_between, StopsIn}
 use Rattle.disk_model.specs.Disk.{DiskView, IsHonest}
 use Rattle.kept_facts.specs.Facts.{Possible, HasFacts}
 use Rattle.kept_facts.specs.Asking.{MayBeWritten}
 use Rattle.kept_facts.proofs.Writable.{next_is_later}
-use Rattle.recovery.proofs.Each.{all_map}
+use Rattle.recovery.proofs.Opening.{all_parted}
 use Rattle.sprig_tree.specs.State.{SprigState}
 use Rattle.part_laws.specs.Becoming.{TakesEntry}
 use Rattle.part_laws.proofs.Taking.{wrote_fits, put_each}
 use Rattle.block_shelf.specs.declared.place.Place.{Place}
 use Rattle.block_shelf.specs.declared.place.Class.{Class}
+use Rattle.block_shelf.specs.declared.place.Class.TheVariants as class
 use Rattle.block_shelf.specs.declared.refusals.PutRefusal.{PutRefusal}
 use Rattle.block_shelf.specs.declared.refusals.PutRefusal.TheVariants as put
-use Rattle.write_buffer.specs.Buffers.{BufferState}
-use Rattle.block_shelf.specs.View.{ShelfView, IsShelf, IsBufferOf}
-use Rattle.block_shelf.specs.Standing.{book_buffer}
+use Rattle.write_buffer.specs.declared.stream.Stream.TheVariants.{Client}
+use Rattle.block_shelf.specs.View.{ShelfView, IsShelf}
+use Rattle.block_shelf.specs.Standing.{QueueStands}
 use Rattle.block_shelf.specs.Calls.{Goes, copy_live}
-use Rattle.block_shelf.specs.Appends.{IsAppendRefusal, TakesIn, append_refusal, refused_steps}
+use Rattle.block_shelf.specs.Appends.{IsAppendRefusal, IsCopyOf, TakesIn, append_refusal, refused_steps, stream_of}
 use Rattle.shard_core.specs.declared.refusals.WriteRefusal.{WriteRefusal}
 use Rattle.shard_core.specs.declared.refusals.WriteRefusal.TheVariants as write_refusals
-use Rattle.shard_core.specs.Stands.{SprigStands, StandTogether}
-use Rattle.shard_core.specs.Calls.{StepMakes, FlushesAll, cause_of_write, write_of}
+use Rattle.shard_steps.specs.Standing.{SprigStands, StandTogether}
+use Rattle.shard_core.specs.Calls.{FlushesAll, cause_of_write, write_of}
+use Rattle.shard_steps.specs.Events.{StepMakes}
 use Rattle.shard_core.specs.Writing.{IsWriteOf, Wrote, IsUnwritten, Commits}
-use Rattle.shard_core.proofs.Going.{goes_then}
-use Rattle.shard_core.proofs.Making.{IsFlushing, flushes_flushing, together_on, makes_by}
-use Rattle.shard_core.proofs.FlushSteps.{StandRight}
-use Rattle.shard_core.proofs.FlushLoop.{stand_right}
-use Rattle.shard_core.proofs.Placed.{copy_in, wrote_queue, wrote_filling, wrote_up_to}
+use Rattle.block_shelf.proofs.Going.{goes_then}
+use Rattle.shard_steps.proofs.Making.{IsFlushing, between_flushing, together_on, makes_by}
+use Rattle.shard_core.proofs.Placed.{copy_in, wrote_filling}
 
 -- ---- a copy that was appended and entered
 
-module _ {D : Type 0} (view : D → DiskView) (setup : Setup) (s : State) (kind : Class) (digest : Digest) (v : Version) (place : Place) (old new : ShelfView D) (before after : SprigState) (low : setup.lwm ≡ 0)
-    (stand : StandTogether setup (part_of setup digest) before old s) (kept : IsShelf view old) (takes : TakesIn view setup digest v old s new place) (none : append_refusal setup kind (version_units v) s.book ≡ None)
+-- what clients write is written
+pub takes_write : {D : Type 0} (view : D → DiskView) (setup : Setup) (digest : Digest) (v : Version) (place : Place) (old : ShelfView D) (s : State) (new : ShelfView D) (kind : Class) → stream_of kind ≡ Client
+    → TakesIn view setup kind digest v old s new place → TakesIn view setup class.Put digest v old s new place
+takes_write view setup digest v place old s new class.Put is takes = takes
+takes_write view setup digest v place old s new class.Tomb is takes = record { live = takes.live; stands = takes.stands; queued = takes.queued; placed = takes.placed; safe = takes.safe; leaves = takes.leaves }
+takes_write view setup digest v place old s new class.Move is takes = absurd cc
+
+-- and may be any version
+pub copy_of : (kind : Class) → stream_of kind ≡ Client → (s : State) (digest : Digest) (v : Version) → IsCopyOf kind s digest v
+copy_of class.Put is s digest v = tt
+copy_of class.Tomb is s digest v = tt
+copy_of class.Move is s digest v = absurd cc
+
+module _ {D : Type 0} (view : D → DiskView) (setup : Setup) (s : State) (kind : Class) (digest : Digest) (v : Version) (place : Place) (old new : ShelfView D) (before after : SprigState)
+    (client_is : stream_of kind ≡ Client) (stand : StandTogether setup (part_of setup digest) before old s) (kept : IsShelf view old) (taken : TakesIn view setup kind digest v old s new place) (none : append_refusal setup kind (version_units v) s.book ≡ None)
     (units : place.units ≡ version_units v) (time : 1 ≤ v.stamp.lut) (enters : TakesEntry (entry_at digest v place.block place.unit) before after) where
   abbrev behind : State
   behind = after_step setup (wrote digest v) s
+
+  abbrev takes : TakesIn view setup class.Put digest v old s new place
+  takes = takes_write view setup digest v place old s new kind client_is taken
 
   lives_there : live_of digest behind.book.live ≡ Some (live_of_entry (entry_at digest v place.block place.unit))
   lives_there = takes.live ∙ ap (λ (n : ℕ). let l : Live = record { digest = digest; block = place.block; unit = place.unit; units = n } in Some l) units
@@ -57,10 +73,6 @@ module _ {D : Type 0} (view : D → DiskView) (setup : Setup) (s : State) (kind 
     times = subst (AllByRecursion (λ e. 1 ≤ e.stamp.lut)) (sym enters.entries) (put_each (entry_at digest v place.block place.unit) before.entries (λ e. 1 ≤ e.stamp.lut) time stand.sprig_stands.times);
   }
 
-  numbers_below : (bs : List BufferState) → AllByRecursion (λ b. b.number < old.next_number) bs → AllByRecursion (λ b. b.number < old.next_number) (map book_buffer bs)
-  numbers_below [] all = tt
-  numbers_below (b ∷ bs) all = (all.0, numbers_below bs all.1)
-
   block_of : {a b : Live} → Some a ≡ Some b → a.block ≡ b.block
   block_of {a} {b} e = let one : a ≡ b = cc in ap (λ (l : Live). l.block) one
 
@@ -68,19 +80,16 @@ module _ {D : Type 0} (view : D → DiskView) (setup : Setup) (s : State) (kind 
   wrote_by =
       let filled = wrote_filling setup s digest v in
       let same : Some (copy_in digest (version_units v) filled.taker) ≡ Some (copy_live digest place) = sym filled.live ∙ takes.live in
-      let right : StandRight s.book.buffers = subst StandRight (sym stand.shelf_stands.stands.buffers) (stand_right old.buffers kept.order) in
       record {
         allowed = none;
-        stands = record { sprig_stands = sprig_behind; shelf_stands = record { stands = takes.stands; queue = wrote_queue setup s digest v low } };
-        placed = takes.placed;
+        stands = record { sprig_stands = sprig_behind; shelf_stands = record { stands = takes.stands; queue = takes.queued stand.shelf_stands.queue } };
+        placed = λ honest. takes.placed honest tt;
         safe = takes.safe;
         leaves = takes.leaves;
         buffer = filled.buffer;
         filling = filled.found;
         there = filled.block ∙ block_of same;
-        up_to = wrote_up_to setup s digest v right (subst (λ (n : ℕ). AllByRecursion (λ b. b.number < n) s.book.buffers) (sym stand.shelf_stands.stands.next)
-            (subst (λ (bs : List Buffer). AllByRecursion (λ b. b.number < old.next_number) bs) (sym stand.shelf_stands.stands.buffers)
-            (numbers_below old.buffers (all_map (IsBufferOf old.geometry old.next_number) (λ b. b.number < old.next_number) old.buffers (λ b h. h.number) kept.buffers))));
+        number = filled.number;
       }
 
 -- ---- the event
@@ -93,11 +102,11 @@ refused_flushing (put.Space free) = tt
 refused_flushing put.Memory = tt
 refused_flushing put.Fault = (tt, tt)
 
-pub commits_flushing : (r : Result (Unit {0}) WriteRefusal) (book : Book) (steps : List Step) → Commits r (flush_all book) steps → AllByRecursion IsFlushing steps
-commits_flushing (Ok done) book steps is = flushes_flushing {E = WriteRefusal} (Ok (flush_count (flush_all book))) book steps (is, refl)
-commits_flushing (Err refusal) book steps is = flushes_flushing {E = WriteRefusal} (Err refusal) book steps is.1
+pub commits_flushing : (r : Result (Unit {0}) WriteRefusal) (first last : ℕ) (book : Book) (steps : List Step) → Commits r (flush_between first last book) steps → AllByRecursion IsFlushing steps
+commits_flushing (Ok done) first last book steps is = subst (AllByRecursion IsFlushing) (sym is) (between_flushing first last book)
+commits_flushing (Err refusal) first last book steps is = (all_parted IsFlushing steps (is.1.0 ∷ is.1.1) (subst (AllByRecursion IsFlushing) is.1.2 (between_flushing first last book))).0
 
-module _ {D : Type 0} (view : D → DiskView) (setup : Setup) (s : State) (call : Call) (kind : Class) (digest : Digest) (v : Version) (ok : Answer) (old : ShelfView D) (sprig : SprigState) (low : setup.lwm ≡ 0)
+module _ {D : Type 0} (view : D → DiskView) (setup : Setup) (s : State) (call : Call) (kind : Class) (digest : Digest) (v : Version) (ok : Answer) (old : ShelfView D) (sprig : SprigState)
     (may : IsWriteOf setup s call kind digest v ok) where
   abbrev part : ℕ
   part = part_of setup digest
@@ -136,13 +145,13 @@ module _ {D : Type 0} (view : D → DiskView) (setup : Setup) (s : State) (call 
     may_be_unwritten told put.Memory cause closing rose = may.allowed told (unwritten_event put.Memory) refl (inl (refl, refl))
     may_be_unwritten told put.Fault cause closing rose = allowed_by told (unwritten_event put.Fault) refl cause (inr (refl, rose refl, inl (closing refl, refl)))
 
-    pub makes_unwritten : s.book.queue ≡ [] → (refusal : WriteRefusal) → IsUnwritten view setup s kind digest v refusal old sprig new → (refusal ≡ write_refusals.Fault → Rose (view old.disk).faults (view new.disk).faults)
+    pub makes_unwritten : QueueStands setup old s → (refusal : WriteRefusal) → IsUnwritten view setup s kind digest v refusal old sprig new → (refusal ≡ write_refusals.Fault → Rose (view old.disk).faults (view new.disk).faults)
         → MakesWrite (refused (cause_of_write refusal)) new
     makes_unwritten queue refusal un rose =
         let may_be = λ (told : Bool). may_be_unwritten told un.why un.cause un.closing (λ fault. rose (un.is_for ∙ ap write_of fault)) in
         subst (λ (r : WriteRefusal). MakesWrite (refused (cause_of_write r)) new) (sym un.is_for)
         (makes_by view setup old new s call (refused (cause_of_write (write_of un.why))) (refused_steps un.why) (StandTogether setup part sprig new) up un.goes (may_be false) (λ honest safe. may_be true)
-        (together_on setup part sprig s (refused_steps un.why) (refused_flushing un.why) new low un.sprig_stands queue un.goes.stands))
+        (together_on setup part sprig s (refused_steps un.why) (refused_flushing un.why) new un.sprig_stands (record { stands = un.goes.stands; queue = un.goes.queued queue })))
 
   -- ---- a write
 
@@ -156,6 +165,7 @@ module _ {D : Type 0} (view : D → DiskView) (setup : Setup) (s : State) (call 
     goes_wrote : Goes view setup (wrote digest v ∷ []) old s mid
     goes_wrote = record {
       stands = it.stands.shelf_stands.stands;
+      queued = λ queue. it.stands.shelf_stands.queue;
       placed = it.placed;
       safe = λ was safe. it.safe was (may_write _ safe.held.facts) safe;
       leaves = it.leaves;
@@ -176,7 +186,7 @@ module _ {D : Type 0} (view : D → DiskView) (setup : Setup) (s : State) (call 
         makes_by view setup old mid s call ok (wrote digest v ∷ []) (StandTogether setup part sprig mid) up goes_wrote (may_be false) (λ honest safe. may_be true) it.stands
 
     module _ (on : setup.commit ≡ true) (new : ShelfView D) (up : (view old.disk).faults ≤ (view new.disk).faults) (r : Result (Unit {0}) WriteRefusal) (steps : List Step)
-        (commits : Commits r (flush_all (after_step setup (sealed_stream client) written_state).book) steps)
+        (commits : Commits r (flush_between 0 it.buffer.number (after_step setup (sealed_stream client) written_state).book) steps)
         (goes : Goes view setup (sealed_stream client ∷ steps) mid written_state new) where
       abbrev all_steps : List Step
       all_steps = wrote digest v ∷ sealed_stream client ∷ steps
@@ -186,11 +196,11 @@ module _ {D : Type 0} (view : D → DiskView) (setup : Setup) (s : State) (call 
 
       stands_all : StandTogether setup part sprig new (after_steps setup all_steps s)
       stands_all =
-          together_on setup part sprig written_state (sealed_stream client ∷ steps) (tt, commits_flushing r (after_step setup (sealed_stream client) written_state).book steps commits) new low
-          it.stands.sprig_stands it.stands.shelf_stands.queue goes.stands
+          together_on setup part sprig written_state (sealed_stream client ∷ steps) (tt, commits_flushing r 0 it.buffer.number (after_step setup (sealed_stream client) written_state).book steps commits) new
+          it.stands.sprig_stands (record { stands = goes.stands; queue = goes.queued it.stands.shelf_stands.queue })
 
-      whole : flush_all (after_step setup (sealed_stream client) written_state).book ≡ rest_if true
-      whole = sym it.up_to
+      whole : flush_between 0 it.buffer.number (after_step setup (sealed_stream client) written_state).book ≡ rest_if true
+      whole = ap (λ (n : ℕ). flush_between 0 n (after_step setup (sealed_stream client) written_state).book) it.number
 
       abbrev event_of : Answer → Event
       event_of answer = record { call = call; answer = answer; steps = all_steps; faults_before = (view old.disk).faults; faults_after = (view new.disk).faults }
@@ -200,13 +210,13 @@ module _ {D : Type 0} (view : D → DiskView) (setup : Setup) (s : State) (call 
           let may_be = λ (told : Bool). allowed_by told (event_of answer) refl it.allowed ends in
           makes_by view setup old new s call answer all_steps (StandTogether setup part sprig new) up goes_all (may_be false) (λ honest safe. may_be true) stands_all
 
-      pub ends_done : steps ≡ flush_all (after_step setup (sealed_stream client) written_state).book → MakesWrite ok new
+      pub ends_done : steps ≡ flush_between 0 it.buffer.number (after_step setup (sealed_stream client) written_state).book → MakesWrite ok new
       ends_done done = makes_ended ok (inl (
         refl,
         ap (λ (x : List Step). wrote digest v ∷ sealed_stream client ∷ x) (done ∙ whole) ∙ ap (λ (b : Bool). first_if b ++ rest_if b) (sym on),
       ))
 
-      pub ends_faulted : StopsIn (flush_all (after_step setup (sealed_stream client) written_state).book) steps → Rose (view old.disk).faults (view new.disk).faults → MakesWrite (refused disk_fault) new
+      pub ends_faulted : StopsIn (flush_between 0 it.buffer.number (after_step setup (sealed_stream client) written_state).book) steps → Rose (view old.disk).faults (view new.disk).faults → MakesWrite (refused disk_fault) new
       ends_faulted stops rose = makes_ended (refused disk_fault) (inr (
         refl,
         rose,

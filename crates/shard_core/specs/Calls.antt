@@ -1,24 +1,22 @@
 -- Crate shard_core. What the calls of a shard answer, as the definitions see it.
-use Rattle.std.specs.Prelude.{◌≡◌, ◌≢◌, ℕ, Bool, true, false, List, Option, Some, None, Result, Ok, Err, Contains, MatchResult}
+use Rattle.std.specs.Prelude.{◌≡◌, ◌≢◌, ℕ, Bool, List, Option, Some, None, Result, Ok, Err, Contains, MatchResult}
 use Rattle.std.specs.List.{AllByRecursion}
 use Rattle.rec_format.specs.declared.version.Digest.{Digest}
 use Rattle.rec_format.specs.declared.version.Stamp.{Stamp}
 use Rattle.rec_format.specs.declared.version.Version.{Version}
 use Rattle.rec_format.specs.declared.entry.Entry.{Entry}
 use Rattle.device_model.specs.Device.{State, seen}
-use Rattle.device_model.specs.Steps.{Step, states_through}
-use Rattle.device_model.specs.Events.{Event, Call, Answer, stamp_given, happened, found_version, counted, refused, Cause, too_big, wrong_generation, spent, overload, no_space, damaged, no_memory, disk_fault, after_event}
-use Rattle.device_model.specs.Legal.{Follows, flush_count, StopsIn}
-use Rattle.disk_model.specs.Disk.{DiskView, IsHonest}
-use Rattle.disk_model.specs.Runs.{OneOf, Leaves}
-use Rattle.recovery.specs.Surviving.{Survives}
+use Rattle.device_model.specs.Steps.{Step}
+use Rattle.device_model.specs.Events.{Call, Answer, stamp_given, happened, found_version, counted, refused, Cause, too_big, wrong_generation, spent, overload, no_space, damaged, no_memory, disk_fault}
+use Rattle.device_model.specs.Legal.{flush_count, StopsIn}
+use Rattle.disk_model.specs.Disk.{DiskView}
 use Rattle.expiry_rule.specs.Seen.{seen_entry}
+use Rattle.write_buffer.specs.declared.stream.Stream.TheVariants.{Client}
 use Rattle.write_buffer.specs.Buffers.{BufferState}
 use Rattle.block_shelf.specs.declared.refusals.PutRefusal.{PutRefusal}
 use Rattle.block_shelf.specs.declared.refusals.PutRefusal.TheVariants as put
 use Rattle.block_shelf.specs.declared.refusals.ReadRefusal.{ReadRefusal}
 use Rattle.block_shelf.specs.declared.refusals.ReadRefusal.TheVariants as read
-use Rattle.block_shelf.specs.Standing.{IsPlaced}
 use Rattle.block_shelf.specs.Appends.{IsLeftBy}
 use Rattle.block_shelf.specs.Reads.{copy_bytes, IsRead, HasRead}
 use Rattle.rec_format.specs.Versions.{version_units}
@@ -28,10 +26,11 @@ use Rattle.shard_core.specs.declared.refusals.WriteRefusal.TheVariants as write
 use Rattle.sprig_tree.specs.State.{SprigState}
 use Rattle.block_shelf.specs.View.{ShelfView}
 use Rattle.block_shelf.specs.Changes.{SameButRoom}
-use Rattle.device_model.specs.Book.{Setup}
-use Rattle.shard_core.specs.Sprigs.{SameSprig, AreSame, held, place_of}
+use Rattle.shard_core.specs.Sprigs.{AreSame, held}
+use Rattle.shard_steps.specs.Sprigs.{SameSprig, place_of}
 use Rattle.shard_core.specs.View.{ShardView, setup_of}
-use Rattle.shard_core.specs.Stands.{Agrees, StandTogether, ShelfIsSafe}
+use Rattle.shard_core.specs.Stands.{Agrees}
+use Rattle.shard_steps.specs.Events.{MakesEvent, cause_of_read}
 
 abbrev pub cause_of_write : WriteRefusal → Cause
 cause_of_write (write.Big units capacity) = too_big units capacity
@@ -80,11 +79,6 @@ abbrev pub delete_answer : Result Bool WriteRefusal → Answer
 delete_answer (Ok there) = happened there
 delete_answer (Err refusal) = refused (cause_of_write refusal)
 
-abbrev pub cause_of_read : ReadRefusal → Cause
-cause_of_read (read.Damaged kept bytes) = damaged
-cause_of_read read.Memory = no_memory
-cause_of_read read.Fault = disk_fault
-
 abbrev pub read_answer : Result (Option Version) ReadRefusal → Answer
 read_answer (Ok found) = found_version found
 read_answer (Err refusal) = refused (cause_of_read refusal)
@@ -97,26 +91,6 @@ meta_of (Some v) = Some (record { stamp = v.stamp; void = v.void; units = versio
 abbrev pub flush_answer : {E : Type 0} → Result ℕ E → Answer
 flush_answer (Ok flushed) = counted flushed
 flush_answer (Err fault) = refused disk_fault
-
--- From a state for which a shelf stood, one event of this call with this answer may follow, and what is asked of the state after it holds:
--- sprigs and shelf stand for it. Over an honest disk that was safe the event may follow as one over a disk that tells what it holds, the
--- shelf is safe then, and each image that a crash meanwhile might have left survives the state before, or one after some of the event's
--- steps.
-pub record MakesEvent {D : Type 0} (view : D → DiskView) (setup : Setup) (call : Call) (answer : Answer) (old : ShelfView D) (s : State) (new : ShelfView D) (Stands : State → Type 0) : Type 0 where
-  pub event : Event
-  pub is_call : event.call ≡ call
-  pub is_answer : event.answer ≡ answer
-  pub follows : Follows setup false s (view old.disk).faults event
-  pub told : IsHonest (view old.disk) → ShelfIsSafe view setup old s → Follows setup true s (view old.disk).faults event
-  pub counted : event.faults_after ≡ (view new.disk).faults
-  pub stands : Stands (after_event setup event s)
-  pub placed : IsHonest (view old.disk) → IsPlaced view old s → IsPlaced view new (after_event setup event s)
-  pub safe : IsHonest (view old.disk) → ShelfIsSafe view setup old s → ShelfIsSafe view setup new (after_event setup event s)
-  pub leaves : IsHonest (view old.disk) → ShelfIsSafe view setup old s → Leaves (OneOf (Survives setup) (states_through setup event.steps s)) (view old.disk) (view new.disk)
-
--- a step over the sprig of a part and the shelf, which stand for one state before it and after it
-abbrev pub StepMakes : {D : Type 0} → (view : D → DiskView) → (setup : Setup) → (part : ℕ) → Call → Answer → ShelfView D → State → (sprig : SprigState) → ShelfView D → Type 0
-StepMakes view setup part call answer old s sprig new = MakesEvent view setup call answer old s new (StandTogether setup part sprig new)
 
 -- a call of a shard
 abbrev pub Makes : {D : Type 0} → (view : D → DiskView) → Call → Answer → (old : ShardView D) → State → (new : ShardView D) → Type 0
@@ -139,11 +113,11 @@ HasGot e bytes (Ok None) = ⊥
 HasGot e bytes (Ok (Some v)) = IsRead e bytes v
 HasGot e bytes (Err refusal) = HasRead e bytes (Err refusal)
 
--- A record is got as it is stored. Where its block has a write buffer, the answer is what was put, over any disk, or want of memory.
--- Where it has none, the answer is what stands at the place of its entry, on a disk that tells its bytes: it is damaged exactly where no
+-- A record is got as it is stored. Where its block has a write buffer to which clients write, the answer is what was put, over any disk, or
+-- want of memory. Where it has no buffer, the answer is what stands at the place of its entry, on a disk that tells its bytes: it is damaged exactly where no
 -- head of the entry's record stands there.
 pub record ReadsStored {D : Type 0} (view : D → DiskView) (Stands : State → Type 0) (found : Option Entry) (shelf : ShelfView D) (digest : Digest) (now : ℕ) (result : Result (Option Version) ReadRefusal) : Type 0 where
-  pub buffered : (s : State) → Stands s → (e : Entry) (b : BufferState) → found ≡ Some e → Contains shelf.buffers b → b.block ≡ e.block
+  pub buffered : (s : State) → Stands s → (e : Entry) (b : BufferState) → found ≡ Some e → Contains shelf.buffers b → b.block ≡ e.block → b.stream ≡ Client
       → MatchResult result (λ got. got ≡ seen s now digest) (λ refusal. refusal ≡ read.Memory)
   pub placed : (view shelf.disk).tells → (e : Entry) → seen_entry now found ≡ Some e → AllByRecursion (λ b. b.block ≢ e.block) shelf.buffers
       → HasGot e (copy_bytes shelf.geometry (place_of e) (view shelf.disk).seen) result

@@ -29,7 +29,7 @@ use Rattle.shard_core.specs.declared.index.Finding.{Finding}
 use Rattle.shard_core.specs.declared.settings.Settings.{Settings}
 use Rattle.block_shelf.specs.declared.place.Place.{Place}
 use Rattle.shard_core.specs.View.{ShardView, setup_for, setup_of}
-use Rattle.shard_core.specs.Sprigs.{place_of}
+use Rattle.shard_steps.specs.Sprigs.{place_of}
 use Rattle.shard_core.specs.Stands.{Agrees, IsSafe}
 use Rattle.shard_core.specs.Starting.{blocks_behind}
 use Rattle.cold_scan.specs.Found.{found_state}

@@ -7,3 +7,4 @@ pub mod Again
 pub mod Calls
 pub mod Writing
 pub mod Numbers
+pub mod Vacating

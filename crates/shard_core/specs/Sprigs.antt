@@ -1,17 +1,12 @@
 -- Crate shard_core. The primary index of a device: one sprig for each of its parts.
-use Rattle.std.specs.Prelude.{◌≡◌, ◌≤◌, List, [], ◌∷◌, Option, Some, None, slice_get, flat_map}
-use Rattle.std.specs.List.{AllByRecursion}
+use Rattle.std.specs.Prelude.{◌≡◌, List, [], ◌∷◌, Option, Some, None, slice_get, flat_map}
 use Rattle.rec_format.specs.declared.version.Digest.{Digest}
 use Rattle.rec_format.specs.declared.entry.Entry.{Entry}
 use Rattle.device_model.specs.Book.{Setup}
 use Rattle.device_model.specs.Device.{part_of}
 use Rattle.sprig_tree.specs.State.{SprigState}
 use Rattle.sprig_tree.specs.Entries.{entry_of}
-use Rattle.block_shelf.specs.declared.place.Place.{Place}
-
--- where the copy of an entry lies
-abbrev pub place_of : Entry → Place
-place_of e = record { block = e.block; unit = e.unit; units = e.units }
+use Rattle.shard_steps.specs.Sprigs.{SameSprig}
 
 -- the entry of a digest in a sprig, if there is one
 abbrev pub entry_in : Digest → Option SprigState → Option Entry
@@ -25,15 +20,6 @@ held setup digest sprigs = entry_in digest (slice_get sprigs (part_of setup dige
 -- the entries of all sprigs, part after part
 abbrev pub all_entries : List SprigState → List Entry
 all_entries sprigs = flat_map (λ s. s.entries) sprigs
-
--- each entry of a sprig has a time
-abbrev pub HasTimes : SprigState → Type 0
-HasTimes sprig = AllByRecursion (λ e. 1 ≤ e.stamp.lut) sprig.entries
-
--- the entries stay, and so does the high time; memory may have been taken
-pub record SameSprig (old new : SprigState) : Type 0 where
-  pub entries : new.entries ≡ old.entries
-  pub high : new.hw ≡ old.hw
 
 -- so all of them do
 abbrev pub AreSame : (old new : List SprigState) → Type 0

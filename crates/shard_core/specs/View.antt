@@ -13,10 +13,10 @@ pub record ShardView (D : Type 0) : Type 0 where
   pub set : Settings
   pub sprigs : List SprigState
 
--- Settings within their ranges. No block is vacated and none is kept in memory yet, so the low-water mark and the post-write queue are 0.
+-- Settings within their ranges. No block is kept in memory yet, so the post-write queue is 0.
 pub record IsSettings (set : Settings) : Type 0 where
   pub sprigs : (1 ≤ set.sprigs) × (set.sprigs ≤ 256)
-  pub lwm : set.lwm ≡ 0
+  pub lwm : set.lwm ≤ 99
   pub pending : (4 ≤ set.pending) × (set.pending ≤ 64)
   pub cache : set.cache ≡ 0
   pub raid_age : set.raid_age ≤ 315360000

@@ -1,14 +1,15 @@
 -- Crate shard_core. What a write asks, and what it leaves on the way.
-use Rattle.std.specs.Prelude.{◌≡◌, ◌⊎◌, ℕ, ◌<◌, ◌≤◌, Bool, false, ◌||◌, List, [], ◌∷◌, Option, Some, None, Result, Ok, Err}
+use Rattle.std.specs.Prelude.{◌≡◌, ◌⊎◌, ℕ, ◌<◌, ◌≤◌, Bool, false, ◌||◌, List, [], ◌∷◌, Option, Some, None, Result, Ok, Err, Contains}
+use Rattle.std.specs.List.{AllByRecursion}
 use Rattle.rec_format.specs.declared.version.Digest.{Digest}
 use Rattle.rec_format.specs.declared.version.Stamp.{Stamp}
 use Rattle.rec_format.specs.declared.version.Version.{Version}
 use Rattle.rec_format.specs.Versions.{units_for, version_units, is_tombstone}
 use Rattle.device_model.specs.Book.{Setup, Buffer, client, filling_buffer, has_room, placing_number}
 use Rattle.device_model.specs.Device.{State, entry_is_covered, next_stamp_of, part_of}
-use Rattle.device_model.specs.Steps.{Step, wrote, sealed_stream, after_step, states_through}
+use Rattle.device_model.specs.Steps.{Step, wrote, after_step, states_through}
 use Rattle.device_model.specs.Events.{Event, Call, Answer, refused}
-use Rattle.device_model.specs.Legal.{Allowed, NoMemory, Unless, WriteEnds, Entombs, flush_between, flush_all, StopsIn}
+use Rattle.device_model.specs.Legal.{Allowed, NoMemory, Unless, WriteEnds, Entombs, StopsIn}
 use Rattle.disk_model.specs.Disk.{DiskView, IsHonest}
 use Rattle.disk_model.specs.Runs.{OneOf, Leaves}
 use Rattle.recovery.specs.Surviving.{Survives}
@@ -18,13 +19,14 @@ use Rattle.sprig_tree.specs.State.{SprigState}
 use Rattle.block_shelf.specs.declared.place.Class.{Class}
 use Rattle.block_shelf.specs.declared.refusals.PutRefusal.{PutRefusal}
 use Rattle.block_shelf.specs.declared.refusals.PutRefusal.TheVariants as put
-use Rattle.block_shelf.specs.View.{ShelfView}
+use Rattle.write_buffer.specs.Buffers.{BufferState}
+use Rattle.block_shelf.specs.View.{ShelfView, is_unsealed}
 use Rattle.block_shelf.specs.Standing.{IsPlaced, ImagesHold}
 use Rattle.block_shelf.specs.Calls.{Goes}
 use Rattle.block_shelf.specs.Appends.{append_refusal, refused_steps, IsAppendRefusal}
 use Rattle.shard_core.specs.declared.refusals.WriteRefusal.{WriteRefusal}
 use Rattle.shard_core.specs.declared.refusals.WriteRefusal.TheVariants as write
-use Rattle.shard_core.specs.Stands.{StandTogether, SprigStands}
+use Rattle.shard_steps.specs.Standing.{StandTogether, SprigStands}
 use Rattle.shard_core.specs.Calls.{cause_of_write, write_of}
 
 -- ---- which calls write
@@ -80,8 +82,7 @@ IsUnfit size capacity expect seen write.Fault = ⊥
 
 -- ---- the copy and its entry
 
--- A version was written, and its buffer, which is filled now, has this block: sprig and shelf stand for the state after it, and where
--- the buffer is sealed next, the buffers up to it are all that there are.
+-- A version was written, and its buffer, which is filled now, has this block: sprig and shelf stand for the state after it.
 pub record Wrote {D : Type 0} (view : D → DiskView) (setup : Setup) (s : State) (kind : Class) (digest : Digest) (v : Version) (block : ℕ) (old : ShelfView D) (sprig : SprigState) (new : ShelfView D) : Type 0 where
   pub allowed : append_refusal setup kind (version_units v) s.book ≡ None
   pub stands : StandTogether setup (part_of setup digest) sprig new (after_step setup (wrote digest v) s)
@@ -91,8 +92,7 @@ pub record Wrote {D : Type 0} (view : D → DiskView) (setup : Setup) (s : State
   pub buffer : Buffer
   pub filling : filling_buffer client (after_step setup (wrote digest v) s).book.buffers ≡ Some buffer
   pub there : buffer.block ≡ block
-  pub up_to : let sealed = after_step setup (sealed_stream client) (after_step setup (wrote digest v) s) in
-      flush_between 0 (placing_number setup client (version_units v) s.book) sealed.book ≡ flush_all sealed.book
+  pub number : buffer.number ≡ placing_number setup client (version_units v) s.book
 
 -- The shelf refused it for this cause, and the sprig stands as before; a fault comes only where there was no room, and the gate of the
 -- first free block couldn't be closed.
@@ -103,6 +103,10 @@ pub record IsUnwritten {D : Type 0} (view : D → DiskView) (setup : Setup) (s :
   pub closing : why ≡ put.Fault → has_room setup client (version_units v) s.book ≡ false
   pub sprig_stands : SprigStands setup (part_of setup digest) sprig s
   pub goes : Goes view setup (refused_steps why) old s new
+
+-- a flush up to this number ends there: no buffer has a greater number, or the buffer of this number is sealed
+abbrev pub EndsRight : (last : ℕ) → List BufferState → Type 0
+EndsRight last buffers = AllByRecursion (λ b. b.number ≤ last) buffers ⊎ ((b : BufferState) × Contains buffers b × (b.number ≡ last) × (is_unsealed b.phase ≡ false))
 
 -- all of these steps were made; or, where the disk failed, some
 abbrev pub Commits : Result (Unit {0}) WriteRefusal → (whole steps : List Step) → Type 0

@@ -14,6 +14,7 @@ ghost use Rattle.tomb_rules.specs.Covers.{cover_of};
 ghost use Rattle.block_shelf.specs.Disks.{IsLater, OnlyRead};
 ghost use Rattle.block_shelf.specs.View.{gate_at};
 ghost use Rattle.block_shelf.specs.Standing.{IsPlaced};
+ghost use Rattle.write_buffer.specs.declared.stream.Stream.TheVariants.{Client};
 ghost use Rattle.block_shelf.specs.Changes.{HasRoom};
 ghost use Rattle.block_shelf.specs.Reads.{IsUndamaged};
 ghost use Rattle.shard_core.specs.Sprigs.{held};
@@ -48,7 +49,7 @@ impl<D: Disk> Shard<D> {
         ensures makes { (s : State) → Agrees self.old s → Makes D.view (put_call digest.now ttl expect payload.now now) (write_answer result) self.old s self.new }
 
         // With commit off the disk is called only where a buffer begins behind a gate that isn't known to be shut.
-        ensures in_room { self.old.set.commit ≡ false → HasRoom (units_for (length payload.now)) self.old.shelf.buffers → self.new.shelf.disk ≡ self.old.shelf.disk }
+        ensures in_room { self.old.set.commit ≡ false → HasRoom Client (units_for (length payload.now)) self.old.shelf.buffers → self.new.shelf.disk ≡ self.old.shelf.disk }
         ensures quiet { self.old.set.commit ≡ false → gate_at self.old.shelf.gates (first_block self.old.shelf.free) ≡ Shut → self.new.shelf.disk ≡ self.old.shelf.disk }
 
         // A refusal writes nothing, but where commit is on and the flush failed.
@@ -168,7 +169,7 @@ impl<D: Disk> Shard<D> {
     }
 
     // The part of a digest of the device, which is the place of its sprig.
-    fn part_of(&self, digest: &Digest) -> usize
+    pub(crate) fn part_of(&self, digest: &Digest) -> usize
         requires { device_number self.now.shelf.geometry.devices digest.now ≡ self.now.shelf.geometry.device }
         ensures part { result ≡ part_of (setup_of self.now) digest.now }
         ensures there { result < length self.now.sprigs }

@@ -1,5 +1,5 @@
 // The numbers of a shard.
-ghost use Rattle.std.specs.Prelude.{◌≡◌, ◌≤◌, length};
+ghost use Rattle.std.specs.Prelude.{◌≡◌, ◌<◌, ◌≤◌, ◌^◌, length};
 ghost use Rattle.device_model.specs.Device.{State};
 ghost use Rattle.device_model.specs.Steps.{part_total};
 ghost use Rattle.shard_core.specs.Numbers.{AreFew, counts_of, tally_sum};
@@ -19,6 +19,7 @@ impl<D: Disk> Shard<D> {
     pub fn counts(&self) -> Counts
         ensures state { (s : State) → Agrees self.now s → result ≡ counts_of s }
         ensures few { (s : State) → Agrees self.now s → AreFew result }
+        ensures queued { result.queued < 2 ^ 32 }
     {
         // By its shape the device has at most 2^32 places, and each entry has a copy at a place of its own, so no sum went around.
         let _shape = self.shelf.geometry();

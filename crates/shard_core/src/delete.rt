@@ -12,8 +12,9 @@ ghost use Rattle.part_laws.specs.Becoming.{Loses};
 ghost use Rattle.block_shelf.specs.Disks.{IsLater};
 ghost use Rattle.block_shelf.specs.View.{SameShape};
 ghost use Rattle.shard_core.specs.View.{IsSettings, limits_of, setup_for};
-ghost use Rattle.shard_core.specs.Stands.{StandTogether};
-ghost use Rattle.shard_core.specs.Calls.{IsRefusedStep, StepMakes, delete_answer, write_answer};
+ghost use Rattle.shard_steps.specs.Standing.{StandTogether};
+ghost use Rattle.shard_core.specs.Calls.{IsRefusedStep, delete_answer, write_answer};
+ghost use Rattle.shard_steps.specs.Events.{StepMakes};
 ghost use Rattle.shard_core.specs.Writing.{IsEntombing, entombed_answer};
 
 use crate::sprigs::place_of_entry;

@@ -1,5 +1,5 @@
 // How what waits in write buffers comes to the disk.
-ghost use Rattle.std.specs.Prelude.{◌≡◌, ◌≢◌, ◌<◌, ◌^◌, false, [], List, IfOk, OnOk, OnErr};
+ghost use Rattle.std.specs.Prelude.{◌≡◌, ◌≢◌, ◌<◌, ◌≤◌, ◌^◌, true, false, [], List, IfOk, OnOk, OnErr};
 ghost use Rattle.std.specs.List.{AllByRecursion};
 ghost use Rattle.fault_count.specs.Counts.{Rose};
 ghost use Rattle.disk_model.specs.Disk.{IsHonest};
@@ -7,21 +7,52 @@ ghost use Rattle.device_model.specs.Book.{Setup};
 ghost use Rattle.device_model.specs.Device.{State};
 ghost use Rattle.device_model.specs.Steps.{Step};
 ghost use Rattle.device_model.specs.Events.{flush_call, flush_sealed_call};
-ghost use Rattle.device_model.specs.Legal.{flush_all};
+ghost use Rattle.device_model.specs.Legal.{flush_all, flush_between};
 ghost use Rattle.block_shelf.specs.Disks.{IsLater};
-ghost use Rattle.block_shelf.specs.View.{IsSetupOf, is_unsealed};
+ghost use Rattle.block_shelf.specs.View.{IsShelf, IsSetupOf, is_unsealed};
 ghost use Rattle.block_shelf.specs.View as shelf_view;
 ghost use Rattle.block_shelf.specs.Standing.{StandsFor};
 ghost use Rattle.block_shelf.specs.Calls.{Goes};
-ghost use Rattle.shard_core.specs.View.{SameSetup};
+ghost use Rattle.device_model.specs.Vacating.{Tends};
+ghost use Rattle.shard_core.specs.View.{SameSetup, setup_of};
 ghost use Rattle.shard_core.specs.Stands.{Agrees};
 ghost use Rattle.shard_core.specs.Calls.{Makes, MakesAny, flush_answer, FlushesAll};
+ghost use Rattle.shard_core.specs.Writing.{EndsRight};
+ghost use Rattle.shard_core.specs.Vacating.{MakesEvents};
 
 use crate::Shard;
 use block_shelf::Shelf;
 use disk_model::{Disk, DiskFault};
+use std::alloc::Global;
 
-/// Flushes the sealed buffers in rising number, up to the first fault, and answers how many it flushed.
+// No buffer has a greater number.
+const LAST_NUMBER: u64 = 1 << 62;
+
+/// Flushes the sealed buffers in rising number, up to the buffer of this number or to the first fault, and answers how many it flushed.
+pub(crate) fn flush_up_to<D: Disk>(shelf: &mut Shelf<D>, last: u64) -> Result<u64, DiskFault>
+    ensures flushed { (setup : Setup) (s : State) → IsSetupOf setup shelf.old → StandsFor setup shelf.old s → EndsRight last shelf.old.buffers
+        → (steps : List Step) × FlushesAll result (flush_between 0 last s.book) steps × Goes D.view setup steps shelf.old s shelf.new }
+    ensures few { IfOk result (λ n. n < 2 ^ 60) }
+    ensures all { IfOk result (λ n. AllByRecursion (λ b. b.number ≤ last) shelf.old.buffers → AllByRecursion (λ b. is_unsealed b.phase ≡ true) shelf.new.buffers) }
+    ensures quiet { AllByRecursion (λ b. is_unsealed b.phase ≡ false) shelf.old.buffers → AllByRecursion (λ b. is_unsealed b.phase ≡ false) shelf.new.buffers }
+    ensures left { OnErr result (shelf.new.buffers ≢ []) }
+    ensures cause { OnErr result (Rose (D.view shelf.old.disk).faults (D.view shelf.new.disk).faults) }
+    ensures later { IsLater (D.view shelf.old.disk) (D.view shelf.new.disk) }
+    ensures honest { IsHonest (D.view shelf.old.disk) → IsHonest (D.view shelf.new.disk) }
+    ensures shape { shelf_view.SameShape shelf.old shelf.new }
+    ensures whole { IsShelf D.view shelf.old }
+{
+    let mut count = 0;
+    while let Some(number) = shelf.flush_step()? {
+        count += 1;
+        if number >= last {
+            break;
+        }
+    }
+    Ok(count)
+}
+
+/// Flushes all sealed buffers in rising number, up to the first fault, and answers how many it flushed.
 pub(crate) fn flush_sealed<D: Disk>(shelf: &mut Shelf<D>) -> Result<u64, DiskFault>
     ensures flushed { (setup : Setup) (s : State) → IsSetupOf setup shelf.old → StandsFor setup shelf.old s
         → (steps : List Step) × FlushesAll result (flush_all s.book) steps × Goes D.view setup steps shelf.old s shelf.new }
@@ -33,15 +64,11 @@ pub(crate) fn flush_sealed<D: Disk>(shelf: &mut Shelf<D>) -> Result<u64, DiskFau
     ensures honest { IsHonest (D.view shelf.old.disk) → IsHonest (D.view shelf.new.disk) }
     ensures shape { shelf_view.SameShape shelf.old shelf.new }
 {
-    let mut count = 0;
-    while let Some(_) = shelf.flush_step()? {
-        count += 1;
-    }
-    Ok(count)
+    flush_up_to(shelf, LAST_NUMBER)
 }
 
 impl<D: Disk> Shard<D> {
-    /// Seals the buffer that is being filled, and flushes all that is sealed in rising number; answers how many buffers it flushed.
+    /// Seals the buffers that are being filled, and flushes all that is sealed in rising number; answers how many buffers it flushed.
     /// After a fault those that were flushed stay so. It takes no memory. After `Ok` nothing is pending.
     pub fn flush(&mut self) -> Result<u64, DiskFault>
         ensures makes { (s : State) → Agrees self.old s → Makes D.view flush_call (flush_answer result) self.old s self.new }
@@ -56,9 +83,22 @@ impl<D: Disk> Shard<D> {
         flush_sealed(&mut self.shelf)
     }
 
-    /// Where few blocks are free, seals the buffer that is being filled if it holds a block in which nothing is live; then flushes what is
-    /// sealed, as far as the disk goes. It answers nothing, and takes no memory.
-    pub fn tend(&mut self)
+    /// Where few blocks are free, seals each buffer that is being filled and holds a block in which nothing is live; then flushes what is
+    /// sealed, as far as the disk goes; then vacates the block that has waited longest, if one waits. It answers nothing.
+    pub fn tend(&mut self, alloc: Global)
+        ensures makes { (s : State) → Agrees self.old s → MakesEvents D.view (Tends (setup_of self.old) s) self.old s self.new }
+        ensures later { IsLater (D.view self.old.shelf.disk) (D.view self.new.shelf.disk) }
+        ensures honest { IsHonest (D.view self.old.shelf.disk) → IsHonest (D.view self.new.shelf.disk) }
+        ensures shape { SameSetup self.old self.new }
+    {
+        self.flush_low();
+        let _ = self.defrag_one(alloc);
+    }
+}
+
+impl<D: Disk> Shard<D> {
+    // The first two parts of that, which take no memory.
+    fn flush_low(&mut self)
         ensures makes { (s : State) → Agrees self.old s → MakesAny D.view flush_sealed_call self.old s self.new }
         ensures later { IsLater (D.view self.old.shelf.disk) (D.view self.new.shelf.disk) }
         ensures honest { IsHonest (D.view self.old.shelf.disk) → IsHonest (D.view self.new.shelf.disk) }

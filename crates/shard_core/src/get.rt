@@ -12,8 +12,9 @@ ghost use Rattle.block_shelf.specs.Disks.{OnlyRead};
 ghost use Rattle.block_shelf.specs.Standing.{IsPlaced};
 ghost use Rattle.block_shelf.specs.Reads.{IsUndamaged};
 ghost use Rattle.shard_core.specs.View.{IsSettings, limits_of, setup_for};
-ghost use Rattle.shard_core.specs.Stands.{SprigStands, StandTogether};
-ghost use Rattle.shard_core.specs.Calls.{StepMakes, ReadsStored, read_answer, meta_of};
+ghost use Rattle.shard_steps.specs.Standing.{SprigStands, StandTogether};
+ghost use Rattle.shard_core.specs.Calls.{ReadsStored, read_answer, meta_of};
+ghost use Rattle.shard_steps.specs.Events.{StepMakes};
 
 use crate::sprigs::place_of_entry;
 use crate::{ReadRefusal, Settings};

@@ -3,6 +3,7 @@
 
 mod calls;
 mod counts;
+mod defrag;
 mod delete;
 mod flush;
 mod format;
@@ -20,10 +21,11 @@ mod write;
 
 pub use block_shelf::ReadRefusal;
 pub use cold_scan::{Asked, StartCause, StartRefusal};
+pub use defrag::Vacated;
 pub use delete::{bury_step, delete_step};
 pub use format::format_disk;
 pub use get::{Meta, get_step, meta_step};
 pub use put::put_step;
-pub use refusals::WriteRefusal;
+pub use refusals::{Damage, DefragCause, DefragRefusal, WriteRefusal};
 pub use settings::Settings;
 pub use shard::Shard;

@@ -11,10 +11,12 @@ ghost use Rattle.block_format.specs.declared.geometry.Gate.TheVariants.{Shut};
 ghost use Rattle.part_laws.specs.Tests.{generation_seen};
 ghost use Rattle.block_shelf.specs.Disks.{IsLater};
 ghost use Rattle.block_shelf.specs.View.{SameShape, gate_at};
+ghost use Rattle.write_buffer.specs.declared.stream.Stream.TheVariants.{Client};
 ghost use Rattle.block_shelf.specs.Changes.{HasRoom};
 ghost use Rattle.shard_core.specs.View.{IsSettings, limits_of, setup_for};
-ghost use Rattle.shard_core.specs.Stands.{StandTogether};
-ghost use Rattle.shard_core.specs.Calls.{IsRefusedStep, StepMakes, write_answer};
+ghost use Rattle.shard_steps.specs.Standing.{StandTogether};
+ghost use Rattle.shard_core.specs.Calls.{IsRefusedStep, write_answer};
+ghost use Rattle.shard_steps.specs.Events.{StepMakes};
 ghost use Rattle.shard_core.specs.Writing.{IsExpected, IsFit, IsUnfit};
 
 use crate::write::{stamp_after, write_step};
@@ -56,7 +58,7 @@ pub fn put_step<D: Disk>(
         → StepMakes D.view setup (part_of setup digest.now) (put_call digest.now ttl expect payload.now now) (write_answer result) shelf.old s sprig.new shelf.new }
 
     // With commit off the disk is called only where a buffer begins behind a gate that isn't known to be shut.
-    ensures in_room { set.now.commit ≡ false → HasRoom (units_for (length payload.now)) shelf.old.buffers → shelf.new.disk ≡ shelf.old.disk }
+    ensures in_room { set.now.commit ≡ false → HasRoom Client (units_for (length payload.now)) shelf.old.buffers → shelf.new.disk ≡ shelf.old.disk }
     ensures quiet { set.now.commit ≡ false → gate_at shelf.old.gates (first_block shelf.old.free) ≡ Shut → shelf.new.disk ≡ shelf.old.disk }
 
     // A refusal writes nothing, but where commit is on and the flush failed.

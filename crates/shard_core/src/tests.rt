@@ -1,4 +1,4 @@
-ghost use Rattle.std.specs.Prelude.{◌≡◌};
+ghost use Rattle.std.specs.Prelude.{◌≡◌, ◌≤◌};
 ghost use Rattle.rec_format.specs.Places.{device_number};
 
 use super::*;
@@ -41,7 +41,14 @@ fn formatted(rt: &impl Abort, mut disk: MemDisk) -> Result<MemDisk, Fail> {
 }
 
 fn started(alloc: Global, disk: MemDisk) -> Result<Shard<MemDisk>, Fail> {
-    match Shard::start(alloc, disk, ALONE, SET) {
+    started_with(alloc, disk, 0)
+}
+
+/// Where blocks of which less than so many hundredths are live are vacated.
+fn started_with(alloc: Global, disk: MemDisk, lwm: u32) -> Result<Shard<MemDisk>, Fail>
+    requires { lwm ≤ 99 }
+{
+    match Shard::start(alloc, disk, ALONE, Settings { lwm, ..SET }) {
         Ok(shard) => Ok(shard),
         Err(StartRefusal { disk: _, cause: _ }) => Err(Fail::new("it isn't taken into use")),
     }
@@ -161,7 +168,7 @@ fn a_record_is_put_and_seen(rt: HostRuntime) -> Result<(), Fail> {
     assert!(rt; get(&rt, alloc, &mut shard, 1)?.is_none());
     assert!(rt; put(&rt, alloc, &mut shard, 1, b"hello", 1000) == Ok(stamp(1)));
     assert_shown(&rt, alloc, &mut shard, 1, stamp(1), b"hello")?;
-    shard.tend();
+    shard.tend(alloc);
     assert!(rt; shard.flush() == Ok(1));
     assert!(rt; shard.flush() == Ok(0));
     assert_shown(&rt, alloc, &mut shard, 1, stamp(1), b"hello")?;
@@ -191,7 +198,7 @@ fn a_put_is_refused(rt: HostRuntime) -> Result<(), Fail> {
     assert!(rt; put(&rt, alloc, &mut shard, 4, &payload, 1000) == Err(big));
     let load = WriteRefusal::Load { pending: 4 };
     assert!(rt; put(&rt, alloc, &mut shard, 4, b"", 1000) == Err(load));
-    shard.tend();
+    shard.tend(alloc);
     let space = WriteRefusal::Space { free: 4 };
     for byte in [4, 0] {
         assert!(rt; put(&rt, alloc, &mut shard, byte, b"", 1000) == Err(space));
@@ -260,5 +267,31 @@ fn entries_are_counted(rt: HostRuntime) -> Result<(), Fail> {
     assert_counts(&rt, &shard, [1, 1, 0], 0);
     let shard = started(alloc, shard.stop())?;
     assert_counts(&rt, &shard, [2, 1, 0], 0);
+    Ok(())
+}
+
+// In the first block a record of 10 units is left, and is moved to the buffer of moved records. The block is free once that buffer is
+// flushed, and then the buffer's own block waits.
+#[test]
+fn a_block_is_vacated(rt: HostRuntime) -> Result<(), Fail> {
+    let alloc = rt.alloc();
+    let disk = formatted(&rt, MemDisk::new(alloc, DEVICE_BYTES)?)?;
+    let mut shard = started_with(alloc, disk, 50)?;
+    assert!(rt; shard.defrag_one(alloc) == Ok(None));
+    let payload = [7; 8000];
+    for (byte, size, generation) in [(1, 8000, 1), (2, 100, 1), (1, 8000, 2)] {
+        let answer = put(&rt, alloc, &mut shard, byte, &payload[..size], 1000);
+        assert!(rt; answer == Ok(stamp(generation)), "record {byte}");
+    }
+    assert!(rt; shard.flush() == Ok(2));
+    assert!(rt; shard.counts().queued == 1 && shard.counts().free == 6);
+    let vacated = Vacated { block: 0, moved: 1 };
+    assert!(rt; shard.defrag_one(alloc) == Ok(Some(vacated)));
+    assert!(rt; shard.counts().queued == 0 && shard.counts().free == 5);
+    assert_shown(&rt, alloc, &mut shard, 2, stamp(1), &payload[..100])?;
+    assert!(rt; shard.flush() == Ok(1));
+    assert!(rt; shard.counts().queued == 1 && shard.counts().free == 6);
+    assert_shown(&rt, alloc, &mut shard, 1, stamp(2), &payload)?;
+    assert_shown(&rt, alloc, &mut shard, 2, stamp(1), &payload[..100])?;
     Ok(())
 }

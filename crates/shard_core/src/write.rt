@@ -10,22 +10,25 @@ ghost use Rattle.device_model.specs.Book.{Setup, Buffer, client, filling_buffer,
 ghost use Rattle.device_model.specs.Device.{State, part_of};
 ghost use Rattle.device_model.specs.Steps.{Step, sealed_stream, after_step};
 ghost use Rattle.device_model.specs.Events.{Call, Answer};
-ghost use Rattle.device_model.specs.Legal.{flush_all};
+ghost use Rattle.device_model.specs.Legal.{flush_between};
+ghost use Rattle.write_buffer.specs.declared.stream.Stream.TheVariants.{Client};
 ghost use Rattle.block_format.specs.declared.geometry.Gate.TheVariants.{Shut};
 ghost use Rattle.sprig_tree.specs.Entries.{entry_of};
 ghost use Rattle.part_laws.specs.Becoming.{TakesEntry};
 ghost use Rattle.block_shelf.specs.Disks.{IsLater};
 ghost use Rattle.block_shelf.specs.Standing.{StandsFor};
 ghost use Rattle.block_shelf.specs.View.{IsShelf, IsSetupOf, SameShape, gate_at};
+ghost use Rattle.block_shelf.specs.Appends.{stream_of};
 ghost use Rattle.block_shelf.specs.Changes.{HasRoom};
 ghost use Rattle.block_shelf.specs.Calls.{Goes};
-ghost use Rattle.shard_core.specs.Sprigs.{place_of, HasTimes};
+ghost use Rattle.shard_steps.specs.Sprigs.{place_of, HasTimes};
 ghost use Rattle.shard_core.specs.View.{IsSettings, limits_of, setup_for};
-ghost use Rattle.shard_core.specs.Stands.{StandTogether};
-ghost use Rattle.shard_core.specs.Calls.{IsRefusedStep, IsShelfLeft, StepMakes};
+ghost use Rattle.shard_steps.specs.Standing.{StandTogether};
+ghost use Rattle.shard_core.specs.Calls.{IsRefusedStep, IsShelfLeft};
+ghost use Rattle.shard_steps.specs.Events.{StepMakes};
 ghost use Rattle.shard_core.specs.Writing.{IsWriteOf, Wrote, IsUnwritten, Commits, written_answer};
 
-use crate::flush::flush_sealed;
+use crate::flush::flush_up_to;
 use crate::refusals::write_refusal;
 use crate::sprigs::place_of_entry;
 use crate::{Settings, WriteRefusal};
@@ -51,6 +54,7 @@ pub(crate) fn write_step<D: Disk>(
     requires named { device_number shelf.old.geometry.devices digest.now ≡ shelf.old.geometry.device }
     requires version { IsVersion version.now }
     requires size { length version.now.payload ≤ 2 ^ 31 }
+    requires client { stream_of class ≡ Client }
     requires found { found ≡ entry_of digest.now sprig.old.entries }
     requires settings { IsSettings set.now }
     requires limits { shelf.old.limits ≡ limits_of set.now }
@@ -60,7 +64,7 @@ pub(crate) fn write_step<D: Disk>(
     ensures stamp { IfOk result (λ stamp. stamp ≡ version.now.stamp) }
 
     // With commit off the disk is called only where a buffer begins behind a gate that isn't known to be shut.
-    ensures in_room { set.now.commit ≡ false → HasRoom (version_units version.now) shelf.old.buffers → shelf.new.disk ≡ shelf.old.disk }
+    ensures in_room { set.now.commit ≡ false → HasRoom Client (version_units version.now) shelf.old.buffers → shelf.new.disk ≡ shelf.old.disk }
     ensures quiet { set.now.commit ≡ false → gate_at shelf.old.gates (first_block shelf.old.free) ≡ Shut → shelf.new.disk ≡ shelf.old.disk }
     ensures refused { IfErr result (λ refusal. ((refusal ≡ WriteRefusal.Fault) × (set.now.commit ≡ true)) ⊎ IsRefusedStep sprig.old sprig.new shelf.old shelf.new refusal) }
     ensures later { IsLater (D.view shelf.old.disk) (D.view shelf.new.disk) }
@@ -103,12 +107,13 @@ fn append_entry<D: Disk>(
     requires named { device_number shelf.old.geometry.devices digest.now ≡ shelf.old.geometry.device }
     requires version { IsVersion version.now }
     requires size { length version.now.payload ≤ 2 ^ 31 }
+    requires client { stream_of class ≡ Client }
     requires found { found ≡ entry_of digest.now sprig.old.entries }
     requires stand { (setup : Setup) × (s : State) × IsSetupOf setup shelf.old × StandTogether setup (part_of setup digest.now) sprig.old shelf.old s }
-    ensures wrote { (setup : Setup) (s : State) → IsSetupOf setup shelf.old → setup.lwm ≡ 0 → StandTogether setup (part_of setup digest.now) sprig.old shelf.old s
+    ensures wrote { (setup : Setup) (s : State) → IsSetupOf setup shelf.old → StandTogether setup (part_of setup digest.now) sprig.old shelf.old s
         → MatchResult result (λ block. Wrote D.view setup s class digest.now version.now block shelf.old sprig.new shelf.new) (λ refusal. IsUnwritten D.view setup s class digest.now version.now refusal shelf.old sprig.new shelf.new) }
     ensures refused { IfErr result (IsRefusedStep sprig.old sprig.new shelf.old shelf.new) }
-    ensures in_room { HasRoom (version_units version.now) shelf.old.buffers → shelf.new.disk ≡ shelf.old.disk }
+    ensures in_room { HasRoom Client (version_units version.now) shelf.old.buffers → shelf.new.disk ≡ shelf.old.disk }
     ensures quiet { gate_at shelf.old.gates (first_block shelf.old.free) ≡ Shut → shelf.new.disk ≡ shelf.old.disk }
     ensures cause { result ≡ Err WriteRefusal.Fault → Rose (D.view shelf.old.disk).faults (D.view shelf.new.disk).faults }
     ensures later { IsLater (D.view shelf.old.disk) (D.view shelf.new.disk) }
@@ -173,18 +178,21 @@ fn entry_at(digest: &Digest, version: &Version, place: Place) -> Entry
     }
 }
 
-// Seals the buffer of a block that was just written to, and flushes all that is sealed.
+// Seals the buffer of a block that was just written to, and flushes what is sealed, up to that buffer.
 fn commit<D: Disk>(shelf: &mut Shelf<D>, block: u32) -> Result<(), WriteRefusal>
     ensures committed { (setup : Setup) (s : State) (b : Buffer) → IsSetupOf setup shelf.old → StandsFor setup shelf.old s → filling_buffer client s.book.buffers ≡ Some b → b.block ≡ block
-        → (steps : List Step) × Commits result (flush_all (after_step setup (sealed_stream client) s).book) steps × Goes D.view setup (sealed_stream client ∷ steps) shelf.old s shelf.new }
+        → (steps : List Step) × Commits result (flush_between 0 b.number (after_step setup (sealed_stream client) s).book) steps × Goes D.view setup (sealed_stream client ∷ steps) shelf.old s shelf.new }
     ensures fault { IfErr result (λ refusal. refusal ≡ WriteRefusal.Fault) }
     ensures cause { OnErr result (Rose (D.view shelf.old.disk).faults (D.view shelf.new.disk).faults) }
     ensures later { IsLater (D.view shelf.old.disk) (D.view shelf.new.disk) }
     ensures honest { IsHonest (D.view shelf.old.disk) → IsHonest (D.view shelf.new.disk) }
     ensures shape { SameShape shelf.old shelf.new }
 {
+    let Some(number) = shelf.number_at(block) else {
+        return Ok(());
+    };
     shelf.seal_for(block);
-    match flush_sealed(shelf) {
+    match flush_up_to(shelf, number) {
         Ok(_) => Ok(()),
         Err(_) => Err(WriteRefusal::Fault),
     }

@@ -7,6 +7,7 @@ mod lives_on;
 mod lone;
 mod refusals;
 mod rows;
+mod vacated;
 mod written;
 
 use block_format::Geometry;

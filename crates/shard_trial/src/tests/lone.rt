@@ -1,12 +1,13 @@
 // A device without others, and the calls of its shard.
-ghost use Rattle.std.specs.Prelude.{◌≡◌};
+ghost use Rattle.std.specs.Prelude.{◌≡◌, ◌<◌};
 ghost use Rattle.shard_core.specs.View.{IsSettings};
 
 use super::written::Stored;
 use disk_model::{DiskFault, MemDisk};
 use rec_format::{Digest, Stamp, Version};
 use shard_core::{
-    Asked, Meta, ReadRefusal, Settings, Shard, StartCause, StartRefusal, WriteRefusal,
+    Asked, DefragRefusal, Meta, ReadRefusal, Settings, Shard, StartCause, StartRefusal, Vacated,
+    WriteRefusal,
 };
 use std::alloc::Global;
 use std::process::Abort;
@@ -25,13 +26,14 @@ pub struct Lone {
     ghost alone: { (shard.shelf.geometry.device ≡ 0) × (shard.shelf.geometry.devices ≡ 1) },
 }
 
-/// One sprig in each partition, and at most four write buffers wait.
-fn settings(commit: bool) -> Settings
+/// One sprig in each partition, and at most four write buffers wait. Blocks are vacated that are used to less than so many percent.
+fn settings(commit: bool, lwm: u32) -> Settings
+    requires { lwm < 100 }
     ensures { IsSettings result }
 {
     Settings {
         sprigs: 1,
-        lwm: 0,
+        lwm,
         pending: 4,
         cache: 0,
         commit,
@@ -41,20 +43,31 @@ fn settings(commit: bool) -> Settings
 
 /// Why the disk isn't taken into use, and the disk.
 pub fn refused(alloc: Global, disk: MemDisk, asked: Asked) -> Result<(MemDisk, StartCause), Fail> {
-    match Shard::start(alloc, disk, asked, settings(false)) {
+    match Shard::start(alloc, disk, asked, settings(false, 0)) {
         Ok(_) => Err(Fail::new("it is taken into use")),
         Err(StartRefusal { disk, cause }) => Ok((disk, cause)),
     }
 }
 
-/// It is taken into use with commit off.
+/// It is taken into use with commit off, and no block is vacated.
 pub fn started(alloc: Global, disk: MemDisk) -> Result<Lone, Fail> {
     Lone::start(alloc, disk, false)
 }
 
 impl Lone {
     pub fn start(alloc: Global, disk: MemDisk, commit: bool) -> Result<Lone, Fail> {
-        match Shard::start(alloc, disk, ALONE, settings(commit)) {
+        Lone::start_with(alloc, disk, settings(commit, 0))
+    }
+
+    /// It is taken into use with commit off, and blocks are vacated that aren't used to the half.
+    pub fn start_vacating(alloc: Global, disk: MemDisk) -> Result<Lone, Fail> {
+        Lone::start_with(alloc, disk, settings(false, 50))
+    }
+
+    fn start_with(alloc: Global, disk: MemDisk, settings: Settings) -> Result<Lone, Fail>
+        requires { IsSettings settings }
+    {
+        match Shard::start(alloc, disk, ALONE, settings) {
             Ok(shard) => Ok(Lone { alloc, shard }),
             Err(StartRefusal { disk: _, cause: _ }) => Err(Fail::new("it isn't taken into use")),
         }
@@ -124,8 +137,12 @@ impl Lone {
         self.shard.flush()
     }
 
+    pub fn vacate(&mut self) -> Result<Option<Vacated>, DefragRefusal> {
+        self.shard.defrag_one(self.alloc)
+    }
+
     pub fn tend(&mut self) {
-        self.shard.tend();
+        self.shard.tend(self.alloc);
     }
 
     pub fn stop(self) -> MemDisk {

@@ -22,10 +22,12 @@ use Rattle.unit_ledger.specs.Rolls.{copies_in, copy_at}
 use Rattle.block_shelf.specs.declared.place.Place.{Place}
 use Rattle.block_shelf.specs.Calls.{IsPriorIn, copy_live}
 use Rattle.shard_core.specs.declared.refusals.WriteRefusal.{WriteRefusal}
-use Rattle.shard_core.specs.Sprigs.{place_of}
+use Rattle.shard_steps.specs.Sprigs.{place_of}
 use Rattle.shard_core.specs.View.{setup_for}
-use Rattle.shard_core.specs.Calls.{StepMakes, delete_answer}
-use Rattle.shard_core.proofs.Found.{entry_named, seen_none, seen_some, lies_found, prior_stands}
+use Rattle.shard_core.specs.Calls.{delete_answer}
+use Rattle.shard_steps.specs.Events.{StepMakes}
+use Rattle.shard_core.proofs.Found.{seen_none, seen_some}
+use Rattle.shard_steps.proofs.Found.{entry_named, lies_found, prior_stands}
 use Rattle.shard_core.proofs.Getting.{seen_held, live_is}
 use Rattle.shard_core.proofs.Later.{later_none}
 use Rattle.shard_core.proofs.Making.{setup_fits}
@@ -81,7 +83,7 @@ returns-clause-makes g c s stand =
     let there = subst (λ (d : Digest). Contains s.book.live (copy_live d c.place_of_entry-place.result)) (sym same) (live_there e.digest s.book.live (copy_live e.digest c.place_of_entry-place.result) live.live) in
     let goes = c.drop_live.ensures.dropped setup s c.args.digest.now (setup_fits c.args.shelf.now c.args.set.now c.requires.limits) stand.shelf_stands.stands there bare in
     let up : (g.D.Disk.view c.args.shelf.now.disk).faults ≤ (g.D.Disk.view c.drop_live.new.self.disk).faults = subst (λ d. (g.D.Disk.view c.args.shelf.now.disk).faults ≤ (g.D.Disk.view d).faults) (sym c.drop_live.ensures.disk) (le_refl (g.D.Disk.view c.args.shelf.now.disk).faults) in
-    makes_removed setup s c.args.digest.now c.args.now g.D.Disk.view c.args.sprig.now c.remove-gone.new.self c.args.shelf.now c.drop_live.new.self is.version c.requires.settings.lwm is.seen bare up goes stand
+    makes_removed setup s c.args.digest.now c.args.now g.D.Disk.view c.args.sprig.now c.remove-gone.new.self c.args.shelf.now c.drop_live.new.self is.version is.seen bare up goes stand
     (record { entries = ap (λ (x : SprigState). x.entries) c.remove-gone.ensures.rest; high = ap (λ (x : SprigState). x.hw) c.remove-gone.ensures.rest })
 
 pub returns-then-delete_writes-clause-makes : goal.returns-then-delete_writes-clause-makes

@@ -13,7 +13,7 @@ use Rattle.part_laws.specs.Tests.{stamp_found}
 use Rattle.shard_core.specs.declared.refusals.WriteRefusal.{WriteRefusal}
 use Rattle.shard_core.specs.declared.refusals.WriteRefusal.TheVariants as write
 use Rattle.shard_core.specs.View.{setup_for}
-use Rattle.shard_core.specs.Calls.{StepMakes}
+use Rattle.shard_steps.specs.Events.{StepMakes}
 use Rattle.shard_core.specs.Writing.{IsWriteOf, written_answer, entombed_answer}
 use Rattle.block_shelf.specs.declared.place.Class.TheVariants as class
 use Rattle.cold_scan.proofs.Room.{size_bounds}

@@ -4,7 +4,7 @@ use Rattle.std.specs.Prelude.{Some, None, Result, IfErr}
 use Rattle.std.specs.Option.{option_copied}
 use Rattle.rec_format.specs.declared.version.Version.{Version}
 use Rattle.rec_format.specs.declared.entry.Entry.{Entry}
-use Rattle.device_model.specs.Device.{State, part_of}
+use Rattle.device_model.specs.Device.{part_of}
 use Rattle.device_model.specs.Device as device
 use Rattle.device_model.specs.Events.{get_call}
 use Rattle.expiry_rule.specs.Seen.{seen_entry}
@@ -12,12 +12,15 @@ use Rattle.sprig_tree.specs.Entries.{entry_of}
 use Rattle.block_shelf.specs.declared.place.Place.{Place}
 use Rattle.block_shelf.specs.declared.refusals.ReadRefusal.{ReadRefusal}
 use Rattle.block_shelf.specs.declared.refusals.ReadRefusal.TheVariants as read
+use Rattle.block_shelf.specs.Standing.{IsCopyIn}
 use Rattle.block_shelf.specs.Reads.{copy_bytes, HasRead, IsUndamaged}
-use Rattle.shard_core.specs.Sprigs.{place_of}
+use Rattle.shard_steps.specs.Sprigs.{place_of}
 use Rattle.shard_core.specs.View.{setup_for}
-use Rattle.shard_core.specs.Stands.{StandTogether}
-use Rattle.shard_core.specs.Calls.{StepMakes, ReadsStored, read_answer}
-use Rattle.shard_core.proofs.Found.{seen_none, seen_some, lies_found}
+use Rattle.shard_steps.specs.Standing.{StandTogether}
+use Rattle.shard_core.specs.Calls.{ReadsStored, read_answer}
+use Rattle.shard_steps.specs.Events.{StepMakes}
+use Rattle.shard_core.proofs.Found.{seen_none, seen_some}
+use Rattle.shard_steps.proofs.Found.{lies_found}
 use Rattle.shard_core.proofs.Getting.{seen_held, live_is, shown, shown_got, shown_is, shown_err, makes_unseen, makes_read}
 use Rattle.shard_core.proofs.get.get_step.Goals as goal
 
@@ -30,7 +33,7 @@ pub returns-in_default-clause-stored : goal.returns-in_default-clause-stored
 returns-in_default-clause-stored g c =
     let none : seen_entry c.args.now (entry_of c.args.digest.now c.args.sprig.now.entries) ≡ None = ap (seen_entry c.args.now) (sym (c.as_ref.ensures.value ∙ c.find-found.ensures.value)) ∙ sym c.seen.ensures ∙ ap option_copied c.in_default.is in
     record {
-      buffered = λ s stand e b is there at. sym (seen_none (setup_for c.args.shelf.now.geometry c.args.set.now) s c.args.now c.args.digest.now c.args.sprig.now stand.sprig_stands none);
+      buffered = λ s stand e b is there at client. sym (seen_none (setup_for c.args.shelf.now.geometry c.args.set.now) s c.args.now c.args.digest.now c.args.sprig.now stand.sprig_stands none);
       placed = λ told e is apart. let clash : Some e ≡ None = sym is ∙ none in absurd (cc);
     }
 
@@ -83,7 +86,7 @@ returns-in-Ok-clause-buffered g c x b found there at =
     let one : Some x ≡ Some e = sym found ∙ is.found_is in
     let same : x ≡ e = cc in
     let got = c.read.ensures.buffered setup stands.0 is.version b stands.1.shelf_stands.stands live.live live.entry_is is.names there (at ∙ ap (λ (y : Entry). y.block) same ∙ sym (ap (λ (p : Place). p.block) c.place_of_entry.ensures)) in
-    (got.0, subst (λ (r : Result Version ReadRefusal). IfErr (shown r) (λ refusal. refusal ≡ read.Memory)) c.in-Ok.is (shown_err (λ v. v ≡ is.version) (λ refusal. refusal ≡ read.Memory) c.read.result got.1))
+    (got.0, subst (λ (r : Result Version ReadRefusal). IfErr (shown r) (λ refusal. refusal ≡ read.Memory)) c.in-Ok.is (shown_err (IsCopyIn b.stream is.version) (λ refusal. refusal ≡ read.Memory) c.read.result got.1))
 
 pub returns-in-Ok-clause-stored : goal.returns-in-Ok-clause-stored
 returns-in-Ok-clause-stored g c =
@@ -93,13 +96,13 @@ returns-in-Ok-clause-stored g c =
     let at_place = ap (λ (p : Place). p.block) c.place_of_entry.ensures in
     subst (λ (r : Result Version ReadRefusal). ReadsStored g.D.Disk.view (StandTogether setup (part_of setup c.args.digest.now) c.args.sprig.now c.args.shelf.now) (entry_of c.args.digest.now c.args.sprig.now.entries) c.args.shelf.now c.args.digest.now c.args.now (shown r)) c.in-Ok.is
     (record {
-      buffered = λ s stand x b found there at.
+      buffered = λ s stand x b found there at client.
           let is = seen_some setup s c.args.now c.args.digest.now c.args.sprig.now stand.sprig_stands e seen in
           let live = live_is g.D.Disk.view setup c.args.digest.now c.args.sprig.now c.args.shelf.now c.read.new.self s c.args.now stand e c.place_of_entry.result is c.place_of_entry.ensures in
           let one : Some x ≡ Some e = sym found ∙ is.found_is in
           let same : x ≡ e = cc in
           let got = c.read.ensures.buffered setup s is.version b stand.shelf_stands.stands live.live live.entry_is is.names there (at ∙ ap (λ (y : Entry). y.block) same ∙ sym at_place) in
-          shown_is (device.seen s c.args.now c.args.digest.now) is.version (λ refusal. refusal ≡ read.Memory) c.read.result is.seen got.1;
+          shown_is (device.seen s c.args.now c.args.digest.now) is.version b.stream (λ refusal. refusal ≡ read.Memory) c.read.result client is.seen got.1;
       placed = λ told x is none.
           let one : Some x ≡ Some e = sym is ∙ seen in
           let same : x ≡ e = cc in
@@ -133,7 +136,7 @@ returns-in-Err-clause-buffered g c x b found there at =
     let one : Some x ≡ Some e = sym found ∙ is.found_is in
     let same : x ≡ e = cc in
     let got = c.read.ensures.buffered setup stands.0 is.version b stands.1.shelf_stands.stands live.live live.entry_is is.names there (at ∙ ap (λ (y : Entry). y.block) same ∙ sym (ap (λ (p : Place). p.block) c.place_of_entry.ensures)) in
-    (got.0, subst (λ (r : Result Version ReadRefusal). IfErr (shown r) (λ refusal. refusal ≡ read.Memory)) c.in-Err.is (shown_err (λ v. v ≡ is.version) (λ refusal. refusal ≡ read.Memory) c.read.result got.1))
+    (got.0, subst (λ (r : Result Version ReadRefusal). IfErr (shown r) (λ refusal. refusal ≡ read.Memory)) c.in-Err.is (shown_err (IsCopyIn b.stream is.version) (λ refusal. refusal ≡ read.Memory) c.read.result got.1))
 
 pub returns-in-Err-clause-stored : goal.returns-in-Err-clause-stored
 returns-in-Err-clause-stored g c =
@@ -143,13 +146,13 @@ returns-in-Err-clause-stored g c =
     let at_place = ap (λ (p : Place). p.block) c.place_of_entry.ensures in
     subst (λ (r : Result Version ReadRefusal). ReadsStored g.D.Disk.view (StandTogether setup (part_of setup c.args.digest.now) c.args.sprig.now c.args.shelf.now) (entry_of c.args.digest.now c.args.sprig.now.entries) c.args.shelf.now c.args.digest.now c.args.now (shown r)) c.in-Err.is
     (record {
-      buffered = λ s stand x b found there at.
+      buffered = λ s stand x b found there at client.
           let is = seen_some setup s c.args.now c.args.digest.now c.args.sprig.now stand.sprig_stands e seen in
           let live = live_is g.D.Disk.view setup c.args.digest.now c.args.sprig.now c.args.shelf.now c.read.new.self s c.args.now stand e c.place_of_entry.result is c.place_of_entry.ensures in
           let one : Some x ≡ Some e = sym found ∙ is.found_is in
           let same : x ≡ e = cc in
           let got = c.read.ensures.buffered setup s is.version b stand.shelf_stands.stands live.live live.entry_is is.names there (at ∙ ap (λ (y : Entry). y.block) same ∙ sym at_place) in
-          shown_is (device.seen s c.args.now c.args.digest.now) is.version (λ refusal. refusal ≡ read.Memory) c.read.result is.seen got.1;
+          shown_is (device.seen s c.args.now c.args.digest.now) is.version b.stream (λ refusal. refusal ≡ read.Memory) c.read.result client is.seen got.1;
       placed = λ told x is none.
           let one : Some x ≡ Some e = sym is ∙ seen in
           let same : x ≡ e = cc in

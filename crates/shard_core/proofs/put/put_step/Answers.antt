@@ -17,7 +17,8 @@ use Rattle.block_shelf.specs.declared.place.Class.TheVariants as class
 use Rattle.shard_core.specs.declared.refusals.WriteRefusal.{WriteRefusal}
 use Rattle.shard_core.specs.declared.refusals.WriteRefusal.TheVariants as write
 use Rattle.shard_core.specs.View.{setup_for}
-use Rattle.shard_core.specs.Calls.{StepMakes, cause_of_write, write_answer}
+use Rattle.shard_core.specs.Calls.{cause_of_write, write_answer}
+use Rattle.shard_steps.specs.Events.{StepMakes}
 use Rattle.shard_core.specs.Writing.{IsWriteOf, IsFit, IsUnfit, written_answer}
 use Rattle.shard_core.proofs.Puts.{stamp_fine, unfit_refusal, spent_refusal, put_writes, stands_against, memory_wants, makes_nothing}
 use Rattle.shard_core.proofs.put.put_step.Goals as goal

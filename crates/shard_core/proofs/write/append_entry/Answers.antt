@@ -1,17 +1,21 @@
-use Rattle.std.proofs.Common.{◌≡◌, ◌<◌, refl, sym, ◌∙◌, ap, subst}
+use Rattle.std.proofs.Common.{◌≡◌, ◌<◌, false, refl, sym, ◌∙◌, ap, subst}
 use Rattle.std.specs.Prelude.{Option, Some, None, IfSome, option_map}
 use Rattle.rec_format.specs.declared.entry.Entry.{Entry}
 use Rattle.sprig_tree.specs.Entries.{entry_of}
 use Rattle.sprig_tree.specs.State.{SprigState}
 use Rattle.part_laws.specs.Becoming.{TakesEntry}
+use Rattle.rec_format.specs.Versions.{version_units}
+use Rattle.device_model.specs.Book.{has_room}
 use Rattle.device_model.specs.Device.{part_of}
+use Rattle.write_buffer.specs.declared.stream.Stream.{Stream}
 use Rattle.block_shelf.specs.declared.refusals.PutRefusal.TheVariants as put
+use Rattle.block_shelf.specs.Standing.{book_stream}
 use Rattle.block_shelf.specs.Calls.{IsPriorIn, prior_live}
-use Rattle.shard_core.specs.Stands.{SprigStands}
-use Rattle.shard_core.proofs.Going.{goes_none}
-use Rattle.shard_core.specs.Sprigs.{place_of}
-use Rattle.shard_core.proofs.Found.{lies_found, prior_is, prior_stands, same_stands}
-use Rattle.shard_core.proofs.Writes.{wrote_by}
+use Rattle.shard_steps.specs.Standing.{SprigStands}
+use Rattle.block_shelf.proofs.Going.{goes_none}
+use Rattle.shard_steps.specs.Sprigs.{place_of}
+use Rattle.shard_steps.proofs.Found.{lies_found, prior_is, prior_stands, same_stands}
+use Rattle.shard_core.proofs.Writes.{copy_of, wrote_by}
 use Rattle.shard_core.proofs.write.append_entry.Goals as goal
 
 pub prior_place-prior-requires : goal.prior_place-prior-requires
@@ -27,7 +31,7 @@ append-requires-clause-prior g c =
     (prior_stands c.requires.stand.0 c.args.digest.now c.args.sprig.now c.args.shelf.now c.requires.stand.1 c.requires.stand.3 g.D.Disk.view c.prior_place-prior.ensures.whole)
 
 pub returns-in_default-clause-wrote : goal.returns-in_default-clause-wrote
-returns-in_default-clause-wrote g c setup s is low stand = record {
+returns-in_default-clause-wrote g c setup s is stand = record {
   why = put.Memory;
   is_for = refl;
   cause = tt;
@@ -37,24 +41,24 @@ returns-in_default-clause-wrote g c setup s is low stand = record {
 }
 
 pub returns-in-Err-clause-wrote : goal.returns-in-Err-clause-wrote
-returns-in-Err-clause-wrote g c setup s is low stand =
+returns-in-Err-clause-wrote g c setup s is stand =
     let told = c.in-Err.ensures.causes setup s is stand.shelf_stands.stands in
     record {
       why = c.in-Err.refusal;
       is_for = c.write_refusal.ensures;
       cause = told.0;
-      closing = told.1;
+      closing = λ fault. subst (λ (t : Stream). has_room setup (book_stream t) (version_units c.args.version.now) s.book ≡ false) c.requires.client (told.1 fault);
       sprig_stands = same_stands setup (part_of setup c.args.digest.now) c.args.sprig.now c.reserve.new.self s (record { entries = c.reserve.ensures.entries; high = c.reserve.ensures.high }) stand.sprig_stands;
       goes = told.2;
     }
 
 pub returns-in-Ok-append-clause-wrote : goal.returns-in-Ok-append-clause-wrote
-returns-in-Ok-append-clause-wrote g c setup s is low stand =
+returns-in-Ok-append-clause-wrote g c setup s is stand =
     let same = same_stands setup (part_of setup c.args.digest.now) c.args.sprig.now c.reserve.new.self s (record { entries = c.reserve.ensures.entries; high = c.reserve.ensures.high }) stand.sprig_stands in
     let live = prior_is setup c.args.digest.now c.args.sprig.now c.args.shelf.now s stand
     ∙ ap (prior_live c.args.digest.now) (sym (c.prior_place-prior.ensures.place ∙ ap (option_map place_of) c.requires.found)) in
-    wrote_by g.D.Disk.view setup s c.args.class c.args.digest.now c.args.version.now c.in-Ok-append.place c.args.shelf.now c.append.new.self c.reserve.new.self c.enter.new.sprig low
+    wrote_by g.D.Disk.view setup s c.args.class c.args.digest.now c.args.version.now c.in-Ok-append.place c.args.shelf.now c.append.new.self c.reserve.new.self c.enter.new.sprig c.requires.client
     (record { sprig_stands = same; shelf_stands = stand.shelf_stands }) c.in-Ok-append.ensures.whole
-    (c.in-Ok-append.ensures.appended setup s is stand.shelf_stands.stands live) (c.in-Ok-append.ensures.causes setup s is stand.shelf_stands.stands)
+    (c.in-Ok-append.ensures.appended setup s is stand.shelf_stands.stands live (copy_of c.args.class c.requires.client s c.args.digest.now c.args.version.now)) (c.in-Ok-append.ensures.causes setup s is stand.shelf_stands.stands)
     c.in-Ok-append.ensures.place.0 c.requires.version.time.0
     (subst (λ (e : Entry). TakesEntry e c.reserve.new.self c.enter.new.sprig) c.entry_at.ensures c.enter.ensures)

@@ -7,13 +7,13 @@ use Rattle.rec_format.specs.declared.version.Stamp.{Stamp}
 use Rattle.device_model.specs.Book.{Setup, client}
 use Rattle.device_model.specs.Device.{State, part_of}
 use Rattle.device_model.specs.Steps.{Step, wrote, sealed_stream, after_step}
-use Rattle.device_model.specs.Legal.{flush_all}
+use Rattle.device_model.specs.Legal.{flush_between}
 use Rattle.block_shelf.specs.View.{IsSetupOf}
 use Rattle.block_shelf.specs.Calls.{Goes}
 use Rattle.shard_core.specs.declared.refusals.WriteRefusal.{WriteRefusal}
 use Rattle.shard_core.specs.declared.refusals.WriteRefusal.TheVariants as write
 use Rattle.shard_core.specs.View.{setup_for}
-use Rattle.shard_core.specs.Calls.{StepMakes}
+use Rattle.shard_steps.specs.Events.{StepMakes}
 use Rattle.shard_core.specs.Writing.{Wrote, Commits, written_answer}
 use Rattle.shard_core.proofs.FlushLoop.{rose_since, setup_stays}
 use Rattle.shard_core.proofs.Later.{later_then}
@@ -30,15 +30,15 @@ returns-in_err-block-clause-makes g c s call ok stand may =
     let p = err_from_is_err_and c.from_residual.result c.from_residual.ensures.1 in
     let same : c.from_residual.result ≡ Err refusal = p.1 ∙ ap (λ (r : WriteRefusal). Err r) p.2 in
     subst (λ (r : Result Stamp WriteRefusal). StepMakes g.D.Disk.view setup (part_of setup c.args.digest.now) call (written_answer ok r) c.args.shelf.now s c.append_entry.new.sprig c.append_entry.new.shelf) (sym same)
-    (makes_unwritten g.D.Disk.view setup s call c.args.class c.args.digest.now c.args.version.now ok c.args.shelf.now c.append_entry.new.sprig c.requires.settings.lwm may c.append_entry.new.shelf c.append_entry.ensures.later.count
-    stand.shelf_stands.queue refusal (e.wrote setup s is c.requires.settings.lwm stand) (λ fault. e.cause (ap (λ (r : WriteRefusal). Err r) fault)))
+    (makes_unwritten g.D.Disk.view setup s call c.args.class c.args.digest.now c.args.version.now ok c.args.shelf.now c.append_entry.new.sprig may c.append_entry.new.shelf c.append_entry.ensures.later.count
+    stand.shelf_stands.queue refusal (e.wrote setup s is stand) (λ fault. e.cause (ap (λ (r : WriteRefusal). Err r) fault)))
 
 pub returns-then-not-set-clause-makes : goal.returns-then-not-set-clause-makes
 returns-then-not-set-clause-makes g c s call ok stand may =
     let setup : Setup = setup_for c.args.shelf.now.geometry c.args.set.now in
     let is : IsSetupOf setup c.args.shelf.now = setup_fits c.args.shelf.now c.args.set.now c.requires.limits in
-    makes_waiting g.D.Disk.view setup s call c.args.class c.args.digest.now c.args.version.now ok c.args.shelf.now c.append_entry.new.sprig c.requires.settings.lwm may c.in_ok-block.block c.append_entry.new.shelf
-    ((c.in_ok-block.ensures {u = tt}).wrote setup s is c.requires.settings.lwm stand) c.append_entry.ensures.honest c.if-not-set.true c.append_entry.ensures.later.count
+    makes_waiting g.D.Disk.view setup s call c.args.class c.args.digest.now c.args.version.now ok c.args.shelf.now c.append_entry.new.sprig may c.in_ok-block.block c.append_entry.new.shelf
+    ((c.in_ok-block.ensures {u = tt}).wrote setup s is stand) c.append_entry.ensures.honest c.if-not-set.true c.append_entry.ensures.later.count
 
 pub returns-in_err-commit-clause-later : goal.returns-in_err-commit-clause-later
 returns-in_err-commit-clause-later g c = later_then g.D.Disk.view c.args.shelf.now.disk c.append_entry.new.shelf.disk c.commit.new.shelf.disk c.append_entry.ensures.later c.commit.ensures.later
@@ -51,9 +51,9 @@ returns-in_err-commit-clause-makes g c s call ok stand may =
     let setup : Setup = setup_for c.args.shelf.now.geometry c.args.set.now in
     let is : IsSetupOf setup c.args.shelf.now = setup_fits c.args.shelf.now c.args.set.now c.requires.limits in
     let it : Wrote g.D.Disk.view setup s c.args.class c.args.digest.now c.args.version.now c.in_ok-block.block c.args.shelf.now c.append_entry.new.sprig c.append_entry.new.shelf =
-    (c.in_ok-block.ensures {u = tt}).wrote setup s is c.requires.settings.lwm stand in
+    (c.in_ok-block.ensures {u = tt}).wrote setup s is stand in
     let t : State = after_step setup (wrote c.args.digest.now c.args.version.now) s in
-    let went = subst (λ (r : Result (Unit {0}) WriteRefusal). (steps : List Step) × Commits r (flush_all (after_step setup (sealed_stream client) t).book) steps
+    let went = subst (λ (r : Result (Unit {0}) WriteRefusal). (steps : List Step) × Commits r (flush_between 0 it.buffer.number (after_step setup (sealed_stream client) t).book) steps
     × Goes g.D.Disk.view setup (sealed_stream client ∷ steps) c.append_entry.new.shelf t c.commit.new.shelf) c.in_err-commit.was
     (c.commit.ensures.committed setup t it.buffer (setup_stays setup c.args.shelf.now c.append_entry.new.shelf c.append_entry.ensures.shape is) it.stands.shelf_stands.stands it.filling it.there) in
     let up = le_trans c.append_entry.ensures.later.count c.commit.ensures.later.count in
@@ -62,7 +62,7 @@ returns-in_err-commit-clause-makes g c s call ok stand may =
     let rose : Rose (g.D.Disk.view c.args.shelf.now.disk).faults (g.D.Disk.view c.commit.new.shelf.disk).faults =
     rose_since (g.D.Disk.view c.args.shelf.now.disk).faults (g.D.Disk.view c.append_entry.new.shelf.disk).faults (g.D.Disk.view c.commit.new.shelf.disk).faults c.append_entry.ensures.later.count (c.in_err-commit.ensures {u = tt}).cause in
     subst (λ (r : Result Stamp WriteRefusal). StepMakes g.D.Disk.view setup (part_of setup c.args.digest.now) call (written_answer ok r) c.args.shelf.now s c.append_entry.new.sprig c.commit.new.shelf) (sym same)
-    (ends_faulted g.D.Disk.view setup s call c.args.class c.args.digest.now c.args.version.now ok c.args.shelf.now c.append_entry.new.sprig c.requires.settings.lwm may c.in_ok-block.block c.append_entry.new.shelf it c.append_entry.ensures.honest
+    (ends_faulted g.D.Disk.view setup s call c.args.class c.args.digest.now c.args.version.now ok c.args.shelf.now c.append_entry.new.sprig may c.in_ok-block.block c.append_entry.new.shelf it c.append_entry.ensures.honest
     c.if-not-set.false c.commit.new.shelf up (Err c.in_err-commit.field-0.0) went.0 went.1 went.2 went.1.1 rose)
 
 pub returns-clause-makes : goal.returns-clause-makes
@@ -70,11 +70,11 @@ returns-clause-makes g c s call ok stand may =
     let setup : Setup = setup_for c.args.shelf.now.geometry c.args.set.now in
     let is : IsSetupOf setup c.args.shelf.now = setup_fits c.args.shelf.now c.args.set.now c.requires.limits in
     let it : Wrote g.D.Disk.view setup s c.args.class c.args.digest.now c.args.version.now c.in_ok-block.block c.args.shelf.now c.append_entry.new.sprig c.append_entry.new.shelf =
-    (c.in_ok-block.ensures {u = tt}).wrote setup s is c.requires.settings.lwm stand in
+    (c.in_ok-block.ensures {u = tt}).wrote setup s is stand in
     let t : State = after_step setup (wrote c.args.digest.now c.args.version.now) s in
-    let went = subst (λ (r : Result (Unit {0}) WriteRefusal). (steps : List Step) × Commits r (flush_all (after_step setup (sealed_stream client) t).book) steps
+    let went = subst (λ (r : Result (Unit {0}) WriteRefusal). (steps : List Step) × Commits r (flush_between 0 it.buffer.number (after_step setup (sealed_stream client) t).book) steps
     × Goes g.D.Disk.view setup (sealed_stream client ∷ steps) c.append_entry.new.shelf t c.commit.new.shelf) c.in_ok-commit.was
     (c.commit.ensures.committed setup t it.buffer (setup_stays setup c.args.shelf.now c.append_entry.new.shelf c.append_entry.ensures.shape is) it.stands.shelf_stands.stands it.filling it.there) in
     let up = le_trans c.append_entry.ensures.later.count c.commit.ensures.later.count in
-    ends_done g.D.Disk.view setup s call c.args.class c.args.digest.now c.args.version.now ok c.args.shelf.now c.append_entry.new.sprig c.requires.settings.lwm may c.in_ok-block.block c.append_entry.new.shelf it c.append_entry.ensures.honest
+    ends_done g.D.Disk.view setup s call c.args.class c.args.digest.now c.args.version.now ok c.args.shelf.now c.append_entry.new.sprig may c.in_ok-block.block c.append_entry.new.shelf it c.append_entry.ensures.honest
     c.if-not-set.false c.commit.new.shelf up (Ok c.in_ok-commit.field-0) went.0 went.1 went.2 went.1

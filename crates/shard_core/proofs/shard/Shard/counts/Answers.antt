@@ -1,4 +1,4 @@
-use Rattle.std.proofs.Common.{◌≡◌, length, sym, ◌∙◌, ap, subst}
+use Rattle.std.proofs.Common.{◌≡◌, sym, ◌∙◌, ap, subst}
 use Rattle.rec_format.specs.declared.entry.Counts.{Counts}
 use Rattle.device_model.specs.Device.{State}
 use Rattle.sprig_tree.specs.declared.tally.Tally.{Tally}
@@ -32,11 +32,11 @@ module _ (g : Over) (c : goal.After-counts g) where
       let records = ap (λ (t : Tally). t.records) c.self.invariant.tallied ∙ sums.records in
       let tombstones = ap (λ (t : Tally). t.tombstones) c.self.invariant.tallied ∙ sums.tombstones in
       let covered = ap (λ (t : Tally). t.covered) c.self.invariant.tallied ∙ sums.covered in
-      let queued = ap (λ (n : Counts). n.queued) c.counts.ensures.numbers ∙ sym (ap length agrees.shelf.queue) in
+      let queued = c.counts.ensures.queued (setup_of shard) s agrees.shelf.queue in
       λ i. record { records = records i; tombstones = tombstones i; covered = covered i; free = shelf.0 i; pending = shelf.1 i; queued = queued i; held = shelf.2 i }
 
   small : (s : State) → Agrees shard s → AreFew told
-  small s agrees = subst AreFew (sym (tells s agrees)) (few_counts g.D.Disk.view shard s c.geometry-shape.ensures.whole c.self.invariant.whole agrees c.counts.result.held c.counts.ensures.held)
+  small s agrees = subst AreFew (sym (tells s agrees)) (few_counts g.D.Disk.view shard s c.geometry-shape.ensures.whole c.self.invariant.whole agrees c.counts.result.held c.counts.ensures.held c.counts.result.queued (c.counts.ensures.queued (setup_of shard) s agrees.shelf.queue) c.counts.ensures.few)
 
 pub returns-clause-state : goal.returns-clause-state
 returns-clause-state g c = subst (λ (v : ShardView g.row.D.Denot). (s : State) → Agrees v s → told g c ≡ counts_of s) c.self.view_is (tells g c)

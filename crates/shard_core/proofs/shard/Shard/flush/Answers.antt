@@ -10,9 +10,10 @@ use Rattle.block_shelf.specs.View.{ShelfView}
 use Rattle.shard_core.specs.View.{ShardView, setup_of}
 use Rattle.shard_core.specs.Stands.{Agrees}
 use Rattle.shard_core.specs.Calls.{Makes, flush_answer}
-use Rattle.shard_core.proofs.Going.{goes_then}
+use Rattle.block_shelf.proofs.Going.{goes_then}
 use Rattle.shard_core.proofs.FlushLoop.{setup_stays}
-use Rattle.shard_core.proofs.Making.{setup_is, seal_all_flushing, makes_flush, whole_made}
+use Rattle.shard_core.proofs.Making.{setup_is, makes_flush, whole_made}
+use Rattle.shard_steps.proofs.Making.{seal_all_flushing}
 use Rattle.shard_core.proofs.shard.Shard.flush.Given.{Over}
 use Rattle.shard_core.proofs.shard.Shard.flush.Goals as goal
 
@@ -27,7 +28,7 @@ made g c s agrees =
     let is = setup_is old c.self.invariant.whole in
     let first = c.seal_streams.ensures.sealed (setup_of old) s is agrees.shelf.stands in
     let then = c.flush_sealed.ensures.flushed (setup_of old) (after_steps (setup_of old) (seal_all s.book) s) (setup_stays (setup_of old) old.shelf mid c.seal_streams.ensures.shape is) first.stands in
-    makes_flush g.D.Disk.view old new s c.self.invariant.whole.settings.lwm agrees
+    makes_flush g.D.Disk.view old new s agrees
     (record { geometry = c.flush_sealed.ensures.shape.geometry ∙ c.seal_streams.ensures.shape.geometry; set = refl }) refl
     (subst (λ (d : g.row.D.Denot). (g.D.Disk.view d).faults ≤ (g.D.Disk.view new.shelf.disk).faults) c.seal_streams.ensures.disk c.flush_sealed.ensures.later.count)
     c.flush_sealed.result flush_call (seal_all s.book) then.0 (seal_all_flushing s.book) then.1

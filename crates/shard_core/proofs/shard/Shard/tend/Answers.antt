@@ -1,55 +1,7 @@
-use Rattle.std.proofs.Common.{◌≤◌, sym, refl, ◌∙◌, subst}
-use Rattle.std.specs.Prelude.{OnErr}
-use Rattle.fault_count.specs.Counts.{Rose}
-use Rattle.device_model.specs.Device.{State}
-use Rattle.device_model.specs.Steps.{after_steps}
-use Rattle.device_model.specs.Events.{flush_sealed_call}
-use Rattle.device_model.specs.Legal.{seal_low}
-use Rattle.disk_model.specs.Disk.{IsHonest}
-use Rattle.block_shelf.specs.View.{ShelfView}
-use Rattle.shard_core.specs.View.{ShardView, setup_of}
-use Rattle.shard_core.specs.Stands.{Agrees}
-use Rattle.shard_core.specs.Calls.{Makes, MakesAny, flush_answer}
-use Rattle.shard_core.proofs.Going.{goes_then}
-use Rattle.shard_core.proofs.FlushLoop.{setup_stays}
-use Rattle.shard_core.proofs.Making.{setup_is, seal_low_flushing, makes_flush, whole_made}
-use Rattle.shard_core.proofs.shard.Shard.tend.Given.{Over}
+use Rattle.shard_core.proofs.Tending.{tends}
 use Rattle.shard_core.proofs.shard.Shard.tend.Goals as goal
 
-made : (g : Over) (c : goal.After-flush_sealed g) (s : State)
-    → let old : ShardView g.row.D.Denot = record { shelf = c.self.inside.shelf; set = c.self.inside.set; sprigs = c.self.inside.sprigs.items } in
-    let new : ShardView g.row.D.Denot = record { shelf = c.flush_sealed.new.shelf; set = c.self.inside.set; sprigs = c.self.inside.sprigs.items } in
-    Agrees old s → Makes g.D.Disk.view flush_sealed_call (flush_answer c.flush_sealed.result) old s new
-made g c s agrees =
-    let old : ShardView g.row.D.Denot = record { shelf = c.self.inside.shelf; set = c.self.inside.set; sprigs = c.self.inside.sprigs.items } in
-    let new : ShardView g.row.D.Denot = record { shelf = c.flush_sealed.new.shelf; set = c.self.inside.set; sprigs = c.self.inside.sprigs.items } in
-    let mid : ShelfView g.row.D.Denot = c.seal_low.new.self in
-    let is = setup_is old c.self.invariant.whole in
-    let first = c.seal_low.ensures.sealed (setup_of old) s is agrees.shelf.stands in
-    let then = c.flush_sealed.ensures.flushed (setup_of old) (after_steps (setup_of old) (seal_low (setup_of old) s.book) s) (setup_stays (setup_of old) old.shelf mid c.seal_low.ensures.shape is) first.stands in
-    makes_flush g.D.Disk.view old new s c.self.invariant.whole.settings.lwm agrees
-    (record { geometry = c.flush_sealed.ensures.shape.geometry ∙ c.seal_low.ensures.shape.geometry; set = refl }) refl
-    (subst (λ (d : g.row.D.Denot). (g.D.Disk.view d).faults ≤ (g.D.Disk.view new.shelf.disk).faults) c.seal_low.ensures.disk c.flush_sealed.ensures.later.count)
-    c.flush_sealed.result flush_sealed_call (seal_low (setup_of old) s.book) then.0 (seal_low_flushing (setup_of old) s.book) then.1
-    (subst (λ (d : g.row.D.Denot). OnErr c.flush_sealed.result (Rose (g.D.Disk.view d).faults (g.D.Disk.view new.shelf.disk).faults)) c.seal_low.ensures.disk c.flush_sealed.ensures.cause)
-    tt refl (λ event told ends. ends)
-    (goes_then g.D.Disk.view (setup_of old) (seal_low (setup_of old) s.book) then.0 old.shelf mid new.shelf s
-    (λ honest. subst (λ (d : g.row.D.Denot). IsHonest (g.D.Disk.view d)) (sym c.seal_low.ensures.disk) honest) first then.2)
-
 pub returns-clause-makes : goal.returns-clause-makes
-returns-clause-makes g c =
-    let new : ShardView g.row.D.Denot = record { shelf = c.flush_sealed.new.shelf; set = c.self.inside.set; sprigs = c.self.inside.sprigs.items } in
-    subst (λ (v : ShardView g.row.D.Denot). (s : State) → Agrees v s → MakesAny g.D.Disk.view flush_sealed_call v s new) c.self.view_is (λ s agrees. (flush_answer c.flush_sealed.result, made g c s agrees))
-
-pub invariant_of-self : goal.invariant_of-self
-invariant_of-self g c =
-    let old : ShardView g.row.D.Denot = record { shelf = c.self.inside.shelf; set = c.self.inside.set; sprigs = c.self.inside.sprigs.items } in
-    let new : ShardView g.row.D.Denot = record { shelf = c.flush_sealed.new.shelf; set = c.self.inside.set; sprigs = c.self.inside.sprigs.items } in
-    let stands = c.self.invariant.whole.stands in
-    record {
-      whole =
-          whole_made g.D.Disk.view flush_sealed_call (flush_answer c.flush_sealed.result) old new c.self.invariant.whole
-          (record { geometry = c.flush_sealed.ensures.shape.geometry ∙ c.seal_low.ensures.shape.geometry; set = refl })
-          (c.flush_sealed.ensures.shape.limits ∙ c.seal_low.ensures.shape.limits) stands.0 (made g c stands.0 stands.1);
-      tallied = c.self.invariant.tallied;
-    }
+returns-clause-makes g c s agrees =
+    tends g.D.Disk.view c.args.self.now c.flush_low.new.self c.defrag_one.new.self c.flush_low.ensures.shape c.flush_low.ensures.honest c.defrag_one.result s
+    (c.flush_low.ensures.makes s agrees) c.defrag_one.ensures.makes

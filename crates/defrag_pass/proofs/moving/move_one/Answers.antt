@@ -1,0 +1,146 @@
+use Rattle.std.proofs.Common.{◌≡◌, Bool, true, false, refl, sym, ◌∙◌, ap, subst, arith}
+use Rattle.std.specs.Prelude.{Option, Some, Result, Err, IsSome, option_map}
+use Rattle.std.proofs.lemmas.Bool.{ne_eqb}
+use Rattle.std.proofs.lemmas.Result.{err_from_is_err_and}
+use Rattle.rec_format.specs.declared.version.Digest.{Digest}
+use Rattle.rec_format.specs.declared.entry.Entry.{Entry}
+use Rattle.device_model.specs.Device.{part_of}
+use Rattle.device_model.specs.Events.{Answer, happened, move_call}
+use Rattle.block_format.specs.declared.geometry.Geometry.{Geometry}
+use Rattle.block_flusher.proofs.Steps.{size_bounds}
+use Rattle.sprig_tree.specs.Entries.{entry_of}
+use Rattle.part_laws.specs.Becoming.{moved_to}
+use Rattle.block_shelf.specs.declared.place.Place.{Place}
+use Rattle.block_shelf.specs.declared.refusals.PutRefusal.{PutRefusal}
+use Rattle.block_shelf.specs.Calls.{IsPriorIn}
+use Rattle.shard_steps.specs.Sprigs.{place_of}
+use Rattle.shard_steps.specs.Events.{StepMakes}
+use Rattle.shard_steps.proofs.Found.{entry_named, lies_found, prior_stands}
+use Rattle.defrag_pass.specs.declared.refusal.MoveRefusal.{MoveRefusal}
+use Rattle.defrag_pass.specs.Moves.{Answers}
+use Rattle.defrag_pass.proofs.Moved.{makes_elsewhere, makes_unread, makes_unappended, makes_moved, copy_is_read, stand_read, none_there, out_of, fits_here, prior_at, live_at, version_at, shown_here, prior_read, read_then_later, replaced_by, setup_read}
+use Rattle.defrag_pass.proofs.moving.move_one.Goals as goal
+
+-- ---- no copy in the block
+
+pub returns-in_default-clause-makes : goal.returns-in_default-clause-makes
+returns-in_default-clause-makes g c setup s is stand =
+    let view = g.D.Disk.view in
+    let out = none_there view setup c.args.digest.now c.args.block c.args.sprig.now c.args.shelf.now s stand (sym c.find.ensures.value ∙ c.in_default.is) in
+    (happened false, refl, makes_elsewhere view setup c.args.digest.now c.args.block c.args.sprig.now c.args.shelf.now s stand (g.met.D.Disk.is_disk c.args.shelf.now.disk) out)
+
+pub returns-then-entry-block-clause-makes : goal.returns-then-entry-block-clause-makes
+returns-then-entry-block-clause-makes g c setup s is stand =
+    let view = g.D.Disk.view in
+    let found = sym c.find.ensures.value ∙ c.in-Some.is in
+    let out = out_of view setup c.args.digest.now c.args.block c.args.sprig.now c.args.shelf.now s stand c.in-Some.entry found false (ne_eqb c.in-Some.entry.block c.args.block c.if-entry-block.true) in
+    (happened false, refl, makes_elsewhere view setup c.args.digest.now c.args.block c.args.sprig.now c.args.shelf.now s stand (g.met.D.Disk.is_disk c.args.shelf.now.disk) out)
+
+-- ---- what the calls ask
+
+pub prove-unreachable-requires : goal.prove-unreachable-requires
+prove-unreachable-requires g c =
+    let r = c.requires.stand in
+    let lies = lies_found r.0 c.args.digest.now c.args.sprig.now c.args.shelf.now r.1 r.3 c.in-Some.entry (sym c.find.ensures.value ∙ c.in-Some.is) in
+    absurd (omega (arith, lies.lies.block, ap (λ (p : Place). p.block) c.place_of_entry-place.ensures, c.if-prove.true, ap (λ (x : Geometry). x.blocks) c.geometry.ensures.shape))
+
+pub read_for-requires-clause-within : goal.read_for-requires-clause-within
+read_for-requires-clause-within g c =
+    let r = c.requires.stand in
+    let lies = lies_found r.0 c.args.digest.now c.args.sprig.now c.args.shelf.now r.1 r.3 c.in-Some.entry (sym c.find.ensures.value ∙ c.in-Some.is) in
+    omega (arith, lies.lies.within, ap (λ (p : Place). p.unit) c.place_of_entry-place.ensures, ap (λ (p : Place). p.units) c.place_of_entry-place.ensures)
+
+pub append-requires-clause-size : goal.append-requires-clause-size
+append-requires-clause-size g c =
+    let r = c.requires.stand in
+    let lies = lies_found r.0 c.args.digest.now c.args.sprig.now c.args.shelf.now r.1 r.3 c.in-Some.entry (sym c.find.ensures.value ∙ c.in-Some.is) in
+    let bounds = size_bounds c.args.shelf.now.geometry c.geometry.ensures.whole.geometry in
+    let named = (c.in_ok-version.ensures {u = tt}).names in
+    omega (arith, lies.lies.within, bounds.1, named.units)
+
+pub append-requires-clause-prior : goal.append-requires-clause-prior
+append-requires-clause-prior g c =
+    let r = c.requires.stand in
+    let there = subst (λ (o : Option Entry). IsPriorIn c.args.shelf.now (option_map place_of o)) (sym c.find.ensures.value ∙ c.in-Some.is)
+    (prior_stands r.0 c.args.digest.now c.args.sprig.now c.args.shelf.now r.1 r.3 g.D.Disk.view c.geometry.ensures.whole) in
+    prior_read c.place_of_entry-place.result c.args.shelf.now c.read_for.new.shelf c.read_for.ensures.same (subst (λ (p : Place). IsPriorIn c.args.shelf.now (Some p)) (sym c.place_of_entry-place.ensures) there)
+
+pub replace-requires : goal.replace-requires
+replace-requires g c =
+    let found = sym c.find.ensures.value ∙ c.in-Some.is in
+    let named = entry_named c.args.digest.now c.args.sprig.now.entries c.in-Some.entry found in
+    subst IsSome (sym (ap (λ (x : Entry). entry_of x.digest c.args.sprig.now.entries) c.entry_at.ensures ∙ ap (λ (d : Digest). entry_of d c.args.sprig.now.entries) (sym named) ∙ found)) refl
+
+-- ---- the record isn't read
+
+pub returns-in_err-version-clause-makes : goal.returns-in_err-version-clause-makes
+returns-in_err-version-clause-makes g c setup s is stand =
+    let view = g.D.Disk.view in
+    let e : Entry = c.in-Some.entry in
+    let old = c.args.shelf.now in
+    let mid = c.read_for.new.shelf in
+    let found : entry_of c.args.digest.now c.args.sprig.now.entries ≡ Some e = sym c.find.ensures.value ∙ c.in-Some.is in
+    let refusal : MoveRefusal = c.in_err-version.field-0.0 in
+    let got = c.in_err-version.ensures {u = tt} in
+    let live = live_at view setup c.args.digest.now c.args.block c.args.sprig.now old s stand e found c.place_of_entry-place.result c.place_of_entry-place.ensures in
+    let version = version_at view setup c.args.digest.now c.args.block c.args.sprig.now old s stand e found in
+    let shown = shown_here view setup c.args.digest.now c.args.block c.args.sprig.now old s stand e found in
+    let p = err_from_is_err_and c.from_residual.result c.from_residual.ensures.1 in
+    let same : c.from_residual.result ≡ Err refusal = p.1 ∙ ap (λ (r : MoveRefusal). Err r) p.2 in
+    subst (λ (r : Result Bool MoveRefusal). (answer : Answer) × Answers r answer × StepMakes view setup (part_of setup c.args.digest.now) (move_call c.args.digest.now c.args.block) answer old s c.args.sprig.now mid) (sym same)
+    (makes_unread view setup c.args.digest.now c.args.block c.args.sprig.now old s stand e found c.if-entry-block.false mid got.same got.disk (g.met.D.Disk.is_disk mid.disk) refusal
+    (got.asked setup s is stand.shelf_stands.stands) (λ fault. got.cause (ap (λ (r : MoveRefusal). Err r) fault))
+    (λ honest placed. got.written honest setup s shown.version stand.shelf_stands.stands placed live version shown.names))
+
+-- ---- the copy
+
+pub returns-in-Ok-clause-makes : goal.returns-in-Ok-clause-makes
+returns-in-Ok-clause-makes g c setup s is stand =
+    let view = g.D.Disk.view in
+    let digest : Digest = c.args.digest.now in
+    let e : Entry = c.in-Some.entry in
+    let old = c.args.shelf.now in
+    let mid = c.read_for.new.shelf in
+    let found : entry_of digest c.args.sprig.now.entries ≡ Some e = sym c.find.ensures.value ∙ c.in-Some.is in
+    let got = c.in_ok-version.ensures {u = tt} in
+    let disk = g.met.D.Disk.is_disk mid.disk in
+    let place : Place = c.place_of_entry-place.result in
+    let live = live_at view setup digest c.args.block c.args.sprig.now old s stand e found place c.place_of_entry-place.ensures in
+    let version = version_at view setup digest c.args.block c.args.sprig.now old s stand e found in
+    let shown = shown_here view setup digest c.args.block c.args.sprig.now old s stand e found in
+    let stands = stand_read view setup digest c.args.block c.args.sprig.now old s stand e found c.if-entry-block.false mid got.same got.disk disk in
+    let takes = c.in-Ok.ensures.appended setup s (setup_read setup old mid got.same is) stands.shelf_stands.stands
+    (prior_at view setup digest c.args.block c.args.sprig.now old s stand e found place c.place_of_entry-place.ensures)
+    (copy_is_read view setup digest c.args.block c.args.sprig.now old s stand e found c.in_ok-version.version got.names) in
+    let replaces = replaced_by c.entry_at.result (moved_to c.in-Ok.new.block c.in-Ok.new.unit e) c.args.sprig.now c.replace.new.self c.entry_at.ensures c.replace.ensures in (
+      happened true,
+      refl,
+      makes_moved view setup digest c.args.block c.args.sprig.now old s stand e found c.if-entry-block.false mid got.same got.disk disk
+          (fits_here view setup digest c.args.block c.args.sprig.now old s stand e found is) c.in_ok-version.version got.names (got.asked setup s is stand.shelf_stands.stands)
+          c.append.new.self c.append.ensures.later.count c.in-Ok.new c.in-Ok.ensures.place.0 takes c.replace.new.self replaces
+          (λ honest placed. got.written honest setup s shown.version stand.shelf_stands.stands placed live version shown.names),
+    )
+
+pub returns-in-Ok-clause-later : goal.returns-in-Ok-clause-later
+returns-in-Ok-clause-later g c = read_then_later _ _ _ c.read_for.ensures.disk c.append.ensures.later
+
+pub returns-clause-makes : goal.returns-clause-makes
+returns-clause-makes g c setup s is stand =
+    let view = g.D.Disk.view in
+    let digest : Digest = c.args.digest.now in
+    let e : Entry = c.in-Some.entry in
+    let old = c.args.shelf.now in
+    let mid = c.read_for.new.shelf in
+    let found : entry_of digest c.args.sprig.now.entries ≡ Some e = sym c.find.ensures.value ∙ c.in-Some.is in
+    let got = c.in_ok-version.ensures {u = tt} in
+    let disk = g.met.D.Disk.is_disk mid.disk in
+    let stands = stand_read view setup digest c.args.block c.args.sprig.now old s stand e found c.if-entry-block.false mid got.same got.disk disk in
+    let told = c.in-Err.ensures.causes setup s (setup_read setup old mid got.same is) stands.shelf_stands.stands in
+    subst (λ (r : MoveRefusal). (answer : Answer) × Answers (Err r) answer × StepMakes view setup (part_of setup digest) (move_call digest c.args.block) answer old s c.args.sprig.now c.append.new.self)
+    (sym c.append_refusal.ensures)
+    (makes_unappended view setup digest c.args.block c.args.sprig.now old s stand e found c.if-entry-block.false mid got.same got.disk disk
+    (fits_here view setup digest c.args.block c.args.sprig.now old s stand e found is) c.in_ok-version.version got.names (got.asked setup s is stand.shelf_stands.stands)
+    c.append.new.self c.append.ensures.later.count c.in-Err.refusal told.0 told.1 (λ fault. c.append.ensures.cause (c.in-Err.is ∙ ap (λ (r : PutRefusal). Err r) fault)) told.2)
+
+pub returns-clause-later : goal.returns-clause-later
+returns-clause-later g c = read_then_later _ _ _ c.read_for.ensures.disk c.append.ensures.later

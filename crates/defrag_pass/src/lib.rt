@@ -1,0 +1,9 @@
+//! Defragmentation moves the record of one entry out of its block: the record is read, its copy goes unchanged to the buffers of moved
+//! records, and the entry has the new place.
+#![tactic(auto)]
+
+mod moving;
+mod refusal;
+
+pub use moving::move_one;
+pub use refusal::MoveRefusal;

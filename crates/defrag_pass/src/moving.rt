@@ -1,0 +1,123 @@
+// How the record of one entry is moved.
+ghost use Rattle.std.specs.Prelude.{◌≡◌, ◌+◌, ◌<◌, ◌≤◌, false, None, Some, Ok, Err, IfOk, IfErr, MatchResult};
+ghost use Rattle.fault_count.specs.Counts.{Rose};
+ghost use Rattle.disk_model.specs.Disk.{IsHonest};
+ghost use Rattle.rec_format.specs.Entries.{Names};
+ghost use Rattle.rec_format.specs.Places.{device_number};
+ghost use Rattle.rec_format.specs.Versions.{IsVersion, block_capacity};
+ghost use Rattle.rec_format.specs.declared.version.Version.{Version};
+ghost use Rattle.device_model.specs.Book.{Setup, defrag, live_of};
+ghost use Rattle.device_model.specs.Device as device;
+ghost use Rattle.device_model.specs.Device.{State, part_of};
+ghost use Rattle.device_model.specs.Events.{Answer, move_call};
+ghost use Rattle.device_model.specs.Legal.{move_reserve, no_place};
+ghost use Rattle.part_laws.specs.Becoming.{moved_to};
+ghost use Rattle.block_shelf.specs.Calls.{copy_live};
+ghost use Rattle.block_shelf.specs.Disks.{IsLater, OnlyRead};
+ghost use Rattle.block_shelf.specs.Standing.{StandsFor, IsPlaced};
+ghost use Rattle.block_shelf.specs.View.{IsSetupOf, SameShape};
+ghost use Rattle.shard_steps.specs.Standing.{StandTogether};
+ghost use Rattle.shard_steps.specs.Sprigs.{SameSprig, place_of};
+ghost use Rattle.shard_steps.specs.Events.{StepMakes};
+ghost use Rattle.defrag_pass.specs.Moves.{Answers, IsUnread, IsUndamaged};
+
+use crate::MoveRefusal;
+use crate::refusal::{append_refusal, read_refusal};
+use block_shelf::{Class, Place, Shelf};
+use disk_model::Disk;
+use rec_format::{Digest, Entry, Version};
+use sprig_tree::Sprig;
+use std::alloc::Global;
+
+/// Moves the record of a digest out of a block, byte for byte, over the digest's sprig and the shelf: its copy goes to the buffer of moved
+/// records, and holds the block until that buffer is flushed. The entry has the new place, and keeps its mark and its cover flag. False
+/// exactly where the digest's entry isn't in the block. Whether there is room is asked before the record is read. After a refusal the
+/// entry is as before, and so is the shelf, but for memory that was taken, and for a first free block whose gate couldn't be closed.
+pub fn move_one<D: Disk>(
+    alloc: Global,
+    sprig: &mut Sprig,
+    shelf: &mut Shelf<D>,
+    digest: &Digest,
+    block: u32,
+) -> Result<bool, MoveRefusal>
+    requires named { device_number shelf.old.geometry.devices digest.now ≡ shelf.old.geometry.device }
+    requires stand { (setup : Setup) × (s : State) × IsSetupOf setup shelf.old × StandTogether setup (part_of setup digest.now) sprig.old shelf.old s }
+    ensures makes { (setup : Setup) (s : State) → IsSetupOf setup shelf.old → StandTogether setup (part_of setup digest.now) sprig.old shelf.old s
+        → (answer : Answer) × Answers result answer × StepMakes D.view setup (part_of setup digest.now) (move_call digest.now block) answer shelf.old s sprig.new shelf.new }
+    ensures elsewhere { result ≡ Ok false → (sprig.new ≡ sprig.old) × (shelf.new ≡ shelf.old) }
+    ensures refused { IfErr result (λ refusal. SameSprig sprig.old sprig.new) }
+    ensures cause { result ≡ Err MoveRefusal.Fault → Rose (D.view shelf.old.disk).faults (D.view shelf.new.disk).faults }
+    ensures later { IsLater (D.view shelf.old.disk) (D.view shelf.new.disk) }
+    ensures honest { IsHonest (D.view shelf.old.disk) → IsHonest (D.view shelf.new.disk) }
+    ensures shape { SameShape shelf.old shelf.new }
+{
+    let Some(entry) = sprig.find(digest) else {
+        return Ok(false);
+    };
+    if entry.block != block {
+        return Ok(false);
+    }
+    let place = place_of_entry(&entry);
+    prove!(place.block < shelf.geometry().blocks);
+    let version = read_for(alloc, shelf, place, &entry)?;
+    match shelf.append(alloc, digest, &version, Some(place), Class::Move) {
+        Ok(new) => {
+            sprig.replace(entry_at(&entry, new));
+            Ok(true)
+        }
+        Err(refusal) => Err(append_refusal(refusal)),
+    }
+}
+
+// Reads the record of an entry, if there is room to append it.
+fn read_for<D: Disk>(
+    alloc: Global,
+    shelf: &mut Shelf<D>,
+    place: Place,
+    entry: &Entry,
+) -> Result<Version, MoveRefusal>
+    requires block { place.block < shelf.old.geometry.blocks }
+    requires within { place.unit + place.units ≤ block_capacity shelf.old.geometry.block_size }
+    requires units { (entry.now.units ≡ place.units) × (3 ≤ place.units) }
+    ensures names { IfOk result (Names entry.now) }
+    ensures version { IfOk result IsVersion }
+    ensures asked { (setup : Setup) (s : State) → IsSetupOf setup shelf.old → StandsFor setup shelf.old s → let cause = no_place setup defrag move_reserve entry.now.units s.book in
+        MatchResult result (λ version. cause ≡ None) (IsUnread cause) }
+    ensures written { IsHonest (D.view shelf.old.disk) → (setup : Setup) (s : State) (v : Version) → StandsFor setup shelf.old s → IsPlaced D.view shelf.old s
+        → live_of entry.now.digest s.book.live ≡ Some (copy_live entry.now.digest place) → device.entry s entry.now.digest ≡ Some v → Names entry.now v
+        → MatchResult result (λ version. version ≡ v) IsUndamaged }
+    ensures cause { result ≡ Err MoveRefusal.Fault → Rose (D.view shelf.old.disk).faults (D.view shelf.new.disk).faults }
+    ensures disk { OnlyRead (D.view shelf.old.disk) (D.view shelf.new.disk) }
+    ensures same { shelf.new ≡ record shelf.old { disk = shelf.new.disk } }
+{
+    match shelf.may_append(entry.units, Class::Move) {
+        Ok(()) => {}
+        Err(refusal) => return Err(append_refusal(refusal)),
+    }
+    match shelf.read(alloc, place, entry) {
+        Ok(version) => Ok(version),
+        Err(refusal) => Err(read_refusal(refusal)),
+    }
+}
+
+// The entry with its copy at another place.
+fn entry_at(entry: &Entry, place: Place) -> Entry
+    ensures { result ≡ moved_to place.block place.unit entry.now }
+{
+    Entry {
+        block: place.block,
+        unit: place.unit,
+        ..*entry
+    }
+}
+
+// Where the copy of an entry lies.
+fn place_of_entry(entry: &Entry) -> Place
+    ensures { result ≡ place_of entry.now }
+{
+    Place {
+        block: entry.block,
+        unit: entry.unit,
+        units: entry.units,
+    }
+}

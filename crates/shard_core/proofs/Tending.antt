@@ -1,0 +1,40 @@
+-- What is sealed is flushed, and then a block is vacated.
+use Rattle.std.proofs.Common.{List, [], ◌∷◌, refl, sym, subst}
+use Rattle.std.specs.Prelude.{Option, Some, None, Result, Ok, Err}
+use Rattle.disk_model.specs.Disk.{DiskView, IsHonest}
+use Rattle.device_model.specs.Book.{Setup}
+use Rattle.device_model.specs.Device.{State}
+use Rattle.device_model.specs.Events.{Event, flush_sealed_call, after_event}
+use Rattle.device_model.specs.Vacating.{Outcome, did, stopped, Vacates, Tends}
+use Rattle.shard_core.specs.declared.refusals.DefragRefusal.{DefragRefusal}
+use Rattle.shard_core.specs.declared.defrag.Vacated.{Vacated}
+use Rattle.shard_core.specs.View.{ShardView, SameSetup, setup_of}
+use Rattle.shard_core.specs.Stands.{Agrees}
+use Rattle.shard_core.specs.Calls.{MakesAny}
+use Rattle.shard_core.specs.Vacating.{MakesEvents, IsVacating}
+use Rattle.shard_core.proofs.Making.{setup_same}
+use Rattle.shard_core.proofs.Events.{RunsBy, runs_one, runs_then, makes_events, runs_made}
+
+-- however a vacating is answered, it comes to something
+some_outcome : {D : Type 0} (shard : ShardView D) (s : State) (result : Result (Option Vacated) DefragRefusal) (events : List Event) → IsVacating shard s result events
+    → (outcome : Outcome) × Vacates (setup_of shard) s events outcome
+some_outcome shard s (Ok None) events is = (did 0 0, is)
+some_outcome shard s (Ok (Some vacated)) events is = (did vacated.moved 1, is.1)
+some_outcome shard s (Err refusal) events is = (stopped is.0, is.3)
+
+module _ {D : Type 0} (view : D → DiskView) (old mid new : ShardView D) (same : SameSetup old mid) (honest_on : IsHonest (view old.shelf.disk) → IsHonest (view mid.shelf.disk)) where
+  abbrev setup : Setup
+  setup = setup_of old
+
+  pub tends : (result : Result (Option Vacated) DefragRefusal) → (s : State) → MakesAny view flush_sealed_call old s mid
+      → ((t : State) → Agrees mid t → MakesEvents view (IsVacating mid t result) mid t new) → MakesEvents view (Tends setup s) old s new
+  tends result s flushed vacates =
+      let first : Event = flushed.1.event in
+      let t : State = after_event setup first s in
+      let rest = vacates t flushed.1.stands in
+      let outcome = some_outcome mid t result rest.events rest.works in
+      makes_events view old new s (Tends setup s) (first ∷ rest.events)
+      (first, rest.events, refl, flushed.1.is_call, outcome.0, subst (λ (x : Setup). Vacates x t rest.events outcome.0) (sym (setup_same old mid same)) outcome.1)
+      (runs_then view setup old.shelf mid.shelf new.shelf s (Agrees mid) (Agrees new) (first ∷ []) rest.events honest_on
+      (runs_one view setup flush_sealed_call flushed.0 old.shelf mid.shelf s (Agrees mid) flushed.1)
+      (subst (λ (x : Setup). RunsBy view x mid.shelf t new.shelf (Agrees new) rest.events) (sym (setup_same old mid same)) (runs_made view mid new t (IsVacating mid t result) rest)))

@@ -1,0 +1,141 @@
+use Rattle.std.proofs.Common.{inl, inr, ◌≡◌, ◌≢◌, ◌+◌, ◌<◌, ℕ, [], refl, ◌∙◌, ap, subst, arith}
+use Rattle.std.specs.Prelude.{Option, Some, None, Result, Ok, Err, OnErr}
+use Rattle.device_model.specs.Legal.{flush_between}
+use Rattle.disk_model.specs.Disk.{IsDisk}
+use Rattle.disk_model.specs.declared.disk.DiskFault.{DiskFault}
+use Rattle.block_shelf.specs.View.{ShelfView}
+use Rattle.block_shelf.specs.Flushes.{FirstLeaves, FirstStays}
+use Rattle.block_shelf.proofs.Going.{goes_none}
+use Rattle.shard_core.proofs.Later.{later_none, later_then, shape_then}
+use Rattle.shard_core.proofs.FlushLoop.{Stepped, Fewer, fits_before, one_fewer, setup_stays, went_on, went_all, went_through, went_stopped, quiet_on, most_on, ends_on, all_gone, whole_still, stays_some, stays_quiet, where_err, on_err}
+use Rattle.shard_core.proofs.flush.flush_up_to.Goals as goal
+
+pub loop-number-init : goal.loop-number-init
+loop-number-init g c =
+    let old : ShelfView g.row.D.Denot = c.args.shelf.now in
+    let now : IsDisk (g.D.Disk.view old.disk) = g.met.D.Disk.is_disk old.disk in
+    record {
+      few = inl refl;
+      went = λ setup s is stands ends. record {
+        steps = _;
+        left = refl;
+        counted = refl;
+        goes = goes_none g.D.Disk.view setup old s now stands;
+      };
+      ends = λ ends. ends;
+      most = λ most. most;
+      whole = inl refl;
+      quiet = λ quiet. quiet;
+      later = later_none g.D.Disk.view old.disk now;
+      honest = λ honest. honest;
+      shape = record { geometry = refl; limits = refl };
+    }
+
+pub returns-in_err-number-clause-flushed : goal.returns-in_err-number-clause-flushed
+returns-in_err-number-clause-flushed g c = λ setup s is stands ends.
+    let old : ShelfView g.row.D.Denot = c.args.shelf.now in
+    let mid : ShelfView g.row.D.Denot = c.loop-number.shelf in
+    let new : ShelfView g.row.D.Denot = c.flush_step.new.self in
+    let stepped : Stepped g.D.Disk.view (Err c.in_err-number.field-0.0) mid new =
+    subst (λ (r : Result (Option ℕ) DiskFault). Stepped g.D.Disk.view r mid new) c.in_err-number.was c.flush_step.ensures.flushed in
+    let stays : FirstStays mid new = subst (λ (r : Result (Option ℕ) DiskFault). OnErr r (FirstStays mid new)) c.in_err-number.was c.flush_step.ensures.left in
+    let ended = went_stopped g.D.Disk.view setup c.args.last c.loop-number.count old mid new s
+    (setup_stays setup old mid c.loop-number.invariant.shape is) (c.loop-number.invariant.went setup s is stands (record { right = ends })) c.flush_step.ensures.whole c.loop-number.invariant.honest
+    c.in_err-number.field-0.0 stepped stays (c.loop-number.invariant.ends (record { right = ends })).right in
+    (ended.0, where_err c.from_residual.result (flush_between 0 c.args.last s.book) ended.0 c.from_residual.ensures.0 ended.1, ended.2)
+
+pub returns-in_err-number-clause-quiet : goal.returns-in_err-number-clause-quiet
+returns-in_err-number-clause-quiet g c = λ quiet.
+    let mid : ShelfView g.row.D.Denot = c.loop-number.shelf in
+    let new : ShelfView g.row.D.Denot = c.flush_step.new.self in
+    let stays : FirstStays mid new = subst (λ (r : Result (Option ℕ) DiskFault). OnErr r (FirstStays mid new)) c.in_err-number.was c.flush_step.ensures.left in
+    (stays_quiet mid new stays (c.loop-number.invariant.quiet (record { none_filling = quiet }))).none_filling
+
+pub returns-in_err-number-clause-left : goal.returns-in_err-number-clause-left
+returns-in_err-number-clause-left g c =
+    let mid : ShelfView g.row.D.Denot = c.loop-number.shelf in
+    let new : ShelfView g.row.D.Denot = c.flush_step.new.self in
+    let stays : FirstStays mid new = subst (λ (r : Result (Option ℕ) DiskFault). OnErr r (FirstStays mid new)) c.in_err-number.was c.flush_step.ensures.left in
+    on_err c.from_residual.result (new.buffers ≢ []) (stays_some mid new stays)
+
+pub returns-in_err-number-clause-whole : goal.returns-in_err-number-clause-whole
+returns-in_err-number-clause-whole g c = whole_still g.D.Disk.view c.args.shelf.now c.loop-number.shelf c.loop-number.invariant.whole c.flush_step.ensures.whole
+
+-- ---- one more
+
+pub loop-number-preserved : goal.loop-number-preserved
+loop-number-preserved g c =
+    let old : ShelfView g.row.D.Denot = c.args.shelf.now in
+    let mid : ShelfView g.row.D.Denot = c.loop-number.shelf in
+    let new : ShelfView g.row.D.Denot = c.flush_step.new.self in
+    let is_some : c.flush_step.result ≡ Ok (Some c.in-Some.number) = c.in_ok-number.was ∙ ap (λ (o : Option ℕ). Ok o) c.in-Some.is in
+    let stepped : Stepped g.D.Disk.view {E = DiskFault} (Ok (Some c.in-Some.number)) mid new =
+    subst (λ (r : Result (Option ℕ) DiskFault). Stepped g.D.Disk.view r mid new) is_some c.flush_step.ensures.flushed in
+    let leaves : FirstLeaves c.in-Some.number mid new = subst (λ (r : Result (Option ℕ) DiskFault). Fewer r mid new) is_some c.flush_step.ensures.first in
+    let few = fits_before g.D.Disk.view c.loop-number.count mid c.flush_step.ensures.whole c.loop-number.invariant.few in
+    let lower : c.in-Some.number < c.args.last = omega (arith, c.if-number-last.false) in
+    record {
+      few = inr (omega (arith, one_fewer leaves, few));
+      went = λ setup s is stands ends. went_on g.D.Disk.view setup c.args.last c.loop-number.count old mid new s
+          (setup_stays setup old mid c.loop-number.invariant.shape is) (c.loop-number.invariant.went setup s is stands ends) c.flush_step.ensures.whole c.loop-number.invariant.honest
+          DiskFault c.in-Some.number stepped leaves (c.loop-number.invariant.ends ends).right;
+      ends = λ ends. ends_on g.D.Disk.view c.args.last c.in-Some.number mid new c.flush_step.ensures.whole leaves lower (c.loop-number.invariant.ends ends);
+      most = λ most. most_on g.D.Disk.view c.args.last c.in-Some.number mid new c.flush_step.ensures.whole leaves (c.loop-number.invariant.most most);
+      whole = inr (whole_still g.D.Disk.view old mid c.loop-number.invariant.whole c.flush_step.ensures.whole);
+      quiet = λ quiet. quiet_on c.in-Some.number mid new (c.loop-number.invariant.quiet quiet) leaves;
+      later = later_then g.D.Disk.view old.disk mid.disk new.disk c.loop-number.invariant.later c.flush_step.ensures.later;
+      honest = λ honest. c.flush_step.ensures.honest (c.loop-number.invariant.honest honest);
+      shape = shape_then old mid new c.loop-number.invariant.shape c.flush_step.ensures.shape;
+    }
+
+-- ---- the last one
+
+pub returns-then-number-last-clause-flushed : goal.returns-then-number-last-clause-flushed
+returns-then-number-last-clause-flushed g c = λ setup s is stands ends.
+    let old : ShelfView g.row.D.Denot = c.args.shelf.now in
+    let mid : ShelfView g.row.D.Denot = c.loop-number.shelf in
+    let new : ShelfView g.row.D.Denot = c.flush_step.new.self in
+    let is_some : c.flush_step.result ≡ Ok (Some c.in-Some.number) = c.in_ok-number.was ∙ ap (λ (o : Option ℕ). Ok o) c.in-Some.is in
+    let stepped : Stepped g.D.Disk.view {E = DiskFault} (Ok (Some c.in-Some.number)) mid new =
+    subst (λ (r : Result (Option ℕ) DiskFault). Stepped g.D.Disk.view r mid new) is_some c.flush_step.ensures.flushed in
+    let leaves : FirstLeaves c.in-Some.number mid new = subst (λ (r : Result (Option ℕ) DiskFault). Fewer r mid new) is_some c.flush_step.ensures.first in
+    went_through g.D.Disk.view setup c.args.last (c.loop-number.count + 1) c.in-Some.number DiskFault old mid new s c.flush_step.ensures.whole leaves c.if-number-last.true
+    (went_on g.D.Disk.view setup c.args.last c.loop-number.count old mid new s
+    (setup_stays setup old mid c.loop-number.invariant.shape is) (c.loop-number.invariant.went setup s is stands (record { right = ends })) c.flush_step.ensures.whole c.loop-number.invariant.honest
+    DiskFault c.in-Some.number stepped leaves (c.loop-number.invariant.ends (record { right = ends })).right)
+
+pub returns-then-number-last-clause-all : goal.returns-then-number-last-clause-all
+returns-then-number-last-clause-all g c = λ most.
+    let mid : ShelfView g.row.D.Denot = c.loop-number.shelf in
+    let new : ShelfView g.row.D.Denot = c.flush_step.new.self in
+    let is_some : c.flush_step.result ≡ Ok (Some c.in-Some.number) = c.in_ok-number.was ∙ ap (λ (o : Option ℕ). Ok o) c.in-Some.is in
+    let leaves : FirstLeaves c.in-Some.number mid new = subst (λ (r : Result (Option ℕ) DiskFault). Fewer r mid new) is_some c.flush_step.ensures.first in
+    all_gone g.D.Disk.view c.args.last c.in-Some.number mid new c.flush_step.ensures.whole leaves c.if-number-last.true (c.loop-number.invariant.most (record { most = most }))
+
+pub returns-then-number-last-clause-quiet : goal.returns-then-number-last-clause-quiet
+returns-then-number-last-clause-quiet g c = λ quiet.
+    let mid : ShelfView g.row.D.Denot = c.loop-number.shelf in
+    let new : ShelfView g.row.D.Denot = c.flush_step.new.self in
+    let is_some : c.flush_step.result ≡ Ok (Some c.in-Some.number) = c.in_ok-number.was ∙ ap (λ (o : Option ℕ). Ok o) c.in-Some.is in
+    let leaves : FirstLeaves c.in-Some.number mid new = subst (λ (r : Result (Option ℕ) DiskFault). Fewer r mid new) is_some c.flush_step.ensures.first in
+    (quiet_on c.in-Some.number mid new (c.loop-number.invariant.quiet (record { none_filling = quiet })) leaves).none_filling
+
+pub returns-then-number-last-clause-whole : goal.returns-then-number-last-clause-whole
+returns-then-number-last-clause-whole g c = whole_still g.D.Disk.view c.args.shelf.now c.loop-number.shelf c.loop-number.invariant.whole c.flush_step.ensures.whole
+
+-- ---- no more
+
+pub returns-in_default-clause-flushed : goal.returns-in_default-clause-flushed
+returns-in_default-clause-flushed g c = λ setup s is stands ends.
+    let old : ShelfView g.row.D.Denot = c.args.shelf.now in
+    let mid : ShelfView g.row.D.Denot = c.loop-number.shelf in
+    let new : ShelfView g.row.D.Denot = c.flush_step.new.self in
+    let is_none : c.flush_step.result ≡ Ok None = c.in_ok-number.was ∙ ap (λ (o : Option ℕ). Ok o) c.in_default.is in
+    let stepped : Stepped g.D.Disk.view {E = DiskFault} (Ok None) mid new =
+    subst (λ (r : Result (Option ℕ) DiskFault). Stepped g.D.Disk.view r mid new) is_none c.flush_step.ensures.flushed in
+    went_all g.D.Disk.view setup c.args.last c.loop-number.count old mid new s
+    (setup_stays setup old mid c.loop-number.invariant.shape is) (c.loop-number.invariant.went setup s is stands (record { right = ends })) c.flush_step.ensures.whole c.loop-number.invariant.honest
+    DiskFault stepped (c.flush_step.ensures.none is_none)
+
+pub returns-in_default-clause-whole : goal.returns-in_default-clause-whole
+returns-in_default-clause-whole g c = whole_still g.D.Disk.view c.args.shelf.now c.loop-number.shelf c.loop-number.invariant.whole c.flush_step.ensures.whole

@@ -1,0 +1,48 @@
+use Rattle.std.proofs.Common.{ap, ◌∙◌, subst}
+use Rattle.std.specs.Prelude.{Some, None, Ok, Err}
+use Rattle.device_model.specs.Device.{State}
+use Rattle.shard_core.specs.View.{ShardView}
+use Rattle.shard_core.specs.Stands.{Agrees}
+use Rattle.shard_core.specs.Vacating.{MakesEvents, IsVacating, vacate_cause}
+use Rattle.shard_core.proofs.Choices.{gives_not, gives_none, gives_own, gives_few, gives_all, gives_some}
+use Rattle.shard_core.proofs.shard.Shard.defrag_one.Goals as goal
+
+pub move_all-requires-clause-named : goal.move_all-requires-clause-named
+move_all-requires-clause-named g c =
+    let old : ShardView g.row.D.Denot = record { shelf = c.self.inside.shelf; set = c.self.inside.set; sprigs = c.self.inside.sprigs.items } in
+    gives_own g.D.Disk.view old (g.met.D.Disk.is_disk old.shelf.disk) c.vacate_next.new.self c.vacate_next.ensures.same c.in-Ok-Some.field-0 c.in-Ok-Some.ensures.chosen
+    c.in-Ok-Some.vacancy c.in-Ok-Some.field-0-is c.in-Ok-Some.ensures.below c.self.invariant.whole
+
+pub move_all-requires-clause-few : goal.move_all-requires-clause-few
+move_all-requires-clause-few g c =
+    let old : ShardView g.row.D.Denot = record { shelf = c.self.inside.shelf; set = c.self.inside.set; sprigs = c.self.inside.sprigs.items } in
+    gives_few g.D.Disk.view old (g.met.D.Disk.is_disk old.shelf.disk) c.vacate_next.new.self c.vacate_next.ensures.same c.in-Ok-Some.field-0 c.in-Ok-Some.ensures.chosen
+    c.in-Ok-Some.vacancy c.in-Ok-Some.field-0-is c.in-Ok-Some.ensures.below c.self.invariant.whole c.geometry-shape.ensures.whole c.in-Ok-Some.ensures.first
+
+pub returns-in-Ok-clause-makes : goal.returns-in-Ok-clause-makes
+returns-in-Ok-clause-makes g c =
+    let old : ShardView g.row.D.Denot = record { shelf = c.self.inside.shelf; set = c.self.inside.set; sprigs = c.self.inside.sprigs.items } in
+    subst (λ (v : ShardView g.row.D.Denot). (s : State) → Agrees v s → MakesEvents g.D.Disk.view (IsVacating v s (Ok (Some c.in-Ok.vacated))) v s c.move_all.new.self) c.self.view_is
+    (gives_all g.D.Disk.view old (g.met.D.Disk.is_disk old.shelf.disk) c.vacate_next.new.self c.vacate_next.ensures.same c.in-Ok-Some.field-0 c.in-Ok-Some.ensures.chosen
+    c.in-Ok-Some.vacancy c.in-Ok-Some.field-0-is c.in-Ok-Some.ensures.below c.move_all.new.self c.in-Ok.vacated c.in-Ok.ensures.makes)
+
+pub returns-in-Ok-Some-clause-makes : goal.returns-in-Ok-Some-clause-makes
+returns-in-Ok-Some-clause-makes g c =
+    let old : ShardView g.row.D.Denot = record { shelf = c.self.inside.shelf; set = c.self.inside.set; sprigs = c.self.inside.sprigs.items } in
+    subst (λ (v : ShardView g.row.D.Denot). (s : State) → Agrees v s → MakesEvents g.D.Disk.view (IsVacating v s (Err c.in-Err-move_all.refusal)) v s c.move_all.new.self) c.self.view_is
+    (gives_some g.D.Disk.view old (g.met.D.Disk.is_disk old.shelf.disk) c.vacate_next.new.self c.vacate_next.ensures.same c.in-Ok-Some.field-0 c.in-Ok-Some.ensures.chosen
+    c.in-Ok-Some.vacancy c.in-Ok-Some.field-0-is c.in-Ok-Some.ensures.below c.move_all.new.self c.in-Err-move_all.refusal c.in-Err-move_all.ensures.makes)
+
+pub returns-in-Ok-None-clause-makes : goal.returns-in-Ok-None-clause-makes
+returns-in-Ok-None-clause-makes g c =
+    let old : ShardView g.row.D.Denot = record { shelf = c.self.inside.shelf; set = c.self.inside.set; sprigs = c.self.inside.sprigs.items } in
+    let new : ShardView g.row.D.Denot = record { shelf = c.vacate_next.new.self; set = c.self.inside.set; sprigs = c.self.inside.sprigs.items } in
+    subst (λ (v : ShardView g.row.D.Denot). (s : State) → Agrees v s → MakesEvents g.D.Disk.view (IsVacating v s (Ok None)) v s new) c.self.view_is
+    (gives_none g.D.Disk.view old (g.met.D.Disk.is_disk old.shelf.disk) c.vacate_next.new.self c.vacate_next.ensures.same c.in-Ok-None.field-0 c.in-Ok-None.ensures.chosen c.in-Ok-None.field-0-is)
+
+pub returns-clause-makes : goal.returns-clause-makes
+returns-clause-makes g c =
+    let old : ShardView g.row.D.Denot = record { shelf = c.self.inside.shelf; set = c.self.inside.set; sprigs = c.self.inside.sprigs.items } in
+    let new : ShardView g.row.D.Denot = record { shelf = c.vacate_next.new.self; set = c.self.inside.set; sprigs = c.self.inside.sprigs.items } in
+    subst (λ (v : ShardView g.row.D.Denot). (s : State) → Agrees v s → MakesEvents g.D.Disk.view (IsVacating v s (Err (record { moved = 0; cause = c.vacate_cause.result }))) v s new) c.self.view_is
+    (gives_not g.D.Disk.view old (g.met.D.Disk.is_disk old.shelf.disk) c.vacate_next.new.self c.vacate_next.ensures.same c.vacate_cause.result (c.vacate_cause.ensures ∙ ap vacate_cause c.in-Err.ensures.refused))

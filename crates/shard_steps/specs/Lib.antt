@@ -1,0 +1,3 @@
+pub mod Sprigs
+pub mod Standing
+pub mod Events

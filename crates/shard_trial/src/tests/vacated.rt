@@ -1,0 +1,70 @@
+// Blocks of little use are vacated: what a crash leaves at each moment of that.
+use super::*;
+use shard_core::Vacated;
+
+/// Of records 1 and 3 four tenths of a block are taken, of 2 and 4 half a block. So 1 and 2 fill a block, and 3 and 4 another.
+static SHORT: [u8; 4752] = [0; 4752];
+
+static LONG: [u8; 6352] = [0; 6352];
+
+fn record(byte: u8) -> Stored {
+    let payload = if byte % 2 == 0 { &LONG[..] } else { &SHORT[..] };
+    put_of(numbered(byte), 1000, 1, payload)
+}
+
+/// Puts the records with these numbers.
+fn put_each(rt: &impl Abort, lone: &mut Lone, bytes: &[u8]) {
+    for byte in bytes {
+        let record = record(*byte);
+        assert!(rt; lone.put(rt, &record.digest, record.payload) == Ok(record.stamp));
+    }
+}
+
+/// A device on which records 1 to 4 were flushed. The put of 3 sealed the buffer of 1 and 2, so two wait.
+fn filled(rt: &impl Abort, alloc: Global) -> Result<Lone, Fail> {
+    let mut lone = Lone::start_vacating(alloc, larger_device(rt, alloc)?)?;
+    put_each(rt, &mut lone, &[1, 2, 3, 4]);
+    assert!(rt; lone.flush() == Ok(2));
+    Ok(lone)
+}
+
+/// Records 2 and 4 are deleted, and both blocks vacated: out of each one record is moved.
+fn assert_vacates(rt: &impl Abort, lone: &mut Lone) {
+    for byte in [2, 4] {
+        assert!(rt; lone.delete(&numbered(byte)) == Ok(true), "record {byte}");
+    }
+    for block in [0, 1] {
+        assert!(rt; lone.vacate() == Ok(Some(Vacated { block, moved: 1 })));
+    }
+    assert!(rt; lone.vacate() == Ok(None));
+}
+
+/// Records 1 and 3 are seen as they were put.
+fn has_kept(lone: &mut Lone) -> Result<bool, Fail> {
+    Ok(lone.finds(&record(1), true)? && lone.finds(&record(3), true)?)
+}
+
+// Both vacated blocks are used again once the moved records are flushed, and not before. Whenever a crash comes, and whichever of the writes
+// under way it leaves, records 1 and 3 are there.
+#[test]
+fn blocks_are_vacated_and_used_again(rt: HostRuntime) -> Result<(), Fail> {
+    let alloc = rt.alloc();
+    let begun = filled(&rt, alloc)?.stop().moments();
+    let mut lone = filled(&rt, alloc)?;
+    assert_vacates(&rt, &mut lone);
+    assert!(rt; has_kept(&mut lone)?);
+    put_each(&rt, &mut lone, &[5, 6]);
+    assert!(rt; lone.flush() == Ok(2));
+    put_each(&rt, &mut lone, &[7, 8, 9]);
+    assert!(rt; lone.flush() == Ok(2));
+    assert!(rt; has_kept(&mut lone)?);
+    let disk = lone.stop();
+    assert!(rt; 1 <= begun && begun < disk.moments());
+    for moment in begun - 1..disk.moments() {
+        for pick in [0, 1, u64::MAX] {
+            let mut left = started(alloc, disk.image(moment, pick)?)?;
+            assert!(rt; has_kept(&mut left)?, "moment {moment}, pick {pick}");
+        }
+    }
+    Ok(())
+}
