@@ -3,19 +3,23 @@ use Rattle.std.proofs.Common.{◌≡◌, inl, inr, ℕ, suc, ◌+◌, ◌<◌, t
 use Rattle.std.specs.Prelude.{Option, Some, Result, Ok, Err, slice_get}
 use Rattle.std.proofs.lemmas.List.{map-append}
 use Rattle.disk_model.specs.Disk.{DiskView, IsDisk}
+use Rattle.device_model.specs.Book.{Setup}
 use Rattle.device_model.specs.Device.{State}
-use Rattle.device_model.specs.Events.{Event, Call, Answer, flush_call, flush_sealed_call, disk_fault, counted, refused}
-use Rattle.node_model.specs.Commands.{Slot, Node, NodeEvent, EachDevice, Outcome, did, stopped, Flushes, TendsEach, on_device}
+use Rattle.device_model.specs.Events.{Event, Call, Cause, Answer, flush_call, disk_fault, counted, refused}
+use Rattle.device_model.specs.Vacating.{Outcome, VacatesUpTo, Tends, did, stopped}
+use Rattle.node_model.specs.Commands.{Slot, Node, NodeEvent, EachDevice, Flushes, Defragments, TendsEach, on_device}
 use Rattle.node_model.specs.Run.{ClosesEach}
-use Rattle.shard_core.specs.View.{ShardView}
+use Rattle.shard_core.specs.View.{ShardView, setup_of}
 use Rattle.shard_core.specs.Stands.{Agrees}
-use Rattle.shard_core.specs.Calls.{Makes}
+use Rattle.shard_core.specs.Calls.{Makes, flush_answer}
+use Rattle.shard_core.specs.Vacating.{IsCauseOf}
+use Rattle.shard_core.specs.declared.refusals.DefragCause.{DefragCause}
+use Rattle.shard_core.proofs.Events.{RunsBy, runs_one, runs_made}
 use Rattle.core_run.specs.Standing.{Each, StandsOn, StandsSafelyOn}
-use Rattle.core_run.specs.Calls.{flush_outcome}
-use Rattle.core_run.specs.Turns.{GoesOn, Through, TendTurn, CloseTurn, FlushesEach}
+use Rattle.core_run.specs.Turns.{GoesOn, Through, TendTurn, CloseTurn, EndsAs, WorksEach, plus_one, plus_both, FlushesOn, IsFlushed, FlushesEach, DefragsOn, IsDefrag, IsDefragged, DefragsEach}
 use Rattle.core_run.proofs.Places.{moved, events_of, nones, no_events, only_at, only_event}
 use Rattle.core_run.proofs.Making.{Made, LeftOn, Along, along_none, along_one, slot_at}
-use Rattle.core_run.proofs.Turning.{chooses_none, rests_any, rests_safe, rests_left, one_any, one_safe, one_left, tend_any, tend_safe, tend_left}
+use Rattle.core_run.proofs.Turning.{rests_any, rests_safe, rests_left, many_any, many_safe, many_left}
 
 -- ---- work in rising devices, moved by one device
 
@@ -49,11 +53,9 @@ closes_moved device (slot ∷ node) events (mine, rest, is, closes, more) = (min
 
 -- What each device makes of its turn, in one kind.
 pub record Kind {D : Type 0} (view : D → DiskView) (Stands : ShardView D → Slot → Type 0) (Holds : (old new : ShardView D) → Slot → List Event → Type 0) : Type 0 where
-  pub agrees : (shard : ShardView D) (slot : Slot) → Stands shard slot → Agrees shard slot.state
+  pub stands : (shard : ShardView D) (slot : Slot) → Stands shard slot → StandsOn view shard slot
   pub rests : (shard : ShardView D) (slot : Slot) → Stands shard slot → Holds shard shard slot []
-  pub one : (old new : ShardView D) (goes : GoesOn view old new) (slot : Slot) (call : Call) (answer : Answer) (m : Makes view call answer old slot.state new) → Stands old slot → Holds old new slot (m.event ∷ [])
-  pub tended : (old new : ShardView D) (goes : GoesOn view old new) (slot : Slot) (call : Call) (answer : Answer) (m : Makes view call answer old slot.state new) → Stands old slot
-      → Holds old new slot (m.event ∷ chooses_none m.event.faults_after ∷ [])
+  pub many : (old new : ShardView D) → GoesOn view old new → (slot : Slot) (mine : List Event) → RunsBy view (setup_of old) old.shelf slot.state new.shelf (Agrees new) mine → Stands old slot → Holds old new slot mine
 
 -- over an honest disk that is safe a crash leaves meanwhile what survives
 abbrev pub Safely : {D : Type 0} → (view : D → DiskView) → (old new : ShardView D) → Slot → List Event → Type 0
@@ -62,18 +64,16 @@ Safely view old new slot mine = Made true (StandsSafelyOn view) old new slot min
 module _ {D : Type 0} (view : D → DiskView) where
   pub over_any : Kind view (StandsOn view) (Made false (StandsOn view))
   over_any = record {
-    agrees = λ shard slot stands. stands.agrees;
+    stands = λ shard slot stands. stands;
     rests = rests_any view;
-    one = λ old new goes slot call answer m stands. one_any view old new goes slot call answer m stands;
-    tended = λ old new goes slot call answer m stands. tend_any view old new goes slot call answer m stands;
+    many = λ old new goes slot mine m stands. many_any view old new goes slot mine m stands;
   }
 
   pub over_safe : ((disk : D) → IsDisk (view disk)) → Kind view (StandsSafelyOn view) (Safely view)
   over_safe is_disk = record {
-    agrees = λ shard slot stands. stands.stands.agrees;
+    stands = λ shard slot stands. stands.stands;
     rests = λ shard slot stands. (rests_safe view shard slot stands, rests_left view is_disk shard slot stands);
-    one = λ old new goes slot call answer m stands. (one_safe view old new goes slot call answer m stands, one_left view old new goes slot call answer m stands);
-    tended = λ old new goes slot call answer m stands. (tend_safe view old new goes slot call answer m stands, tend_left view old new goes slot call answer m stands);
+    many = λ old new goes slot mine m stands. (many_safe view old new goes slot mine m stands, many_left view old new goes slot mine m stands);
   }
 
 -- what holds of each device in two parts
@@ -93,48 +93,92 @@ module _ {D : Type 0} (view : D → DiskView) (Stands : ShardView D → Slot →
   abbrev Turned : (olds news : List (ShardView D)) → Node → (List (List Event) → Type 0) → Type 0
   Turned olds news node Is = (mines : List (List Event)) × Along Holds olds news node mines × Is mines
 
-  flush_works : (slot : Slot) (event : Event) (n : ℕ) → event.call ≡ flush_call → event.answer ≡ counted n → Flushes slot (event ∷ []) (did n 0)
-  flush_works slot event n is_call is_answer = (event, refl, is_call, inl (n, is_answer, refl))
+  -- one event of the device
+  one_made : (old new : ShardView D) → GoesOn view old new → (slot : Slot) (call : Call) (answer : Answer) (m : Makes view call answer old slot.state new) → Stands old slot → Holds old new slot (m.event ∷ [])
+  one_made old new goes slot call answer m stands =
+      kind.many old new goes slot (m.event ∷ []) (runs_one view (setup_of old) call answer old.shelf new.shelf slot.state (Agrees new) m) stands
 
-  flush_stops : (slot : Slot) (event : Event) → event.call ≡ flush_call → event.answer ≡ refused disk_fault → Flushes slot (event ∷ []) (stopped disk_fault)
-  flush_stops slot event is_call is_answer = (event, refl, is_call, inr (disk_fault, is_answer, refl))
+  -- ---- some work of each, up to the first that is refused
 
-  -- a flush of all, up to the first that fails
-  pub flush_turns : {E : Type 0} (flushed : Result ℕ E) (a : ℕ) (olds news : List (ShardView D)) (node : Node) → FlushesEach view flushed a olds news → Each Stands olds node
-      → Turned olds news node (λ mines. EachDevice Flushes 0 node a 0 (events_of mines) (flush_outcome flushed))
-  flush_turns (Ok n) a [] news node each stands =
-      ([], (each.0, stands, refl), subst (λ (x : Node). EachDevice Flushes 0 x a 0 [] (did n 0)) (sym stands) (refl, ap (λ (k : ℕ). did k 0) each.1))
-  flush_turns (Err fault) a [] news node each stands = absurd each
-  flush_turns (Ok n) a (old ∷ olds) [] node each stands = absurd each
-  flush_turns (Err fault) a (old ∷ olds) [] node each stands = absurd each
-  flush_turns (Ok n) a (old ∷ olds) (new ∷ news) [] each stands = absurd stands
-  flush_turns (Err fault) a (old ∷ olds) (new ∷ news) [] each stands = absurd stands
-  flush_turns (Ok n) a (old ∷ olds) (new ∷ news) (slot ∷ node) (mid, turn, more) stands =
-      let m = turn.1.makes slot.state (kind.agrees old slot stands.0) in
-      let rest = flush_turns (Ok n) mid olds news node more stands.1 in
-      let behind : EachDevice Flushes 1 node (a + turn.0) 0 (map moved (events_of rest.0)) (did n 0) =
-      subst (λ (k : ℕ). EachDevice Flushes 1 node k 0 (map moved (events_of rest.0)) (did n 0)) turn.2 (each_moved Flushes 0 node mid 0 (events_of rest.0) (did n 0) rest.2) in (
-        (m.event ∷ []) ∷ rest.0,
-        (kind.one old new turn.1.goes slot flush_call _ m stands.0, rest.1),
-        (m.event ∷ [], map moved (events_of rest.0), refl, inl (turn.0, 0, flush_works slot m.event turn.0 m.is_call m.is_answer, behind)),
+  module _ {R E : Type 0} (Does : Result R E → ShardView D → ShardView D → Type 0) (plus : R → R → R) (sums : R → ℕ × ℕ) (IsCause : E → Cause → Type 0) (Work : Slot → List Event → Outcome → Type 0)
+      (adds : (a b : R) → sums (plus a b) ≡ ((sums a).0 + (sums b).0, (sums a).1 + (sums b).1))
+      (works : (result : Result R E) (old new : ShardView D) (slot : Slot) → Does result old new → Stands old slot
+      → (outcome : Outcome) × EndsAs sums IsCause result outcome × (mine : List Event) × Work slot mine outcome × Holds old new slot mine) where
+    -- what all of it comes to
+    abbrev Worked : Result R E → R → Node → List (List Event) → Type 0
+    Worked result a node mines = (outcome : Outcome) × EndsAs sums IsCause result outcome × EachDevice Work 0 node (sums a).0 (sums a).1 (events_of mines) outcome
+
+    behind : (a one : R) (node : Node) (mines : List (List Event)) (outcome : Outcome) → EachDevice Work 0 node (sums (plus a one)).0 (sums (plus a one)).1 (events_of mines) outcome
+        → EachDevice Work 1 node ((sums a).0 + (sums one).0) ((sums a).1 + (sums one).1) (map moved (events_of mines)) outcome
+    behind a one node mines outcome each =
+        subst (λ (p : ℕ × ℕ). EachDevice Work 1 node p.0 p.1 (map moved (events_of mines)) outcome) (adds a one) (each_moved Work 0 node (sums (plus a one)).0 (sums (plus a one)).1 (events_of mines) outcome each)
+
+    -- one device more in front, which did the work
+    one_more : (result : Result R E) (a x : R) (old new : ShardView D) (olds news : List (ShardView D)) (slot : Slot) (node : Node) → Does (Ok x) old new → Stands old slot
+        → Turned olds news node (Worked result (plus a x) node) → Turned (old ∷ olds) (new ∷ news) (slot ∷ node) (Worked result a (slot ∷ node))
+    one_more result a x old new olds news slot node does stands rest =
+        let w = works (Ok x) old new slot does stands in (
+          w.2 ∷ rest.0,
+          (w.4, rest.1),
+          (
+            rest.2.0,
+            rest.2.1,
+            (w.2, map moved (events_of rest.0), refl, inl ((sums x).0, (sums x).1, subst (Work slot w.2) w.1 w.3, behind a x node rest.0 rest.2.0 rest.2.2)),
+          ),
+        )
+
+    pub work_turns : (result : Result R E) (a : R) (olds news : List (ShardView D)) (node : Node) → WorksEach Does plus result a olds news → Each Stands olds node → Turned olds news node (Worked result a node)
+    work_turns (Ok sum) a [] news node each stands =
+        ([], (each.0, stands, refl), (did (sums sum).0 (sums sum).1, refl, subst (λ (x : Node). EachDevice Work 0 x (sums a).0 (sums a).1 [] (did (sums sum).0 (sums sum).1)) (sym stands) (refl, ap (λ (r : R). did (sums r).0 (sums r).1) each.1)))
+    work_turns (Err why) a [] news node each stands = absurd each
+    work_turns (Ok sum) a (old ∷ olds) [] node each stands = absurd each
+    work_turns (Err why) a (old ∷ olds) [] node each stands = absurd each
+    work_turns (Ok sum) a (old ∷ olds) (new ∷ news) [] each stands = absurd stands
+    work_turns (Err why) a (old ∷ olds) (new ∷ news) [] each stands = absurd stands
+    work_turns (Ok sum) a (old ∷ olds) (new ∷ news) (slot ∷ node) (x, does, more) stands =
+        one_more (Ok sum) a x old new olds news slot node does stands.0 (work_turns (Ok sum) (plus a x) olds news node more stands.1)
+    work_turns (Err why) a (old ∷ olds) (new ∷ news) (slot ∷ node) (inl (does, same)) stands =
+        let w = works (Err why) old new slot does stands.0 in
+        let none = no_events (length olds) in (
+          w.2 ∷ nones (length olds),
+          (w.4, subst (λ (s : List (ShardView D)). Along Holds olds s node (nones (length olds))) (sym same) (along_none Holds Stands kind.rests olds node stands.1)),
+          (w.0, w.1, (w.2, map moved (events_of (nones (length olds))), refl, inr (w.1.0, subst (Work slot w.2) w.1.2 w.3, ap (map moved) none, w.1.2))),
+        )
+    work_turns (Err why) a (old ∷ olds) (new ∷ news) (slot ∷ node) (inr (x, does, more)) stands =
+        one_more (Err why) a x old new olds news slot node does stands.0 (work_turns (Err why) (plus a x) olds news node more stands.1)
+
+  -- a flush
+  flush_does : {E : Type 0} (flushed : Result ℕ E) (old new : ShardView D) (slot : Slot) → FlushesOn view flushed old new → Stands old slot
+      → (outcome : Outcome) × IsFlushed flushed outcome × (mine : List Event) × Flushes slot mine outcome × Holds old new slot mine
+  flush_does {E} flushed old new slot flushes stands = by flushed (flushes.makes slot.state (kind.stands old slot stands).agrees)
+    where
+      by : (f : Result ℕ E) → Makes view flush_call (flush_answer f) old slot.state new → (outcome : Outcome) × IsFlushed f outcome × (mine : List Event) × Flushes slot mine outcome × Holds old new slot mine
+      by (Ok n) m = (did n 0, refl, m.event ∷ [], (m.event, refl, m.is_call, inl (n, m.is_answer, refl)), one_made old new flushes.goes slot flush_call (counted n) m stands)
+      by (Err fault) m =
+          (stopped disk_fault, (disk_fault, refl, refl), m.event ∷ [], (m.event, refl, m.is_call, inr (disk_fault, m.is_answer, refl)), one_made old new flushes.goes slot flush_call (refused disk_fault) m stands)
+
+  pub flush_turns : {E : Type 0} (flushed : Result ℕ E) (olds news : List (ShardView D)) (node : Node) → FlushesEach view flushed olds news → Each Stands olds node
+      → Turned olds news node (λ mines. (outcome : Outcome) × IsFlushed flushed outcome × EachDevice Flushes 0 node 0 0 (events_of mines) outcome)
+  flush_turns {E} flushed olds news node each stands =
+      work_turns (FlushesOn {E = E} view) plus_one (λ n. (n, 0)) (λ fault cause. cause ≡ disk_fault) Flushes (λ a b. refl) flush_does flushed 0 olds news node each stands
+
+  -- a defragmentation
+  defrag_does : (result : Result (ℕ × ℕ) DefragCause) (old new : ShardView D) (slot : Slot) → DefragsOn view result old new → Stands old slot
+      → (outcome : Outcome) × IsDefragged result outcome × (mine : List Event) × Defragments slot mine outcome × Holds old new slot mine
+  defrag_does result old new slot defrags stands =
+      let on = kind.stands old slot stands in
+      let m = defrags.makes slot.state on.agrees in (
+        m.works.0,
+        m.works.1,
+        m.events,
+        subst (λ (setup : Setup). VacatesUpTo setup (length slot.state.book.queue) slot.state 0 0 m.events m.works.0) (sym on.setup_is) m.works.2,
+        kind.many old new defrags.goes slot m.events (runs_made view old new slot.state (IsDefrag old slot.state result) m) stands,
       )
-  flush_turns (Err fault) a (old ∷ olds) (new ∷ news) (slot ∷ node) (inl (fails, same)) stands =
-      let m = fails.makes slot.state (kind.agrees old slot stands.0) in
-      let none = no_events (length olds) in (
-        (m.event ∷ []) ∷ nones (length olds),
-        (kind.one old new fails.goes slot flush_call _ m stands.0, subst (λ (s : List (ShardView D)). Along Holds olds s node (nones (length olds))) (sym same) (along_none Holds Stands kind.rests olds node stands.1)),
-        (m.event ∷ [], map moved (events_of (nones (length olds))), refl, inr (disk_fault, flush_stops slot m.event m.is_call m.is_answer, ap (map moved) none, refl)),
-      )
-  flush_turns (Err fault) a (old ∷ olds) (new ∷ news) (slot ∷ node) (inr (mid, turn, more)) stands =
-      let m = turn.1.makes slot.state (kind.agrees old slot stands.0) in
-      let rest = flush_turns (Err fault) mid olds news node more stands.1 in
-      let behind : EachDevice Flushes 1 node (a + turn.0) 0 (map moved (events_of rest.0)) (stopped disk_fault) =
-      subst (λ (k : ℕ). EachDevice Flushes 1 node k 0 (map moved (events_of rest.0)) (stopped disk_fault)) turn.2
-      (each_moved Flushes 0 node mid 0 (events_of rest.0) (stopped disk_fault) rest.2) in (
-        (m.event ∷ []) ∷ rest.0,
-        (kind.one old new turn.1.goes slot flush_call _ m stands.0, rest.1),
-        (m.event ∷ [], map moved (events_of rest.0), refl, inl (turn.0, 0, flush_works slot m.event turn.0 m.is_call m.is_answer, behind)),
-      )
+
+  pub defrag_turns : (result : Result (ℕ × ℕ) DefragCause) (olds news : List (ShardView D)) (node : Node) → DefragsEach view result olds news → Each Stands olds node
+      → Turned olds news node (λ mines. (outcome : Outcome) × IsDefragged result outcome × EachDevice Defragments 0 node 0 0 (events_of mines) outcome)
+  defrag_turns result olds news node each stands =
+      work_turns (DefragsOn view) plus_both (λ sums. sums) IsCauseOf Defragments (λ a b. refl) defrag_does result (0, 0) olds news node each stands
 
   -- a tending of all
   pub tend_turns : {A : Type 0} (a b : A) (olds news : List (ShardView D)) (node : Node) → Through (TendTurn view) (length olds) a olds news b → Each Stands olds node
@@ -144,17 +188,16 @@ module _ {D : Type 0} (view : D → DiskView) (Stands : ShardView D → Slot →
   tend_turns a b (old ∷ olds) (new ∷ news) [] through stands = absurd stands
   tend_turns a b (old ∷ olds) (new ∷ news) (slot ∷ node) through stands =
       let turn = through.1 in
-      let any = turn.makes slot.state (kind.agrees old slot stands.0) in
-      let m = any.1 in
-      let chosen : Event = chooses_none m.event.faults_after in
+      let on = kind.stands old slot stands.0 in
+      let m = turn.makes slot.state on.agrees in
       let rest = tend_turns through.0 b olds news node through.2 stands.1 in (
-        (m.event ∷ chosen ∷ []) ∷ rest.0,
-        (kind.tended old new turn.goes slot flush_sealed_call any.0 m stands.0, rest.1),
+        m.events ∷ rest.0,
+        (kind.many old new turn.goes slot m.events (runs_made view old new slot.state (Tends (setup_of old) slot.state) m) stands.0, rest.1),
         (
-          m.event ∷ chosen ∷ [],
+          m.events,
           map moved (events_of rest.0),
           refl,
-          (m.event, chosen ∷ [], refl, m.is_call, did 0 0, (chosen, [], refl, refl, inl (refl, refl, refl))),
+          subst (λ (setup : Setup). Tends setup slot.state m.events) (sym on.setup_is) m.works,
           tends_moved 0 node (events_of rest.0) rest.2,
         ),
       )
@@ -167,10 +210,10 @@ module _ {D : Type 0} (view : D → DiskView) (Stands : ShardView D → Slot →
   close_turns E a b (old ∷ olds) (new ∷ news) [] through stands = absurd stands
   close_turns E a b (old ∷ olds) (new ∷ news) (slot ∷ node) through stands =
       let turn = through.1 in
-      let m = turn.1.makes slot.state (kind.agrees old slot stands.0) in
+      let m = turn.1.makes slot.state (kind.stands old slot stands.0).agrees in
       let rest = close_turns E through.0 b olds news node through.2 stands.1 in (
         (m.event ∷ []) ∷ rest.0,
-        (kind.one old new turn.1.goes slot flush_call _ m stands.0, rest.1),
+        (one_made old new turn.1.goes slot flush_call _ m stands.0, rest.1),
         (m.event ∷ [], map moved (events_of rest.0), refl, (m.event, refl, m.is_call), closes_moved 0 node (events_of rest.0) rest.2),
       )
 
@@ -180,10 +223,10 @@ module _ {D : Type 0} (view : D → DiskView) (Stands : ShardView D → Slot →
       → (mines : List (List Event)) × Along Holds olds (set olds place new) node mines × (event : Event) × (event.call ≡ call) × (event.answer ≡ answer) × (events_of mines ≡ on_device place event ∷ [])
   event_turn olds place old new node call answer there at goes makes stands =
       let here = slot_at Stands olds node place old stands at in
-      let m = makes here.0.state (kind.agrees old here.0 here.2) in (
+      let m = makes here.0.state (kind.stands old here.0 here.2).agrees in (
         only_at place (length olds) (m.event ∷ []),
         along_one Holds Stands kind.rests olds node place old new (m.event ∷ []) stands at
-            (λ slot is same. let one : here.0 ≡ slot = one_some here.0 slot (sym here.1 ∙ is) in subst (λ (x : Slot). Holds old new x (m.event ∷ [])) one (kind.one old new goes here.0 call answer m here.2)),
+            (λ slot is same. let one : here.0 ≡ slot = one_some here.0 slot (sym here.1 ∙ is) in subst (λ (x : Slot). Holds old new x (m.event ∷ [])) one (one_made old new goes here.0 call answer m here.2)),
         m.event,
         m.is_call,
         m.is_answer,

@@ -12,19 +12,21 @@ use Rattle.line_proto.specs.declared.command.Command.TheVariants as command
 use Rattle.line_proto.specs.declared.reply.Reply.{Reply}
 use Rattle.line_proto.specs.declared.reply.Reply.TheVariants as reply
 use Rattle.cold_scan.specs.declared.header.StartCause.{StartCause}
-use Rattle.node_model.specs.Commands.{Slot, Node, NodeEvent, Does, on_device, answer_reply, meta_reply, seen_on, one_sum, node_counts}
+use Rattle.device_model.specs.Vacating.{Outcome}
+use Rattle.node_model.specs.Commands.{Slot, Node, NodeEvent, Does, on_device, answer_reply, meta_reply, seen_on, one_sum, two_sums, node_counts}
 use Rattle.node_model.specs.Meaning.{ActsFrom}
 use Rattle.shard_core.specs.View.{ShardView}
 use Rattle.shard_core.specs.Stands.{Agrees}
 use Rattle.shard_core.specs.Calls.{GetsStored}
+use Rattle.shard_core.specs.declared.refusals.DefragCause.{DefragCause}
 use Rattle.core_run.specs.Views.{serving, halted, disks_served, views_of, unknown, AreLater}
 use Rattle.core_run.specs.Standing.{Each, StandsOn, StandsSafelyOn, StandsFor, StandsSafely, Halts, HaltsSafely}
-use Rattle.core_run.specs.Calls.{digest_of, flush_outcome, RepliesStored, Acts, Tends}
-use Rattle.core_run.specs.Turns.{GoesOn, RepliesTo, RepliesOn, TendTurn, Through, FlushesEach}
+use Rattle.core_run.specs.Calls.{digest_of, RepliesStored, Acts, Tends}
+use Rattle.core_run.specs.Turns.{GoesOn, RepliesTo, RepliesOn, TendTurn, Through, WorksEach, plus_one, plus_both, IsFlushed, FlushesOn, FlushesEach, IsDefragged, DefragsOn, DefragsEach}
 use Rattle.core_run.proofs.Places.{events_of, nones, no_events}
 use Rattle.core_run.proofs.Making.{Made, slot_at, each_length, each_more, along_none}
-use Rattle.core_run.proofs.Acting.{Safely, over_any, over_safe, event_turn, flush_turns, tend_turns}
-use Rattle.core_run.proofs.Replying.{known_goes_on, stat_goes_on, flushed_goes_on, one_digest}
+use Rattle.core_run.proofs.Acting.{Safely, over_any, over_safe, event_turn, flush_turns, defrag_turns, tend_turns}
+use Rattle.core_run.proofs.Replying.{known_goes_on, stat_goes_on, one_sum_goes_on, two_sums_goes_on, one_digest}
 use Rattle.core_run.proofs.Nodes.{one_shards, serves_or_halts, later_same, later_at, later_through, acts_any, acts_safe, tends_any, tends_safe}
 
 -- a device that stays as it is leaves the list
@@ -161,28 +163,40 @@ module _ {D : Type 0} (view : D → DiskView) (is_disk : (disk : D) → IsDisk (
       subst (λ (n : ℕ). Acts view (serving olds) c now r (serving (set olds n new))) (sym is)
       (by_command olds digest old new (subst (λ (n : ℕ). slice_get olds n ≡ Some old) is at) goes c now r on replies)
 
-  -- ---- a flush
+  -- ---- a flush, and a defragmentation
 
-  flush_later : {E : Type 0} (flushed : Result ℕ E) (a : ℕ) (olds news : List (ShardView D)) → FlushesEach view flushed a olds news → AreLater view (disks_served olds) (disks_served news)
-  flush_later (Ok n) a [] news each = ap disks_served each.0
-  flush_later (Err fault) a [] news each = absurd each
-  flush_later (Ok n) a (old ∷ olds) [] each = absurd each
-  flush_later (Err fault) a (old ∷ olds) [] each = absurd each
-  flush_later (Ok n) a (old ∷ olds) (new ∷ news) (mid, turn, more) = (turn.1.goes.later, flush_later (Ok n) mid olds news more)
-  flush_later (Err fault) a (old ∷ olds) (new ∷ news) (inl (fails, same)) =
-      (fails.goes.later, subst (λ (s : List (ShardView D)). AreLater view (disks_served olds) (disks_served s)) (sym same) (later_same view is_disk (disks_served olds)))
-  flush_later (Err fault) a (old ∷ olds) (new ∷ news) (inr (mid, turn, more)) = (turn.1.goes.later, flush_later (Err fault) mid olds news more)
+  work_later : {R E : Type 0} (Does : Result R E → ShardView D → ShardView D → Type 0) (plus : R → R → R) → ((result : Result R E) (old new : ShardView D) → Does result old new → GoesOn view old new)
+      → (result : Result R E) (a : R) (olds news : List (ShardView D)) → WorksEach Does plus result a olds news → AreLater view (disks_served olds) (disks_served news)
+  work_later Does plus goes (Ok sum) a [] news each = ap disks_served each.0
+  work_later Does plus goes (Err why) a [] news each = absurd each
+  work_later Does plus goes (Ok sum) a (old ∷ olds) [] each = absurd each
+  work_later Does plus goes (Err why) a (old ∷ olds) [] each = absurd each
+  work_later Does plus goes (Ok sum) a (old ∷ olds) (new ∷ news) (x, does, more) = ((goes (Ok x) old new does).later, work_later Does plus goes (Ok sum) (plus a x) olds news more)
+  work_later Does plus goes (Err why) a (old ∷ olds) (new ∷ news) (inl (does, same)) =
+      ((goes (Err why) old new does).later, subst (λ (s : List (ShardView D)). AreLater view (disks_served olds) (disks_served s)) (sym same) (later_same view is_disk (disks_served olds)))
+  work_later Does plus goes (Err why) a (old ∷ olds) (new ∷ news) (inr (x, does, more)) = ((goes (Ok x) old new does).later, work_later Does plus goes (Err why) (plus a x) olds news more)
 
-  pub flush_acts : {E : Type 0} (flushed : Result ℕ E) (olds news : List (ShardView D)) (now : ℕ) (r : Reply) → FlushesEach view flushed 0 olds news → r ≡ one_sum (flush_outcome flushed)
-      → Acts view (serving olds) command.Flush now r (serving news)
-  flush_acts flushed olds news now r each is =
-      acts_serving olds news command.Flush now r (flush_later flushed 0 olds news each) (λ e. cc) tt
+  pub flush_acts : {E : Type 0} (flushed : Result ℕ E) (olds news : List (ShardView D)) (now : ℕ) (r : Reply) → FlushesEach view flushed olds news
+      → ((outcome : Outcome) → IsFlushed flushed outcome → r ≡ one_sum outcome) → Acts view (serving olds) command.Flush now r (serving news)
+  flush_acts {E} flushed olds news now r each is =
+      acts_serving olds news command.Flush now r (work_later (FlushesOn {E = E} view) plus_one (λ result old new does. does.goes) flushed 0 olds news each) (λ e. cc) tt
       (λ node stands.
-      let t = flush_turns view (StandsOn view) (Made false (StandsOn view)) (over_any view) flushed 0 olds news node each stands in
-      acts_any view olds news node t.0 t.1 command.Flush now r (flush_outcome flushed, t.2, is) (λ h. flushed_goes_on flushed (sym is ∙ h)))
+      let t = flush_turns view (StandsOn view) (Made false (StandsOn view)) (over_any view) flushed olds news node each stands in
+      acts_any view olds news node t.0 t.1 command.Flush now r (t.2.0, t.2.2, is t.2.0 t.2.1) (λ h. one_sum_goes_on t.2.0 (sym (is t.2.0 t.2.1) ∙ h)))
       (λ node stands.
-      let t = flush_turns view (StandsSafelyOn view) (Safely view) (over_safe view is_disk) flushed 0 olds news node each stands in
-      acts_safe view olds news node t.0 t.1 command.Flush now r (flush_outcome flushed, t.2, is) (λ h. flushed_goes_on flushed (sym is ∙ h)))
+      let t = flush_turns view (StandsSafelyOn view) (Safely view) (over_safe view is_disk) flushed olds news node each stands in
+      acts_safe view olds news node t.0 t.1 command.Flush now r (t.2.0, t.2.2, is t.2.0 t.2.1) (λ h. one_sum_goes_on t.2.0 (sym (is t.2.0 t.2.1) ∙ h)))
+
+  pub defrag_acts : (result : Result (ℕ × ℕ) DefragCause) (olds news : List (ShardView D)) (now : ℕ) (r : Reply) → DefragsEach view result olds news
+      → ((outcome : Outcome) → IsDefragged result outcome → r ≡ two_sums outcome) → Acts view (serving olds) command.Defrag now r (serving news)
+  defrag_acts result olds news now r each is =
+      acts_serving olds news command.Defrag now r (work_later (DefragsOn view) plus_both (λ done old new does. does.goes) result (0, 0) olds news each) (λ e. cc) tt
+      (λ node stands.
+      let t = defrag_turns view (StandsOn view) (Made false (StandsOn view)) (over_any view) result olds news node each stands in
+      acts_any view olds news node t.0 t.1 command.Defrag now r (t.2.0, t.2.2, is t.2.0 t.2.1) (λ h. two_sums_goes_on t.2.0 (sym (is t.2.0 t.2.1) ∙ h)))
+      (λ node stands.
+      let t = defrag_turns view (StandsSafelyOn view) (Safely view) (over_safe view is_disk) result olds news node each stands in
+      acts_safe view olds news node t.0 t.1 command.Defrag now r (t.2.0, t.2.2, is t.2.0 t.2.1) (λ h. two_sums_goes_on t.2.0 (sym (is t.2.0 t.2.1) ∙ h)))
 
   -- ---- the numbers
 

@@ -1,6 +1,9 @@
 -- What a node keeps over its calls, and what is seen of it.
 use Rattle.std.proofs.Common.{◌≡◌, inl, inr, Bool, true, false, ◌≤◌, ℕ, zero, suc, ◌+◌, List, [], ◌∷◌, length, set, refl, sym, ◌∙◌, ap, subst, arith}
-use Rattle.std.specs.Prelude.{Option, Some, None, Result, Ok, Err, slice_get, is_some, not}
+use Rattle.std.specs.Prelude.{Option, Some, None, Result, Ok, Err, slice_get, is_some, not, Vec, vec_capacity}
+use Rattle.std.specs.Global.{Global}
+use Rattle.std.specs.Vec.{with_items}
+use Rattle.std.proofs.lemmas.List.{with_items_is}
 use Rattle.disk_model.specs.Disk.{DiskView, IsDisk}
 use Rattle.cold_scan.specs.declared.header.StartCause.{StartCause}
 use Rattle.block_format.specs.declared.geometry.Geometry.{Geometry}
@@ -10,7 +13,7 @@ use Rattle.core_run.specs.Views.{NodeView, IsNode, AreDevices, serving, halted}
 use Rattle.line_proto.specs.declared.command.Command.{Command}
 use Rattle.line_proto.specs.declared.reply.Reply.{Reply}
 use Rattle.core_run.specs.Calls.{Acts, Tends}
-use Rattle.core_run.specs.Turns.{Through, TendTurn, FlushesEach}
+use Rattle.core_run.specs.Turns.{Through, TendTurn, WorksEach}
 use Rattle.core_run.proofs.Commands.{tend_tends, tends_halted}
 
 module _ {D : Type 0} where
@@ -80,14 +83,15 @@ module _ {D : Type 0} where
   same_through Turn each a b (old ∷ olds) [] through = absurd through
   same_through Turn each a b (old ∷ olds) (new ∷ news) through = (each a old new through.0 through.1, same_through Turn each through.0 b olds news through.2)
 
-  pub same_flushed : {E : Type 0} (view : D → DiskView) (flushed : Result ℕ E) (a : ℕ) (olds news : List (ShardView D)) → FlushesEach view flushed a olds news → SameEach olds news
-  same_flushed view (Ok n) a [] news each = each.0
-  same_flushed view (Err fault) a [] news each = absurd each
-  same_flushed view (Ok n) a (old ∷ olds) [] each = absurd each
-  same_flushed view (Err fault) a (old ∷ olds) [] each = absurd each
-  same_flushed view (Ok n) a (old ∷ olds) (new ∷ news) (mid, turn, more) = (turn.1.goes.shape, same_flushed view (Ok n) mid olds news more)
-  same_flushed view (Err fault) a (old ∷ olds) (new ∷ news) (inl (fails, same)) = (fails.goes.shape, subst (SameEach olds) (sym same) (same_all olds))
-  same_flushed view (Err fault) a (old ∷ olds) (new ∷ news) (inr (mid, turn, more)) = (turn.1.goes.shape, same_flushed view (Err fault) mid olds news more)
+  pub same_worked : {R E : Type 0} (Does : Result R E → ShardView D → ShardView D → Type 0) (plus : R → R → R) → ((result : Result R E) (old new : ShardView D) → Does result old new → SameSetup old new)
+      → (result : Result R E) (a : R) (olds news : List (ShardView D)) → WorksEach Does plus result a olds news → SameEach olds news
+  same_worked Does plus one (Ok sum) a [] news each = each.0
+  same_worked Does plus one (Err why) a [] news each = absurd each
+  same_worked Does plus one (Ok sum) a (old ∷ olds) [] each = absurd each
+  same_worked Does plus one (Err why) a (old ∷ olds) [] each = absurd each
+  same_worked Does plus one (Ok sum) a (old ∷ olds) (new ∷ news) (x, does, more) = (one (Ok x) old new does, same_worked Does plus one (Ok sum) (plus a x) olds news more)
+  same_worked Does plus one (Err why) a (old ∷ olds) (new ∷ news) (inl (does, same)) = (one (Err why) old new does, subst (SameEach olds) (sym same) (same_all olds))
+  same_worked Does plus one (Err why) a (old ∷ olds) (new ∷ news) (inr (x, does, more)) = (one (Ok x) old new does, same_worked Does plus one (Err why) (plus a x) olds news more)
 
   pub same_at : (shards : List (ShardView D)) (place : ℕ) (old new : ShardView D) → slice_get shards place ≡ Some old → SameSetup old new → SameEach shards (set shards place new)
   same_at [] place old new at same = cc
@@ -176,3 +180,20 @@ pub acts_so : {D : Type 0} (view : D → DiskView) (set : Settings) (a b : ℕ) 
 acts_so {D} view set a b olds news refused disks self c now r is none same seen acts =
     subst (λ (old : NodeView D). Acts view old c now r (seen_so news refused disks)) (sym (node_serves set a b olds refused disks none is) ∙ seen)
     (subst (λ (new : NodeView D). Acts view (serving olds) c now r new) (sym (node_serves set a b news refused disks none (node_kept set a b olds news refused disks same is))) acts)
+
+-- ---- a call of all devices, which stay in their vector
+
+pub items_are : {D : Type 0} (shards : Vec (ShardView D) Global) (news : List (ShardView D)) → SameEach shards.items news → (with_items shards news).items ≡ news
+items_are shards news same = with_items_is shards news (same_length shards.items news same ∙ sym shards.ok.0)
+
+module _ {D : Type 0} (set : Settings) (b : ℕ) (shards : Vec (ShardView D) Global) (news : List (ShardView D)) (refused : Option (ℕ × StartCause)) (disks : List D) (same : SameEach shards.items news)
+    (is : IsNode set (vec_capacity shards) b (seen_so shards.items refused disks)) where
+  pub all_kept : IsNode set (vec_capacity shards) b (seen_so (with_items shards news).items refused disks)
+  all_kept = subst (λ (s : List (ShardView D)). IsNode set (vec_capacity shards) b (seen_so s refused disks)) (sym (items_are shards news same)) (node_kept set (vec_capacity shards) b shards.items news refused disks same is)
+
+  pub all_act : refused ≡ None → (view : D → DiskView) (self : NodeView D) (c d : Command) (now : ℕ) (r : Reply) → seen_so shards.items refused disks ≡ self → c ≡ d → Acts view (serving shards.items) d now r (serving news)
+      → Acts view self c now r (seen_so (with_items shards news).items refused disks)
+  all_act none view self c d now r seen named acts =
+      subst (λ (x : Command). Acts view self x now r (seen_so (with_items shards news).items refused disks)) (sym named)
+      (subst (λ (s : List (ShardView D)). Acts view self d now r (seen_so s refused disks)) (sym (items_are shards news same))
+      (acts_so view set (vec_capacity shards) b shards.items news refused disks self d now r is none same seen acts))

@@ -2,6 +2,7 @@ pub mod Places
 pub mod Making
 pub mod Turning
 pub mod Looping
+pub mod Defragging
 pub mod Startings
 pub mod Counting
 pub mod Acting

@@ -1,10 +1,8 @@
 -- A loop over all devices, turn by turn.
 use Rattle.std.proofs.Common.{◌≡◌, inl, inr, Bool, true, false, ℕ, zero, suc, ◌+◌, ◌<◌, ◌≤◌, List, [], ◌∷◌, length, get_or, set, refl, sym, ◌∙◌, ap, subst, arith}
 use Rattle.std.specs.Prelude.{Option, Some, None, Result, Ok, Err, IsErr, is_err, is_some, not}
-use Rattle.disk_model.specs.Disk.{DiskView}
 use Rattle.disk_model.specs.declared.disk.DiskFault.{DiskFault}
-use Rattle.shard_core.specs.View.{ShardView}
-use Rattle.core_run.specs.Turns.{Through, FlushTurn, FlushesOn, FlushesEach, first_failed}
+use Rattle.core_run.specs.Turns.{Through, WorkTurn, WorksEach, first_failed}
 
 module _ {A S : Type 0} (Turn : A → S → S → A → Type 0) where
   -- the next element takes its turn
@@ -45,25 +43,28 @@ module _ {A S : Type 0} (Turn : A → S → S → A → Type 0) where
       let all : k ≡ length olds = omega (arith, within, same, over) in
       subst (λ (n : ℕ). Through Turn n a olds news b) all through
 
-module _ {D : Type 0} (E : Type 0) (view : D → DiskView) where
-  pub flushed_all : (a : ℕ) (olds news : List (ShardView D)) (b : ℕ) → Through (FlushTurn E view) (length olds) a olds news b → FlushesEach {E = E} view (Ok b) a olds news
-  flushed_all a [] news b through = through
-  flushed_all a (o ∷ olds) [] b through = absurd through
-  flushed_all a (o ∷ olds) (x ∷ news) b through = (through.0, through.1, flushed_all through.0 olds news b through.2)
+-- some work of each, up to the first that is refused
+module _ {S R E : Type 0} (Does : Result R E → S → S → Type 0) (plus : R → R → R) where
+  pub worked_all : (a : R) (olds news : List S) (b : R) → Through (WorkTurn Does plus) (length olds) a olds news b → WorksEach Does plus (Ok b) a olds news
+  worked_all a [] news b through = through
+  worked_all a (o ∷ olds) [] b through = absurd through
+  worked_all a (o ∷ olds) (x ∷ news) b through =
+      let turn = through.1 in (turn.0, turn.1, subst (λ (c : R). WorksEach Does plus (Ok b) c olds news) turn.2 (worked_all through.0 olds news b through.2))
 
-  -- the next device fails
-  pub flush_fails : (fault : E) (k : ℕ) (a : ℕ) (olds mid : List (ShardView D)) (b : ℕ) (d x : ShardView D) → Through (FlushTurn E view) k a olds mid b → k < length mid
-      → FlushesOn view (Err fault) (get_or mid k d) x → FlushesEach {E = E} view (Err fault) a olds (set mid k x)
-  flush_fails fault zero a [] mid b d x through there turn = let none : length mid ≡ 0 = ap length through.0 in absurd (omega (arith, none))
-  flush_fails fault zero a (o ∷ olds) [] b d x through there turn = absurd (omega arith)
-  flush_fails fault zero a (o ∷ olds) (m ∷ mid) b d x through there turn =
+  -- the next is refused
+  pub work_fails : (why : E) (k : ℕ) (a : R) (olds mid : List S) (b : R) (d x : S) → Through (WorkTurn Does plus) k a olds mid b → k < length mid → Does (Err why) (get_or mid k d) x
+      → WorksEach Does plus (Err why) a olds (set mid k x)
+  work_fails why zero a [] mid b d x through there turn = let none : length mid ≡ 0 = ap length through.0 in absurd (omega (arith, none))
+  work_fails why zero a (o ∷ olds) [] b d x through there turn = absurd (omega arith)
+  work_fails why zero a (o ∷ olds) (m ∷ mid) b d x through there turn =
       let first : m ≡ o = cc in
       let rest : mid ≡ olds = cc in
-      inl (subst (λ (s : ShardView D). FlushesOn view (Err fault) s x) first turn, rest)
-  flush_fails fault (suc k) a [] mid b d x through there turn = absurd through
-  flush_fails fault (suc k) a (o ∷ olds) [] b d x through there turn = absurd through
-  flush_fails fault (suc k) a (o ∷ olds) (m ∷ mid) b d x through there turn =
-      inr (through.0, through.1, flush_fails fault k through.0 olds mid b d x through.2 (omega arith) turn)
+      inl (subst (λ (s : S). Does (Err why) s x) first turn, rest)
+  work_fails why (suc k) a [] mid b d x through there turn = absurd through
+  work_fails why (suc k) a (o ∷ olds) [] b d x through there turn = absurd through
+  work_fails why (suc k) a (o ∷ olds) (m ∷ mid) b d x through there turn =
+      let first = through.1 in
+      inr (first.0, first.1, subst (λ (c : R). WorksEach Does plus (Err why) c olds (set mid k x)) first.2 (work_fails why k through.0 olds mid b d x through.2 (omega arith) turn))
 
 -- what holds of an error holds of an answer that is one
 pub err_alone : {A E : Type 0} (Holds : Result A E → Type 0) (r : Result A E) → IsErr r → ((fault : E) → Holds (Err fault)) → Holds r

@@ -4,16 +4,18 @@ use Rattle.std.specs.Prelude.{Some, slice_get}
 use Rattle.disk_model.specs.Disk.{DiskView, IsDisk}
 use Rattle.disk_model.specs.Runs.{OneOf, Leaves, leaves_none}
 use Rattle.device_model.specs.Device.{State}
-use Rattle.device_model.specs.Steps.{states_through}
-use Rattle.device_model.specs.Events.{Event}
+use Rattle.device_model.specs.Events.{Event, states_of}
 use Rattle.recovery.specs.Surviving.{Survives}
-use Rattle.shard_core.specs.View.{ShardView}
+use Rattle.kept_images.proofs.Held.{held_survives}
+use Rattle.block_shelf.specs.View.{records_of, gate_at}
+use Rattle.shard_core.specs.View.{ShardView, setup_of}
+use Rattle.shard_core.specs.Stands.{IsSafe}
 use Rattle.node_model.specs.Commands.{Slot, Node, slot_after_all, node_after, IsLegalOn}
 use Rattle.node_model.specs.Run.{states_while}
 use Rattle.node_model.specs.Meaning.{LeavesEach, SurvivesOne}
 use Rattle.core_run.specs.Views.{disks_served, view_at, nowhere, unknown}
 use Rattle.core_run.specs.Standing.{Each}
-use Rattle.core_run.proofs.Places.{events_of, slots_after, steps_of, IsLegalFrom, node_after_of, legal_of, states_here, states_there, nones, only_at}
+use Rattle.core_run.proofs.Places.{events_of, slots_after, IsLegalFrom, node_after_of, legal_of, states_here, states_there, nones, only_at}
 
 -- where there is no disk, nothing is known
 pub is_nowhere : IsDisk nowhere
@@ -25,6 +27,11 @@ nothing_left old new node states = λ device. record {
   each = λ c left. absurd left;
 }
 
+-- each image that the disk of a safe device may leave survives its state
+pub safe_survives : {D : Type 0} (view : D → DiskView) (shard : ShardView D) (s : State) → IsSafe view shard s → (image : List ℕ) → (view shard.shelf.disk).may_leave image → Survives (setup_of shard) s image
+safe_survives view shard s safe image left =
+    held_survives (setup_of shard) shard.shelf.geometry s (records_of shard.shelf.buffers) (gate_at shard.shelf.gates) (view shard.shelf.disk).may_leave safe.safe.held image left
+
 -- One device makes these events from where it stood, and stands after them.
 pub record Made {S : Type 0} (told : Bool) (Stands : S → Slot → Type 0) (old new : S) (slot : Slot) (mine : List Event) : Type 0 where
   pub legal : IsLegalFrom told slot mine
@@ -32,7 +39,7 @@ pub record Made {S : Type 0} (told : Bool) (Stands : S → Slot → Type 0) (old
 
 -- and meanwhile a crash leaves what survives a state on the way
 abbrev pub LeftOn : {D : Type 0} → (view : D → DiskView) → (old new : ShardView D) → Slot → List Event → Type 0
-LeftOn view old new slot mine = Leaves (OneOf (Survives slot.setup) (states_through slot.setup (steps_of mine) slot.state)) (view old.shelf.disk) (view new.shelf.disk)
+LeftOn view old new slot mine = Leaves (OneOf (Survives slot.setup) (states_of slot.setup mine slot.state)) (view old.shelf.disk) (view new.shelf.disk)
 
 -- It holds of each device: what was before and after, the device of the model, and its own events.
 abbrev pub Along : {S : Type 0} → (S → S → Slot → List Event → Type 0) → (olds news : List S) → Node → List (List Event) → Type 0

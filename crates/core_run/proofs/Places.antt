@@ -4,8 +4,8 @@ use Rattle.std.specs.Prelude.{Option, Some, None, slice_get, if◌then◌else◌
 use Rattle.std.proofs.Math.Dec.{eqb-suc-suc, eqb-suc-zero, eqb-zero-suc}
 use Rattle.std.proofs.lemmas.List.{append-nil, append_assoc}
 use Rattle.device_model.specs.Steps.{Step, states_through}
-use Rattle.device_model.specs.Events.{Event}
-use Rattle.device_model.specs.Legal.{Follows}
+use Rattle.device_model.specs.Events.{Event, after_events, steps_of}
+use Rattle.device_model.specs.Legal.{IsLegal, last_faults}
 use Rattle.node_model.specs.Commands.{Slot, Node, NodeEvent, slot_after, slot_after_all, at_place, node_after, IsLegalOn, on_device}
 use Rattle.node_model.specs.Run.{steps_on, states_from, states_while}
 
@@ -26,15 +26,15 @@ slots_after [] node = node
 slots_after (mine ∷ others) [] = []
 slots_after (mine ∷ others) (slot ∷ node) = slot_after_all mine slot ∷ slots_after others node
 
--- the steps of some events
-abbrev pub steps_of : List Event → List Step
-steps_of [] = []
-steps_of (event ∷ events) = event.steps ++ steps_of events
-
--- each event of a device may follow
+-- the events of a device may follow one another
 abbrev pub IsLegalFrom : (told : Bool) → Slot → List Event → Type 0
-IsLegalFrom told slot [] = Unit {0}
-IsLegalFrom told slot (event ∷ events) = Follows slot.setup told slot.state slot.faults event × IsLegalFrom told (slot_after event slot) events
+IsLegalFrom told slot mine = IsLegal slot.setup told slot.state slot.faults mine
+
+-- the device after them
+pub slot_after_is : (mine : List Event) (slot : Slot)
+    → slot_after_all mine slot ≡ record { setup = slot.setup; state = after_events slot.setup mine slot.state; faults = last_faults slot.faults mine }
+slot_after_is [] slot = refl
+slot_after_is (event ∷ mine) slot = slot_after_is mine (slot_after event slot)
 
 -- ---- the node after them
 

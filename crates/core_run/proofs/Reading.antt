@@ -11,9 +11,8 @@ use Rattle.cold_scan.specs.declared.header.StartCause.{StartCause}
 use Rattle.cold_scan.specs.declared.header.StartCause.TheVariants as why
 use Rattle.cold_scan.specs.Starting.{FaultRose}
 use Rattle.shard_core.specs.declared.settings.Settings.{Settings}
-use Rattle.shard_core.specs.View.{ShardView, setup_of}
+use Rattle.shard_core.specs.View.{ShardView}
 use Rattle.shard_core.specs.Again.{IsNoRefusal}
-use Rattle.shard_core.proofs.Going.{safe_survives}
 use Rattle.node_model.specs.Commands.{Slot, Node}
 use Rattle.node_model.specs.Run.{SameStates, states_while}
 use Rattle.node_model.specs.Outside.{counts_of, RoseOn}
@@ -23,7 +22,7 @@ use Rattle.core_run.specs.Views.{AreDevices, AreLater, disks_served, view_at, no
 use Rattle.core_run.specs.Starts.{StartsEach, RefusesAt}
 use Rattle.core_run.specs.Standing.{Each, StandsOn, StandsSafelyOn}
 use Rattle.core_run.proofs.Places.{states_there}
-use Rattle.core_run.proofs.Making.{is_nowhere}
+use Rattle.core_run.proofs.Making.{is_nowhere, safe_survives}
 
 module _ {D : Type 0} (view : D → DiskView) where
   -- each disk was read alone
@@ -75,7 +74,7 @@ module _ {D : Type 0} (view : D → DiskView) where
         → Leaves (OneOf (Survives slot.setup) (slot.state ∷ [])) (view shard.shelf.disk) (view later)
     survives shard slot later stands read =
         subst (λ (setup : Setup). Leaves (OneOf (Survives setup) (slot.state ∷ [])) (view shard.shelf.disk) (view later)) (sym stands.stands.setup_is)
-        (record { time = read.time; each = λ image was. inl (safe_survives (setup_of shard) view shard.shelf slot.state stands.safe.safe image (read.images stands.honest image was)) })
+        (record { time = read.time; each = λ image was. inl (safe_survives view shard slot.state stands.safe image (read.images stands.honest image was)) })
 
     pub left_read : (shards : List (ShardView D)) (new : List D) (node : Node) → Each (StandsSafelyOn view) shards node → ReadEach (disks_served shards) new → (device : ℕ)
         → Leaves (SurvivesOne device node (states_while device [] node)) (view_at view (disks_served shards) device) (view_at view new device)
@@ -126,7 +125,7 @@ module _ {D : Type 0} (view : D → DiskView) where
         let safe = stands.0 in
         let was = (view shard.shelf.disk).moment in
         subst (λ (setup : Setup). Survives setup slot.state image) (sym safe.stands.setup_is)
-        (safe_survives (setup_of shard) view shard.shelf slot.state safe.safe.safe image
+        (safe_survives view shard slot.state safe.safe image
         (read.0.images safe.honest image ((is_disk later).now_since was image (read.0.time.stays was read.0.time.started) left)))
     left_now (shard ∷ shards) (later ∷ new) (slot ∷ node) stands read (suc device) image left = left_now shards new node stands.1 read.1 device image left
 

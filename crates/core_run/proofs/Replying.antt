@@ -11,8 +11,8 @@ use Rattle.shard_core.specs.declared.refusals.WriteRefusal.{WriteRefusal}
 use Rattle.shard_core.specs.declared.refusals.WriteRefusal.TheVariants as write
 use Rattle.shard_core.specs.Calls.{write_answer, delete_answer, read_answer}
 use Rattle.line_proto.specs.declared.reply.Reply.TheVariants as reply
-use Rattle.node_model.specs.Commands.{answer_reply, meta_reply, one_sum}
-use Rattle.core_run.specs.Calls.{flush_outcome}
+use Rattle.device_model.specs.Vacating.{Outcome, did, stopped}
+use Rattle.node_model.specs.Commands.{answer_reply, meta_reply, one_sum, two_sums}
 
 -- ---- no reply halts
 
@@ -54,9 +54,13 @@ stat_goes_on counts e = cc
 pub restart_goes_on : (a b : ℕ) → reply.Done2 a b ≡ reply.Halted → ⊥
 restart_goes_on a b e = cc
 
-pub flushed_goes_on : {E : Type 0} (flushed : Result ℕ E) → one_sum (flush_outcome flushed) ≡ reply.Halted → ⊥
-flushed_goes_on (Ok n) e = cc
-flushed_goes_on (Err fault) e = cc
+pub one_sum_goes_on : (outcome : Outcome) → one_sum outcome ≡ reply.Halted → ⊥
+one_sum_goes_on (did a b) e = cc
+one_sum_goes_on (stopped cause) e = cc
+
+pub two_sums_goes_on : (outcome : Outcome) → two_sums outcome ≡ reply.Halted → ⊥
+two_sums_goes_on (did a b) e = cc
+two_sums_goes_on (stopped cause) e = cc
 
 pub one_digest : (a b : Digest) → ◌≡◌ {A = Option Digest} (Some a) (Some b) → a ≡ b
 one_digest a b is = cc

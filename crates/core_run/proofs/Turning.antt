@@ -1,36 +1,38 @@
 -- What a call of one device makes is what the device of the model makes in its turn.
-use Rattle.std.proofs.Common.{◌≡◌, inl, ℕ, true, false, Bool, List, [], ◌∷◌, refl, sym, ◌∙◌, ap, subst, arith}
-use Rattle.std.proofs.lemmas.List.{append-nil}
+use Rattle.std.proofs.Common.{◌≡◌, inl, ℕ, true, false, Bool, List, [], ◌∷◌, refl, sym, ◌∙◌, ap, subst}
 use Rattle.disk_model.specs.Disk.{DiskView, IsDisk}
 use Rattle.disk_model.specs.Runs.{OneOf, Leaves, leaves_none}
 use Rattle.device_model.specs.Book.{Setup}
-use Rattle.device_model.specs.Device.{State}
-use Rattle.device_model.specs.Steps.{Step, states_through}
-use Rattle.device_model.specs.Events.{Event, Call, Answer, choose_call, block_chosen, after_event}
-use Rattle.std.specs.Prelude.{None}
-use Rattle.device_model.specs.Legal.{Follows, queue_front}
+use Rattle.device_model.specs.Events.{Event, after_events, states_of}
+use Rattle.device_model.specs.Legal.{IsLegal, last_faults}
 use Rattle.recovery.specs.Surviving.{Survives}
 use Rattle.shard_core.specs.View.{ShardView, setup_of, setup_for}
-use Rattle.shard_core.specs.Stands.{Agrees, IsSafe, ShelfIsSafe}
-use Rattle.shard_core.specs.Calls.{Makes}
-use Rattle.shard_core.proofs.Going.{safe_survives}
-use Rattle.node_model.specs.Commands.{Slot, slot_after}
+use Rattle.shard_core.specs.Stands.{Agrees, IsSafe}
+use Rattle.shard_steps.specs.Standing.{ShelfIsSafe}
+use Rattle.shard_core.proofs.Events.{RunsBy}
+use Rattle.shard_core.proofs.Later.{later_none, later_then}
+use Rattle.node_model.specs.Commands.{Slot}
 use Rattle.core_run.specs.Standing.{StandsOn, StandsSafelyOn}
 use Rattle.core_run.specs.Turns.{GoesOn}
-use Rattle.core_run.proofs.Making.{Made, LeftOn}
+use Rattle.core_run.proofs.Places.{slot_after_is}
+use Rattle.core_run.proofs.Making.{Made, LeftOn, safe_survives}
 
--- nothing is queued, so a choice finds none
-abbrev pub chooses_none : ℕ → Event
-chooses_none faults = record { call = choose_call; answer = block_chosen None; steps = []; faults_before = faults; faults_after = faults }
-
-none_follows : (setup : Setup) (told : Bool) (s : State) (faults : ℕ) → s.book.queue ≡ [] → Follows setup told s faults (chooses_none faults)
-none_follows setup told s faults none = record {
-  begins = refl;
-  counts = omega arith;
-  allowed = inl (sym (ap (λ (queue : List ℕ). block_chosen (queue_front queue)) none), refl);
-}
+-- the shape and the settings of a device stay
+pub setups_same : {D : Type 0} (view : D → DiskView) (old new : ShardView D) → GoesOn view old new → setup_of new ≡ setup_of old
+setups_same view old new goes = ap (λ g. setup_for g new.set) goes.shape.geometry ∙ ap (λ set. setup_for old.shelf.geometry set) goes.shape.set
 
 module _ {D : Type 0} (view : D → DiskView) where
+  -- a device that isn't called, and one that is called twice
+  pub goes_on_none : (shard : ShardView D) → IsDisk (view shard.shelf.disk) → GoesOn view shard shard
+  goes_on_none shard is_disk = record { shape = record { geometry = refl; set = refl }; later = later_none view shard.shelf.disk is_disk; honest = λ honest. honest }
+
+  pub goes_on_then : (old mid new : ShardView D) → GoesOn view old mid → GoesOn view mid new → GoesOn view old new
+  goes_on_then old mid new first then = record {
+    shape = record { geometry = then.shape.geometry ∙ first.shape.geometry; set = then.shape.set ∙ first.shape.set };
+    later = later_then view old.shelf.disk mid.shelf.disk new.shelf.disk first.later then.later;
+    honest = λ honest. then.honest (first.honest honest);
+  }
+
   -- a device that does nothing
   pub rests_any : (shard : ShardView D) (slot : Slot) → StandsOn view shard slot → Made false (StandsOn view) shard shard slot []
   rests_any shard slot stands = record { legal = tt; stands = stands }
@@ -42,80 +44,49 @@ module _ {D : Type 0} (view : D → DiskView) where
   rests_left is_disk shard slot stands =
       subst (λ (setup : Setup). Leaves (OneOf (Survives setup) (slot.state ∷ [])) (view shard.shelf.disk) (view shard.shelf.disk)) (sym stands.stands.setup_is)
       (leaves_none (OneOf (Survives (setup_of shard)) (slot.state ∷ [])) (view shard.shelf.disk) (is_disk shard.shelf.disk)
-      (λ image left. inl (safe_survives (setup_of shard) view shard.shelf slot.state stands.safe.safe image left)))
+      (λ image left. inl (safe_survives view shard slot.state stands.safe image left)))
 
-  -- ---- one event
+  -- ---- one that makes events
 
-  module _ (old new : ShardView D) (goes : GoesOn view old new) (slot : Slot) (call : Call) (answer : Answer) (m : Makes view call answer old slot.state new) where
-    pub setups_same : setup_of new ≡ setup_of old
-    setups_same = ap (λ g. setup_for g new.set) goes.shape.geometry ∙ ap (λ set. setup_for old.shelf.geometry set) goes.shape.set
+  module _ (old new : ShardView D) (goes : GoesOn view old new) (slot : Slot) (mine : List Event) (m : RunsBy view (setup_of old) old.shelf slot.state new.shelf (Agrees new) mine) where
+    -- the device of the model after them
+    abbrev After : Slot
+    After = record { setup = slot.setup; state = after_events slot.setup mine slot.state; faults = last_faults slot.faults mine }
 
-    -- the state after it, by the setup of the slot
-    state_is : slot.setup ≡ setup_of old → (slot_after m.event slot).state ≡ after_event (setup_of old) m.event slot.state
-    state_is same = ap (λ (setup : Setup). after_event setup m.event slot.state) same
+    -- its state, by the setup of the slot
+    state_is : slot.setup ≡ setup_of old → After.state ≡ after_events (setup_of old) mine slot.state
+    state_is same = ap (λ (setup : Setup). after_events setup mine slot.state) same
 
-    stands_after : StandsOn view old slot → StandsOn view new (slot_after m.event slot)
-    stands_after stands = record {
-      setup_is = stands.setup_is ∙ sym setups_same;
-      faults_is = m.counted;
+    stands_then : StandsOn view old slot → StandsOn view new After
+    stands_then stands = record {
+      setup_is = stands.setup_is ∙ sym (setups_same view old new goes);
+      faults_is = ap (λ (n : ℕ). last_faults n mine) stands.faults_is ∙ m.counted;
       agrees = subst (Agrees new) (sym (state_is stands.setup_is)) m.stands;
     }
 
-    safe_after : StandsSafelyOn view old slot → StandsSafelyOn view new (slot_after m.event slot)
-    safe_after stands = record {
-      stands = stands_after stands.stands;
+    safe_then : StandsSafelyOn view old slot → StandsSafelyOn view new After
+    safe_then stands = record {
+      stands = stands_then stands.stands;
       honest = goes.honest stands.honest;
       safe = subst (IsSafe view new) (sym (state_is stands.stands.setup_is))
-          (subst (λ (setup : Setup). ShelfIsSafe view setup new.shelf (after_event (setup_of old) m.event slot.state)) (sym setups_same) (m.safe stands.honest stands.safe));
+          (subst (λ (setup : Setup). ShelfIsSafe view setup new.shelf (after_events (setup_of old) mine slot.state)) (sym (setups_same view old new goes)) (m.safe stands.honest stands.safe));
     }
 
-    follows_any : StandsOn view old slot → Follows slot.setup false slot.state slot.faults m.event
-    follows_any stands =
-        subst (λ (setup : Setup). Follows setup false slot.state slot.faults m.event) (sym stands.setup_is)
-        (subst (λ (n : ℕ). Follows (setup_of old) false slot.state n m.event) (sym stands.faults_is) m.follows)
+    legal_from : (told : Bool) → StandsOn view old slot → IsLegal (setup_of old) told slot.state (view old.shelf.disk).faults mine → IsLegal slot.setup told slot.state slot.faults mine
+    legal_from told stands legal =
+        subst (λ (setup : Setup). IsLegal setup told slot.state slot.faults mine) (sym stands.setup_is)
+        (subst (λ (n : ℕ). IsLegal (setup_of old) told slot.state n mine) (sym stands.faults_is) legal)
 
-    follows_told : StandsSafelyOn view old slot → Follows slot.setup true slot.state slot.faults m.event
-    follows_told stands =
-        subst (λ (setup : Setup). Follows setup true slot.state slot.faults m.event) (sym stands.stands.setup_is)
-        (subst (λ (n : ℕ). Follows (setup_of old) true slot.state n m.event) (sym stands.stands.faults_is) (m.told stands.honest stands.safe))
+    pub many_any : StandsOn view old slot → Made false (StandsOn view) old new slot mine
+    many_any stands = record { legal = legal_from false stands m.legal; stands = subst (StandsOn view new) (sym (slot_after_is mine slot)) (stands_then stands) }
 
-    left_states : StandsSafelyOn view old slot → Leaves (OneOf (Survives slot.setup) (states_through slot.setup m.event.steps slot.state)) (view old.shelf.disk) (view new.shelf.disk)
-    left_states stands =
-        subst (λ (setup : Setup). Leaves (OneOf (Survives setup) (states_through setup m.event.steps slot.state)) (view old.shelf.disk) (view new.shelf.disk)) (sym stands.stands.setup_is)
+    pub many_safe : StandsSafelyOn view old slot → Made true (StandsSafelyOn view) old new slot mine
+    many_safe stands = record {
+      legal = legal_from true stands.stands (m.told stands.honest stands.safe);
+      stands = subst (StandsSafelyOn view new) (sym (slot_after_is mine slot)) (safe_then stands);
+    }
+
+    pub many_left : StandsSafelyOn view old slot → LeftOn view old new slot mine
+    many_left stands =
+        subst (λ (setup : Setup). Leaves (OneOf (Survives setup) (states_of setup mine slot.state)) (view old.shelf.disk) (view new.shelf.disk)) (sym stands.stands.setup_is)
         (m.leaves stands.honest stands.safe)
-
-    pub one_any : StandsOn view old slot → Made false (StandsOn view) old new slot (m.event ∷ [])
-    one_any stands = record { legal = (follows_any stands, tt); stands = stands_after stands }
-
-    pub one_safe : StandsSafelyOn view old slot → Made true (StandsSafelyOn view) old new slot (m.event ∷ [])
-    one_safe stands = record { legal = (follows_told stands, tt); stands = safe_after stands }
-
-    pub one_left : StandsSafelyOn view old slot → LeftOn view old new slot (m.event ∷ [])
-    one_left stands =
-        subst (λ (steps : List Step). Leaves (OneOf (Survives slot.setup) (states_through slot.setup steps slot.state)) (view old.shelf.disk) (view new.shelf.disk))
-        (sym (append-nil m.event.steps)) (left_states stands)
-
-    -- ---- an event, and a choice that finds nothing queued
-
-    abbrev Chosen : Event
-    Chosen = chooses_none m.event.faults_after
-
-    nothing_queued : slot.setup ≡ setup_of old → (slot_after m.event slot).state.book.queue ≡ []
-    nothing_queued same = ap (λ (s : State). s.book.queue) (state_is same) ∙ m.stands.shelf.queue
-
-    pub tend_any : StandsOn view old slot → Made false (StandsOn view) old new slot (m.event ∷ Chosen ∷ [])
-    tend_any stands = record {
-      legal = (follows_any stands, (none_follows slot.setup false (slot_after m.event slot).state m.event.faults_after (nothing_queued stands.setup_is), tt));
-      stands = stands_after stands;
-    }
-
-    pub tend_safe : StandsSafelyOn view old slot → Made true (StandsSafelyOn view) old new slot (m.event ∷ Chosen ∷ [])
-    tend_safe stands = record {
-      legal = (follows_told stands, (none_follows slot.setup true (slot_after m.event slot).state m.event.faults_after (nothing_queued stands.stands.setup_is), tt));
-      stands = safe_after stands;
-    }
-
-    pub tend_left : StandsSafelyOn view old slot → LeftOn view old new slot (m.event ∷ Chosen ∷ [])
-    tend_left stands =
-        subst (λ (steps : List Step). Leaves (OneOf (Survives slot.setup) (states_through slot.setup steps slot.state)) (view old.shelf.disk) (view new.shelf.disk))
-        (sym (append-nil m.event.steps)) (left_states stands)

@@ -1,9 +1,8 @@
 -- Crate core_run. What the calls of a node mean by what is seen of it.
-use Rattle.std.specs.Prelude.{◌≡◌, ◌⊎◌, ℕ, ◌<◌, true, false, List, length, Option, Some, None, MatchOption, Result, Ok, Err, slice_get}
+use Rattle.std.specs.Prelude.{◌≡◌, ◌⊎◌, ℕ, ◌<◌, true, false, List, length, Option, Some, None, MatchOption, Result, slice_get}
 use Rattle.disk_model.specs.Disk.{DiskView}
 use Rattle.rec_format.specs.declared.version.Digest.{Digest}
 use Rattle.rec_format.specs.declared.version.Version.{Version}
-use Rattle.device_model.specs.Events.{disk_fault}
 use Rattle.rec_format.specs.Places.{device_number}
 use Rattle.block_shelf.specs.declared.refusals.ReadRefusal.{ReadRefusal}
 use Rattle.cold_scan.specs.declared.header.StartCause.{StartCause}
@@ -14,7 +13,7 @@ use Rattle.line_proto.specs.declared.command.Command.{Command}
 use Rattle.line_proto.specs.declared.command.Command.TheVariants as command
 use Rattle.line_proto.specs.declared.reply.Reply.{Reply}
 use Rattle.line_proto.specs.declared.reply.Reply.TheVariants as reply
-use Rattle.node_model.specs.Commands.{Node, Outcome, did, stopped, answer_reply}
+use Rattle.node_model.specs.Commands.{Node, answer_reply}
 use Rattle.node_model.specs.Outside.{RoseOn}
 use Rattle.node_model.specs.RunEnd.{IsQuiet, AllQuiet}
 use Rattle.node_model.specs.Meaning.{ActsBy, TendsBy, ClosesBy}
@@ -30,11 +29,6 @@ digest_of (command.Meta digest) = Some digest
 digest_of (command.Del digest) = Some digest
 digest_of (command.Bury digest) = Some digest
 digest_of _ = None
-
--- what a flush of all devices comes to
-abbrev pub flush_outcome : {E : Type 0} → Result ℕ E → Outcome
-flush_outcome (Ok flushed) = did flushed 0
-flush_outcome (Err fault) = stopped disk_fault
 
 -- A get is replied as its record is stored on its device: as it was put, where its block has a write buffer, and else as it stands at its
 -- place, on a disk that tells its bytes; `err damaged` comes then exactly where no head of the record stands there.

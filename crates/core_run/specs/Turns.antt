@@ -1,15 +1,18 @@
 -- Crate core_run. What a call of one device makes, and what a loop over all devices makes, turn by turn.
-use Rattle.std.specs.Prelude.{◌≡◌, ◌≢◌, ℕ, zero, suc, ◌+◌, ◌%◌, ◌^◌, List, [], ◌∷◌, Option, Some, None, Result, Ok, Err, OnOk, OnErr, ◌⊎◌}
+use Rattle.std.specs.Prelude.{◌≡◌, ◌≢◌, ℕ, zero, suc, ◌+◌, ◌%◌, ◌^◌, List, [], ◌∷◌, length, Option, Some, None, Result, Ok, Err, OnOk, OnErr, ◌⊎◌}
 use Rattle.disk_model.specs.Disk.{DiskView, IsHonest}
 use Rattle.device_model.specs.Device.{State, seen}
-use Rattle.device_model.specs.Events.{Call, put_call, get_call, delete_call, bury_call, flush_call, flush_sealed_call, Answer}
+use Rattle.device_model.specs.Events.{Call, put_call, get_call, delete_call, bury_call, flush_call, Answer, Cause, disk_fault, Event}
+use Rattle.device_model.specs.Vacating.{Outcome, VacatesUpTo, Tends, did, stopped}
 use Rattle.block_shelf.specs.Disks.{IsLater}
 use Rattle.block_shelf.specs.declared.refusals.ReadRefusal.{ReadRefusal}
 use Rattle.rec_format.specs.declared.entry.Counts.{Counts}
 use Rattle.rec_format.specs.declared.version.Version.{Version}
-use Rattle.shard_core.specs.View.{ShardView, SameSetup}
+use Rattle.shard_core.specs.View.{ShardView, SameSetup, setup_of}
 use Rattle.shard_core.specs.Stands.{Agrees}
-use Rattle.shard_core.specs.Calls.{Makes, MakesAny, GetsStored, read_answer, flush_answer}
+use Rattle.shard_core.specs.Calls.{Makes, GetsStored, read_answer, flush_answer}
+use Rattle.shard_core.specs.Vacating.{MakesEvents, IsCauseOf}
+use Rattle.shard_core.specs.declared.refusals.DefragCause.{DefragCause}
 use Rattle.line_proto.specs.declared.command.Command.{Command}
 use Rattle.line_proto.specs.declared.command.Command.TheVariants as command
 use Rattle.line_proto.specs.declared.reply.Reply.{Reply}
@@ -43,7 +46,24 @@ RepliesOn view old _ now r new = ⊥
 -- a tending of one device
 pub record TendsOn {D : Type 0} (view : D → DiskView) (old new : ShardView D) : Type 0 where
   pub goes : GoesOn view old new
-  pub makes : (s : State) → Agrees old s → MakesAny view flush_sealed_call old s new
+  pub makes : (s : State) → Agrees old s → MakesEvents view (Tends (setup_of old) s) old s new
+
+-- what some work comes to by its answer: its two sums, or the cause for which it was refused
+abbrev pub EndsAs : {R E : Type 0} → (sums : R → ℕ × ℕ) → (IsCause : E → Cause → Type 0) → Result R E → Outcome → Type 0
+EndsAs sums IsCause (Ok one) outcome = outcome ≡ did (sums one).0 (sums one).1
+EndsAs sums IsCause (Err why) outcome = (cause : Cause) × IsCause why cause × (outcome ≡ stopped cause)
+
+-- so many records were moved out of so many blocks, or one wasn't
+abbrev pub IsDefragged : Result (ℕ × ℕ) DefragCause → Outcome → Type 0
+IsDefragged result outcome = EndsAs (λ sums. sums) IsCauseOf result outcome
+
+-- so it is for one device, where as many blocks may be vacated as are queued at the start
+abbrev pub IsDefrag : {D : Type 0} → ShardView D → State → Result (ℕ × ℕ) DefragCause → List Event → Type 0
+IsDefrag shard s result events = (outcome : Outcome) × IsDefragged result outcome × VacatesUpTo (setup_of shard) (length s.book.queue) s 0 0 events outcome
+
+pub record DefragsOn {D : Type 0} (view : D → DiskView) (result : Result (ℕ × ℕ) DefragCause) (old new : ShardView D) : Type 0 where
+  pub goes : GoesOn view old new
+  pub makes : (s : State) → Agrees old s → MakesEvents view (IsDefrag old s result) old s new
 
 -- a flush of one device, by what it answers
 pub record FlushesOn {D E : Type 0} (view : D → DiskView) (flushed : Result ℕ E) (old new : ShardView D) : Type 0 where
@@ -51,6 +71,10 @@ pub record FlushesOn {D E : Type 0} (view : D → DiskView) (flushed : Result �
   pub makes : (s : State) → Agrees old s → Makes view flush_call (flush_answer flushed) old s new
   pub quiet : OnOk flushed (new.shelf.buffers ≡ [])
   pub left : OnErr flushed (new.shelf.buffers ≢ [])
+
+-- so many buffers were flushed, or the disk failed
+abbrev pub IsFlushed : {E : Type 0} → Result ℕ E → Outcome → Type 0
+IsFlushed flushed outcome = EndsAs (λ n. (n, 0)) (λ fault cause. cause ≡ disk_fault) flushed outcome
 
 -- ---- all devices, one after another
 
@@ -64,18 +88,32 @@ Through {A} Turn (suc k) a (old ∷ olds) (new ∷ news) b = (mid : A) × Turn a
 abbrev pub TendTurn : {D A : Type 0} → (view : D → DiskView) → A → (old new : ShardView D) → A → Type 0
 TendTurn view a old new b = TendsOn view old new
 
--- what was flushed is added up
-abbrev pub FlushTurn : {D : Type 0} → (E : Type 0) → (view : D → DiskView) → ℕ → (old new : ShardView D) → ℕ → Type 0
-FlushTurn E view a old new b = (n : ℕ) × FlushesOn {E = E} view (Ok n) old new × (b ≡ a + n)
+-- some work of each device, of which what it did is added up
+abbrev pub WorkTurn : {S R E : Type 0} → (Does : Result R E → S → S → Type 0) → (plus : R → R → R) → R → (old new : S) → R → Type 0
+WorkTurn {S} {R} {E} Does plus a old new b = (one : R) × Does (Ok one) old new × (b ≡ plus a one)
 
--- Each device is flushed, up to the first that fails.
-abbrev pub FlushesEach : {D E : Type 0} → (view : D → DiskView) → Result ℕ E → ℕ → (olds news : List (ShardView D)) → Type 0
-FlushesEach view (Ok n) a [] news = (news ≡ []) × (n ≡ a)
-FlushesEach view (Err fault) a [] news = ⊥
-FlushesEach view flushed a (old ∷ olds) [] = ⊥
-FlushesEach {D} {E} view (Ok n) a (old ∷ olds) (new ∷ news) = (mid : ℕ) × FlushTurn E view a old new mid × FlushesEach {E = E} view (Ok n) mid olds news
-FlushesEach {D} {E} view (Err fault) a (old ∷ olds) (new ∷ news) =
-    (FlushesOn {E = E} view (Err fault) old new × (news ≡ olds)) ⊎ ((mid : ℕ) × FlushTurn E view a old new mid × FlushesEach view (Err fault) mid olds news)
+-- Each device does the work, up to the first that is refused.
+abbrev pub WorksEach : {S R E : Type 0} → (Does : Result R E → S → S → Type 0) → (plus : R → R → R) → Result R E → R → (olds news : List S) → Type 0
+WorksEach Does plus (Ok sum) a [] news = (news ≡ []) × (sum ≡ a)
+WorksEach Does plus (Err why) a [] news = ⊥
+WorksEach Does plus result a (old ∷ olds) [] = ⊥
+WorksEach {S} {R} {E} Does plus (Ok sum) a (old ∷ olds) (new ∷ news) = (one : R) × Does (Ok one) old new × WorksEach Does plus (Ok sum) (plus a one) olds news
+WorksEach {S} {R} {E} Does plus (Err why) a (old ∷ olds) (new ∷ news) =
+    (Does (Err why) old new × (news ≡ olds)) ⊎ ((one : R) × Does (Ok one) old new × WorksEach Does plus (Err why) (plus a one) olds news)
+
+abbrev pub plus_one : ℕ → ℕ → ℕ
+plus_one a b = a + b
+
+abbrev pub plus_both : ℕ × ℕ → ℕ × ℕ → ℕ × ℕ
+plus_both a b = (a.0 + b.0, a.1 + b.1)
+
+-- each device is flushed, and so many buffers with them
+abbrev pub FlushesEach : {D E : Type 0} → (view : D → DiskView) → Result ℕ E → (olds news : List (ShardView D)) → Type 0
+FlushesEach {D} {E} view flushed olds news = WorksEach (FlushesOn {E = E} view) plus_one flushed 0 olds news
+
+-- each device is defragmented: so many records are moved, out of so many blocks
+abbrev pub DefragsEach : {D : Type 0} → (view : D → DiskView) → Result (ℕ × ℕ) DefragCause → (olds news : List (ShardView D)) → Type 0
+DefragsEach view result olds news = WorksEach (DefragsOn view) plus_both result (0, 0) olds news
 
 abbrev pub first_failed : {E : Type 0} → (device : ℕ) → (failed : Option ℕ) → Result ℕ E → Option ℕ
 first_failed device (Some earlier) flushed = Some earlier

@@ -1,18 +1,19 @@
 // Calls over all devices of a node, one after another.
-ghost use Rattle.std.specs.Prelude.{◌≡◌, ◌≢◌, ◌≤◌, ◌^◌, ℕ, length, map};
+ghost use Rattle.std.specs.Prelude.{◌≡◌, ◌≤◌, ◌<◌, ◌^◌, ℕ, length, IfOk};
 ghost use Rattle.disk_model.specs.declared.disk.DiskFault.{DiskFault};
 ghost use Rattle.node_model.specs.Commands.{Node, node_counts};
 ghost use Rattle.core_run.specs.Standing.{Each, StandsOn};
-ghost use Rattle.core_run.specs.Turns.{Through, TendTurn, CloseTurn, FlushesEach, wrapped_sum};
+ghost use Rattle.core_run.specs.Turns.{Through, TendTurn, CloseTurn, DefragsOn, DefragsEach, FlushesEach, wrapped_sum};
 
 use disk_model::{Disk, DiskFault};
 use rec_format::Counts;
-use shard_core::Shard;
+use shard_core::{DefragCause, Shard};
+use std::alloc::Global;
 
 /// Flushes each device, up to the first that fails; answers how many buffers they flushed.
 pub fn flush_each<D: Disk>(shards: &mut [Shard<D>]) -> Result<u64, DiskFault>
     requires few { length shards.old ≤ 16 }
-    ensures { FlushesEach D.view result 0 shards.old shards.new }
+    ensures { FlushesEach D.view result shards.old shards.new }
 {
     let mut flushed = 0;
     for shard in shards.iter_mut() {
@@ -21,12 +22,52 @@ pub fn flush_each<D: Disk>(shards: &mut [Shard<D>]) -> Result<u64, DiskFault>
     Ok(flushed)
 }
 
+// Vacates blocks of a device, one after another, until none waits, or as many are vacated as waited at its start. Answers how many records
+// it moved, and out of how many blocks.
+fn defrag<D: Disk>(alloc: Global, shard: &mut Shard<D>) -> Result<(u64, u64), DefragCause>
+    ensures defrags { DefragsOn D.view result shard.old shard.new }
+    ensures few { IfOk result (λ sums. (sums.0 < 2 ^ 48) × (sums.1 < 2 ^ 32)) }
+{
+    let queued = shard.counts().queued;
+    let mut moved = 0;
+    let mut vacated = 0;
+    while vacated < queued {
+        match shard.defrag_one(alloc) {
+            Ok(Some(one)) => {
+                moved += u64::from(one.moved);
+                vacated += 1;
+            }
+            Ok(None) => break,
+            Err(refusal) => return Err(refusal.cause),
+        }
+    }
+    Ok((moved, vacated))
+}
+
+/// Defragments each device, up to the first that is refused; answers how many records they moved, and out of how many blocks.
+pub fn defrag_each<D: Disk>(
+    alloc: Global,
+    shards: &mut [Shard<D>],
+) -> Result<(u64, u64), DefragCause>
+    requires few { length shards.old ≤ 16 }
+    ensures { DefragsEach D.view result shards.old shards.new }
+{
+    let mut moved = 0;
+    let mut vacated = 0;
+    for shard in shards.iter_mut() {
+        let one = defrag(alloc, shard)?;
+        moved += one.0;
+        vacated += one.1;
+    }
+    Ok((moved, vacated))
+}
+
 /// Tends each device.
-pub fn tend_each<D: Disk>(shards: &mut [Shard<D>])
+pub fn tend_each<D: Disk>(alloc: Global, shards: &mut [Shard<D>])
     ensures { Through {A = ℕ} (TendTurn D.view) (length shards.old) 0 shards.old shards.new 0 }
 {
     for shard in shards.iter_mut() {
-        shard.tend();
+        shard.tend(alloc);
     }
 }
 

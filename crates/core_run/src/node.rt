@@ -11,8 +11,10 @@ ghost use Rattle.core_run.specs.Starts.{StartsEach, RefusesAt};
 ghost use Rattle.core_run.specs.Turns.{RepliesOn, GoesOn};
 ghost use Rattle.core_run.specs.Calls.{Acts, Closes, digest_of};
 
-use crate::devices::{close_each, counts_of, flush_each, tend_each};
-use crate::replies::{delete_reply, flush_reply, known_reply, read_reply, write_reply};
+use crate::devices::{close_each, counts_of, defrag_each, flush_each, tend_each};
+use crate::replies::{
+    defrag_reply, delete_reply, flush_reply, known_reply, read_reply, write_reply,
+};
 use crate::starts::{start_all, stop_all};
 use disk_model::Disk;
 use line_proto::{Command, Reply, Store};
@@ -216,13 +218,14 @@ impl<D: Disk> Store for Node<D> {
         }
         match command {
             Command::Flush => flush_reply(flush_each(&mut self.shards)),
+            Command::Defrag => defrag_reply(defrag_each(alloc, &mut self.shards)),
             Command::Stat => Reply::StatOf(counts_of(&self.shards)),
             Command::Restart => self.restart(alloc),
             _ => unreachable!(),
         }
     }
 
-    fn tend(&mut self, _alloc: Global) {
-        tend_each(&mut self.shards);
+    fn tend(&mut self, alloc: Global) {
+        tend_each(alloc, &mut self.shards);
     }
 }

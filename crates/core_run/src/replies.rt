@@ -1,14 +1,17 @@
 // The replies to what a device answers.
 ghost use Rattle.std.specs.Prelude.{◌≡◌, Option};
 ghost use Rattle.rec_format.specs.declared.version.Version.{Version};
-ghost use Rattle.node_model.specs.Commands.{answer_reply, fault_of, meta_reply, one_sum};
+ghost use Rattle.device_model.specs.Events.{Cause};
+ghost use Rattle.device_model.specs.Vacating.{Outcome};
+ghost use Rattle.node_model.specs.Commands.{answer_reply, fault_of, meta_reply, one_sum, two_sums};
+ghost use Rattle.shard_core.specs.Vacating.{IsCauseOf};
 ghost use Rattle.shard_core.specs.Calls.{cause_of_write, delete_answer, meta_of, read_answer, write_answer};
-ghost use Rattle.core_run.specs.Calls.{flush_outcome};
+ghost use Rattle.core_run.specs.Turns.{IsDefragged, IsFlushed};
 
 use disk_model::DiskFault;
 use line_proto::{LineFault, Reply};
 use rec_format::{Stamp, Version};
-use shard_core::{Meta, ReadRefusal, WriteRefusal};
+use shard_core::{DefragCause, Meta, ReadRefusal, WriteRefusal};
 
 // why a write was refused
 fn write_fault(refusal: WriteRefusal) -> LineFault
@@ -77,8 +80,34 @@ pub fn known_reply(known: Option<Meta>) -> Reply
     }
 }
 
+// why a block wasn't vacated
+fn defrag_fault(cause: DefragCause) -> LineFault
+    ensures { (cause_is : Cause) → IsCauseOf cause cause_is → result ≡ fault_of cause_is }
+{
+    match cause {
+        DefragCause::Spent => LineFault::Spent,
+        DefragCause::Load => LineFault::Load,
+        DefragCause::Space => LineFault::Space,
+        DefragCause::Damaged(_) => LineFault::Damaged,
+        DefragCause::Memory => LineFault::Memory,
+        DefragCause::Fault => LineFault::Fault,
+    }
+}
+
+pub fn defrag_reply(done: Result<(u64, u64), DefragCause>) -> Reply
+    ensures { (outcome : Outcome) → IsDefragged done outcome → result ≡ two_sums outcome }
+{
+    match done {
+        Ok((moved, vacated)) => Reply::Done2 {
+            a: moved,
+            b: vacated,
+        },
+        Err(cause) => Reply::Fail(defrag_fault(cause)),
+    }
+}
+
 pub fn flush_reply(flushed: Result<u64, DiskFault>) -> Reply
-    ensures { result ≡ one_sum (flush_outcome flushed) }
+    ensures { (outcome : Outcome) → IsFlushed flushed outcome → result ≡ one_sum outcome }
 {
     match flushed {
         Ok(n) => Reply::Done1 { n },

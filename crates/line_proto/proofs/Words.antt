@@ -12,7 +12,7 @@ use Rattle.hex.specs.Hex.{is_hex_digit, decode_sized}
 use Rattle.hex.proofs.HexLemmas.{decode_of-ok, decode_sized-ok, decode_sized-twice}
 use Rattle.rec_format.specs.declared.version.Digest.{Digest}
 use Rattle.line_proto.specs.declared.command.Command.{Command}
-use Rattle.line_proto.specs.declared.command.Command.TheVariants.{Put, Get, Meta, Del, Bury, Flush, Stat, Restart, Quit}
+use Rattle.line_proto.specs.declared.command.Command.TheVariants.{Put, Get, Meta, Del, Bury, Flush, Defrag, Stat, Restart, Quit}
 use Rattle.line_proto.specs.Lines.{line_limit, IsDigestText, IsExpectText, IsDataText, IsDigestLine, Spells}
 use Rattle.line_proto.specs.Built.{IsBuilt, IsLine, IsInRange}
 use Rattle.line_proto.specs.Reading.{IsWord, IsFour, IsPut, IsAlone, IsDigestCommand, IsPutCommand}
@@ -199,6 +199,7 @@ digest_command line word text fits parted no_put (Meta digest) = built_line line
 digest_command line word text fits parted no_put (Del digest) = built_line line (Del digest) _ fits tt (digest_line line word text (codes "del") digest parted (word_by (codes "del") refl))
 digest_command line word text fits parted no_put (Bury digest) = built_line line (Bury digest) _ fits tt (digest_line line word text (codes "bury") digest parted (word_by (codes "bury") refl))
 digest_command line word text fits parted no_put Flush = (λ wrong. absurd wrong, λ other. absurd (not_alone line word text (codes "flush") parted.0 (word_by (codes "flush") refl) other.spelled.spells))
+digest_command line word text fits parted no_put Defrag = (λ wrong. absurd wrong, λ other. absurd (not_alone line word text (codes "defrag") parted.0 (word_by (codes "defrag") refl) other.spelled.spells))
 digest_command line word text fits parted no_put Stat = (λ wrong. absurd wrong, λ other. absurd (not_alone line word text (codes "stat") parted.0 (word_by (codes "stat") refl) other.spelled.spells))
 digest_command line word text fits parted no_put Restart = (λ wrong. absurd wrong, λ other. absurd (not_alone line word text (codes "restart") parted.0 (word_by (codes "restart") refl) other.spelled.spells))
 digest_command line word text fits parted no_put Quit = (λ wrong. absurd wrong, λ other. absurd (not_alone line word text (codes "quit") parted.0 (word_by (codes "quit") refl) other.spelled.spells))
@@ -250,6 +251,7 @@ put_command line word text fits parted is_put (Meta digest) = (λ both. absurd b
 put_command line word text fits parted is_put (Del digest) = (λ both. absurd both.0, λ other. absurd (no_put line word text (codes "del") digest parted is_put refl (word_by (codes "del") refl) other.spelled.spells))
 put_command line word text fits parted is_put (Bury digest) = (λ both. absurd both.0, λ other. absurd (no_put line word text (codes "bury") digest parted is_put refl (word_by (codes "bury") refl) other.spelled.spells))
 put_command line word text fits parted is_put Flush = (λ both. absurd both.0, λ other. absurd (not_alone line word text (codes "flush") parted.0 (word_by (codes "flush") refl) other.spelled.spells))
+put_command line word text fits parted is_put Defrag = (λ both. absurd both.0, λ other. absurd (not_alone line word text (codes "defrag") parted.0 (word_by (codes "defrag") refl) other.spelled.spells))
 put_command line word text fits parted is_put Stat = (λ both. absurd both.0, λ other. absurd (not_alone line word text (codes "stat") parted.0 (word_by (codes "stat") refl) other.spelled.spells))
 put_command line word text fits parted is_put Restart = (λ both. absurd both.0, λ other. absurd (not_alone line word text (codes "restart") parted.0 (word_by (codes "restart") refl) other.spelled.spells))
 put_command line word text fits parted is_put Quit = (λ both. absurd both.0, λ other. absurd (not_alone line word text (codes "quit") parted.0 (word_by (codes "quit") refl) other.spelled.spells))
@@ -278,6 +280,7 @@ alone_command line fits is_word (Meta digest) = (λ wrong. absurd wrong, λ othe
 alone_command line fits is_word (Del digest) = (λ wrong. absurd wrong, λ other. absurd (no_cut (codes "del") _ (subst IsWord other.spelled.spells.line_is is_word)))
 alone_command line fits is_word (Bury digest) = (λ wrong. absurd wrong, λ other. absurd (no_cut (codes "bury") _ (subst IsWord other.spelled.spells.line_is is_word)))
 alone_command line fits is_word Flush = built_line line Flush _ fits tt (λ is. is, λ is. is)
+alone_command line fits is_word Defrag = built_line line Defrag _ fits tt (λ is. is, λ is. is)
 alone_command line fits is_word Stat = built_line line Stat _ fits tt (λ is. is, λ is. is)
 alone_command line fits is_word Restart = built_line line Restart _ fits tt (λ is. is, λ is. is)
 alone_command line fits is_word Quit = built_line line Quit _ fits tt (λ is. is, λ is. is)
@@ -313,6 +316,7 @@ in_range line (Meta digest) is = record { numbers = tt; built = tt }
 in_range line (Del digest) is = record { numbers = tt; built = tt }
 in_range line (Bury digest) is = record { numbers = tt; built = tt }
 in_range line Flush is = record { numbers = tt; built = tt }
+in_range line Defrag is = record { numbers = tt; built = tt }
 in_range line Stat is = record { numbers = tt; built = tt }
 in_range line Restart is = record { numbers = tt; built = tt }
 in_range line Quit is = record { numbers = tt; built = tt }

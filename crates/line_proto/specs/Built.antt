@@ -5,7 +5,7 @@ use Rattle.line_proto.specs.declared.command.Command.{Command}
 use Rattle.line_proto.specs.declared.command.Command.TheVariants as command
 use Rattle.line_proto.specs.Lines.{IsCommandLine}
 
--- a put that never expires, the other commands of one digest, `flush`, `stat`, `restart` and `quit`
+-- a put that never expires, the other commands of one digest, `flush`, `defrag`, `stat`, `restart` and `quit`
 abbrev pub IsBuilt : Command → Type 0
 IsBuilt (command.Put digest ttl expect payload) = ttl ≡ 0
 IsBuilt (command.Get digest) = Unit {0}
@@ -13,7 +13,7 @@ IsBuilt (command.Meta digest) = Unit {0}
 IsBuilt (command.Del digest) = Unit {0}
 IsBuilt (command.Bury digest) = Unit {0}
 IsBuilt command.Flush = Unit {0}
-IsBuilt command.Defrag = ⊥
+IsBuilt command.Defrag = Unit {0}
 IsBuilt command.Expire = ⊥
 IsBuilt command.Raid = ⊥
 IsBuilt command.Stat = Unit {0}

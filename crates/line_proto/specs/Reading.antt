@@ -43,6 +43,7 @@ IsAlone line command.Flush = line ≡ codes "flush"
 IsAlone line command.Stat = line ≡ codes "stat"
 IsAlone line command.Restart = line ≡ codes "restart"
 IsAlone line command.Quit = line ≡ codes "quit"
+IsAlone line command.Defrag = line ≡ codes "defrag"
 IsAlone line _ = ⊥
 
 -- what stands behind `put ` is this command

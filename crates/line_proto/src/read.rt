@@ -40,6 +40,9 @@ fn alone_of(line: &[u8]) -> Option<Command>
     if line == b"restart".as_slice() {
         return Some(Command::Restart);
     }
+    if line == b"defrag".as_slice() {
+        return Some(Command::Defrag);
+    }
     None
 }
 
@@ -96,7 +99,8 @@ fn is_built(command: &Command) -> bool
     match command {
         Command::Put { ttl, .. } => *ttl == 0,
         Command::Get(_) | Command::Meta(_) | Command::Del(_) | Command::Bury(_) => true,
-        Command::Flush | Command::Stat | Command::Restart | Command::Quit => true,
+        Command::Flush | Command::Defrag => true,
+        Command::Stat | Command::Restart | Command::Quit => true,
         _ => false,
     }
 }

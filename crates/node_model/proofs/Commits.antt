@@ -20,7 +20,7 @@ use Rattle.node_model.specs.Commands.{Slot, Node, NodeEvent, at_place, slot_afte
 use Rattle.node_model.specs.Run.{ImagesLeft, Served, ServesAll, AnswersLine, node_or, node_at_reply, node_after_line, steps_on, WritesFlushed, flushed_if_wrote}
 use Rattle.node_model.specs.Headline.{On, is_failed, CommitsAt, CommitsAll}
 use Rattle.node_model.proofs.Flushing.{write_commits}
-use Rattle.node_model.proofs.Unwritten.{WritesNone, none_flushed, all_flushes, flushes_write_nothing}
+use Rattle.node_model.proofs.Unwritten.{WritesNone, none_flushed, all_flushes, all_defrags, calls_write_nothing}
 
 -- ---- one event
 
@@ -152,8 +152,9 @@ does_commit told node (command.Del digest) now work r built does legal device = 
 does_commit told node (command.Bury digest) now work r built does legal device = one_event told node _ does.0 work r does.1 does.3
     (λ slot follows. entombs_commit slot does.0 digest now stamp_given (subst (Allowed slot.setup told slot.state does.0) does.2 follows.allowed)) legal device
 does_commit told node command.Flush now work r built does legal device = unwritten (is_failed r) node (node_after work node) work device
-    (flushes_write_nothing told node work (all_flushes 0 node 0 0 work does.0 does.1) legal device)
-does_commit told node command.Defrag now work r built does legal device = absurd built
+    (calls_write_nothing told node work (all_flushes node work does.0 does.1) legal device)
+does_commit told node command.Defrag now work r built does legal device = unwritten (is_failed r) node (node_after work node) work device
+    (calls_write_nothing told node work (all_defrags node work does.0 does.1) legal device)
 does_commit told node command.Expire now work r built does legal device = absurd built
 does_commit told node command.Raid now work r built does legal device = absurd built
 does_commit told node command.Stat now work r built does legal device = no_work (is_failed r) node work does.0 (node_after work node) device

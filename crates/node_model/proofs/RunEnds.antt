@@ -21,7 +21,8 @@ use Rattle.line_proto.specs.Built.{IsBuilt, IsLine}
 use Rattle.line_proto.specs.Stream.{ended}
 use Rattle.node_model.specs.declared.run_end.RunEnd.{RunEnd}
 use Rattle.node_model.specs.declared.run_end.RunEnd.TheVariants as end
-use Rattle.node_model.specs.Commands.{Slot, Node, NodeEvent, Outcome, did, stopped, IsLegalOn, node_after, on_device, found_reply, meta_reply, seen_on, answer_reply, one_sum, Does}
+use Rattle.node_model.specs.Commands.{Slot, Node, NodeEvent, IsLegalOn, node_after, on_device, found_reply, meta_reply, seen_on, answer_reply, one_sum, two_sums, Does}
+use Rattle.device_model.specs.Vacating.{Outcome, did, stopped}
 use Rattle.node_model.specs.Run.{ImagesLeft, Served, AnswersLine, ServesAll, IsRun, ClosesEach, halts, is_halted, node_after_line, last_node}
 use Rattle.node_model.specs.Outside.{Outside, TakesLines, rest_line}
 use Rattle.node_model.specs.RunEnd.{HasCause, IsQuiet, AllQuiet}
@@ -105,6 +106,10 @@ sum_goes : (outcome : Outcome) → halts (one_sum outcome) ≡ false
 sum_goes (did a b) = refl
 sum_goes (stopped cause) = refl
 
+sums_go : (outcome : Outcome) → halts (two_sums outcome) ≡ false
+sums_go (did a b) = refl
+sums_go (stopped cause) = refl
+
 does_goes : (told : Bool) (node : Node) (c : Command) (now : ℕ) (work : List NodeEvent) (r : Reply) → IsBuilt c → Does node c now work r → IsLegalOn told node work → halts r ≡ false
 does_goes told node (command.Put digest ttl expect payload) now work r built does legal =
     one_goes told node _ does.0 (put_call digest ttl expect payload now) work r does.1 does.2 does.3
@@ -119,7 +124,7 @@ does_goes told node (command.Del digest) now work r built does legal =
 does_goes told node (command.Bury digest) now work r built does legal =
     one_goes told node _ does.0 (bury_call digest now) work r does.1 does.2 does.3
     (λ slot allowed. entombs_goes slot.setup slot.state does.0 digest now stamp_given (λ stamp. refl) allowed) legal
-does_goes told node command.Defrag now work r built does legal = absurd built
+does_goes told node command.Defrag now work r built does legal = ap halts does.2 ∙ sums_go does.0
 does_goes told node command.Expire now work r built does legal = absurd built
 does_goes told node command.Raid now work r built does legal = absurd built
 does_goes told node command.Stat now work r built does legal = ap halts does.1

@@ -1,13 +1,15 @@
--- A flush writes no record.
-use Rattle.std.proofs.Common.{◌≡◌, ℕ, ◌+◌, Bool, true, false, cond, List, [], ◌∷◌, ◌++◌, map, sym, subst, inl, inr}
-use Rattle.std.specs.Prelude.{Option, Some, None, MatchOption, ◌==◌, slice_get, is_some}
+-- A flush writes no record, and neither does a defragmentation: what is moved was written before.
+use Rattle.std.proofs.Common.{◌≡◌, ◌⊎◌, ℕ, zero, suc, ◌+◌, Bool, true, false, cond, List, [], ◌∷◌, ◌++◌, length, map, refl, sym, subst, inl, inr}
+use Rattle.std.specs.Prelude.{Option, Some, None, MatchBool, MatchOption, ◌==◌, slice_get, is_some}
 use Rattle.std.specs.List.{AllByRecursion}
-use Rattle.device_model.specs.Book.{Book, Stream, client, defrag, filling_buffer}
+use Rattle.rec_format.specs.declared.version.Digest.{Digest}
+use Rattle.device_model.specs.Book.{Setup, Book, Stream, client, defrag, filling_buffer, has_room, live_of}
 use Rattle.device_model.specs.Device.{State}
-use Rattle.device_model.specs.Steps.{Step, wrote, gate_begun, flushed_buffer, after_steps}
-use Rattle.device_model.specs.Events.{Event, Call, flush_call}
-use Rattle.device_model.specs.Legal.{Follows, Allowed, FlushEnds, seal_if, seal_all, flush_all}
-use Rattle.node_model.specs.Commands.{Slot, Node, NodeEvent, Outcome, at_place, slot_after, on_device, IsLegalOn, EachDevice, Flushes}
+use Rattle.device_model.specs.Steps.{Step, wrote, moved, gate_begun, flushed_buffer, closing_failed, after_steps}
+use Rattle.device_model.specs.Events.{Event, Call, flush_call, choose_call, move_call, Cause, Answer, stamp_given, happened, found_version, counted, block_chosen, raid_numbered, marks_made, block_scanned, marks_undone, part_ended, raid_over, refused, after_event, after_events}
+use Rattle.device_model.specs.Legal.{Follows, Allowed, FlushEnds, NoMemory, Only, Unless, DamageFound, DiskFails, WhereReads, is_in_block, live_units, move_reserve, no_place, queue_front, seal_if, seal_all, flush_all}
+use Rattle.node_model.specs.Commands.{Slot, Node, NodeEvent, at_place, slot_after, on_device, IsLegalOn, EachDevice, Flushes, Defragments}
+use Rattle.device_model.specs.Vacating.{Outcome, did, stopped, IfRefused, moved_by, MovesOut, Vacates, VacatesUpTo}
 use Rattle.line_proto.proofs.Falling.{all_append}
 use Rattle.recovery.proofs.Opening.{all_parted}
 use Rattle.recovery.proofs.Each.{all_map}
@@ -55,31 +57,156 @@ flush_unwritten slot told event follows is =
     ends_unwritten event (seal_all slot.state.book) (flush_all sealed.book) (seals_write_none slot.state.book)
     (all_map FlushStep WritesNone (flush_all sealed.book) one_writes_none (all_flush_steps sealed.book.buffers)) (subst (λ (c : Call). Allowed slot.setup told slot.state event c) is follows.allowed)
 
+-- ---- the calls of a defragmentation
+
+-- a call that writes no record
+abbrev pub IsUnwriting : Call → Type 0
+IsUnwriting flush_call = Unit {0}
+IsUnwriting choose_call = Unit {0}
+IsUnwriting (move_call digest block) = Unit {0}
+IsUnwriting _ = ⊥
+
+none_made : (event : Event) → event.steps ≡ [] → AllByRecursion WritesNone event.steps
+none_made event none = subst (AllByRecursion WritesNone) (sym none) tt
+
+step_made : (event : Event) (step : Step) → WritesNone step → event.steps ≡ step ∷ [] → AllByRecursion WritesNone event.steps
+step_made event step unwritten is = subst (AllByRecursion WritesNone) (sym is) (unwritten, tt)
+
+reads_unwritten : {A : Type 0} (told : Bool) (event : Event) (o : Option A) → WhereReads told event o → AllByRecursion WritesNone event.steps
+reads_unwritten told event None reads = absurd reads
+reads_unwritten told event (Some what) (inl damaged) = none_made event damaged.2
+reads_unwritten told event (Some what) (inr failed) = none_made event failed.1
+
+choose_unwritten : (slot : Slot) (told : Bool) (event : Event) → Allowed slot.setup told slot.state event choose_call → AllByRecursion WritesNone event.steps
+choose_unwritten slot told event (inl chosen) = none_made event chosen.1
+choose_unwritten slot told event (inr (inl no_memory)) = none_made event no_memory.1
+choose_unwritten slot told event (inr (inr reads)) = reads_unwritten told event (queue_front slot.state.book.queue) reads
+
+-- how a move ends against which nothing stands
+abbrev MoveEnds : (told : Bool) → Slot → Event → Digest → Type 0
+MoveEnds told slot event digest =
+    ((event.answer ≡ happened true) × (event.steps ≡ moved digest ∷ []))
+    ⊎ DamageFound told event []
+    ⊎ DiskFails event []
+    ⊎ ((has_room slot.setup defrag (live_units (live_of digest slot.state.book.live)) slot.state.book ≡ false) × DiskFails event (closing_failed ∷ []))
+
+move_unwritten : (slot : Slot) (told : Bool) (event : Event) (digest : Digest) (block : ℕ) → Allowed slot.setup told slot.state event (move_call digest block) → AllByRecursion WritesNone event.steps
+move_unwritten slot told event digest block = by (is_in_block block (live_of digest slot.state.book.live))
+  where
+    moves : MoveEnds told slot event digest → AllByRecursion WritesNone event.steps
+    moves (inl done) = step_made event (moved digest) tt done.1
+    moves (inr (inl damaged)) = none_made event damaged.2
+    moves (inr (inr (inl failed))) = none_made event failed.1
+    moves (inr (inr (inr closing))) = step_made event closing_failed tt closing.1.1
+
+    unless : (o : Option Cause) → Unless event o (MoveEnds told slot event digest) → AllByRecursion WritesNone event.steps
+    unless None rest = moves rest
+    unless (Some cause) only = none_made event only.1
+
+    by : (here : Bool) → MatchBool here (NoMemory event ⊎ Unless event (no_place slot.setup defrag move_reserve (live_units (live_of digest slot.state.book.live)) slot.state.book) (MoveEnds told slot event digest)) (Only event (happened false))
+        → AllByRecursion WritesNone event.steps
+    by false only = none_made event only.1
+    by true (inl no_memory) = none_made event no_memory.1
+    by true (inr rest) = unless (no_place slot.setup defrag move_reserve (live_units (live_of digest slot.state.book.live)) slot.state.book) rest
+
+call_unwritten : (slot : Slot) (told : Bool) (event : Event) → Follows slot.setup told slot.state slot.faults event → (call : Call) → event.call ≡ call → IsUnwriting call → AllByRecursion WritesNone event.steps
+call_unwritten slot told event follows flush_call is unwriting = flush_unwritten slot told event follows is
+call_unwritten slot told event follows choose_call is unwriting = choose_unwritten slot told event (subst (λ (c : Call). Allowed slot.setup told slot.state event c) is follows.allowed)
+call_unwritten slot told event follows (move_call digest block) is unwriting = move_unwritten slot told event digest block (subst (λ (c : Call). Allowed slot.setup told slot.state event c) is follows.allowed)
+call_unwritten slot told event follows call is unwriting = absurd unwriting
+
+-- ---- the events of a vacating
+
+abbrev AreUnwriting : List Event → Type 0
+AreUnwriting events = AllByRecursion (λ event. IsUnwriting event.call) events
+
+called : (event : Event) (call : Call) → event.call ≡ call → IsUnwriting call → IsUnwriting event.call
+called event call is unwriting = subst IsUnwriting (sym is) unwriting
+
+if_refused : (answer : Answer) (Refused : Cause → Type 0) (Else P : Type 0) → ((cause : Cause) → Refused cause → P) → (Else → P) → IfRefused answer Refused Else → P
+if_refused (refused cause) Refused Else P one other is = one cause is
+if_refused (stamp_given s) Refused Else P one other is = other is
+if_refused (happened b) Refused Else P one other is = other is
+if_refused (found_version v) Refused Else P one other is = other is
+if_refused (counted n) Refused Else P one other is = other is
+if_refused (block_chosen b) Refused Else P one other is = other is
+if_refused (raid_numbered n) Refused Else P one other is = other is
+if_refused (marks_made n) Refused Else P one other is = other is
+if_refused (block_scanned b) Refused Else P one other is = other is
+if_refused (marks_undone n) Refused Else P one other is = other is
+if_refused (part_ended r c) Refused Else P one other is = other is
+if_refused raid_over Refused Else P one other is = other is
+
+moves_unwriting : (setup : Setup) (block : ℕ) (s : State) (count : ℕ) (events : List Event) (outcome : Outcome) → MovesOut setup block s count events outcome → AreUnwriting events
+moves_unwriting setup block s count [] outcome moves = tt
+moves_unwriting setup block s count (event ∷ events) outcome moves = (
+  called event (move_call moves.0.0 block) moves.0.1 tt,
+  if_refused event.answer (λ cause. (events ≡ []) × (outcome ≡ stopped cause)) (MovesOut setup block (after_event setup event s) (count + moved_by event.answer) events outcome) (AreUnwriting events)
+      (λ cause ends. subst AreUnwriting (sym ends.0) tt) (moves_unwriting setup block (after_event setup event s) (count + moved_by event.answer) events outcome) moves.1,
+)
+
+vacates_unwriting : (setup : Setup) (s : State) (events : List Event) (outcome : Outcome) → Vacates setup s events outcome → AreUnwriting events
+vacates_unwriting setup s events outcome (first, moves, is, chosen, how) = subst AreUnwriting (sym is) (called first choose_call chosen tt, by how)
+  where
+    by : ((first.answer ≡ block_chosen None) × (moves ≡ []) × (outcome ≡ did 0 0))
+        ⊎ ((block : ℕ) × (first.answer ≡ block_chosen (Some block)) × MovesOut setup block (after_event setup first s) 0 moves outcome)
+        ⊎ ((cause : Cause) × (first.answer ≡ refused cause) × (moves ≡ []) × (outcome ≡ stopped cause)) → AreUnwriting moves
+    by (inl none) = subst AreUnwriting (sym none.1) tt
+    by (inr (inl some)) = moves_unwriting setup some.0 (after_event setup first s) 0 moves outcome some.2
+    by (inr (inr stops)) = subst AreUnwriting (sym stops.2) tt
+
+defrags_unwriting : (setup : Setup) (n : ℕ) (s : State) (count vacated : ℕ) (events : List Event) (outcome : Outcome) → VacatesUpTo setup n s count vacated events outcome → AreUnwriting events
+defrags_unwriting setup zero s count vacated events outcome none = subst AreUnwriting (sym none.0) tt
+defrags_unwriting setup (suc n) s count vacated events outcome (mine, rest, is, how) =
+    subst AreUnwriting (sym is) (by (λ x more. defrags_unwriting setup n (after_events setup mine s) (count + x) (vacated + 1) rest outcome more) how)
+  where
+    by : ((x : ℕ) → VacatesUpTo setup n (after_events setup mine s) (count + x) (vacated + 1) rest outcome → AreUnwriting rest)
+        → (Vacates setup s mine (did 0 0) × (rest ≡ []) × (outcome ≡ did count vacated))
+        ⊎ ((x : ℕ) × Vacates setup s mine (did x 1) × VacatesUpTo setup n (after_events setup mine s) (count + x) (vacated + 1) rest outcome)
+        ⊎ ((cause : Cause) × Vacates setup s mine (stopped cause) × (rest ≡ []) × (outcome ≡ stopped cause)) → AreUnwriting (mine ++ rest)
+    by more (inl none) = all_append (λ event. IsUnwriting event.call) mine rest (vacates_unwriting setup s mine (did 0 0) none.0) (subst AreUnwriting (sym none.1) tt)
+    by more (inr (inl some)) = all_append (λ event. IsUnwriting event.call) mine rest (vacates_unwriting setup s mine (did some.0 1) some.1) (more some.0 some.2)
+    by more (inr (inr stops)) = all_append (λ event. IsUnwriting event.call) mine rest (vacates_unwriting setup s mine (stopped stops.0) stops.1) (subst AreUnwriting (sym stops.2) tt)
+
 -- ---- the events of a node
 
-abbrev pub IsFlush : NodeEvent → Type 0
-IsFlush e = e.event.call ≡ flush_call
+abbrev pub IsUnwritingOn : NodeEvent → Type 0
+IsUnwritingOn e = IsUnwriting e.event.call
 
--- a flush of each device makes flushes alone
-pub all_flushes : (device : ℕ) (node : Node) (a b : ℕ) (work : List NodeEvent) (outcome : Outcome) → EachDevice Flushes device node a b work outcome → AllByRecursion IsFlush work
-all_flushes device [] a b work outcome each = subst (λ (events : List NodeEvent). AllByRecursion IsFlush events) (sym each.0) tt
-all_flushes device (slot ∷ slots) a b work outcome each =
-    subst (λ (events : List NodeEvent). AllByRecursion IsFlush events) (sym each.2) (elim each.3 [
-      | inl goes ↦ all_append IsFlush (map (on_device device) each.0) each.1 (mine goes.2) (all_flushes (device + 1) slots (a + goes.0) (b + goes.1) each.1 outcome goes.3)
-      | inr stops ↦ all_append IsFlush (map (on_device device) each.0) each.1 (mine stops.1) (subst (λ (events : List NodeEvent). AllByRecursion IsFlush events) (sym stops.2) tt)
+on_each : (device : ℕ) (events : List Event) → AreUnwriting events → AllByRecursion IsUnwritingOn (map (on_device device) events)
+on_each device [] all = tt
+on_each device (event ∷ events) all = (all.0, on_each device events all.1)
+
+-- work of each device that writes no record
+all_unwriting : (Work : Slot → List Event → Outcome → Type 0) → ((slot : Slot) (events : List Event) (outcome : Outcome) → Work slot events outcome → AreUnwriting events)
+    → (device : ℕ) (node : Node) (a b : ℕ) (work : List NodeEvent) (outcome : Outcome) → EachDevice Work device node a b work outcome → AllByRecursion IsUnwritingOn work
+all_unwriting Work each_is device [] a b work outcome each = subst (λ (events : List NodeEvent). AllByRecursion IsUnwritingOn events) (sym each.0) tt
+all_unwriting Work each_is device (slot ∷ slots) a b work outcome each =
+    subst (λ (events : List NodeEvent). AllByRecursion IsUnwritingOn events) (sym each.2) (elim each.3 [
+      | inl goes ↦ all_append IsUnwritingOn (map (on_device device) each.0) each.1 (on_each device each.0 (each_is slot each.0 (did goes.0 goes.1) goes.2))
+          (all_unwriting Work each_is (device + 1) slots (a + goes.0) (b + goes.1) each.1 outcome goes.3)
+      | inr stops ↦ all_append IsUnwritingOn (map (on_device device) each.0) each.1 (on_each device each.0 (each_is slot each.0 (stopped stops.0) stops.1))
+          (subst (λ (events : List NodeEvent). AllByRecursion IsUnwritingOn events) (sym stops.2) tt)
     ])
-  where
-    mine : {o : Outcome} → Flushes slot each.0 o → AllByRecursion IsFlush (map (on_device device) each.0)
-    mine {o} does = subst (λ (events : List Event). AllByRecursion IsFlush (map (on_device device) events)) (sym does.1) (does.2, tt)
 
-on_one : (told : Bool) (o : Option Slot) (event : Event) → MatchOption o ⊥ (λ slot. Follows slot.setup told slot.state slot.faults event) → event.call ≡ flush_call → AllByRecursion WritesNone event.steps
+flush_unwriting : (slot : Slot) (events : List Event) (outcome : Outcome) → Flushes slot events outcome → AreUnwriting events
+flush_unwriting slot events outcome does = subst AreUnwriting (sym does.1) (called does.0 flush_call does.2 tt, tt)
+
+pub all_flushes : (node : Node) (work : List NodeEvent) (outcome : Outcome) → EachDevice Flushes 0 node 0 0 work outcome → AllByRecursion IsUnwritingOn work
+all_flushes node work outcome each = all_unwriting Flushes flush_unwriting 0 node 0 0 work outcome each
+
+pub all_defrags : (node : Node) (work : List NodeEvent) (outcome : Outcome) → EachDevice Defragments 0 node 0 0 work outcome → AllByRecursion IsUnwritingOn work
+all_defrags node work outcome each =
+    all_unwriting Defragments (λ slot events ends does. defrags_unwriting slot.setup (length slot.state.book.queue) slot.state 0 0 events ends does) 0 node 0 0 work outcome each
+
+on_one : (told : Bool) (o : Option Slot) (event : Event) → MatchOption o ⊥ (λ slot. Follows slot.setup told slot.state slot.faults event) → IsUnwriting event.call → AllByRecursion WritesNone event.steps
 on_one told None event follows is = absurd follows
-on_one told (Some slot) event follows is = flush_unwritten slot told event follows is
+on_one told (Some slot) event follows is = call_unwritten slot told event follows event.call refl is
 
-pub flushes_write_nothing : (told : Bool) (node : Node) (work : List NodeEvent) → AllByRecursion IsFlush work → IsLegalOn told node work → (device : ℕ) → AllByRecursion WritesNone (steps_on device work)
-flushes_write_nothing told node [] all legal device = tt
-flushes_write_nothing told node (e ∷ work) all legal device =
-    chosen (e.device == device) (flushes_write_nothing told (at_place e.device (slot_after e.event) node) work all.1 legal.1 device)
+pub calls_write_nothing : (told : Bool) (node : Node) (work : List NodeEvent) → AllByRecursion IsUnwritingOn work → IsLegalOn told node work → (device : ℕ) → AllByRecursion WritesNone (steps_on device work)
+calls_write_nothing told node [] all legal device = tt
+calls_write_nothing told node (e ∷ work) all legal device =
+    chosen (e.device == device) (calls_write_nothing told (at_place e.device (slot_after e.event) node) work all.1 legal.1 device)
   where
     chosen : (c : Bool) → AllByRecursion WritesNone (steps_on device work) → AllByRecursion WritesNone (cond c (e.event.steps ++ steps_on device work) (steps_on device work))
     chosen true behind = all_append WritesNone e.event.steps (steps_on device work) (on_one told (slice_get node e.device) e.event legal.0 all.0) behind

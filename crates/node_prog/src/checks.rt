@@ -48,7 +48,7 @@ fn served(
 fn one_device(alloc: Global) -> Result<Vec<MemDisk>, Fail> {
     served(
         alloc,
-        &["run", "d0"],
+        &["run", "--lwm", "0", "d0"],
         vec![in alloc; formatted_disk(alloc)?]?,
         BURIED,
     )
@@ -70,8 +70,8 @@ fn two_devices(alloc: Global) -> Result<Vec<MemDisk>, Fail> {
         "d1",
     ];
     let disks = served(alloc, &format, disks, b"")?;
-    let disks = served(alloc, &["run", "d0", "d1"], disks, BURIED)?;
-    served(alloc, &["run", "d0", "d1"], disks, PUT_THERE)
+    let disks = served(alloc, &["run", "--lwm", "0", "d0", "d1"], disks, BURIED)?;
+    served(alloc, &["run", "--lwm", "0", "d0", "d1"], disks, PUT_THERE)
 }
 
 // Writes zeros over the last one's first record.

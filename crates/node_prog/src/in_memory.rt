@@ -13,7 +13,7 @@ use shard_core::Settings;
 use std::alloc::Global;
 use std::test::Fail;
 
-/// What a run is set to where no option says otherwise.
+/// What a run is set to in these tests, where their words ask that no block is vacated.
 pub const SETTINGS: Settings = Settings {
     sprigs: 16,
     lwm: 0,
@@ -107,4 +107,16 @@ pub fn serve_words(
     let outcome = node_top(alloc, listed, disks, link, &mut clock);
     let text = link.sink.written().to_vec(alloc)?;
     Ok(Ending { outcome, text })
+}
+
+/// A put of so many bytes under these forty digits.
+pub fn put_line(alloc: Global, digest: &[u8], bytes: usize) -> Result<Vec<u8>, Fail> {
+    let mut line = b"put ".as_slice().to_vec(alloc)?;
+    line.extend_from_slice(digest)?;
+    line.extend_from_slice(b" 0 * ")?;
+    for _ in 0..bytes {
+        line.extend_from_slice(b"aa")?;
+    }
+    line.push(b'\n')?;
+    Ok(line)
 }

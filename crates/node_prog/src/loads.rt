@@ -66,7 +66,17 @@ fn load_over(
         }
     }
     let words: &[&str] = match lens.len() {
-        1 => &["gen", "10", "--block-size", "16384", "--blocks", "16", "d0"],
+        1 => &[
+            "gen",
+            "10",
+            "--lwm",
+            "0",
+            "--block-size",
+            "16384",
+            "--blocks",
+            "16",
+            "d0",
+        ],
         _ => &[
             "gen",
             "10",

@@ -21,6 +21,8 @@ mod several;
 #[cfg(test)]
 mod tests;
 mod top;
+#[cfg(test)]
+mod vacates;
 
 use crate::devices::{Undone, devices_of};
 use crate::top::node_top;

@@ -32,7 +32,7 @@ const FORMAT_TWO: Words = &[
     "d1",
 ];
 
-const RUN_TWO: Words = &["run", "d0", "d1"];
+const RUN_TWO: Words = &["run", "--lwm", "0", "d0", "d1"];
 
 const MADE: [Made; 7] = [
     (&["run"], &[], 2, "words refused", b""),
@@ -109,7 +109,12 @@ fn a_disk_fails_to_be_made(rt: HostRuntime) -> Result<(), Fail> {
     let mut link = link_over(alloc, b"", &[], &[0])?;
     let ending = serve_words(alloc, FORMAT, disks, &mut link)?;
     assert!(rt; ends_so(&ending, 5, "sink fault", b""));
-    let ending = serve_over(alloc, &["run", "d0"], ending.outcome.disks, b"quit\n")?;
+    let ending = serve_over(
+        alloc,
+        &["run", "--lwm", "0", "d0"],
+        ending.outcome.disks,
+        b"quit\n",
+    )?;
     assert!(rt; ends_so(&ending, 0, "", b"bye\n"));
     Ok(())
 }
@@ -155,7 +160,7 @@ const SESSIONS: [Session; 5] = [
         b"ok 1 1000\nok 1 1000\n",
     ),
     (
-        &["run", "--commit", "yes", "d0", "d1"],
+        &["run", "--lwm", "0", "--commit", "yes", "d0", "d1"],
         &[(DiskCall::Write, 1)],
         PUTS,
         0,

@@ -1,7 +1,7 @@
 ghost use Rattle.shard_core.specs.View.{IsSettings};
 
 use crate::in_memory::{
-    Ending, SETTINGS, ends_so, formatted_disk, link_over, serve_words, still_clock,
+    Ending, SETTINGS, ends_so, formatted_disk, link_over, put_line, serve_words, still_clock,
 };
 use crate::outcome::Outcome;
 use crate::run::run_with;
@@ -41,7 +41,14 @@ fn serve_text(
     sink_fails: &[u64],
 ) -> Result<Ending, Fail> {
     let disk = formatted_disk(alloc)?;
-    serve_disk(alloc, &["run", "d0"], disk, input, source_fails, sink_fails)
+    serve_disk(
+        alloc,
+        &["run", "--lwm", "0", "d0"],
+        disk,
+        input,
+        source_fails,
+        sink_fails,
+    )
 }
 
 fn is_so(ending: &Ending, status: u8, note: &str, text: &[u8]) -> bool {
@@ -116,18 +123,6 @@ fn each_line_has_its_reply(rt: HostRuntime) -> Result<(), Fail> {
     let ending = serve_text(alloc, &input, &[], &[])?;
     assert!(rt; is_so(&ending, 0, "", &text));
     Ok(())
-}
-
-// A put of so many bytes under these forty digits.
-fn put_line(alloc: Global, digest: &[u8], bytes: usize) -> Result<Vec<u8>, Fail> {
-    let mut line = b"put ".as_slice().to_vec(alloc)?;
-    line.extend_from_slice(digest)?;
-    line.extend_from_slice(b" 0 * ")?;
-    for _ in 0..bytes {
-        line.extend_from_slice(b"aa")?;
-    }
-    line.push(b'\n')?;
-    Ok(line)
 }
 
 const ALL_F: &[u8] = b"ffffffffffffffffffffffffffffffffffffffff";
@@ -297,7 +292,7 @@ fn faults_end_it_with_their_statuses(rt: HostRuntime) -> Result<(), Fail> {
     let ending = serve_text(alloc, GET, &[], &[1])?;
     assert!(rt; is_so(&ending, 5, "sink fault", b"none\n"));
     let disk = MemDisk::new(alloc, 266_240)?;
-    let ending = serve_disk(alloc, &["run", "d0"], disk, GET, &[], &[])?;
+    let ending = serve_disk(alloc, &["run", "--lwm", "0", "d0"], disk, GET, &[], &[])?;
     assert!(rt; is_so(&ending, 7, ZEROS_NOTE, b""));
     Ok(())
 }
@@ -324,7 +319,7 @@ fn an_open_block_needs_a_body(rt: HostRuntime) -> Result<(), Fail> {
 
 // The session over this disk, with the words `run d0`.
 fn serve_over(alloc: Global, disk: MemDisk, input: &[u8]) -> Result<Ending, Fail> {
-    serve_disk(alloc, &["run", "d0"], disk, input, &[], &[])
+    serve_disk(alloc, &["run", "--lwm", "0", "d0"], disk, input, &[], &[])
 }
 
 // The disk of a session that ended so.

@@ -16,7 +16,8 @@ use Rattle.line_proto.specs.declared.command.Command.TheVariants as command
 use Rattle.line_proto.specs.declared.reply.Reply.{Reply}
 use Rattle.line_proto.specs.declared.reply.Reply.TheVariants as reply
 use Rattle.line_proto.specs.declared.reply.LineFault.TheVariants as why
-use Rattle.node_model.specs.Commands.{Node, NodeEvent, node_after, Does, IsLegalOn, TendsEach, Outcome, did, stopped, answer_reply, found_reply, meta_reply, one_sum, two_sums}
+use Rattle.node_model.specs.Commands.{Node, NodeEvent, node_after, Does, IsLegalOn, TendsEach, answer_reply, found_reply, meta_reply, one_sum, two_sums}
+use Rattle.device_model.specs.Vacating.{Outcome, did, stopped}
 use Rattle.node_session.specs.Turns.{Times, WholeTurn, Turns, Answers, Quits, IsCommand, NamesNoCommand}
 use Rattle.node_model.specs.Run.{ImagesLeft, Served, Serves, ServesAll, AnswersLine, Carries, goes_on, halts, is_halted, node_or, node_at_reply, node_after_line, node_after_lines, states_while, states_of_lines, times_of, replies_of}
 use Rattle.node_model.specs.Headline.{Gives}

@@ -40,7 +40,7 @@ one_shape pairs s t one two =
 one_tuning : (pairs : List Pair) (s t : Tuning) → HasRows pairs (tuning_rows s) → HasRows pairs (tuning_rows t) → s ≡ t
 one_tuning pairs s t one two =
     let sprigs = one_value _ 1 256 16 s.sprigs t.sprigs (lit< tt) one.0 two.0 in
-    let lwm = one_value _ 0 0 0 s.lwm t.lwm (lit< tt) one.1.0 two.1.0 in
+    let lwm = one_value _ 0 99 50 s.lwm t.lwm (lit< tt) one.1.0 two.1.0 in
     let pending = one_value _ 4 64 16 s.pending t.pending (lit< tt) one.1.1.0 two.1.1.0 in
     let cache = one_value _ 0 0 0 s.cache t.cache (lit< tt) one.1.1.1.0 two.1.1.1.0 in
     let commit = one_choice _ s.commit t.commit one.1.1.1.1.0 two.1.1.1.1.0 in

@@ -41,7 +41,7 @@ zero_in said n is = let range = number_in said 0 0 0 n (lit≤ tt) (lit≤ tt) i
 tuning_in : (pairs : List Pair) (tuning : Tuning) → HasRows pairs (tuning_rows tuning) → IsTuning tuning
 tuning_in pairs tuning has = record {
   sprigs = number_in _ 1 256 16 tuning.sprigs (lit≤ tt) (lit≤ tt) has.0;
-  lwm = zero_in _ tuning.lwm has.1.0;
+  lwm = (number_in _ 0 99 50 tuning.lwm (lit≤ tt) (lit≤ tt) has.1.0).1;
   pending = number_in _ 4 64 16 tuning.pending (lit≤ tt) (lit≤ tt) has.1.1.0;
   cache = zero_in _ tuning.cache has.1.1.1.0;
   raid_age = (number_in _ 0 315360000 86400 tuning.raid_age (lit≤ tt) (lit≤ tt) has.1.1.1.1.1.0).1;

@@ -17,7 +17,7 @@ pub record IsShape (shape : Shape) : Type 0 where
 -- settings with which a device can be run
 pub record IsTuning (tuning : Tuning) : Type 0 where
   pub sprigs : (1 ≤ tuning.sprigs) × (tuning.sprigs ≤ 256)
-  pub lwm : tuning.lwm ≡ 0
+  pub lwm : tuning.lwm ≤ 99
   pub pending : (4 ≤ tuning.pending) × (tuning.pending ≤ 64)
   pub cache : tuning.cache ≡ 0
   pub raid_age : tuning.raid_age ≤ 315360000

@@ -56,11 +56,11 @@ shape_rows shape =
     ∷ (codes "--blocks", number 8 65536 64 shape.blocks)
     ∷ []
 
--- the options of a run; low-water marks and the post-write queue aren't built yet, so only 0 is accepted for them
+-- the options of a run; the post-write queue isn't built yet, so only 0 is accepted for it
 abbrev pub tuning_rows : Tuning → List Row
 tuning_rows tuning =
     (codes "--sprigs", number 1 256 16 tuning.sprigs)
-    ∷ (codes "--lwm", number 0 0 0 tuning.lwm)
+    ∷ (codes "--lwm", number 0 99 50 tuning.lwm)
     ∷ (codes "--pending", number 4 64 16 tuning.pending)
     ∷ (codes "--cache", number 0 0 0 tuning.cache)
     ∷ (codes "--commit", choice tuning.commit)

@@ -14,7 +14,7 @@ pub struct Shape {
 pub struct Tuning {
     /// Sprigs in each partition, 1 to 256.
     pub sprigs: u32,
-    /// The low-water mark of defragmentation in percent of a block. It is 0 until blocks are vacated.
+    /// The low-water mark of defragmentation in percent of a block, 0 to 99.
     pub lwm: u32,
     /// The most write buffers of a device that may wait to be flushed, 4 to 64.
     pub pending: u32,

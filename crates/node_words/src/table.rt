@@ -17,15 +17,14 @@ fn shape_of(options: &mut Options<'_>) -> Option<Shape>
     })
 }
 
-// What the options say of how devices are run. Low-water marks and the post-write queue aren't built yet, so only 0 is
-// accepted for them.
+// What the options say of how devices are run. The post-write queue isn't built yet, so only 0 is accepted for it.
 fn tuning_of(options: &mut Options<'_>) -> Option<Tuning>
     ensures value { ReadsRows tuning_rows options.old.pairs result }
     ensures asked { AsksForRows tuning_rows options.old options.new result }
 {
     Some(Tuning {
         sprigs: options.number("--sprigs", 1, 256, 16)?,
-        lwm: options.number("--lwm", 0, 0, 0)?,
+        lwm: options.number("--lwm", 0, 99, 50)?,
         pending: options.number("--pending", 4, 64, 16)?,
         cache: options.number("--cache", 0, 0, 0)?,
         commit: options.choice("--commit")?,

@@ -5,7 +5,7 @@ use std::test::Fail;
 
 const TUNING: Tuning = Tuning {
     sprigs: 16,
-    lwm: 0,
+    lwm: 50,
     pending: 16,
     cache: 0,
     commit: false,
@@ -23,7 +23,7 @@ const LEAST: Tuning = Tuning {
 
 const MOST: Tuning = Tuning {
     sprigs: 256,
-    lwm: 0,
+    lwm: 99,
     pending: 64,
     cache: 0,
     commit: false,
@@ -120,7 +120,7 @@ fn runs_are_read(rt: HostRuntime) -> Result<(), Fail> {
             1,
         ),
         (
-            "run --commit no --sprigs 256 --pending 64 --raid-age 315360000 a=b",
+            "run --commit no --sprigs 256 --lwm 99 --pending 64 --raid-age 315360000 a=b",
             MOST,
             1,
         ),
@@ -197,8 +197,6 @@ fn other_numbers_are_refused(rt: HostRuntime) -> Result<(), Fail> {
             "run --sprigs 257 d0",
             "run --sprigs 4294967297 d0",
             "run --sprigs 18446744073709551617 d0",
-            "run --lwm 1 d0",
-            "run --lwm 50 d0",
             "run --lwm 100 d0",
             "run --lwm 00 d0",
             "run --lwm -0 d0",
@@ -217,7 +215,7 @@ fn other_numbers_are_refused(rt: HostRuntime) -> Result<(), Fail> {
             "gen  d0",
             "gen 4294967297 d0",
             "gen d0",
-            "gen 10 --lwm 1 d0",
+            "gen 10 --lwm 100 d0",
             "gen 10 --blocks 7 d0",
         ],
     )

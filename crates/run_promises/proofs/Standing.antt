@@ -8,8 +8,8 @@ use Rattle.cold_scan.specs.declared.header.StartCause.{StartCause}
 use Rattle.node_model.specs.Commands.{Slot, Node}
 use Rattle.node_model.specs.Outside.{counts_of}
 use Rattle.node_model.specs.Headline.{On}
-use Rattle.shard_core.specs.View.{ShardView, setup_of}
-use Rattle.shard_core.proofs.Going.{safe_survives}
+use Rattle.shard_core.specs.View.{ShardView}
+use Rattle.core_run.proofs.Making.{safe_survives}
 use Rattle.core_run.specs.Views.{NodeView, serving, halted, disks_served, view_at, faults_of}
 use Rattle.core_run.specs.Standing.{StandsOn, StandsSafelyOn, Each}
 
@@ -47,7 +47,7 @@ module _ {D : Type 0} (view : D → DiskView) where
   pub slot_survives : (shard : ShardView D) (slot : Slot) → StandsSafelyOn view shard slot → (image : List ℕ) → (view shard.shelf.disk).may_leave image → Survives slot.setup slot.state image
   slot_survives shard slot stands image left =
       subst (λ (setup : Setup). Survives setup slot.state image) (sym stands.stands.setup_is)
-      (safe_survives (setup_of shard) view shard.shelf slot.state stands.safe.safe image left)
+      (safe_survives view shard slot.state stands.safe image left)
 
   pub survives_at : (shards : List (ShardView D)) (node : Node) → Each (StandsSafelyOn view) shards node → (device : ℕ) (image : List ℕ) → (view_at view (disks_served shards) device).may_leave image
       → On node device (λ slot. Survives slot.setup slot.state image)

@@ -13,7 +13,8 @@ use Rattle.recovery.specs.Start.{start_state}
 use Rattle.recovery.specs.Surviving.{KeepsShown}
 use Rattle.line_proto.specs.declared.command.Command.TheVariants as command
 use Rattle.line_proto.specs.declared.reply.Reply.TheVariants as reply
-use Rattle.node_model.specs.Commands.{Node, did}
+use Rattle.node_model.specs.Commands.{Node}
+use Rattle.device_model.specs.Vacating.{did}
 use Rattle.node_model.specs.Run.{Served, node_after_line}
 use Rattle.worked_runs.proofs.RunTools.{IsLine, device, served, event, d1, stamp, state_at, only_kept, told_counts, may_show}
 

@@ -8,7 +8,8 @@ use Rattle.device_model.specs.Events.{put_call, get_call, flush_call, flush_seal
 use Rattle.recovery.specs.Start.{start_state}
 use Rattle.line_proto.specs.declared.command.Command.TheVariants as command
 use Rattle.line_proto.specs.declared.reply.Reply.TheVariants as reply
-use Rattle.node_model.specs.Commands.{Node, did}
+use Rattle.node_model.specs.Commands.{Node}
+use Rattle.device_model.specs.Vacating.{did}
 use Rattle.std.specs.Prelude.{codes, Bool, ◌==◌, ◌||◌}
 use Rattle.std.specs.List.{list_any}
 use Rattle.std.proofs.lemmas.Bool.{false≢true, or_left, eq-eqb}

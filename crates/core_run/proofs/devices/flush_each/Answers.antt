@@ -1,8 +1,8 @@
 use Rattle.std.proofs.Common.{ℕ, ◌+◌, ◌<◌, sym, subst, arith, refl, get_or, set}
 use Rattle.std.specs.Prelude.{Result, Ok, Err}
 use Rattle.disk_model.specs.declared.disk.DiskFault.{DiskFault}
-use Rattle.core_run.specs.Turns.{FlushTurn, FlushesOn, FlushesEach}
-use Rattle.core_run.proofs.Looping.{through_next, through_all, flushed_all, flush_fails, err_alone, one_fault}
+use Rattle.core_run.specs.Turns.{WorkTurn, FlushesOn, FlushesEach, plus_one}
+use Rattle.core_run.proofs.Looping.{through_next, through_all, worked_all, work_fails, err_alone, one_fault}
 use Rattle.core_run.proofs.devices.flush_each.Goals as goal
 
 pub loop-shard-init : goal.loop-shard-init
@@ -16,8 +16,8 @@ returns-in_err-flushed g c =
     record { goes = record { shape = e.shape; later = e.later; honest = e.honest }; makes = e.makes; quiet = e.quiet; left = e.left } in
     let failed : FlushesOn {E = DiskFault} g.D.Disk.view (Err c.in_err-flushed.field-0.0) old c.flush.new.self =
     subst (λ (r : Result ℕ DiskFault). FlushesOn g.D.Disk.view r old c.flush.new.self) c.in_err-flushed.was turn in
-    err_alone (λ r. FlushesEach g.D.Disk.view r 0 c.args.shards.now (set c.loop-shard.shards c.loop-shard.shard-index c.flush.new.self)) c.from_residual.result c.from_residual.ensures.0
-    (λ fault. flush_fails DiskFault g.D.Disk.view fault c.loop-shard.shard-index 0 c.args.shards.now c.loop-shard.shards c.loop-shard.flushed c.shard-item.result c.flush.new.self c.loop-shard.invariant.turns
+    err_alone (λ r. FlushesEach g.D.Disk.view r c.args.shards.now (set c.loop-shard.shards c.loop-shard.shard-index c.flush.new.self)) c.from_residual.result c.from_residual.ensures.0
+    (λ fault. work_fails (FlushesOn {E = DiskFault} g.D.Disk.view) plus_one fault c.loop-shard.shard-index 0 c.args.shards.now c.loop-shard.shards c.loop-shard.flushed c.shard-item.result c.flush.new.self c.loop-shard.invariant.turns
     (subst (λ (n : ℕ). c.loop-shard.shard-index < n) (sym c.loop-shard.auto.shards) c.loop-shard-test.true) (subst (λ (e : DiskFault). FlushesOn {E = DiskFault} g.D.Disk.view (Err e) old c.flush.new.self) (one_fault c.in_err-flushed.field-0.0 fault) failed))
 
 pub overflow_add-flushed : goal.overflow_add-flushed
@@ -39,13 +39,13 @@ loop-shard-preserved g c =
     let few = c.in_ok-flushed.ensures.few in
     let so_far = c.loop-shard.invariant.few in
     record {
-      turns = through_next (FlushTurn DiskFault g.D.Disk.view) c.loop-shard.shard-index 0 c.args.shards.now c.loop-shard.shards c.loop-shard.flushed c.shard-item.result c.flush.new.self (c.loop-shard.flushed + c.in_ok-flushed.field-0)
+      turns = through_next (WorkTurn (FlushesOn {E = DiskFault} g.D.Disk.view) plus_one) c.loop-shard.shard-index 0 c.args.shards.now c.loop-shard.shards c.loop-shard.flushed c.shard-item.result c.flush.new.self (c.loop-shard.flushed + c.in_ok-flushed.field-0)
           c.loop-shard.invariant.turns (subst (λ (n : ℕ). c.loop-shard.shard-index < n) (sym c.loop-shard.auto.shards) c.loop-shard-test.true) (c.in_ok-flushed.field-0, went, refl);
       few = omega (arith, few, so_far);
     }
 
 pub returns : goal.returns
 returns g c =
-    flushed_all DiskFault g.D.Disk.view 0 c.args.shards.now c.loop-shard.shards c.loop-shard.flushed
-    (through_all (FlushTurn DiskFault g.D.Disk.view) c.loop-shard.shard-index 0 c.args.shards.now c.loop-shard.shards c.loop-shard.flushed c.loop-shard.invariant.turns
+    worked_all (FlushesOn {E = DiskFault} g.D.Disk.view) plus_one 0 c.args.shards.now c.loop-shard.shards c.loop-shard.flushed
+    (through_all (WorkTurn (FlushesOn {E = DiskFault} g.D.Disk.view) plus_one) c.loop-shard.shard-index 0 c.args.shards.now c.loop-shard.shards c.loop-shard.flushed c.loop-shard.invariant.turns
     (λ there. let over = c.loop-shard-test.false in let same = c.loop-shard.auto.shards in omega (arith, over, same, there)))

@@ -1,10 +1,10 @@
 use Rattle.std.proofs.Common.{◌≤◌, ◌*◌, ◌^◌}
 use Rattle.disk_model.specs.declared.disk.DiskFault.{DiskFault}
-use Rattle.core_run.specs.Turns.{Through, FlushTurn}
+use Rattle.core_run.specs.Turns.{Through, WorkTurn, FlushesOn, plus_one}
 use Rattle.core_run.proofs.devices.flush_each.Given as goal
 
 abbrev pub invariant-loop-shard : goal.invariant-loop-shard
 invariant-loop-shard g l = record {
-  turns : Through (FlushTurn DiskFault g.D.Disk.view) l.shard-index 0 l.initial.shards l.shards l.flushed;
+  turns : Through (WorkTurn (FlushesOn {E = DiskFault} g.D.Disk.view) plus_one) l.shard-index 0 l.initial.shards l.shards l.flushed;
   few : l.flushed ≤ l.shard-index * 2 ^ 60;
 }

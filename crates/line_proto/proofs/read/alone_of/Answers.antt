@@ -2,7 +2,7 @@ use Rattle.std.proofs.Common.{◌≡◌, List, ℕ, Some, None, ◌↔◌, sym, 
 use Rattle.std.specs.Prelude.{codes, slice_index, ◌==◌, if◌then◌else◌, Option}
 use Rattle.std.specs.Cmp.Lexicographic.{same_text, other_text}
 use Rattle.line_proto.specs.declared.command.Command.{Command}
-use Rattle.line_proto.specs.declared.command.Command.TheVariants.{Flush, Stat, Restart, Quit}
+use Rattle.line_proto.specs.declared.command.Command.TheVariants.{Flush, Defrag, Stat, Restart, Quit}
 use Rattle.line_proto.specs.Reading.{IsAlone}
 use Rattle.line_proto.proofs.read.alone_of.Goals as goal
 
@@ -13,6 +13,7 @@ by_letter letter =
     else if letter == 102 then Some Flush
     else if letter == 115 then Some Stat
     else if letter == 114 then Some Restart
+    else if letter == 100 then Some Defrag
     else None
 
 abbrev by_word : List ℕ → Option Command
@@ -24,6 +25,7 @@ one_made line Flush is = ap by_word is
 one_made line Stat is = ap by_word is
 one_made line Restart is = ap by_word is
 one_made line Quit is = ap by_word is
+one_made line Defrag is = ap by_word is
 one_made line c is = absurd is
 
 found : (line : List ℕ) (c : Command) → IsAlone line c → (other : Command) → (Some c ≡ Some other) ↔ IsAlone line other
@@ -32,12 +34,13 @@ found line c is other = (
   λ also. sym (one_made line c is) ∙ one_made line other also,
 )
 
-lost : (line : List ℕ) → (line ≡ codes "quit" → ⊥) → (line ≡ codes "flush" → ⊥) → (line ≡ codes "stat" → ⊥) → (line ≡ codes "restart" → ⊥) → (c : Command) → (None ≡ Some c) ↔ IsAlone line c
-lost line no_quit no_flush no_stat no_restart Flush = (λ is. cc, λ is. absurd (no_flush is))
-lost line no_quit no_flush no_stat no_restart Stat = (λ is. cc, λ is. absurd (no_stat is))
-lost line no_quit no_flush no_stat no_restart Restart = (λ is. cc, λ is. absurd (no_restart is))
-lost line no_quit no_flush no_stat no_restart Quit = (λ is. cc, λ is. absurd (no_quit is))
-lost line no_quit no_flush no_stat no_restart c = (λ is. cc, λ wrong. absurd wrong)
+lost : (line : List ℕ) → (line ≡ codes "quit" → ⊥) → (line ≡ codes "flush" → ⊥) → (line ≡ codes "stat" → ⊥) → (line ≡ codes "restart" → ⊥) → (line ≡ codes "defrag" → ⊥) → (c : Command) → (None ≡ Some c) ↔ IsAlone line c
+lost line no_quit no_flush no_stat no_restart no_defrag Flush = (λ is. cc, λ is. absurd (no_flush is))
+lost line no_quit no_flush no_stat no_restart no_defrag Stat = (λ is. cc, λ is. absurd (no_stat is))
+lost line no_quit no_flush no_stat no_restart no_defrag Restart = (λ is. cc, λ is. absurd (no_restart is))
+lost line no_quit no_flush no_stat no_restart no_defrag Quit = (λ is. cc, λ is. absurd (no_quit is))
+lost line no_quit no_flush no_stat no_restart no_defrag Defrag = (λ is. cc, λ is. absurd (no_defrag is))
+lost line no_quit no_flush no_stat no_restart no_defrag c = (λ is. cc, λ wrong. absurd wrong)
 
 pub returns-then-eq : goal.returns-then-eq
 returns-then-eq c = found c.args.line.now Quit (same_text c.args.line.now _ c.if-eq.ensures ∙ c.as_slice.ensures)
@@ -51,9 +54,13 @@ returns-then-eq-3 c = found c.args.line.now Stat (same_text c.args.line.now _ c.
 pub returns-then-eq-4 : goal.returns-then-eq-4
 returns-then-eq-4 c = found c.args.line.now Restart (same_text c.args.line.now _ c.if-eq-4.ensures ∙ c.as_slice-4.ensures)
 
+pub returns-then-eq-5 : goal.returns-then-eq-5
+returns-then-eq-5 c = found c.args.line.now Defrag (same_text c.args.line.now _ c.if-eq-5.ensures ∙ c.as_slice-5.ensures)
+
 pub returns : goal.returns
 returns c =
     lost c.args.line.now (λ is. other_text c.args.line.now _ c.if-eq.ensures (is ∙ sym c.as_slice.ensures))
     (λ is. other_text c.args.line.now _ c.if-eq-2.ensures (is ∙ sym c.as_slice-2.ensures))
     (λ is. other_text c.args.line.now _ c.if-eq-3.ensures (is ∙ sym c.as_slice-3.ensures))
     (λ is. other_text c.args.line.now _ c.if-eq-4.ensures (is ∙ sym c.as_slice-4.ensures))
+    (λ is. other_text c.args.line.now _ c.if-eq-5.ensures (is ∙ sym c.as_slice-5.ensures))

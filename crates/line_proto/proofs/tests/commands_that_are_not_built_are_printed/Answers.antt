@@ -29,7 +29,7 @@ has_line = (
   },
 )
 
-pub print_command-requires-4 : goal.print_command-requires-4
-print_command-requires-4 g c =
+pub print_command-requires-3 : goal.print_command-requires-3
+print_command-requires-3 g c =
     let none : c.from_vec.result ≡ [] = c.from_vec.ensures ∙ c.new.ensures.items in
     subst (λ (payload : List ℕ). HasLine (command.Put zeros 315360000 None payload)) (sym none) has_line

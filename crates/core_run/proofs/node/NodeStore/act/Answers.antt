@@ -1,19 +1,18 @@
 use Rattle.std.proofs.Common.{◌≡◌, ◌<◌, ℕ, List, length, get_or, set, arith, sym, subst, ap, ◌∙◌}
 use Rattle.std.specs.Prelude.{Some, slice_get, option_map, vec_len, vec_capacity}
-use Rattle.std.specs.Vec.{with_items}
-use Rattle.std.proofs.lemmas.List.{with_items_is}
+use Rattle.disk_model.specs.declared.disk.DiskFault.{DiskFault}
 use Rattle.rec_format.specs.Places.{device_number}
 use Rattle.line_proto.specs.declared.command.Command.{Command}
 use Rattle.line_proto.specs.declared.command.Command.TheVariants as command
 use Rattle.line_proto.specs.declared.reply.Reply.TheVariants as reply
 use Rattle.shard_core.specs.View.{ShardView}
-use Rattle.core_run.specs.Views.{NodeView, IsNode}
+use Rattle.core_run.specs.Views.{NodeView}
 use Rattle.core_run.specs.Standing.{Each, StandsOn}
 use Rattle.core_run.specs.Calls.{Acts}
-use Rattle.core_run.specs.Turns.{FlushesEach}
+use Rattle.core_run.specs.Turns.{FlushesOn, FlushesEach, plus_one, DefragsOn, DefragsEach, plus_both}
 use Rattle.core_run.proofs.Making.{there_is}
-use Rattle.core_run.proofs.Commands.{digest_acts, flush_acts, stat_acts, acts_halted}
-use Rattle.core_run.proofs.Keeping.{SameEach, seen_so, node_kept, node_halts, acts_so, same_all, devices_of, device_at, same_at, same_flushed, same_length, not_some, is_there}
+use Rattle.core_run.proofs.Commands.{digest_acts, flush_acts, defrag_acts, stat_acts, acts_halted}
+use Rattle.core_run.proofs.Keeping.{SameEach, all_kept, all_act, node_kept, node_halts, acts_so, same_all, devices_of, device_at, same_at, same_worked, not_some, is_there}
 use Rattle.core_run.proofs.node.NodeStore.act.Given.{Over}
 use Rattle.core_run.proofs.node.NodeStore.act.Goals as goal
 
@@ -65,28 +64,41 @@ returns-in-Some g c =
 
 -- ---- a flush
 
-flushed : (g : Over) (c : goal.After-flush_reply g) → FlushesEach g.D.Disk.view c.flush_each.result 0 c.self.inside.shards.items c.flush_each.new.shards
-flushed g c = subst (λ (s : List (ShardView g.row.D.Denot)). FlushesEach g.D.Disk.view c.flush_each.result 0 s c.flush_each.new.shards) c.deref_mut.ensures.value c.flush_each.ensures
+flushed : (g : Over) (c : goal.After-flush_reply g) → FlushesEach g.D.Disk.view c.flush_each.result c.self.inside.shards.items c.flush_each.new.shards
+flushed g c = subst (λ (s : List (ShardView g.row.D.Denot)). FlushesEach g.D.Disk.view c.flush_each.result s c.flush_each.new.shards) c.deref_mut.ensures.value c.flush_each.ensures
 
-same : (g : Over) (c : goal.After-flush_reply g) → SameEach c.self.inside.shards.items c.flush_each.new.shards
-same g c = same_flushed g.D.Disk.view c.flush_each.result 0 c.self.inside.shards.items c.flush_each.new.shards (flushed g c)
-
-items_are : (g : Over) (c : goal.After-flush_reply g) → (with_items c.self.inside.shards c.flush_each.new.shards).items ≡ c.flush_each.new.shards
-items_are g c = with_items_is c.self.inside.shards c.flush_each.new.shards (same_length c.self.inside.shards.items c.flush_each.new.shards (same g c) ∙ sym c.self.inside.shards.ok.0)
+same_flushed : (g : Over) (c : goal.After-flush_reply g) → SameEach c.self.inside.shards.items c.flush_each.new.shards
+same_flushed g c = same_worked (FlushesOn {E = DiskFault} g.D.Disk.view) plus_one (λ result old new does. does.goes.shape) c.flush_each.result 0 c.self.inside.shards.items c.flush_each.new.shards (flushed g c)
 
 pub invariant_of-self-in-Flush : goal.invariant_of-self-in-Flush
 invariant_of-self-in-Flush g c =
-    subst (λ (s : List (ShardView g.row.D.Denot)). IsNode c.self.inside.set (vec_capacity c.self.inside.shards) (vec_capacity c.self.inside.disks) (seen_so s c.self.inside.refused c.self.inside.disks.items)) (sym (items_are g c))
-    (node_kept c.self.inside.set (vec_capacity c.self.inside.shards) (vec_capacity c.self.inside.disks) c.self.inside.shards.items c.flush_each.new.shards c.self.inside.refused c.self.inside.disks.items (same g c) c.self.invariant)
+    all_kept c.self.inside.set (vec_capacity c.self.inside.disks) c.self.inside.shards c.flush_each.new.shards c.self.inside.refused c.self.inside.disks.items (same_flushed g c) c.self.invariant
 
 pub returns-in-Flush : goal.returns-in-Flush
 returns-in-Flush g c =
     let none = not_some c.self.inside.refused c.is_some.result c.is_some.ensures c.if-is_some.false in
-    subst (λ (x : Command). Acts g.D.Disk.view c.args.self.now x c.args.now c.flush_reply.result (seen_so (with_items c.self.inside.shards c.flush_each.new.shards).items c.self.inside.refused c.self.inside.disks.items))
-    (sym c.in-Flush.is)
-    (subst (λ (s : List (ShardView g.row.D.Denot)). Acts g.D.Disk.view c.args.self.now command.Flush c.args.now c.flush_reply.result (seen_so s c.self.inside.refused c.self.inside.disks.items)) (sym (items_are g c))
-    (acts_so g.D.Disk.view c.self.inside.set (vec_capacity c.self.inside.shards) (vec_capacity c.self.inside.disks) c.self.inside.shards.items c.flush_each.new.shards c.self.inside.refused c.self.inside.disks.items c.args.self.now command.Flush c.args.now c.flush_reply.result c.self.invariant none (same g c) c.self.view_is
-    (flush_acts g.D.Disk.view g.met.D.Disk.is_disk c.flush_each.result c.self.inside.shards.items c.flush_each.new.shards c.args.now c.flush_reply.result (flushed g c) c.flush_reply.ensures)))
+    all_act c.self.inside.set (vec_capacity c.self.inside.disks) c.self.inside.shards c.flush_each.new.shards c.self.inside.refused c.self.inside.disks.items (same_flushed g c) c.self.invariant none g.D.Disk.view
+    c.args.self.now c.args.command.now command.Flush c.args.now c.flush_reply.result c.self.view_is c.in-Flush.is
+    (flush_acts g.D.Disk.view g.met.D.Disk.is_disk c.flush_each.result c.self.inside.shards.items c.flush_each.new.shards c.args.now c.flush_reply.result (flushed g c) c.flush_reply.ensures)
+
+-- ---- a defragmentation
+
+defragged : (g : Over) (c : goal.After-defrag_reply g) → DefragsEach g.D.Disk.view c.defrag_each.result c.self.inside.shards.items c.defrag_each.new.shards
+defragged g c = subst (λ (s : List (ShardView g.row.D.Denot)). DefragsEach g.D.Disk.view c.defrag_each.result s c.defrag_each.new.shards) c.deref_mut-in-Defrag.ensures.value c.defrag_each.ensures
+
+same_defragged : (g : Over) (c : goal.After-defrag_reply g) → SameEach c.self.inside.shards.items c.defrag_each.new.shards
+same_defragged g c = same_worked (DefragsOn g.D.Disk.view) plus_both (λ result old new does. does.goes.shape) c.defrag_each.result (0, 0) c.self.inside.shards.items c.defrag_each.new.shards (defragged g c)
+
+pub invariant_of-self-in-Defrag : goal.invariant_of-self-in-Defrag
+invariant_of-self-in-Defrag g c =
+    all_kept c.self.inside.set (vec_capacity c.self.inside.disks) c.self.inside.shards c.defrag_each.new.shards c.self.inside.refused c.self.inside.disks.items (same_defragged g c) c.self.invariant
+
+pub returns-in-Defrag : goal.returns-in-Defrag
+returns-in-Defrag g c =
+    let none = not_some c.self.inside.refused c.is_some.result c.is_some.ensures c.if-is_some.false in
+    all_act c.self.inside.set (vec_capacity c.self.inside.disks) c.self.inside.shards c.defrag_each.new.shards c.self.inside.refused c.self.inside.disks.items (same_defragged g c) c.self.invariant none g.D.Disk.view
+    c.args.self.now c.args.command.now command.Defrag c.args.now c.defrag_reply.result c.self.view_is c.in-Defrag.is
+    (defrag_acts g.D.Disk.view g.met.D.Disk.is_disk c.defrag_each.result c.self.inside.shards.items c.defrag_each.new.shards c.args.now c.defrag_reply.result (defragged g c) c.defrag_reply.ensures)
 
 pub returns-in-Stat : goal.returns-in-Stat
 returns-in-Stat g c =
