@@ -90,6 +90,7 @@ module _ {D : Type 0} (view : D → DiskView) (shelf : ShelfView D) (disk : D) (
     waits = waits shelf.buffers unbuffered is.waits;
     ready = λ honest. readies (was_honest honest) shelf.buffers unbuffered is.buffers (is.ready (was_honest honest));
     queue = is.queue;
+    cache = is.cache;
     stand = λ honest k k_lt.
         subst (GateStands shelf.geometry (view disk).may_leave k) (sym (gates_with shelf.gates block gate lt k))
         (⊎_elim (λ (e : k ≡ block). subst (λ (x : Gate). GateStands shelf.geometry (view disk).may_leave k x) (sym (gate_own block k gate (gate_at shelf.gates) e)) (subst (λ (j : ℕ). GateStands shelf.geometry (view disk).may_leave j gate) (sym e) (stands honest)))
@@ -125,6 +126,7 @@ module _ {D : Type 0} (view : D → DiskView) (shelf : ShelfView D) (disk : D) (
       listed = stands.listed;
       order = stands.order;
       entries = stands.entries;
+      kept = stands.kept;
     }
 
     -- the bodies stay as they are
@@ -137,6 +139,7 @@ module _ {D : Type 0} (view : D → DiskView) (shelf : ShelfView D) (disk : D) (
           ⊎_elim (λ (here : l.block ≡ block). subst (λ (x : List ℕ). IsRecordAt x (32 + 16 * l.unit) e v)
           (sym (subst (λ (k : ℕ). body_bytes shelf.geometry k c ≡ body_bytes shelf.geometry k t.0) (sym here) (body_stays shelf.geometry block is.geometry t.0 c t.2))) (placed.there e l v is_live is_entry none t.0 t.1))
           (λ (other : l.block ≢ block). subst (λ (x : List ℕ). IsRecordAt x (32 + 16 * l.unit) e v) (sym (d.2.bodies l.block (within e l is_live) other)) (placed.there e l v is_live is_entry none d.0 d.1)) (cases_eq l.block block);
+      kept = placed.kept;
     }
 
     module _ (honest : IsHonest (view shelf.disk)) (safe : ImagesHold setup view shelf s) (not_shut : gate_at shelf.gates block ≢ Shut) (free : Contains s.book.free block) where
@@ -196,6 +199,7 @@ module _ {D : Type 0} (view : D → DiskView) (setup : Setup) (shelf : ShelfView
     listed = record { all = λ b lt may. back_there s.book.free b (stands.listed.all b lt may); one = stands.listed.one; own = stands.listed.own };
     order = plain_book setup s (records_of shelf.buffers) stands.order closing_failed refl;
     entries = λ l live. let old = stands.entries l live in record { version = old.version; entry_is = old.entry_is; lies = old.lies };
+    kept = λ e l v is_live is_entry. stands.kept e l v is_live is_entry;
   }
 
   pub passed_queued : QueueStands setup shelf s → QueueStands setup (record shelf { free = first_to_back shelf.free }) (after_step setup closing_failed s)
@@ -204,7 +208,7 @@ module _ {D : Type 0} (view : D → DiskView) (setup : Setup) (shelf : ShelfView
 
   pub passed_placed : IsPlaced view shelf s → IsPlaced view (record shelf { free = first_to_back shelf.free }) (after_step setup closing_failed s)
   unfolding after_step
-  passed_placed placed = record { buffered = placed.buffered; there = λ e l v is_live is_entry none c image. placed.there e l v is_live is_entry none c image }
+  passed_placed placed = record { buffered = placed.buffered; there = λ e l v is_live is_entry none c image. placed.there e l v is_live is_entry none c image; kept = λ e l v is_live is_entry. placed.kept e l v is_live is_entry }
 
   pub passed_safe : ImagesHold setup view shelf s → ImagesHold setup view (record shelf { free = first_to_back shelf.free }) (after_step setup closing_failed s)
   passed_safe safe = plain_holds setup shelf.geometry s (records_of shelf.buffers) (gate_at shelf.gates) (view shelf.disk).may_leave safe closing_failed refl tt

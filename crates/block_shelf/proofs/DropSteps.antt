@@ -32,13 +32,14 @@ use Rattle.kept_images.proofs.Holding.{plain_holds}
 use Rattle.kept_images.proofs.Stepping.{plain_book}
 use Rattle.block_shelf.specs.declared.place.Place.{Place}
 use Rattle.block_shelf.specs.View.{ShelfView, IsShelf, IsRoll, IsSetupOf, ArePacked, IsUnused, AreApart, records_of, gate_at}
-use Rattle.block_shelf.specs.Standing.{StandsFor, QueueStands, IsPlaced, LivesSame, book_buffer}
+use Rattle.block_shelf.specs.Standing.{HasCopy, HasRecord, StandsFor, QueueStands, IsPlaced, LivesSame, book_buffer}
 use Rattle.block_shelf.specs.Calls.{Goes, copy_live}
 use Rattle.block_shelf.specs.Changes.{has_buffer_in, without_copy, with_free, with_requeued, rolls_without}
 use Rattle.block_shelf.proofs.Blocks.{apart_push, apart_back, few}
 use Rattle.block_shelf.proofs.Frees.{IsVacant, vacant_from, vacant_is}
 use Rattle.block_shelf.proofs.Dropping.{dropped_book, dropped_buffers, dropped_next, dropped_holds, dropped_lives, left_live, stays_live, dropped_listed, dropped_frees, fewer, fewer_own, fewer_units, use_elsewhere}
 use Rattle.block_shelf.proofs.Going.{stays}
+use Rattle.block_shelf.proofs.Keeping.{have_fewer}
 use Rattle.block_shelf.proofs.QueueSteps.{has_buffer_is, marked_as, queue_considered, queued_alike, rolled_is_use}
 use Rattle.block_shelf.proofs.Rolls.{same_unit, left_roll, left_packed, no_copies, each_left, left_there, left_from}
 
@@ -70,6 +71,7 @@ held_shelf view shelf holds below free is = record {
   ready = is.ready;
   stand = is.stand;
   queue = is.queue;
+  cache = is.cache;
 }
 
 -- one more hold, of a block that isn't free
@@ -109,6 +111,7 @@ module _ {D : Type 0} (view : D → DiskView) (shelf : ShelfView D) (is : IsShel
     ready = is.ready;
     stand = is.stand;
     queue = is.queue;
+    cache = is.cache;
   }
     where
       lt : place.block < length shelf.rolls
@@ -137,6 +140,7 @@ module _ {D : Type 0} (view : D → DiskView) (shelf : ShelfView D) (is : IsShel
       ready = is.ready;
       stand = is.stand;
       queue = is.queue;
+      cache = is.cache;
     }
       where
         blocks : (bs : List BufferState) → AllByRecursion (λ b. b.block ≢ block) bs → AllByRecursion (λ x. x ≢ block) (map (λ b. b.block) bs)
@@ -201,6 +205,33 @@ module _ {D : Type 0} (view : D → DiskView) (is_disk : (disk : D) → IsDisk (
       by false is = refl
       by true is = absurd (both_ways (same_digest digest e) other (subst (λ (d : Digest). same_digest digest d ≡ true) (sym (same_digest_is e digest is)) (same_digest_refl digest)))
 
+  -- a live copy behind it was live before, and its entry is as before
+  turned : (e : Digest) → same_digest digest e ≡ false → same_digest e digest ≡ false
+  turned e other = by (same_digest e digest) refl
+    where
+      by : (b : Bool) → same_digest e digest ≡ b → b ≡ false
+      by false is = refl
+      by true is = absurd (both_ways (same_digest digest e) other (subst (λ (d : Digest). same_digest digest d ≡ true) (sym (same_digest_is e digest is)) (same_digest_refl digest)))
+
+  live_own : (e : Digest) (ls : List Live) (l : Live) → live_of e ls ≡ Some l → e ≡ l.digest
+  live_own e [] l found = absurd (cc)
+  live_own e (m ∷ ls) l found = by (same_digest e m.digest) refl found (live_own e ls l)
+    where
+      by : (b : Bool) → same_digest e m.digest ≡ b → cond b (Some m) (live_of e ls) ≡ Some l → (live_of e ls ≡ Some l → e ≡ l.digest) → e ≡ l.digest
+      by true is found rest = let same : m ≡ l = cc in same_digest_is e m.digest is ∙ ap (λ (x : Live). x.digest) same
+      by false is found rest = rest found
+
+  apart : (e : Digest) (l : Live) → live_of e after.book.live ≡ Some l → same_digest digest e ≡ false
+  apart e l is_live =
+      let left = left_live setup s digest l (subst (λ (x : List Live). Contains x l) (dropped_lives setup s digest) (live_there e after.book.live l is_live)) in
+      subst (λ (d : Digest). same_digest digest d ≡ false) (sym (live_own e after.book.live l is_live)) left.1
+
+  was_live : (e : Digest) (l : Live) → live_of e after.book.live ≡ Some l → live_of e s.book.live ≡ Some l
+  was_live e l is_live = sym (others_live digest e s.book.live (turned e (apart e l is_live))) ∙ ap (live_of e) (sym (dropped_lives setup s digest)) ∙ is_live
+
+  was_entry : (e : Digest) (l : Live) (v : Version) → live_of e after.book.live ≡ Some l → entry after e ≡ Some v → entry s e ≡ Some v
+  was_entry e l v is_live is_entry = sym (entry_left e (apart e l is_live)) ∙ is_entry
+
   -- with these free blocks the shelf stands for the state behind it
   stands_with : (free : List ℕ) (queue : QueueState) → after.book.free ≡ free → StandsFor setup (record (without_copy place shelf) { free = free; queue = queue }) after
   stands_with free queue same = record {
@@ -218,6 +249,7 @@ module _ {D : Type 0} (view : D → DiskView) (is_disk : (disk : D) → IsDisk (
         let left = left_live setup s digest l (subst (λ (x : List Live). Contains x l) (dropped_lives setup s digest) there) in
         let old = stands.entries l left.0 in
         record { version = old.version; entry_is = entry_left l.digest left.1 ∙ old.entry_is; lies = old.lies };
+    kept = have_fewer HasCopy shelf.cache.kept s after was_live was_entry stands.kept;
   }
 
   -- another digest's copy lies where it lay
@@ -225,33 +257,8 @@ module _ {D : Type 0} (view : D → DiskView) (is_disk : (disk : D) → IsDisk (
   placed_with free queue placed = record {
     buffered = λ e l v is_live is_entry. placed.buffered e l v (was_live e l is_live) (was_entry e l v is_live is_entry);
     there = λ e l v is_live is_entry. placed.there e l v (was_live e l is_live) (was_entry e l v is_live is_entry);
+    kept = have_fewer HasRecord shelf.cache.kept s after was_live was_entry placed.kept;
   }
-    where
-      turned : (e : Digest) → same_digest digest e ≡ false → same_digest e digest ≡ false
-      turned e other = by (same_digest e digest) refl
-        where
-          by : (b : Bool) → same_digest e digest ≡ b → b ≡ false
-          by false is = refl
-          by true is = absurd (both_ways (same_digest digest e) other (subst (λ (d : Digest). same_digest digest d ≡ true) (sym (same_digest_is e digest is)) (same_digest_refl digest)))
-
-      live_own : (e : Digest) (ls : List Live) (l : Live) → live_of e ls ≡ Some l → e ≡ l.digest
-      live_own e [] l found = absurd (cc)
-      live_own e (m ∷ ls) l found = by (same_digest e m.digest) refl found (live_own e ls l)
-        where
-          by : (b : Bool) → same_digest e m.digest ≡ b → cond b (Some m) (live_of e ls) ≡ Some l → (live_of e ls ≡ Some l → e ≡ l.digest) → e ≡ l.digest
-          by true is found rest = let same : m ≡ l = cc in same_digest_is e m.digest is ∙ ap (λ (x : Live). x.digest) same
-          by false is found rest = rest found
-
-      apart : (e : Digest) (l : Live) → live_of e after.book.live ≡ Some l → same_digest digest e ≡ false
-      apart e l is_live =
-          let left = left_live setup s digest l (subst (λ (x : List Live). Contains x l) (dropped_lives setup s digest) (live_there e after.book.live l is_live)) in
-          subst (λ (d : Digest). same_digest digest d ≡ false) (sym (live_own e after.book.live l is_live)) left.1
-
-      was_live : (e : Digest) (l : Live) → live_of e after.book.live ≡ Some l → live_of e s.book.live ≡ Some l
-      was_live e l is_live = sym (others_live digest e s.book.live (turned e (apart e l is_live))) ∙ ap (live_of e) (sym (dropped_lives setup s digest)) ∙ is_live
-
-      was_entry : (e : Digest) (l : Live) (v : Version) → live_of e after.book.live ≡ Some l → entry after e ≡ Some v → entry s e ≡ Some v
-      was_entry e l v is_live is_entry = sym (entry_left e (apart e l is_live)) ∙ is_entry
 
   -- ---- the queue
 

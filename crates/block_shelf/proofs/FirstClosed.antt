@@ -16,6 +16,7 @@ use Rattle.recovery.proofs.Each.{all_map}
 use Rattle.recovery.proofs.Members.{first_there}
 use Rattle.recovery.proofs.Opening.{all_joined, all_parted}
 use Rattle.write_buffer.specs.Buffers.{BufferState}
+use Rattle.post_cache.specs.Bodies.{CacheState}
 use Rattle.hold_book.specs.Holds.{IsHeld}
 use Rattle.unit_ledger.specs.Rolls.{copies_in}
 use Rattle.kept_images.specs.Gates.{GateStands}
@@ -72,6 +73,7 @@ passed_shelf view shelf is = record {
   ready = is.ready;
   stand = is.stand;
   queue = is.queue;
+  cache = is.cache;
 }
 
 -- ---- its gate
@@ -79,13 +81,13 @@ passed_shelf view shelf is = record {
 pub first_below : {D : Type 0} (view : D → DiskView) (shelf : ShelfView D) → IsShelf view shelf → 0 < length shelf.free → first_block shelf.free < shelf.geometry.blocks
 first_below view shelf is some = (subst (AllByRecursion (λ b. b < shelf.geometry.blocks)) (first_and_rest shelf.free some) is.free).0
 
--- a shelf with other buffers, gates and free blocks
-pub same_parts : {D : Type 0} (shelf : ShelfView D) (disk : D) (next_number : ℕ) (bs cs : List BufferState) (gs hs : List Gate) (es fs : List ℕ) → bs ≡ cs → gs ≡ hs → es ≡ fs
-    → record shelf { disk = disk; buffers = bs; gates = gs; free = es; next_number = next_number } ≡ record shelf { disk = disk; buffers = cs; gates = hs; free = fs; next_number = next_number }
-same_parts shelf disk next_number bs cs gs hs es fs buffers gates free =
-    ap (λ (l : List BufferState). record shelf { disk = disk; buffers = l; gates = gs; free = es; next_number = next_number }) buffers
-    ∙ ap (λ (l : List Gate). record shelf { disk = disk; buffers = cs; gates = l; free = es; next_number = next_number }) gates
-    ∙ ap (λ (l : List ℕ). record shelf { disk = disk; buffers = cs; gates = hs; free = l; next_number = next_number }) free
+-- a shelf with other buffers, gates and free blocks, and with what is kept
+pub same_parts : {D : Type 0} (shelf : ShelfView D) (disk : D) (cache : CacheState BufferState) (next_number : ℕ) (bs cs : List BufferState) (gs hs : List Gate) (es fs : List ℕ) → bs ≡ cs → gs ≡ hs → es ≡ fs
+    → record shelf { disk = disk; buffers = bs; gates = gs; free = es; cache = cache; next_number = next_number } ≡ record shelf { disk = disk; buffers = cs; gates = hs; free = fs; cache = cache; next_number = next_number }
+same_parts shelf disk cache next_number bs cs gs hs es fs buffers gates free =
+    ap (λ (l : List BufferState). record shelf { disk = disk; buffers = l; gates = gs; free = es; cache = cache; next_number = next_number }) buffers
+    ∙ ap (λ (l : List Gate). record shelf { disk = disk; buffers = cs; gates = l; free = es; cache = cache; next_number = next_number }) gates
+    ∙ ap (λ (l : List ℕ). record shelf { disk = disk; buffers = cs; gates = hs; free = l; cache = cache; next_number = next_number }) free
 
 -- the calls that close the gate of a block, which is the first free one
 module _ {D : Type 0} (view : D → DiskView) (is_disk : (disk : D) → IsDisk (view disk)) (shelf : ShelfView D) (disk : D) (block : ℕ) (is : IsShelf view shelf) (some : 0 < length shelf.free) (at : block ≡ first_block shelf.free)

@@ -16,6 +16,8 @@ use Rattle.write_buffer.specs.Buffers.{BufferState, with_phase}
 use Rattle.hold_book.specs.Holds.{HoldState, without_buffer}
 use Rattle.unit_ledger.specs.Rolls.{rolled_use}
 use Rattle.defrag_queue.specs.Queues.{QueueState, considered}
+use Rattle.post_cache.specs.Bodies.{CacheState}
+use Rattle.block_shelf.specs.Changes.{with_flushed}
 use Rattle.block_shelf.specs.declared.place.ShelfLimits.{ShelfLimits}
 use Rattle.block_shelf.specs.Disks.{IsLater}
 use Rattle.block_shelf.specs.View.{ShelfView, IsShelf, IsBufferOf, IsSetupOf, SameShape, is_unsealed, is_written, gate_at}
@@ -49,13 +51,13 @@ first_later p sealed at buffers first = record {
 
 -- what leaves it out, by the buffer that was found
 pub without_first : {D : Type 0} (number at : ℕ) (old new : ShelfView D) (first : IsFirstAt at old.buffers) (bs : List BufferState) (b : BufferState) (holds : HoldState) (free : List ℕ) → bs ≡ first.sealed.front ++ first.sealed.behind → b ≡ first.sealed.buffer
-    → new ≡ record old { buffers = bs; holds = holds; free = free; queue = considered old.queue b.block (rolled_use b.block old.rolls) true } → holds.holds ≡ without_buffer old.holds.holds number → IsWithoutFirst number first.sealed old new
+    → new ≡ record old { buffers = bs; holds = holds; free = free; queue = considered old.queue b.block (rolled_use b.block old.rolls) true; cache = with_flushed b old.cache } → holds.holds ≡ without_buffer old.holds.holds number → IsWithoutFirst number first.sealed old new
 without_first {D} number at old new first bs b holds free left same is unheld = record {
   rest =
-      is ∙ ap (λ (l : List BufferState). record old { buffers = l; holds = holds; free = free; queue = considered old.queue b.block (rolled_use b.block old.rolls) true }) left
-      ∙ ap (λ (x : BufferState). record old { buffers = others; holds = holds; free = free; queue = considered old.queue x.block (rolled_use x.block old.rolls) true }) same
-      ∙ ap (λ (h : HoldState). record old { buffers = others; holds = h; free = free; queue = queue }) (sym holds_are)
-      ∙ ap (λ (l : List ℕ). record old { buffers = others; holds = new.holds; free = l; queue = queue }) (sym (ap (λ (v : ShelfView D). v.free) is));
+      is ∙ ap (λ (l : List BufferState). record old { buffers = l; holds = holds; free = free; queue = considered old.queue b.block (rolled_use b.block old.rolls) true; cache = with_flushed b old.cache }) left
+      ∙ ap (λ (x : BufferState). record old { buffers = others; holds = holds; free = free; queue = considered old.queue x.block (rolled_use x.block old.rolls) true; cache = with_flushed x old.cache }) same
+      ∙ ap (λ (h : HoldState). record old { buffers = others; holds = h; free = free; queue = queue; cache = cache }) (sym holds_are)
+      ∙ ap (λ (l : List ℕ). record old { buffers = others; holds = new.holds; free = l; queue = queue; cache = cache }) (sym (ap (λ (v : ShelfView D). v.free) is));
   unheld = ap (λ (h : HoldState). h.holds) holds_are ∙ unheld;
 }
   where
@@ -64,6 +66,9 @@ without_first {D} number at old new first bs b holds free left same is unheld = 
 
     queue : QueueState
     queue = considered old.queue first.sealed.buffer.block (rolled_use first.sealed.buffer.block old.rolls) true
+
+    cache : CacheState BufferState
+    cache = with_flushed first.sealed.buffer old.cache
 
     holds_are : new.holds ≡ holds
     holds_are = ap (λ (v : ShelfView D). v.holds) is
@@ -122,6 +127,7 @@ module _ {D : Type 0} (at : ℕ) (old : ShelfView D) (first : IsFirstAt at old.b
         holds = leaves_it.unheld;
         rolls = ap (λ (v : ShelfView D). v.rolls) leaves_it.rest;
         queue = ap (λ (v : ShelfView D). v.queue) leaves_it.rest;
+        cache = ap (λ (v : ShelfView D). v.cache) leaves_it.rest;
         next = ap (λ (v : ShelfView D). v.next_number) leaves_it.rest;
       }
 

@@ -12,7 +12,7 @@ use Rattle.unit_ledger.specs.Rolls.{spare_of}
 use Rattle.block_shelf.specs.declared.place.Place.{Place}
 use Rattle.block_shelf.specs.View.{ShelfView}
 use Rattle.block_shelf.specs.Changes.{StandsAt, CanTake, HasRoom, HasRoomAt, SameButRoom, begun_buffer, sealed_in, with_begun}
-use Rattle.block_shelf.specs.Appends.{ClosesFirst, PutsCopy, ready_for}
+use Rattle.block_shelf.specs.Appends.{BeginsInFirst, PutsCopy, ready_for}
 use Rattle.block_shelf.proofs.Appended.{put_is}
 
 pub told_room : (stream other : Stream) (n units : ℕ) (place at : ℕ) (buffers : List BufferState) → stream ≡ other → n ≡ units → at ≡ place → HasRoomAt stream n place buffers → HasRoomAt other units at buffers
@@ -54,19 +54,24 @@ can_in_new {D} stream units old begun mid at n is place count small space = reco
   space = subst (λ (x : ShelfView D). 1 ≤ spare_of (first_block old.free) x.rolls) (sym is) space;
 }
 
--- ---- the gates
+-- ---- the gates, and what is kept
 
-pub put_gates : {D : Type 0} (digest : Digest) (v : Version) (prior : Option Place) (front : List BufferState) (b : BufferState) (behind : List BufferState) (shelf new : ShelfView D) (place : Place) → PutsCopy digest v prior front b behind shelf new place → new.gates ≡ shelf.gates
-put_gates {D} digest v prior front b behind shelf new place put = ap (λ (x : ShelfView D). x.gates) (put_is digest v prior front b behind shelf new place put)
+abbrev pub KeepsBoth : {D : Type 0} → (old new : ShelfView D) → Type 0
+KeepsBoth old new = (new.gates ≡ old.gates) × (new.cache ≡ old.cache)
 
-pub gates_in_room : {D : Type 0} (stream : Stream) (units at : ℕ) (old mid new : ShelfView D) → SameButRoom old mid → HasRoomAt stream units at old.buffers → new.gates ≡ mid.gates → ClosesFirst stream units old new
-gates_in_room {D} stream units at old mid new same room gates = record {
-  in_room = λ has. gates ∙ ap (λ (x : ShelfView D). x.gates) same.rest;
+pub put_both : {D : Type 0} (digest : Digest) (v : Version) (prior : Option Place) (front : List BufferState) (b : BufferState) (behind : List BufferState) (shelf new : ShelfView D) (place : Place) → PutsCopy digest v prior front b behind shelf new place → KeepsBoth shelf new
+put_both {D} digest v prior front b behind shelf new place put =
+    let is = put_is digest v prior front b behind shelf new place put in
+    (ap (λ (x : ShelfView D). x.gates) is, ap (λ (x : ShelfView D). x.cache) is)
+
+pub both_in_room : {D : Type 0} (stream : Stream) (units at : ℕ) (old mid new : ShelfView D) → SameButRoom old mid → HasRoomAt stream units at old.buffers → KeepsBoth mid new → BeginsInFirst stream units old new
+both_in_room {D} stream units at old mid new same room both = record {
+  in_room = λ has. (both.0 ∙ ap (λ (x : ShelfView D). x.gates) same.rest, both.1 ∙ ap (λ (x : ShelfView D). x.cache) same.rest);
   in_new = λ none. absurd (none (at, room));
 }
 
-pub gates_in_new : {D : Type 0} (stream : Stream) (units : ℕ) (old begun mid new : ShelfView D) → mid ≡ with_begun stream (ready_for begun old) → (HasRoom stream units old.buffers → ⊥) → new.gates ≡ mid.gates → ClosesFirst stream units old new
-gates_in_new {D} stream units old begun mid new is none gates = record {
+pub both_in_new : {D : Type 0} (stream : Stream) (units : ℕ) (old begun mid new : ShelfView D) → mid ≡ with_begun stream (ready_for begun old) → (HasRoom stream units old.buffers → ⊥) → KeepsBoth mid new → BeginsInFirst stream units old new
+both_in_new {D} stream units old begun mid new is none both = record {
   in_room = λ has. absurd (none has);
-  in_new = λ never. gates ∙ ap (λ (x : ShelfView D). x.gates) is;
+  in_new = λ never. (both.0 ∙ ap (λ (x : ShelfView D). x.gates) is, both.1 ∙ ap (λ (x : ShelfView D). x.cache) is);
 }

@@ -17,7 +17,7 @@ use Rattle.unit_ledger.specs.Rolls.{BlockRoll, copies_in, copy_at}
 use Rattle.unit_ledger.proofs.Copies.{own_units-push}
 use Rattle.write_buffer.specs.declared.phase.Phase.TheVariants.{Filling}
 use Rattle.write_buffer.specs.Buffers.{BufferState, used_units, with_record}
-use Rattle.block_shelf.specs.View.{ShelfView, IsShelf, IsBufferOf, StandsBefore, StandInOrder, AreApart, IsRoll, ArePacked, WaitsShut, HasItsBody, is_written}
+use Rattle.block_shelf.specs.View.{ShelfView, IsShelf, IsBufferOf, IsCacheOf, StandsBefore, StandInOrder, AreApart, IsRoll, ArePacked, WaitsShut, HasItsBody, is_written}
 use Rattle.block_shelf.specs.Changes.{with_written, rolls_with}
 use Rattle.block_shelf.proofs.Blocks.{apart_from}
 use Rattle.block_shelf.proofs.Rolls.{roll_here, roll_there}
@@ -171,6 +171,7 @@ module _ {D : Type 0} (view : D → DiskView) (shelf : ShelfView D) (digest : Di
     order = order_more b digest v behind front (subst StandInOrder parts is.order);
     free = is.free;
     apart = subst (λ (l : List ℕ). AreApart (l ++ shelf.free)) (ap (map (λ c. c.block)) parts ∙ sym (blocks_same b digest v behind front)) is.apart;
+    cache = subst (λ (l : List ℕ). IsCacheOf shelf.geometry shelf.limits l shelf.cache) (ap (map (λ c. c.block)) parts ∙ sym (blocks_same b digest v behind front)) is.cache;
     gates = is.gates;
     rolls = length-set shelf.rolls b.block _ ∙ is.rolls;
     each = roll_at;

@@ -1,8 +1,9 @@
 -- A copy is appended to a buffer that takes it.
-use Rattle.std.proofs.Common.{◌≡◌, ◌≢◌, ℕ, ◌+◌, ◌*◌, ◌<◌, Bool, true, false, List, ◌∷◌, ◌++◌, refl, sym, ◌∙◌, ap, subst}
-use Rattle.std.specs.Prelude.{Option, Some}
+use Rattle.std.proofs.Common.{◌≡◌, ◌≢◌, ℕ, ◌+◌, ◌*◌, ◌<◌, Bool, true, false, List, ◌∷◌, ◌++◌, map, refl, sym, ◌∙◌, ap, subst}
+use Rattle.std.specs.Prelude.{Option, Some, None}
 use Rattle.std.specs.List.{AllByRecursion}
 use Rattle.std.proofs.lemmas.Bool.{cond-true, cond-false}
+use Rattle.std.proofs.lemmas.List.{map-append}
 use Rattle.disk_model.specs.Disk.{DiskView}
 use Rattle.rec_format.specs.declared.version.Digest.{Digest}
 use Rattle.rec_format.specs.declared.version.Version.{Version}
@@ -18,15 +19,18 @@ use Rattle.write_buffer.specs.Buffers.{BufferState, used_units, with_record}
 use Rattle.unit_ledger.specs.Rolls.{BlockRoll, copies_in}
 use Rattle.hold_book.specs.Holds.{HoldState}
 use Rattle.defrag_queue.specs.Queues.{QueueState}
+use Rattle.post_cache.specs.Bodies.{CacheState, kept_at}
+use Rattle.post_cache.proofs.Laws.{absent-all}
 use Rattle.kept_trail.proofs.Books.{others_live}
 use Rattle.block_shelf.specs.declared.place.Class.{Class}
 use Rattle.block_shelf.specs.declared.place.Place.{Place}
 use Rattle.block_shelf.specs.View.{ShelfView, IsShelf, IsRoll, IsSetupOf, records_of, gate_at}
-use Rattle.block_shelf.specs.Standing.{StandsBehind, StandsFor, IsPlaced, ImagesHold}
+use Rattle.block_shelf.specs.Standing.{HasCopy, HasRecord, StandsBehind, StandsFor, IsPlaced, ImagesHold}
 use Rattle.block_shelf.specs.Calls.{prior_live}
 use Rattle.block_shelf.specs.Changes.{with_written}
 use Rattle.block_shelf.specs.Appends.{IsCopyOf, IsExact, MayBeCopied, Puts}
 use Rattle.block_shelf.proofs.Copied.{IsCopied, copied, is_copied, copied_holds}
+use Rattle.block_shelf.proofs.Keeping.{have_copied}
 use Rattle.block_shelf.proofs.OneRecord.{OneBuffer, OwnBlock, one_buffer, own_block}
 use Rattle.block_shelf.proofs.Placed.{IsGone, replaces_from}
 use Rattle.block_shelf.proofs.Readied.{new_live, after_live, book_is}
@@ -36,7 +40,7 @@ use Rattle.block_shelf.proofs.Written.{Holding, stands_after, stands_before, sta
 
 module _ {D : Type 0} (view : D → DiskView) (setup : Setup) (kind : Class) (s : State) (digest : Digest) (v : Version) (shelf : ShelfView D)
     (is : IsShelf view shelf) (stands : StandsFor setup shelf s) (setup_is : IsSetupOf setup shelf) (is_copy : IsCopyOf kind s digest v)
-    {ready : Book} {free : List ℕ} {next_number : ℕ} {front : List BufferState} {b : BufferState} {behind : List BufferState} (taker : IsTaker view setup kind s digest v shelf ready free next_number front b behind)
+    {ready : Book} {free : List ℕ} {cache : CacheState BufferState} {next_number : ℕ} {front : List BufferState} {b : BufferState} {behind : List BufferState} (taker : IsTaker view setup kind s digest v shelf ready free cache next_number front b behind)
     (prior : Option Place) (live : live_of digest s.book.live ≡ prior_live digest prior)
     (rolls : List BlockRoll) (holds : HoldState) (gone : IsGone digest shelf.rolls rolls) (holding : Holding b.number (live_of digest s.book.live) shelf.holds.holds holds.holds) where
   abbrev t : State
@@ -44,7 +48,7 @@ module _ {D : Type 0} (view : D → DiskView) (setup : Setup) (kind : Class) (s 
 
   -- the shelf behind it, before the block of the copy before is considered, and then
   abbrev mid : ShelfView D
-  mid = with_written digest v front b behind (record (with_buffers (front ++ b ∷ behind) free next_number shelf) { rolls = rolls; holds = holds })
+  mid = with_written digest v front b behind (record (with_buffers (front ++ b ∷ behind) free cache next_number shelf) { rolls = rolls; holds = holds })
 
   abbrev new : ShelfView D
   new = record mid { queue = queue_behind prior mid }
@@ -52,8 +56,8 @@ module _ {D : Type 0} (view : D → DiskView) (setup : Setup) (kind : Class) (s 
   made : IsCopied setup kind s digest v
   made = is_copied setup shelf s stands kind digest v is_copy
 
-  one : OneBuffer (with_buffers (front ++ b ∷ behind) free next_number shelf) b
-  one = one_buffer view (with_buffers (front ++ b ∷ behind) free next_number shelf) front b behind taker.is refl
+  one : OneBuffer (with_buffers (front ++ b ∷ behind) free cache next_number shelf) b
+  one = one_buffer view (with_buffers (front ++ b ∷ behind) free cache next_number shelf) front b behind taker.is refl
 
   own : OwnBlock b.block front behind free
   own = own_block front b behind free taker.is.apart
@@ -75,6 +79,12 @@ module _ {D : Type 0} (view : D → DiskView) (setup : Setup) (kind : Class) (s 
   some_version : (x y : Version) → Some x ≡ Some y → x ≡ y
   some_version x y eq = cc
 
+  -- nothing is kept of its block
+  unkept : AllByRecursion (λ k. k.block ≢ b.block) cache.kept
+  unkept = absent-all b.block cache.kept
+      (all_parted (λ n. kept_at n cache.kept ≡ None) (map (λ c. c.block) front) (b.block ∷ map (λ c. c.block) behind)
+      (subst (AllByRecursion (λ n. kept_at n cache.kept ≡ None)) (map-append (λ (c : BufferState). c.block) front (b ∷ behind)) taker.is.cache.apart)).1.0
+
   -- the live copy of the digest is the new one
   here : (e : Digest) (l : Live) → same_digest e digest ≡ true → live_of e t.book.live ≡ Some l → new_live digest v b ≡ l
   here e l same is_live = some_same (new_live digest v b) l (sym live_here ∙ subst (λ (d : Digest). live_of d t.book.live ≡ Some l) (same_digest_is e digest same) is_live)
@@ -83,9 +93,10 @@ module _ {D : Type 0} (view : D → DiskView) (setup : Setup) (kind : Class) (s 
   placed_after exact was = record {
     buffered = λ e l w is_live is_entry. stands_there e l w is_live is_entry (same_digest e digest) refl;
     there = λ e l w is_live is_entry none c image. lies e l w is_live is_entry none c image (same_digest e digest) refl;
+    kept = have_copied HasRecord cache.kept s t digest (new_live digest v b) live_here unkept live_there made.entry_there placed.kept;
   }
     where
-      placed : IsPlaced view (with_buffers (front ++ b ∷ behind) free next_number shelf) s
+      placed : IsPlaced view (with_buffers (front ++ b ∷ behind) free cache next_number shelf) s
       placed = taker.placed was
 
       stands_there : (e : Digest) (l : Live) (w : Version) → live_of e t.book.live ≡ Some l → entry t e ≡ Some w → (x : Bool) → same_digest e digest ≡ x
@@ -121,6 +132,7 @@ module _ {D : Type 0} (view : D → DiskView) (setup : Setup) (kind : Class) (s 
   stand_then x =
       stands_after made shelf (record mid { queue = x }) taker.readied stands taker.appends refl
       (replaces_from digest shelf.rolls rolls b.block _ (subst (λ (n : ℕ). b.block < n) (sym is.rolls) one.is.block) gone) holding taker.entries one.is.block taker.room (own.front, own.behind)
+      (have_copied HasCopy cache.kept s t digest (new_live digest v b) live_here unkept live_there made.entry_there taker.kept)
 
   pub puts : ((k : ℕ) → IsRoll (copies_in k mid.rolls)) → Puts view setup kind digest v shelf s new (record { block = b.block; unit = used_units b; units = version_units v })
   puts each = record {

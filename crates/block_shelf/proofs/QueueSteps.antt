@@ -244,4 +244,5 @@ queue_shelf view shelf queue is queue_is = record {
   ready = is.ready;
   stand = is.stand;
   queue = queue_is;
+  cache = is.cache;
 }

@@ -37,10 +37,11 @@ module _ {D : Type 0} (old new : ShelfView D) (same : SameButRoom old new) where
     listed = stands.listed;
     order = stands.order;
     entries = stands.entries;
+    kept = stands.kept;
   })
 
   pub room_placed : (view : D → DiskView) (s : State) → IsPlaced view old s → IsPlaced view new s
-  room_placed view s placed = subst (λ (x : ShelfView D). IsPlaced view x s) (sym same.rest) (record { buffered = placed.buffered; there = placed.there })
+  room_placed view s placed = subst (λ (x : ShelfView D). IsPlaced view x s) (sym same.rest) (record { buffered = placed.buffered; there = placed.there; kept = placed.kept })
 
   pub room_queued : (setup : Setup) (s : State) → QueueStands setup old s → QueueStands setup new s
   room_queued setup s queued = subst (λ (x : ShelfView D). QueueStands setup x s) (sym same.rest) (record { same = queued.same; all = queued.all })

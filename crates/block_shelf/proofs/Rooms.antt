@@ -46,4 +46,5 @@ roomed_shelf view shelf rolls holds is same held = record {
   ready = is.ready;
   stand = is.stand;
   queue = is.queue;
+  cache = is.cache;
 }

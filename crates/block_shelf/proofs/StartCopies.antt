@@ -68,9 +68,10 @@ module _ (copies : List Copy) (look : Digest → Option Copy) (s : State) (shows
       by None is there same = absurd (cc)
       by (Some c) is there same = (c, is, record { live_is = cc; listed = there.0; named = same_digest_is d c.digest there.1 })
 
-  shown_placed : {D : Type 0} (view : D → DiskView) (shelf : ShelfView D) → shelf.buffers ≡ [] → AllHave shelf.geometry (view shelf.disk).may_leave copies → IsPlaced view shelf s
-  shown_placed view shelf unbuffered have = record {
+  shown_placed : {D : Type 0} (view : D → DiskView) (shelf : ShelfView D) → shelf.buffers ≡ [] → shelf.cache.kept ≡ [] → AllHave shelf.geometry (view shelf.disk).may_leave copies → IsPlaced view shelf s
+  shown_placed view shelf unbuffered unkept have = record {
     buffered = λ d l v live version. subst (AllByRecursion (λ b. b.block ≡ l.block → StandsBehind l.unit d v b.records)) (sym unbuffered) tt;
+    kept = λ d l v live version. subst (AllByRecursion (λ k. k.block ≡ l.block → StandsBehind l.unit d v k.body.records)) (sym unkept) tt;
     there = λ d l v live version none image left.
         let one = live_copied d l live in
         let c = one.0 in
@@ -133,8 +134,8 @@ module _ (setup : Setup) (found : List Copy) (next_number : ℕ) where
   unfolding entries_state cold_book refreshed
   entries_lives = refl
 
-  pub entries_placed : {D : Type 0} (view : D → DiskView) (shelf : ShelfView D) → shelf.buffers ≡ [] → AllHave shelf.geometry (view shelf.disk).may_leave found → IsPlaced view shelf (entries_state setup found next_number)
-  entries_placed view shelf unbuffered have = shown_placed found (find_copy found) (entries_state setup found next_number) entries_show view shelf unbuffered have
+  pub entries_placed : {D : Type 0} (view : D → DiskView) (shelf : ShelfView D) → shelf.buffers ≡ [] → shelf.cache.kept ≡ [] → AllHave shelf.geometry (view shelf.disk).may_leave found → IsPlaced view shelf (entries_state setup found next_number)
+  entries_placed view shelf unbuffered unkept have = shown_placed found (find_copy found) (entries_state setup found next_number) entries_show view shelf unbuffered unkept have
 
 -- ---- a start from a sound image
 
@@ -238,7 +239,7 @@ module _ {D : Type 0} (view : D → DiskView) (disk : D) (g : Geometry) (limits 
       pub start_placed : IsPlaced view shelf (start_state setup bodies)
       start_placed =
           subst (λ (v : ShelfView D). IsPlaced view v (start_state setup bodies)) (sym starts.parts)
-          (shown_placed (copies_of bodies) (λ d. cold_copy d (copies_of bodies)) (start_state setup bodies) (start_show setup image bodies sound) view _ refl (all_have setup image bodies sound g shape is_g (view disk).may_leave only))
+          (shown_placed (copies_of bodies) (λ d. cold_copy d (copies_of bodies)) (start_state setup bodies) (start_show setup image bodies sound) view _ refl refl (all_have setup image bodies sound g shape is_g (view disk).may_leave only))
 
       pub start_safe : GatesStand g (view disk).may_leave gates → AreSure g (gate_at gates) → ImagesHold setup view shelf (start_state setup bodies)
       start_safe stand sure =

@@ -187,7 +187,7 @@ module _ (setup : Setup) (g : Geometry) (live : List (Digest × Place)) (can : C
 
   module _ {D : Type 0} (disk : D) (limits : ShelfLimits) (gates : List Gate) (shelf : ShelfView D) (starts : StartsWith disk g limits gates live next_number shelf) (s : State) (is_book : s.book ≡ begun) where
     abbrev alike : ShelfView D
-    alike = record { disk = disk; geometry = g; limits = limits; buffers = []; gates = gates; rolls = shelf.rolls; holds = shelf.holds; free = blocks_without live g.blocks; queue = shelf.queue; next_number = next_number }
+    alike = record { disk = disk; geometry = g; limits = limits; buffers = []; gates = gates; rolls = shelf.rolls; holds = shelf.holds; free = blocks_without live g.blocks; queue = shelf.queue; cache = shelf.cache; next_number = next_number }
 
     holds_same : HoldsSame shelf.holds.holds begun
     holds_same = record {
@@ -238,6 +238,7 @@ module _ (setup : Setup) (g : Geometry) (live : List (Digest × Place)) (can : C
       listed = subst (IsListed setup) (sym is_book) begun_listed;
       order = order;
       entries = λ l there. of_entry versions l (subst (λ (x : List Live). Contains x l) (ap (λ (b : Book). b.live) is_book ∙ cold_lives setup lives next_number) there);
+      kept = λ e l v is_live is_entry. tt;
     })
 
     -- ---- the queue

@@ -26,7 +26,7 @@ use Rattle.block_shelf.specs.declared.refusals.PutRefusal.TheVariants as put
 use Rattle.block_shelf.specs.View.{ShelfView, gate_at}
 use Rattle.block_shelf.specs.Standing.{StandsFor, QueueStands, ImagesHold, IsPlaced, book_stream}
 use Rattle.block_shelf.specs.Calls.{copy_live}
-use Rattle.block_shelf.specs.Changes.{HasRoom, SameButRoom, without_copy, with_written, with_requeued, with_gate_known}
+use Rattle.block_shelf.specs.Changes.{HasRoom, SameButRoom, without_copy, without_kept, with_written, with_requeued, with_gate_known}
 
 -- so many units in a block of the device
 abbrev pub IsPlaceFor : Geometry → (units : ℕ) → Place → Type 0
@@ -127,10 +127,12 @@ refused_steps (put.Space free) = []
 refused_steps put.Memory = []
 refused_steps put.Fault = closing_failed ∷ []
 
--- what is known of gates behind an append: as before where there was room, and else the gate of the first free block is shut
-pub record ClosesFirst {D : Type 0} (stream : Stream) (units : ℕ) (old new : ShelfView D) : Type 0 where
-  pub in_room : HasRoom stream units old.buffers → new.gates ≡ old.gates
-  pub in_new : (HasRoom stream units old.buffers → ⊥) → new.gates ≡ slice_set old.gates (first_block old.free) Shut
+-- what is known of gates, and what is kept of flushed buffers, behind an append: as before where there was room; else the gate of the first
+-- free block is shut, and what was kept of the block is forgotten
+pub record BeginsInFirst {D : Type 0} (stream : Stream) (units : ℕ) (old new : ShelfView D) : Type 0 where
+  pub in_room : HasRoom stream units old.buffers → (new.gates ≡ old.gates) × (new.cache ≡ old.cache)
+  pub in_new : (HasRoom stream units old.buffers → ⊥)
+      → (new.gates ≡ slice_set old.gates (first_block old.free) Shut) × (new.cache ≡ without_kept (first_block old.free) old.cache)
 
 -- ---- the copy
 

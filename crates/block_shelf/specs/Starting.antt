@@ -58,7 +58,8 @@ blocks_without live blocks = filter (λ b. not (list_any (λ x. x.1.block == b) 
 abbrev pub blocks_below : List (Digest × Place) → Geometry → (lwm : ℕ) → List ℕ
 blocks_below live g lwm = filter (λ b. is_below_mark (block_capacity g.block_size) lwm (sum_by (λ c. c.units) (copies_at b live)) true) (range_with_len 0 g.blocks)
 
--- No buffer, no hold, and these copies are live; the blocks in which none lies are free, and those of little use are queued.
+-- No buffer, no hold, nothing is kept of flushed buffers, and these copies are live; the blocks in which none lies are free, and those of
+-- little use are queued.
 pub record StartsWith {D : Type 0} (disk : D) (g : Geometry) (limits : ShelfLimits) (gates : List Gate) (live : List (Digest × Place)) (next_number : ℕ) (shelf : ShelfView D) : Type 0 where
   pub parts : shelf ≡ record {
     disk = disk;
@@ -70,6 +71,7 @@ pub record StartsWith {D : Type 0} (disk : D) (g : Geometry) (limits : ShelfLimi
     holds = shelf.holds;
     free = blocks_without live g.blocks;
     queue = shelf.queue;
+    cache = record { kept = []; limit = limits.cache };
     next_number = next_number;
   }
   pub copies : (block : ℕ) → copies_in block shelf.rolls ≡ copies_at block live

@@ -77,7 +77,8 @@ impl<D: Disk> Shelf<D> {
         Ok(())
     }
 
-    // This buffer, an empty one of the first free block, comes behind the others, and those of its stream are sealed. Before that the gate
+    // This buffer, an empty one of the first free block, comes behind the others, those of its stream are sealed, and what is kept of the block
+    // is forgotten. Before that the gate
     // of the block is closed, unless it is known to be shut. Only a place in the list is asked for, and that before the disk is called.
     fn begin_with(&mut self, buffer: Buffer) -> Result<(), PutRefusal>
         requires buffer { buffer ≡ begun_buffer buffer.stream self.old }
@@ -108,6 +109,7 @@ impl<D: Disk> Shelf<D> {
         seal_each(&mut self.buffers, stream);
         self.buffers.push_reserved(buffer);
         self.free.pop_front();
+        self.cache.forget(block);
         self.next_number += 1;
         Ok(())
     }

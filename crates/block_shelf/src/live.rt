@@ -24,6 +24,7 @@ impl<D: Disk> Shelf<D> {
         ensures dropped { (setup : Setup) (s : State) (digest : DigestValue) → IsSetupOf setup self.old → StandsFor setup self.old s
             → Contains s.book.live (copy_live digest place) → entry_is_covered s digest ≡ false → Goes D.view setup (removed digest ∷ []) self.old s self.new }
         ensures disk { self.new.disk ≡ self.old.disk }
+        ensures cache { self.new.cache ≡ self.old.cache }
         ensures shape { SameShape self.old self.new }
     {
         self.take_live(place);

@@ -1,5 +1,5 @@
 // How a shelf begins.
-ghost use Rattle.std.specs.Prelude.{◌≡◌, ◌+◌, ◌≤◌, ◌==◌, ℕ, true, List, length, filter, IfOk, MatchResult};
+ghost use Rattle.std.specs.Prelude.{◌≡◌, ◌+◌, ◌≤◌, ◌==◌, ℕ, true, List, [], length, filter, IfOk, MatchResult};
 ghost use Rattle.std.specs.List.{range_with_len};
 ghost use Rattle.std.specs.VecDeque.{deque_capacity};
 ghost use Rattle.disk_model.specs.Disk.{IsHonest, IsOnly};
@@ -21,10 +21,12 @@ use block_format::{Gate, Geometry, capacity};
 use defrag_queue::Queue;
 use disk_model::Disk;
 use hold_book::HoldBook;
+use post_cache::Cache;
 use rec_format::Digest;
 use std::alloc::Global;
 use std::collections::VecDeque;
 use unit_ledger::Ledger;
+use write_buffer::Buffer;
 
 // The ledger of a device, in which these copies are live.
 fn ledger_of(
@@ -78,19 +80,20 @@ fn queue_of(
     Ok(queue)
 }
 
-// What a shelf keeps in memory from its start on: its live copies, its free blocks, with room for all, and the blocks that are to be
-// vacated.
+// What a shelf keeps in memory from its start on: its live copies, its free blocks, with room for all, the blocks that are to be vacated,
+// and no flushed buffer, with room for as many as may be kept.
 #[derive(Drop)]
 struct Kept {
     ledger: Ledger,
     free: VecDeque<u32>,
     queue: Queue,
+    cache: Cache<Buffer>,
 }
 
 fn kept_of(
     alloc: Global,
     geometry: &Geometry,
-    lwm: u32,
+    limits: &ShelfLimits,
     live: &[(Digest, Place)],
 ) -> Result<Kept, NoMemory>
     requires geometry { IsGeometry geometry.now }
@@ -99,22 +102,25 @@ fn kept_of(
     ensures copies { IfOk result (λ kept. (block : ℕ) → copies_in block kept.ledger ≡ copies_at block live.now) }
     ensures free { IfOk result (λ kept. kept.free.items ≡ blocks_without live.now geometry.now.blocks) }
     ensures memory { IfOk result (λ kept. geometry.now.blocks ≤ deque_capacity kept.free) }
-    ensures shape { IfOk result (λ kept. (kept.queue.blocks ≡ geometry.now.blocks) × (kept.queue.capacity ≡ block_capacity geometry.now.block_size) × (kept.queue.lwm ≡ lwm)) }
-    ensures queue { IfOk result (λ kept. kept.queue.queue ≡ filter (λ b. is_below_mark (block_capacity geometry.now.block_size) lwm (rolled_use b kept.ledger) true) (range_with_len 0 geometry.now.blocks)) }
+    ensures shape { IfOk result (λ kept. (kept.queue.blocks ≡ geometry.now.blocks) × (kept.queue.capacity ≡ block_capacity geometry.now.block_size) × (kept.queue.lwm ≡ limits.now.lwm)) }
+    ensures queue { IfOk result (λ kept. kept.queue.queue ≡ filter (λ b. is_below_mark (block_capacity geometry.now.block_size) limits.now.lwm (rolled_use b kept.ledger) true) (range_with_len 0 geometry.now.blocks)) }
+    ensures cache { IfOk result (λ kept. kept.cache ≡ record { kept = []; limit = limits.now.cache }) }
 {
     let ledger = ledger_of(alloc, geometry, live)?;
     let free = unused_blocks(alloc, geometry.blocks, &ledger)?;
-    let queue = queue_of(alloc, geometry, lwm, &ledger)?;
+    let queue = queue_of(alloc, geometry, limits.lwm, &ledger)?;
+    let cache = Cache::new(alloc, limits.cache)?;
     Ok(Kept {
         ledger,
         free,
         queue,
+        cache,
     })
 }
 
 impl<D: Disk> Shelf<D> {
-    /// The shelf of a device behind a start: these copies are live, no block has a buffer and none is held, and the blocks without a
-    /// live copy are free, the lowest first; those of little use wait to be vacated, the lowest first. There is one gate for each block.
+    /// The shelf of a device behind a start: these copies are live, no block has a buffer and none is held, no flushed buffer is kept, and
+    /// the blocks without a live copy are free, the lowest first; those of little use wait to be vacated, the lowest first. There is one gate for each block.
     /// All memory is taken that a later call may not ask for. No call of the disk is made, and for want of memory it comes back as it was.
     pub fn new(
         alloc: Global,
@@ -148,7 +154,7 @@ impl<D: Disk> Shelf<D> {
         ensures safe { IsHonest (D.view disk) → AreSure geometry (gate_at gates.items) → IfOk result (λ shelf. (setup : Setup) (image : List ℕ) (bodies : List Body) → IsSetupOf setup shelf
             → IsSound setup image bodies → IsOnly image (D.view disk).may_leave → IsPlaced D.view shelf (start_state setup bodies) × ImagesHold setup D.view shelf (start_state setup bodies)) }
     {
-        let kept = match kept_of(alloc, &geometry, limits.lwm, live) {
+        let kept = match kept_of(alloc, &geometry, &limits, live) {
             Ok(kept) => kept,
             Err(error) => return Err((disk, error)),
         };
@@ -156,6 +162,7 @@ impl<D: Disk> Shelf<D> {
             ledger,
             free,
             queue,
+            cache,
         } = kept;
         Ok(Shelf {
             disk,
@@ -167,6 +174,7 @@ impl<D: Disk> Shelf<D> {
             holds: HoldBook::new(alloc),
             free,
             queue,
+            cache,
             next_number,
         })
     }

@@ -1,21 +1,25 @@
 // How the record of one entry is moved.
-ghost use Rattle.std.specs.Prelude.{◌≡◌, ◌+◌, ◌<◌, ◌≤◌, false, None, Some, Ok, Err, IfOk, IfErr, MatchResult};
+ghost use Rattle.std.specs.Prelude.{◌≡◌, ◌+◌, ◌<◌, ◌≤◌, false, None, Some, Ok, Err, Contains, IfOk, IfErr, MatchResult};
 ghost use Rattle.fault_count.specs.Counts.{Rose};
 ghost use Rattle.disk_model.specs.Disk.{IsHonest};
 ghost use Rattle.rec_format.specs.Entries.{Names};
 ghost use Rattle.rec_format.specs.Places.{device_number};
 ghost use Rattle.rec_format.specs.Versions.{IsVersion, block_capacity};
 ghost use Rattle.rec_format.specs.declared.version.Version.{Version};
-ghost use Rattle.device_model.specs.Book.{Setup, defrag, live_of};
+ghost use Rattle.rec_format.specs.declared.entry.Entry.{Entry};
+ghost use Rattle.device_model.specs.Book.{Setup, defrag, first_block, live_of};
 ghost use Rattle.device_model.specs.Device as device;
 ghost use Rattle.device_model.specs.Device.{State, part_of};
 ghost use Rattle.device_model.specs.Events.{Answer, move_call};
 ghost use Rattle.device_model.specs.Legal.{move_reserve, no_place};
+ghost use Rattle.block_format.specs.declared.geometry.Gate.TheVariants.{Shut};
+ghost use Rattle.write_buffer.specs.Buffers.{BufferState};
+ghost use Rattle.sprig_tree.specs.Entries.{entry_of};
 ghost use Rattle.part_laws.specs.Becoming.{moved_to};
 ghost use Rattle.block_shelf.specs.Calls.{copy_live};
 ghost use Rattle.block_shelf.specs.Disks.{IsLater, OnlyRead};
 ghost use Rattle.block_shelf.specs.Standing.{StandsFor, IsPlaced};
-ghost use Rattle.block_shelf.specs.View.{IsSetupOf, SameShape};
+ghost use Rattle.block_shelf.specs.View.{IsSetupOf, SameShape, gate_at, in_memory};
 ghost use Rattle.shard_steps.specs.Standing.{StandTogether};
 ghost use Rattle.shard_steps.specs.Sprigs.{SameSprig, place_of};
 ghost use Rattle.shard_steps.specs.Events.{StepMakes};
@@ -31,8 +35,8 @@ use std::alloc::Global;
 
 /// Moves the record of a digest out of a block, byte for byte, over the digest's sprig and the shelf: its copy goes to the buffer of moved
 /// records, and holds the block until that buffer is flushed. The entry has the new place, and keeps its mark and its cover flag. False
-/// exactly where the digest's entry isn't in the block. Whether there is room is asked before the record is read. After a refusal the
-/// entry is as before, and so is the shelf, but for memory that was taken, and for a first free block whose gate couldn't be closed.
+/// exactly where the digest's entry isn't in the block. Whether there is room is asked before the record is read, which takes no call of the
+/// disk where the block's flushed buffer is kept. After a refusal the entry is as before, and so is the shelf, but for memory that was taken, and for a first free block whose gate couldn't be closed.
 pub fn move_one<D: Disk>(
     alloc: Global,
     sprig: &mut Sprig,
@@ -45,6 +49,10 @@ pub fn move_one<D: Disk>(
     ensures makes { (setup : Setup) (s : State) → IsSetupOf setup shelf.old → StandTogether setup (part_of setup digest.now) sprig.old shelf.old s
         → (answer : Answer) × Answers result answer × StepMakes D.view setup (part_of setup digest.now) (move_call digest.now block) answer shelf.old s sprig.new shelf.new }
     ensures elsewhere { result ≡ Ok false → (sprig.new ≡ sprig.old) × (shelf.new ≡ shelf.old) }
+
+    // What is in memory is moved without a call of the disk, but where a buffer begins behind a gate that isn't known to be shut.
+    ensures in_memory { (e : Entry) (b : BufferState) → entry_of digest.now sprig.old.entries ≡ Some e → Contains (in_memory shelf.old) b → b.block ≡ e.block
+        → gate_at shelf.old.gates (first_block shelf.old.free) ≡ Shut → shelf.new.disk ≡ shelf.old.disk }
     ensures refused { IfErr result (λ refusal. SameSprig sprig.old sprig.new) }
     ensures cause { result ≡ Err MoveRefusal.Fault → Rose (D.view shelf.old.disk).faults (D.view shelf.new.disk).faults }
     ensures later { IsLater (D.view shelf.old.disk) (D.view shelf.new.disk) }
@@ -87,6 +95,8 @@ fn read_for<D: Disk>(
         → live_of entry.now.digest s.book.live ≡ Some (copy_live entry.now.digest place) → device.entry s entry.now.digest ≡ Some v → Names entry.now v
         → MatchResult result (λ version. version ≡ v) IsUndamaged }
     ensures cause { result ≡ Err MoveRefusal.Fault → Rose (D.view shelf.old.disk).faults (D.view shelf.new.disk).faults }
+    ensures kept { (setup : Setup) (s : State) (v : Version) (b : BufferState) → StandsFor setup shelf.old s → live_of entry.now.digest s.book.live ≡ Some (copy_live entry.now.digest place)
+        → device.entry s entry.now.digest ≡ Some v → Names entry.now v → Contains (in_memory shelf.old) b → b.block ≡ place.block → shelf.new ≡ shelf.old }
     ensures disk { OnlyRead (D.view shelf.old.disk) (D.view shelf.new.disk) }
     ensures same { shelf.new ≡ record shelf.old { disk = shelf.new.disk } }
 {

@@ -8,14 +8,14 @@ use Rattle.post_cache.specs.Bodies.{KeptBody, CacheState, kept_at, without_block
 
 -- ---- one block less
 
-pub kept_at-without_same : (b : ℕ) (ks : List KeptBody) → kept_at b (without_block b ks) ≡ None
+pub kept_at-without_same : {B : Type 0} → (b : ℕ) (ks : List (KeptBody B)) → kept_at b (without_block b ks) ≡ None
 kept_at-without_same b [] = refl
 kept_at-without_same b (k ∷ ks) =
     let rest = kept_at-without_same b ks in
     cond_both (not (eqb k.block b)) (k ∷ without_block b ks) (without_block b ks) (λ l. kept_at b l ≡ None)
     (λ e. cond-false (eqb k.block b) (Some k) (kept_at b (without_block b ks)) (not-true (eqb k.block b) e) ∙ rest) (λ _. rest)
 
-pub kept_at-without_other : (o b : ℕ) → (o ≡ b → ⊥) → (ks : List KeptBody) → kept_at o (without_block b ks) ≡ kept_at o ks
+pub kept_at-without_other : {B : Type 0} → (o b : ℕ) → (o ≡ b → ⊥) → (ks : List (KeptBody B)) → kept_at o (without_block b ks) ≡ kept_at o ks
 kept_at-without_other o b other [] = refl
 kept_at-without_other o b other (k ∷ ks) =
     let rest = kept_at-without_other o b other ks in
@@ -24,54 +24,54 @@ kept_at-without_other o b other (k ∷ ks) =
     (λ e. rest ∙ sym (cond-false (eqb k.block o) (Some k) (kept_at o ks)
     (ne_eqb k.block o (λ same. other (sym same ∙ eqb-true k.block b (not-false (eqb k.block b) e))))))
 
-absent-without : (o b : ℕ) (ks : List KeptBody) → kept_at o ks ≡ None → kept_at o (without_block b ks) ≡ None
+pub absent-without : {B : Type 0} → (o b : ℕ) (ks : List (KeptBody B)) → kept_at o ks ≡ None → kept_at o (without_block b ks) ≡ None
 absent-without o b ks absent =
     ⊎_elim (λ (e : o ≡ b). subst (λ n. kept_at o (without_block n ks) ≡ None) e (kept_at-without_same o ks))
     (λ (ne : o ≡ b → ⊥). kept_at-without_other o b ne ks ∙ absent) (cases_eq o b)
 
-pub own-without : (b : ℕ) (ks : List KeptBody) → KeepOwnBlocks ks → KeepOwnBlocks (without_block b ks)
+pub own-without : {B : Type 0} → (b : ℕ) (ks : List (KeptBody B)) → KeepOwnBlocks ks → KeepOwnBlocks (without_block b ks)
 own-without b [] own = tt
 own-without b (k ∷ ks) own =
     let rest = own-without b ks own.1 in
     cond_both (not (eqb k.block b)) (k ∷ without_block b ks) (without_block b ks) KeepOwnBlocks
     (λ _. (absent-without k.block b ks own.0, rest)) (λ _. rest)
 
-pub IsCache-without_block : (b : ℕ) (s : CacheState) → IsCache s → IsCache (record { kept = without_block b s.kept; limit = s.limit })
-IsCache-without_block b s is =
-    let p = λ (k : KeptBody). not (eqb k.block b) in
+pub IsCache-without_block : {B : Type 0} → (b : ℕ) (s : CacheState B) → IsCache s → IsCache (record { kept = without_block b s.kept; limit = s.limit })
+IsCache-without_block {B = B} b s is =
+    let p = λ (k : KeptBody B). not (eqb k.block b) in
     record { few = omega (arith, is.few, length-filter p s.kept, count_by-le-length p s.kept); own = own-without b s.kept is.own }
 
 -- ---- one body more
 
-some_is_not_none : (k : KeptBody) → Some k ≡ None → ⊥
+some_is_not_none : {B : Type 0} → (k : KeptBody B) → Some k ≡ None → ⊥
 some_is_not_none k h = cc
 
-pub absent_first : (b : ℕ) (k : KeptBody) (ks : List KeptBody) → kept_at b (k ∷ ks) ≡ None → eqb k.block b ≡ false
+pub absent_first : {B : Type 0} → (b : ℕ) (k : KeptBody B) (ks : List (KeptBody B)) → kept_at b (k ∷ ks) ≡ None → eqb k.block b ≡ false
 absent_first b k ks absent =
     false_from_ne_true (eqb k.block b) (λ same. some_is_not_none k (sym (cond-true (eqb k.block b) (Some k) (kept_at b ks) same) ∙ absent))
 
-pub absent_rest : (b : ℕ) (k : KeptBody) (ks : List KeptBody) → kept_at b (k ∷ ks) ≡ None → kept_at b ks ≡ None
+pub absent_rest : {B : Type 0} → (b : ℕ) (k : KeptBody B) (ks : List (KeptBody B)) → kept_at b (k ∷ ks) ≡ None → kept_at b ks ≡ None
 absent_rest b k ks absent = sym (cond-false (eqb k.block b) (Some k) (kept_at b ks) (absent_first b k ks absent)) ∙ absent
 
-absent-push : (b : ℕ) (k : KeptBody) (ks : List KeptBody) → kept_at b ks ≡ None → (k.block ≡ b → ⊥) → kept_at b (ks ++ k ∷ []) ≡ None
-absent-push b k ks absent other =
-    find-append (λ (x : KeptBody). eqb x.block b) ks (k ∷ [])
+pub absent-push : {B : Type 0} → (b : ℕ) (k : KeptBody B) (ks : List (KeptBody B)) → kept_at b ks ≡ None → (k.block ≡ b → ⊥) → kept_at b (ks ++ k ∷ []) ≡ None
+absent-push {B = B} b k ks absent other =
+    find-append (λ (x : KeptBody B). eqb x.block b) ks (k ∷ [])
     ∙ ap (λ o. option_or o (kept_at b (k ∷ []))) absent
     ∙ cond-false (eqb k.block b) (Some k) None (ne_eqb k.block b other)
 
-own-push : (k : KeptBody) (ks : List KeptBody) → KeepOwnBlocks ks → kept_at k.block ks ≡ None → KeepOwnBlocks (ks ++ k ∷ [])
+own-push : {B : Type 0} → (k : KeptBody B) (ks : List (KeptBody B)) → KeepOwnBlocks ks → kept_at k.block ks ≡ None → KeepOwnBlocks (ks ++ k ∷ [])
 own-push k [] own absent = (refl, tt)
 own-push k (x ∷ xs) own absent =
     (absent-push x.block k xs own.0 (λ same. eqb-false x.block k.block (absent_first k.block x xs absent) (sym same)), own-push k xs own.1 (absent_rest k.block x xs absent))
 
 -- ---- the oldest goes
 
-own-drop : (ks : List KeptBody) → KeepOwnBlocks ks → KeepOwnBlocks (drop 1 ks)
+own-drop : {B : Type 0} → (ks : List (KeptBody B)) → KeepOwnBlocks ks → KeepOwnBlocks (drop 1 ks)
 own-drop [] own = tt
 own-drop (k ∷ ks) own = own.1
 
 -- one body more, and the oldest gone, or still there where there is room
-module _ (k : KeptBody) (s : CacheState) (is : IsCache s) (absent : kept_at k.block s.kept ≡ None) where
+module _ {B : Type 0} (k : KeptBody B) (s : CacheState B) (is : IsCache s) (absent : kept_at k.block s.kept ≡ None) where
   pub IsCache-instead : IsCache (record { kept = drop 1 (s.kept ++ k ∷ []); limit = s.limit })
   IsCache-instead =
       let all = s.kept ++ k ∷ [] in
@@ -82,10 +82,10 @@ module _ (k : KeptBody) (s : CacheState) (is : IsCache s) (absent : kept_at k.bl
   pub IsCache-beside : length (s.kept ++ k ∷ []) ≤ s.limit → IsCache (record { kept = s.kept ++ k ∷ []; limit = s.limit })
   IsCache-beside few = record { few = few; own = own-push k s.kept is.own absent }
 
-pub IsCache-with_body : (b : ℕ) (body : List ℕ) (s : CacheState) → IsCache s → IsCache (record { kept = with_kept_body s.limit b body s.kept; limit = s.limit })
-IsCache-with_body b body s is =
-    let k : KeptBody = record { block = b; body = body } in
-    let left : CacheState = record { kept = without_block b s.kept; limit = s.limit } in
+pub IsCache-with_body : {B : Type 0} → (b : ℕ) (body : B) (s : CacheState B) → IsCache s → IsCache (record { kept = with_kept_body s.limit b body s.kept; limit = s.limit })
+IsCache-with_body {B = B} b body s is =
+    let k : KeptBody B = record { block = b; body = body } in
+    let left : CacheState B = record { kept = without_block b s.kept; limit = s.limit } in
     let all = left.kept ++ k ∷ [] in
     let still = IsCache-without_block b s is in
     let absent = kept_at-without_same b s.kept in

@@ -1,4 +1,4 @@
-// The post-write queue as a row of bodies, oldest first.
+// The post-write queue as a row of blocks with what is kept of each, oldest first.
 ghost use Rattle.std.specs.Prelude.{◌≡◌, [], IfOk, option_map};
 ghost use Rattle.post_cache.specs.Bodies.{body_of, without_block, with_kept_body, IsCache};
 
@@ -8,33 +8,33 @@ use std::marker::Model;
 
 // A block and its body.
 #[derive(Drop)]
-struct Slot {
+struct Slot<B> {
     block: u32,
-    body: Vec<u8>,
+    body: B,
 }
 
-/// The bodies of the blocks that were written last, first in and first out.
+/// The bodies of the blocks that were written last, first in and first out. A body may be anything that tells what stands in its block.
 #[derive(Drop)]
-pub struct Cache {
-    slots: Vec<Slot>,
+pub struct Cache<B> {
+    slots: Vec<Slot<B>>,
     limit: u32,
 }
 
-impl Model for Cache {
+impl<B> Model for Cache<B> {
     ghost use Rattle.std.specs.Prelude.{◌<◌, vec_capacity};
     ghost use Rattle.post_cache.specs.Bodies.{CacheState, IsCache};
     ghost use Rattle.post_cache.specs.Slots.{bodies_in};
 
-    ghost Value = { CacheState };
+    ghost Value = { CacheState B };
 
     ghost view = { λ c. record { kept = bodies_in c.slots.items; limit = c.limit } };
 
     ghost invariant = { λ c. IsCache (record { kept = bodies_in c.slots.items; limit = c.limit }) × (c.limit < vec_capacity c.slots) };
 }
 
-impl Cache {
+impl<B: Drop> Cache<B> {
     /// An empty cache with places for so many bodies, 0 for a cache that keeps none.
-    pub fn new(alloc: Global, blocks: u32) -> Result<Cache, NoMemory>
+    pub fn new(alloc: Global, blocks: u32) -> Result<Cache<B>, NoMemory>
         ensures { IfOk result (λ cache. cache ≡ record { kept = []; limit = blocks }) }
     {
         // A body is put in before the oldest goes, so there is one place more.
@@ -47,8 +47,8 @@ impl Cache {
 
     /// Keeps the body of a block in place of an older one of that block. Where there is then one too
     /// many, the oldest goes.
-    pub fn keep(&mut self, block: u32, body: Vec<u8>)
-        ensures kept { self.new ≡ record { kept = with_kept_body self.old.limit block body.items self.old.kept; limit = self.old.limit } }
+    pub fn keep(&mut self, block: u32, body: B)
+        ensures kept { self.new ≡ record { kept = with_kept_body self.old.limit block body self.old.kept; limit = self.old.limit } }
         ensures bounds { IsCache self.new }
     {
         self.forget(block);
@@ -59,11 +59,11 @@ impl Cache {
     }
 
     /// The body of a block, where it is kept.
-    pub fn peek(&self, block: u32) -> Option<&[u8]>
+    pub fn peek(&self, block: u32) -> Option<&B>
         ensures { option_map (λ body. body.now) result ≡ body_of block self.now.kept }
     {
         let slot = self.slots.iter().find(|slot| slot.block == block)?;
-        Some(slot.body.as_slice())
+        Some(&slot.body)
     }
 
     /// Takes a block and its body out, where it is kept.

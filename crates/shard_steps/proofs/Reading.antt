@@ -46,6 +46,7 @@ stands_over setup old disk s stands = record {
   listed = stands.listed;
   order = stands.order;
   entries = stands.entries;
+  kept = stands.kept;
 }
 
 module _ {D : Type 0} (view : D → DiskView) where
@@ -54,7 +55,7 @@ module _ {D : Type 0} (view : D → DiskView) where
   goes_read setup old new s same only now stands = subst (λ (v : ShelfView D). Goes view setup [] old s v) (sym same) (record {
     stands = stands_over setup old new.disk s stands;
     queued = λ queue. record { same = queue.same; all = queue.all };
-    placed = λ honest placed. record { buffered = placed.buffered; there = λ d l v is there none c left. placed.there d l v is there none c (within honest c left) };
+    placed = λ honest placed. record { buffered = placed.buffered; there = λ d l v is there none c left. placed.there d l v is there none c (within honest c left); kept = placed.kept };
     safe = λ honest safe. fewer_holds setup old.geometry s (records_of old.buffers) (gate_at old.gates) (view old.disk).may_leave safe (view new.disk).may_leave (within honest);
     leaves = λ honest safe. record { time = only.time; each = λ c left. inl (held_survives setup old.geometry s (records_of old.buffers) (gate_at old.gates) (view old.disk).may_leave safe.held c (only.images honest c left)) };
   })

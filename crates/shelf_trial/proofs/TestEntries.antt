@@ -278,6 +278,28 @@ setup_stays setup old new same is = record {
   lwm = is.lwm ∙ sym (ap (λ l. l.lwm) same.limits);
 }
 
+-- a disk that was only read
+pub kept_read : {D : Type 0} (named : ℕ → Digest) (old new : ShelfView D) (entries : List (Option Entry)) → new ≡ record old { disk = new.disk } → KeepsEntries named old entries → KeepsEntries named new entries
+kept_read {D} named old new entries same keeps = subst (λ (v : ShelfView D). KeepsEntries named v entries) (sym same) (record {
+  setup = keeps.setup;
+  state = keeps.state;
+  is_setup = record { shape = keeps.is_setup.shape; pending = keeps.is_setup.pending; lwm = keeps.is_setup.lwm };
+  stands = record {
+    buffers = keeps.stands.buffers;
+    free = keeps.stands.free;
+    next = keeps.stands.next;
+    holds = keeps.stands.holds;
+    lives = keeps.stands.lives;
+    listed = keeps.stands.listed;
+    order = keeps.stands.order;
+    entries = keeps.stands.entries;
+    kept = keeps.stands.kept;
+  };
+  live = keeps.live;
+  kept = keeps.kept;
+  bare = keeps.bare;
+})
+
 module _ {D : Type 0} (view : D → DiskView) (named : ℕ → Digest) (old new : ShelfView D) (entries : List (Option Entry)) (keeps : KeepsEntries named old entries) (same : SameShape old new) where
   -- after quiet steps
   pub kept_quiet : (steps : List Step) → AllByRecursion IsQuiet steps → Goes view keeps.setup steps old keeps.state new → KeepsEntries named new entries

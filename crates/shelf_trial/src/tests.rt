@@ -1,11 +1,13 @@
-ghost use Rattle.std.specs.Prelude.{◌≡◌, ◌<◌, ◌≤◌, ℕ, false, IfOk};
+ghost use Rattle.std.specs.Prelude.{◌≡◌, ◌<◌, ◌≤◌, ◌+◌, ◌^◌, ℕ, false, IfOk};
 ghost use Rattle.rec_format.specs.Entries.{Names};
 ghost use Rattle.rec_format.specs.Versions.{IsVersion, a_put};
 ghost use Rattle.block_format.specs.Layout.{IsGeometry, device_end};
 ghost use Rattle.disk_model.specs.Moments.{view_of};
 ghost use Rattle.block_flusher.specs.Images.{IsShut};
+ghost use Rattle.block_shelf.specs.View.{AreLimits};
 ghost use Rattle.shelf_trial.specs.Trials.{IsNewShelf, numbered, place_of, place_if};
 
+mod kept;
 mod moves;
 mod reuse;
 mod trial;
@@ -28,6 +30,9 @@ const SPENT: u64 = (1 << 62) + 1;
 
 /// A payload with which a record takes 700 units: two don't fit into a block of 16,384 bytes.
 const LARGE: [u8; 11_152] = [7; 11_152];
+
+/// The shortest payload with which a record doesn't fit into an empty block: it takes 767 units.
+const TOO_LONG: [u8; 12_209] = [7; 12_209];
 
 /// 20 times a byte.
 fn numbered(byte: u8) -> Digest
@@ -72,7 +77,42 @@ fn failing(alloc: Global, shape: &Geometry, kind: DiskCall, skip: u64) -> Result
     Ok(disk)
 }
 
+/// The limits of a shelf of which so many buffers may wait, and so many flushed ones are kept.
+fn limits_of(pending: u32, cache: u32) -> ShelfLimits
+    requires { (4 ≤ pending) × (pending ≤ 64) × (cache ≤ 64) }
+    ensures { AreLimits result }
+{
+    ShelfLimits {
+        sprigs: 16,
+        lwm: 50,
+        pending,
+        cache,
+    }
+}
+
 /// The shelf of a disk whose gates are closed.
+fn shelf_with(
+    alloc: Global,
+    disk: MemDisk,
+    shape: &Geometry,
+    limits: ShelfLimits,
+    next_number: u64,
+) -> Result<Shelf<MemDisk>, Fail>
+    requires geometry { IsGeometry shape.now }
+    requires room { device_end shape.now ≤ (view_of disk).extent }
+    requires shut { (k : ℕ) → k < shape.now.blocks → IsShut shape.now k (view_of disk).may_leave }
+    requires limits { AreLimits limits }
+    requires number { (1 ≤ next_number) × (next_number ≤ 2 ^ 62 + 1) }
+    ensures { IfOk result (IsNewShelf shape.now) }
+{
+    let gates = vec![in alloc; Gate::Shut; shape.blocks as usize]?;
+    match Shelf::new(alloc, disk, *shape, gates, next_number, &[], limits) {
+        Ok(shelf) => Ok(shelf),
+        Err((_, error)) => Err(Fail::from(error)),
+    }
+}
+
+/// The same, which keeps no flushed buffer.
 fn shelf_of(
     rt: &impl Abort,
     alloc: Global,
@@ -88,17 +128,7 @@ fn shelf_of(
 {
     assert!(rt; 4 <= pending && pending <= 64);
     assert!(rt; 1 <= next_number && next_number <= SPENT);
-    let gates = vec![in alloc; Gate::Shut; shape.blocks as usize]?;
-    let limits = ShelfLimits {
-        sprigs: 16,
-        lwm: 50,
-        pending,
-        cache: 0,
-    };
-    match Shelf::new(alloc, disk, *shape, gates, next_number, &[], limits) {
-        Ok(shelf) => Ok(shelf),
-        Err((_, error)) => Err(Fail::from(error)),
-    }
+    shelf_with(alloc, disk, shape, limits_of(pending, 0), next_number)
 }
 
 /// A put at time 1000, in this generation, that never expires.
@@ -239,6 +269,43 @@ fn numbers(shelf: &Shelf<MemDisk>) -> (u64, u64, u64) {
     (counts.free, counts.pending, counts.held)
 }
 
+/// So many blocks are free, so many buffers wait, and so many blocks are held.
+fn assert_numbers(rt: &impl Abort, shelf: &Shelf<MemDisk>, wanted: (u64, u64, u64)) {
+    assert_eq!(rt; numbers(shelf), wanted);
+}
+
+/// The first version of a digest goes to this place.
+fn assert_appended(
+    rt: &impl Abort,
+    alloc: Global,
+    shelf: &mut Shelf<MemDisk>,
+    (byte, payload): (u8, &[u8]),
+    wanted: Place,
+) -> Result<(), Fail> {
+    assert!(rt; append(rt, alloc, shelf, byte, payload, Class::Put)? == Ok(wanted));
+    Ok(())
+}
+
+/// The first version of a digest is read at a place, with this payload.
+fn assert_shows(
+    rt: &impl Abort,
+    alloc: Global,
+    shelf: &mut Shelf<MemDisk>,
+    (byte, payload): (u8, &[u8]),
+    place: Place,
+) {
+    assert!(rt; shows(&read_first(rt, alloc, shelf, byte, place), payload));
+}
+
+/// A step of the flush brings the buffer of this number to the disk, or finds none.
+fn assert_flushed(rt: &impl Abort, shelf: &mut Shelf<MemDisk>, wanted: Option<u64>) {
+    assert_eq!(rt; shelf.flush_step(), Ok(wanted));
+}
+
+fn seal_for(shelf: &mut Shelf<MemDisk>, block: u32) {
+    shelf.seal_for(block);
+}
+
 /// The first block has the body of buffer 1, with one record of 4 units, behind an open gate.
 fn assert_first_body(rt: &impl Abort, alloc: Global, disk: &mut MemDisk) -> Result<(), Fail> {
     assert!(rt; 20_480 <= disk.len());
@@ -259,6 +326,44 @@ fn assert_first_body(rt: &impl Abort, alloc: Global, disk: &mut MemDisk) -> Resu
     Ok(())
 }
 
+/// The first record is read from its buffer until that is flushed, and then from the disk, whose first read fails.
+fn assert_first_is_read(
+    rt: &impl Abort,
+    alloc: Global,
+    shelf: &mut Shelf<MemDisk>,
+) -> Result<(), Fail> {
+    let first = place(0, 0, 4);
+    assert_numbers(rt, shelf, (16, 0, 0));
+    assert_appended(rt, alloc, shelf, (1, b"hello"), first)?;
+    assert_numbers(rt, shelf, (15, 1, 0));
+    assert_shows(rt, alloc, shelf, (1, b"hello"), first);
+    seal_for(shelf, 1);
+    assert_flushed(rt, shelf, None);
+    seal_for(shelf, 0);
+    assert_shows(rt, alloc, shelf, (1, b"hello"), first);
+    assert_flushed(rt, shelf, Some(1));
+    assert_numbers(rt, shelf, (15, 0, 0));
+    assert!(rt; is_fault(&read_first(rt, alloc, shelf, 1, first)));
+    assert_shows(rt, alloc, shelf, (1, b"hello"), first);
+    Ok(())
+}
+
+/// So is the second, in the next block, without a fault.
+fn assert_both_are_read(
+    rt: &impl Abort,
+    alloc: Global,
+    shelf: &mut Shelf<MemDisk>,
+) -> Result<(), Fail> {
+    let second = place(1, 0, 4);
+    assert_first_is_read(rt, alloc, shelf)?;
+    assert_appended(rt, alloc, shelf, (2, b"x"), second)?;
+    shelf.seal_streams();
+    assert_flushed(rt, shelf, Some(2));
+    assert_flushed(rt, shelf, None);
+    assert_shows(rt, alloc, shelf, (2, b"x"), second);
+    Ok(())
+}
+
 // The first read of the disk fails, so the reads before it made no call.
 #[test]
 fn a_record_is_read_from_its_buffer_and_from_the_disk(rt: HostRuntime) -> Result<(), Fail> {
@@ -267,27 +372,17 @@ fn a_record_is_read_from_its_buffer_and_from_the_disk(rt: HostRuntime) -> Result
     let disk = failing(alloc, &shape, DiskCall::Read, 0)?;
     let mut shelf = shelf_of(&rt, alloc, disk, &shape, 64, 1)?;
     assert!(rt; shelf.geometry() == shape);
-    assert_eq!(rt; numbers(&shelf), (16, 0, 0));
-    let first = place(0, 0, 4);
-    assert!(rt; append(&rt, alloc, &mut shelf, 1, b"hello", Class::Put)? == Ok(first));
-    assert_eq!(rt; numbers(&shelf), (15, 1, 0));
-    assert!(rt; shows(&read_first(&rt, alloc, &mut shelf, 1, first), b"hello"));
-    shelf.seal_for(1);
-    assert_eq!(rt; shelf.flush_step(), Ok(None));
-    shelf.seal_for(0);
-    assert!(rt; shows(&read_first(&rt, alloc, &mut shelf, 1, first), b"hello"));
-    assert_eq!(rt; shelf.flush_step(), Ok(Some(1)));
-    assert_eq!(rt; numbers(&shelf), (15, 0, 0));
-    assert!(rt; is_fault(&read_first(&rt, alloc, &mut shelf, 1, first)));
-    assert!(rt; shows(&read_first(&rt, alloc, &mut shelf, 1, first), b"hello"));
-    let second = place(1, 0, 4);
-    assert!(rt; append(&rt, alloc, &mut shelf, 2, b"x", Class::Put)? == Ok(second));
-    shelf.seal_streams();
-    assert_eq!(rt; shelf.flush_step(), Ok(Some(2)));
-    assert_eq!(rt; shelf.flush_step(), Ok(None));
-    assert!(rt; shows(&read_first(&rt, alloc, &mut shelf, 2, second), b"x"));
+    assert_both_are_read(&rt, alloc, &mut shelf)?;
     let mut disk = shelf.stop();
     assert_first_body(&rt, alloc, &mut disk)
+}
+
+/// One record, `hello`, is appended and sealed, and the flush of its buffer fails.
+fn fail_flush(rt: &impl Abort, alloc: Global, shelf: &mut Shelf<MemDisk>) -> Result<(), Fail> {
+    assert_appended(rt, alloc, shelf, (1, b"hello"), place(0, 0, 4))?;
+    shelf.seal_streams();
+    assert_eq!(rt; shelf.flush_step(), Err(DiskFault));
+    Ok(())
 }
 
 /// A shelf of 16 blocks with one record, `hello`, in a sealed buffer, whose flush failed in this call of the disk.
@@ -300,11 +395,15 @@ fn failed_once(
     let shape = shape_of(16);
     let disk = failing(alloc, &shape, kind, skip)?;
     let mut shelf = shelf_of(rt, alloc, disk, &shape, 64, 1)?;
-    let answer = append(rt, alloc, &mut shelf, 1, b"hello", Class::Put)?;
-    assert!(rt; answer == Ok(place(0, 0, 4)));
-    shelf.seal_streams();
-    assert_eq!(rt; shelf.flush_step(), Err(DiskFault), "{kind:?} {skip}");
+    fail_flush(rt, alloc, &mut shelf)?;
     Ok(shelf)
+}
+
+/// The record is read meanwhile, and the next try goes well.
+fn assert_tried_again(rt: &impl Abort, alloc: Global, shelf: &mut Shelf<MemDisk>) {
+    assert_numbers(rt, shelf, (15, 1, 0));
+    assert_shows(rt, alloc, shelf, (1, b"hello"), place(0, 0, 4));
+    assert_flushed(rt, shelf, Some(1));
 }
 
 // Each call of a flush fails once. After a fault of the body both it and the gate are written again, and after one of the gate it alone,
@@ -321,10 +420,7 @@ fn a_flush_is_tried_again(rt: HostRuntime) -> Result<(), Fail> {
         let disk = failed_once(&rt, alloc, kind, skip)?.stop();
         assert_eq!(rt; disk.moments(), failed, "{kind:?} {skip}");
         let mut shelf = failed_once(&rt, alloc, kind, skip)?;
-        assert_eq!(rt; numbers(&shelf), (15, 1, 0));
-        let found = read_first(&rt, alloc, &mut shelf, 1, place(0, 0, 4));
-        assert!(rt; shows(&found, b"hello"), "{kind:?} {skip}");
-        assert_eq!(rt; shelf.flush_step(), Ok(Some(1)), "{kind:?} {skip}");
+        assert_tried_again(&rt, alloc, &mut shelf);
         let mut disk = shelf.stop();
         assert_eq!(rt; disk.moments(), 6, "{kind:?} {skip}");
         assert_first_body(&rt, alloc, &mut disk)?;
@@ -332,39 +428,79 @@ fn a_flush_is_tried_again(rt: HostRuntime) -> Result<(), Fail> {
     Ok(())
 }
 
-// A put takes a block where more than 4 are free, a tombstone where more than 2 are, and a copy that is moved where any is. A refusal
-// changes nothing, and what fits into the buffer that is being filled goes well all the same.
-#[test]
-fn a_copy_is_refused(rt: HostRuntime) -> Result<(), Fail> {
-    let alloc = rt.alloc();
-    let shape = shape_of(8);
-    let longest = [7; 12_209];
+/// So many large records go into as many blocks, the first into block 0.
+fn fill(
+    rt: &impl Abort,
+    alloc: Global,
+    shelf: &mut Shelf<MemDisk>,
+    class: Class,
+    count: u8,
+) -> Result<(), Fail> {
+    for byte in 0..count {
+        let answer = append(rt, alloc, shelf, byte, &LARGE, class)?;
+        assert!(rt;
+            answer == Ok(place(u32::from(byte), 0, 700)),
+            "{class:?} {answer:?}"
+        );
+    }
+    Ok(())
+}
+
+/// Behind so many large records one that is too long for a block is refused, and so is one large record more. That changes nothing, and a
+/// small one still goes into the last block.
+fn assert_refuses(
+    rt: &impl Abort,
+    alloc: Global,
+    shelf: &mut Shelf<MemDisk>,
+    (class, count): (Class, u8),
+    refusal: PutRefusal,
+) -> Result<(), Fail> {
+    fill(rt, alloc, shelf, class, count)?;
     let big = PutRefusal::Big {
         units: 767,
         capacity: 766,
     };
-    for (class, pending, number, count, refusal) in [
-        (Class::Put, 64, 1, 4, PutRefusal::Space { free: 4 }),
-        (Class::Tomb, 64, 1, 6, PutRefusal::Space { free: 2 }),
-        (Class::Move, 64, 1, 8, PutRefusal::Space { free: 0 }),
-        (Class::Put, 4, 1, 4, PutRefusal::Load { pending: 4 }),
-        (Class::Tomb, 4, 1, 4, PutRefusal::Load { pending: 4 }),
-        (Class::Put, 4, SPENT - 4, 4, PutRefusal::Spent),
+    let small = place(u32::from(count).saturating_sub(1), 700, 66);
+    let waits = (8_u64.saturating_sub(u64::from(count)), u64::from(count), 0);
+    for (payload, wanted) in [
+        (TOO_LONG.as_slice(), Err(big)),
+        (LARGE.as_slice(), Err(refusal)),
+        (&LARGE[..1008], Ok(small)),
     ] {
-        let disk = zeros(alloc, &shape)?;
-        let mut shelf = shelf_of(&rt, alloc, disk, &shape, pending, number)?;
-        for byte in 0..count {
-            let answer = append(&rt, alloc, &mut shelf, byte, &LARGE, class)?;
-            assert!(rt; answer == Ok(place(u32::from(byte), 0, 700)), "{refusal:?}");
-        }
-        assert!(rt; append(&rt, alloc, &mut shelf, count, &longest, class)? == Err(big));
-        let answer = append(&rt, alloc, &mut shelf, count, &LARGE, class)?;
-        assert!(rt; answer == Err(refusal), "{answer:?}");
-        let waits = (8_u64.saturating_sub(u64::from(count)), u64::from(count), 0);
-        assert_eq!(rt; numbers(&shelf), waits, "{refusal:?}");
-        let last = u32::from(count).saturating_sub(1);
-        let answer = append(&rt, alloc, &mut shelf, count, &LARGE[..1008], class)?;
-        assert!(rt; answer == Ok(place(last, 700, 66)), "{refusal:?}");
+        let answer = append(rt, alloc, shelf, count, payload, class)?;
+        assert!(rt; answer == wanted, "{refusal:?}: {answer:?}");
+        assert_numbers(rt, shelf, waits);
+    }
+    Ok(())
+}
+
+/// So it is in a shelf of 8 blocks, where so many buffers may wait and the first has this number.
+fn assert_refused(
+    rt: &impl Abort,
+    alloc: Global,
+    (pending, number): (u32, u64),
+    filled: (Class, u8),
+    refusal: PutRefusal,
+) -> Result<(), Fail> {
+    let shape = shape_of(8);
+    let disk = zeros(alloc, &shape)?;
+    let mut shelf = shelf_of(rt, alloc, disk, &shape, pending, number)?;
+    assert_refuses(rt, alloc, &mut shelf, filled, refusal)
+}
+
+// A put takes a block where more than 4 are free, a tombstone where more than 2 are, and a copy that is moved where any is. A refusal
+// changes nothing, and what fits into the buffer that is being filled goes well all the same.
+#[test]
+fn a_copy_is_refused(rt: HostRuntime) -> Result<(), Fail> {
+    for (limits, filled, refusal) in [
+        ((64, 1), (Class::Put, 4), PutRefusal::Space { free: 4 }),
+        ((64, 1), (Class::Tomb, 6), PutRefusal::Space { free: 2 }),
+        ((64, 1), (Class::Move, 8), PutRefusal::Space { free: 0 }),
+        ((4, 1), (Class::Put, 4), PutRefusal::Load { pending: 4 }),
+        ((4, 1), (Class::Tomb, 4), PutRefusal::Load { pending: 4 }),
+        ((4, SPENT - 4), (Class::Put, 4), PutRefusal::Spent),
+    ] {
+        assert_refused(&rt, rt.alloc(), limits, filled, refusal)?;
     }
     Ok(())
 }

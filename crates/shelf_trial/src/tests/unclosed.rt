@@ -1,5 +1,5 @@
 // A gate that can't be closed, and what a crash leaves meanwhile.
-use super::reuse::assert_flushes;
+use super::reuse::{assert_flushes, assert_put};
 use super::trial::Trial;
 use super::*;
 
@@ -93,8 +93,7 @@ fn put_versions(rt: &impl Abort, trial: &mut Trial, from: u16, to: u16) -> Resul
     assert!(rt; 1 <= from && to <= 23);
     for turn in from..to {
         let block = TAKEN[usize::from(turn - 1)];
-        let answer = trial.put(rt, 0, turn, b"aa")?;
-        assert!(rt; answer == Ok(place(block, 0, 4)), "{turn}: {answer:?}");
+        assert_put(rt, trial, (0, turn), b"aa", place(block, 0, 4))?;
         assert_flushes(rt, trial, turn);
     }
     Ok(())

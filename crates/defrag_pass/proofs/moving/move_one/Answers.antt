@@ -4,15 +4,18 @@ use Rattle.std.proofs.lemmas.Bool.{ne_eqb}
 use Rattle.std.proofs.lemmas.Result.{err_from_is_err_and}
 use Rattle.rec_format.specs.declared.version.Digest.{Digest}
 use Rattle.rec_format.specs.declared.entry.Entry.{Entry}
+use Rattle.device_model.specs.Book.{first_block}
 use Rattle.device_model.specs.Device.{part_of}
 use Rattle.device_model.specs.Events.{Answer, happened, move_call}
 use Rattle.block_format.specs.declared.geometry.Geometry.{Geometry}
+use Rattle.block_format.specs.declared.geometry.Gate.TheVariants.{Shut}
 use Rattle.block_flusher.proofs.Steps.{size_bounds}
 use Rattle.sprig_tree.specs.Entries.{entry_of}
 use Rattle.part_laws.specs.Becoming.{moved_to}
 use Rattle.block_shelf.specs.declared.place.Place.{Place}
 use Rattle.block_shelf.specs.declared.refusals.PutRefusal.{PutRefusal}
 use Rattle.block_shelf.specs.Calls.{IsPriorIn}
+use Rattle.block_shelf.specs.View.{ShelfView, gate_at}
 use Rattle.shard_steps.specs.Sprigs.{place_of}
 use Rattle.shard_steps.specs.Events.{StepMakes}
 use Rattle.shard_steps.proofs.Found.{entry_named, lies_found, prior_stands}
@@ -144,3 +147,56 @@ returns-clause-makes g c setup s is stand =
 
 pub returns-clause-later : goal.returns-clause-later
 returns-clause-later g c = read_then_later _ _ _ c.read_for.ensures.disk c.append.ensures.later
+
+-- ---- what is in memory
+
+pub returns-in_err-version-clause-in_memory : goal.returns-in_err-version-clause-in_memory
+returns-in_err-version-clause-in_memory g c x b found_x has at shut =
+    let view = g.D.Disk.view in
+    let r = c.requires.stand in
+    let e : Entry = c.in-Some.entry in
+    let old = c.args.shelf.now in
+    let found : entry_of c.args.digest.now c.args.sprig.now.entries ≡ Some e = sym c.find.ensures.value ∙ c.in-Some.is in
+    let one : Some x ≡ Some e = sym found_x ∙ found in
+    let same : x ≡ e = cc in
+    let place : Place = c.place_of_entry-place.result in
+    let live = live_at view r.0 c.args.digest.now c.args.block c.args.sprig.now old r.1 r.3 e found place c.place_of_entry-place.ensures in
+    let version = version_at view r.0 c.args.digest.now c.args.block c.args.sprig.now old r.1 r.3 e found in
+    let shown = shown_here view r.0 c.args.digest.now c.args.block c.args.sprig.now old r.1 r.3 e found in
+    let at_place = at ∙ ap (λ (y : Entry). y.block) same ∙ sym (ap (λ (p : Place). p.block) c.place_of_entry-place.ensures) in
+    let kept : c.read_for.new.shelf ≡ old = c.read_for.ensures.kept r.0 r.1 shown.version b r.3.shelf_stands.stands live version shown.names has at_place in
+    ap (λ (v : ShelfView g.row.D.Denot). v.disk) kept
+
+pub returns-in-Ok-clause-in_memory : goal.returns-in-Ok-clause-in_memory
+returns-in-Ok-clause-in_memory g c x b found_x has at shut =
+    let view = g.D.Disk.view in
+    let r = c.requires.stand in
+    let e : Entry = c.in-Some.entry in
+    let old = c.args.shelf.now in
+    let found : entry_of c.args.digest.now c.args.sprig.now.entries ≡ Some e = sym c.find.ensures.value ∙ c.in-Some.is in
+    let one : Some x ≡ Some e = sym found_x ∙ found in
+    let same : x ≡ e = cc in
+    let place : Place = c.place_of_entry-place.result in
+    let live = live_at view r.0 c.args.digest.now c.args.block c.args.sprig.now old r.1 r.3 e found place c.place_of_entry-place.ensures in
+    let version = version_at view r.0 c.args.digest.now c.args.block c.args.sprig.now old r.1 r.3 e found in
+    let shown = shown_here view r.0 c.args.digest.now c.args.block c.args.sprig.now old r.1 r.3 e found in
+    let at_place = at ∙ ap (λ (y : Entry). y.block) same ∙ sym (ap (λ (p : Place). p.block) c.place_of_entry-place.ensures) in
+    let kept : c.read_for.new.shelf ≡ old = c.read_for.ensures.kept r.0 r.1 shown.version b r.3.shelf_stands.stands live version shown.names has at_place in
+    c.append.ensures.quiet (subst (λ (v : ShelfView g.row.D.Denot). gate_at v.gates (first_block v.free) ≡ Shut) (sym kept) shut) ∙ ap (λ (v : ShelfView g.row.D.Denot). v.disk) kept
+
+pub returns-clause-in_memory : goal.returns-clause-in_memory
+returns-clause-in_memory g c x b found_x has at shut =
+    let view = g.D.Disk.view in
+    let r = c.requires.stand in
+    let e : Entry = c.in-Some.entry in
+    let old = c.args.shelf.now in
+    let found : entry_of c.args.digest.now c.args.sprig.now.entries ≡ Some e = sym c.find.ensures.value ∙ c.in-Some.is in
+    let one : Some x ≡ Some e = sym found_x ∙ found in
+    let same : x ≡ e = cc in
+    let place : Place = c.place_of_entry-place.result in
+    let live = live_at view r.0 c.args.digest.now c.args.block c.args.sprig.now old r.1 r.3 e found place c.place_of_entry-place.ensures in
+    let version = version_at view r.0 c.args.digest.now c.args.block c.args.sprig.now old r.1 r.3 e found in
+    let shown = shown_here view r.0 c.args.digest.now c.args.block c.args.sprig.now old r.1 r.3 e found in
+    let at_place = at ∙ ap (λ (y : Entry). y.block) same ∙ sym (ap (λ (p : Place). p.block) c.place_of_entry-place.ensures) in
+    let kept : c.read_for.new.shelf ≡ old = c.read_for.ensures.kept r.0 r.1 shown.version b r.3.shelf_stands.stands live version shown.names has at_place in
+    c.append.ensures.quiet (subst (λ (v : ShelfView g.row.D.Denot). gate_at v.gates (first_block v.free) ≡ Shut) (sym kept) shut) ∙ ap (λ (v : ShelfView g.row.D.Denot). v.disk) kept

@@ -13,3 +13,9 @@ returns-in-Err-clause-asked g c setup s is stands =
 pub returns-in-Err-read-clause-written : goal.returns-in-Err-read-clause-written
 returns-in-Err-read-clause-written g c honest setup s v stands placed live entry names =
     subst IsUndamaged (sym c.read_refusal.ensures) (undamaged_for c.in-Err-read.refusal (c.in-Err-read.ensures.written honest setup s v stands placed live entry names))
+
+pub returns-in-Ok-read-clause-kept : goal.returns-in-Ok-read-clause-kept
+returns-in-Ok-read-clause-kept g c setup s v b stands live entry names has at = (c.read.ensures.in_memory setup s v b stands live entry names has at).0
+
+pub returns-in-Err-read-clause-kept : goal.returns-in-Err-read-clause-kept
+returns-in-Err-read-clause-kept g c setup s v b stands live entry names has at = (c.read.ensures.in_memory setup s v b stands live entry names has at).0

@@ -10,10 +10,11 @@ use Rattle.block_format.specs.declared.geometry.Gate.{Gate}
 use Rattle.block_format.specs.declared.geometry.Gate.TheVariants.{Shut, Unsure}
 use Rattle.write_buffer.specs.declared.stream.Stream.{Stream}
 use Rattle.write_buffer.specs.Buffers.{BufferState}
+use Rattle.post_cache.specs.Bodies.{CacheState}
 use Rattle.block_shelf.specs.View.{ShelfView, IsShelf, gate_at}
 use Rattle.block_shelf.specs.Standing.{StandsFor}
 use Rattle.block_shelf.specs.Calls.{Goes}
-use Rattle.block_shelf.specs.Changes.{sealed_in, begun_buffer}
+use Rattle.block_shelf.specs.Changes.{sealed_in, begun_buffer, with_begun, without_kept}
 use Rattle.block_shelf.specs.Appends.{with_first_shut, with_first_unclosed}
 use Rattle.block_shelf.proofs.Beginning.{begun_shelf}
 use Rattle.block_shelf.proofs.FirstClosed.{turned, same_parts, first_below, shut_shelf, unclosed_shelf, goes_closed, goes_unclosed}
@@ -24,7 +25,7 @@ pub invariant_of-self-in_default-shut_gate : goal.invariant_of-self-in_default-s
 invariant_of-self-in_default-shut_gate g c =
     let d = g.D.Disk in
     let law = g.met.D.Disk in
-    let old : ShelfView g.row.D.Denot = record { disk = c.self.inside.disk; geometry = c.self.inside.geometry; limits = c.self.inside.limits; buffers = c.self.inside.buffers.items; gates = c.self.inside.gates.items; rolls = c.self.inside.ledger; holds = c.self.inside.holds; free = c.self.inside.free.items; queue = c.self.inside.queue; next_number = c.self.inside.next_number } in
+    let old : ShelfView g.row.D.Denot = record { disk = c.self.inside.disk; geometry = c.self.inside.geometry; limits = c.self.inside.limits; buffers = c.self.inside.buffers.items; gates = c.self.inside.gates.items; rolls = c.self.inside.ledger; holds = c.self.inside.holds; free = c.self.inside.free.items; queue = c.self.inside.queue; cache = c.self.inside.cache; next_number = c.self.inside.next_number } in
     let is : IsShelf d.view old = c.self.invariant.0 in
     let some : 0 < length old.free = subst (λ (v : ShelfView g.row.D.Denot). 0 < length v.free) (sym c.self.view_is) c.requires.some in
     let at : c.block-block.result ≡ first_block old.free = c.block-block.ensures ∙ ap (λ (b : BufferState). b.block) c.requires.buffer ∙ ap (λ (v : ShelfView g.row.D.Denot). first_block v.free) (sym c.self.view_is) in
@@ -33,21 +34,21 @@ invariant_of-self-in_default-shut_gate g c =
     let known : c.shut_gate.new.gates ≡ slice_set old.gates c.block-block.result Unsure = e.known ∙ ap (λ (l : List Gate). slice_set l c.block-block.result Unsure) c.deref_mut.ensures.value in
     let gates : (with_items c.self.inside.gates c.shut_gate.new.gates).items ≡ c.shut_gate.new.gates = with_items_is c.self.inside.gates c.shut_gate.new.gates (c.shut_gate.auto.gates ∙ c.deref_mut.ensures.len) in (
       subst (IsShelf d.view)
-          (sym (same_parts old disk old.next_number c.reserve.new.self.items old.buffers _ (slice_set old.gates (first_block old.free) Unsure) c.rotate_left.new.self.items _ c.reserve.ensures.items (gates ∙ known ∙ ap (λ (k : ℕ). slice_set old.gates k Unsure) at) (c.rotate_left.ensures.items ∙ turned old.free)))
+          (sym (same_parts old disk old.cache old.next_number c.reserve.new.self.items old.buffers _ (slice_set old.gates (first_block old.free) Unsure) c.rotate_left.new.self.items _ c.reserve.ensures.items (gates ∙ known ∙ ap (λ (k : ℕ). slice_set old.gates k Unsure) at) (c.rotate_left.ensures.items ∙ turned old.free)))
           (unclosed_shelf d.view law.is_disk old disk c.block-block.result is some at e.later e.honest e.was_honest e.images c.shut_gate.new.gates e.stands known),
       subst (λ (n : ℕ). c.self.inside.geometry.blocks ≤ n) (sym c.rotate_left.ensures.capacity) c.self.invariant.1,
     )
 
 pub returns-in_default-clause-goes : goal.returns-in_default-clause-goes
 returns-in_default-clause-goes g c setup s stands =
-    let same : _ ≡ c.args.self.now = ap (λ (bs : List BufferState). record { disk = c.self.inside.disk; geometry = c.self.inside.geometry; limits = c.self.inside.limits; buffers = bs; gates = c.self.inside.gates.items; rolls = c.self.inside.ledger; holds = c.self.inside.holds; free = c.self.inside.free.items; queue = c.self.inside.queue; next_number = c.self.inside.next_number }) c.reserve.ensures.items ∙ c.self.view_is in
+    let same : _ ≡ c.args.self.now = ap (λ (bs : List BufferState). record { disk = c.self.inside.disk; geometry = c.self.inside.geometry; limits = c.self.inside.limits; buffers = bs; gates = c.self.inside.gates.items; rolls = c.self.inside.ledger; holds = c.self.inside.holds; free = c.self.inside.free.items; queue = c.self.inside.queue; cache = c.self.inside.cache; next_number = c.self.inside.next_number }) c.reserve.ensures.items ∙ c.self.view_is in
     subst (Goes g.D.Disk.view setup [] c.args.self.now s) (sym same) (goes_nowhere g.D.Disk.view g.met.D.Disk.is_disk setup s c.args.self.now stands)
 
 pub returns-in_default-shut_gate-clause-goes : goal.returns-in_default-shut_gate-clause-goes
 returns-in_default-shut_gate-clause-goes g c =
     let d = g.D.Disk in
     let law = g.met.D.Disk in
-    let old : ShelfView g.row.D.Denot = record { disk = c.self.inside.disk; geometry = c.self.inside.geometry; limits = c.self.inside.limits; buffers = c.self.inside.buffers.items; gates = c.self.inside.gates.items; rolls = c.self.inside.ledger; holds = c.self.inside.holds; free = c.self.inside.free.items; queue = c.self.inside.queue; next_number = c.self.inside.next_number } in
+    let old : ShelfView g.row.D.Denot = record { disk = c.self.inside.disk; geometry = c.self.inside.geometry; limits = c.self.inside.limits; buffers = c.self.inside.buffers.items; gates = c.self.inside.gates.items; rolls = c.self.inside.ledger; holds = c.self.inside.holds; free = c.self.inside.free.items; queue = c.self.inside.queue; cache = c.self.inside.cache; next_number = c.self.inside.next_number } in
     let is : IsShelf d.view old = c.self.invariant.0 in
     let some : 0 < length old.free = subst (λ (v : ShelfView g.row.D.Denot). 0 < length v.free) (sym c.self.view_is) c.requires.some in
     let at : c.block-block.result ≡ first_block old.free = c.block-block.ensures ∙ ap (λ (b : BufferState). b.block) c.requires.buffer ∙ ap (λ (v : ShelfView g.row.D.Denot). first_block v.free) (sym c.self.view_is) in
@@ -56,7 +57,7 @@ returns-in_default-shut_gate-clause-goes g c =
     let known : c.shut_gate.new.gates ≡ slice_set old.gates c.block-block.result Unsure = e.known ∙ ap (λ (l : List Gate). slice_set l c.block-block.result Unsure) c.deref_mut.ensures.value in
     let gates : (with_items c.self.inside.gates c.shut_gate.new.gates).items ≡ c.shut_gate.new.gates = with_items_is c.self.inside.gates c.shut_gate.new.gates (c.shut_gate.auto.gates ∙ c.deref_mut.ensures.len) in
     let left : ShelfView g.row.D.Denot = record old { disk = disk; buffers = c.reserve.new.self.items; gates = (with_items c.self.inside.gates c.shut_gate.new.gates).items; free = c.rotate_left.new.self.items } in
-    let new : left ≡ with_first_unclosed disk old = same_parts old disk old.next_number c.reserve.new.self.items old.buffers _ (slice_set old.gates (first_block old.free) Unsure) c.rotate_left.new.self.items _ c.reserve.ensures.items (gates ∙ known ∙ ap (λ (k : ℕ). slice_set old.gates k Unsure) at) (c.rotate_left.ensures.items ∙ turned old.free) in
+    let new : left ≡ with_first_unclosed disk old = same_parts old disk old.cache old.next_number c.reserve.new.self.items old.buffers _ (slice_set old.gates (first_block old.free) Unsure) c.rotate_left.new.self.items _ c.reserve.ensures.items (gates ∙ known ∙ ap (λ (k : ℕ). slice_set old.gates k Unsure) at) (c.rotate_left.ensures.items ∙ turned old.free) in
     let unshut : gate_at old.gates c.block-block.result ≢ Shut = subst (λ (l : List Gate). gate_at l c.block-block.result ≢ Shut) c.deref_mut.ensures.value e.unshut in
     subst (λ (v : ShelfView g.row.D.Denot). (setup : Setup) (s : State) → StandsFor setup v s → Goes d.view setup (closing_failed ∷ []) v s left) c.self.view_is
     (λ setup s stands. subst (Goes d.view setup (closing_failed ∷ []) old s) (sym new) (goes_unclosed d.view law.is_disk old disk c.block-block.result is some at e.later e.honest e.was_honest e.images c.shut_gate.new.gates e.stands setup s stands unshut))
@@ -65,7 +66,7 @@ pub invariant_of-self-2 : goal.invariant_of-self-2
 invariant_of-self-2 g c =
     let d = g.D.Disk in
     let law = g.met.D.Disk in
-    let old : ShelfView g.row.D.Denot = record { disk = c.self.inside.disk; geometry = c.self.inside.geometry; limits = c.self.inside.limits; buffers = c.self.inside.buffers.items; gates = c.self.inside.gates.items; rolls = c.self.inside.ledger; holds = c.self.inside.holds; free = c.self.inside.free.items; queue = c.self.inside.queue; next_number = c.self.inside.next_number } in
+    let old : ShelfView g.row.D.Denot = record { disk = c.self.inside.disk; geometry = c.self.inside.geometry; limits = c.self.inside.limits; buffers = c.self.inside.buffers.items; gates = c.self.inside.gates.items; rolls = c.self.inside.ledger; holds = c.self.inside.holds; free = c.self.inside.free.items; queue = c.self.inside.queue; cache = c.self.inside.cache; next_number = c.self.inside.next_number } in
     let is : IsShelf d.view old = c.self.invariant.0 in
     let some : 0 < length old.free = subst (λ (v : ShelfView g.row.D.Denot). 0 < length v.free) (sym c.self.view_is) c.requires.some in
     let at : c.block-block.result ≡ first_block old.free = c.block-block.ensures ∙ ap (λ (b : BufferState). b.block) c.requires.buffer ∙ ap (λ (v : ShelfView g.row.D.Denot). first_block v.free) (sym c.self.view_is) in
@@ -81,7 +82,8 @@ invariant_of-self-2 g c =
     let number : old.next_number ≤ top_number = subst (λ (v : ShelfView g.row.D.Denot). v.next_number ≤ top_number) (sym c.self.view_is) c.requires.number in
     let shut : gate_at (slice_set old.gates (first_block old.free) Shut) (first_block old.free) ≡ Shut = get_or-set_same old.gates (first_block old.free) Shut Shut (subst (λ (n : ℕ). first_block old.free < n) (sym is.gates) (first_below d.view old is some)) in (
       subst (IsShelf d.view)
-          (sym (same_parts old disk (old.next_number + 1) c.push_reserved.new.self.items _ _ (slice_set old.gates (first_block old.free) Shut) c.pop_front.new.self.items (drop 1 old.free) pushed (gates ∙ known ∙ ap (λ (k : ℕ). slice_set old.gates k Shut) at) c.pop_front.ensures.rest))
+          (sym (same_parts old disk c.forget.new.self (old.next_number + 1) c.push_reserved.new.self.items _ _ (slice_set old.gates (first_block old.free) Shut) c.pop_front.new.self.items (drop 1 old.free) pushed (gates ∙ known ∙ ap (λ (k : ℕ). slice_set old.gates k Shut) at) c.pop_front.ensures.rest
+          ∙ ap (λ (cache : CacheState BufferState). record (with_begun c.args.buffer.stream (with_first_shut disk old)) { cache = cache }) (c.forget.ensures.kept ∙ ap (λ (k : ℕ). without_kept k old.cache) at)))
           (begun_shelf d.view (with_first_shut disk old) (shut_shelf d.view law.is_disk old disk c.block-block.result is some at e.later e.honest e.was_honest e.images c.shut_gate.new.gates e.stands known) c.args.buffer.stream number some shut),
       subst (λ (n : ℕ). c.self.inside.geometry.blocks ≤ n) (sym c.pop_front.ensures.capacity) c.self.invariant.1,
     )
@@ -90,7 +92,7 @@ pub returns-clause-whole : goal.returns-clause-whole
 returns-clause-whole g c =
     let d = g.D.Disk in
     let law = g.met.D.Disk in
-    let old : ShelfView g.row.D.Denot = record { disk = c.self.inside.disk; geometry = c.self.inside.geometry; limits = c.self.inside.limits; buffers = c.self.inside.buffers.items; gates = c.self.inside.gates.items; rolls = c.self.inside.ledger; holds = c.self.inside.holds; free = c.self.inside.free.items; queue = c.self.inside.queue; next_number = c.self.inside.next_number } in
+    let old : ShelfView g.row.D.Denot = record { disk = c.self.inside.disk; geometry = c.self.inside.geometry; limits = c.self.inside.limits; buffers = c.self.inside.buffers.items; gates = c.self.inside.gates.items; rolls = c.self.inside.ledger; holds = c.self.inside.holds; free = c.self.inside.free.items; queue = c.self.inside.queue; cache = c.self.inside.cache; next_number = c.self.inside.next_number } in
     let is : IsShelf d.view old = c.self.invariant.0 in
     let some : 0 < length old.free = subst (λ (v : ShelfView g.row.D.Denot). 0 < length v.free) (sym c.self.view_is) c.requires.some in
     let at : c.block-block.result ≡ first_block old.free = c.block-block.ensures ∙ ap (λ (b : BufferState). b.block) c.requires.buffer ∙ ap (λ (v : ShelfView g.row.D.Denot). first_block v.free) (sym c.self.view_is) in
@@ -103,7 +105,7 @@ pub returns-clause-goes : goal.returns-clause-goes
 returns-clause-goes g c =
     let d = g.D.Disk in
     let law = g.met.D.Disk in
-    let old : ShelfView g.row.D.Denot = record { disk = c.self.inside.disk; geometry = c.self.inside.geometry; limits = c.self.inside.limits; buffers = c.self.inside.buffers.items; gates = c.self.inside.gates.items; rolls = c.self.inside.ledger; holds = c.self.inside.holds; free = c.self.inside.free.items; queue = c.self.inside.queue; next_number = c.self.inside.next_number } in
+    let old : ShelfView g.row.D.Denot = record { disk = c.self.inside.disk; geometry = c.self.inside.geometry; limits = c.self.inside.limits; buffers = c.self.inside.buffers.items; gates = c.self.inside.gates.items; rolls = c.self.inside.ledger; holds = c.self.inside.holds; free = c.self.inside.free.items; queue = c.self.inside.queue; cache = c.self.inside.cache; next_number = c.self.inside.next_number } in
     let is : IsShelf d.view old = c.self.invariant.0 in
     let some : 0 < length old.free = subst (λ (v : ShelfView g.row.D.Denot). 0 < length v.free) (sym c.self.view_is) c.requires.some in
     let at : c.block-block.result ≡ first_block old.free = c.block-block.ensures ∙ ap (λ (b : BufferState). b.block) c.requires.buffer ∙ ap (λ (v : ShelfView g.row.D.Denot). first_block v.free) (sym c.self.view_is) in

@@ -8,20 +8,20 @@ use Rattle.post_cache.proofs.Slots.{bodies_in-filter}
 use Rattle.post_cache.proofs.cache.Cache.forget.Goals as goal
 
 -- the closure keeps the slots of the other blocks
-others : (c : goal.After-retain) → bodies_in c.retain.new.self.items ≡ without_block c.args.block (bodies_in c.self.inside.slots.items)
-others c =
-    ap bodies_in (filter_same _ (λ (x : Slot). not (eqb x.block c.args.block)) _ (λ x b f' called. search rules) _ _ c.retain.ensures.filtered)
+others : (g : _) (c : goal.After-retain g) → bodies_in c.retain.new.self.items ≡ without_block c.args.block (bodies_in c.self.inside.slots.items)
+others g c =
+    ap bodies_in (filter_same _ (λ (x : Slot _). not (eqb x.block c.args.block)) _ (λ x b f' called. search rules) _ _ c.retain.ensures.filtered)
     ∙ bodies_in-filter c.args.block c.self.inside.slots.items
 
 pub invariant_of-self : goal.invariant_of-self
-invariant_of-self c =
-    (rw (others c) (IsCache-without_block c.args.block _ c.self.invariant.0), omega (arith, c.retain.ensures.capacity, c.self.invariant.1))
+invariant_of-self g c =
+    (rw (others g c) (IsCache-without_block c.args.block _ c.self.invariant.0), omega (arith, c.retain.ensures.capacity, c.self.invariant.1))
 
 pub returns-clause-kept : goal.returns-clause-kept
-returns-clause-kept c =
-    let kept = others c ∙ ap (λ (s : CacheState). without_block c.args.block s.kept) c.self.view_is in
-    let limit = ap (λ (s : CacheState). s.limit) c.self.view_is in
+returns-clause-kept g c =
+    let kept = others g c ∙ ap (λ (s : CacheState _). without_block c.args.block s.kept) c.self.view_is in
+    let limit = ap (λ (s : CacheState _). s.limit) c.self.view_is in
     λ i. record { kept = kept i; limit = limit i }
 
 pub returns-clause-bounds : goal.returns-clause-bounds
-returns-clause-bounds c = rw (others c) (IsCache-without_block c.args.block _ c.self.invariant.0)
+returns-clause-bounds g c = rw (others g c) (IsCache-without_block c.args.block _ c.self.invariant.0)
