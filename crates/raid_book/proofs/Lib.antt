@@ -1,0 +1,5 @@
+pub mod Lists
+pub mod Rows
+pub mod Leasts
+pub mod Books
+pub mod Standing

@@ -1,0 +1,5 @@
+pub mod Found
+pub mod Turns
+pub mod Books
+pub mod Fields
+pub mod Raids
