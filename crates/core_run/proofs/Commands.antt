@@ -19,13 +19,14 @@ use Rattle.shard_core.specs.View.{ShardView}
 use Rattle.shard_core.specs.Stands.{Agrees}
 use Rattle.shard_core.specs.Calls.{GetsStored}
 use Rattle.shard_core.specs.declared.refusals.DefragCause.{DefragCause}
+use Rattle.shard_core.specs.declared.refusals.WriteRefusal.{WriteRefusal}
 use Rattle.core_run.specs.Views.{serving, halted, disks_served, views_of, unknown, AreLater}
 use Rattle.core_run.specs.Standing.{Each, StandsOn, StandsSafelyOn, StandsFor, StandsSafely, Halts, HaltsSafely}
 use Rattle.core_run.specs.Calls.{digest_of, RepliesStored, Acts, Tends}
-use Rattle.core_run.specs.Turns.{GoesOn, RepliesTo, RepliesOn, TendTurn, Through, WorksEach, plus_one, plus_both, IsFlushed, FlushesOn, FlushesEach, IsDefragged, DefragsOn, DefragsEach}
+use Rattle.core_run.specs.Turns.{GoesOn, RepliesTo, RepliesOn, TendTurn, Through, WorksEach, plus_one, plus_both, IsFlushed, FlushesOn, FlushesEach, IsDefragged, DefragsOn, DefragsEach, IsExpired, ExpiresOn, ExpiresAll}
 use Rattle.core_run.proofs.Places.{events_of, nones, no_events}
 use Rattle.core_run.proofs.Making.{Made, slot_at, each_length, each_more, along_none}
-use Rattle.core_run.proofs.Acting.{Safely, over_any, over_safe, event_turn, flush_turns, defrag_turns, tend_turns}
+use Rattle.core_run.proofs.Acting.{Safely, over_any, over_safe, event_turn, flush_turns, defrag_turns, expire_turns, tend_turns}
 use Rattle.core_run.proofs.Replying.{known_goes_on, stat_goes_on, one_sum_goes_on, two_sums_goes_on, one_digest}
 use Rattle.core_run.proofs.Nodes.{one_shards, serves_or_halts, later_same, later_at, later_through, acts_any, acts_safe, tends_any, tends_safe}
 
@@ -163,7 +164,7 @@ module _ {D : Type 0} (view : D → DiskView) (is_disk : (disk : D) → IsDisk (
       subst (λ (n : ℕ). Acts view (serving olds) c now r (serving (set olds n new))) (sym is)
       (by_command olds digest old new (subst (λ (n : ℕ). slice_get olds n ≡ Some old) is at) goes c now r on replies)
 
-  -- ---- a flush, and a defragmentation
+  -- ---- a flush, a defragmentation, and an expiry
 
   work_later : {R E : Type 0} (Does : Result R E → ShardView D → ShardView D → Type 0) (plus : R → R → R) → ((result : Result R E) (old new : ShardView D) → Does result old new → GoesOn view old new)
       → (result : Result R E) (a : R) (olds news : List (ShardView D)) → WorksEach Does plus result a olds news → AreLater view (disks_served olds) (disks_served news)
@@ -197,6 +198,17 @@ module _ {D : Type 0} (view : D → DiskView) (is_disk : (disk : D) → IsDisk (
       (λ node stands.
       let t = defrag_turns view (StandsSafelyOn view) (Safely view) (over_safe view is_disk) result olds news node each stands in
       acts_safe view olds news node t.0 t.1 command.Defrag now r (t.2.0, t.2.2, is t.2.0 t.2.1) (λ h. two_sums_goes_on t.2.0 (sym (is t.2.0 t.2.1) ∙ h)))
+
+  pub expire_acts : (result : Result ℕ WriteRefusal) (olds news : List (ShardView D)) (now : ℕ) (r : Reply) → ExpiresAll view now result olds news
+      → ((outcome : Outcome) → IsExpired result outcome → r ≡ one_sum outcome) → Acts view (serving olds) command.Expire now r (serving news)
+  expire_acts result olds news now r each is =
+      acts_serving olds news command.Expire now r (work_later (ExpiresOn view now) plus_one (λ done old new does. does.goes) result 0 olds news each) (λ e. cc) tt
+      (λ node stands.
+      let t = expire_turns view (StandsOn view) (Made false (StandsOn view)) (over_any view) now result olds news node each stands in
+      acts_any view olds news node t.0 t.1 command.Expire now r (t.2.0, t.2.2, is t.2.0 t.2.1) (λ h. one_sum_goes_on t.2.0 (sym (is t.2.0 t.2.1) ∙ h)))
+      (λ node stands.
+      let t = expire_turns view (StandsSafelyOn view) (Safely view) (over_safe view is_disk) now result olds news node each stands in
+      acts_safe view olds news node t.0 t.1 command.Expire now r (t.2.0, t.2.2, is t.2.0 t.2.1) (λ h. one_sum_goes_on t.2.0 (sym (is t.2.0 t.2.1) ∙ h)))
 
   -- ---- the numbers
 

@@ -63,7 +63,7 @@ module _ (setup : Setup) (n : ℕ) (s : State) where
 
 module _ {D : Type 0} (view : D → DiskView) where
   -- events of the device, and then others
-  makes_then : (old mid new : ShardView D) (s : State) (Work More Both : List Event → Type 0) → GoesOn view old mid → (first : MakesEvents view Work old s mid)
+  pub makes_then : (old mid new : ShardView D) (s : State) (Work More Both : List Event → Type 0) → GoesOn view old mid → (first : MakesEvents view Work old s mid)
       → (then : MakesEvents view More mid (after_events (setup_of old) first.events s) new) → Both (first.events ++ then.events) → MakesEvents view Both old s new
   makes_then old mid new s Work More Both goes first then both =
       makes_events view old new s Both (first.events ++ then.events) both

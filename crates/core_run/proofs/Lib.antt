@@ -3,6 +3,7 @@ pub mod Making
 pub mod Turning
 pub mod Looping
 pub mod Defragging
+pub mod Expiring
 pub mod Startings
 pub mod Counting
 pub mod Acting

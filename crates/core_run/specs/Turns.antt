@@ -4,20 +4,22 @@ use Rattle.disk_model.specs.Disk.{DiskView, IsHonest}
 use Rattle.device_model.specs.Device.{State, seen}
 use Rattle.device_model.specs.Events.{Call, put_call, get_call, delete_call, bury_call, flush_call, Answer, Cause, disk_fault, Event}
 use Rattle.device_model.specs.Vacating.{Outcome, VacatesUpTo, Tends, did, stopped}
+use Rattle.device_model.specs.Expiring.{ExpiresEach}
 use Rattle.block_shelf.specs.Disks.{IsLater}
 use Rattle.block_shelf.specs.declared.refusals.ReadRefusal.{ReadRefusal}
 use Rattle.rec_format.specs.declared.entry.Counts.{Counts}
 use Rattle.rec_format.specs.declared.version.Version.{Version}
 use Rattle.shard_core.specs.View.{ShardView, SameSetup, setup_of}
 use Rattle.shard_core.specs.Stands.{Agrees}
-use Rattle.shard_core.specs.Calls.{Makes, GetsStored, read_answer, flush_answer}
+use Rattle.shard_core.specs.Calls.{Makes, GetsStored, cause_of_write, read_answer, flush_answer}
 use Rattle.shard_core.specs.Vacating.{MakesEvents, IsCauseOf}
 use Rattle.shard_core.specs.declared.refusals.DefragCause.{DefragCause}
+use Rattle.shard_core.specs.declared.refusals.WriteRefusal.{WriteRefusal}
 use Rattle.line_proto.specs.declared.command.Command.{Command}
 use Rattle.line_proto.specs.declared.command.Command.TheVariants as command
 use Rattle.line_proto.specs.declared.reply.Reply.{Reply}
 use Rattle.line_proto.specs.declared.reply.Reply.TheVariants as reply
-use Rattle.node_model.specs.Commands.{answer_reply, meta_reply}
+use Rattle.node_model.specs.Commands.{answer_reply, meta_reply, expired_entries}
 
 -- ---- one device
 
@@ -64,6 +66,18 @@ IsDefrag shard s result events = (outcome : Outcome) × IsDefragged result outco
 pub record DefragsOn {D : Type 0} (view : D → DiskView) (result : Result (ℕ × ℕ) DefragCause) (old new : ShardView D) : Type 0 where
   pub goes : GoesOn view old new
   pub makes : (s : State) → Agrees old s → MakesEvents view (IsDefrag old s result) old s new
+
+-- so many expired entries were removed, or one wasn't
+abbrev pub IsExpired : Result ℕ WriteRefusal → Outcome → Type 0
+IsExpired result outcome = EndsAs (λ n. (n, 0)) (λ refusal cause. cause ≡ cause_of_write refusal) result outcome
+
+-- so it is for one device, where all that is expired at the start is gone over
+abbrev pub IsExpiry : {D : Type 0} → ShardView D → (now : ℕ) → State → Result ℕ WriteRefusal → List Event → Type 0
+IsExpiry shard now s result events = (outcome : Outcome) × IsExpired result outcome × ExpiresEach now (expired_entries (setup_of shard) now s) 0 events outcome
+
+pub record ExpiresOn {D : Type 0} (view : D → DiskView) (now : ℕ) (result : Result ℕ WriteRefusal) (old new : ShardView D) : Type 0 where
+  pub goes : GoesOn view old new
+  pub makes : (s : State) → Agrees old s → MakesEvents view (IsExpiry old now s result) old s new
 
 -- a flush of one device, by what it answers
 pub record FlushesOn {D E : Type 0} (view : D → DiskView) (flushed : Result ℕ E) (old new : ShardView D) : Type 0 where
@@ -114,6 +128,10 @@ FlushesEach {D} {E} view flushed olds news = WorksEach (FlushesOn {E = E} view) 
 -- each device is defragmented: so many records are moved, out of so many blocks
 abbrev pub DefragsEach : {D : Type 0} → (view : D → DiskView) → Result (ℕ × ℕ) DefragCause → (olds news : List (ShardView D)) → Type 0
 DefragsEach view result olds news = WorksEach (DefragsOn view) plus_both result (0, 0) olds news
+
+-- the expired entries of each device are removed, and so many with them
+abbrev pub ExpiresAll : {D : Type 0} → (view : D → DiskView) → (now : ℕ) → Result ℕ WriteRefusal → (olds news : List (ShardView D)) → Type 0
+ExpiresAll view now result olds news = WorksEach (ExpiresOn view now) plus_one result 0 olds news
 
 abbrev pub first_failed : {E : Type 0} → (device : ℕ) → (failed : Option ℕ) → Result ℕ E → Option ℕ
 first_failed device (Some earlier) flushed = Some earlier

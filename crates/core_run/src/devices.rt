@@ -3,11 +3,11 @@ ghost use Rattle.std.specs.Prelude.{◌≡◌, ◌≤◌, ◌<◌, ◌^◌, ℕ,
 ghost use Rattle.disk_model.specs.declared.disk.DiskFault.{DiskFault};
 ghost use Rattle.node_model.specs.Commands.{Node, node_counts};
 ghost use Rattle.core_run.specs.Standing.{Each, StandsOn};
-ghost use Rattle.core_run.specs.Turns.{Through, TendTurn, CloseTurn, DefragsOn, DefragsEach, FlushesEach, wrapped_sum};
+ghost use Rattle.core_run.specs.Turns.{Through, TendTurn, CloseTurn, DefragsOn, DefragsEach, ExpiresOn, ExpiresAll, FlushesEach, wrapped_sum};
 
 use disk_model::{Disk, DiskFault};
 use rec_format::Counts;
-use shard_core::{DefragCause, Shard};
+use shard_core::{DefragCause, Shard, WriteRefusal};
 use std::alloc::Global;
 
 /// Flushes each device, up to the first that fails; answers how many buffers they flushed.
@@ -60,6 +60,39 @@ pub fn defrag_each<D: Disk>(
         vacated += one.1;
     }
     Ok((moved, vacated))
+}
+
+// Removes the expired entries of a device, part by part, and answers how many.
+fn expire<D: Disk>(alloc: Global, shard: &mut Shard<D>, now: u64) -> Result<u64, WriteRefusal>
+    requires time { now ≤ 2 ^ 61 }
+    ensures expires { ExpiresOn D.view now result shard.old shard.new }
+    ensures few { IfOk result (λ removed. removed ≤ 2 ^ 52) }
+{
+    let mut removed = 0;
+    for part in 0..shard.parts() {
+        match shard.expire_part(alloc, part, now) {
+            Ok(here) => removed += here,
+            Err(refused) => return Err(refused.cause),
+        }
+    }
+    Ok(removed)
+}
+
+/// Removes the expired entries of each device, up to the first that is refused; answers how many.
+pub fn expire_each<D: Disk>(
+    alloc: Global,
+    shards: &mut [Shard<D>],
+    now: u64,
+) -> Result<u64, WriteRefusal>
+    requires few { length shards.old ≤ 16 }
+    requires time { now ≤ 2 ^ 61 }
+    ensures { ExpiresAll D.view now result shards.old shards.new }
+{
+    let mut removed = 0;
+    for shard in shards.iter_mut() {
+        removed += expire(alloc, shard, now)?;
+    }
+    Ok(removed)
 }
 
 /// Tends each device.

@@ -11,9 +11,9 @@ ghost use Rattle.core_run.specs.Starts.{StartsEach, RefusesAt};
 ghost use Rattle.core_run.specs.Turns.{RepliesOn, GoesOn};
 ghost use Rattle.core_run.specs.Calls.{Acts, Closes, digest_of};
 
-use crate::devices::{close_each, counts_of, defrag_each, flush_each, tend_each};
+use crate::devices::{close_each, counts_of, defrag_each, expire_each, flush_each, tend_each};
 use crate::replies::{
-    defrag_reply, delete_reply, flush_reply, known_reply, read_reply, write_reply,
+    defrag_reply, delete_reply, expire_reply, flush_reply, known_reply, read_reply, write_reply,
 };
 use crate::starts::{start_all, stop_all};
 use disk_model::Disk;
@@ -219,6 +219,7 @@ impl<D: Disk> Store for Node<D> {
         match command {
             Command::Flush => flush_reply(flush_each(&mut self.shards)),
             Command::Defrag => defrag_reply(defrag_each(alloc, &mut self.shards)),
+            Command::Expire => expire_reply(expire_each(alloc, &mut self.shards, now)),
             Command::Stat => Reply::StatOf(counts_of(&self.shards)),
             Command::Restart => self.restart(alloc),
             _ => unreachable!(),

@@ -6,7 +6,7 @@ ghost use Rattle.device_model.specs.Vacating.{Outcome};
 ghost use Rattle.node_model.specs.Commands.{answer_reply, fault_of, meta_reply, one_sum, two_sums};
 ghost use Rattle.shard_core.specs.Vacating.{IsCauseOf};
 ghost use Rattle.shard_core.specs.Calls.{cause_of_write, delete_answer, meta_of, read_answer, write_answer};
-ghost use Rattle.core_run.specs.Turns.{IsDefragged, IsFlushed};
+ghost use Rattle.core_run.specs.Turns.{IsDefragged, IsExpired, IsFlushed};
 
 use disk_model::DiskFault;
 use line_proto::{LineFault, Reply};
@@ -103,6 +103,15 @@ pub fn defrag_reply(done: Result<(u64, u64), DefragCause>) -> Reply
             b: vacated,
         },
         Err(cause) => Reply::Fail(defrag_fault(cause)),
+    }
+}
+
+pub fn expire_reply(expired: Result<u64, WriteRefusal>) -> Reply
+    ensures { (outcome : Outcome) → IsExpired expired outcome → result ≡ one_sum outcome }
+{
+    match expired {
+        Ok(n) => Reply::Done1 { n },
+        Err(refusal) => Reply::Fail(write_fault(refusal)),
     }
 }
 

@@ -6,3 +6,4 @@ pub mod Events
 pub mod Legal
 pub mod Passes
 pub mod Vacating
+pub mod Expiring

@@ -6,7 +6,7 @@
 ghost use Rattle.std.specs.Prelude.{◌≡◌};
 ghost use Rattle.std.specs.Option.{option_copied};
 ghost use Rattle.rec_format.specs.Versions.{void_time, is_expired};
-ghost use Rattle.expiry_rule.specs.Seen.{seen_entry};
+ghost use Rattle.expiry_rule.specs.Seen.{seen_entry, expired_entry};
 
 use rec_format::{Entry, Kind};
 
@@ -37,4 +37,11 @@ pub fn seen(entry: Option<&Entry>, now: u64) -> Option<&Entry>
     ensures { option_copied result ≡ seen_entry now (option_copied entry.entry) }
 {
     entry.filter(|entry| entry.kind == Kind::Put && !expired(entry.void, now))
+}
+
+/// The entry, where it is a put that is expired at the time `now`. A tombstone never expires.
+pub fn expired_put(entry: Option<&Entry>, now: u64) -> Option<&Entry>
+    ensures { option_copied result ≡ expired_entry now (option_copied entry.entry) }
+{
+    entry.filter(|entry| entry.kind == Kind::Put && expired(entry.void, now))
 }

@@ -42,3 +42,15 @@ fn a_reader_sees_puts_that_are_not_expired(rt: HostRuntime) {
     assert!(rt; seen(Some(&short), 2000).is_none());
     assert!(rt; seen(Some(&buried), 1000).is_none());
 }
+
+#[test]
+fn puts_expire_and_tombstones_do_not(rt: HostRuntime) {
+    let lasting = entry(Kind::Put, 0);
+    let short = entry(Kind::Put, 2);
+    let buried = entry(Kind::Tomb, 2);
+    assert!(rt; expired_put(None, 2000).is_none());
+    assert!(rt; expired_put(Some(&lasting), 1 << 61).is_none());
+    assert!(rt; expired_put(Some(&short), 1999).is_none());
+    assert!(rt; expired_put(Some(&short), 2000) == Some(&short));
+    assert!(rt; expired_put(Some(&buried), 2000).is_none());
+}

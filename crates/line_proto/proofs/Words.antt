@@ -12,7 +12,7 @@ use Rattle.hex.specs.Hex.{is_hex_digit, decode_sized}
 use Rattle.hex.proofs.HexLemmas.{decode_of-ok, decode_sized-ok, decode_sized-twice}
 use Rattle.rec_format.specs.declared.version.Digest.{Digest}
 use Rattle.line_proto.specs.declared.command.Command.{Command}
-use Rattle.line_proto.specs.declared.command.Command.TheVariants.{Put, Get, Meta, Del, Bury, Flush, Defrag, Stat, Restart, Quit}
+use Rattle.line_proto.specs.declared.command.Command.TheVariants.{Put, Get, Meta, Del, Bury, Flush, Defrag, Expire, Stat, Restart, Quit}
 use Rattle.line_proto.specs.Lines.{line_limit, IsDigestText, IsExpectText, IsDataText, IsDigestLine, Spells}
 use Rattle.line_proto.specs.Built.{IsBuilt, IsLine, IsInRange}
 use Rattle.line_proto.specs.Reading.{IsWord, IsFour, IsPut, IsAlone, IsDigestCommand, IsPutCommand}
@@ -200,6 +200,7 @@ digest_command line word text fits parted no_put (Del digest) = built_line line 
 digest_command line word text fits parted no_put (Bury digest) = built_line line (Bury digest) _ fits tt (digest_line line word text (codes "bury") digest parted (word_by (codes "bury") refl))
 digest_command line word text fits parted no_put Flush = (λ wrong. absurd wrong, λ other. absurd (not_alone line word text (codes "flush") parted.0 (word_by (codes "flush") refl) other.spelled.spells))
 digest_command line word text fits parted no_put Defrag = (λ wrong. absurd wrong, λ other. absurd (not_alone line word text (codes "defrag") parted.0 (word_by (codes "defrag") refl) other.spelled.spells))
+digest_command line word text fits parted no_put Expire = (λ wrong. absurd wrong, λ other. absurd (not_alone line word text (codes "expire") parted.0 (word_by (codes "expire") refl) other.spelled.spells))
 digest_command line word text fits parted no_put Stat = (λ wrong. absurd wrong, λ other. absurd (not_alone line word text (codes "stat") parted.0 (word_by (codes "stat") refl) other.spelled.spells))
 digest_command line word text fits parted no_put Restart = (λ wrong. absurd wrong, λ other. absurd (not_alone line word text (codes "restart") parted.0 (word_by (codes "restart") refl) other.spelled.spells))
 digest_command line word text fits parted no_put Quit = (λ wrong. absurd wrong, λ other. absurd (not_alone line word text (codes "quit") parted.0 (word_by (codes "quit") refl) other.spelled.spells))
@@ -210,11 +211,10 @@ no_put : (line word text w : List ℕ) (digest : Digest) → (line ≡ word ++ 3
 no_put line word text w digest parted is_put differs is_word spelled =
     apart (codes "put") w differs (sym is_put ∙ (one_cut word w text spelled.text parted.1 is_word (sym parted.0 ∙ spelled.line_is)).0)
 
--- a line whose first word is `put` is the command of what stands behind it, where that is built
-put_command : (line word text : List ℕ) → length line ≤ line_limit → (line ≡ word ++ 32 ∷ text) × IsWord word → word ≡ codes "put" → (c : Command) → (IsPutCommand text c × IsBuilt c) ↔ IsLine line c
+-- a line whose first word is `put` is the command of what stands behind it
+put_command : (line word text : List ℕ) → length line ≤ line_limit → (line ≡ word ++ 32 ∷ text) × IsWord word → word ≡ codes "put" → (c : Command) → IsPutCommand text c ↔ IsLine line c
 put_command line word text fits parted is_put (Put digest ttl expect payload) = (
-  λ both.
-      let put = both.0 in
+  λ put.
       record {
         spelled = record {
           short = fits;
@@ -229,33 +229,32 @@ put_command line word text fits parted is_put (Put digest ttl expect payload) = 
             line_is = parted.0 ∙ (λ i. is_put i ++ 32 ∷ put.spelled i);
           };
         };
-        built = both.1;
+        built = tt;
       },
   λ other.
-      let put = other.spelled.spells in (
-        record {
-          digest_text = put.digest_text;
-          expect_text = put.expect_text;
-          data_text = put.data_text;
-          is_digest = put.is_digest;
-          in_range = put.in_range;
-          is_expect = put.is_expect;
-          is_data = put.is_data;
-          spelled = (one_cut word (codes "put") text _ parted.1 (word_by (codes "put") refl) (sym parted.0 ∙ put.line_is)).1;
-        },
-        other.built,
-      ),
+      let put = other.spelled.spells in
+      record {
+        digest_text = put.digest_text;
+        expect_text = put.expect_text;
+        data_text = put.data_text;
+        is_digest = put.is_digest;
+        in_range = put.in_range;
+        is_expect = put.is_expect;
+        is_data = put.is_data;
+        spelled = (one_cut word (codes "put") text _ parted.1 (word_by (codes "put") refl) (sym parted.0 ∙ put.line_is)).1;
+      },
 )
-put_command line word text fits parted is_put (Get digest) = (λ both. absurd both.0, λ other. absurd (no_put line word text (codes "get") digest parted is_put refl (word_by (codes "get") refl) other.spelled.spells))
-put_command line word text fits parted is_put (Meta digest) = (λ both. absurd both.0, λ other. absurd (no_put line word text (codes "meta") digest parted is_put refl (word_by (codes "meta") refl) other.spelled.spells))
-put_command line word text fits parted is_put (Del digest) = (λ both. absurd both.0, λ other. absurd (no_put line word text (codes "del") digest parted is_put refl (word_by (codes "del") refl) other.spelled.spells))
-put_command line word text fits parted is_put (Bury digest) = (λ both. absurd both.0, λ other. absurd (no_put line word text (codes "bury") digest parted is_put refl (word_by (codes "bury") refl) other.spelled.spells))
-put_command line word text fits parted is_put Flush = (λ both. absurd both.0, λ other. absurd (not_alone line word text (codes "flush") parted.0 (word_by (codes "flush") refl) other.spelled.spells))
-put_command line word text fits parted is_put Defrag = (λ both. absurd both.0, λ other. absurd (not_alone line word text (codes "defrag") parted.0 (word_by (codes "defrag") refl) other.spelled.spells))
-put_command line word text fits parted is_put Stat = (λ both. absurd both.0, λ other. absurd (not_alone line word text (codes "stat") parted.0 (word_by (codes "stat") refl) other.spelled.spells))
-put_command line word text fits parted is_put Restart = (λ both. absurd both.0, λ other. absurd (not_alone line word text (codes "restart") parted.0 (word_by (codes "restart") refl) other.spelled.spells))
-put_command line word text fits parted is_put Quit = (λ both. absurd both.0, λ other. absurd (not_alone line word text (codes "quit") parted.0 (word_by (codes "quit") refl) other.spelled.spells))
-put_command line word text fits parted is_put c = (λ both. absurd both.0, λ other. absurd other.built)
+put_command line word text fits parted is_put (Get digest) = (λ wrong. absurd wrong, λ other. absurd (no_put line word text (codes "get") digest parted is_put refl (word_by (codes "get") refl) other.spelled.spells))
+put_command line word text fits parted is_put (Meta digest) = (λ wrong. absurd wrong, λ other. absurd (no_put line word text (codes "meta") digest parted is_put refl (word_by (codes "meta") refl) other.spelled.spells))
+put_command line word text fits parted is_put (Del digest) = (λ wrong. absurd wrong, λ other. absurd (no_put line word text (codes "del") digest parted is_put refl (word_by (codes "del") refl) other.spelled.spells))
+put_command line word text fits parted is_put (Bury digest) = (λ wrong. absurd wrong, λ other. absurd (no_put line word text (codes "bury") digest parted is_put refl (word_by (codes "bury") refl) other.spelled.spells))
+put_command line word text fits parted is_put Flush = (λ wrong. absurd wrong, λ other. absurd (not_alone line word text (codes "flush") parted.0 (word_by (codes "flush") refl) other.spelled.spells))
+put_command line word text fits parted is_put Defrag = (λ wrong. absurd wrong, λ other. absurd (not_alone line word text (codes "defrag") parted.0 (word_by (codes "defrag") refl) other.spelled.spells))
+put_command line word text fits parted is_put Expire = (λ wrong. absurd wrong, λ other. absurd (not_alone line word text (codes "expire") parted.0 (word_by (codes "expire") refl) other.spelled.spells))
+put_command line word text fits parted is_put Stat = (λ wrong. absurd wrong, λ other. absurd (not_alone line word text (codes "stat") parted.0 (word_by (codes "stat") refl) other.spelled.spells))
+put_command line word text fits parted is_put Restart = (λ wrong. absurd wrong, λ other. absurd (not_alone line word text (codes "restart") parted.0 (word_by (codes "restart") refl) other.spelled.spells))
+put_command line word text fits parted is_put Quit = (λ wrong. absurd wrong, λ other. absurd (not_alone line word text (codes "quit") parted.0 (word_by (codes "quit") refl) other.spelled.spells))
+put_command line word text fits parted is_put c = (λ wrong. absurd wrong, λ other. absurd other.built)
 
 -- so a line is read where its parts are
 pub line_of_digest : (line word text : List ℕ) (read : Option Command) → length line ≤ line_limit → (line ≡ word ++ 32 ∷ text) × IsWord word → (word ≡ codes "put" → ⊥)
@@ -264,13 +263,11 @@ line_of_digest line word text read fits parted no_put reads c =
     let both = digest_command line word text fits parted no_put c in
     (λ r. both.0 ((reads c).0 r), λ is. (reads c).1 (both.1 is))
 
-pub line_of_put : (line word text : List ℕ) (all read : Option Command) → length line ≤ line_limit → (line ≡ word ++ 32 ∷ text) × IsWord word → word ≡ codes "put"
-    → ((c : Command) → (all ≡ Some c) ↔ IsPutCommand text c) → ((c : Command) → (read ≡ Some c) ↔ ((all ≡ Some c) × IsBuilt c)) → (c : Command) → (read ≡ Some c) ↔ IsLine line c
-line_of_put line word text all read fits parted is_put reads filters c =
-    let both = put_command line word text fits parted is_put c in (
-      λ r. let got = (filters c).0 r in both.0 ((reads c).0 got.0, got.1),
-      λ is. let parts = both.1 is in (filters c).1 ((reads c).1 parts.0, parts.1),
-    )
+pub line_of_put : (line word text : List ℕ) (read : Option Command) → length line ≤ line_limit → (line ≡ word ++ 32 ∷ text) × IsWord word → word ≡ codes "put"
+    → ((c : Command) → (read ≡ Some c) ↔ IsPutCommand text c) → (c : Command) → (read ≡ Some c) ↔ IsLine line c
+line_of_put line word text read fits parted is_put reads c =
+    let both = put_command line word text fits parted is_put c in
+    (λ r. both.0 ((reads c).0 r), λ is. (reads c).1 (both.1 is))
 
 -- a line without a space is the command of its one word
 alone_command : (line : List ℕ) → length line ≤ line_limit → IsWord line → (c : Command) → IsAlone line c ↔ IsLine line c
@@ -281,6 +278,7 @@ alone_command line fits is_word (Del digest) = (λ wrong. absurd wrong, λ other
 alone_command line fits is_word (Bury digest) = (λ wrong. absurd wrong, λ other. absurd (no_cut (codes "bury") _ (subst IsWord other.spelled.spells.line_is is_word)))
 alone_command line fits is_word Flush = built_line line Flush _ fits tt (λ is. is, λ is. is)
 alone_command line fits is_word Defrag = built_line line Defrag _ fits tt (λ is. is, λ is. is)
+alone_command line fits is_word Expire = built_line line Expire _ fits tt (λ is. is, λ is. is)
 alone_command line fits is_word Stat = built_line line Stat _ fits tt (λ is. is, λ is. is)
 alone_command line fits is_word Restart = built_line line Restart _ fits tt (λ is. is, λ is. is)
 alone_command line fits is_word Quit = built_line line Quit _ fits tt (λ is. is, λ is. is)
@@ -303,7 +301,7 @@ in_range line (Put digest ttl expect payload) is =
     let fits = data_fits put.data_text payload put.is_data in
     record {
       numbers = (put.in_range, within (length payload) (length put.data_text) (length line) fits (shorter line put.digest_text (decimal ttl) put.expect_text put.data_text put.line_is) is.spelled.short);
-      built = is.built;
+      built = tt;
     }
   where
     within : (a b c : ℕ) → a ≤ b → b ≤ c → c ≤ line_limit → a ≤ 2 ^ 31
@@ -317,6 +315,7 @@ in_range line (Del digest) is = record { numbers = tt; built = tt }
 in_range line (Bury digest) is = record { numbers = tt; built = tt }
 in_range line Flush is = record { numbers = tt; built = tt }
 in_range line Defrag is = record { numbers = tt; built = tt }
+in_range line Expire is = record { numbers = tt; built = tt }
 in_range line Stat is = record { numbers = tt; built = tt }
 in_range line Restart is = record { numbers = tt; built = tt }
 in_range line Quit is = record { numbers = tt; built = tt }

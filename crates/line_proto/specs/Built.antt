@@ -1,20 +1,20 @@
 -- Crate line_proto. Which commands are built so far. A line that asks for another is taken as no command at all, so it is
 -- answered `err line`. A command that is built later is allowed here, read by `read_command`, and carried out by the store.
-use Rattle.std.specs.Prelude.{ℕ, ◌^◌, ◌≤◌, List, length, ◌≡◌}
+use Rattle.std.specs.Prelude.{ℕ, ◌^◌, ◌≤◌, List, length}
 use Rattle.line_proto.specs.declared.command.Command.{Command}
 use Rattle.line_proto.specs.declared.command.Command.TheVariants as command
 use Rattle.line_proto.specs.Lines.{IsCommandLine}
 
--- a put that never expires, the other commands of one digest, `flush`, `defrag`, `stat`, `restart` and `quit`
+-- all but `raid`
 abbrev pub IsBuilt : Command → Type 0
-IsBuilt (command.Put digest ttl expect payload) = ttl ≡ 0
+IsBuilt (command.Put digest ttl expect payload) = Unit {0}
 IsBuilt (command.Get digest) = Unit {0}
 IsBuilt (command.Meta digest) = Unit {0}
 IsBuilt (command.Del digest) = Unit {0}
 IsBuilt (command.Bury digest) = Unit {0}
 IsBuilt command.Flush = Unit {0}
 IsBuilt command.Defrag = Unit {0}
-IsBuilt command.Expire = ⊥
+IsBuilt command.Expire = Unit {0}
 IsBuilt command.Raid = ⊥
 IsBuilt command.Stat = Unit {0}
 IsBuilt command.Restart = Unit {0}

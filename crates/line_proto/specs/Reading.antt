@@ -44,6 +44,7 @@ IsAlone line command.Stat = line ≡ codes "stat"
 IsAlone line command.Restart = line ≡ codes "restart"
 IsAlone line command.Quit = line ≡ codes "quit"
 IsAlone line command.Defrag = line ≡ codes "defrag"
+IsAlone line command.Expire = line ≡ codes "expire"
 IsAlone line _ = ⊥
 
 -- what stands behind `put ` is this command

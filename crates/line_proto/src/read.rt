@@ -1,6 +1,6 @@
 // A line to a command.
-ghost use Rattle.std.specs.Prelude.{◌≡◌, ◌↔◌, List, ℕ, Option, Some, IfOk, IfSome, IsTrue, MatchOption};
-ghost use Rattle.line_proto.specs.Built.{IsBuilt, IsLine, IsInRange};
+ghost use Rattle.std.specs.Prelude.{◌≡◌, ◌↔◌, List, ℕ, Option, Some, IfOk, IfSome, MatchOption};
+ghost use Rattle.line_proto.specs.Built.{IsLine, IsInRange};
 ghost use Rattle.line_proto.specs.Reading.{IsFour, IsAlone, IsDigestCommand, IsPutCommand};
 ghost use Rattle.line_proto.specs.declared.command.Command.{Command};
 
@@ -42,6 +42,9 @@ fn alone_of(line: &[u8]) -> Option<Command>
     }
     if line == b"defrag".as_slice() {
         return Some(Command::Defrag);
+    }
+    if line == b"expire".as_slice() {
+        return Some(Command::Expire);
     }
     None
 }
@@ -93,30 +96,6 @@ fn put_of(alloc: Global, text: &[u8]) -> Result<Option<Command>, NoMemory>
     }))
 }
 
-fn is_built(command: &Command) -> bool
-    ensures { IsTrue result ↔ IsBuilt command.now }
-{
-    match command {
-        Command::Put { ttl, .. } => *ttl == 0,
-        Command::Get(_) | Command::Meta(_) | Command::Del(_) | Command::Bury(_) => true,
-        Command::Flush | Command::Defrag => true,
-        Command::Stat | Command::Restart | Command::Quit => true,
-        _ => false,
-    }
-}
-
-// Of what was read, what is built so far.
-fn only_built(read: Option<Command>) -> Option<Command>
-    ensures { (command : Command) → (result ≡ Some command) ↔ ((read ≡ Some command) × IsBuilt command) }
-{
-    let command = read?;
-    if is_built(&command) {
-        Some(command)
-    } else {
-        None
-    }
-}
-
 /// The command that a line asks for, its LF not counted. It is none exactly where the line asks for no command that is
 /// built: it is outside the grammar, too long, or its command isn't built yet. The only error is want of memory.
 pub fn read_command(alloc: Global, line: &[u8]) -> Result<Option<Command>, NoMemory>
@@ -130,7 +109,7 @@ pub fn read_command(alloc: Global, line: &[u8]) -> Result<Option<Command>, NoMem
         return Ok(alone_of(line));
     };
     if word == b"put".as_slice() {
-        return Ok(only_built(put_of(alloc, text)?));
+        return put_of(alloc, text);
     }
     Ok(of_digest(word, text))
 }

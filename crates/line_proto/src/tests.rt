@@ -1,5 +1,5 @@
 use super::*;
-use rec_format::{Bytes, Counts, Digest, Stamp};
+use rec_format::{Bytes, Counts, Stamp};
 use std::alloc::Global;
 use std::test::Fail;
 
@@ -74,6 +74,10 @@ fn commands_are_read(rt: HostRuntime) -> Result<(), Fail> {
         assert!(rt; false);
         return Ok(());
     };
+    let Some(Command::Expire) = read_command(alloc, b"expire")? else {
+        assert!(rt; false);
+        return Ok(());
+    };
     let Some(Command::Stat) = read_command(alloc, b"stat")? else {
         assert!(rt; false);
         return Ok(());
@@ -89,30 +93,36 @@ fn commands_are_read(rt: HostRuntime) -> Result<(), Fail> {
     Ok(())
 }
 
-// What the put of a line expects, where it is one.
-fn expected_by(alloc: Global, after: &[u8]) -> Result<Option<Option<u16>>, Fail> {
+// The life of the put of a line and the generation that it expects, where the line is one.
+fn numbers_of(alloc: Global, after: &[u8]) -> Result<Option<(u32, Option<u16>)>, Fail> {
     let put = line(alloc, b"put ", after)?;
     match read_command(alloc, &put)? {
-        Some(Command::Put { expect, .. }) => Ok(Some(expect)),
+        Some(Command::Put { ttl, expect, .. }) => Ok(Some((ttl, expect))),
         _ => Ok(None),
     }
 }
 
 #[test]
-fn an_expected_generation_is_read(rt: HostRuntime) -> Result<(), Fail> {
+fn the_numbers_of_a_put_are_read(rt: HostRuntime) -> Result<(), Fail> {
     let alloc = rt.alloc();
     for (after, want) in [
-        (b" 0 * aa".as_slice(), Some(None)),
-        (b" 0 0 aa".as_slice(), Some(Some(0))),
-        (b" 0 1 -".as_slice(), Some(Some(1))),
-        (b" 0 65535 aa".as_slice(), Some(Some(65_535))),
+        (b" 0 * aa".as_slice(), Some((0, None))),
+        (b" 0 0 aa".as_slice(), Some((0, Some(0)))),
+        (b" 0 1 -".as_slice(), Some((0, Some(1)))),
+        (b" 0 65535 aa".as_slice(), Some((0, Some(65_535)))),
+        (b" 1 * aa".as_slice(), Some((1, None))),
+        (
+            b" 315360000 65535 -".as_slice(),
+            Some((315_360_000, Some(65_535))),
+        ),
+        (b" 315360001 * aa".as_slice(), None),
         (b" 0 65536 aa".as_slice(), None),
         (b" 0 01 aa".as_slice(), None),
         (b" 0 00 aa".as_slice(), None),
         (b" 0 0x aa".as_slice(), None),
         (b" 0  aa".as_slice(), None),
     ] {
-        assert_eq!(rt; expected_by(alloc, after)?, want);
+        assert_eq!(rt; numbers_of(alloc, after)?, want);
     }
     Ok(())
 }
@@ -159,7 +169,13 @@ fn commands_are_printed_as_they_are_read(rt: HostRuntime) -> Result<(), Fail> {
             b"put 00000000000000000000000000000000000000AA 0 65535 00".as_slice(),
             b"before put 00000000000000000000000000000000000000aa 0 65535 00\n".as_slice(),
         ),
+        (
+            b"put 00000000000000000000000000000000000000aB 315360000 * -".as_slice(),
+            b"before put 00000000000000000000000000000000000000ab 315360000 * -\n".as_slice(),
+        ),
         (b"flush".as_slice(), b"before flush\n".as_slice()),
+        (b"defrag".as_slice(), b"before defrag\n".as_slice()),
+        (b"expire".as_slice(), b"before expire\n".as_slice()),
         (b"stat".as_slice(), b"before stat\n".as_slice()),
         (b"restart".as_slice(), b"before restart\n".as_slice()),
         (b"quit".as_slice(), b"before quit\n".as_slice()),
@@ -171,22 +187,11 @@ fn commands_are_printed_as_they_are_read(rt: HostRuntime) -> Result<(), Fail> {
 }
 
 #[test]
-fn commands_that_are_not_built_are_printed(rt: HostRuntime) -> Result<(), Fail> {
+fn a_command_that_is_not_built_is_printed(rt: HostRuntime) -> Result<(), Fail> {
     let alloc = rt.alloc();
     let mut out = Vec::new(alloc);
-    print_command(alloc, &Command::Expire, &mut out)?;
     print_command(alloc, &Command::Raid, &mut out)?;
-    assert_eq!(rt; out.as_slice(), b"expire\nraid\n".as_slice());
-    let put = Command::Put {
-        digest: Digest([0; 20]),
-        ttl: 315_360_000,
-        expect: None,
-        payload: Bytes::from_vec(Vec::new(alloc)),
-    };
-    let mut out = Vec::new(alloc);
-    print_command(alloc, &put, &mut out)?;
-    let want = b"put 0000000000000000000000000000000000000000 315360000 * -\n".as_slice();
-    assert_eq!(rt; out.as_slice(), want);
+    assert_eq!(rt; out.as_slice(), b"raid\n".as_slice());
     Ok(())
 }
 
@@ -209,6 +214,9 @@ fn other_lines_are_none(rt: HostRuntime) -> Result<(), Fail> {
         b"restart 0".as_slice(),
         b"restarts".as_slice(),
         b"Restart".as_slice(),
+        b"expire ".as_slice(),
+        b"expires".as_slice(),
+        b"raid".as_slice(),
         b"get".as_slice(),
         b"get 00".as_slice(),
         b"get 000102030405060708090a0b0c0d0e0f1011121".as_slice(),
@@ -240,22 +248,9 @@ fn other_lines_are_none(rt: HostRuntime) -> Result<(), Fail> {
         b" 0 * aa ".as_slice(),
         b" 0 * --".as_slice(),
         b" 0 ** aa".as_slice(),
-        b" 315360001 * aa".as_slice(),
-        b" 0 65536 aa".as_slice(),
+        b" 3153600000 * aa".as_slice(),
     ] {
         assert!(rt; read_command(alloc, &line(alloc, b"put ", after)?)?.is_none());
-    }
-    Ok(())
-}
-
-#[test]
-fn commands_that_are_not_built_are_none(rt: HostRuntime) -> Result<(), Fail> {
-    let alloc = rt.alloc();
-    for after in [b" 1 * aa".as_slice(), b" 315360000 65535 -".as_slice()] {
-        assert!(rt; read_command(alloc, &line(alloc, b"put ", after)?)?.is_none());
-    }
-    for word in [b"expire".as_slice(), b"raid".as_slice()] {
-        assert!(rt; read_command(alloc, word)?.is_none());
     }
     Ok(())
 }

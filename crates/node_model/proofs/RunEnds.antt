@@ -125,7 +125,7 @@ does_goes told node (command.Bury digest) now work r built does legal =
     one_goes told node _ does.0 (bury_call digest now) work r does.1 does.2 does.3
     (λ slot allowed. entombs_goes slot.setup slot.state does.0 digest now stamp_given (λ stamp. refl) allowed) legal
 does_goes told node command.Defrag now work r built does legal = ap halts does.2 ∙ sums_go does.0
-does_goes told node command.Expire now work r built does legal = absurd built
+does_goes told node command.Expire now work r built does legal = ap halts does.2 ∙ sum_goes does.0
 does_goes told node command.Raid now work r built does legal = absurd built
 does_goes told node command.Stat now work r built does legal = ap halts does.1
 does_goes told node command.Restart now work r built does legal = absurd does

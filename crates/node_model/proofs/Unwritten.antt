@@ -6,15 +6,16 @@ use Rattle.rec_format.specs.declared.version.Digest.{Digest}
 use Rattle.device_model.specs.Book.{Setup, Book, Stream, client, defrag, filling_buffer, has_room, live_of}
 use Rattle.device_model.specs.Device.{State}
 use Rattle.device_model.specs.Steps.{Step, wrote, moved, gate_begun, flushed_buffer, closing_failed, after_steps}
-use Rattle.device_model.specs.Events.{Event, Call, flush_call, choose_call, move_call, Cause, Answer, stamp_given, happened, found_version, counted, block_chosen, raid_numbered, marks_made, block_scanned, marks_undone, part_ended, raid_over, refused, after_event, after_events}
+use Rattle.device_model.specs.Events.{Event, Call, flush_call, choose_call, move_call, Cause, happened, block_chosen, refused, after_event, after_events}
 use Rattle.device_model.specs.Legal.{Follows, Allowed, FlushEnds, NoMemory, Only, Unless, DamageFound, DiskFails, WhereReads, is_in_block, live_units, move_reserve, no_place, queue_front, seal_if, seal_all, flush_all}
 use Rattle.node_model.specs.Commands.{Slot, Node, NodeEvent, at_place, slot_after, on_device, IsLegalOn, EachDevice, Flushes, Defragments}
-use Rattle.device_model.specs.Vacating.{Outcome, did, stopped, IfRefused, moved_by, MovesOut, Vacates, VacatesUpTo}
+use Rattle.device_model.specs.Vacating.{Outcome, did, stopped, moved_by, MovesOut, Vacates, VacatesUpTo}
 use Rattle.line_proto.proofs.Falling.{all_append}
 use Rattle.recovery.proofs.Opening.{all_parted}
 use Rattle.recovery.proofs.Each.{all_map}
 use Rattle.node_model.specs.Run.{steps_on, flushed_if_wrote}
 use Rattle.node_model.proofs.Flushing.{FlushStep, all_flush_steps}
+use Rattle.node_model.proofs.Expiries.{if_refused}
 
 abbrev pub WritesNone : Step → Type 0
 WritesNone (wrote digest v) = ⊥
@@ -123,20 +124,6 @@ AreUnwriting events = AllByRecursion (λ event. IsUnwriting event.call) events
 called : (event : Event) (call : Call) → event.call ≡ call → IsUnwriting call → IsUnwriting event.call
 called event call is unwriting = subst IsUnwriting (sym is) unwriting
 
-if_refused : (answer : Answer) (Refused : Cause → Type 0) (Else P : Type 0) → ((cause : Cause) → Refused cause → P) → (Else → P) → IfRefused answer Refused Else → P
-if_refused (refused cause) Refused Else P one other is = one cause is
-if_refused (stamp_given s) Refused Else P one other is = other is
-if_refused (happened b) Refused Else P one other is = other is
-if_refused (found_version v) Refused Else P one other is = other is
-if_refused (counted n) Refused Else P one other is = other is
-if_refused (block_chosen b) Refused Else P one other is = other is
-if_refused (raid_numbered n) Refused Else P one other is = other is
-if_refused (marks_made n) Refused Else P one other is = other is
-if_refused (block_scanned b) Refused Else P one other is = other is
-if_refused (marks_undone n) Refused Else P one other is = other is
-if_refused (part_ended r c) Refused Else P one other is = other is
-if_refused raid_over Refused Else P one other is = other is
-
 moves_unwriting : (setup : Setup) (block : ℕ) (s : State) (count : ℕ) (events : List Event) (outcome : Outcome) → MovesOut setup block s count events outcome → AreUnwriting events
 moves_unwriting setup block s count [] outcome moves = tt
 moves_unwriting setup block s count (event ∷ events) outcome moves = (
@@ -173,9 +160,10 @@ defrags_unwriting setup (suc n) s count vacated events outcome (mine, rest, is, 
 abbrev pub IsUnwritingOn : NodeEvent → Type 0
 IsUnwritingOn e = IsUnwriting e.event.call
 
-on_each : (device : ℕ) (events : List Event) → AreUnwriting events → AllByRecursion IsUnwritingOn (map (on_device device) events)
-on_each device [] all = tt
-on_each device (event ∷ events) all = (all.0, on_each device events all.1)
+-- what holds of events holds of them on a device
+pub on_each : (P : Event → Type 0) (device : ℕ) (events : List Event) → AllByRecursion P events → AllByRecursion (λ e. P e.event) (map (on_device device) events)
+on_each P device [] all = tt
+on_each P device (event ∷ events) all = (all.0, on_each P device events all.1)
 
 -- work of each device that writes no record
 all_unwriting : (Work : Slot → List Event → Outcome → Type 0) → ((slot : Slot) (events : List Event) (outcome : Outcome) → Work slot events outcome → AreUnwriting events)
@@ -183,9 +171,9 @@ all_unwriting : (Work : Slot → List Event → Outcome → Type 0) → ((slot :
 all_unwriting Work each_is device [] a b work outcome each = subst (λ (events : List NodeEvent). AllByRecursion IsUnwritingOn events) (sym each.0) tt
 all_unwriting Work each_is device (slot ∷ slots) a b work outcome each =
     subst (λ (events : List NodeEvent). AllByRecursion IsUnwritingOn events) (sym each.2) (elim each.3 [
-      | inl goes ↦ all_append IsUnwritingOn (map (on_device device) each.0) each.1 (on_each device each.0 (each_is slot each.0 (did goes.0 goes.1) goes.2))
+      | inl goes ↦ all_append IsUnwritingOn (map (on_device device) each.0) each.1 (on_each (λ event. IsUnwriting event.call) device each.0 (each_is slot each.0 (did goes.0 goes.1) goes.2))
           (all_unwriting Work each_is (device + 1) slots (a + goes.0) (b + goes.1) each.1 outcome goes.3)
-      | inr stops ↦ all_append IsUnwritingOn (map (on_device device) each.0) each.1 (on_each device each.0 (each_is slot each.0 (stopped stops.0) stops.1))
+      | inr stops ↦ all_append IsUnwritingOn (map (on_device device) each.0) each.1 (on_each (λ event. IsUnwriting event.call) device each.0 (each_is slot each.0 (stopped stops.0) stops.1))
           (subst (λ (events : List NodeEvent). AllByRecursion IsUnwritingOn events) (sym stops.2) tt)
     ])
 

@@ -4,7 +4,7 @@ use Rattle.std.specs.Prelude.{ℕ, ◌+◌, ◌≤◌, Bool, true, false, ◌||�
 use Rattle.std.specs.List.{AllByRecursion}
 use Rattle.rec_format.specs.declared.version.Digest.{Digest}
 use Rattle.rec_format.specs.Versions.{bounded_time}
-use Rattle.device_model.specs.Histories.{Item, write, dropped, rid, cleared, is_flushed}
+use Rattle.device_model.specs.Histories.{Item, write, dropped, rid, cleared, Pending, is_flushed}
 use Rattle.device_model.specs.Book.{Setup, pending_of}
 use Rattle.device_model.specs.Device.{State, history, put_count, tombstone_count}
 use Rattle.device_model.specs.Steps.{Step, wrote, states_through}
@@ -207,15 +207,15 @@ states_of_run device first lines closing =
 -- ---- commits
 
 -- the newest write of a history is flushed
+abbrev pub newest_is_flushed : Pending → List Item → Bool
+newest_is_flushed pending [] = false
+newest_is_flushed pending (write v numbers ∷ older) = is_flushed pending numbers
+newest_is_flushed pending (dropped ∷ older) = newest_is_flushed pending older
+newest_is_flushed pending (rid ∷ older) = newest_is_flushed pending older
+newest_is_flushed pending (cleared ∷ older) = newest_is_flushed pending older
+
 abbrev pub top_is_flushed : State → Digest → Bool
-top_is_flushed s digest = newest (history s digest)
-  where
-    newest : List Item → Bool
-    newest [] = false
-    newest (write v numbers ∷ older) = is_flushed (pending_of s.book) numbers
-    newest (dropped ∷ older) = newest older
-    newest (rid ∷ older) = newest older
-    newest (cleared ∷ older) = newest older
+top_is_flushed s digest = newest_is_flushed (pending_of s.book) (history s digest)
 
 -- what was written in these steps is flushed in this state
 abbrev pub flushed_if_wrote : State → Step → Type 0

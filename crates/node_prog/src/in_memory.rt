@@ -13,7 +13,7 @@ use shard_core::Settings;
 use std::alloc::Global;
 use std::test::Fail;
 
-/// What a run is set to in these tests, where their words ask that no block is vacated.
+/// What a run is set to in the tests without words: no block is vacated, and none is kept in memory behind its flush.
 pub const SETTINGS: Settings = Settings {
     sprigs: 16,
     lwm: 0,
@@ -45,6 +45,13 @@ pub fn still_clock(alloc: Global) -> Result<ListClock, NoMemory>
     ensures { IfOk result (λ clock. clock ≡ 1000 ∷ []) }
 {
     let times = vec![in alloc; 1000; 1]?;
+    Ok(ListClock::new(times))
+}
+
+/// A clock that tells 1000 to so many lines, and then 2000.
+pub fn turning_clock(alloc: Global, lines: usize) -> Result<ListClock, NoMemory> {
+    let mut times = vec![in alloc; 1000; lines]?;
+    times.push(2000)?;
     Ok(ListClock::new(times))
 }
 
@@ -95,6 +102,17 @@ pub fn serve_words(
     disks: Vec<MemDisk>,
     link: &mut Link,
 ) -> Result<Ending, Fail> {
+    serve_at(alloc, words, disks, link, &mut still_clock(alloc)?)
+}
+
+/// The program with these words over these disks and this link, at this clock.
+pub fn serve_at(
+    alloc: Global,
+    words: &[&str],
+    disks: Vec<MemDisk>,
+    link: &mut Link,
+    clock: &mut ListClock,
+) -> Result<Ending, Fail> {
     let mut owned: Vec<String> = Vec::new(alloc);
     for &word in words {
         owned.push(String::from_str(alloc, word)?)?;
@@ -103,17 +121,26 @@ pub fn serve_words(
     if !names_so_many(listed, disks.len()) {
         return Err(Fail::new("there are more disks, or fewer"));
     }
-    let mut clock = still_clock(alloc)?;
-    let outcome = node_top(alloc, listed, disks, link, &mut clock);
+    let outcome = node_top(alloc, listed, disks, link, clock);
     let text = link.sink.written().to_vec(alloc)?;
     Ok(Ending { outcome, text })
 }
 
-/// A put of so many bytes under these forty digits.
+/// A put of so many bytes under these forty digits. It never expires.
 pub fn put_line(alloc: Global, digest: &[u8], bytes: usize) -> Result<Vec<u8>, Fail> {
+    put_line_for(alloc, digest, b" 0 * ", bytes)
+}
+
+/// A put of so many bytes under these forty digits, with this life and what it expects between them.
+pub fn put_line_for(
+    alloc: Global,
+    digest: &[u8],
+    life: &[u8],
+    bytes: usize,
+) -> Result<Vec<u8>, Fail> {
     let mut line = b"put ".as_slice().to_vec(alloc)?;
     line.extend_from_slice(digest)?;
-    line.extend_from_slice(b" 0 * ")?;
+    line.extend_from_slice(life)?;
     for _ in 0..bytes {
         line.extend_from_slice(b"aa")?;
     }

@@ -1,5 +1,7 @@
 // `format`, and runs over two devices, as tables of words, disks and what is written.
-use crate::in_memory::{DEVICE_BYTES, Ending, ends_so, link_over, serve_words};
+use crate::in_memory::{
+    DEVICE_BYTES, Ending, ends_so, link_over, serve_at, serve_words, turning_clock,
+};
 use disk_model::{Disk, DiskCall, MemDisk};
 use std::alloc::Global;
 use std::process::Abort;
@@ -10,11 +12,12 @@ type Words = &'static [&'static str];
 // Words, the lengths of the disks in bytes, and how it ends: with its status, its note and what is written.
 type Made = (Words, &'static [u64], u8, &'static str, &'static [u8]);
 
-// Words over two devices, the calls of the second that fail, the input, and how it ends.
+// Words over two devices, the calls of the second that fail, the input, how many of its lines come at 1000, and how it ends.
 type Session = (
     Words,
     &'static [(DiskCall, u64)],
     &'static [u8],
+    usize,
     u8,
     &'static str,
     &'static [u8],
@@ -129,11 +132,16 @@ const PUTS_FLUSHED: &[u8] =
 const GETS: &[u8] =
     b"get 000102030405060708090a0b0c0d0e0f10111213\nget ffffffffffffffffffffffffffffffffffffffff\n";
 
-const SESSIONS: [Session; 5] = [
+// Both live for a second.
+const BRIEF: &[u8] =
+    b"put 000102030405060708090a0b0c0d0e0f10111213 1 * aa\nput ffffffffffffffffffffffffffffffffffffffff 1 * bb\nexpire\nstat\n";
+
+const SESSIONS: [Session; 6] = [
     (
         RUN_TWO,
         &[],
         PUTS_FLUSHED,
+        3,
         0,
         "",
         b"ok 1 1000\nok 1 1000\nok 2\n",
@@ -142,6 +150,7 @@ const SESSIONS: [Session; 5] = [
         RUN_TWO,
         &[(DiskCall::Write, 1)],
         PUTS_FLUSHED,
+        3,
         0,
         "",
         b"ok 1 1000\nok 1 1000\nerr fault\n",
@@ -155,6 +164,7 @@ const SESSIONS: [Session; 5] = [
             (DiskCall::Write, 3),
         ],
         PUTS,
+        2,
         3,
         "device 1 fault",
         b"ok 1 1000\nok 1 1000\n",
@@ -163,6 +173,7 @@ const SESSIONS: [Session; 5] = [
         &["run", "--lwm", "0", "--commit", "yes", "d0", "d1"],
         &[(DiskCall::Write, 1)],
         PUTS,
+        2,
         0,
         "",
         b"ok 1 1000\nerr fault\n",
@@ -171,9 +182,19 @@ const SESSIONS: [Session; 5] = [
         RUN_TWO,
         &[(DiskCall::Sync, 0)],
         PUTS,
+        2,
         3,
         "device 1 fault",
         b"",
+    ),
+    (
+        RUN_TWO,
+        &[],
+        BRIEF,
+        2,
+        0,
+        "",
+        b"ok 1 1000\nok 1 1000\nok 2\nstat 0 0 0 30 2 0 0\n",
     ),
 ];
 
@@ -188,12 +209,14 @@ fn two_devices(rt: &impl Abort, alloc: Global) -> Result<Vec<MemDisk>, Fail> {
 #[test]
 fn each_session_over_two_devices_ends_so(rt: HostRuntime) -> Result<(), Fail> {
     let alloc = rt.alloc();
-    for (words, fails, input, status, note, text) in SESSIONS {
+    for (words, fails, input, at_1000, status, note, text) in SESSIONS {
         let mut disks = two_devices(&rt, alloc)?;
         for &(kind, skip) in fails {
             disks.last_mut().ok_or("no disk")?.fail_after(kind, skip)?;
         }
-        let ending = serve_over(alloc, words, disks, input)?;
+        let mut link = link_over(alloc, input, &[], &[])?;
+        let mut clock = turning_clock(alloc, at_1000)?;
+        let ending = serve_at(alloc, words, disks, &mut link, &mut clock)?;
         assert!(rt; ends_so(&ending, status, note, text), "{note}");
     }
     Ok(())

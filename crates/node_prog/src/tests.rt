@@ -1,7 +1,8 @@
 ghost use Rattle.shard_core.specs.View.{IsSettings};
 
 use crate::in_memory::{
-    Ending, SETTINGS, ends_so, formatted_disk, link_over, put_line, serve_words, still_clock,
+    Ending, SETTINGS, ends_so, formatted_disk, link_over, put_line, serve_at, serve_words,
+    still_clock, turning_clock,
 };
 use crate::outcome::Outcome;
 use crate::run::run_with;
@@ -203,6 +204,27 @@ const FLUSHED: [(&[u8], &[u8]); 4] = [
     (b"del 000102030405060708090a0b0c0d0e0f10111213\n", b"none\n"),
 ];
 
+/// A record that lived for a second isn't seen behind it, is found by a restart, and its generations go on.
+const LIVED: [(&[u8], &[u8]); 8] = [
+    (
+        b"put 000102030405060708090a0b0c0d0e0f10111213 0 * aa\n",
+        b"ok 1 1000\n",
+    ),
+    (FLUSH, b"ok 1\n"),
+    (
+        b"put 000102030405060708090a0b0c0d0e0f10111213 1 * bb\n",
+        b"ok 2 1000\n",
+    ),
+    (FLUSH, b"ok 1\n"),
+    (GET, b"none\n"),
+    (b"restart\n", b"ok 1 0\n"),
+    (GET, b"none\n"),
+    (
+        b"put 000102030405060708090a0b0c0d0e0f10111213 0 0 cc\n",
+        b"ok 3 2000\n",
+    ),
+];
+
 // The input of these lines, and what they are answered.
 fn lines_of(alloc: Global, lines: &[(&[u8], &[u8])]) -> Result<(Vec<u8>, Vec<u8>), Fail> {
     let mut input: Vec<u8> = Vec::new(alloc);
@@ -217,10 +239,20 @@ fn lines_of(alloc: Global, lines: &[(&[u8], &[u8])]) -> Result<(Vec<u8>, Vec<u8>
 #[test]
 fn each_session_has_its_replies(rt: HostRuntime) -> Result<(), Fail> {
     let alloc = rt.alloc();
-    let sessions: [&[(&[u8], &[u8])]; 3] = [&EXPECTED, &BURIED, &FLUSHED];
-    for lines in sessions {
+    // The lines of each table, and how many of them come at 1000; those behind them come at 2000.
+    let sessions: [(&[(&[u8], &[u8])], usize); 4] = [
+        (&EXPECTED, 4),
+        (&BURIED, 10),
+        (&FLUSHED, 4),
+        (&LIVED, 4),
+    ];
+    for (lines, at_1000) in sessions {
         let (input, text) = lines_of(alloc, lines)?;
-        let ending = serve_text(alloc, &input, &[], &[])?;
+        let disks = vec![in alloc; formatted_disk(alloc)?]?;
+        let mut link = link_over(alloc, &input, &[], &[])?;
+        let mut clock = turning_clock(alloc, at_1000)?;
+        let words = ["run", "--lwm", "0", "d0"];
+        let ending = serve_at(alloc, &words, disks, &mut link, &mut clock)?;
         assert!(rt; is_so(&ending, 0, "", &text));
     }
     Ok(())
@@ -470,7 +502,7 @@ fn as_many_wait_as_may(rt: HostRuntime) -> Result<(), Fail> {
     Ok(())
 }
 
-// The read of the first get is the one behind the 17 of the start, and it lies.
+// The read behind the 17 of the start lies. What was flushed last is got without the disk where it is kept; else the read is the first get's.
 #[test]
 fn a_lying_read_is_told_as_damaged(rt: HostRuntime) -> Result<(), Fail> {
     let alloc = rt.alloc();
@@ -478,17 +510,17 @@ fn a_lying_read_is_told_as_damaged(rt: HostRuntime) -> Result<(), Fail> {
     input.extend_from_slice(FLUSH)?;
     input.extend_from_slice(GET)?;
     input.extend_from_slice(GET)?;
-    let mut disk = formatted_disk(alloc)?;
-    disk.lie_after(17);
-    let ending = serve_over(alloc, disk, &input)?;
-    assert!(rt;
-        is_so(
-            &ending,
-            0,
-            "",
-            b"ok 1 1000\nok 1\nerr damaged\nval 1 1000 0 aa\n"
-        )
-    );
+    let rows: [(&str, &[u8]); 2] = [
+        ("0", b"ok 1 1000\nok 1\nerr damaged\nval 1 1000 0 aa\n"),
+        ("8", b"ok 1 1000\nok 1\nval 1 1000 0 aa\nval 1 1000 0 aa\n"),
+    ];
+    for (cache, text) in rows {
+        let mut disk = formatted_disk(alloc)?;
+        disk.lie_after(17);
+        let words = ["run", "--lwm", "0", "--cache", cache, "d0"];
+        let ending = serve_disk(alloc, &words, disk, &input, &[], &[])?;
+        assert!(rt; is_so(&ending, 0, "", text));
+    }
     Ok(())
 }
 

@@ -12,6 +12,7 @@ use Rattle.node_model.specs.RunEnd.{input_limit}
 use Rattle.node_model.specs.Headline.{StartsFrom, HoldsReplies, HoldsThroughout, IsNeverRefused}
 use Rattle.node_model.specs.Meaning.{left_between, GoesOn, Enters}
 use Rattle.node_model.proofs.Commits.{commits_all}
+use Rattle.node_model.proofs.Numbered.{starts_numbered}
 use Rattle.node_run.specs.Chain.{EndsWith}
 use Rattle.node_run.specs.Whole.{RestsOn, RunsWhole, Frames, Concludes}
 use Rattle.node_run.proofs.Whole.{cause_of, run_since, images_since, last_images}
@@ -65,6 +66,6 @@ module _ {T : Type 0} (Stands : T → Node → Type 0) (views : T → ℕ → Di
     replies = run_replies Stands views Halts true Says (StartsFrom o.images) setups o entry node old new end result w ended f c enters.time;
     left_now = last_images Stands views Halts true Says on may_leave input_limit o.taken o.written o.left o.times node old new end result w law;
     left_since = images_since Stands views Halts true Says entry node old end w.lifted.served w.closing enters w.leaves;
-    committed = commits_all (left_between views old end) true node w.lifted.served w.is_run.serves;
+    committed = commits_all (left_between views old end) node w.lifted.served (starts_numbered o.images node f.starts) w.is_run.serves;
     unrefused = unrefused;
   }

@@ -42,7 +42,7 @@ one_tuning pairs s t one two =
     let sprigs = one_value _ 1 256 16 s.sprigs t.sprigs (lit< tt) one.0 two.0 in
     let lwm = one_value _ 0 99 50 s.lwm t.lwm (lit< tt) one.1.0 two.1.0 in
     let pending = one_value _ 4 64 16 s.pending t.pending (lit< tt) one.1.1.0 two.1.1.0 in
-    let cache = one_value _ 0 0 0 s.cache t.cache (lit< tt) one.1.1.1.0 two.1.1.1.0 in
+    let cache = one_value _ 0 64 8 s.cache t.cache (lit< tt) one.1.1.1.0 two.1.1.1.0 in
     let commit = one_choice _ s.commit t.commit one.1.1.1.1.0 two.1.1.1.1.0 in
     let raid_age = one_value _ 0 315360000 86400 s.raid_age t.raid_age (lit< tt) one.1.1.1.1.1.0 two.1.1.1.1.1.0 in
     λ i. record { sprigs = sprigs i; lwm = lwm i; pending = pending i; cache = cache i; commit = commit i; raid_age = raid_age i }

@@ -35,15 +35,12 @@ power_in (Some text) n is = block_size_of n is.0.low is.0.high is.1
 shape_in : (pairs : List Pair) (shape : Shape) → HasRows pairs (shape_rows shape) → IsShape shape
 shape_in pairs shape has = record { block_size = power_in _ shape.block_size has.0; blocks = number_in _ 8 65536 64 shape.blocks (lit≤ tt) (lit≤ tt) has.1.0 }
 
-zero_in : (said : Option Text) (n : ℕ) → Says said (number 0 0 0 n) → n ≡ 0
-zero_in said n is = let range = number_in said 0 0 0 n (lit≤ tt) (lit≤ tt) is in omega arith
-
 tuning_in : (pairs : List Pair) (tuning : Tuning) → HasRows pairs (tuning_rows tuning) → IsTuning tuning
 tuning_in pairs tuning has = record {
   sprigs = number_in _ 1 256 16 tuning.sprigs (lit≤ tt) (lit≤ tt) has.0;
   lwm = (number_in _ 0 99 50 tuning.lwm (lit≤ tt) (lit≤ tt) has.1.0).1;
   pending = number_in _ 4 64 16 tuning.pending (lit≤ tt) (lit≤ tt) has.1.1.0;
-  cache = zero_in _ tuning.cache has.1.1.1.0;
+  cache = (number_in _ 0 64 8 tuning.cache (lit≤ tt) (lit≤ tt) has.1.1.1.0).1;
   raid_age = (number_in _ 0 315360000 86400 tuning.raid_age (lit≤ tt) (lit≤ tt) has.1.1.1.1.1.0).1;
 }
 

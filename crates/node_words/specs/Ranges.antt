@@ -19,7 +19,7 @@ pub record IsTuning (tuning : Tuning) : Type 0 where
   pub sprigs : (1 ≤ tuning.sprigs) × (tuning.sprigs ≤ 256)
   pub lwm : tuning.lwm ≤ 99
   pub pending : (4 ≤ tuning.pending) × (tuning.pending ≤ 64)
-  pub cache : tuning.cache ≡ 0
+  pub cache : tuning.cache ≤ 64
   pub raid_age : tuning.raid_age ≤ 315360000
 
 -- the numbers of a job are in their ranges

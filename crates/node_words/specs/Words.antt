@@ -56,13 +56,13 @@ shape_rows shape =
     ∷ (codes "--blocks", number 8 65536 64 shape.blocks)
     ∷ []
 
--- the options of a run; the post-write queue isn't built yet, so only 0 is accepted for it
+-- the options of a run
 abbrev pub tuning_rows : Tuning → List Row
 tuning_rows tuning =
     (codes "--sprigs", number 1 256 16 tuning.sprigs)
     ∷ (codes "--lwm", number 0 99 50 tuning.lwm)
     ∷ (codes "--pending", number 4 64 16 tuning.pending)
-    ∷ (codes "--cache", number 0 0 0 tuning.cache)
+    ∷ (codes "--cache", number 0 64 8 tuning.cache)
     ∷ (codes "--commit", choice tuning.commit)
     ∷ (codes "--raid-age", number 0 315360000 86400 tuning.raid_age)
     ∷ []

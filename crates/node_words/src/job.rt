@@ -18,7 +18,7 @@ pub struct Tuning {
     pub lwm: u32,
     /// The most write buffers of a device that may wait to be flushed, 4 to 64.
     pub pending: u32,
-    /// The blocks that the post-write queue of a device keeps in memory. It is 0 until a device has one.
+    /// The blocks that the post-write queue of a device keeps in memory, 0 to 64.
     pub cache: u32,
     /// Whether a write is flushed before it is answered.
     pub commit: bool,

@@ -17,7 +17,7 @@ fn shape_of(options: &mut Options<'_>) -> Option<Shape>
     })
 }
 
-// What the options say of how devices are run. The post-write queue isn't built yet, so only 0 is accepted for it.
+// What the options say of how devices are run.
 fn tuning_of(options: &mut Options<'_>) -> Option<Tuning>
     ensures value { ReadsRows tuning_rows options.old.pairs result }
     ensures asked { AsksForRows tuning_rows options.old options.new result }
@@ -26,7 +26,7 @@ fn tuning_of(options: &mut Options<'_>) -> Option<Tuning>
         sprigs: options.number("--sprigs", 1, 256, 16)?,
         lwm: options.number("--lwm", 0, 99, 50)?,
         pending: options.number("--pending", 4, 64, 16)?,
-        cache: options.number("--cache", 0, 0, 0)?,
+        cache: options.number("--cache", 0, 64, 8)?,
         commit: options.choice("--commit")?,
         raid_age: u64::from(options.number("--raid-age", 0, 315_360_000, 86_400)?),
     })

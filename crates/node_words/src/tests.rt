@@ -7,7 +7,7 @@ const TUNING: Tuning = Tuning {
     sprigs: 16,
     lwm: 50,
     pending: 16,
-    cache: 0,
+    cache: 8,
     commit: false,
     raid_age: 86_400,
 };
@@ -25,7 +25,7 @@ const MOST: Tuning = Tuning {
     sprigs: 256,
     lwm: 99,
     pending: 64,
-    cache: 0,
+    cache: 64,
     commit: false,
     raid_age: 315_360_000,
 };
@@ -107,8 +107,11 @@ fn formats_are_read(rt: HostRuntime) -> Result<(), Fail> {
 
 #[test]
 fn runs_are_read(rt: HostRuntime) -> Result<(), Fail> {
+    let cached = Tuning { cache: 1, ..TUNING };
     let rows = [
         ("run d0", TUNING, 1),
+        ("run --cache 8 d0", TUNING, 1),
+        ("run --cache 1 d0", cached, 1),
         (
             "run --sprigs 1 --lwm 0 --pending 4 --cache 0 --commit yes --raid-age 0 d0",
             LEAST,
@@ -120,7 +123,7 @@ fn runs_are_read(rt: HostRuntime) -> Result<(), Fail> {
             1,
         ),
         (
-            "run --commit no --sprigs 256 --lwm 99 --pending 64 --raid-age 315360000 a=b",
+            "run --commit no --sprigs 256 --lwm 99 --cache 64 --pending 64 --raid-age 315360000 a=b",
             MOST,
             1,
         ),
@@ -202,8 +205,8 @@ fn other_numbers_are_refused(rt: HostRuntime) -> Result<(), Fail> {
             "run --lwm -0 d0",
             "run --pending 3 d0",
             "run --pending 65 d0",
-            "run --cache 1 d0",
-            "run --cache 8 d0",
+            "run --cache 65 d0",
+            "run --cache 4294967296 d0",
             "run --raid-age 315360001 d0",
             "run --commit maybe d0",
             "run --commit Yes d0",

@@ -31,7 +31,7 @@ each_with P d (x ∷ xs) here all = by (same_digest d x) (digest_before d x) (ea
     by false true rest = (here, all)
     by false false rest = (all.0, rest)
 
-among_each : (P : Digest → Type 0) (d : Digest) (xs : List Digest) → AllByRecursion P xs → has_digest xs d ≡ true → P d
+pub among_each : (P : Digest → Type 0) (d : Digest) (xs : List Digest) → AllByRecursion P xs → has_digest xs d ≡ true → P d
 among_each P d [] all there = absurd (false≢true there)
 among_each P d (x ∷ xs) all there =
     ⊎_elim (λ same. subst P (sym (same_digest_is d x same)) all.0) (λ more. among_each P d xs all.1 more) (or_cases (same_digest d x) (has_digest xs d) there)

@@ -129,16 +129,16 @@ all_logged setup other test s = each (logged s.log) (λ d there. there)
         (λ _. (there x (first_among x xs), each xs (λ d more. there d (or_right (same_digest d x) (has_digest xs d) more)))) (λ _. each xs (λ d more. there d (or_right (same_digest d x) (has_digest xs d) more)))
 
 -- the marked entries of a part go, and then that part is done
-drops_are : (setup : Setup) (first : State) (call : Call) (part : ℕ) → Passes.part_named setup call ≡ Some part → (t : State) (digests : List Digest) → t.raid.next ≡ drop_turn part
+drops_are : (setup : Setup) (first : State) (call : Call) (part : ℕ) → Passes.part_named setup call ≡ Some part → digest_named call ≡ None → (t : State) (digests : List Digest) → t.raid.next ≡ drop_turn part
     → AllByRecursion (λ d. part_of setup d ≡ part) digests → AllByRecursion (λ d. has_digest (logged first.log) d ≡ true) digests
     → AreStepsOf setup first call t (map (Legal.drop_step first) digests ++ done_part part ∷ [])
 unfolding after_step
-drops_are setup first call part names t [] at all there = ((names, at), tt)
-drops_are setup first call part names t (d ∷ digests) at all there =
-    by (entry_passes is_tombstone (entry first d)) (λ next still. drops_are setup first call part names next digests still all.1 there.1)
+drops_are setup first call part names alone t [] at all there = ((names, at), tt)
+drops_are setup first call part names alone t (d ∷ digests) at all there =
+    by (entry_passes is_tombstone (entry first d)) (λ next still. drops_are setup first call part names alone next digests still all.1 there.1)
   where
-    mine : (Passes.part_named setup call ≡ Some (part_of setup d)) × (has_digest (logged first.log) d ≡ true)
-    mine = (names ∙ ap Some (sym all.0), there.0)
+    mine : (Passes.part_named setup call ≡ Some (part_of setup d)) × (has_digest (logged first.log) d ≡ true) × (digest_named call ≡ None)
+    mine = (names ∙ ap Some (sym all.0), there.0, alone)
 
     rest : List Step
     rest = map (Legal.drop_step first) digests ++ done_part part ∷ []
@@ -206,24 +206,24 @@ module _ (setup : Setup) (told : Bool) (s : State) (event : Event) (call : Call)
       by false ends = subst (AreStepsOf setup s call s) (sym ends.1) (names, tt)
 
   -- a turn of the raid, which is next
-  turn_ends : (turn : Turn) (now : ℕ) → s.raid.next ≡ turn → Passes.part_named setup call ≡ Passes.turn_part turn → Legal.TurnEnds setup told s event turn now → Made
-  turn_ends (mark_turn part) now at names ends = subst (AreStepsOf setup s call s) (sym ends.1) ((names, at), tt)
-  turn_ends (scan_turn block) now at names (inl done) = subst (AreStepsOf setup s call s) (sym done.2) ((block, at), tt)
-  turn_ends (scan_turn block) now at names (inr (inl damaged)) = by_book (subst AreOfBook (sym damaged.2) (refl, tt))
-  turn_ends (scan_turn block) now at names (inr (inr (inl fails))) = by_book (subst AreOfBook (sym fails.1) (refl, tt))
-  turn_ends (scan_turn block) now at names (inr (inr (inr memory))) = by_book (subst AreOfBook (sym memory.1) (refl, tt))
-  turn_ends (apply_turn part) now at names ends = subst (AreStepsOf setup s call s) (sym ends.1) ((names, at), tt)
-  turn_ends (drop_turn part) now at names ends =
+  turn_ends : (turn : Turn) (now : ℕ) → s.raid.next ≡ turn → Passes.part_named setup call ≡ Passes.turn_part turn → digest_named call ≡ None → Legal.TurnEnds setup told s event turn now → Made
+  turn_ends (mark_turn part) now at names alone ends = subst (AreStepsOf setup s call s) (sym ends.1) ((names, at), tt)
+  turn_ends (scan_turn block) now at names alone (inl done) = subst (AreStepsOf setup s call s) (sym done.2) ((block, at), tt)
+  turn_ends (scan_turn block) now at names alone (inr (inl damaged)) = by_book (subst AreOfBook (sym damaged.2) (refl, tt))
+  turn_ends (scan_turn block) now at names alone (inr (inr (inl fails))) = by_book (subst AreOfBook (sym fails.1) (refl, tt))
+  turn_ends (scan_turn block) now at names alone (inr (inr (inr memory))) = by_book (subst AreOfBook (sym memory.1) (refl, tt))
+  turn_ends (apply_turn part) now at names alone ends = subst (AreStepsOf setup s call s) (sym ends.1) ((names, at), tt)
+  turn_ends (drop_turn part) now at names alone ends =
       subst (AreStepsOf setup s call s) (sym ends.1)
-      (drops_are setup s call part names s (Legal.marked_in setup part s) at (all_of_part setup part (has_digest s.raid.marked) (logged s.log)) (all_logged setup part (has_digest s.raid.marked) s))
-  turn_ends finished now at names is = no_steps is.1
+      (drops_are setup s call part names alone s (Legal.marked_in setup part s) at (all_of_part setup part (has_digest s.raid.marked) (logged s.log)) (all_logged setup part (has_digest s.raid.marked) s))
+  turn_ends finished now at names alone is = no_steps is.1
 
-  turns : (number : ℕ) (turn : Turn) (now : ℕ) → Passes.part_named setup call ≡ Passes.turn_part turn → Legal.Allowed setup told s event (turn_call number turn now) → Made
-  turns number turn now names ends = by ((number == s.raid.number) && Legal.same_turn turn s.raid.next) refl ends
+  turns : (number : ℕ) (turn : Turn) (now : ℕ) → Passes.part_named setup call ≡ Passes.turn_part turn → digest_named call ≡ None → Legal.Allowed setup told s event (turn_call number turn now) → Made
+  turns number turn now names alone ends = by ((number == s.raid.number) && Legal.same_turn turn s.raid.next) refl ends
     where
       by : (b : Bool) → ((number == s.raid.number) && Legal.same_turn turn s.raid.next) ≡ b
           → MatchBool b (Legal.TurnEnds setup told s event turn now) (Legal.Only event (refused (stale s.raid.number s.raid.next))) → Made
-      by true is ends = turn_ends turn now (same_turn_is turn s.raid.next (and_parts (number == s.raid.number) (Legal.same_turn turn s.raid.next) is).1) names ends
+      by true is ends = turn_ends turn now (same_turn_is turn s.raid.next (and_parts (number == s.raid.number) (Legal.same_turn turn s.raid.next) is).1) names alone ends
       by false is ends = no_steps ends.1
 
   begins : Legal.Allowed setup told s event begin_call → Made
@@ -309,7 +309,7 @@ steps_are setup told s event flush_next_call ends = flushes_next setup told s ev
 steps_are setup told s event choose_call ends = chooses setup told s event choose_call ends
 steps_are setup told s event (move_call digest block) ends = moves setup told s event (move_call digest block) digest block refl ends
 steps_are setup told s event begin_call ends = begins setup told s event begin_call ends
-steps_are setup told s event (turn_call number turn now) ends = turns setup told s event (turn_call number turn now) number turn now refl ends
+steps_are setup told s event (turn_call number turn now) ends = turns setup told s event (turn_call number turn now) number turn now refl refl ends
 
 -- ---- a part that isn't named
 

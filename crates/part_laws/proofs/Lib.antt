@@ -13,9 +13,11 @@ pub mod Device
 pub mod Starting
 pub mod Looking
 pub mod Walks
+pub mod Behind
 pub mod Writing
 pub mod Finding
 pub mod Restarting
 pub mod Resuming
 pub mod Turns
 pub mod Applying
+pub mod OtherParts

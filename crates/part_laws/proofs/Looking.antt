@@ -14,9 +14,9 @@ use Rattle.sprig_tree.specs.Entries.{entry_of}
 use Rattle.sprig_tree.specs.State.{SprigState}
 use Rattle.part_laws.specs.Fits.{HasEntries, FitsPart}
 use Rattle.rec_format.specs.Entries.{Names}
-use Rattle.part_laws.specs.Tests.{is_expired_entry, passes_test, stamp_found, generation_seen}
+use Rattle.part_laws.specs.Tests.{passes_test, stamp_found, generation_seen}
 use Rattle.tomb_rules.specs.Covers.{cover_of}
-use Rattle.expiry_rule.specs.Seen.{is_live_entry}
+use Rattle.expiry_rule.specs.Seen.{is_expired_entry, is_live_entry}
 use Rattle.part_laws.specs.Parts.{FitsParts}
 use Rattle.part_laws.proofs.Alike.{Says}
 use Rattle.part_laws.proofs.Counting.{part_exists}
@@ -94,7 +94,7 @@ module _ (setup : Setup) (part : ℕ) (sprig : SprigState) (s : State) (h : HasE
 
 -- ---- the sprig of a digest
 
-some_at : {X : Type 0} (xs : List X) (i : ℕ) → i < length xs → (x : X) × (slice_get xs i ≡ Some x)
+pub some_at : {X : Type 0} (xs : List X) (i : ℕ) → i < length xs → (x : X) × (slice_get xs i ≡ Some x)
 some_at [] i lt = absurd (omega (arith, lt))
 some_at (x ∷ xs) zero lt = (x, refl)
 some_at (x ∷ xs) (suc i) lt = some_at xs i (omega (arith, lt))

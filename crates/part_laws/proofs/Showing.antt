@@ -20,8 +20,8 @@ use Rattle.sprig_tree.specs.State.{SprigState}
 use Rattle.sprig_tree.proofs.Laws.{entry_of-digest}
 use Rattle.part_laws.specs.Fits.{IsShown, HasNone, HasEntries, has_mark, HasMarks}
 use Rattle.rec_format.specs.Entries.{Names}
-use Rattle.part_laws.specs.Tests.{has_digest, is_put_entry, is_tombstone_entry, is_expired_entry, passes_test}
-use Rattle.expiry_rule.specs.Seen.{is_live_entry}
+use Rattle.part_laws.specs.Tests.{has_digest, is_put_entry, is_tombstone_entry, passes_test}
+use Rattle.expiry_rule.specs.Seen.{is_expired_entry, is_live_entry}
 use Rattle.tomb_rules.specs.Covers.{is_eligible_entry}
 use Rattle.tomb_rules.specs.Covers.{is_covered_put}
 use Rattle.part_laws.proofs.Ordered.{AreInOrder, one_order, order-with_digest, among-with_digest, among-filter, among_entries, order-filtered, each_entry}

@@ -91,14 +91,14 @@ entries_lose setup part old new s t digest loses none others high h = record {
 
 -- ---- marks
 
-pub swapped : (p q : Digest → Bool) (xs : List Digest) → filter p (filter q xs) ≡ filter q (filter p xs)
+pub swapped : {X : Type 0} (p q : X → Bool) (xs : List X) → filter p (filter q xs) ≡ filter q (filter p xs)
 swapped p q [] = refl
-swapped p q (x ∷ xs) = by (q x) refl (p x) refl (swapped p q xs)
+swapped {X} p q (x ∷ xs) = by (q x) refl (p x) refl (swapped p q xs)
   where
     by : (b : Bool) → q x ≡ b → (c : Bool) → p x ≡ c → filter p (filter q xs) ≡ filter q (filter p xs)
         → filter p (cond b (x ∷ filter q xs) (filter q xs)) ≡ filter q (cond c (x ∷ filter p xs) (filter p xs))
     by true keeps true is rest =
-        cond-true (p x) (x ∷ filter p (filter q xs)) (filter p (filter q xs)) is ∙ ap (λ (l : List Digest). x ∷ l) rest ∙ sym (cond-true (q x) (x ∷ filter q (filter p xs)) (filter q (filter p xs)) keeps)
+        cond-true (p x) (x ∷ filter p (filter q xs)) (filter p (filter q xs)) is ∙ ap (λ (l : List X). x ∷ l) rest ∙ sym (cond-true (q x) (x ∷ filter q (filter p xs)) (filter q (filter p xs)) keeps)
     by true keeps false is rest = cond-false (p x) (x ∷ filter p (filter q xs)) (filter p (filter q xs)) is ∙ rest
     by false drops true is rest = rest ∙ sym (cond-false (q x) (x ∷ filter q (filter p xs)) (filter q (filter p xs)) drops)
     by false drops false is rest = rest

@@ -22,7 +22,8 @@ use Rattle.sprig_tree.proofs.Order.{order_first, order_rest}
 use Rattle.sprig_tree.proofs.Parted.{entry_of_above}
 use Rattle.sprig_tree.proofs.Laws.{entry_of-digest}
 use Rattle.part_laws.specs.Fits.{HasEntries, has_mark, FitsPart}
-use Rattle.part_laws.specs.Tests.{is_tombstone_entry, is_expired_entry, has_digest, passes_test}
+use Rattle.expiry_rule.specs.Seen.{is_expired_entry}
+use Rattle.part_laws.specs.Tests.{is_tombstone_entry, has_digest, passes_test}
 use Rattle.part_laws.specs.Becoming.{with_mark, without_cover, remarked, ended_entry, raid_ended}
 use Rattle.part_laws.proofs.Ordered.{AreInOrder, IsBelowAll, one_order, each_entry, among_entries}
 use Rattle.part_laws.proofs.Showing.{expired_is, marked_are}

@@ -19,14 +19,14 @@ digest_named (get_call digest now) = Some digest
 digest_named (move_call digest block) = Some digest
 digest_named _ = None
 
--- Writes, moves and removals are of the digest that the call names. A raid removes and clears entries of digests that the first state
--- has items of, in the part that the call names, and takes the turn that is next. It begins below the last number.
+-- Writes, moves and removals are of the digest that the call names. Where it names none, a raid removes and clears entries of digests that
+-- the first state has items of, in the part that the call names, and takes the turn that is next. It begins below the last number.
 abbrev pub IsStepOf : Setup → (first : State) → Call → State → Step → Type 0
 IsStepOf setup first call s (wrote digest v) = digest_named call ≡ Some digest
 IsStepOf setup first call s (moved digest) = digest_named call ≡ Some digest
 IsStepOf setup first call s (removed digest) = digest_named call ≡ Some digest
-IsStepOf setup first call s (rid_of digest) = (part_named setup call ≡ Some (part_of setup digest)) × (has_digest (digests_of first.log) digest ≡ true)
-IsStepOf setup first call s (uncovered digest) = (part_named setup call ≡ Some (part_of setup digest)) × (has_digest (digests_of first.log) digest ≡ true)
+IsStepOf setup first call s (rid_of digest) = (part_named setup call ≡ Some (part_of setup digest)) × (has_digest (digests_of first.log) digest ≡ true) × (digest_named call ≡ None)
+IsStepOf setup first call s (uncovered digest) = (part_named setup call ≡ Some (part_of setup digest)) × (has_digest (digests_of first.log) digest ≡ true) × (digest_named call ≡ None)
 IsStepOf setup first call s raid_begun = s.raid.number < top_number
 IsStepOf setup first call s (marked_part part now) = (part_named setup call ≡ Some part) × (s.raid.next ≡ mark_turn part)
 IsStepOf setup first call s (scanned_block copies) = (block : ℕ) × (s.raid.next ≡ scan_turn block)

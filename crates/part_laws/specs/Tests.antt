@@ -5,7 +5,7 @@ use Rattle.rec_format.specs.declared.version.Digest.{Digest}
 use Rattle.rec_format.specs.declared.version.Stamp.{Stamp}
 use Rattle.rec_format.specs.declared.entry.Entry.{Entry}
 use Rattle.rec_format.specs.Places.{same_digest}
-use Rattle.rec_format.specs.Versions.{is_tomb_kind, is_expired, is_later_stamp}
+use Rattle.rec_format.specs.Versions.{is_tomb_kind, is_later_stamp}
 use Rattle.expiry_rule.specs.Seen.{is_live_entry}
 
 abbrev pub is_tombstone_entry : Entry → Bool
@@ -13,9 +13,6 @@ is_tombstone_entry e = is_tomb_kind e.kind
 
 abbrev pub is_put_entry : Entry → Bool
 is_put_entry e = not (is_tomb_kind e.kind)
-
-abbrev pub is_expired_entry : ℕ → Entry → Bool
-is_expired_entry now e = is_put_entry e && is_expired now e.void
 
 -- a found copy of the digest is older than the entry
 abbrev pub has_older_copy : List (Digest × Stamp) → Entry → Bool

@@ -120,6 +120,7 @@ module _ {D : Type 0} (view : D → DiskView) (shard : ShardView D) (s new : Sta
     listed = subst (IsListed setup) (sym r.book) stands.listed;
     order = book_in_order (subst (IsInOrder setup new) no_records restart_is_kept.order);
     entries = λ l there. entry_lies l (stands.entries l (subst (λ (b : Book). Contains b.live l) r.book there));
+    kept = λ digest l v live top. stands.kept digest l v (sym (ap (λ (b : Book). live_of digest b.live) r.book) ∙ live) (sym (same_entry digest) ∙ top);
   }
 
   queue_again : QueueStands setup shard.shelf new
@@ -140,6 +141,7 @@ module _ {D : Type 0} (view : D → DiskView) (shard : ShardView D) (s new : Sta
     placed = record {
       buffered = λ digest l v live top. start_safe.placed.buffered digest l v (sym (ap (λ (b : Book). live_of digest b.live) r.book) ∙ live) (sym (same_entry digest) ∙ top);
       there = λ digest l v live top apart c may. start_safe.placed.there digest l v (sym (ap (λ (b : Book). live_of digest b.live) r.book) ∙ live) (sym (same_entry digest) ∙ top) apart c may;
+      kept = λ digest l v live top. start_safe.placed.kept digest l v (sym (ap (λ (b : Book). live_of digest b.live) r.book) ∙ live) (sym (same_entry digest) ∙ top);
     };
     safe = subst (λ (x : Records). HoldsGates setup g new x gates now) no_records (record {
       knows = subst (λ (b : Book). KnowsGates g b now gates) (sym r.book) start_safe.safe.knows;

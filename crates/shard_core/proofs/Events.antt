@@ -5,8 +5,9 @@ use Rattle.disk_model.specs.Runs.{OneOf, Leaves, leaves_then, leaves_more}
 use Rattle.device_model.specs.Book.{Setup}
 use Rattle.device_model.specs.Device.{State}
 use Rattle.device_model.specs.Steps.{Step, after_step, after_steps, states_through}
-use Rattle.device_model.specs.Events.{Event, Call, Answer, after_event, after_events, steps_of, states_of}
+use Rattle.device_model.specs.Events.{Event, Call, Answer, Cause, stamp_given, happened, found_version, counted, block_chosen, raid_numbered, marks_made, block_scanned, marks_undone, part_ended, raid_over, refused, after_event, after_events, steps_of, states_of}
 use Rattle.device_model.specs.Legal.{IsLegal, last_faults}
+use Rattle.device_model.specs.Vacating.{IfRefused}
 use Rattle.recovery.specs.Surviving.{Survives}
 use Rattle.block_shelf.specs.View.{ShelfView}
 use Rattle.block_shelf.specs.Standing.{IsPlaced}
@@ -16,6 +17,22 @@ use Rattle.shard_steps.specs.Events.{MakesEvent}
 use Rattle.shard_core.specs.View.{ShardView, setup_of}
 use Rattle.shard_core.specs.Stands.{Agrees}
 use Rattle.shard_core.specs.Vacating.{MakesEvents}
+
+-- ---- whether an event was refused
+
+pub if_refused : (answer : Answer) (Refused Still : Cause → Type 0) (Else Then : Type 0) → ((cause : Cause) → Refused cause → Still cause) → (Else → Then) → IfRefused answer Refused Else → IfRefused answer Still Then
+if_refused (stamp_given s) Refused Still Else Then one other is = other is
+if_refused (happened b) Refused Still Else Then one other is = other is
+if_refused (found_version v) Refused Still Else Then one other is = other is
+if_refused (counted n) Refused Still Else Then one other is = other is
+if_refused (block_chosen b) Refused Still Else Then one other is = other is
+if_refused (raid_numbered n) Refused Still Else Then one other is = other is
+if_refused (marks_made n) Refused Still Else Then one other is = other is
+if_refused (block_scanned b) Refused Still Else Then one other is = other is
+if_refused (marks_undone n) Refused Still Else Then one other is = other is
+if_refused (part_ended r c) Refused Still Else Then one other is = other is
+if_refused raid_over Refused Still Else Then one other is = other is
+if_refused (refused cause) Refused Still Else Then one other is = one cause is
 
 -- ---- lists of events
 

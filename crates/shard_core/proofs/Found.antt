@@ -6,15 +6,17 @@ use Rattle.rec_format.specs.declared.version.Kind.{Kind}
 use Rattle.rec_format.specs.declared.version.Version.{Version}
 use Rattle.rec_format.specs.declared.entry.Entry.{Entry}
 use Rattle.rec_format.specs.Entries.{Names}
-use Rattle.rec_format.specs.Versions.{is_tomb_kind, is_expired, is_live_put}
+use Rattle.rec_format.specs.Versions.{is_tomb_kind, is_expired, is_expired_put, is_live_put}
 use Rattle.device_model.specs.Histories.{if_live}
 use Rattle.device_model.specs.Book.{Setup}
 use Rattle.device_model.specs.Device as device
 use Rattle.device_model.specs.Device.{State, part_of}
-use Rattle.expiry_rule.specs.Seen.{seen_entry, is_live_entry}
+use Rattle.expiry_rule.specs.Seen.{seen_entry, is_live_entry, expired_entry, is_expired_entry}
 use Rattle.sprig_tree.specs.Entries.{entry_of}
 use Rattle.sprig_tree.specs.State.{SprigState}
+use Rattle.part_laws.specs.Tests.{passes_test}
 use Rattle.part_laws.proofs.Alike.{Says}
+use Rattle.part_laws.proofs.Looking.{expired_found}
 use Rattle.shard_steps.specs.Standing.{SprigStands}
 
 live_same : (now : ℕ) (e : Entry) (v : Version) → Names e v → is_live_entry now e ≡ is_live_put now v
@@ -55,3 +57,37 @@ module _ (setup : Setup) (s : State) (now : ℕ) (digest : Digest) (sprig : Spri
               subst (SeenIs s now digest sprig.entries) one (record { version = says.1.version; found_is = is; entry_is = says.1.top; names = says.1.names; seen = ap (if_live now) says.1.top ∙ ap (λ (b : Bool). cond b (Some says.1.version) None) put })
           live true false put same here = absurd (cc)
           live false b put same here = absurd (cc)
+
+-- ---- what is expired
+
+expired_not : (now : ℕ) (o : Option Entry) → expired_entry now o ≡ None → passes_test (is_expired_entry now) o ≡ false
+expired_not now None is = refl
+expired_not now (Some x) is = by (is_expired_entry now x) is
+  where
+    by : (b : Bool) → cond b (Some x) None ≡ None → b ≡ false
+    by true here = absurd (cc)
+    by false here = refl
+
+-- an entry that is expired is there, and passes
+record ExpiredIs (now : ℕ) (o : Option Entry) (e : Entry) : Type 0 where
+  held : o ≡ Some e
+  passes : passes_test (is_expired_entry now) o ≡ true
+
+expired_so : (now : ℕ) (o : Option Entry) (e : Entry) → expired_entry now o ≡ Some e → ExpiredIs now o e
+expired_so now None e is = absurd (cc)
+expired_so now (Some x) e is = by (is_expired_entry now x) refl is
+  where
+    by : (b : Bool) → is_expired_entry now x ≡ b → cond b (Some x) None ≡ Some e → ExpiredIs now (Some x) e
+    by true passes here = record { held = here; passes = passes }
+    by false passes here = absurd (cc)
+
+pub expired_held : (now : ℕ) (o : Option Entry) (e : Entry) → expired_entry now o ≡ Some e → o ≡ Some e
+expired_held now o e is = (expired_so now o e is).held
+
+-- what the state says of the digest
+module _ (setup : Setup) (s : State) (now : ℕ) (digest : Digest) (sprig : SprigState) (stands : SprigStands setup (part_of setup digest) sprig s) where
+  pub unexpired : expired_entry now (entry_of digest sprig.entries) ≡ None → device.entry_passes (is_expired_put now) (device.entry s digest) ≡ false
+  unexpired none = expired_found setup (part_of setup digest) sprig s stands.fits.entries digest refl now ∙ expired_not now (entry_of digest sprig.entries) none
+
+  pub expired_some : (e : Entry) → expired_entry now (entry_of digest sprig.entries) ≡ Some e → device.entry_passes (is_expired_put now) (device.entry s digest) ≡ true
+  expired_some e some = expired_found setup (part_of setup digest) sprig s stands.fits.entries digest refl now ∙ (expired_so now (entry_of digest sprig.entries) e some).passes

@@ -34,3 +34,4 @@ pub mod Vacating
 pub mod Choosing
 pub mod Choices
 pub mod Tending
+pub mod Expiring

@@ -57,7 +57,7 @@ never_below : (d : Digest) → digest_cmp d d ≡ Less → ⊥
 never_below d less = false≢true (sym (ap is_eq less) ∙ same_digest_refl d)
 
 -- a place within a list has an item
-get_some : {X : Type 0} (xs : List X) (i : ℕ) → i < length xs → (x : X) × (slice_get xs i ≡ Some x)
+pub get_some : {X : Type 0} (xs : List X) (i : ℕ) → i < length xs → (x : X) × (slice_get xs i ≡ Some x)
 get_some [] i lt = absurd (omega (arith, lt))
 get_some (x ∷ xs) zero lt = (x, refl)
 get_some (x ∷ xs) (suc i) lt = get_some xs i (omega (arith, lt))

@@ -1,11 +1,12 @@
 -- What a step over one sprig makes of the tally of all, and what the tally says of a state.
-use Rattle.std.proofs.Common.{◌≡◌, ℕ, zero, suc, ◌+◌, ◌-◌, ◌%◌, ◌^◌, ◌<◌, ◌≤◌, Bool, true, false, ◌&&◌, List, [], ◌∷◌, length, get_or, set, get_or-set_same, refl, sym, ◌∙◌, ap, subst, arith}
-use Rattle.std.specs.Prelude.{Option, Some, None, sum_by}
-use Rattle.std.proofs.lemmas.Bool.{false≢true}
-use Rattle.std.proofs.lemmas.List.Sums.{sum_by-set, sum_by-cons}
+use Rattle.std.proofs.Common.{◌≡◌, ℕ, zero, suc, ◌+◌, ◌-◌, ◌%◌, ◌^◌, ◌<◌, ◌≤◌, Bool, true, ◌&&◌, List, [], ◌∷◌, length, get_or, set, get_or-set_same, refl, sym, ◌∙◌, ap, subst, arith}
+use Rattle.std.specs.Prelude.{◌==◌, Option, Some, None, sum_by}
+use Rattle.std.proofs.lemmas.Bool.{and_parts, false≢true}
+use Rattle.std.proofs.lemmas.List.Sums.{sum_by-set, sum_by-cons, length-filter}
+use Rattle.rec_format.specs.declared.version.Digest.{Digest}
 use Rattle.rec_format.specs.declared.version.Version.{Version}
-use Rattle.rec_format.specs.Versions.{is_put, is_tombstone}
-use Rattle.device_model.specs.Device.{State, entry, entry_passes, entry_is_covered, put_count, tombstone_count, covered_count}
+use Rattle.rec_format.specs.Versions.{is_put, is_tombstone, is_expired_put}
+use Rattle.device_model.specs.Device.{State, entry, entry_passes, entry_is_covered, part_of, digests_of, expired_in, put_count, tombstone_count, covered_count}
 use Rattle.disk_model.specs.Disk.{DiskView}
 use Rattle.sprig_tree.specs.declared.tally.Tally.{Tally}
 use Rattle.sprig_tree.specs.State.{SprigState}
@@ -77,10 +78,6 @@ module _ {D : Type 0} (view : D → DiskView) (shard : ShardView D) (s : State) 
   passed test None passes = absurd (false≢true passes)
   passed test (Some v) passes = (v, refl)
 
-  and_left : (a b : Bool) → (a && b) ≡ true → a ≡ true
-  and_left true b both = refl
-  and_left false b both = absurd (false≢true both)
-
   some_devices : 0 < shard.shelf.geometry.devices
   some_devices = omega (arith, is.geometry.device)
 
@@ -97,7 +94,15 @@ module _ {D : Type 0} (view : D → DiskView) (shard : ShardView D) (s : State) 
   pub few_covered : covered_count s ≤ 2 ^ 32
   few_covered =
       few_entries view shard s is whole agrees (λ d. entry_passes is_put (entry s d) && entry_is_covered s d)
-      (λ d passes. passed is_put (entry s d) (and_left (entry_passes is_put (entry s d)) (entry_is_covered s d) passes))
+      (λ d passes. passed is_put (entry s d) (and_parts (entry_passes is_put (entry s d)) (entry_is_covered s d) passes).0)
+
+  -- and of a part at most so many are expired
+  pub few_expired : (part now : ℕ) → length (expired_in (setup_of shard) now part s) ≤ 2 ^ 32
+  few_expired part now =
+      let told : Digest → Bool = λ d. (part_of (setup_of shard) d == part) && entry_passes (is_expired_put now) (entry s d) in
+      subst (λ (n : ℕ). n ≤ 2 ^ 32) (sym (length-filter told (digests_of s.log)))
+      (few_entries view shard s is whole agrees told
+      (λ d passes. passed (is_expired_put now) (entry s d) (and_parts (part_of (setup_of shard) d == part) (entry_passes (is_expired_put now) (entry s d)) passes).1))
 
   -- The tally of a shard tells how many records, tombstones and covered records the state has.
   pub tally_tells : record { records : (tally_sum shard.sprigs).records ≡ put_count s; tombstones : (tally_sum shard.sprigs).tombstones ≡ tombstone_count s; covered : (tally_sum shard.sprigs).covered ≡ covered_count s }

@@ -7,7 +7,7 @@ use Rattle.disk_model.specs.Disk.{DiskView, IsDisk, IsHonest}
 use Rattle.rec_format.specs.declared.version.Digest.{Digest}
 use Rattle.device_model.specs.Book.{Setup, use_of}
 use Rattle.device_model.specs.Device.{State}
-use Rattle.device_model.specs.Events.{Event, Call, Answer, Cause, stamp_given, happened, found_version, counted, block_chosen, raid_numbered, marks_made, block_scanned, marks_undone, part_ended, raid_over, refused, move_call, after_event, after_events}
+use Rattle.device_model.specs.Events.{Event, Call, Answer, Cause, happened, refused, move_call, after_event, after_events}
 use Rattle.device_model.specs.Legal.{Allowed}
 use Rattle.device_model.specs.Vacating.{Outcome, did, stopped, IfRefused, MovesOut, moved_by, moved_count}
 use Rattle.recovery.proofs.Opening.{all_joined}
@@ -18,7 +18,7 @@ use Rattle.shard_core.specs.Stands.{Agrees}
 use Rattle.shard_core.specs.Calls.{Makes}
 use Rattle.shard_core.specs.Vacating.{MakesEvents, AreMoves, LiesAmong, HaveMoved, IsMoved, IsMovedOut}
 use Rattle.shard_core.proofs.Making.{setup_same}
-use Rattle.shard_core.proofs.Events.{RunsBy, after_all, runs_none, runs_one, runs_then, makes_events, runs_made}
+use Rattle.shard_core.proofs.Events.{RunsBy, if_refused, after_all, runs_none, runs_one, runs_then, makes_events, runs_made}
 use Rattle.shard_core.proofs.Emptied.{none_used, lies_on}
 
 -- ---- events of moves
@@ -30,30 +30,16 @@ pub counts_joined : (xs ys : List Event) → moved_count (xs ++ ys) ≡ moved_co
 counts_joined [] ys = omega arith
 counts_joined (x ∷ xs) ys = let rest = counts_joined xs ys in omega (arith, counts_one x (xs ++ ys), counts_one x xs, rest)
 
--- what holds of an answer that isn't a refusal
-unrefused : (answer : Answer) (Refused : Cause → Type 0) (Else : Type 0) → IfRefused answer (λ cause. ⊥) (Unit {0}) → Else → IfRefused answer Refused Else
-unrefused (stamp_given s) Refused Else is so = so
-unrefused (happened b) Refused Else is so = so
-unrefused (found_version v) Refused Else is so = so
-unrefused (counted n) Refused Else is so = so
-unrefused (block_chosen b) Refused Else is so = so
-unrefused (raid_numbered n) Refused Else is so = so
-unrefused (marks_made n) Refused Else is so = so
-unrefused (block_scanned b) Refused Else is so = so
-unrefused (marks_undone n) Refused Else is so = so
-unrefused (part_ended r c) Refused Else is so = so
-unrefused raid_over Refused Else is so = so
-unrefused (refused cause) Refused Else is so = absurd is
-
 -- behind some moves others go on
 moves_then : (setup : Setup) (block : ℕ) (s : State) (moved : ℕ) (xs ys : List Event) (outcome : Outcome) → AreMoves block xs
     → MovesOut setup block (after_events setup xs s) (moved + moved_count xs) ys outcome → MovesOut setup block s moved (xs ++ ys) outcome
 moves_then setup block s moved [] ys outcome moves then = subst (λ (n : ℕ). MovesOut setup block s n ys outcome) (omega arith) then
 moves_then setup block s moved (x ∷ xs) ys outcome moves then = (
   moves.0.0,
-  unrefused x.answer (λ cause. (xs ++ ys ≡ []) × (outcome ≡ stopped cause)) (MovesOut setup block (after_event setup x s) (moved + moved_by x.answer) (xs ++ ys) outcome) moves.0.1
-      (moves_then setup block (after_event setup x s) (moved + moved_by x.answer) xs ys outcome moves.1
-      (subst (λ (n : ℕ). MovesOut setup block (after_events setup xs (after_event setup x s)) n ys outcome) (omega (arith, counts_one x xs)) then)),
+  if_refused x.answer (λ cause. ⊥) (λ cause. (xs ++ ys ≡ []) × (outcome ≡ stopped cause)) (Unit {0}) (MovesOut setup block (after_event setup x s) (moved + moved_by x.answer) (xs ++ ys) outcome)
+      (λ cause never. absurd never)
+      (λ on. moves_then setup block (after_event setup x s) (moved + moved_by x.answer) xs ys outcome moves.1
+      (subst (λ (n : ℕ). MovesOut setup block (after_events setup xs (after_event setup x s)) n ys outcome) (omega (arith, counts_one x xs)) then)) moves.0.1,
 )
 
 -- all of them, where nothing is live then

@@ -24,7 +24,7 @@ use Rattle.shard_core.specs.declared.get.Meta.{Meta}
 use Rattle.shard_core.specs.declared.refusals.WriteRefusal.{WriteRefusal}
 use Rattle.shard_core.specs.declared.refusals.WriteRefusal.TheVariants as write
 use Rattle.sprig_tree.specs.State.{SprigState}
-use Rattle.block_shelf.specs.View.{ShelfView}
+use Rattle.block_shelf.specs.View.{ShelfView, in_memory}
 use Rattle.block_shelf.specs.Changes.{SameButRoom}
 use Rattle.shard_core.specs.Sprigs.{AreSame, held}
 use Rattle.shard_steps.specs.Sprigs.{SameSprig, place_of}
@@ -113,13 +113,13 @@ HasGot e bytes (Ok None) = ⊥
 HasGot e bytes (Ok (Some v)) = IsRead e bytes v
 HasGot e bytes (Err refusal) = HasRead e bytes (Err refusal)
 
--- A record is got as it is stored. Where its block has a write buffer to which clients write, the answer is what was put, over any disk, or
--- want of memory. Where it has no buffer, the answer is what stands at the place of its entry, on a disk that tells its bytes: it is damaged exactly where no
--- head of the entry's record stands there.
+-- A record is got as it is stored. Where its block has a write buffer to which clients write, or such a flushed buffer of it is kept, the
+-- answer is what was put, over any disk, or want of memory. Where neither is there, the answer is what stands at the place of its entry, on a
+-- disk that tells its bytes: it is damaged exactly where no head of the entry's record stands there.
 pub record ReadsStored {D : Type 0} (view : D → DiskView) (Stands : State → Type 0) (found : Option Entry) (shelf : ShelfView D) (digest : Digest) (now : ℕ) (result : Result (Option Version) ReadRefusal) : Type 0 where
-  pub buffered : (s : State) → Stands s → (e : Entry) (b : BufferState) → found ≡ Some e → Contains shelf.buffers b → b.block ≡ e.block → b.stream ≡ Client
+  pub remembered : (s : State) → Stands s → (e : Entry) (b : BufferState) → found ≡ Some e → Contains (in_memory shelf) b → b.block ≡ e.block → b.stream ≡ Client
       → MatchResult result (λ got. got ≡ seen s now digest) (λ refusal. refusal ≡ read.Memory)
-  pub placed : (view shelf.disk).tells → (e : Entry) → seen_entry now found ≡ Some e → AllByRecursion (λ b. b.block ≢ e.block) shelf.buffers
+  pub placed : (view shelf.disk).tells → (e : Entry) → seen_entry now found ≡ Some e → AllByRecursion (λ b. b.block ≢ e.block) (in_memory shelf)
       → HasGot e (copy_bytes shelf.geometry (place_of e) (view shelf.disk).seen) result
 
 -- so it is by a shard

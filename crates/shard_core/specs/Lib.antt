@@ -8,3 +8,4 @@ pub mod Calls
 pub mod Writing
 pub mod Numbers
 pub mod Vacating
+pub mod Expiring

@@ -13,12 +13,12 @@ pub record ShardView (D : Type 0) : Type 0 where
   pub set : Settings
   pub sprigs : List SprigState
 
--- Settings within their ranges. No block is kept in memory yet, so the post-write queue is 0.
+-- Settings within their ranges.
 pub record IsSettings (set : Settings) : Type 0 where
   pub sprigs : (1 ≤ set.sprigs) × (set.sprigs ≤ 256)
   pub lwm : set.lwm ≤ 99
   pub pending : (4 ≤ set.pending) × (set.pending ≤ 64)
-  pub cache : set.cache ≡ 0
+  pub cache : set.cache ≤ 64
   pub raid_age : set.raid_age ≤ 315360000
 
 -- the limits of a shelf that is run with these settings

@@ -9,7 +9,7 @@ use Rattle.device_model.specs.Book.{Setup, Buffer, client, filling_buffer, has_r
 use Rattle.device_model.specs.Device.{State, entry_is_covered, next_stamp_of, part_of}
 use Rattle.device_model.specs.Steps.{Step, wrote, after_step, states_through}
 use Rattle.device_model.specs.Events.{Event, Call, Answer, refused}
-use Rattle.device_model.specs.Legal.{Allowed, NoMemory, Unless, WriteEnds, Entombs, StopsIn}
+use Rattle.device_model.specs.Legal.{Allowed, NoMemory, Unless, WriteEnds, Entombs, Removes, StopsIn}
 use Rattle.disk_model.specs.Disk.{DiskView, IsHonest}
 use Rattle.disk_model.specs.Runs.{OneOf, Leaves}
 use Rattle.recovery.specs.Surviving.{Survives}
@@ -57,6 +57,10 @@ pub record IsWriteOf (setup : Setup) (s : State) (call : Call) (kind : Class) (d
 -- a call entombs a digest: an event of it may follow where it ends so
 abbrev pub IsEntombing : Setup → State → Call → Digest → (now : ℕ) → (ok : Stamp → Answer) → Type 0
 IsEntombing setup s call digest now ok = (told : Bool) (event : Event) → event.call ≡ call → Entombs setup s event digest now ok → Allowed setup told s event call
+
+-- a call removes the entry of a digest: an event of it may follow where it ends so
+abbrev pub IsRemoving : Setup → State → Call → Digest → (now : ℕ) → Type 0
+IsRemoving setup s call digest now = (told : Bool) (event : Event) → event.call ≡ call → Removes setup s event digest now → Allowed setup told s event call
 
 -- ---- what stands against a put before its stamp
 

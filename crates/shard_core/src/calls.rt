@@ -12,7 +12,7 @@ ghost use Rattle.write_buffer.specs.Buffers.{BufferState};
 ghost use Rattle.expiry_rule.specs.Seen.{seen_entry};
 ghost use Rattle.tomb_rules.specs.Covers.{cover_of};
 ghost use Rattle.block_shelf.specs.Disks.{IsLater, OnlyRead};
-ghost use Rattle.block_shelf.specs.View.{gate_at};
+ghost use Rattle.block_shelf.specs.View.{gate_at, in_memory};
 ghost use Rattle.block_shelf.specs.Standing.{IsPlaced};
 ghost use Rattle.write_buffer.specs.declared.stream.Stream.TheVariants.{Client};
 ghost use Rattle.block_shelf.specs.Changes.{HasRoom};
@@ -43,7 +43,7 @@ impl<D: Disk> Shard<D> {
         now: u64,
     ) -> Result<Stamp, WriteRefusal>
         requires named { device_number self.old.shelf.geometry.devices digest.now ≡ self.old.shelf.geometry.device }
-        requires ttl { ttl ≡ 0 }
+        requires ttl { ttl ≤ 315360000 }
         requires size { length payload.now ≤ 2 ^ 31 }
         requires now { now ≤ 2 ^ 61 }
         ensures makes { (s : State) → Agrees self.old s → Makes D.view (put_call digest.now ttl expect payload.now now) (write_answer result) self.old s self.new }
@@ -86,8 +86,8 @@ impl<D: Disk> Shard<D> {
         requires now { now ≤ 2 ^ 61 }
         ensures makes { (s : State) → Agrees self.old s → Makes D.view (get_call digest.now now) (read_answer result) self.old s self.new }
 
-        // A record whose block has a write buffer is read without a call of the disk.
-        ensures buffered { (e : Entry) (b : BufferState) → held (setup_of self.old) digest.now self.old.sprigs ≡ Some e → Contains self.old.shelf.buffers b → b.block ≡ e.block
+        // A record whose block has a write buffer, or whose flushed buffer is kept, is read without a call of the disk.
+        ensures in_memory { (e : Entry) (b : BufferState) → held (setup_of self.old) digest.now self.old.sprigs ≡ Some e → Contains (in_memory self.old.shelf) b → b.block ≡ e.block
             → (self.new ≡ self.old) × IfErr result (λ refusal. refusal ≡ ReadRefusal.Memory) }
 
         // It is what was put there; another is what stands at its place, on a disk that tells its bytes.

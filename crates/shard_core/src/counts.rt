@@ -1,6 +1,8 @@
 // The numbers of a shard.
 ghost use Rattle.std.specs.Prelude.{◌≡◌, ◌<◌, ◌≤◌, ◌^◌, length};
-ghost use Rattle.device_model.specs.Device.{State};
+ghost use Rattle.rec_format.specs.declared.version.Digest.{Digest};
+ghost use Rattle.rec_format.specs.Places.{device_number};
+ghost use Rattle.device_model.specs.Device.{State, part_of};
 ghost use Rattle.device_model.specs.Steps.{part_total};
 ghost use Rattle.shard_core.specs.Numbers.{AreFew, counts_of, tally_sum};
 ghost use Rattle.shard_core.specs.Stands.{Agrees};
@@ -31,9 +33,11 @@ impl<D: Disk> Shard<D> {
         }
     }
 
-    /// How many parts the device has, each with a sprig.
+    /// How many parts the device has, each with a sprig. Each digest of the device is of one of them.
     pub fn parts(&self) -> u32
-        ensures { result ≡ part_total (setup_of self.now) }
+        ensures total { result ≡ part_total (setup_of self.now) }
+        ensures few { result ≤ 2 ^ 20 }
+        ensures all { (digest : Digest) → device_number self.now.shelf.geometry.devices digest ≡ self.now.shelf.geometry.device → part_of (setup_of self.now) digest < result }
     {
         let shape = self.shelf.geometry();
         parts_of(shape.device, shape.devices, self.set.sprigs)

@@ -1,10 +1,10 @@
 // Deletes over the sprig of a digest and the shelf: an ordinary one, and a durable one that writes a tombstone.
-ghost use Rattle.std.specs.Prelude.{◌≡◌, ◌⊎◌, ◌≤◌, ◌^◌, true, false, IfErr, IsOk, MatchResult};
+ghost use Rattle.std.specs.Prelude.{◌≡◌, ◌⊎◌, ◌≤◌, ◌^◌, true, false, Some, IfErr, IsOk, MatchResult};
 ghost use Rattle.disk_model.specs.Disk.{IsHonest};
 ghost use Rattle.rec_format.specs.Places.{device_number};
 ghost use Rattle.rec_format.specs.Versions.{a_tombstone};
 ghost use Rattle.device_model.specs.Device.{State, part_of};
-ghost use Rattle.device_model.specs.Events.{Call, Answer, bury_call, delete_call};
+ghost use Rattle.device_model.specs.Events.{Call, Answer, bury_call, delete_call, happened};
 ghost use Rattle.expiry_rule.specs.Seen.{seen_entry};
 ghost use Rattle.tomb_rules.specs.Covers.{cover_of};
 ghost use Rattle.sprig_tree.specs.Entries.{entry_of};
@@ -15,7 +15,7 @@ ghost use Rattle.shard_core.specs.View.{IsSettings, limits_of, setup_for};
 ghost use Rattle.shard_steps.specs.Standing.{StandTogether};
 ghost use Rattle.shard_core.specs.Calls.{IsRefusedStep, delete_answer, write_answer};
 ghost use Rattle.shard_steps.specs.Events.{StepMakes};
-ghost use Rattle.shard_core.specs.Writing.{IsEntombing, entombed_answer};
+ghost use Rattle.shard_core.specs.Writing.{IsEntombing, IsRemoving, entombed_answer, written_answer};
 
 use crate::sprigs::place_of_entry;
 use crate::write::{stamp_after, write_step};
@@ -58,14 +58,7 @@ pub fn delete_step<D: Disk>(
     let Some(entry) = seen(found.as_ref(), now) else {
         return Ok(false);
     };
-    if delete_writes(entry) {
-        entomb(alloc, sprig, shelf, set, digest, found, now)?;
-        return Ok(true);
-    }
-    let place = place_of_entry(entry);
-    prove!(place.block < shelf.geometry().blocks);
-    shelf.drop_live(place);
-    let _gone = sprig.remove(digest);
+    remove_entry(alloc, sprig, shelf, set, digest, *entry, now)?;
     Ok(true)
 }
 
@@ -94,6 +87,43 @@ pub fn bury_step<D: Disk>(
 {
     let prior = sprig.find(digest);
     entomb(alloc, sprig, shelf, set, digest, prior, now)
+}
+
+/// Removes the entry of a digest: in memory alone where no older copy may be behind it, which is never refused. A covered one is replaced by
+/// a tombstone.
+pub(crate) fn remove_entry<D: Disk>(
+    alloc: Global,
+    sprig: &mut Sprig,
+    shelf: &mut Shelf<D>,
+    set: &Settings,
+    digest: &Digest,
+    entry: Entry,
+    now: u64,
+) -> Result<(), WriteRefusal>
+    requires named { device_number shelf.old.geometry.devices digest.now ≡ shelf.old.geometry.device }
+    requires found { entry_of digest.now sprig.old.entries ≡ Some entry }
+    requires settings { IsSettings set.now }
+    requires limits { shelf.old.limits ≡ limits_of set.now }
+    requires stand { let setup = setup_for shelf.old.geometry set.now in (s : State) × StandTogether setup (part_of setup digest.now) sprig.old shelf.old s }
+    ensures makes { let setup = setup_for shelf.old.geometry set.now in (s : State) (call : Call) → StandTogether setup (part_of setup digest.now) sprig.old shelf.old s
+        → IsRemoving setup s call digest.now now → StepMakes D.view setup (part_of setup digest.now) call (written_answer (happened true) result) shelf.old s sprig.new shelf.new }
+
+    // What isn't covered is removed without a call of the disk, and that isn't refused.
+    ensures bare { entry.cover ≡ false → IsOk result × (shelf.new.disk ≡ shelf.old.disk) }
+    ensures refused { IfErr result (λ refusal. ((refusal ≡ WriteRefusal.Fault) × (set.now.commit ≡ true)) ⊎ IsRefusedStep sprig.old sprig.new shelf.old shelf.new refusal) }
+    ensures later { IsLater (D.view shelf.old.disk) (D.view shelf.new.disk) }
+    ensures honest { IsHonest (D.view shelf.old.disk) → IsHonest (D.view shelf.new.disk) }
+    ensures shape { SameShape shelf.old shelf.new }
+{
+    if delete_writes(&entry) {
+        entomb(alloc, sprig, shelf, set, digest, Some(entry), now)?;
+        return Ok(());
+    }
+    let place = place_of_entry(&entry);
+    prove!(place.block < shelf.geometry().blocks);
+    shelf.drop_live(place);
+    let _gone = sprig.remove(digest);
+    Ok(())
 }
 
 // Writes a tombstone of a digest, whose entry so far is `found`, and answers its stamp.

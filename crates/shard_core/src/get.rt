@@ -9,6 +9,7 @@ ghost use Rattle.device_model.specs.Events.{get_call};
 ghost use Rattle.write_buffer.specs.Buffers.{BufferState};
 ghost use Rattle.sprig_tree.specs.Entries.{entry_of};
 ghost use Rattle.block_shelf.specs.Disks.{OnlyRead};
+ghost use Rattle.block_shelf.specs.View.{in_memory};
 ghost use Rattle.block_shelf.specs.Standing.{IsPlaced};
 ghost use Rattle.block_shelf.specs.Reads.{IsUndamaged};
 ghost use Rattle.shard_core.specs.View.{IsSettings, limits_of, setup_for};
@@ -34,7 +35,8 @@ pub struct Meta {
 }
 
 /// The record that is seen of a digest, over the digest's sprig and the shelf: its version, if it is a put that isn't expired. It is read
-/// from its write buffer without a call of the disk, or from its block with one; it is damaged where the head of the entry's record
+/// from its write buffer, or from its flushed buffer while that is kept, without a call of the disk, or else from its block with one; it is
+/// damaged where the head of the entry's record
 /// doesn't stand there.
 pub fn get_step<D: Disk>(
     alloc: Global,
@@ -52,8 +54,8 @@ pub fn get_step<D: Disk>(
     ensures makes { let setup = setup_for shelf.old.geometry set.now in (s : State) → StandTogether setup (part_of setup digest.now) sprig.old shelf.old s
         → StepMakes D.view setup (part_of setup digest.now) (get_call digest.now now) (read_answer result) shelf.old s sprig.new shelf.new }
 
-    // A record whose block has a write buffer is read without a call of the disk.
-    ensures buffered { (e : Entry) (b : BufferState) → entry_of digest.now sprig.old.entries ≡ Some e → Contains shelf.old.buffers b → b.block ≡ e.block
+    // A record whose block has a write buffer, or whose flushed buffer is kept, is read without a call of the disk.
+    ensures in_memory { (e : Entry) (b : BufferState) → entry_of digest.now sprig.old.entries ≡ Some e → Contains (in_memory shelf.old) b → b.block ≡ e.block
         → (shelf.new ≡ shelf.old) × IfErr result (λ refusal. refusal ≡ ReadRefusal.Memory) }
 
     // It is what was put there; another is what stands at its place, on a disk that tells its bytes.

@@ -30,12 +30,12 @@ use sprig_tree::Sprig;
 use std::alloc::Global;
 use tomb_rules::cover_after;
 
-/// Writes a record's version over the sprig of its digest and the shelf, and answers its stamp. It never expires so far. The digest is
-/// looked up once. Where a generation is expected, it is that of the record that is seen, 0 for none. The version goes to a write buffer,
-/// and doesn't wait for the disk, but where a buffer begins in a block whose gate isn't known to be shut: that gate is closed first. With
-/// commit on it is flushed before the answer, with all that was sealed before it. After a fault of that flush it stands all the same,
-/// pending. After a fault in closing a gate the block goes to the back of the free ones, and nothing is written; after any other refusal
-/// all is as before, but for memory that was taken.
+/// Writes a record's version over the sprig of its digest and the shelf, and answers its stamp. It expires `ttl` seconds after `now`, or
+/// never where `ttl` is 0. The digest is looked up once. Where a generation is expected, it is that of the record that is seen, 0 for none.
+/// The version goes to a write buffer, and doesn't wait for the disk, but where a buffer begins in a block whose gate isn't known to be
+/// shut: that gate is closed first. With commit on it is flushed before the answer, with all that was sealed before it. After a fault of
+/// that flush it stands all the same, pending. After a fault in closing a gate the block goes to the back of the free ones, and nothing is
+/// written; after any other refusal all is as before, but for memory that was taken.
 pub fn put_step<D: Disk>(
     alloc: Global,
     sprig: &mut Sprig,
@@ -48,7 +48,7 @@ pub fn put_step<D: Disk>(
     now: u64,
 ) -> Result<Stamp, WriteRefusal>
     requires named { device_number shelf.old.geometry.devices digest.now ≡ shelf.old.geometry.device }
-    requires ttl { ttl ≡ 0 }
+    requires ttl { ttl ≤ 315360000 }
     requires size { length payload.now ≤ 2 ^ 31 }
     requires now { now ≤ 2 ^ 61 }
     requires settings { IsSettings set.now }

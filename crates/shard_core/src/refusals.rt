@@ -72,6 +72,13 @@ pub struct DefragRefusal {
     pub cause: DefragCause,
 }
 
+/// How many expired entries were removed before one was refused, and why it was.
+#[derive(Clone, Copy, Debug, PartialEq, Eq)]
+pub struct ExpireRefusal {
+    pub removed: u64,
+    pub cause: WriteRefusal,
+}
+
 // What a refused move is to the vacating.
 fn move_cause(refusal: MoveRefusal) -> DefragCause
     ensures { result ≡ move_cause refusal }

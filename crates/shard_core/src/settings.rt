@@ -7,7 +7,7 @@ pub struct Settings {
     pub lwm: u32,
     /// The most write buffers that may wait to be flushed, 4 to 64.
     pub pending: u32,
-    /// The blocks that the post-write queue keeps in memory. It is 0 until a device has one.
+    /// The blocks that the post-write queue keeps in memory, 0 to 64.
     pub cache: u32,
     /// A write is flushed before it is answered.
     pub commit: bool,

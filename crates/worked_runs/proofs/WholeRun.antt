@@ -73,7 +73,7 @@ first = record { line = Some put_bytes; time = Some 1000; reply = (reply.Done2 1
 
 first_is : Serves nothing_left true start0 first
 unfolding refreshed dropped_live placed with_flushed cold_book after_step start_state
-first_is = record { answers = inl ((command.Put d1 0 None (codes "hello")), 1000, (record { spelled = put_line; built = refl }), refl, inl (refl, ((event (put_call d1 0 None (104 ∷ 101 ∷ 108 ∷ 108 ∷ 111 ∷ []) 1000) (stamp_given (stamp 1 1000)) (wrote d1 (a_put (stamp 1 1000) 0 false (104 ∷ 101 ∷ 108 ∷ 108 ∷ 111 ∷ [])) ∷ []) 0 0), refl, refl, refl))); work = (record { begins = refl; counts = lit≤ tt; allowed = inr (inl (refl, refl)) }, tt); tends = (((event (flush_sealed_call) (counted 0) [] 0 0) ∷ (event (choose_call) (block_chosen None) [] 0 0) ∷ []), [], refl, ((event (flush_sealed_call) (counted 0) [] 0 0), ((event (choose_call) (block_chosen None) [] 0 0) ∷ []), refl, refl, (did 0 0), ((event (choose_call) (block_chosen None) [] 0 0), [], refl, refl, inl (refl, refl, refl))), refl); tending = (record { begins = refl; counts = lit≤ tt; allowed = inl (refl, refl) }, (record { begins = refl; counts = lit≤ tt; allowed = inl (refl, refl) }, tt)) }
+first_is = record { answers = inl ((command.Put d1 0 None (codes "hello")), 1000, (record { spelled = put_line; built = tt }), refl, inl (refl, ((event (put_call d1 0 None (104 ∷ 101 ∷ 108 ∷ 108 ∷ 111 ∷ []) 1000) (stamp_given (stamp 1 1000)) (wrote d1 (a_put (stamp 1 1000) 0 false (104 ∷ 101 ∷ 108 ∷ 108 ∷ 111 ∷ [])) ∷ []) 0 0), refl, refl, refl))); work = (record { begins = refl; counts = lit≤ tt; allowed = inr (inl (refl, refl)) }, tt); tends = (((event (flush_sealed_call) (counted 0) [] 0 0) ∷ (event (choose_call) (block_chosen None) [] 0 0) ∷ []), [], refl, ((event (flush_sealed_call) (counted 0) [] 0 0), ((event (choose_call) (block_chosen None) [] 0 0) ∷ []), refl, refl, (did 0 0), ((event (choose_call) (block_chosen None) [] 0 0), [], refl, refl, inl (refl, refl, refl))), refl); tending = (record { begins = refl; counts = lit≤ tt; allowed = inl (refl, refl) }, (record { begins = refl; counts = lit≤ tt; allowed = inl (refl, refl) }, tt)) }
 
 abbrev second_node : Node
 second_node = node_after_line first start0

@@ -1,7 +1,18 @@
-use Rattle.std.proofs.Common.{◌∙◌, sym, arith}
+use Rattle.std.proofs.Common.{◌≡◌, ◌≤◌, ◌↔◌, ◌∙◌, ℕ, List, ◌∷◌, ◌++◌, length, sym, arith}
+use Rattle.std.specs.Prelude.{Option, Some, Result, Ok, Err, IfOk, IfSome, codes}
 use Rattle.std.specs.Cmp.Lexicographic.{same_text, other_text}
+use Rattle.line_proto.specs.declared.command.Command.{Command}
+use Rattle.line_proto.specs.Lines.{line_limit}
+use Rattle.line_proto.specs.Built.{IsLine, IsInRange}
+use Rattle.line_proto.specs.Reading.{IsWord, IsPutCommand}
 use Rattle.line_proto.proofs.Words.{line_of_digest, line_of_put, line_of_alone, read_in_range}
 use Rattle.line_proto.proofs.read.read_command.Goals as goal
+
+-- what stands behind `put ` is read as the line is
+put_read : {E : Type 0} (line word text : List ℕ) (read : Result (Option Command) E) → length line ≤ line_limit → (line ≡ word ++ 32 ∷ text) × IsWord word → word ≡ codes "put"
+    → IfOk read (λ r. (c : Command) → (r ≡ Some c) ↔ IsPutCommand text c) → IfOk read (λ r. (c : Command) → (r ≡ Some c) ↔ IsLine line c) × IfOk read (λ r. IfSome r IsInRange)
+put_read line word text (Ok read) fits parted is_put reads = let exact = line_of_put line word text read fits parted is_put reads in (exact, read_in_range line read exact)
+put_read line word text (Err e) fits parted is_put reads = (tt, tt)
 
 pub returns : goal.returns
 returns c =
@@ -17,7 +28,7 @@ returns-in_default c =
 
 pub returns-then-eq : goal.returns-then-eq
 returns-then-eq c =
-    let exact =
-    line_of_put c.args.line.now c.in-Some.word.now c.in-Some.text.now c.in_ok-put_of.field-0 c.only_built.result (omega arith) c.in-Some.ensures
-    (same_text c.in-Some.word.now _ c.if-eq.ensures ∙ c.as_slice.ensures) c.in_ok-put_of.ensures c.only_built.ensures in
-    record { exact = exact; in_range = read_in_range c.args.line.now c.only_built.result exact }
+    let read =
+    put_read c.args.line.now c.in-Some.word.now c.in-Some.text.now c.put_of.result (omega arith) c.in-Some.ensures (same_text c.in-Some.word.now _ c.if-eq.ensures ∙ c.as_slice.ensures)
+    c.put_of.ensures in
+    record { exact = read.0; in_range = read.1 }

@@ -12,6 +12,7 @@ use Rattle.sprig_tree.specs.Entries.{entry_of}
 use Rattle.block_shelf.specs.declared.place.Place.{Place}
 use Rattle.block_shelf.specs.declared.refusals.ReadRefusal.{ReadRefusal}
 use Rattle.block_shelf.specs.declared.refusals.ReadRefusal.TheVariants as read
+use Rattle.block_shelf.specs.View.{in_memory}
 use Rattle.block_shelf.specs.Standing.{IsCopyIn}
 use Rattle.block_shelf.specs.Reads.{copy_bytes, HasRead, IsUndamaged}
 use Rattle.shard_steps.specs.Sprigs.{place_of}
@@ -33,7 +34,7 @@ pub returns-in_default-clause-stored : goal.returns-in_default-clause-stored
 returns-in_default-clause-stored g c =
     let none : seen_entry c.args.now (entry_of c.args.digest.now c.args.sprig.now.entries) ≡ None = ap (seen_entry c.args.now) (sym (c.as_ref.ensures.value ∙ c.find-found.ensures.value)) ∙ sym c.seen.ensures ∙ ap option_copied c.in_default.is in
     record {
-      buffered = λ s stand e b is there at client. sym (seen_none (setup_for c.args.shelf.now.geometry c.args.set.now) s c.args.now c.args.digest.now c.args.sprig.now stand.sprig_stands none);
+      remembered = λ s stand e b is there at client. sym (seen_none (setup_for c.args.shelf.now.geometry c.args.set.now) s c.args.now c.args.digest.now c.args.sprig.now stand.sprig_stands none);
       placed = λ told e is apart. let clash : Some e ≡ None = sym is ∙ none in absurd (cc);
     }
 
@@ -75,8 +76,8 @@ returns-in-Ok-clause-makes g c s stand =
     (makes_read g.D.Disk.view setup c.args.digest.now c.args.sprig.now c.args.shelf.now c.read.new.self s c.args.now stand e is c.read.result c.read.ensures.same c.read.ensures.disk (g.met.D.Disk.is_disk c.read.new.self.disk)
     c.read.ensures.names c.read.ensures.cause (λ honest placed. c.read.ensures.written honest setup s is.version stand.shelf_stands.stands placed live.live live.entry_is is.names))
 
-pub returns-in-Ok-clause-buffered : goal.returns-in-Ok-clause-buffered
-returns-in-Ok-clause-buffered g c x b found there at =
+pub returns-in-Ok-clause-in_memory : goal.returns-in-Ok-clause-in_memory
+returns-in-Ok-clause-in_memory g c x b found there at =
     let setup = setup_for c.args.shelf.now.geometry c.args.set.now in
     let e : Entry = c.in-Some.entry.now in
     let seen : seen_entry c.args.now (entry_of c.args.digest.now c.args.sprig.now.entries) ≡ Some e = ap (seen_entry c.args.now) (sym (c.as_ref.ensures.value ∙ c.find-found.ensures.value)) ∙ sym c.seen.ensures ∙ ap option_copied c.in-Some.is in
@@ -85,7 +86,7 @@ returns-in-Ok-clause-buffered g c x b found there at =
     let live = live_is g.D.Disk.view setup c.args.digest.now c.args.sprig.now c.args.shelf.now c.read.new.self stands.0 c.args.now stands.1 e c.place_of_entry.result is c.place_of_entry.ensures in
     let one : Some x ≡ Some e = sym found ∙ is.found_is in
     let same : x ≡ e = cc in
-    let got = c.read.ensures.buffered setup stands.0 is.version b stands.1.shelf_stands.stands live.live live.entry_is is.names there (at ∙ ap (λ (y : Entry). y.block) same ∙ sym (ap (λ (p : Place). p.block) c.place_of_entry.ensures)) in
+    let got = c.read.ensures.in_memory setup stands.0 is.version b stands.1.shelf_stands.stands live.live live.entry_is is.names there (at ∙ ap (λ (y : Entry). y.block) same ∙ sym (ap (λ (p : Place). p.block) c.place_of_entry.ensures)) in
     (got.0, subst (λ (r : Result Version ReadRefusal). IfErr (shown r) (λ refusal. refusal ≡ read.Memory)) c.in-Ok.is (shown_err (IsCopyIn b.stream is.version) (λ refusal. refusal ≡ read.Memory) c.read.result got.1))
 
 pub returns-in-Ok-clause-stored : goal.returns-in-Ok-clause-stored
@@ -96,12 +97,12 @@ returns-in-Ok-clause-stored g c =
     let at_place = ap (λ (p : Place). p.block) c.place_of_entry.ensures in
     subst (λ (r : Result Version ReadRefusal). ReadsStored g.D.Disk.view (StandTogether setup (part_of setup c.args.digest.now) c.args.sprig.now c.args.shelf.now) (entry_of c.args.digest.now c.args.sprig.now.entries) c.args.shelf.now c.args.digest.now c.args.now (shown r)) c.in-Ok.is
     (record {
-      buffered = λ s stand x b found there at client.
+      remembered = λ s stand x b found there at client.
           let is = seen_some setup s c.args.now c.args.digest.now c.args.sprig.now stand.sprig_stands e seen in
           let live = live_is g.D.Disk.view setup c.args.digest.now c.args.sprig.now c.args.shelf.now c.read.new.self s c.args.now stand e c.place_of_entry.result is c.place_of_entry.ensures in
           let one : Some x ≡ Some e = sym found ∙ is.found_is in
           let same : x ≡ e = cc in
-          let got = c.read.ensures.buffered setup s is.version b stand.shelf_stands.stands live.live live.entry_is is.names there (at ∙ ap (λ (y : Entry). y.block) same ∙ sym at_place) in
+          let got = c.read.ensures.in_memory setup s is.version b stand.shelf_stands.stands live.live live.entry_is is.names there (at ∙ ap (λ (y : Entry). y.block) same ∙ sym at_place) in
           shown_is (device.seen s c.args.now c.args.digest.now) is.version b.stream (λ refusal. refusal ≡ read.Memory) c.read.result client is.seen got.1;
       placed = λ told x is none.
           let one : Some x ≡ Some e = sym is ∙ seen in
@@ -111,7 +112,7 @@ returns-in-Ok-clause-stored g c =
           shown_got x (copy_bytes c.args.shelf.now.geometry (place_of x) bytes) c.read.result
           (subst (λ (p : Place). HasRead x (copy_bytes c.args.shelf.now.geometry p bytes) c.read.result) place
           (subst (λ (y : Entry). HasRead y (copy_bytes c.args.shelf.now.geometry c.place_of_entry.result bytes) c.read.result) (sym same)
-          (c.read.ensures.read told (subst (λ (block : ℕ). AllByRecursion (λ b. b.block ≢ block) c.args.shelf.now.buffers) (sym (ap (λ (p : Place). p.block) place)) none))));
+          (c.read.ensures.read told (subst (λ (block : ℕ). AllByRecursion (λ b. b.block ≢ block) (in_memory c.args.shelf.now)) (sym (ap (λ (p : Place). p.block) place)) none))));
     })
 
 pub returns-in-Err-clause-makes : goal.returns-in-Err-clause-makes
@@ -125,8 +126,8 @@ returns-in-Err-clause-makes g c s stand =
     (makes_read g.D.Disk.view setup c.args.digest.now c.args.sprig.now c.args.shelf.now c.read.new.self s c.args.now stand e is c.read.result c.read.ensures.same c.read.ensures.disk (g.met.D.Disk.is_disk c.read.new.self.disk)
     c.read.ensures.names c.read.ensures.cause (λ honest placed. c.read.ensures.written honest setup s is.version stand.shelf_stands.stands placed live.live live.entry_is is.names))
 
-pub returns-in-Err-clause-buffered : goal.returns-in-Err-clause-buffered
-returns-in-Err-clause-buffered g c x b found there at =
+pub returns-in-Err-clause-in_memory : goal.returns-in-Err-clause-in_memory
+returns-in-Err-clause-in_memory g c x b found there at =
     let setup = setup_for c.args.shelf.now.geometry c.args.set.now in
     let e : Entry = c.in-Some.entry.now in
     let seen : seen_entry c.args.now (entry_of c.args.digest.now c.args.sprig.now.entries) ≡ Some e = ap (seen_entry c.args.now) (sym (c.as_ref.ensures.value ∙ c.find-found.ensures.value)) ∙ sym c.seen.ensures ∙ ap option_copied c.in-Some.is in
@@ -135,7 +136,7 @@ returns-in-Err-clause-buffered g c x b found there at =
     let live = live_is g.D.Disk.view setup c.args.digest.now c.args.sprig.now c.args.shelf.now c.read.new.self stands.0 c.args.now stands.1 e c.place_of_entry.result is c.place_of_entry.ensures in
     let one : Some x ≡ Some e = sym found ∙ is.found_is in
     let same : x ≡ e = cc in
-    let got = c.read.ensures.buffered setup stands.0 is.version b stands.1.shelf_stands.stands live.live live.entry_is is.names there (at ∙ ap (λ (y : Entry). y.block) same ∙ sym (ap (λ (p : Place). p.block) c.place_of_entry.ensures)) in
+    let got = c.read.ensures.in_memory setup stands.0 is.version b stands.1.shelf_stands.stands live.live live.entry_is is.names there (at ∙ ap (λ (y : Entry). y.block) same ∙ sym (ap (λ (p : Place). p.block) c.place_of_entry.ensures)) in
     (got.0, subst (λ (r : Result Version ReadRefusal). IfErr (shown r) (λ refusal. refusal ≡ read.Memory)) c.in-Err.is (shown_err (IsCopyIn b.stream is.version) (λ refusal. refusal ≡ read.Memory) c.read.result got.1))
 
 pub returns-in-Err-clause-stored : goal.returns-in-Err-clause-stored
@@ -146,12 +147,12 @@ returns-in-Err-clause-stored g c =
     let at_place = ap (λ (p : Place). p.block) c.place_of_entry.ensures in
     subst (λ (r : Result Version ReadRefusal). ReadsStored g.D.Disk.view (StandTogether setup (part_of setup c.args.digest.now) c.args.sprig.now c.args.shelf.now) (entry_of c.args.digest.now c.args.sprig.now.entries) c.args.shelf.now c.args.digest.now c.args.now (shown r)) c.in-Err.is
     (record {
-      buffered = λ s stand x b found there at client.
+      remembered = λ s stand x b found there at client.
           let is = seen_some setup s c.args.now c.args.digest.now c.args.sprig.now stand.sprig_stands e seen in
           let live = live_is g.D.Disk.view setup c.args.digest.now c.args.sprig.now c.args.shelf.now c.read.new.self s c.args.now stand e c.place_of_entry.result is c.place_of_entry.ensures in
           let one : Some x ≡ Some e = sym found ∙ is.found_is in
           let same : x ≡ e = cc in
-          let got = c.read.ensures.buffered setup s is.version b stand.shelf_stands.stands live.live live.entry_is is.names there (at ∙ ap (λ (y : Entry). y.block) same ∙ sym at_place) in
+          let got = c.read.ensures.in_memory setup s is.version b stand.shelf_stands.stands live.live live.entry_is is.names there (at ∙ ap (λ (y : Entry). y.block) same ∙ sym at_place) in
           shown_is (device.seen s c.args.now c.args.digest.now) is.version b.stream (λ refusal. refusal ≡ read.Memory) c.read.result client is.seen got.1;
       placed = λ told x is none.
           let one : Some x ≡ Some e = sym is ∙ seen in
@@ -161,7 +162,7 @@ returns-in-Err-clause-stored g c =
           shown_got x (copy_bytes c.args.shelf.now.geometry (place_of x) bytes) c.read.result
           (subst (λ (p : Place). HasRead x (copy_bytes c.args.shelf.now.geometry p bytes) c.read.result) place
           (subst (λ (y : Entry). HasRead y (copy_bytes c.args.shelf.now.geometry c.place_of_entry.result bytes) c.read.result) (sym same)
-          (c.read.ensures.read told (subst (λ (block : ℕ). AllByRecursion (λ b. b.block ≢ block) c.args.shelf.now.buffers) (sym (ap (λ (p : Place). p.block) place)) none))));
+          (c.read.ensures.read told (subst (λ (block : ℕ). AllByRecursion (λ b. b.block ≢ block) (in_memory c.args.shelf.now)) (sym (ap (λ (p : Place). p.block) place)) none))));
     })
 
 pub returns-in-Err-clause-undamaged : goal.returns-in-Err-clause-undamaged

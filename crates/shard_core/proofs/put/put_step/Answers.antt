@@ -67,8 +67,7 @@ write_step-requires-clause-version g c =
     let given : new_stamp (stamp_found (entry_of c.args.digest.now c.args.sprig.now.entries)) c.args.sprig.now.hw c.args.now ≡ Some c.in_ok-stamp.stamp =
     ap (λ (o : Option Entry). new_stamp (stamp_found o) c.args.sprig.now.hw c.args.now) (sym c.find-found.ensures.value) ∙ ap (λ (n : ℕ). new_stamp (stamp_found c.find-found.result) n c.args.now) (sym c.hw.ensures) ∙ c.in_ok-stamp.ensures {u = tt} in
     let f = stamp_fine setup c.args.digest.now c.args.sprig.now stands.0 stands.1.sprig_stands c.args.now c.in_ok-stamp.stamp given in
-    let never : c.void_of.result ≡ 0 = c.void_of.ensures ∙ ap (λ (ttl : ℕ). void_time ttl c.args.now) c.requires.ttl in
-    subst IsVersion (sym (c.in-Ok.ensures {u = tt})) (record { tombstone = λ tomb. absurd (false≢true tomb); time = f.time; generation = f.generation; void = omega (arith, never) })
+    subst IsVersion (sym (c.in-Ok.ensures {u = tt})) (record { tombstone = λ tomb. absurd (false≢true tomb); time = f.time; generation = f.generation; void = omega arith })
 
 pub returns-clause-makes : goal.returns-clause-makes
 returns-clause-makes g c s stand =

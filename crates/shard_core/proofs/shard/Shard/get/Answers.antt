@@ -8,7 +8,7 @@ use Rattle.disk_model.specs.Disk.{IsHonest}
 use Rattle.expiry_rule.specs.Seen.{seen_entry}
 use Rattle.write_buffer.specs.Buffers.{BufferState}
 use Rattle.sprig_tree.specs.State.{SprigState}
-use Rattle.block_shelf.specs.View.{ShelfView}
+use Rattle.block_shelf.specs.View.{ShelfView, in_memory}
 use Rattle.block_shelf.specs.Standing.{IsPlaced}
 use Rattle.block_shelf.specs.Reads.{IsUndamaged}
 use Rattle.block_shelf.specs.declared.refusals.ReadRefusal.TheVariants as read
@@ -59,17 +59,17 @@ invariant_of-self g c =
       tallied = c.self.invariant.tallied ∙ sym (tally_same old.sprigs c.part_of-part.result c.index_mut.result.now c.get_step.new.sprig c.index_mut.ensures.value (ap (λ (x : SprigState). x.entries) c.get_step.ensures.sprig));
     }
 
-pub returns-clause-buffered : goal.returns-clause-buffered
-returns-clause-buffered g c =
+pub returns-clause-in_memory : goal.returns-clause-in_memory
+returns-clause-in_memory g c =
     let old : ShardView g.row.D.Denot = record { shelf = c.self.inside.shelf; set = c.self.inside.set; sprigs = c.self.inside.sprigs.items } in
     let new : ShardView g.row.D.Denot = record { shelf = c.get_step.new.shelf; set = c.self.inside.set; sprigs = set c.self.inside.sprigs.items c.part_of-part.result c.get_step.new.sprig } in
     let place : c.part_of-part.result ≡ part_of (setup_of old) c.args.digest.now = c.part_of-part.ensures.part ∙ ap (λ (v : ShardView g.row.D.Denot). part_of (setup_of v) c.args.digest.now) (sym c.self.view_is) in
     let there : c.part_of-part.result < length old.sprigs = subst (λ (v : ShardView g.row.D.Denot). c.part_of-part.result < length v.sprigs) (sym c.self.view_is) c.part_of-part.ensures.there in
     let shape : SameSetup old new = record { geometry = ap (λ (x : ShelfView g.row.D.Denot). x.geometry) c.get_step.ensures.shelf; set = refl } in
-    subst (λ (v : ShardView g.row.D.Denot). (e : Entry) (b : BufferState) → held (setup_of v) c.args.digest.now v.sprigs ≡ Some e → Contains v.shelf.buffers b → b.block ≡ e.block
+    subst (λ (v : ShardView g.row.D.Denot). (e : Entry) (b : BufferState) → held (setup_of v) c.args.digest.now v.sprigs ≡ Some e → Contains (in_memory v.shelf) b → b.block ≡ e.block
     → (new ≡ v) × IfErr c.get_step.result (λ refusal. refusal ≡ read.Memory)) c.self.view_is
     (λ e b is there_b at.
-    let got = c.get_step.ensures.buffered e b (sym (held_at g.D.Disk.view c.args.digest.now old new c.part_of-part.result c.index_mut.result.now c.get_step.new.sprig shape place there c.index_mut.ensures.value refl) ∙ is) there_b at in
+    let got = c.get_step.ensures.in_memory e b (sym (held_at g.D.Disk.view c.args.digest.now old new c.part_of-part.result c.index_mut.result.now c.get_step.new.sprig shape place there c.index_mut.ensures.value refl) ∙ is) there_b at in
     let kept : set old.sprigs c.part_of-part.result c.get_step.new.sprig ≡ old.sprigs = ap (set old.sprigs c.part_of-part.result) c.get_step.ensures.sprig ∙ set_at old.sprigs c.part_of-part.result c.index_mut.result.now c.index_mut.ensures.value in
     (ap (λ (x : ShelfView g.row.D.Denot). let y : ShardView g.row.D.Denot = record { shelf = x; set = old.set; sprigs = new.sprigs } in y) got.0 ∙ ap (λ (l : List SprigState). let y : ShardView g.row.D.Denot = record { shelf = old.shelf; set = old.set; sprigs = l } in y) kept, got.1))
 
@@ -82,7 +82,7 @@ returns-clause-stored g c =
     let shape : SameSetup old new = record { geometry = ap (λ (x : ShelfView g.row.D.Denot). x.geometry) c.get_step.ensures.shelf; set = refl } in
     let held_is = held_at g.D.Disk.view c.args.digest.now old new c.part_of-part.result c.index_mut.result.now c.get_step.new.sprig shape place there c.index_mut.ensures.value refl in
     subst (λ (v : ShardView g.row.D.Denot). GetsStored g.D.Disk.view v c.args.digest.now c.args.now c.get_step.result) c.self.view_is (record {
-      buffered = λ s agrees e b is there_b at. c.get_step.ensures.stored.buffered s (step_stands g.D.Disk.view c.args.digest.now old new c.part_of-part.result c.index_mut.result.now c.get_step.new.sprig shape place there c.index_mut.ensures.value refl s agrees) e b (sym held_is ∙ is) there_b at;
+      remembered = λ s agrees e b is there_b at. c.get_step.ensures.stored.remembered s (step_stands g.D.Disk.view c.args.digest.now old new c.part_of-part.result c.index_mut.result.now c.get_step.new.sprig shape place there c.index_mut.ensures.value refl s agrees) e b (sym held_is ∙ is) there_b at;
       placed = λ told e is none. c.get_step.ensures.stored.placed told e (ap (seen_entry c.args.now) (sym held_is) ∙ is) none;
     })
 

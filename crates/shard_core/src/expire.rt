@@ -1,0 +1,135 @@
+// How what is expired is removed: the entry of one digest, and the entries of a part.
+ghost use Rattle.std.specs.Prelude.{◌≡◌, ◌⊎◌, ◌<◌, ◌≤◌, ◌^◌, true, false, IsOk, IfOk, IfErr, slice_get};
+ghost use Rattle.disk_model.specs.Disk.{IsHonest};
+ghost use Rattle.rec_format.specs.Places.{device_number};
+ghost use Rattle.device_model.specs.Device.{State, part_of};
+ghost use Rattle.device_model.specs.Steps.{part_total};
+ghost use Rattle.device_model.specs.Events.{expire_call};
+ghost use Rattle.expiry_rule.specs.Seen.{expired_entry};
+ghost use Rattle.tomb_rules.specs.Covers.{cover_of};
+ghost use Rattle.sprig_tree.specs.Entries.{entry_of};
+ghost use Rattle.block_shelf.specs.Disks.{IsLater};
+ghost use Rattle.block_shelf.specs.View.{SameShape};
+ghost use Rattle.shard_steps.specs.Standing.{StandTogether};
+ghost use Rattle.shard_steps.specs.Events.{StepMakes};
+ghost use Rattle.shard_core.specs.View.{IsSettings, SameSetup, limits_of, setup_for, setup_of};
+ghost use Rattle.shard_core.specs.Sprigs.{held};
+ghost use Rattle.shard_core.specs.Stands.{Agrees, IsWhole};
+ghost use Rattle.shard_core.specs.Calls.{IsRefusedStep, Makes, delete_answer};
+ghost use Rattle.shard_core.specs.Vacating.{MakesEvents};
+ghost use Rattle.shard_core.specs.Expiring.{AreBare, IsExpiring, IsOfRemoval, expired_left};
+
+use crate::delete::remove_entry;
+use crate::{ExpireRefusal, Settings, Shard, WriteRefusal};
+use block_shelf::Shelf;
+use disk_model::Disk;
+use expiry_rule::expired_put;
+use rec_format::Digest;
+use sprig_tree::Sprig;
+use std::alloc::Global;
+
+/// Removes the entry of a digest, over the digest's sprig and the shelf, where it is a put that is expired, and answers whether it is. Where
+/// no older copy may be behind it, it is removed in memory alone, and a start may find it again; this is never refused. A covered entry is
+/// replaced by a tombstone instead, with the refusals of `bury_step`.
+pub fn expire_step<D: Disk>(
+    alloc: Global,
+    sprig: &mut Sprig,
+    shelf: &mut Shelf<D>,
+    set: &Settings,
+    digest: &Digest,
+    now: u64,
+) -> Result<bool, WriteRefusal>
+    requires named { device_number shelf.old.geometry.devices digest.now ≡ shelf.old.geometry.device }
+    requires now { now ≤ 2 ^ 61 }
+    requires settings { IsSettings set.now }
+    requires limits { shelf.old.limits ≡ limits_of set.now }
+    requires stand { let setup = setup_for shelf.old.geometry set.now in (s : State) × StandTogether setup (part_of setup digest.now) sprig.old shelf.old s }
+    ensures makes { let setup = setup_for shelf.old.geometry set.now in (s : State) → StandTogether setup (part_of setup digest.now) sprig.old shelf.old s
+        → StepMakes D.view setup (part_of setup digest.now) (expire_call digest.now now) (delete_answer result) shelf.old s sprig.new shelf.new }
+
+    // What isn't both expired and covered is answered without a call of the disk, and that isn't refused.
+    ensures bare { cover_of (expired_entry now (entry_of digest.now sprig.old.entries)) ≡ false → IsOk result × (shelf.new.disk ≡ shelf.old.disk) }
+    ensures refused { IfErr result (λ refusal. ((refusal ≡ WriteRefusal.Fault) × (set.now.commit ≡ true)) ⊎ IsRefusedStep sprig.old sprig.new shelf.old shelf.new refusal) }
+    ensures later { IsLater (D.view shelf.old.disk) (D.view shelf.new.disk) }
+    ensures honest { IsHonest (D.view shelf.old.disk) → IsHonest (D.view shelf.new.disk) }
+    ensures shape { SameShape shelf.old shelf.new }
+{
+    let found = sprig.find(digest);
+    let Some(entry) = expired_put(found.as_ref(), now) else {
+        return Ok(false);
+    };
+    remove_entry(alloc, sprig, shelf, set, digest, *entry, now)?;
+    Ok(true)
+}
+
+impl<D: Disk> Shard<D> {
+    /// Removes the entries of a part that are expired, in digest order, and answers how many. One without older copies behind it is removed
+    /// in memory alone; a covered one is replaced by a tombstone. After a refusal what was removed before stays removed.
+    pub fn expire_part(&mut self, alloc: Global, part: u32, now: u64) -> Result<u64, ExpireRefusal>
+        requires part { part < part_total (setup_of self.old) }
+        requires now { now ≤ 2 ^ 61 }
+        ensures makes { (s : State) → Agrees self.old s → MakesEvents D.view (IsExpiring self.old part now s result) self.old s self.new }
+        ensures few { IfOk result (λ removed. removed ≤ 2 ^ 32) }
+
+        // Where no entry of the part is both expired and covered, it isn't refused, and the disk isn't called.
+        ensures bare { AreBare self.old part now → IsOk result × (self.new.shelf.disk ≡ self.old.shelf.disk) }
+        ensures never { IfErr result (λ refusal. IsOfRemoval refusal.cause) }
+        ensures later { IsLater (D.view self.old.shelf.disk) (D.view self.new.shelf.disk) }
+        ensures honest { IsHonest (D.view self.old.shelf.disk) → IsHonest (D.view self.new.shelf.disk) }
+        ensures shape { SameSetup self.old self.new }
+    {
+        // By its shape the device has at most 2^32 places, and each entry has a copy at a place of its own.
+        let _shape = self.shelf.geometry();
+        let mut removed = 0;
+        let mut last = None;
+        while let Some(digest) = self.next_expired(part, last, now) {
+            if let Err(cause) = self.expire(alloc, &digest, now) {
+                return Err(ExpireRefusal { removed, cause });
+            }
+            removed += 1;
+            last = Some(digest);
+        }
+        Ok(removed)
+    }
+
+    // Removes the entry of a digest, where it is a put that is expired: `expire_step` over the digest's sprig.
+    fn expire(&mut self, alloc: Global, digest: &Digest, now: u64) -> Result<bool, WriteRefusal>
+        requires named { device_number self.old.shelf.geometry.devices digest.now ≡ self.old.shelf.geometry.device }
+        requires now { now ≤ 2 ^ 61 }
+        ensures makes { (s : State) → Agrees self.old s → Makes D.view (expire_call digest.now now) (delete_answer result) self.old s self.new }
+        ensures bare { cover_of (expired_entry now (held (setup_of self.old) digest.now self.old.sprigs)) ≡ false → IsOk result × (self.new.shelf.disk ≡ self.old.shelf.disk) }
+        ensures later { IsLater (D.view self.old.shelf.disk) (D.view self.new.shelf.disk) }
+        ensures honest { IsHonest (D.view self.old.shelf.disk) → IsHonest (D.view self.new.shelf.disk) }
+        ensures shape { SameSetup self.old self.new }
+    {
+        let part = self.part_of(digest);
+        let before = self.sprigs[part].tally();
+        let answer = expire_step(
+            alloc,
+            &mut self.sprigs[part],
+            &mut self.shelf,
+            &self.set,
+            digest,
+            now,
+        );
+        self.tally = self.tally.minus(before).plus(self.sprigs[part].tally());
+        answer
+    }
+
+    // The first digest of a part behind another, or of all, whose entry is expired.
+    fn next_expired(&self, part: u32, last: Option<Digest>, now: u64) -> Option<Digest>
+        requires { part < part_total (setup_of self.now) }
+        ensures next { result ≡ slice_get (expired_left self.now part now last) 0 }
+        ensures whole { IsWhole self.now }
+    {
+        let sprig = &self.sprigs[part as usize];
+        let mut next = sprig.next_after(last.as_ref());
+        while let Some(entry) = next {
+            if expired_put(Some(&entry), now).is_some() {
+                return Some(entry.digest);
+            }
+            next = sprig.next_after(Some(&entry.digest));
+        }
+        None
+    }
+}
