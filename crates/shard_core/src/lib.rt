@@ -16,8 +16,6 @@ mod settings;
 mod shard;
 mod sprigs;
 mod start;
-#[cfg(test)]
-mod tests;
 mod write;
 
 pub use block_shelf::ReadRefusal;

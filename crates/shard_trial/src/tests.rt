@@ -1,4 +1,5 @@
 mod buried;
+mod calls;
 mod closing;
 mod crashes;
 mod faults;

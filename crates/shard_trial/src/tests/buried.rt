@@ -79,6 +79,20 @@ fn shows_put(lone: &mut Lone, digest: &Digest, latest: Option<Version>) -> Resul
     }
 }
 
+/// Asserts that of each digest the latest copy on an image is shown.
+fn assert_latest(
+    rt: &impl Abort,
+    alloc: Global,
+    lone: &mut Lone,
+    bytes: &[u8],
+) -> Result<(), Fail> {
+    for digest in [RISING, BESIDE, ONES] {
+        let latest = cold(alloc, bytes, &digest)?;
+        assert!(rt; shows_put(lone, &digest, latest)?);
+    }
+    Ok(())
+}
+
 /// Asserts that a start from this image shows of each digest the latest copy there, and not the first record if that is gone.
 fn assert_image(
     rt: &impl Abort,
@@ -88,10 +102,7 @@ fn assert_image(
 ) -> Result<(), Fail> {
     let bytes = bytes_of(rt, alloc, &mut image)?;
     let mut lone = started(alloc, image)?;
-    for digest in [RISING, BESIDE, ONES] {
-        let latest = cold(alloc, &bytes, &digest)?;
-        assert!(rt; shows_put(&mut lone, &digest, latest)?);
-    }
+    assert_latest(rt, alloc, &mut lone, &bytes)?;
     assert!(rt; !gone || !shows_first(&mut lone)?);
     Ok(())
 }

@@ -17,14 +17,19 @@ const FLUSHES: [usize; 3] = [3, 4, 4];
 
 type Answers = [Result<u64, DiskFault>; 3];
 
+/// How many records were put, how many of them before the last flush that went well, and what the flushes answered.
+#[derive(Clone, Copy)]
+struct Progress {
+    put: usize,
+    flushed: usize,
+    answers: Answers,
+}
+
 /// How far a run has come.
 #[derive(Drop)]
 struct Reached {
     disk: MemDisk,
-    /// How many records were put, and how many of them before the last flush that went well.
-    put: usize,
-    flushed: usize,
-    answers: Answers,
+    made: Progress,
 }
 
 /// The last of the first so many records that is of a digest.
@@ -59,37 +64,81 @@ fn put_all(rt: &impl Abort, lone: &mut Lone, from: usize, most: usize) {
     }
 }
 
-/// A run up to a number of flushes, over a new device of which a call fails where one is named. What was put is read all along.
+/// Asserts that each digest shows the last of the first so many records that is its own.
+fn assert_holds(rt: &impl Abort, lone: &mut Lone, count: usize) -> Result<(), Fail> {
+    assert!(rt; holds(lone, count)?, "{count} records");
+    Ok(())
+}
+
+/// Puts records up to a number, and flushes them.
+fn flush_to(
+    rt: &impl Abort,
+    lone: &mut Lone,
+    put: usize,
+    most: usize,
+) -> Result<Result<u64, DiskFault>, Fail> {
+    put_all(rt, lone, put, most);
+    assert_holds(rt, lone, most)?;
+    let answer = lone.flush();
+    assert_holds(rt, lone, most)?;
+    Ok(answer)
+}
+
+/// A run up to a number of flushes. What was put is read all along.
+fn run_on(rt: &impl Abort, lone: &mut Lone, flushes: usize) -> Result<Progress, Fail> {
+    let (mut put, mut flushed) = (0, 0);
+    let mut answers = [Err(DiskFault); 3];
+    for (number, most) in FLUSHES.into_iter().take(flushes).enumerate() {
+        let answer = flush_to(rt, lone, put, most)?;
+        put = most;
+        if answer.is_ok() {
+            flushed = put;
+        }
+        answers[number] = answer;
+    }
+    Ok(Progress {
+        put,
+        flushed,
+        answers,
+    })
+}
+
+/// A new device of which a call fails where one is named.
+fn failing_once(
+    rt: &impl Abort,
+    alloc: Global,
+    fault: Option<(DiskCall, u64)>,
+) -> Result<MemDisk, Fail> {
+    let mut disk = device_with(rt, alloc, &[])?;
+    if let Some((kind, skip)) = fault {
+        disk.fail_after(kind, skip)?;
+    }
+    Ok(disk)
+}
+
+/// Such a run over that device.
 fn run(
     rt: &impl Abort,
     alloc: Global,
     fault: Option<(DiskCall, u64)>,
     flushes: usize,
 ) -> Result<Reached, Fail> {
-    let mut disk = device_with(rt, alloc, &[])?;
-    if let Some((kind, skip)) = fault {
-        disk.fail_after(kind, skip)?;
-    }
-    let mut lone = started(alloc, disk)?;
-    let (mut put, mut flushed) = (0, 0);
-    let mut answers = [Err(DiskFault); 3];
-    for (number, most) in FLUSHES.into_iter().take(flushes).enumerate() {
-        put_all(rt, &mut lone, put, most);
-        put = most;
-        assert!(rt; holds(&mut lone, put)?, "{put} records");
-        let answer = lone.flush();
-        if answer.is_ok() {
-            flushed = put;
-        }
-        answers[number] = answer;
-        assert!(rt; holds(&mut lone, put)?, "{put} records");
-    }
+    let mut lone = started(alloc, failing_once(rt, alloc, fault)?)?;
+    let made = run_on(rt, &mut lone, flushes)?;
     Ok(Reached {
         disk: lone.stop(),
-        put,
-        flushed,
-        answers,
+        made,
     })
+}
+
+/// The last of so many records are there, at least and at most.
+fn holds_any(lone: &mut Lone, least: usize, most: usize) -> Result<bool, Fail> {
+    for count in least..most.saturating_add(1) {
+        if holds(lone, count)? {
+            return Ok(true);
+        }
+    }
+    Ok(false)
 }
 
 /// Asserts that a start from this image finds so many of the records that were put, at least and at most.
@@ -102,12 +151,8 @@ fn assert_left(
 ) -> Result<(), Fail> {
     assert!(rt; moment < disk.moments());
     let mut lone = started(alloc, disk.image(moment, pick)?)?;
-    for count in least..most.saturating_add(1) {
-        if holds(&mut lone, count)? {
-            return Ok(());
-        }
-    }
-    assert!(rt; false, "{least} to {most} at moment {moment}, pick {pick}");
+    let found = holds_any(&mut lone, least, most)?;
+    assert!(rt; found, "{least} to {most} at moment {moment}, pick {pick}");
     Ok(())
 }
 
@@ -125,12 +170,18 @@ fn assert_left_from(
     let mut images: u64 = 0;
     for moment in begun..end {
         let least = if moment == end - 1 {
-            run.flushed
+            run.made.flushed
         } else {
             flushed
         };
-        assert_left(rt, alloc, &run.disk, (moment, 0), (least, run.put))?;
-        assert_left(rt, alloc, &run.disk, (moment, u64::MAX), (least, run.put))?;
+        assert_left(rt, alloc, &run.disk, (moment, 0), (least, run.made.put))?;
+        assert_left(
+            rt,
+            alloc,
+            &run.disk,
+            (moment, u64::MAX),
+            (least, run.made.put),
+        )?;
         images = images.saturating_add(2);
     }
     Ok(images)
@@ -143,17 +194,21 @@ fn assert_left_throughout(
     alloc: Global,
     fault: (DiskCall, u64),
 ) -> Result<(u64, Answers), Fail> {
-    let mut reached = run(rt, alloc, Some(fault), 0)?;
-    let mut begun = reached.disk.moments() - 1;
+    let mut begun = run(rt, alloc, Some(fault), 0)?.disk.moments() - 1;
     let mut images: u64 = 0;
+    let mut made = Progress {
+        put: 0,
+        flushed: 0,
+        answers: [Err(DiskFault); 3],
+    };
     for flushes in 0..4 {
         let next = run(rt, alloc, Some(fault), flushes)?;
-        let more = assert_left_from(rt, alloc, &next, begun, reached.flushed)?;
+        let more = assert_left_from(rt, alloc, &next, begun, made.flushed)?;
         images = images.saturating_add(more);
         begun = next.disk.moments();
-        reached = next;
+        made = next.made;
     }
-    Ok((images, reached.answers))
+    Ok((images, made.answers))
 }
 
 /// What the flushes answer where one of the first one's calls fails, where one of the second one's does, and where none does.

@@ -10,10 +10,36 @@ pub fn failing(
     numbers: &[u64],
 ) -> Result<MemDisk, Fail> {
     let mut disk = larger_device(rt, alloc)?;
+    fail_each(&mut disk, kind, numbers)?;
+    Ok(disk)
+}
+
+fn fail_each(disk: &mut MemDisk, kind: DiskCall, numbers: &[u64]) -> Result<(), Fail> {
     for number in numbers {
         disk.fail_after(kind, *number)?;
     }
+    Ok(())
+}
+
+/// A small device of which a read is to fail. Where that is one of the start's, it isn't taken into use, and is given back.
+fn failing_read(
+    rt: &impl Abort,
+    alloc: Global,
+    blocks: &[(u64, u32, &[Stored])],
+    skip: u64,
+) -> Result<MemDisk, Fail> {
+    let mut disk = device_with(rt, alloc, blocks)?;
+    disk.fail_after(DiskCall::Read, skip)?;
+    if 11 <= skip {
+        return Ok(disk);
+    }
+    let (disk, cause) = refused(alloc, disk, ALONE)?;
+    assert!(rt; cause == StartCause::Fault, "read {skip}");
     Ok(disk)
+}
+
+fn is_fault(lone: &mut Lone, digest: &Digest) -> bool {
+    matches!(&lone.get(digest), Err(ReadRefusal::Fault))
 }
 
 // A start reads the header, the 8 gates, and the bodies behind the two that are open. Each of these reads fails in turn, and then that
@@ -24,49 +50,40 @@ fn each_read_fails(rt: HostRuntime) -> Result<(), Fail> {
     let low = put_of(RISING, 500, 4, b"low");
     let high = put_of(ONES, 600, 5, b"high");
     for skip in 0..12 {
-        let mut disk = device_with(&rt, alloc, &[(1, 2, &[low]), (2, 7, &[high])])?;
-        disk.fail_after(DiskCall::Read, skip)?;
-        if skip < 11 {
-            let (back, cause) = refused(alloc, disk, ALONE)?;
-            assert!(rt; cause == StartCause::Fault, "read {skip}");
-            disk = back;
-        }
+        let disk = failing_read(&rt, alloc, &[(1, 2, &[low]), (2, 7, &[high])], skip)?;
         let mut lone = started(alloc, disk)?;
         if skip == 11 {
-            assert!(rt; matches!(&lone.get(&ONES), Err(ReadRefusal::Fault)));
+            assert!(rt; is_fault(&mut lone, &ONES));
         }
-        assert!(rt;
-            lone.finds(&low, true)? && lone.finds(&high, true)?,
-            "read {skip}"
-        );
+        lone.assert_finds(&rt, &low, true)?;
+        lone.assert_finds(&rt, &high, true)?;
     }
     Ok(())
+}
+
+/// A record is put and read, and flushed. The next three reads of it fail, and then one doesn't.
+fn assert_read_from_buffer(rt: &impl Abort, lone: &mut Lone) -> Result<(), Fail> {
+    let hello = put_of(RISING, 1000, 1, b"hello");
+    assert!(rt; lone.put(rt, &RISING, b"hello") == Ok(stamp(1)));
+    lone.assert_finds(rt, &hello, true)?;
+    assert!(rt; lone.flush() == Ok(1));
+    for _ in 0..3 {
+        assert!(rt; is_fault(lone, &RISING));
+    }
+    lone.assert_finds(rt, &hello, true)
 }
 
 // A start over 16 closed gates makes 17 reads, and the next three fail. A record that waits in its buffer is read without the disk.
 #[test]
 fn a_buffer_is_read_without_the_disk(rt: HostRuntime) -> Result<(), Fail> {
     let alloc = rt.alloc();
-    let hello = put_of(RISING, 1000, 1, b"hello");
     let mut lone = started(alloc, failing(&rt, alloc, DiskCall::Read, &[17, 18, 19])?)?;
-    assert!(rt; lone.put(&rt, &RISING, b"hello") == Ok(stamp(1)));
-    assert!(rt; lone.finds(&hello, true)?);
-    assert!(rt; lone.flush() == Ok(1));
-    for _ in 0..3 {
-        assert!(rt; matches!(&lone.get(&RISING), Err(ReadRefusal::Fault)));
-    }
-    assert!(rt; lone.finds(&hello, true)?);
-    Ok(())
+    assert_read_from_buffer(&rt, &mut lone)
 }
 
-// The read of a record has its first byte wrong, and the next one hasn't.
-#[test]
-fn a_read_lies(rt: HostRuntime) -> Result<(), Fail> {
-    let alloc = rt.alloc();
-    let mut disk = device_with(&rt, alloc, &[])?;
-    disk.lie_after(9);
-    let mut lone = started(alloc, disk)?;
-    assert!(rt; lone.put(&rt, &RISING, b"hello") == Ok(stamp(1)));
+/// A record is put and flushed. The first read of it has its first byte wrong, and the next one hasn't.
+fn assert_lies_once(rt: &impl Abort, lone: &mut Lone) -> Result<(), Fail> {
+    assert!(rt; lone.put(rt, &RISING, b"hello") == Ok(stamp(1)));
     assert!(rt; lone.flush() == Ok(1));
     let Err(ReadRefusal::Damaged { kept, read }) = lone.get(&RISING) else {
         return Err(Fail::new("it isn't damaged"));
@@ -81,8 +98,16 @@ fn a_read_lies(rt: HostRuntime) -> Result<(), Fail> {
         length: 16,
     };
     assert!(rt; kept == wanted && read[0] == 0xad && &read[1..] == &HELLO[1..48]);
-    assert!(rt; lone.finds(&put_of(RISING, 1000, 1, b"hello"), true)?);
-    Ok(())
+    lone.assert_finds(rt, &put_of(RISING, 1000, 1, b"hello"), true)
+}
+
+#[test]
+fn a_read_lies(rt: HostRuntime) -> Result<(), Fail> {
+    let alloc = rt.alloc();
+    let mut disk = device_with(&rt, alloc, &[])?;
+    disk.lie_after(9);
+    let mut lone = started(alloc, disk)?;
+    assert_lies_once(&rt, &mut lone)
 }
 
 /// A payload with which a record takes 700 units.

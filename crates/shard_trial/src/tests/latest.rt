@@ -9,10 +9,35 @@ pub const BESIDE: Digest = Digest([
 /// The head of buffer 10 in block 1, with one record of 4 units.
 const HEAD: [u8; 32] = *b"ASNBODY1\x0a\0\0\0\0\0\0\0\x01\0\0\0\x04\0\0\0\x01\0\0\0\0\0\0\0";
 
+/// A record that was found, whether it is seen, and the stamp of the next put of its digest.
+type Row = (Stored, bool, u64, u16);
+
+/// The record is so, and the next put of its digest is seen, and covered where the record is.
+fn assert_row(
+    rt: &impl Abort,
+    lone: &mut Lone,
+    (record, seen, lut, gen_): Row,
+) -> Result<(), Fail> {
+    lone.assert_finds(rt, &record, seen)?;
+    let answer = lone.put(rt, &record.digest, b"next");
+    assert!(rt; answer == Ok(Stamp { lut, gen_ }), "time {lut}");
+    let next = Stored {
+        cover: record.cover,
+        ..put_of(record.digest, lut, gen_, b"next")
+    };
+    lone.assert_finds(rt, &next, true)
+}
+
+fn assert_rows(rt: &impl Abort, lone: &mut Lone, rows: &[Row]) -> Result<(), Fail> {
+    for row in rows {
+        assert_row(rt, lone, *row)?;
+    }
+    Ok(())
+}
+
 // A put is seen as it was written. A tombstone and an expired put aren't, and have their generations and cover flags all the same.
 #[test]
 fn records_of_an_open_block_are_found(rt: HostRuntime) -> Result<(), Fail> {
-    let alloc = rt.alloc();
     let covered = Stored {
         cover: true,
         void: 2,
@@ -29,18 +54,8 @@ fn records_of_an_open_block_are_found(rt: HostRuntime) -> Result<(), Fail> {
         (expired, false, 1500, 2),
     ];
     let records = [rows[0].0, rows[1].0, rows[2].0, rows[3].0];
-    let mut lone = started(alloc, device_with(&rt, alloc, &[(1, 5, &records)])?)?;
-    for (record, seen, lut, gen_) in rows {
-        assert!(rt; lone.finds(&record, seen)?, "time {lut}");
-        let answer = lone.put(&rt, &record.digest, b"next");
-        assert!(rt; answer == Ok(Stamp { lut, gen_ }), "time {lut}");
-        let next = Stored {
-            cover: record.cover,
-            ..put_of(record.digest, lut, gen_, b"next")
-        };
-        assert!(rt; lone.finds(&next, true)?, "time {lut}");
-    }
-    Ok(())
+    let mut lone = started_with(&rt, rt.alloc(), &[(1, 5, &records)])?;
+    assert_rows(&rt, &mut lone, &rows)
 }
 
 // A digest of its own in a sprig gets a time above all that were found there, a tombstone's too.
@@ -59,53 +74,90 @@ fn times_of_a_sprig_are_found(rt: HostRuntime) -> Result<(), Fail> {
         (put_of(RISING, TOP_TIME, 1, b""), RISING, last),
         (put_of(RISING, TOP_TIME, 65_535, b""), RISING, spent),
     ] {
-        let mut lone = started(alloc, device_with(&rt, alloc, &[(1, 5, &[record])])?)?;
+        let mut lone = started_with(&rt, alloc, &[(1, 5, &[record])])?;
         assert!(rt; lone.put(&rt, &digest, b"x") == wanted);
     }
     Ok(())
 }
 
-// Buffer numbers go on above the greatest that was found, up to the last one. What fits into the last buffer still goes well.
-#[test]
-fn numbers_of_buffers_are_found(rt: HostRuntime) -> Result<(), Fail> {
-    let alloc = rt.alloc();
-    let spent = Err(WriteRefusal::Spent);
-    let mut lone = started(alloc, device_with(&rt, alloc, &[(TOP_TIME - 1, 5, &[])])?)?;
-    assert!(rt; lone.put(&rt, &RISING, b"") == Ok(stamp(1)));
-    assert!(rt; lone.put(&rt, &ONES, b"") == Ok(stamp(1)));
-    assert!(rt; lone.flush() == Ok(1));
-    assert!(rt; lone.put(&rt, &ONES, b"") == spent);
-    let mut lone = started(alloc, lone.stop())?;
-    assert!(rt; lone.put(&rt, &ONES, b"") == spent);
+/// Two records fit into the last buffer, and none does behind its flush.
+fn spend(rt: &impl Abort, lone: &mut Lone) {
     for digest in [RISING, ONES] {
-        assert!(rt; lone.finds(&put_of(digest, 1000, 1, b""), true)?);
+        assert!(rt; lone.put(rt, &digest, b"") == Ok(stamp(1)));
+    }
+    assert!(rt; lone.flush() == Ok(1));
+    assert!(rt; lone.put(rt, &ONES, b"") == Err(WriteRefusal::Spent));
+}
+
+/// So it is behind a restart, and both are there.
+fn assert_spent(rt: &impl Abort, lone: &mut Lone) -> Result<(), Fail> {
+    assert!(rt; lone.put(rt, &ONES, b"") == Err(WriteRefusal::Spent));
+    for digest in [RISING, ONES] {
+        lone.assert_finds(rt, &put_of(digest, 1000, 1, b""), true)?;
     }
     Ok(())
+}
+
+// Buffer numbers go on above the greatest that was found, up to the last one.
+#[test]
+fn numbers_of_buffers_are_found(rt: HostRuntime) -> Result<(), Fail> {
+    let mut lone = started_with(&rt, rt.alloc(), &[(TOP_TIME - 1, 5, &[])])?;
+    spend(&rt, &mut lone);
+    let mut lone = lone.restart(false)?;
+    assert_spent(&rt, &mut lone)
+}
+
+/// The records of blocks 0 and 2, and the one that is put into block 1.
+fn neighbours() -> [Stored; 3] {
+    [
+        put_of(ONES, 7, 7, b"block 0"),
+        put_of(BESIDE, 8, 8, b"block 2"),
+        put_of(RISING, 1000, 1, b"hello"),
+    ]
+}
+
+/// A small device with records in blocks 0 and 2.
+fn with_neighbours(rt: &impl Abort, alloc: Global) -> Result<MemDisk, Fail> {
+    let [first, third, _] = neighbours();
+    device_with(rt, alloc, &[(9, 0, &[first]), (4, 2, &[third])])
+}
+
+/// That device behind the put between them, by the format.
+fn with_all_three(rt: &impl Abort, alloc: Global) -> Result<MemDisk, Fail> {
+    let mut disk = with_neighbours(rt, alloc)?;
+    let texts: [(u64, &[u8]); 3] = [
+        (20_480, b"ASNODE-GATE-OPEN"),
+        (24_576, &HEAD),
+        (24_608, &HELLO),
+    ];
+    write_each(rt, &mut disk, &texts)?;
+    Ok(disk)
+}
+
+/// What is on a small device.
+fn bytes_of(rt: &impl Abort, alloc: Global, mut disk: MemDisk) -> Result<Vec<u8>, Fail> {
+    let mut bytes = vec![in alloc; 0; 135_168]?;
+    read(rt, &mut disk, &mut bytes)?;
+    Ok(bytes)
+}
+
+fn put_third(rt: &impl Abort, lone: &mut Lone) {
+    assert!(rt; lone.put(rt, &RISING, b"hello") == Ok(stamp(1)));
+    assert!(rt; lone.flush() == Ok(1));
 }
 
 // The lowest block that is closed is written, as the format says, and nothing else changes.
 #[test]
 fn the_lowest_closed_block_is_taken(rt: HostRuntime) -> Result<(), Fail> {
     let alloc = rt.alloc();
-    let first = put_of(ONES, 7, 7, b"block 0");
-    let third = put_of(BESIDE, 8, 8, b"block 2");
-    let mut disk = device_with(&rt, alloc, &[(9, 0, &[first]), (4, 2, &[third])])?;
-    let mut wanted = vec![in alloc; 0; 135_168]?;
-    let mut there = vec![in alloc; 0; 135_168]?;
-    read(&rt, &mut disk, &mut wanted)?;
-    let mut lone = started(alloc, disk)?;
-    assert!(rt; lone.put(&rt, &RISING, b"hello") == Ok(stamp(1)));
-    assert!(rt; lone.flush() == Ok(1));
-    let mut disk = lone.stop();
-    assert!(rt; wanted.len() == 135_168);
-    wanted[20_480..20_496].copy_from_slice(b"ASNODE-GATE-OPEN");
-    wanted[24_576..24_608].copy_from_slice(&HEAD);
-    wanted[24_608..24_672].copy_from_slice(&HELLO);
-    read(&rt, &mut disk, &mut there)?;
+    let mut lone = started(alloc, with_neighbours(&rt, alloc)?)?;
+    put_third(&rt, &mut lone);
+    let there = bytes_of(&rt, alloc, lone.stop())?;
+    let wanted = bytes_of(&rt, alloc, with_all_three(&rt, alloc)?)?;
     assert!(rt; there == wanted);
-    let mut lone = started(alloc, disk)?;
-    for record in [put_of(RISING, 1000, 1, b"hello"), first, third] {
-        assert!(rt; lone.finds(&record, true)?);
+    let mut lone = started(alloc, with_all_three(&rt, alloc)?)?;
+    for record in neighbours() {
+        lone.assert_finds(&rt, &record, true)?;
     }
     Ok(())
 }
@@ -137,10 +189,8 @@ fn the_latest_copy_is_found(rt: HostRuntime) -> Result<(), Fail> {
                 (1, b, &[two]),
                 (2, c, &[three]),
             ];
-            let mut lone = started(alloc, device_with(&rt, alloc, &blocks)?)?;
-            assert!(rt; lone.finds(&three, seen)?, "{a} {b} {c}");
-            let answer = lone.put(&rt, &RISING, b"x");
-            assert!(rt; answer == Ok(Stamp { lut: 2000, gen_ }), "{a} {b} {c}");
+            let mut lone = started_with(&rt, alloc, &blocks)?;
+            assert_row(&rt, &mut lone, (three, seen, 2000, gen_))?;
         }
     }
     Ok(())
@@ -164,28 +214,29 @@ fn the_lowest_of_equal_copies_is_found(rt: HostRuntime) -> Result<(), Fail> {
         ([tomb, one], [one, one], false),
         ([older, tomb], [one, two], false),
     ] {
-        let mut lone = started(
-            alloc,
-            device_with(&rt, alloc, &[(2, 2, &low), (1, 5, &high)])?,
-        )?;
-        assert!(rt; lone.finds(&one, seen)?);
+        let mut lone = started_with(&rt, alloc, &[(2, 2, &low), (1, 5, &high)])?;
+        lone.assert_finds(&rt, &one, seen)?;
     }
     Ok(())
 }
 
-// Eight puts of three digests, each in a block of its own; the next start finds the last of each.
-#[test]
-fn records_are_found_again(rt: HostRuntime) -> Result<(), Fail> {
-    let alloc = rt.alloc();
-    let mut lone = started(alloc, device_with(&rt, alloc, &[])?)?;
+/// Eight puts of three digests, each in a block of its own.
+fn put_by_turns(rt: &impl Abort, lone: &mut Lone) {
     for byte in 0..8 {
-        assert!(rt; lone.put(&rt, &numbered(byte % 3), &[byte]).is_ok());
+        assert!(rt; lone.put(rt, &numbered(byte % 3), &[byte]).is_ok());
         assert!(rt; lone.flush() == Ok(1));
     }
-    let mut lone = started(alloc, lone.stop())?;
+}
+
+// The next start finds the last put of each.
+#[test]
+fn records_are_found_again(rt: HostRuntime) -> Result<(), Fail> {
+    let mut lone = started_with(&rt, rt.alloc(), &[])?;
+    put_by_turns(&rt, &mut lone);
+    let mut lone = lone.restart(false)?;
     for (byte, gen_, payload) in [(0, 3, b"\x06"), (1, 3, b"\x07"), (2, 2, b"\x05")] {
         let record = put_of(numbered(byte), 1000, gen_, payload);
-        assert!(rt; lone.finds(&record, true)?, "record {byte}");
+        lone.assert_finds(&rt, &record, true)?;
     }
     Ok(())
 }
@@ -202,9 +253,12 @@ fn sixteen_bytes_open_a_gate(rt: HostRuntime) -> Result<(), Fail> {
         (4095, 1, true),
     ] {
         let mut disk = device_with(&rt, alloc, &[(1, 3, &[record])])?;
-        write(&rt, &mut disk, gate_place(3) + place, &[byte])?;
-        write(&rt, &mut disk, body_place(4), &[0xff; 12_288])?;
-        assert!(rt; started(alloc, disk)?.finds(&record, opened)?, "at {place}");
+        let texts: [(u64, &[u8]); 2] = [
+            (gate_place(3) + place, &[byte]),
+            (body_place(4), &[0xff; 12_288]),
+        ];
+        write_each(&rt, &mut disk, &texts)?;
+        started(alloc, disk)?.assert_finds(&rt, &record, opened)?;
     }
     Ok(())
 }

@@ -4,7 +4,7 @@ ghost use Rattle.shard_core.specs.View.{IsSettings};
 
 use super::written::Stored;
 use disk_model::{DiskFault, MemDisk};
-use rec_format::{Digest, Stamp, Version};
+use rec_format::{Counts, Digest, Stamp, Version};
 use shard_core::{
     Asked, DefragRefusal, Meta, ReadRefusal, Settings, Shard, StartCause, StartRefusal, Vacated,
     WriteRefusal,
@@ -94,6 +94,18 @@ impl Lone {
         self.shard.put(self.alloc, digest, 0, payload, expect, 1000)
     }
 
+    /// A put while the clock shows another time.
+    pub fn put_at(
+        &mut self,
+        rt: &impl Abort,
+        digest: &Digest,
+        payload: &[u8],
+        now: u64,
+    ) -> Result<Stamp, WriteRefusal> {
+        assert!(rt; payload.len() <= 20_000 && now <= 2000);
+        self.shard.put(self.alloc, digest, 0, payload, None, now)
+    }
+
     pub fn delete(&mut self, digest: &Digest) -> Result<bool, WriteRefusal> {
         self.shard.delete(self.alloc, digest, 1000)
     }
@@ -104,6 +116,14 @@ impl Lone {
 
     pub fn get(&mut self, digest: &Digest) -> Result<Option<Version>, ReadRefusal> {
         self.shard.get(self.alloc, digest, 1000)
+    }
+
+    pub fn counts(&self) -> Counts {
+        self.shard.counts()
+    }
+
+    pub fn parts(&self) -> u32 {
+        self.shard.parts()
     }
 
     /// The record is seen, with each of its fields; or, where it isn't to be seen, nothing of its digest.
@@ -133,6 +153,17 @@ impl Lone {
         }
     }
 
+    /// Asserts that the record is seen, with each of its fields; or, where it isn't to be seen, nothing of its digest.
+    pub fn assert_finds(
+        &mut self,
+        rt: &impl Abort,
+        record: &Stored,
+        seen: bool,
+    ) -> Result<(), Fail> {
+        assert!(rt; self.finds(record, seen)?);
+        Ok(())
+    }
+
     pub fn flush(&mut self) -> Result<u64, DiskFault> {
         self.shard.flush()
     }
@@ -143,6 +174,12 @@ impl Lone {
 
     pub fn tend(&mut self) {
         self.shard.tend(self.alloc);
+    }
+
+    /// The device is stopped, and taken into use again.
+    pub fn restart(self, commit: bool) -> Result<Lone, Fail> {
+        let alloc = self.alloc;
+        Lone::start(alloc, self.stop(), commit)
     }
 
     pub fn stop(self) -> MemDisk {

@@ -27,6 +27,19 @@ const NO_FIELDS: [(u64, &[u8]); 17] = [
     (4095, &[1]),
 ];
 
+/// Writes these bytes, and answers the first ones of the disk.
+fn first_with(
+    rt: &impl Abort,
+    disk: &mut MemDisk,
+    place: u64,
+    bytes: &[u8],
+) -> Result<[u8; 64], Fail> {
+    write(rt, disk, place, bytes)?;
+    let mut first = [0; 64];
+    read(rt, disk, &mut first)?;
+    Ok(first)
+}
+
 #[test]
 fn a_field_of_the_header_is_wrong(rt: HostRuntime) -> Result<(), Fail> {
     let alloc = rt.alloc();
@@ -34,9 +47,7 @@ fn a_field_of_the_header_is_wrong(rt: HostRuntime) -> Result<(), Fail> {
     assert!(rt; cause == StartCause::NotFormatted { first: [0; 64] });
     for (place, bytes) in NO_FIELDS {
         let mut disk = device_with(&rt, alloc, &[])?;
-        write(&rt, &mut disk, place, bytes)?;
-        let mut first = [0; 64];
-        read(&rt, &mut disk, &mut first)?;
+        let first = first_with(&rt, &mut disk, place, bytes)?;
         let (_, cause) = refused(alloc, disk, ALONE)?;
         assert!(rt;
             cause == StartCause::NotFormatted { first },
@@ -65,11 +76,14 @@ fn the_device_is_shorter_than_a_header(rt: HostRuntime) -> Result<(), Fail> {
 /// A disk that begins with the header of a device of this shape.
 fn headed(rt: &impl Abort, alloc: Global, shape: &Geometry, len: u64) -> Result<MemDisk, Fail> {
     let mut disk = MemDisk::new(alloc, len)?;
-    write(rt, &mut disk, 0, &FRONT)?;
-    write(rt, &mut disk, 20, &shape.block_size.to_le_bytes())?;
-    write(rt, &mut disk, 24, &shape.blocks.to_le_bytes())?;
-    write(rt, &mut disk, 28, &shape.device.to_le_bytes())?;
-    write(rt, &mut disk, 30, &shape.devices.to_le_bytes())?;
+    let fields: [(u64, &[u8]); 5] = [
+        (0, &FRONT),
+        (20, &shape.block_size.to_le_bytes()),
+        (24, &shape.blocks.to_le_bytes()),
+        (28, &shape.device.to_le_bytes()),
+        (30, &shape.devices.to_le_bytes()),
+    ];
+    write_each(rt, &mut disk, &fields)?;
     Ok(disk)
 }
 
@@ -177,15 +191,18 @@ fn a_byte_of_a_body_is_wrong(rt: HostRuntime) -> Result<(), Fail> {
     let blocks: [(u64, u32, &[Stored]); 3] = [(9, 0, &right), (7, 3, &right), (8, 6, &[])];
     for (at, bytes, place) in NO_BODIES {
         let mut disk = device_with(&rt, alloc, &blocks)?;
-        write(&rt, &mut disk, body_place(3).saturating_add(at), bytes)?;
-        write(&rt, &mut disk, body_place(6), b"a")?;
+        let texts: [(u64, &[u8]); 2] = [
+            (body_place(3).saturating_add(at), bytes),
+            (body_place(6), b"a"),
+        ];
+        write_each(&rt, &mut disk, &texts)?;
         let (_, cause) = refused(alloc, disk, ALONE)?;
         let damaged = StartCause::DamagedBlock { block: 3, place };
         assert!(rt; cause == damaged, "{bytes:?} at {at}");
     }
-    let mut lone = started(alloc, device_with(&rt, alloc, &blocks)?)?;
-    assert!(rt; lone.finds(&hello, true)? && lone.finds(&world, true)?);
-    Ok(())
+    let mut lone = started_with(&rt, alloc, &blocks)?;
+    lone.assert_finds(&rt, &hello, true)?;
+    lone.assert_finds(&rt, &world, true)
 }
 
 /// The longest payload.
@@ -203,10 +220,12 @@ fn a_record_is_cut_short(rt: HostRuntime) -> Result<(), Fail> {
     ] {
         let record = put_of(ONES, 1, 1, &LONG[..length]);
         let mut disk = device_with(&rt, alloc, &[(1, 0, &[record])])?;
-        write(&rt, &mut disk, body_place(0) + 16, &[2])?;
-        write(&rt, &mut disk, body_place(0) + 20, &[254, 2])?;
-        let end = body_place(0) + u64::from(place);
-        write(&rt, &mut disk, end, &HELLO[..there])?;
+        let texts: [(u64, &[u8]); 3] = [
+            (body_place(0) + 16, &[2]),
+            (body_place(0) + 20, &[254, 2]),
+            (body_place(0) + u64::from(place), &HELLO[..there]),
+        ];
+        write_each(&rt, &mut disk, &texts)?;
         let (_, cause) = refused(alloc, disk, ALONE)?;
         assert!(rt; cause == StartCause::DamagedBlock { block: 0, place });
     }

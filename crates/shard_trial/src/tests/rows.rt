@@ -35,18 +35,12 @@ fn assert_put(
     assert!(rt; lone.put_over(rt, &record.digest, record.payload, expect) == wanted);
 }
 
-/// Serves a line, and tends the shard.
-fn serve(
-    rt: &impl Abort,
-    alloc: Global,
-    mut lone: Lone,
-    line: &Line,
-    commit: bool,
-) -> Result<Lone, Fail> {
+/// Serves a line, unless it is a restart.
+fn serve(rt: &impl Abort, lone: &mut Lone, line: &Line) -> Result<(), Fail> {
     match line {
-        Line::Put(record, refusal) => assert_put(rt, &mut lone, None, record, *refusal),
+        Line::Put(record, refusal) => assert_put(rt, lone, None, record, *refusal),
         Line::PutOver(gen_, record, refusal) => {
-            assert_put(rt, &mut lone, Some(*gen_), record, *refusal)
+            assert_put(rt, lone, Some(*gen_), record, *refusal)
         }
         Line::Delete(digest, there) => assert!(rt; lone.delete(digest) == Ok(*there)),
         Line::Bury(digest, stamp) => assert!(rt; lone.bury(digest) == Ok(*stamp)),
@@ -54,22 +48,25 @@ fn serve(
             assert!(rt; lone.finds(record, *seen)? && lone.knows(record, *seen))
         }
         Line::Flush(answer) => assert!(rt; lone.flush() == *answer),
-        Line::Restart => lone = Lone::start(alloc, lone.stop(), commit)?,
+        Line::Restart => {}
     }
+    Ok(())
+}
+
+/// Serves a line, and tends the shard.
+fn serve_and_tend(rt: &impl Abort, lone: &mut Lone, line: &Line) -> Result<(), Fail> {
+    serve(rt, lone, line)?;
     lone.tend();
-    Ok(lone)
+    Ok(())
 }
 
 /// Serves some lines.
-fn serve_each(
-    rt: &impl Abort,
-    alloc: Global,
-    mut lone: Lone,
-    lines: &[Line],
-    commit: bool,
-) -> Result<Lone, Fail> {
+fn serve_each(rt: &impl Abort, mut lone: Lone, lines: &[Line], commit: bool) -> Result<Lone, Fail> {
     for line in lines {
-        lone = serve(rt, alloc, lone, line, commit)?;
+        if matches!(line, Line::Restart) {
+            lone = lone.restart(commit)?;
+        }
+        serve_and_tend(rt, &mut lone, line)?;
     }
     Ok(lone)
 }
@@ -83,7 +80,7 @@ pub fn run_over(
     lines: &[Line],
 ) -> Result<MemDisk, Fail> {
     let lone = Lone::start(alloc, disk, commit)?;
-    Ok(serve_each(rt, alloc, lone, lines, commit)?.stop())
+    Ok(serve_each(rt, lone, lines, commit)?.stop())
 }
 
 /// A run over a device of 16 blocks, of which the writes with these numbers fail.
@@ -189,9 +186,9 @@ fn run_full(rt: &impl Abort, alloc: Global, lines: &[Line]) -> Result<(), Fail> 
         Line::Put(large(4), None),
         Line::Put(large(5), Some(WriteRefusal::Space { free: 4 })),
     ];
-    let lone = started(alloc, device_with(rt, alloc, &[])?)?;
-    let lone = serve_each(rt, alloc, lone, &full, false)?;
-    let _lone = serve_each(rt, alloc, lone, lines, false)?;
+    let lone = started_with(rt, alloc, &[])?;
+    let lone = serve_each(rt, lone, &full, false)?;
+    let _lone = serve_each(rt, lone, lines, false)?;
     Ok(())
 }
 

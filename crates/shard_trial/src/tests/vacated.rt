@@ -20,11 +20,16 @@ fn put_each(rt: &impl Abort, lone: &mut Lone, bytes: &[u8]) {
     }
 }
 
+/// Puts these records, which fill two buffers, and flushes them.
+fn put_and_flush(rt: &impl Abort, lone: &mut Lone, bytes: &[u8]) {
+    put_each(rt, lone, bytes);
+    assert!(rt; lone.flush() == Ok(2));
+}
+
 /// A device on which records 1 to 4 were flushed. The put of 3 sealed the buffer of 1 and 2, so two wait.
 fn filled(rt: &impl Abort, alloc: Global) -> Result<Lone, Fail> {
     let mut lone = Lone::start_vacating(alloc, larger_device(rt, alloc)?)?;
-    put_each(rt, &mut lone, &[1, 2, 3, 4]);
-    assert!(rt; lone.flush() == Ok(2));
+    put_and_flush(rt, &mut lone, &[1, 2, 3, 4]);
     Ok(lone)
 }
 
@@ -44,21 +49,30 @@ fn has_kept(lone: &mut Lone) -> Result<bool, Fail> {
     Ok(lone.finds(&record(1), true)? && lone.finds(&record(3), true)?)
 }
 
+/// Two blocks are vacated and used again.
+fn assert_used_again(rt: &impl Abort, lone: &mut Lone) -> Result<(), Fail> {
+    assert_vacates(rt, lone);
+    assert!(rt; has_kept(lone)?);
+    put_and_flush(rt, lone, &[5, 6]);
+    put_and_flush(rt, lone, &[7, 8, 9]);
+    assert!(rt; has_kept(lone)?);
+    Ok(())
+}
+
+/// So they are on a device that was filled.
+fn used_again(rt: &impl Abort, alloc: Global) -> Result<MemDisk, Fail> {
+    let mut lone = filled(rt, alloc)?;
+    assert_used_again(rt, &mut lone)?;
+    Ok(lone.stop())
+}
+
 // Both vacated blocks are used again once the moved records are flushed, and not before. Whenever a crash comes, and whichever of the writes
 // under way it leaves, records 1 and 3 are there.
 #[test]
 fn blocks_are_vacated_and_used_again(rt: HostRuntime) -> Result<(), Fail> {
     let alloc = rt.alloc();
     let begun = filled(&rt, alloc)?.stop().moments();
-    let mut lone = filled(&rt, alloc)?;
-    assert_vacates(&rt, &mut lone);
-    assert!(rt; has_kept(&mut lone)?);
-    put_each(&rt, &mut lone, &[5, 6]);
-    assert!(rt; lone.flush() == Ok(2));
-    put_each(&rt, &mut lone, &[7, 8, 9]);
-    assert!(rt; lone.flush() == Ok(2));
-    assert!(rt; has_kept(&mut lone)?);
-    let disk = lone.stop();
+    let disk = used_again(&rt, alloc)?;
     assert!(rt; 1 <= begun && begun < disk.moments());
     for moment in begun - 1..disk.moments() {
         for pick in [0, 1, u64::MAX] {

@@ -98,35 +98,76 @@ fn append(rt: &impl Abort, record: &Stored, text: &mut Vec<u8>) -> Result<(), Fa
     Ok(())
 }
 
-/// A small device with these blocks open: the number of each one's buffer, its place, and its records.
-pub fn device_with(
+/// The text of some records.
+fn text_of(rt: &impl Abort, alloc: Global, records: &[Stored]) -> Result<Vec<u8>, Fail> {
+    let mut text = Vec::new(alloc);
+    for record in records {
+        append(rt, record, &mut text)?;
+    }
+    Ok(text)
+}
+
+/// Writes these bytes at these places of the disk.
+pub fn write_each(rt: &impl Abort, disk: &mut MemDisk, texts: &[(u64, &[u8])]) -> Result<(), Fail> {
+    for (place, bytes) in texts {
+        write(rt, disk, *place, bytes)?;
+    }
+    Ok(())
+}
+
+/// A block that is open: the number of its buffer, its place, and its records.
+type Filled<'a> = (u64, u32, &'a [Stored]);
+
+fn write_block(
     rt: &impl Abort,
     alloc: Global,
-    blocks: &[(u64, u32, &[Stored])],
-) -> Result<MemDisk, Fail> {
-    let mut disk = MemDisk::new(alloc, SMALL_BYTES)?;
-    write(rt, &mut disk, 0, &FRONT)?;
-    for (number, block, records) in blocks {
-        let mut text = Vec::new(alloc);
-        for record in *records {
-            append(rt, record, &mut text)?;
-        }
-        let count = records.len();
-        assert!(rt; text.len() <= 12_256 && count <= 255);
-        let units = text.len() as u32 / 16;
-        let mut head = [1; 32];
-        write_head(*number, count as u32, units, *block, &mut head);
-        write(rt, &mut disk, gate_place(*block), b"ASNODE-GATE-OPEN")?;
-        write(rt, &mut disk, body_place(*block), &head)?;
-        write(rt, &mut disk, body_place(*block) + 32, &text)?;
+    disk: &mut MemDisk,
+    (number, block, records): &Filled,
+) -> Result<(), Fail> {
+    let text = text_of(rt, alloc, records)?;
+    let count = records.len();
+    assert!(rt; text.len() <= 12_256 && count <= 255);
+    let mut head = [1; 32];
+    write_head(
+        *number,
+        count as u32,
+        text.len() as u32 / 16,
+        *block,
+        &mut head,
+    );
+    write(rt, disk, gate_place(*block), b"ASNODE-GATE-OPEN")?;
+    write(rt, disk, body_place(*block), &head)?;
+    write(rt, disk, body_place(*block) + 32, &text)
+}
+
+fn write_blocks(
+    rt: &impl Abort,
+    alloc: Global,
+    disk: &mut MemDisk,
+    blocks: &[Filled],
+) -> Result<(), Fail> {
+    write(rt, disk, 0, &FRONT)?;
+    for block in blocks {
+        write_block(rt, alloc, disk, block)?;
     }
+    Ok(())
+}
+
+/// A small device with these blocks open.
+pub fn device_with(rt: &impl Abort, alloc: Global, blocks: &[Filled]) -> Result<MemDisk, Fail> {
+    let mut disk = MemDisk::new(alloc, SMALL_BYTES)?;
+    write_blocks(rt, alloc, &mut disk, blocks)?;
     Ok(disk)
 }
 
 /// A device of 16 blocks without records.
 pub fn larger_device(rt: &impl Abort, alloc: Global) -> Result<MemDisk, Fail> {
     let mut disk = MemDisk::new(alloc, 266_240)?;
-    write(rt, &mut disk, 0, &FRONT)?;
-    write(rt, &mut disk, 24, &[16])?;
+    write_each(rt, &mut disk, &[(0, &FRONT), (24, &[16])])?;
     Ok(disk)
+}
+
+/// A small device with these blocks open is taken into use.
+pub fn started_with(rt: &impl Abort, alloc: Global, blocks: &[Filled]) -> Result<Lone, Fail> {
+    started(alloc, device_with(rt, alloc, blocks)?)
 }
