@@ -1,6 +1,7 @@
 use super::*;
-use rec_format::{Bytes, Counts, Stamp};
+use rec_format::{Bytes, Counts, Digest, Stamp};
 use std::alloc::Global;
+use std::process::Abort;
 use std::test::Fail;
 
 const DIGEST: &[u8] = b"000102030405060708090A0b0c0d0e0f10111213";
@@ -21,75 +22,34 @@ fn printed(alloc: Global, reply: &Reply) -> Result<Vec<u8>, Fail> {
     Ok(out)
 }
 
+// The digest and the payload of the put of a line, where the line is one.
+fn put_in(alloc: Global, text: &[u8]) -> Result<Option<(Digest, Bytes)>, Fail> {
+    match read_command(alloc, text)? {
+        Some(
+            Command::Put {
+                digest,
+                payload,
+                ..
+            },
+        ) => Ok(Some((digest, payload))),
+        _ => Ok(None),
+    }
+}
+
 #[test]
-fn commands_are_read(rt: HostRuntime) -> Result<(), Fail> {
+fn a_put_is_read(rt: HostRuntime) -> Result<(), Fail> {
     let alloc = rt.alloc();
-    let put = line(alloc, b"put ", b" 0 * 68656C6c6f")?;
-    let Some(
-        Command::Put {
-            digest,
-            ttl,
-            expect,
-            payload,
-        },
-    ) = read_command(alloc, &put)?
-    else {
-        assert!(rt; false);
-        return Ok(());
-    };
-    assert_eq!(rt; (digest.0[1], digest.0[10], digest.0[19]), (1, 10, 19));
-    assert!(rt; ttl == 0 && expect.is_none());
-    assert_eq!(rt; payload.as_slice(), b"hello".as_slice());
-    let put = line(alloc, b"put ", b" 0 * -")?;
-    let Some(Command::Put { payload, .. }) = read_command(alloc, &put)? else {
-        assert!(rt; false);
-        return Ok(());
-    };
-    assert_eq!(rt; payload.as_slice().len(), 0);
-    let Some(Command::Get(digest)) = read_command(alloc, &line(alloc, b"get ", b"")?)? else {
-        assert!(rt; false);
-        return Ok(());
-    };
-    assert_eq!(rt; digest.0[10], 10);
-    let Some(Command::Meta(digest)) = read_command(alloc, &line(alloc, b"meta ", b"")?)? else {
-        assert!(rt; false);
-        return Ok(());
-    };
-    assert_eq!(rt; digest.0[11], 11);
-    let Some(Command::Del(digest)) = read_command(alloc, &line(alloc, b"del ", b"")?)? else {
-        assert!(rt; false);
-        return Ok(());
-    };
-    assert_eq!(rt; digest.0[19], 19);
-    let Some(Command::Bury(digest)) = read_command(alloc, &line(alloc, b"bury ", b"")?)? else {
-        assert!(rt; false);
-        return Ok(());
-    };
-    assert_eq!(rt; digest.0[1], 1);
-    let Some(Command::Flush) = read_command(alloc, b"flush")? else {
-        assert!(rt; false);
-        return Ok(());
-    };
-    let Some(Command::Defrag) = read_command(alloc, b"defrag")? else {
-        assert!(rt; false);
-        return Ok(());
-    };
-    let Some(Command::Expire) = read_command(alloc, b"expire")? else {
-        assert!(rt; false);
-        return Ok(());
-    };
-    let Some(Command::Stat) = read_command(alloc, b"stat")? else {
-        assert!(rt; false);
-        return Ok(());
-    };
-    let Some(Command::Restart) = read_command(alloc, b"restart")? else {
-        assert!(rt; false);
-        return Ok(());
-    };
-    let Some(Command::Quit) = read_command(alloc, b"quit")? else {
-        assert!(rt; false);
-        return Ok(());
-    };
+    for (after, want) in [
+        (b" 0 * 68656C6c6f".as_slice(), b"hello".as_slice()),
+        (b" 0 * -".as_slice(), b"".as_slice()),
+    ] {
+        let put = line(alloc, b"put ", after)?;
+        let Some((digest, payload)) = put_in(alloc, &put)? else {
+            return Err(Fail::new("it isn't a put"));
+        };
+        assert_eq!(rt; (digest.0[1], digest.0[10], digest.0[19]), (1, 10, 19));
+        assert_eq!(rt; payload.as_slice(), want);
+    }
     Ok(())
 }
 
@@ -102,27 +62,26 @@ fn numbers_of(alloc: Global, after: &[u8]) -> Result<Option<(u32, Option<u16>)>,
     }
 }
 
+/// What stands behind the digest of a put, and the numbers in it.
+const NUMBERS: [(&[u8], Option<(u32, Option<u16>)>); 12] = [
+    (b" 0 * aa", Some((0, None))),
+    (b" 0 0 aa", Some((0, Some(0)))),
+    (b" 0 1 -", Some((0, Some(1)))),
+    (b" 0 65535 aa", Some((0, Some(65_535)))),
+    (b" 1 * aa", Some((1, None))),
+    (b" 315360000 65535 -", Some((315_360_000, Some(65_535)))),
+    (b" 315360001 * aa", None),
+    (b" 0 65536 aa", None),
+    (b" 0 01 aa", None),
+    (b" 0 00 aa", None),
+    (b" 0 0x aa", None),
+    (b" 0  aa", None),
+];
+
 #[test]
 fn the_numbers_of_a_put_are_read(rt: HostRuntime) -> Result<(), Fail> {
-    let alloc = rt.alloc();
-    for (after, want) in [
-        (b" 0 * aa".as_slice(), Some((0, None))),
-        (b" 0 0 aa".as_slice(), Some((0, Some(0)))),
-        (b" 0 1 -".as_slice(), Some((0, Some(1)))),
-        (b" 0 65535 aa".as_slice(), Some((0, Some(65_535)))),
-        (b" 1 * aa".as_slice(), Some((1, None))),
-        (
-            b" 315360000 65535 -".as_slice(),
-            Some((315_360_000, Some(65_535))),
-        ),
-        (b" 315360001 * aa".as_slice(), None),
-        (b" 0 65536 aa".as_slice(), None),
-        (b" 0 01 aa".as_slice(), None),
-        (b" 0 00 aa".as_slice(), None),
-        (b" 0 0x aa".as_slice(), None),
-        (b" 0  aa".as_slice(), None),
-    ] {
-        assert_eq!(rt; numbers_of(alloc, after)?, want);
+    for (after, want) in NUMBERS {
+        assert_eq!(rt; numbers_of(rt.alloc(), after)?, want);
     }
     Ok(())
 }
@@ -137,51 +96,53 @@ fn printed_again(alloc: Global, text: &[u8]) -> Result<Vec<u8>, Fail> {
     Ok(out)
 }
 
+/// Lines, and what is printed of their commands.
+const AGAIN: [(&[u8], &[u8]); 15] = [
+    (
+        b"get 000102030405060708090A0B0c0d0e0f10111213",
+        b"before get 000102030405060708090a0b0c0d0e0f10111213\n",
+    ),
+    (
+        b"meta abcdefABCDEFabcdefABCDEF0123456789000000",
+        b"before meta abcdefabcdefabcdefabcdef0123456789000000\n",
+    ),
+    (
+        b"del ABCDEFabcdefabcdefABCDEF0123456789000001",
+        b"before del abcdefabcdefabcdefabcdef0123456789000001\n",
+    ),
+    (
+        b"bury FFffffffffffffffffffffffffffffffffffffff",
+        b"before bury ffffffffffffffffffffffffffffffffffffffff\n",
+    ),
+    (
+        b"put 0000000000000000000000000000000000000000 0 * 68656C6C6f",
+        b"before put 0000000000000000000000000000000000000000 0 * 68656c6c6f\n",
+    ),
+    (
+        b"put 0000000000000000000000000000000000000001 0 0 -",
+        b"before put 0000000000000000000000000000000000000001 0 0 -\n",
+    ),
+    (
+        b"put 00000000000000000000000000000000000000AA 0 65535 00",
+        b"before put 00000000000000000000000000000000000000aa 0 65535 00\n",
+    ),
+    (
+        b"put 00000000000000000000000000000000000000aB 315360000 * -",
+        b"before put 00000000000000000000000000000000000000ab 315360000 * -\n",
+    ),
+    (b"flush", b"before flush\n"),
+    (b"defrag", b"before defrag\n"),
+    (b"expire", b"before expire\n"),
+    (b"stat", b"before stat\n"),
+    (b"restart", b"before restart\n"),
+    (b"quit", b"before quit\n"),
+    (b"frob", b"before "),
+];
+
 #[test]
 fn commands_are_printed_as_they_are_read(rt: HostRuntime) -> Result<(), Fail> {
-    let alloc = rt.alloc();
-    for (text, want) in [
-        (
-            b"get 000102030405060708090A0B0c0d0e0f10111213".as_slice(),
-            b"before get 000102030405060708090a0b0c0d0e0f10111213\n".as_slice(),
-        ),
-        (
-            b"meta abcdefABCDEFabcdefABCDEF0123456789000000".as_slice(),
-            b"before meta abcdefabcdefabcdefabcdef0123456789000000\n".as_slice(),
-        ),
-        (
-            b"del ABCDEFabcdefabcdefABCDEF0123456789000001".as_slice(),
-            b"before del abcdefabcdefabcdefabcdef0123456789000001\n".as_slice(),
-        ),
-        (
-            b"bury FFffffffffffffffffffffffffffffffffffffff".as_slice(),
-            b"before bury ffffffffffffffffffffffffffffffffffffffff\n".as_slice(),
-        ),
-        (
-            b"put 0000000000000000000000000000000000000000 0 * 68656C6C6f".as_slice(),
-            b"before put 0000000000000000000000000000000000000000 0 * 68656c6c6f\n".as_slice(),
-        ),
-        (
-            b"put 0000000000000000000000000000000000000001 0 0 -".as_slice(),
-            b"before put 0000000000000000000000000000000000000001 0 0 -\n".as_slice(),
-        ),
-        (
-            b"put 00000000000000000000000000000000000000AA 0 65535 00".as_slice(),
-            b"before put 00000000000000000000000000000000000000aa 0 65535 00\n".as_slice(),
-        ),
-        (
-            b"put 00000000000000000000000000000000000000aB 315360000 * -".as_slice(),
-            b"before put 00000000000000000000000000000000000000ab 315360000 * -\n".as_slice(),
-        ),
-        (b"flush".as_slice(), b"before flush\n".as_slice()),
-        (b"defrag".as_slice(), b"before defrag\n".as_slice()),
-        (b"expire".as_slice(), b"before expire\n".as_slice()),
-        (b"stat".as_slice(), b"before stat\n".as_slice()),
-        (b"restart".as_slice(), b"before restart\n".as_slice()),
-        (b"quit".as_slice(), b"before quit\n".as_slice()),
-        (b"frob".as_slice(), b"before ".as_slice()),
-    ] {
-        assert_eq!(rt; printed_again(alloc, text)?.as_slice(), want);
+    for (text, want) in AGAIN {
+        assert_eq!(rt; printed_again(rt.alloc(), text)?.as_slice(), want);
     }
     Ok(())
 }
@@ -195,62 +156,72 @@ fn a_command_that_is_not_built_is_printed(rt: HostRuntime) -> Result<(), Fail> {
     Ok(())
 }
 
+/// Lines that are no commands.
+const OTHERS: [&[u8]; 32] = [
+    b"",
+    b"frob",
+    b"quit ",
+    b"QUIT",
+    b"flush ",
+    b"flushes",
+    b"Flush",
+    b"stat ",
+    b"stat 0",
+    b"stats",
+    b"STAT",
+    b"restart ",
+    b"restart 0",
+    b"restarts",
+    b"Restart",
+    b"expire ",
+    b"expires",
+    b"raid",
+    b"get",
+    b"get 00",
+    b"get 000102030405060708090a0b0c0d0e0f1011121",
+    b"get 000102030405060708090a0b0c0d0e0f101112130",
+    b"get 000102030405060708090a0b0c0d0e0f1011121g",
+    b"get  000102030405060708090a0b0c0d0e0f10111213",
+    b"meta",
+    b"meta ",
+    b"Meta 000102030405060708090a0b0c0d0e0f10111213",
+    b"met 000102030405060708090a0b0c0d0e0f10111213",
+    b"del 000102030405060708090a0b0c0d0e0f10111213 ",
+    b"delete 000102030405060708090a0b0c0d0e0f10111213",
+    b"bury 000102030405060708090a0b0c0d0e0f1011121",
+    b" bury 000102030405060708090a0b0c0d0e0f10111213",
+];
+
+/// What may not stand behind the digest of a put.
+const NO_PUTS: [&[u8]; 14] = [
+    b" 00 * aa",
+    b" 01 * aa",
+    b" +0 * aa",
+    b" -0 * aa",
+    b" 0 * a",
+    b" 0 * aab",
+    b" 0 * ag",
+    b" 0 *",
+    b" 0 * ",
+    b" 0  * aa",
+    b" 0 * aa ",
+    b" 0 * --",
+    b" 0 ** aa",
+    b" 3153600000 * aa",
+];
+
+fn is_command(alloc: Global, text: &[u8]) -> Result<bool, Fail> {
+    Ok(read_command(alloc, text)?.is_some())
+}
+
 #[test]
 fn other_lines_are_none(rt: HostRuntime) -> Result<(), Fail> {
-    let alloc = rt.alloc();
-    for text in [
-        b"".as_slice(),
-        b"frob".as_slice(),
-        b"quit ".as_slice(),
-        b"QUIT".as_slice(),
-        b"flush ".as_slice(),
-        b"flushes".as_slice(),
-        b"Flush".as_slice(),
-        b"stat ".as_slice(),
-        b"stat 0".as_slice(),
-        b"stats".as_slice(),
-        b"STAT".as_slice(),
-        b"restart ".as_slice(),
-        b"restart 0".as_slice(),
-        b"restarts".as_slice(),
-        b"Restart".as_slice(),
-        b"expire ".as_slice(),
-        b"expires".as_slice(),
-        b"raid".as_slice(),
-        b"get".as_slice(),
-        b"get 00".as_slice(),
-        b"get 000102030405060708090a0b0c0d0e0f1011121".as_slice(),
-        b"get 000102030405060708090a0b0c0d0e0f101112130".as_slice(),
-        b"get 000102030405060708090a0b0c0d0e0f1011121g".as_slice(),
-        b"get  000102030405060708090a0b0c0d0e0f10111213".as_slice(),
-        b"meta".as_slice(),
-        b"meta ".as_slice(),
-        b"Meta 000102030405060708090a0b0c0d0e0f10111213".as_slice(),
-        b"met 000102030405060708090a0b0c0d0e0f10111213".as_slice(),
-        b"del 000102030405060708090a0b0c0d0e0f10111213 ".as_slice(),
-        b"delete 000102030405060708090a0b0c0d0e0f10111213".as_slice(),
-        b"bury 000102030405060708090a0b0c0d0e0f1011121".as_slice(),
-        b" bury 000102030405060708090a0b0c0d0e0f10111213".as_slice(),
-    ] {
-        assert!(rt; read_command(alloc, text)?.is_none());
+    for text in OTHERS {
+        assert!(rt; !is_command(rt.alloc(), text)?);
     }
-    for after in [
-        b" 00 * aa".as_slice(),
-        b" 01 * aa".as_slice(),
-        b" +0 * aa".as_slice(),
-        b" -0 * aa".as_slice(),
-        b" 0 * a".as_slice(),
-        b" 0 * aab".as_slice(),
-        b" 0 * ag".as_slice(),
-        b" 0 *".as_slice(),
-        b" 0 * ".as_slice(),
-        b" 0  * aa".as_slice(),
-        b" 0 * aa ".as_slice(),
-        b" 0 * --".as_slice(),
-        b" 0 ** aa".as_slice(),
-        b" 3153600000 * aa".as_slice(),
-    ] {
-        assert!(rt; read_command(alloc, &line(alloc, b"put ", after)?)?.is_none());
+    for after in NO_PUTS {
+        let put = line(rt.alloc(), b"put ", after)?;
+        assert!(rt; !is_command(rt.alloc(), &put)?);
     }
     Ok(())
 }
@@ -328,27 +299,33 @@ fn next(alloc: Global, lines: &mut Lines) -> Result<Vec<u8>, Fail> {
     }
 }
 
+/// These pieces are fed, and then these lines come, and so many bytes are left.
+fn assert_lines(
+    rt: &impl Abort,
+    alloc: Global,
+    lines: &mut Lines,
+    pieces: &[&[u8]],
+    wanted: &[&[u8]],
+    rest: u64,
+) -> Result<(), Fail> {
+    for piece in pieces {
+        lines.feed(piece)?;
+    }
+    for want in wanted {
+        assert_eq!(rt; next(alloc, lines)?.as_slice(), *want);
+    }
+    assert_eq!(rt; lines.rest(), rest);
+    Ok(())
+}
+
 #[test]
 fn lines_come_however_they_are_cut(rt: HostRuntime) -> Result<(), Fail> {
     let alloc = rt.alloc();
     let mut lines = Lines::new(alloc);
-    lines.feed(b"ab")?;
-    assert_eq!(rt; next(alloc, &mut lines)?.as_slice(), b"none".as_slice());
-    assert_eq!(rt; lines.rest(), 2);
-    lines.feed(b"c\n\nd")?;
-    lines.feed(b"")?;
-    lines.feed(b"\nef\ng")?;
-    for want in [
-        b"abc".as_slice(),
-        b"".as_slice(),
-        b"d".as_slice(),
-        b"ef".as_slice(),
-        b"none".as_slice(),
-    ] {
-        assert_eq!(rt; next(alloc, &mut lines)?.as_slice(), want);
-    }
-    assert_eq!(rt; lines.rest(), 1);
-    Ok(())
+    assert_lines(&rt, alloc, &mut lines, &[b"ab"], &[b"none"], 2)?;
+    let cut: [&[u8]; 3] = [b"c\n\nd", b"", b"\nef\ng"];
+    let whole: [&[u8]; 5] = [b"abc", b"", b"d", b"ef", b"none"];
+    assert_lines(&rt, alloc, &mut lines, &cut, &whole, 1)
 }
 
 #[test]
@@ -356,17 +333,9 @@ fn a_line_is_at_most_2200000_bytes(rt: HostRuntime) -> Result<(), Fail> {
     let alloc = rt.alloc();
     let mut lines = Lines::new(alloc);
     let piece = vec![in alloc; b'a'; 1_100_000]?;
-    for _ in 0..2 {
-        lines.feed(&piece)?;
-    }
+    assert_lines(&rt, alloc, &mut lines, &[&piece, &piece], &[], 2_200_000)?;
     lines.feed(b"\n")?;
-    for _ in 0..2 {
-        lines.feed(&piece)?;
-    }
-    lines.feed(b"a\nquit\n")?;
     assert_eq!(rt; next(alloc, &mut lines)?.len(), 2_200_000);
-    assert_eq!(rt; next(alloc, &mut lines)?.as_slice(), b"too long".as_slice());
-    assert_eq!(rt; next(alloc, &mut lines)?.as_slice(), b"quit".as_slice());
-    assert_eq!(rt; lines.rest(), 0);
-    Ok(())
+    let pieces: [&[u8]; 3] = [&piece, &piece, b"a\nquit\n"];
+    assert_lines(&rt, alloc, &mut lines, &pieces, &[b"too long", b"quit"], 0)
 }
