@@ -1,9 +1,11 @@
 -- A buffer begins behind memory that was taken: what is refused, and what is left.
-use Rattle.std.proofs.Common.{◌≡◌, ◌≢◌, List, [], Result, Ok, Err, refl, sym, ◌∙◌, ap, subst}
-use Rattle.std.specs.Prelude.{MatchResult, OnOk, IsErrAnd}
+use Rattle.std.proofs.Common.{◌≡◌, ◌≢◌, List, [], None, Some, Result, Ok, Err, refl, sym, ◌∙◌, ap, subst, arith}
+use Rattle.std.specs.Prelude.{MatchResult, OnOk, IfErr, IsErrAnd}
 use Rattle.disk_model.specs.Disk.{DiskView, IsHonest}
 use Rattle.disk_model.specs.Runs.{OneOf, Leaves}
-use Rattle.device_model.specs.Book.{Setup}
+use Rattle.device_model.specs.Book.{Setup, first_block}
+use Rattle.device_model.specs.Events.{Cause, too_big, spent, overload, no_space}
+use Rattle.block_format.specs.declared.geometry.Gate.TheVariants.{Shut}
 use Rattle.device_model.specs.Device.{State}
 use Rattle.device_model.specs.Steps.{Step, states_through}
 use Rattle.recovery.specs.Surviving.{Survives}
@@ -12,15 +14,19 @@ use Rattle.unit_ledger.specs.Rolls.{BlockRoll}
 use Rattle.hold_book.specs.Holds.{HoldState}
 use Rattle.block_shelf.specs.declared.refusals.PutRefusal.{PutRefusal}
 use Rattle.block_shelf.specs.declared.refusals.PutRefusal.TheVariants.{Big, Spent, Load, Space, Memory, Fault}
-use Rattle.block_shelf.specs.View.{ShelfView}
+use Rattle.block_shelf.specs.View.{ShelfView, gate_at}
 use Rattle.block_shelf.specs.Calls.{Goes}
 use Rattle.block_shelf.specs.Changes.{SameButRoom, with_begun}
-use Rattle.block_shelf.specs.Appends.{refused_steps, with_first_shut, ready_for}
+use Rattle.block_shelf.specs.Appends.{IsAppendRefusal, IsLeftBy, refused_steps, with_first_shut, with_first_unclosed, ready_for}
 use Rattle.block_shelf.proofs.Roomed.{room_placed, room_queued, room_safe, room_disk}
 
 pub err_said : {A E : Type 0} (r : Result A E) (said : E) (P : A → Type 0) (Q : E → Type 0) → IsErrAnd r (λ e. e ≡ said) → Q said → MatchResult r P Q
 err_said (Ok a) said P Q is holds = absurd is
 err_said (Err e) said P Q is holds = subst Q (sym is) holds
+
+pub err_is : {A E : Type 0} (r : Result A E) (said : E) (Q : E → Type 0) → IsErrAnd r (λ e. e ≡ said) → Q said → IfErr r Q
+err_is (Ok a) said Q is holds = tt
+err_is (Err e) said Q is holds = subst Q (sym is) holds
 
 -- only a fault makes a step
 pub unfailed_steps : (refusal : PutRefusal) → refusal ≢ Fault → refused_steps refusal ≡ []
@@ -44,6 +50,9 @@ goes_behind {D} view setup steps s old mid new same goes = record {
     now : IsHonest (view old.disk) → IsHonest (view mid.disk)
     now honest = subst (λ (disk : D). IsHonest (view disk)) (sym (room_disk old mid same)) honest
 
+no_cause : (cause : Cause) → None ≡ Some cause → ⊥
+no_cause cause e = grind (arith, e)
+
 module _ {D : Type 0} (stream : Stream) (old mid new : ShelfView D) (same : SameButRoom old mid) where
   pub ready_is : new ≡ with_begun stream (with_first_shut new.disk mid) → with_first_shut new.disk mid ≡ ready_for new old
   ready_is begun =
@@ -56,3 +65,26 @@ module _ {D : Type 0} (stream : Stream) (old mid new : ShelfView D) (same : Same
       → MatchResult r (λ done. Goes view setup [] old s (ready_for new old)) (λ refusal. Goes view setup (refused_steps refusal) old s new)
   goes_begun view setup s (Ok done) begun goes = subst (Goes view setup [] old s) (ready_is begun) (goes_behind view setup [] s old mid (with_first_shut new.disk mid) same goes)
   goes_begun view setup s (Err refusal) begun goes = goes_behind view setup (refused_steps refusal) s old mid new same goes
+
+  -- what a refusal leaves
+  pub left_behind : (r : Result (Unit {0}) PutRefusal) → IfErr r (IsAppendRefusal None) → IfErr r (IsLeftBy mid new) → IfErr r (IsLeftBy old new)
+  left_behind (Ok done) why left = tt
+  left_behind (Err (Big units capacity)) why left = absurd (no_cause (too_big units capacity) why)
+  left_behind (Err Spent) why left = absurd (no_cause spent why)
+  left_behind (Err (Load pending)) why left = absurd (no_cause (overload pending) why)
+  left_behind (Err (Space free)) why left = absurd (no_cause (no_space free) why)
+  left_behind (Err Memory) why left = record {
+    rest = left.rest ∙ ap (λ (x : ShelfView D). record x { rolls = new.rolls; holds = new.holds }) same.rest;
+    size = left.size ∙ same.size;
+    copies = λ k. left.copies k ∙ same.copies k;
+    holds = left.holds ∙ same.holds;
+  }
+  left_behind (Err Fault) why left = (
+    subst (λ (x : ShelfView D). gate_at x.gates (first_block x.free) ≢ Shut) same.rest left.0,
+    record {
+      rest = left.1.rest ∙ ap (λ (x : ShelfView D). record (with_first_unclosed new.disk x) { rolls = new.rolls; holds = new.holds }) same.rest;
+      size = left.1.size ∙ same.size;
+      copies = λ k. left.1.copies k ∙ same.copies k;
+      holds = left.1.holds ∙ same.holds;
+    },
+  )

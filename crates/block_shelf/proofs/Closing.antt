@@ -32,7 +32,7 @@ use Rattle.kept_images.proofs.Holding.{plain_holds}
 use Rattle.kept_images.proofs.Stepping.{plain_book}
 use Rattle.kept_images.proofs.Worked.{HasClosed, close_call}
 use Rattle.block_shelf.specs.View.{ShelfView, IsShelf, IsBufferOf, HasItsBody, WaitsShut, gate_at, records_of}
-use Rattle.block_shelf.specs.Standing.{StandsFor, QueueStands, IsPlaced, ImagesHold}
+use Rattle.block_shelf.specs.Standing.{StandsFor, BooksStand, IsPlaced, ImagesHold}
 use Rattle.block_shelf.specs.Calls.{Goes}
 use Rattle.block_shelf.specs.Changes.{with_gate_known}
 
@@ -91,6 +91,7 @@ module _ {D : Type 0} (view : D → DiskView) (shelf : ShelfView D) (disk : D) (
     ready = λ honest. readies (was_honest honest) shelf.buffers unbuffered is.buffers (is.ready (was_honest honest));
     queue = is.queue;
     cache = is.cache;
+    raid = is.raid;
     stand = λ honest k k_lt.
         subst (GateStands shelf.geometry (view disk).may_leave k) (sym (gates_with shelf.gates block gate lt k))
         (⊎_elim (λ (e : k ≡ block). subst (λ (x : Gate). GateStands shelf.geometry (view disk).may_leave k x) (sym (gate_own block k gate (gate_at shelf.gates) e)) (subst (λ (j : ℕ). GateStands shelf.geometry (view disk).may_leave j gate) (sym e) (stands honest)))
@@ -142,9 +143,9 @@ module _ {D : Type 0} (view : D → DiskView) (shelf : ShelfView D) (disk : D) (
       kept = placed.kept;
     }
 
-    module _ (honest : IsHonest (view shelf.disk)) (safe : ImagesHold setup view shelf s) (not_shut : gate_at shelf.gates block ≢ Shut) (free : Contains s.book.free block) where
+    module _ (honest : IsHonest (view shelf.disk)) (safe : ImagesHold setup view shelf s) (not_shut : gate_at shelf.gates block ≢ Shut) (free : gate_at shelf.gates block ≡ Set → Contains s.book.free block) where
       abbrev closed : HasClosed setup shelf.geometry s (records_of shelf.buffers) (gate_at shelf.gates) block (meanwhile (view shelf.disk) (view disk)) (view disk).may_leave
-      closed = close_call setup shelf.geometry s (records_of shelf.buffers) (gate_at shelf.gates) (view shelf.disk).may_leave (meanwhile (view shelf.disk) (view disk)) (view disk).may_leave block below safe not_shut (λ set. free) (torn honest) now_within
+      closed = close_call setup shelf.geometry s (records_of shelf.buffers) (gate_at shelf.gates) (view shelf.disk).may_leave (meanwhile (view shelf.disk) (view disk)) (view disk).may_leave block below safe not_shut free (torn honest) now_within
 
       -- meanwhile each image survives the state
       pub closing_leaves : Leaves (Survives setup s) (view shelf.disk) (view disk)
@@ -158,14 +159,14 @@ module _ {D : Type 0} (view : D → DiskView) (shelf : ShelfView D) (disk : D) (
       pub shut_safe : IsShut shelf.geometry block (view disk).may_leave → ImagesHold setup view (with_gate_known disk block Shut shelf) s
       shut_safe shut = holds_same setup shelf.geometry s (records_of shelf.buffers) (with_gate block Shut (gate_at shelf.gates)) (gate_at (slice_set shelf.gates block Shut)) (view disk).may_leave (gates_with shelf.gates block Shut lt) (closed.closed shut)
 
-    module _ (unshut : gate_at shelf.gates block ≢ Shut) (free : Contains s.book.free block) where
+    module _ (unshut : gate_at shelf.gates block ≢ Shut) (free : gate_at shelf.gates block ≡ Set → Contains s.book.free block) where
       within : (digest : Digest) (l : Live) → live_of digest s.book.live ≡ Some l → l.block < shelf.geometry.blocks
       within digest l live = (stands.entries l (live_there digest s.book.live l live)).lies.block
 
       pub goes_unsure : Goes view setup [] shelf s (with_gate_known disk block Unsure shelf)
       goes_unsure = record {
         stands = still_stands Unsure;
-        queued = λ queued. record { same = queued.same; all = queued.all };
+        queued = λ queued. record { same = queued.same; all = queued.all; raid = queued.raid };
         placed = λ honest placed. still_placed honest within Unsure placed;
         safe = λ honest safe. unsure_safe honest safe unshut free;
         leaves = λ honest safe. leaves_more (λ c survives. inl survives) (closing_leaves honest safe unshut free);
@@ -174,7 +175,7 @@ module _ {D : Type 0} (view : D → DiskView) (shelf : ShelfView D) (disk : D) (
       pub goes_shut : (IsHonest (view shelf.disk) → IsShut shelf.geometry block (view disk).may_leave) → Goes view setup [] shelf s (with_gate_known disk block Shut shelf)
       goes_shut shut = record {
         stands = still_stands Shut;
-        queued = λ queued. record { same = queued.same; all = queued.all };
+        queued = λ queued. record { same = queued.same; all = queued.all; raid = queued.raid };
         placed = λ honest placed. still_placed honest within Shut placed;
         safe = λ honest safe. shut_safe honest safe unshut free (shut honest);
         leaves = λ honest safe. leaves_more (λ c survives. inl survives) (closing_leaves honest safe unshut free);
@@ -202,9 +203,9 @@ module _ {D : Type 0} (view : D → DiskView) (setup : Setup) (shelf : ShelfView
     kept = λ e l v is_live is_entry. stands.kept e l v is_live is_entry;
   }
 
-  pub passed_queued : QueueStands setup shelf s → QueueStands setup (record shelf { free = first_to_back shelf.free }) (after_step setup closing_failed s)
+  pub passed_queued : BooksStand setup shelf s → BooksStand setup (record shelf { free = first_to_back shelf.free }) (after_step setup closing_failed s)
   unfolding after_step
-  passed_queued queued = record { same = queued.same; all = queued.all }
+  passed_queued queued = record { same = queued.same; all = queued.all; raid = queued.raid }
 
   pub passed_placed : IsPlaced view shelf s → IsPlaced view (record shelf { free = first_to_back shelf.free }) (after_step setup closing_failed s)
   unfolding after_step

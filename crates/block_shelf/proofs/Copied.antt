@@ -24,6 +24,7 @@ use Rattle.kept_images.specs.Changes.{Appends}
 use Rattle.kept_images.specs.Held.{HoldsGates}
 use Rattle.kept_images.proofs.Appending.{wrote_book, wrote_booked, moved_is, moved_book, moved_booked, moved_entry}
 use Rattle.kept_images.proofs.Holding.{wrote_holds, moved_holds}
+use Rattle.raid_book.specs.Raids.{SameButMarks}
 use Rattle.block_shelf.specs.declared.place.Class.{Class}
 use Rattle.block_shelf.specs.declared.place.Class.TheVariants.{Put, Tomb, Move}
 use Rattle.block_shelf.specs.View.{ShelfView}
@@ -52,6 +53,7 @@ pub record IsCopied (setup : Setup) (kind : Class) (s : State) (digest : Digest)
   pub units : version_units copy ≡ version_units version
   pub exact : IsExact kind s digest copy → version ≡ copy
   pub entry_there : (e : Digest) → same_digest e digest ≡ false → entry (copied setup kind digest copy s) e ≡ entry s e
+  pub marks : SameButMarks s.raid (copied setup kind digest copy s).raid
   pub order : (old new : Records) → BookInOrder setup s old → AppendsCopy setup kind digest copy s.book old new → BookInOrder setup (copied setup kind digest copy s) new
 
 -- ---- a new version
@@ -63,6 +65,10 @@ module _ (setup : Setup) (s : State) (digest : Digest) (v : Version) where
   wrote_there : (e : Digest) → same_digest e digest ≡ false → entry (after_step setup (wrote digest v) s) e ≡ entry s e
   wrote_there e other = ap top_of (wrote_history setup s digest v e ∙ cond-false (same_digest e digest) (written_item setup s v ∷ history s e) (history s e) other)
 
+  wrote_marks : SameButMarks s.raid (after_step setup (wrote digest v) s).raid
+  unfolding after_step
+  wrote_marks = refl
+
   put_copied : IsCopied setup Put s digest v
   put_copied = record {
     book = wrote_book setup s (λ n. []) (λ n. []) digest v;
@@ -72,6 +78,7 @@ module _ (setup : Setup) (s : State) (digest : Digest) (v : Version) where
     units = refl;
     exact = λ exact. refl;
     entry_there = wrote_there;
+    marks = wrote_marks;
     order = λ old new order appends. wrote_booked setup s old new digest v order appends;
   }
 
@@ -84,6 +91,7 @@ module _ (setup : Setup) (s : State) (digest : Digest) (v : Version) where
     units = refl;
     exact = λ exact. refl;
     entry_there = wrote_there;
+    marks = wrote_marks;
     order = λ old new order appends. wrote_booked setup s old new digest v order appends;
   }
 
@@ -118,6 +126,7 @@ module _ {D : Type 0} (setup : Setup) (shelf : ShelfView D) (s : State) (stands 
     units = is.read.units;
     exact = λ exact. same_version is.version v (sym is.entry_is ∙ exact);
     entry_there = moved_there;
+    marks = subst (SameButMarks s.raid) (sym (ap (λ (t : State). t.raid) (moved_is setup s (λ n. []) (λ n. []) digest is.live is.is_live))) refl;
     order = λ old new order appends. moved_booked setup s old new digest is.live is.is_live v order (as_live old new appends);
   }
 

@@ -4,7 +4,6 @@ use Rattle.std.specs.Prelude.{Some, IsSomeAnd, Contains, ◌==◌}
 use Rattle.std.specs.List.{AllByRecursion}
 use Rattle.std.proofs.lemmas.Bool.{both_ways, and_parts, or_cases, cond-false, eqb-true}
 use Rattle.std.proofs.lemmas.List.{append-nil, length-set, length-append}
-use Rattle.std.proofs.lemmas.List.Sums.{sum_by-cons}
 use Rattle.disk_model.specs.Disk.{DiskView, IsDisk}
 use Rattle.disk_model.specs.Runs.{OneOf}
 use Rattle.rec_format.specs.declared.version.Digest.{Digest}
@@ -30,9 +29,10 @@ use Rattle.kept_trail.specs.Trail.{places_of, IsBooked}
 use Rattle.kept_trail.proofs.Books.{live_there, others_live}
 use Rattle.kept_images.proofs.Holding.{plain_holds}
 use Rattle.kept_images.proofs.Stepping.{plain_book}
+use Rattle.raid_book.specs.Raids.{SameButMarks}
 use Rattle.block_shelf.specs.declared.place.Place.{Place}
 use Rattle.block_shelf.specs.View.{ShelfView, IsShelf, IsRoll, IsSetupOf, ArePacked, IsUnused, AreApart, records_of, gate_at}
-use Rattle.block_shelf.specs.Standing.{HasCopy, HasRecord, StandsFor, QueueStands, IsPlaced, LivesSame, book_buffer}
+use Rattle.block_shelf.specs.Standing.{HasCopy, HasRecord, StandsFor, BooksStand, IsPlaced, LivesSame, book_buffer}
 use Rattle.block_shelf.specs.Calls.{Goes, copy_live}
 use Rattle.block_shelf.specs.Changes.{has_buffer_in, without_copy, with_free, with_requeued, rolls_without}
 use Rattle.block_shelf.proofs.Blocks.{apart_push, apart_back, few}
@@ -72,6 +72,7 @@ held_shelf view shelf holds below free is = record {
   stand = is.stand;
   queue = is.queue;
   cache = is.cache;
+  raid = is.raid;
 }
 
 -- one more hold, of a block that isn't free
@@ -112,6 +113,7 @@ module _ {D : Type 0} (view : D → DiskView) (shelf : ShelfView D) (is : IsShel
     stand = is.stand;
     queue = is.queue;
     cache = is.cache;
+    raid = is.raid;
   }
     where
       lt : place.block < length shelf.rolls
@@ -141,6 +143,7 @@ module _ {D : Type 0} (view : D → DiskView) (shelf : ShelfView D) (is : IsShel
       stand = is.stand;
       queue = is.queue;
       cache = is.cache;
+      raid = is.raid;
     }
       where
         blocks : (bs : List BufferState) → AllByRecursion (λ b. b.block ≢ block) bs → AllByRecursion (λ x. x ≢ block) (map (λ b. b.block) bs)
@@ -277,9 +280,13 @@ module _ {D : Type 0} (view : D → DiskView) (is_disk : (disk : D) → IsDisk (
       (each_left (λ j cs. IsRoll cs) place.block place.unit shelf.rolls lt place.block (is.each place.block) (λ roll. left_roll place.unit (copies_in place.block shelf.rolls) roll))
       (fewer_own setup s digest booked stands.listed)
 
-  queued_with : (free : List ℕ) → QueueStands setup shelf s → QueueStands setup (record requeued_view { free = free }) after
+  dropped_raid : SameButMarks s.raid after.raid
+  unfolding after_step
+  dropped_raid = refl
+
+  queued_with : (free : List ℕ) → BooksStand setup shelf s → BooksStand setup (record requeued_view { free = free }) after
   queued_with free queued =
-      queue_considered setup shelf (record requeued_view { free = free }) s after (fewer setup s digest) (dropped_book setup s digest) refl
+      queue_considered setup shelf (record requeued_view { free = free }) s after refl dropped_raid (fewer setup s digest) (dropped_book setup s digest) refl
       (subst (λ (n : ℕ). AllByRecursion (λ b. b < n) shelf.queue.queue) (sym of_shelf.shape.blocks) is.queue.below) queued place.block lt_setup
       (ap (λ (t : Bool). requeued t place.block shelf.queue.queue) (marked_as setup shelf (fewer setup s digest) place.block (rolled_use place.block rolls) (not (has_buffer_in shelf.buffers place.block)) of_shelf is.queue use_is
       (ap not (has_buffer_is shelf.buffers (fewer setup s digest) place.block stands.buffers))))

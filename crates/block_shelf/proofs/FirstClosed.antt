@@ -74,6 +74,7 @@ passed_shelf view shelf is = record {
   stand = is.stand;
   queue = is.queue;
   cache = is.cache;
+  raid = is.raid;
 }
 
 -- ---- its gate
@@ -129,7 +130,7 @@ module _ {D : Type 0} (view : D → DiskView) (is_disk : (disk : D) → IsDisk (
     goes_closed is_set quiet = by (gate_at shelf.gates first) refl
       where
         called : gate_at shelf.gates first ≢ Shut → Goes view setup [] shelf s (with_first_shut disk shelf)
-        called unshut = goes_shut view shelf disk first is (is_disk disk) (is_disk shelf.disk) below unbuffered later.size was_honest later.time torn setup s stands unshut there (λ was. stands_as Shut is_set (honest was))
+        called unshut = goes_shut view shelf disk first is (is_disk disk) (is_disk shelf.disk) below unbuffered later.size was_honest later.time torn setup s stands unshut (λ set. there) (λ was. stands_as Shut is_set (honest was))
 
         by : (gate : Gate) → gate_at shelf.gates first ≡ gate → Goes view setup [] shelf s (with_first_shut disk shelf)
         by Shut is_shut =
@@ -145,7 +146,7 @@ module _ {D : Type 0} (view : D → DiskView) (is_disk : (disk : D) → IsDisk (
     goes_unclosed unshut =
         let mid = with_gate_known disk first Unsure shelf in
         let open_still : gate_at shelf.gates first ≢ Shut = subst (λ (k : ℕ). gate_at shelf.gates k ≢ Shut) at unshut in
-        let goes : Goes view setup [] shelf s mid = goes_unsure view shelf disk first is (is_disk disk) (is_disk shelf.disk) below unbuffered later.size was_honest later.time torn setup s stands open_still there in
+        let goes : Goes view setup [] shelf s mid = goes_unsure view shelf disk first is (is_disk disk) (is_disk shelf.disk) below unbuffered later.size was_honest later.time torn setup s stands open_still (λ set. there) in
         record {
           stands = passed_stands view setup mid s goes.stands;
           queued = λ queued. passed_queued view setup mid s (goes.queued queued);

@@ -116,7 +116,7 @@ module _ {D : Type 0} (at : ℕ) (old : ShelfView D) (first : IsFirstAt at old.b
       left_disk = ap (λ (v : ShelfView D). v.disk) leaves_it.rest
 
       pub left_shape : SameShape old new
-      left_shape = record { geometry = ap (λ (v : ShelfView D). v.geometry) leaves_it.rest; limits = ap (λ (v : ShelfView D). v.limits) leaves_it.rest }
+      left_shape = record { geometry = ap (λ (v : ShelfView D). v.geometry) leaves_it.rest; limits = ap (λ (v : ShelfView D). v.limits) leaves_it.rest; raid = ap (λ (v : ShelfView D). v.raid) leaves_it.rest }
 
       pub leaves_shelf : first.sealed.buffer.number ≡ number → FirstLeaves number old new
       leaves_shelf own = record {
@@ -133,13 +133,14 @@ module _ {D : Type 0} (at : ℕ) (old : ShelfView D) (first : IsFirstAt at old.b
 
   -- shape and limits stay
   pub opened_shape : (opened : ShelfView D) (gate : Gate) → opened ≡ with_opening opened.disk gate old first.sealed → SameShape old opened
-  opened_shape opened gate is = record { geometry = ap (λ (v : ShelfView D). v.geometry) is; limits = ap (λ (v : ShelfView D). v.limits) is }
+  opened_shape opened gate is = record { geometry = ap (λ (v : ShelfView D). v.geometry) is; limits = ap (λ (v : ShelfView D). v.limits) is; raid = ap (λ (v : ShelfView D). v.raid) is }
 
 pub setup_in : {D : Type 0} (setup : Setup) (old new : ShelfView D) → SameShape old new → IsSetupOf setup old → IsSetupOf setup new
 setup_in setup old new same of_old = record {
   shape = subst (IsShapeOf setup) (sym same.geometry) of_old.shape;
   pending = of_old.pending ∙ ap (λ (l : ShelfLimits). l.pending) (sym same.limits);
   lwm = of_old.lwm ∙ ap (λ (l : ShelfLimits). l.lwm) (sym same.limits);
+  sprigs = of_old.sprigs ∙ ap (λ (l : ShelfLimits). l.sprigs) (sym same.limits);
 }
 
 pub later_then : (old mid new : DiskView) → IsLater old mid → IsLater mid new → IsLater old new

@@ -1,7 +1,6 @@
 -- The book has room for a copy just where the shelf has it.
-use Rattle.std.proofs.Common.{◌≡◌, ℕ, ◌+◌, ◌≤◌, true, false, ◌∷◌, ◌++◌, length, map, refl, sym, ◌∙◌, ap, subst}
+use Rattle.std.proofs.Common.{◌≡◌, ℕ, ◌+◌, ◌≤◌, true, false, length, map, refl, sym, ◌∙◌, ap, subst}
 use Rattle.std.proofs.lemmas.Bool.{false_from_ne_true, le-leb, leb-true}
-use Rattle.std.specs.Prelude.{Some}
 use Rattle.disk_model.specs.Disk.{DiskView}
 use Rattle.device_model.specs.Book.{Setup, Buffer, filling_buffer, fits_in, has_room}
 use Rattle.device_model.specs.Device.{State}

@@ -1,8 +1,8 @@
 -- The buffers in memory: those that aren't flushed, and the flushed ones that are kept.
-use Rattle.std.proofs.Common.{◌≡◌, ◌≢◌, ◌<◌, ⊎_elim, ℕ, Bool, true, false, cond, eqb, List, [], ◌∷◌, ◌++◌, map, Option, Some, None, Bor, refl, sym, ◌∙◌, ap, subst, arith}
+use Rattle.std.proofs.Common.{◌≡◌, ◌≢◌, ◌<◌, ⊎_elim, ℕ, Bool, true, false, cond, eqb, List, [], ◌∷◌, map, Option, Some, None, Bor, refl, sym, ◌∙◌, ap, subst, arith}
 use Rattle.std.specs.Prelude.{Contains, option_map, IfSome}
 use Rattle.std.specs.List.{AllByRecursion}
-use Rattle.std.proofs.lemmas.Bool.{cond-true, cond-false, eqb-true, eqb-false}
+use Rattle.std.proofs.lemmas.Bool.{eqb-true}
 use Rattle.std.proofs.lemmas.List.Elements.{Contains-append_cases, Contains-append_right}
 use Rattle.rec_format.specs.Versions.{block_capacity}
 use Rattle.block_format.specs.declared.geometry.Geometry.{Geometry}
@@ -10,7 +10,7 @@ use Rattle.recovery.proofs.Growing.{all_at, cons_cases}
 use Rattle.recovery.proofs.Members.{first_there, rest_there}
 use Rattle.recovery.proofs.Opening.{all_joined}
 use Rattle.write_buffer.specs.Buffers.{BufferState}
-use Rattle.post_cache.specs.Bodies.{KeptBody, CacheState, IsCache, KeepOwnBlocks, kept_at, body_of}
+use Rattle.post_cache.specs.Bodies.{KeptBody, KeepOwnBlocks, kept_at, body_of}
 use Rattle.post_cache.proofs.Laws.{absent-all}
 use Rattle.block_shelf.specs.View.{ShelfView, IsKeptOf, in_memory}
 use Rattle.block_shelf.proofs.Sealing.{all_before_map}

@@ -172,6 +172,7 @@ module _ {D : Type 0} (view : D → DiskView) (shelf : ShelfView D) (digest : Di
     free = is.free;
     apart = subst (λ (l : List ℕ). AreApart (l ++ shelf.free)) (ap (map (λ c. c.block)) parts ∙ sym (blocks_same b digest v behind front)) is.apart;
     cache = subst (λ (l : List ℕ). IsCacheOf shelf.geometry shelf.limits l shelf.cache) (ap (map (λ c. c.block)) parts ∙ sym (blocks_same b digest v behind front)) is.cache;
+    raid = is.raid;
     gates = is.gates;
     rolls = length-set shelf.rolls b.block _ ∙ is.rolls;
     each = roll_at;

@@ -1,15 +1,15 @@
 -- Where few blocks are free, a buffer that takes records is sealed if it holds a block in which nothing is live.
-use Rattle.std.proofs.Common.{◌≡◌, ◌≢◌, ◌⊎◌, inl, inr, ⊎_elim, ℕ, ◌+◌, ◌<◌, ◌≤◌, Bool, true, false, ◌&&◌, List, [], ◌∷◌, ◌++◌, map, length, sum_by, refl, sym, ◌∙◌, ap, subst, arith}
+use Rattle.std.proofs.Common.{◌≡◌, ◌≢◌, inl, inr, ⊎_elim, ℕ, ◌+◌, ◌<◌, ◌≤◌, Bool, true, false, ◌&&◌, List, [], ◌∷◌, ◌++◌, map, length, sum_by, refl, sym, ◌∙◌, ap, subst, arith}
 use Rattle.std.specs.Prelude.{Option, Some, None, filter, Contains, ◌==◌, nat_le, IsTrue, MatchBool}
 use Rattle.std.specs.List.{AllByRecursion}
-use Rattle.std.proofs.lemmas.Bool.{false≢true, both_ways, eq-eqb, eqb-true, ne_eqb, leb-true, le-leb, and_parts, cases_eq}
+use Rattle.std.proofs.lemmas.Bool.{false≢true, eq-eqb, eqb-true, ne_eqb, leb-true, le-leb, and_parts, cases_eq}
 use Rattle.std.proofs.lemmas.List.Sums.{sum_by-cons}
 use Rattle.disk_model.specs.Disk.{DiskView, IsDisk, IsHonest}
-use Rattle.device_model.specs.Book.{Setup, Book, Buffer, Live, client, defrag, filling_buffer, holds_dead, use_of}
+use Rattle.device_model.specs.Book.{Setup, Buffer, Live, client, defrag, filling_buffer, holds_dead, use_of}
 use Rattle.device_model.specs.Device.{State}
-use Rattle.device_model.specs.Steps.{Step, after_step, after_steps}
+use Rattle.device_model.specs.Steps.{after_step, after_steps}
 use Rattle.device_model.specs.Legal.{seal_if, seal_low}
-use Rattle.recovery.proofs.Growing.{all_from, all_at}
+use Rattle.recovery.proofs.Growing.{all_from}
 use Rattle.recovery.proofs.Members.{filter_there, first_there, rest_there, map_there, map_from}
 use Rattle.kept_trail.proofs.Places.{any_there, some_at}
 use Rattle.write_buffer.specs.declared.stream.Stream.{Stream}
@@ -19,7 +19,7 @@ use Rattle.unit_ledger.specs.declared.roll.LiveCopy.{LiveCopy}
 use Rattle.unit_ledger.specs.Rolls.{copies_in, live_in_block}
 use Rattle.hold_book.specs.Holds.{has_hold}
 use Rattle.block_shelf.specs.View.{ShelfView, IsShelf, StandInOrder, fills, is_stream}
-use Rattle.block_shelf.specs.Standing.{StandsFor, book_buffer, book_stream}
+use Rattle.block_shelf.specs.Standing.{StandsFor, book_stream}
 use Rattle.block_shelf.specs.Calls.{Goes}
 use Rattle.block_shelf.specs.Changes.{sealed_buffer, sealed_in}
 use Rattle.block_shelf.specs.Low.{HoldsDead, FillsOverDead, IsLow, SealsLow, with_sealed}

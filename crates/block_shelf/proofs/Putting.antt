@@ -138,7 +138,7 @@ module _ {D : Type 0} (view : D → DiskView) (setup : Setup) (kind : Class) (s 
   puts each = record {
     live = live_here;
     stands = stand_then (queue_behind prior mid);
-    queued = queue_after view digest v taker.readied t (made.book ∙ book_is digest v taker.readied) shelf mid new is stands setup_is refl (stand_then mid.queue) each prior live refl;
+    queued = queue_after view digest v taker.readied t (made.book ∙ book_is digest v taker.readied) shelf mid new refl made.marks is stands setup_is refl (stand_then mid.queue) each prior live refl;
     placed = placed_after;
     safe = safe_after;
   }

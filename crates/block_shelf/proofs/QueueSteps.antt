@@ -21,9 +21,12 @@ use Rattle.unit_ledger.specs.declared.roll.LiveCopy.{LiveCopy}
 use Rattle.unit_ledger.specs.Rolls.{BlockRoll, HaveOwnUnits, copies_in, copy_at, rolled_use, live_in_block}
 use Rattle.defrag_queue.specs.Queues.{QueueState, is_below_mark, requeued, considered}
 use Rattle.defrag_queue.proofs.Refreshed.{refreshed_one, refreshed_none, refreshed_all, requeued_below}
+use Rattle.raid_book.specs.Books.{BookState}
+use Rattle.raid_book.specs.Raids.{RaidStands, SameButMarks}
+use Rattle.raid_book.proofs.Marks.{marks_aside}
 use Rattle.block_shelf.specs.declared.place.ShelfLimits.{ShelfLimits}
 use Rattle.block_shelf.specs.View.{ShelfView, IsShelf, IsRoll, IsQueueOf, IsSetupOf}
-use Rattle.block_shelf.specs.Standing.{HaveOwnDigests, LivesSame, QueueStands, book_buffer}
+use Rattle.block_shelf.specs.Standing.{HaveOwnDigests, LivesSame, BooksStand, book_buffer}
 use Rattle.block_shelf.specs.Changes.{has_buffer_in}
 use Rattle.block_shelf.proofs.Rolls.{copy_found}
 
@@ -34,13 +37,13 @@ StandOnce [] = Unit {0}
 StandOnce (x ∷ xs) = AllByRecursion (λ y. x ≢ y) xs × StandOnce xs
 
 -- an element stands between others
-record Parted {X : Type 0} (x : X) (xs : List X) : Type 0 where
-  front : List X
-  behind : List X
-  parts : xs ≡ front ++ x ∷ behind
-  others : (y : X) → x ≢ y → Contains xs y → Contains (front ++ behind) y
+pub record Parted {X : Type 0} (x : X) (xs : List X) : Type 0 where
+  pub front : List X
+  pub behind : List X
+  pub parts : xs ≡ front ++ x ∷ behind
+  pub others : (y : X) → x ≢ y → Contains xs y → Contains (front ++ behind) y
 
-parted : {X : Type 0} (x : X) (xs : List X) → Contains xs x → Parted x xs
+pub parted : {X : Type 0} (x : X) (xs : List X) → Contains xs x → Parted x xs
 parted x [] there = absurd (omega (arith, there.1))
 parted {X} x (y ∷ xs) there = by (cons_cases y xs x there) (parted x xs)
   where
@@ -180,16 +183,21 @@ marked_as setup shelf book block used flushed of_shelf is live unbuffered =
 
 -- ---- the queue behind a change
 
-module _ {D : Type 0} (setup : Setup) (old new : ShelfView D) (s t : State) where
+module _ {D : Type 0} (setup : Setup) (old new : ShelfView D) (s t : State) (raid : new.raid ≡ old.raid) (marks : SameButMarks s.raid t.raid) where
+  -- no turn of a raid was taken
+  raid_then : BooksStand setup old s → RaidStands setup new.raid t.raid
+  raid_then was = subst (λ (b : BookState). RaidStands setup b t.raid) (sym raid) (marks_aside setup old.raid s.raid t.raid marks was.raid)
+
   -- neither the queue nor what decides of it changed
-  pub queue_same : new.queue.queue ≡ old.queue.queue → t.book.queue ≡ s.book.queue → places_of t.book ≡ places_of s.book → t.book.live ≡ s.book.live → QueueStands setup old s → QueueStands setup new t
+  pub queue_same : new.queue.queue ≡ old.queue.queue → t.book.queue ≡ s.book.queue → places_of t.book ≡ places_of s.book → t.book.live ≡ s.book.live → BooksStand setup old s → BooksStand setup new t
   queue_same queue booked places live was = record {
     same = booked ∙ was.same ∙ sym queue;
     all = λ b lt. ap (λ (q : List ℕ). is_in q b) booked ∙ was.all b lt ∙ sym (queued_same setup s.book t.book places live b);
+    raid = raid_then was;
   }
 
   -- The book was brought up to date behind a change. `mid` is the book before that.
-  module _ (mid : Book) (is : t.book ≡ refreshed setup mid) (waits : mid.queue ≡ s.book.queue) (below : AllByRecursion (λ b. b < setup.blocks) old.queue.queue) (was : QueueStands setup old s) where
+  module _ (mid : Book) (is : t.book ≡ refreshed setup mid) (waits : mid.queue ≡ s.book.queue) (below : AllByRecursion (λ b. b < setup.blocks) old.queue.queue) (was : BooksStand setup old s) where
     below_booked : AllByRecursion (λ b. b < setup.blocks) s.book.queue
     below_booked = subst (AllByRecursion (λ b. b < setup.blocks)) (sym was.same) below
 
@@ -197,18 +205,20 @@ module _ {D : Type 0} (setup : Setup) (old new : ShelfView D) (s t : State) wher
     all_then b lt = subst (λ (book : Book). is_in book.queue b ≡ may_be_queued setup book b) (sym is) (refreshed_all setup s.book mid waits below_booked b lt)
 
     -- no block came or went
-    pub queue_refreshed : new.queue.queue ≡ old.queue.queue → ((b : ℕ) → b < setup.blocks → may_be_queued setup mid b ≡ may_be_queued setup s.book b) → QueueStands setup new t
+    pub queue_refreshed : new.queue.queue ≡ old.queue.queue → ((b : ℕ) → b < setup.blocks → may_be_queued setup mid b ≡ may_be_queued setup s.book b) → BooksStand setup new t
     queue_refreshed queue still = record {
       same = ap (λ (book : Book). book.queue) is ∙ refreshed_none setup s.book mid waits was.all still below_booked ∙ was.same ∙ sym queue;
       all = all_then;
+      raid = raid_then was;
     }
 
     -- one block was considered
     pub queue_considered : (k : ℕ) → k < setup.blocks → new.queue.queue ≡ requeued (may_be_queued setup mid k) k old.queue.queue
-        → ((b : ℕ) → b < setup.blocks → b ≢ k → may_be_queued setup mid b ≡ may_be_queued setup s.book b) → QueueStands setup new t
+        → ((b : ℕ) → b < setup.blocks → b ≢ k → may_be_queued setup mid b ≡ may_be_queued setup s.book b) → BooksStand setup new t
     queue_considered k lt queue still = record {
       same = ap (λ (book : Book). book.queue) is ∙ refreshed_one setup s.book mid k lt waits was.all still below_booked ∙ ap (requeued (may_be_queued setup mid k) k) was.same ∙ sym queue;
       all = all_then;
+      raid = raid_then was;
     }
 
 -- ---- the queue of a shelf
@@ -245,4 +255,5 @@ queue_shelf view shelf queue is queue_is = record {
   stand = is.stand;
   queue = queue_is;
   cache = is.cache;
+  raid = is.raid;
 }

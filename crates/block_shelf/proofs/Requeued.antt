@@ -20,9 +20,10 @@ use Rattle.defrag_queue.specs.Queues.{QueueState, considered, is_below_mark, req
 use Rattle.kept_trail.specs.Trail.{places_of, IsBooked}
 use Rattle.kept_trail.proofs.Books.{HasNothing, live_there, free_has_nothing}
 use Rattle.kept_trail.proofs.Places.{any_there, some_at, none_from, buffer_place}
+use Rattle.raid_book.specs.Raids.{SameButMarks}
 use Rattle.block_shelf.specs.declared.place.Place.{Place}
 use Rattle.block_shelf.specs.View.{ShelfView, IsShelf, IsRoll, IsSetupOf}
-use Rattle.block_shelf.specs.Standing.{IsListed, StandsFor, QueueStands}
+use Rattle.block_shelf.specs.Standing.{IsListed, StandsFor, BooksStand}
 use Rattle.block_shelf.specs.Calls.{copy_live, prior_live}
 use Rattle.block_shelf.specs.Changes.{has_buffer_in}
 use Rattle.block_shelf.specs.Appends.{with_prior_requeued}
@@ -141,19 +142,19 @@ prior_block digest p o l prior found = let same : l ≡ copy_live digest p = cc 
 
 module _ {D : Type 0} (view : D → DiskView) {setup : Setup} {s : State} {stream : Stream} {ready : Book} {free : List ℕ} {next_number : ℕ} {front : List BufferState} {b : BufferState} {behind : List BufferState} (digest : Digest) (v : Version)
     (readied : IsReadied setup s stream (version_units v) ready free next_number front b behind) (t : State) (booked : t.book ≡ refreshed setup (filled digest v readied))
-    (old mid new : ShelfView D) (is : IsShelf view old) (stands : StandsFor setup old s) (setup_is : IsSetupOf setup old) (same : mid.queue ≡ old.queue) (then : StandsFor setup mid t) (each : (k : ℕ) → IsRoll (copies_in k mid.rolls)) where
-  pub queue_after : (prior : Option Place) → live_of digest s.book.live ≡ prior_live digest prior → new.queue ≡ queue_behind prior mid → QueueStands setup old s → QueueStands setup new t
+    (old mid new : ShelfView D) (raid : new.raid ≡ old.raid) (marks : SameButMarks s.raid t.raid) (is : IsShelf view old) (stands : StandsFor setup old s) (setup_is : IsSetupOf setup old) (same : mid.queue ≡ old.queue) (then : StandsFor setup mid t) (each : (k : ℕ) → IsRoll (copies_in k mid.rolls)) where
+  pub queue_after : (prior : Option Place) → live_of digest s.book.live ≡ prior_live digest prior → new.queue ≡ queue_behind prior mid → BooksStand setup old s → BooksStand setup new t
   queue_after prior live queue was = by prior live queue
     where
       below : AllByRecursion (λ k. k < setup.blocks) old.queue.queue
       below = subst (λ (n : ℕ). AllByRecursion (λ k. k < n) old.queue.queue) (sym setup_is.shape.blocks) is.queue.below
 
-      by : (prior : Option Place) → live_of digest s.book.live ≡ prior_live digest prior → new.queue ≡ queue_behind prior mid → QueueStands setup new t
+      by : (prior : Option Place) → live_of digest s.book.live ≡ prior_live digest prior → new.queue ≡ queue_behind prior mid → BooksStand setup new t
       by None live queue =
-          queue_refreshed setup old new s t (filled digest v readied) booked readied.was_queued below was (ap (λ (q : QueueState). q.queue) (queue ∙ same))
+          queue_refreshed setup old new s t raid marks (filled digest v readied) booked readied.was_queued below was (ap (λ (q : QueueState). q.queue) (queue ∙ same))
           (λ k lt. still_queued digest v readied stands.order.booked stands.listed k (λ l found at. none_is (live_of digest s.book.live) l live found))
       by (Some p) live queue =
-          queue_considered setup old new s t (filled digest v readied) booked readied.was_queued below was p.block
+          queue_considered setup old new s t raid marks (filled digest v readied) booked readied.was_queued below was p.block
           (all_at (λ l. l.block < setup.blocks) s.book.live (copy_live digest p) stands.order.within.live (live_there digest s.book.live (copy_live digest p) live))
           (ap (λ (q : QueueState). q.queue) queue ∙ ap (λ (q : QueueState). requeued (is_below_mark q.capacity q.lwm (rolled_use p.block mid.rolls) (not (has_buffer_in mid.buffers p.block))) p.block q.queue) same
           ∙ ap (λ (x : Bool). requeued x p.block old.queue.queue)

@@ -12,7 +12,7 @@ use Rattle.hold_book.specs.Holds.{Holds, has_hold}
 use Rattle.kept_images.proofs.Held.{held_survives}
 use Rattle.block_shelf.specs.declared.place.Place.{Place}
 use Rattle.block_shelf.specs.View.{ShelfView, IsShelf, gate_at, records_of}
-use Rattle.block_shelf.specs.Standing.{StandsFor, QueueStands, IsPlaced, ImagesHold}
+use Rattle.block_shelf.specs.Standing.{StandsFor, BooksStand, IsPlaced, ImagesHold}
 use Rattle.block_shelf.specs.Calls.{Goes, IsPriorIn}
 use Rattle.block_shelf.specs.Changes.{SameButRoom}
 use Rattle.block_shelf.proofs.Rooms.{roomed_shelf}
@@ -43,8 +43,8 @@ module _ {D : Type 0} (old new : ShelfView D) (same : SameButRoom old new) where
   pub room_placed : (view : D → DiskView) (s : State) → IsPlaced view old s → IsPlaced view new s
   room_placed view s placed = subst (λ (x : ShelfView D). IsPlaced view x s) (sym same.rest) (record { buffered = placed.buffered; there = placed.there; kept = placed.kept })
 
-  pub room_queued : (setup : Setup) (s : State) → QueueStands setup old s → QueueStands setup new s
-  room_queued setup s queued = subst (λ (x : ShelfView D). QueueStands setup x s) (sym same.rest) (record { same = queued.same; all = queued.all })
+  pub room_queued : (setup : Setup) (s : State) → BooksStand setup old s → BooksStand setup new s
+  room_queued setup s queued = subst (λ (x : ShelfView D). BooksStand setup x s) (sym same.rest) (record { same = queued.same; all = queued.all; raid = queued.raid })
 
   pub room_safe : (setup : Setup) (view : D → DiskView) (s : State) → ImagesHold setup view old s → ImagesHold setup view new s
   room_safe setup view s safe = subst (λ (x : ShelfView D). ImagesHold setup view x s) (sym same.rest) safe

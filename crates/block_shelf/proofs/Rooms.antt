@@ -47,4 +47,5 @@ roomed_shelf view shelf rolls holds is same held = record {
   stand = is.stand;
   queue = is.queue;
   cache = is.cache;
+  raid = is.raid;
 }

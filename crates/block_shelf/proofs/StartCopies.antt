@@ -5,12 +5,12 @@ use Rattle.std.specs.List.{AllByRecursion, range_with_len}
 use Rattle.disk_model.specs.Disk.{Images, DiskView, IsOnly}
 use Rattle.rec_format.specs.declared.version.Digest.{Digest}
 use Rattle.rec_format.specs.declared.version.Version.{Version}
-use Rattle.rec_format.specs.Places.{same_digest}
+use Rattle.rec_format.specs.Places.{same_digest, part_count}
 use Rattle.rec_format.specs.Versions.{version_units}
 use Rattle.rec_format.proofs.Laws.{same_digest_is, same_digest_refl}
 use Rattle.device_model.specs.Histories.{write, top_of}
 use Rattle.device_model.specs.Book.{Setup, Live, live_of, cold_book, refreshed}
-use Rattle.device_model.specs.Device.{State, Log, entry, history_of}
+use Rattle.device_model.specs.Device.{State, Log, entry, history_of, no_raid}
 use Rattle.block_format.specs.declared.geometry.Geometry.{Geometry}
 use Rattle.block_format.specs.declared.geometry.Gate.{Gate}
 use Rattle.block_format.specs.declared.geometry.Gate.TheVariants.{Shut, Set, Unsure}
@@ -32,10 +32,13 @@ use Rattle.kept_images.proofs.Knowing.{IsSeen}
 use Rattle.kept_images.proofs.Starting.{start_in_order, entries_in_order}
 use Rattle.kept_images.proofs.Holding.{start_holds}
 use Rattle.kept_images.proofs.Stepping.{book_in_order}
+use Rattle.raid_book.specs.Books.{BookState}
+use Rattle.raid_book.specs.Raids.{RaidStands}
+use Rattle.device_model.specs.Steps.{part_total}
 use Rattle.block_shelf.specs.declared.place.Place.{Place}
 use Rattle.block_shelf.specs.declared.place.ShelfLimits.{ShelfLimits}
 use Rattle.block_shelf.specs.View.{ShelfView, IsSetupOf, GatesStand, gate_at}
-use Rattle.block_shelf.specs.Standing.{StandsFor, QueueStands, IsPlaced, ImagesHold, StandsBehind}
+use Rattle.block_shelf.specs.Standing.{StandsFor, BooksStand, IsPlaced, ImagesHold, StandsBehind}
 use Rattle.block_shelf.specs.Starting.{LiesIn, CanBeLive, StartsWith, AreLive, AllHave, place_of_copy}
 use Rattle.block_shelf.proofs.StartStates.{from_found, own_found, begun_one, queued_with, stands_with}
 
@@ -118,6 +121,10 @@ found_top d (c ∷ found) = by (same_digest d c.digest) (found_top d found)
     by false rest = rest
 
 module _ (setup : Setup) (found : List Copy) (next_number : ℕ) where
+  entries_raid : (entries_state setup found next_number).raid ≡ no_raid
+  unfolding entries_state
+  entries_raid = refl
+
   entries_show : ShowsCopies found (find_copy found) (entries_state setup found next_number)
   unfolding entries_state
   entries_show = record {
@@ -147,6 +154,10 @@ cold_there d copies = by (cold_copy d copies) (latest_is (copies_named d copies)
     by (Some c) is = filter_from (λ (x : Copy). same_digest d x.digest) copies c is.there
 
 module _ (setup : Setup) (image : List ℕ) (bodies : List Body) (sound : IsSound setup image bodies) where
+  start_raid : (start_state setup bodies).raid ≡ no_raid
+  unfolding start_state
+  start_raid = refl
+
   abbrev copies : List Copy
   copies = copies_of bodies
 
@@ -192,6 +203,17 @@ module _ {D : Type 0} (view : D → DiskView) (disk : D) (g : Geometry) (limits 
   mark : setup.lwm ≡ limits.lwm
   mark = is.lwm ∙ ap (λ (v : ShelfView D). v.limits.lwm) starts.parts
 
+  -- no raid runs
+  raid_stands : RaidStands setup shelf.raid no_raid
+  raid_stands = subst (λ (b : BookState). RaidStands setup b no_raid) (sym (ap (λ (v : ShelfView D). v.raid) starts.parts))
+      (record {
+        turns = record { number = refl; next = refl; scanned = refl; parts = parts_are; blocks = sym shape.blocks };
+        copies = λ part. refl;
+      })
+    where
+      parts_are : part_count g.device g.devices limits.sprigs ≡ part_total setup
+      parts_are = λ i. part_count (sym shape.device i) (sym shape.devices i) (sym (is.sprigs ∙ ap (λ (v : ShelfView D). v.limits.sprigs) starts.parts) i)
+
   module _ (found : List Copy) (are : AreLive live found) where
     pub entries_stand : StandsFor setup shelf (entries_state setup found next_number)
     entries_stand =
@@ -206,10 +228,10 @@ module _ {D : Type 0} (view : D → DiskView) (disk : D) (g : Geometry) (limits 
         (λ x y in_x in_y. begun_one setup g live can (map live_copy found) same own next_number shape.blocks x y (subst (λ (ls : List Live). Contains ls x) lives in_x) (subst (λ (ls : List Live). Contains ls y) lives in_y))
         l (subst (λ (ls : List Live). Contains ls l) (sym lives) there))
 
-    pub entries_queued : QueueStands setup shelf (entries_state setup found next_number)
+    pub entries_queued : BooksStand setup shelf (entries_state setup found next_number)
     entries_queued =
         queued_with setup g live can (map live_copy found) (from_found live found are) (own_found found are.once) next_number shape.blocks disk limits gates shelf starts (entries_state setup found next_number)
-        (entries_book setup found next_number) shape.capacity mark
+        (entries_book setup found next_number) shape.capacity mark (subst (RaidStands setup shelf.raid) (sym (entries_raid setup found next_number)) raid_stands)
 
   module _ (image : List ℕ) (bodies : List Body) (sound : IsSound setup image bodies) where
     abbrev cold : List Copy
@@ -231,9 +253,9 @@ module _ {D : Type 0} (view : D → DiskView) (disk : D) (g : Geometry) (limits 
           (λ x y in_x in_y. begun_one setup g live can (map live_copy cold) same own next_number shape.blocks x y (subst (λ (ls : List Live). Contains ls x) lives in_x) (subst (λ (ls : List Live). Contains ls y) lives in_y))
           l (subst (λ (ls : List Live). Contains ls l) (sym lives) there))
 
-      pub start_queued : QueueStands setup shelf (start_state setup bodies)
+      pub start_queued : BooksStand setup shelf (start_state setup bodies)
       start_queued =
-          queued_with setup g live can (map live_copy cold) (from_found live cold are) (own_found cold are.once) next_number shape.blocks disk limits gates shelf starts (start_state setup bodies) start_is shape.capacity mark
+          queued_with setup g live can (map live_copy cold) (from_found live cold are) (own_found cold are.once) next_number shape.blocks disk limits gates shelf starts (start_state setup bodies) start_is shape.capacity mark (subst (RaidStands setup shelf.raid) (sym (start_raid setup image bodies sound)) raid_stands)
 
     module _ (only : IsOnly image (view disk).may_leave) where
       pub start_placed : IsPlaced view shelf (start_state setup bodies)

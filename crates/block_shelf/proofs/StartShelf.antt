@@ -25,9 +25,11 @@ use Rattle.post_cache.specs.Bodies.{CacheState}
 use Rattle.post_cache.proofs.Laws.{IsCache-empty}
 use Rattle.hold_book.specs.Holds.{HoldState, HoldsBelow, Holds, IsHeld, has_hold}
 use Rattle.hold_book.proofs.Laws.{HoldsBelow-empty}
+use Rattle.raid_book.specs.Books.{BookState, empty_book}
+use Rattle.rec_format.specs.Places.{part_count}
 use Rattle.block_shelf.specs.declared.place.Place.{Place}
 use Rattle.block_shelf.specs.declared.place.ShelfLimits.{ShelfLimits}
-use Rattle.block_shelf.specs.View.{ShelfView, IsShelf, IsQueueOf, IsCacheOf, IsRoll, AreLimits, AreApart, GatesStand}
+use Rattle.block_shelf.specs.View.{ShelfView, IsShelf, IsQueueOf, IsCacheOf, IsRoll, AreLimits, AreApart, GatesStand, IsRaidOf}
 use Rattle.block_shelf.specs.Starting.{LiesIn, CanBeLive, copy_of_place, copies_at, blocks_below, blocks_without}
 use Rattle.block_shelf.proofs.StartRolls.{AreAllApart, each_at, apart_at}
 
@@ -125,14 +127,14 @@ roll_at g live can b = record {
 
 -- ---- the shelf
 
-module _ {D : Type 0} (view : D → DiskView) (disk : D) (g : Geometry) (limits : ShelfLimits) (gates : List Gate) (live : List (Digest × Place)) (next_number : ℕ) (rolls : List BlockRoll) (holds : HoldState) (queue : QueueState) (cache : CacheState BufferState) where
+module _ {D : Type 0} (view : D → DiskView) (disk : D) (g : Geometry) (limits : ShelfLimits) (gates : List Gate) (live : List (Digest × Place)) (next_number : ℕ) (rolls : List BlockRoll) (holds : HoldState) (queue : QueueState) (cache : CacheState BufferState) (raid : BookState) where
   abbrev pub begun_with : List ℕ → ShelfView D
-  begun_with free = record { disk = disk; geometry = g; limits = limits; buffers = []; gates = gates; rolls = rolls; holds = holds; free = free; queue = queue; cache = cache; next_number = next_number }
+  begun_with free = record { disk = disk; geometry = g; limits = limits; buffers = []; gates = gates; rolls = rolls; holds = holds; free = free; queue = queue; cache = cache; raid = raid; next_number = next_number }
 
   pub start_shelf : IsGeometry g → device_end g ≤ (view disk).extent → AreLimits limits → (1 ≤ next_number) × (next_number ≤ top_number + 1) → length gates ≡ g.blocks
       → (IsHonest (view disk) → GatesStand g (view disk).may_leave gates) → CanBeLive g live → length rolls ≡ g.blocks → ((block : ℕ) → copies_in block rolls ≡ copies_at block live) → holds.holds ≡ set.empty → IsQueueOf g limits queue → cache ≡ record { kept = []; limit = limits.cache }
-      → IsShelf view (begun_with (blocks_without live g.blocks))
-  start_shelf geometry room are number count stand can size copies none queued nothing = record {
+      → raid ≡ empty_book (part_count g.device g.devices limits.sprigs) g.blocks → IsShelf view (begun_with (blocks_without live g.blocks))
+  start_shelf geometry room are number count stand can size copies none queued nothing no_raid = record {
     geometry = geometry;
     limits = are;
     room = room;
@@ -155,6 +157,7 @@ module _ {D : Type 0} (view : D → DiskView) (disk : D) (g : Geometry) (limits 
     stand = stand;
     queue = queued;
     cache = subst (IsCacheOf g limits []) (sym nothing) (record { list = IsCache-empty BufferState limits.cache; limit = refl; each = tt; apart = tt });
+    raid = subst (IsRaidOf g limits) (sym no_raid) (record { parts = refl; blocks = refl });
   }
     where
       is_free : ℕ → Bool

@@ -25,10 +25,11 @@ use Rattle.defrag_queue.specs.Queues.{is_below_mark}
 use Rattle.defrag_queue.proofs.Refreshed as queue
 use Rattle.hold_book.specs.Holds.{Holds, has_hold}
 use Rattle.hold_book.proofs.Laws.{has_hold-empty}
+use Rattle.raid_book.specs.Raids.{RaidStands}
 use Rattle.block_shelf.specs.declared.place.Place.{Place}
 use Rattle.block_shelf.specs.declared.place.ShelfLimits.{ShelfLimits}
 use Rattle.block_shelf.specs.View.{ShelfView, IsRoll}
-use Rattle.block_shelf.specs.Standing.{StandsFor, QueueStands, IsOfEntry, HaveOwnDigests, IsListed, HoldsSame, LivesSame}
+use Rattle.block_shelf.specs.Standing.{StandsFor, BooksStand, IsOfEntry, HaveOwnDigests, IsListed, HoldsSame, LivesSame}
 use Rattle.block_shelf.specs.Calls.{copy_live}
 use Rattle.block_shelf.specs.Starting.{LiesIn, AreTwo, AreEachTwo, CanBeLive, StartsWith, AreLive, copy_of_place, copies_at, blocks_without, place_of_copy}
 use Rattle.block_shelf.proofs.Frees.{vacant_is, vacant_from, refreshed_free, refreshed_all}
@@ -187,7 +188,7 @@ module _ (setup : Setup) (g : Geometry) (live : List (Digest × Place)) (can : C
 
   module _ {D : Type 0} (disk : D) (limits : ShelfLimits) (gates : List Gate) (shelf : ShelfView D) (starts : StartsWith disk g limits gates live next_number shelf) (s : State) (is_book : s.book ≡ begun) where
     abbrev alike : ShelfView D
-    alike = record { disk = disk; geometry = g; limits = limits; buffers = []; gates = gates; rolls = shelf.rolls; holds = shelf.holds; free = blocks_without live g.blocks; queue = shelf.queue; cache = shelf.cache; next_number = next_number }
+    alike = record { disk = disk; geometry = g; limits = limits; buffers = []; gates = gates; rolls = shelf.rolls; holds = shelf.holds; free = blocks_without live g.blocks; queue = shelf.queue; cache = shelf.cache; raid = shelf.raid; next_number = next_number }
 
     holds_same : HoldsSame shelf.holds.holds begun
     holds_same = record {
@@ -252,12 +253,13 @@ module _ (setup : Setup) (g : Geometry) (live : List (Digest × Place)) (can : C
         ∙ ap (sum_by (λ (c : LiveCopy). c.units)) (starts.copies b)
 
     -- Those of little use are queued, the lowest first.
-    pub queued_with : setup.capacity ≡ block_capacity g.block_size → setup.lwm ≡ limits.lwm → QueueStands setup shelf s
-    queued_with capacity lwm = record {
+    pub queued_with : setup.capacity ≡ block_capacity g.block_size → setup.lwm ≡ limits.lwm → RaidStands setup shelf.raid s.raid → BooksStand setup shelf s
+    queued_with capacity lwm raid = record {
       same = ap (λ (b : Book). b.queue) (is_book ∙ cold_queued setup lives next_number) ∙ refreshed_queue setup before
           ∙ filter_alike (λ b. may_be_queued setup before b && true) (λ b. is_below_mark (block_capacity g.block_size) limits.lwm (sum_by (λ (c : LiveCopy). c.units) (copies_at b live)) true)
           (λ b. and_true (may_be_queued setup before b) ∙ (λ i. is_below_mark (capacity i) (lwm i) (use_is b i) true)) (all_blocks setup)
           ∙ ap (λ (n : ℕ). filter (λ b. is_below_mark (block_capacity g.block_size) limits.lwm (sum_by (λ (c : LiveCopy). c.units) (copies_at b live)) true) (range_with_len 0 n)) blocks
           ∙ sym starts.queued;
       all = λ b lt. subst (λ (book : Book). is_in book.queue b ≡ may_be_queued setup book b) (sym (is_book ∙ cold_queued setup lives next_number)) (queue.refreshed_all setup before before refl tt b lt);
+      raid = raid;
     }

@@ -24,7 +24,7 @@ use Rattle.block_shelf.specs.declared.place.Class.TheVariants as class
 use Rattle.block_shelf.specs.declared.refusals.PutRefusal.{PutRefusal}
 use Rattle.block_shelf.specs.declared.refusals.PutRefusal.TheVariants as put
 use Rattle.block_shelf.specs.View.{ShelfView, gate_at}
-use Rattle.block_shelf.specs.Standing.{StandsFor, QueueStands, ImagesHold, IsPlaced, book_stream}
+use Rattle.block_shelf.specs.Standing.{StandsFor, BooksStand, ImagesHold, IsPlaced, book_stream}
 use Rattle.block_shelf.specs.Calls.{copy_live}
 use Rattle.block_shelf.specs.Changes.{HasRoom, SameButRoom, without_copy, without_kept, with_written, with_requeued, with_gate_known}
 
@@ -159,7 +159,7 @@ pub record PutsCopy {D : Type 0} (digest : Digest) (v : Version) (prior : Option
 pub record Puts {D : Type 0} (view : D → DiskView) (setup : Setup) (kind : Class) (digest : Digest) (v : Version) (old : ShelfView D) (s : State) (new : ShelfView D) (place : Place) : Type 0 where
   pub live : live_of digest (after_step setup (copy_step kind digest v) s).book.live ≡ Some (copy_live digest place)
   pub stands : StandsFor setup new (after_step setup (copy_step kind digest v) s)
-  pub queued : QueueStands setup old s → QueueStands setup new (after_step setup (copy_step kind digest v) s)
+  pub queued : BooksStand setup old s → BooksStand setup new (after_step setup (copy_step kind digest v) s)
   pub placed : IsExact kind s digest v → IsPlaced view old s → IsPlaced view new (after_step setup (copy_step kind digest v) s)
   pub safe : MayBeCopied setup kind s digest v → ImagesHold setup view old s → ImagesHold setup view new (after_step setup (copy_step kind digest v) s)
 
@@ -169,7 +169,7 @@ pub record Puts {D : Type 0} (view : D → DiskView) (setup : Setup) (kind : Cla
 pub record TakesIn {D : Type 0} (view : D → DiskView) (setup : Setup) (kind : Class) (digest : Digest) (v : Version) (old : ShelfView D) (s : State) (new : ShelfView D) (place : Place) : Type 0 where
   pub live : live_of digest (after_step setup (copy_step kind digest v) s).book.live ≡ Some (copy_live digest place)
   pub stands : StandsFor setup new (after_step setup (copy_step kind digest v) s)
-  pub queued : QueueStands setup old s → QueueStands setup new (after_step setup (copy_step kind digest v) s)
+  pub queued : BooksStand setup old s → BooksStand setup new (after_step setup (copy_step kind digest v) s)
   pub placed : IsHonest (view old.disk) → IsExact kind s digest v → IsPlaced view old s → IsPlaced view new (after_step setup (copy_step kind digest v) s)
   pub safe : IsHonest (view old.disk) → MayBeCopied setup kind s digest v → ImagesHold setup view old s → ImagesHold setup view new (after_step setup (copy_step kind digest v) s)
   pub leaves : IsHonest (view old.disk) → ImagesHold setup view old s → Leaves (OneOf (Survives setup) (states_through setup (copy_step kind digest v ∷ []) s)) (view old.disk) (view new.disk)

@@ -3,7 +3,7 @@ use Rattle.std.specs.Prelude.{ℕ, ◌+◌, ◌*◌, ◌<◌, ◌≤◌, ◌≡�
 use Rattle.std.specs.List.{AllByRecursion, IsDistinct, list_any, range_with_len}
 use Rattle.std.specs.FinSet as set
 use Rattle.rec_format.specs.declared.version.Digest.{Digest}
-use Rattle.rec_format.specs.Places.{same_digest}
+use Rattle.rec_format.specs.Places.{same_digest, part_count}
 use Rattle.rec_format.specs.Versions.{block_capacity, version_units}
 use Rattle.disk_model.specs.Bytes.{Apart}
 use Rattle.disk_model.specs.Disk.{Images}
@@ -14,6 +14,7 @@ use Rattle.block_format.specs.Copies.{Copy}
 use Rattle.unit_ledger.specs.declared.roll.LiveCopy.{LiveCopy}
 use Rattle.unit_ledger.specs.Rolls.{copies_in}
 use Rattle.defrag_queue.specs.Queues.{is_below_mark}
+use Rattle.raid_book.specs.Books.{empty_book}
 use Rattle.block_shelf.specs.declared.place.Place.{Place}
 use Rattle.block_shelf.specs.declared.place.ShelfLimits.{ShelfLimits}
 use Rattle.block_shelf.specs.View.{ShelfView, IsQueueOf}
@@ -58,7 +59,7 @@ blocks_without live blocks = filter (λ b. not (list_any (λ x. x.1.block == b) 
 abbrev pub blocks_below : List (Digest × Place) → Geometry → (lwm : ℕ) → List ℕ
 blocks_below live g lwm = filter (λ b. is_below_mark (block_capacity g.block_size) lwm (sum_by (λ c. c.units) (copies_at b live)) true) (range_with_len 0 g.blocks)
 
--- No buffer, no hold, nothing is kept of flushed buffers, and these copies are live; the blocks in which none lies are free, and those of
+-- No buffer, no hold, no raid, nothing is kept of flushed buffers, and these copies are live; the blocks in which none lies are free, and those of
 -- little use are queued.
 pub record StartsWith {D : Type 0} (disk : D) (g : Geometry) (limits : ShelfLimits) (gates : List Gate) (live : List (Digest × Place)) (next_number : ℕ) (shelf : ShelfView D) : Type 0 where
   pub parts : shelf ≡ record {
@@ -72,6 +73,7 @@ pub record StartsWith {D : Type 0} (disk : D) (g : Geometry) (limits : ShelfLimi
     free = blocks_without live g.blocks;
     queue = shelf.queue;
     cache = record { kept = []; limit = limits.cache };
+    raid = empty_book (part_count g.device g.devices limits.sprigs) g.blocks;
     next_number = next_number;
   }
   pub copies : (block : ℕ) → copies_in block shelf.rolls ≡ copies_at block live

@@ -3,6 +3,7 @@ ghost use Rattle.std.specs.Prelude.{◌≡◌, ◌+◌, ◌≤◌, ◌==◌, ℕ
 ghost use Rattle.std.specs.List.{range_with_len};
 ghost use Rattle.std.specs.VecDeque.{deque_capacity};
 ghost use Rattle.disk_model.specs.Disk.{IsHonest, IsOnly};
+ghost use Rattle.rec_format.specs.Places.{part_count};
 ghost use Rattle.rec_format.specs.Versions.{block_capacity, top_number};
 ghost use Rattle.device_model.specs.Book.{Setup};
 ghost use Rattle.block_format.specs.Layout.{IsGeometry, device_end, Body};
@@ -12,8 +13,9 @@ ghost use Rattle.recovery.specs.Start.{cold_copies, greatest_number, start_state
 ghost use Rattle.kept_images.specs.Held.{AreSure};
 ghost use Rattle.unit_ledger.specs.Rolls.{copies_in, rolled_use};
 ghost use Rattle.defrag_queue.specs.Queues.{is_below_mark};
+ghost use Rattle.raid_book.specs.Books.{empty_book};
 ghost use Rattle.block_shelf.specs.View.{AreLimits, GatesStand, IsSetupOf, gate_at};
-ghost use Rattle.block_shelf.specs.Standing.{StandsFor, QueueStands, IsPlaced, ImagesHold};
+ghost use Rattle.block_shelf.specs.Standing.{StandsFor, BooksStand, IsPlaced, ImagesHold};
 ghost use Rattle.block_shelf.specs.Starting.{CanBeLive, StartsWith, AreLive, AllHave, copies_at, blocks_without};
 
 use crate::{NoMemory, Place, Shelf, ShelfLimits};
@@ -21,7 +23,9 @@ use block_format::{Gate, Geometry, capacity};
 use defrag_queue::Queue;
 use disk_model::Disk;
 use hold_book::HoldBook;
+use partition_map::parts_of;
 use post_cache::Cache;
+use raid_book::RaidBook;
 use rec_format::Digest;
 use std::alloc::Global;
 use std::collections::VecDeque;
@@ -88,6 +92,7 @@ struct Kept {
     free: VecDeque<u32>,
     queue: Queue,
     cache: Cache<Buffer>,
+    raid: RaidBook,
 }
 
 fn kept_of(
@@ -98,6 +103,7 @@ fn kept_of(
 ) -> Result<Kept, NoMemory>
     requires geometry { IsGeometry geometry.now }
     requires live { CanBeLive geometry.now live.now }
+    requires limits { AreLimits limits.now }
     ensures size { IfOk result (λ kept. length kept.ledger ≡ geometry.now.blocks) }
     ensures copies { IfOk result (λ kept. (block : ℕ) → copies_in block kept.ledger ≡ copies_at block live.now) }
     ensures free { IfOk result (λ kept. kept.free.items ≡ blocks_without live.now geometry.now.blocks) }
@@ -105,22 +111,26 @@ fn kept_of(
     ensures shape { IfOk result (λ kept. (kept.queue.blocks ≡ geometry.now.blocks) × (kept.queue.capacity ≡ block_capacity geometry.now.block_size) × (kept.queue.lwm ≡ limits.now.lwm)) }
     ensures queue { IfOk result (λ kept. kept.queue.queue ≡ filter (λ b. is_below_mark (block_capacity geometry.now.block_size) limits.now.lwm (rolled_use b kept.ledger) true) (range_with_len 0 geometry.now.blocks)) }
     ensures cache { IfOk result (λ kept. kept.cache ≡ record { kept = []; limit = limits.now.cache }) }
+    ensures raid { IfOk result (λ kept. kept.raid ≡ empty_book (part_count geometry.now.device geometry.now.devices limits.now.sprigs) geometry.now.blocks) }
 {
     let ledger = ledger_of(alloc, geometry, live)?;
     let free = unused_blocks(alloc, geometry.blocks, &ledger)?;
     let queue = queue_of(alloc, geometry, limits.lwm, &ledger)?;
     let cache = Cache::new(alloc, limits.cache)?;
+    let parts = parts_of(geometry.device, geometry.devices, limits.sprigs);
+    let raid = RaidBook::new(alloc, parts, geometry.blocks)?;
     Ok(Kept {
         ledger,
         free,
         queue,
         cache,
+        raid,
     })
 }
 
 impl<D: Disk> Shelf<D> {
-    /// The shelf of a device behind a start: these copies are live, no block has a buffer and none is held, no flushed buffer is kept, and
-    /// the blocks without a live copy are free, the lowest first; those of little use wait to be vacated, the lowest first. There is one gate for each block.
+    /// The shelf of a device behind a start: these copies are live, no block has a buffer and none is held, no flushed buffer is kept, no
+    /// raid runs, and the blocks without a live copy are free, the lowest first; those of little use wait to be vacated, the lowest first. There is one gate for each block.
     /// All memory is taken that a later call may not ask for. No call of the disk is made, and for want of memory it comes back as it was.
     pub fn new(
         alloc: Global,
@@ -142,9 +152,9 @@ impl<D: Disk> Shelf<D> {
 
         // Over any disk: from these entries, and from a sound image.
         ensures entries { IfOk result (λ shelf. (setup : Setup) (found : List Copy) → IsSetupOf setup shelf → AreLive live.now found
-            → StandsFor setup shelf (entries_state setup found next_number) × QueueStands setup shelf (entries_state setup found next_number)) }
+            → StandsFor setup shelf (entries_state setup found next_number) × BooksStand setup shelf (entries_state setup found next_number)) }
         ensures image { IfOk result (λ shelf. (setup : Setup) (image : List ℕ) (bodies : List Body) → IsSetupOf setup shelf → IsSound setup image bodies
-            → AreLive live.now (cold_copies (copies_of bodies)) → next_number ≡ greatest_number bodies + 1 → StandsFor setup shelf (start_state setup bodies) × QueueStands setup shelf (start_state setup bodies)) }
+            → AreLive live.now (cold_copies (copies_of bodies)) → next_number ≡ greatest_number bodies + 1 → StandsFor setup shelf (start_state setup bodies) × BooksStand setup shelf (start_state setup bodies)) }
 
         // Where each image has the copies, they lie where the entries say.
         ensures placed { IfOk result (λ shelf. (setup : Setup) (found : List Copy) → AllHave geometry (D.view disk).may_leave found
@@ -163,6 +173,7 @@ impl<D: Disk> Shelf<D> {
             free,
             queue,
             cache,
+            raid,
         } = kept;
         Ok(Shelf {
             disk,
@@ -175,6 +186,7 @@ impl<D: Disk> Shelf<D> {
             free,
             queue,
             cache,
+            raid,
             next_number,
         })
     }

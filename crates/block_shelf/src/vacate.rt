@@ -3,7 +3,7 @@ ghost use Rattle.std.specs.Prelude.{◌≡◌, ◌<◌, None, IsOk, IfOk, IfErr,
 ghost use Rattle.device_model.specs.Book.{Setup};
 ghost use Rattle.device_model.specs.Device.{State};
 ghost use Rattle.device_model.specs.Legal.{queue_front};
-ghost use Rattle.block_shelf.specs.Standing.{StandsFor, QueueStands};
+ghost use Rattle.block_shelf.specs.Standing.{StandsFor, BooksStand};
 ghost use Rattle.block_shelf.specs.Vacating.{IsNextOf, VacatesFrom};
 
 use crate::{Shelf, VacateRefusal};
@@ -22,7 +22,7 @@ impl<D: Disk> Shelf<D> {
     /// The block that has waited longest to be vacated, and what is live in it; none where none waits. It waits on, at the front, until
     /// nothing is live in it. Nothing is read, and only memory can be wanting.
     pub fn vacate_next(&mut self, alloc: Global) -> Result<Option<Vacancy>, VacateRefusal>
-        ensures chosen { (setup : Setup) (s : State) → QueueStands setup self.old s → StandsFor setup self.old s → IfOk result (VacatesFrom s.book) }
+        ensures chosen { (setup : Setup) (s : State) → BooksStand setup self.old s → StandsFor setup self.old s → IfOk result (VacatesFrom s.book) }
         ensures refused { IfErr result (λ refusal. refusal ≡ VacateRefusal.Memory) }
 
         // Over every shelf, whatever it stands for.

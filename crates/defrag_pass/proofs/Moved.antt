@@ -41,7 +41,8 @@ use Rattle.shard_steps.specs.Standing.{SprigStands, StandTogether}
 use Rattle.shard_steps.specs.Events.{StepMakes}
 use Rattle.shard_steps.proofs.Found.{entry_named, lies_found, live_found}
 use Rattle.shard_steps.proofs.Making.{IsFlushing, makes_by, together_on}
-use Rattle.shard_steps.proofs.Reading.{both_named, goes_read}
+use Rattle.block_shelf.proofs.Looking.{goes_read}
+use Rattle.shard_steps.proofs.Reading.{both_named}
 use Rattle.defrag_pass.proofs.Asking.{move_refusal}
 use Rattle.defrag_pass.specs.declared.refusal.MoveRefusal.{MoveRefusal}
 use Rattle.defrag_pass.specs.declared.refusal.MoveRefusal.TheVariants as why
@@ -69,7 +70,7 @@ read_then_later a b c first then = record {
 
 -- and its shelf has the same shape
 pub setup_read : {D : Type 0} (setup : Setup) (old mid : ShelfView D) → mid ≡ record old { disk = mid.disk } → IsSetupOf setup old → IsSetupOf setup mid
-setup_read {D} setup old mid same shape = subst (λ (x : ShelfView D). IsSetupOf setup x) (sym same) (record { shape = shape.shape; pending = shape.pending; lwm = shape.lwm })
+setup_read {D} setup old mid same shape = subst (λ (x : ShelfView D). IsSetupOf setup x) (sym same) (record { shape = shape.shape; pending = shape.pending; lwm = shape.lwm; sprigs = shape.sprigs })
 
 -- and the same live copies
 pub prior_read : {D : Type 0} (place : Place) (old mid : ShelfView D) → mid ≡ record old { disk = mid.disk } → IsPriorIn old (Some place) → IsPriorIn mid (Some place)

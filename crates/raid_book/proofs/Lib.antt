@@ -2,4 +2,5 @@ pub mod Lists
 pub mod Rows
 pub mod Leasts
 pub mod Books
+pub mod Marks
 pub mod Standing

@@ -32,6 +32,10 @@ pub record RaidStandsBut (apart : ℕ) (setup : Setup) (book : BookState) (raid 
   pub turns : TurnsStand setup book raid
   pub copies : (part : ℕ) → part ≢ apart → CopiesStand setup part book raid
 
+-- the raid is as before, but for the marks
+abbrev pub SameButMarks : (old new : RaidState) → Type 0
+SameButMarks old new = new ≡ record old { marked = new.marked }
+
 -- records that were read, as the model takes them from a scan
 abbrev pub found_copies : List Found → List (Digest × Stamp)
 found_copies found = map (λ f. (f.head.digest, f.head.stamp)) found

@@ -6,7 +6,7 @@ use Rattle.rec_format.specs.declared.version.Digest.{Digest}
 use Rattle.rec_format.specs.Versions.{block_capacity}
 use Rattle.device_model.specs.Histories.{writes_of}
 use Rattle.device_model.specs.Book.{Setup, Book, cold_book, refreshed, Live, live_of, is_in, may_be_queued}
-use Rattle.device_model.specs.Device.{State, history, entry}
+use Rattle.device_model.specs.Device.{State, history, entry, no_raid}
 use Rattle.block_format.specs.declared.geometry.Geometry.{Geometry}
 use Rattle.block_format.specs.declared.geometry.Gate.{Gate}
 use Rattle.block_format.specs.Layout.{device_end, IsHeader, Body, body_bytes}
@@ -27,8 +27,9 @@ use Rattle.kept_images.proofs.Held.{held_kept, held_sure, held_survives}
 use Rattle.kept_images.proofs.Starting.{restart_kept}
 use Rattle.kept_images.proofs.Stepping.{book_in_order}
 use Rattle.write_buffer.specs.Buffers.{BufferState}
+use Rattle.raid_book.specs.Raids.{RaidStands}
 use Rattle.block_shelf.specs.View.{records_of, gate_at}
-use Rattle.block_shelf.specs.Standing.{StandsFor, QueueStands, IsOfEntry, HoldsSame, LivesSame, IsListed, book_buffer}
+use Rattle.block_shelf.specs.Standing.{StandsFor, BooksStand, IsOfEntry, HoldsSame, LivesSame, IsListed, book_buffer}
 use Rattle.part_laws.specs.Parts.{AreOwn, FitsParts}
 use Rattle.part_laws.specs.Starting.{AllHaveLatest}
 use Rattle.part_laws.proofs.Restarting.{new_top, restart_parts}
@@ -123,10 +124,16 @@ module _ {D : Type 0} (view : D → DiskView) (shard : ShardView D) (s new : Sta
     kept = λ digest l v live top. stands.kept digest l v (sym (ap (λ (b : Book). live_of digest b.live) r.book) ∙ live) (sym (same_entry digest) ∙ top);
   }
 
-  queue_again : QueueStands setup shard.shelf new
+  -- no raid runs
+  start_raid : start.raid ≡ no_raid
+  unfolding start_state
+  start_raid = refl
+
+  queue_again : BooksStand setup shard.shelf new
   queue_again = record {
     same = ap (λ (b : Book). b.queue) r.book ∙ start_agrees.shelf.queue.same;
     all = λ block lt. subst (λ (b : Book). is_in b.queue block ≡ may_be_queued setup b block) (sym r.book) (start_agrees.shelf.queue.all block lt);
+    raid = subst (RaidStands setup shard.shelf.raid) (start_raid ∙ sym r.raid) start_agrees.shelf.queue.raid;
   }
 
   pub agrees_again : Agrees shard new

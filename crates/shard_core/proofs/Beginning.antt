@@ -46,9 +46,9 @@ use Rattle.shard_core.proofs.Showing.{found_entry, sound_own}
 pub record ShelfBegins {D : Type 0} (view : D → DiskView) (disk : D) (g : Geometry) (limits : ShelfLimits) (gates : List Gate) (live : List (Digest × Place)) (next : ℕ) (new : ShelfView D) : Type 0 where
   pub starts : StartsWith disk g limits gates live next new
   pub entries : (setup : Setup) (found : List Copy) → IsSetupOf setup new → AreLive live found
-      → shelf.StandsFor setup new (entries_state setup found next) × shelf.QueueStands setup new (entries_state setup found next)
+      → shelf.StandsFor setup new (entries_state setup found next) × shelf.BooksStand setup new (entries_state setup found next)
   pub image : (setup : Setup) (image : List ℕ) (bodies : List Body) → IsSetupOf setup new → IsSound setup image bodies → AreLive live (cold_copies (copies_of bodies)) → next ≡ greatest_number bodies + 1
-      → shelf.StandsFor setup new (start_state setup bodies) × shelf.QueueStands setup new (start_state setup bodies)
+      → shelf.StandsFor setup new (start_state setup bodies) × shelf.BooksStand setup new (start_state setup bodies)
   pub placed : (setup : Setup) (found : List Copy) → AllHave g (view disk).may_leave found → shelf.IsPlaced view new (entries_state setup found next)
   pub safe : IsHonest (view disk) → AreSure g (gate_at gates) → (setup : Setup) (image : List ℕ) (bodies : List Body) → IsSetupOf setup new → IsSound setup image bodies → IsOnly image (view disk).may_leave
       → shelf.IsPlaced view new (start_state setup bodies) × shelf.ImagesHold setup view new (start_state setup bodies)
@@ -76,6 +76,7 @@ module _ {D : Type 0} (view : D → DiskView) (disk : D) (g : Geometry) (gates :
     shape = record { capacity = refl; blocks = refl; device = refl; devices = refl };
     pending = sym (ap (λ (l : ShelfLimits). l.pending) limits_are);
     lwm = sym (ap (λ (l : ShelfLimits). l.lwm) limits_are);
+    sprigs = sym (ap (λ (l : ShelfLimits). l.sprigs) limits_are);
   }
 
   some_devices : 0 < g.devices
@@ -92,7 +93,7 @@ module _ {D : Type 0} (view : D → DiskView) (disk : D) (g : Geometry) (gates :
     live_here = subst (λ (h : Geometry). AreLive live (latest_copies h bodies)) (sym geometry_is) (live_are g set gates bodies finding found some_devices some_sprigs)
 
     -- sprigs and shelf of one state
-    agrees_with : (state : Setup → State) → FitsParts (setup_for g set) finding.sprigs.items (state (setup_for g set)) → shelf.StandsFor setup shard.shelf (state setup) × shelf.QueueStands setup shard.shelf (state setup) → Agrees shard (state setup)
+    agrees_with : (state : Setup → State) → FitsParts (setup_for g set) finding.sprigs.items (state (setup_for g set)) → shelf.StandsFor setup shard.shelf (state setup) × shelf.BooksStand setup shard.shelf (state setup) → Agrees shard (state setup)
     agrees_with state fits both = record {
       sprigs = subst (λ (l : List SprigState). FitsParts setup l (state setup)) (sym sprigs_are) (subst (λ (x : Setup). FitsParts x finding.sprigs.items (state x)) setup_is fits);
       times = subst (AllByRecursion HasTimes) (sym sprigs_are) (found_times g set gates bodies finding found);
@@ -102,7 +103,7 @@ module _ {D : Type 0} (view : D → DiskView) (disk : D) (g : Geometry) (gates :
     found_agrees : Agrees shard (found_state setup bodies)
     found_agrees =
         agrees_with (λ x. found_state x bodies) (found_parts g set gates bodies finding found)
-        (subst (λ (n : ℕ). shelf.StandsFor setup shard.shelf (entries_state setup latest (n + 1)) × shelf.QueueStands setup shard.shelf (entries_state setup latest (n + 1))) found.number (begins.entries setup latest is_setup live_here))
+        (subst (λ (n : ℕ). shelf.StandsFor setup shard.shelf (entries_state setup latest (n + 1)) × shelf.BooksStand setup shard.shelf (entries_state setup latest (n + 1))) found.number (begins.entries setup latest is_setup live_here))
 
     start_agrees : (image : List ℕ) → IsSound setup image bodies → Agrees shard (start_state setup bodies)
     start_agrees image sound =

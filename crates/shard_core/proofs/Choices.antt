@@ -15,7 +15,7 @@ use Rattle.disk_model.specs.Runs.{OneOf}
 use Rattle.recovery.specs.Surviving.{Survives}
 use Rattle.block_shelf.specs.declared.vacate.Vacancy.{Vacancy}
 use Rattle.block_shelf.specs.View.{ShelfView, IsShelf}
-use Rattle.block_shelf.specs.Standing.{StandsFor, QueueStands}
+use Rattle.block_shelf.specs.Standing.{StandsFor, BooksStand}
 use Rattle.block_shelf.specs.Vacating.{IsNextOf, VacatesFrom}
 use Rattle.block_shelf.proofs.Going.{stays}
 use Rattle.shard_core.specs.declared.refusals.DefragCause.{DefragCause}
@@ -97,7 +97,7 @@ module _ {D : Type 0} (view : D → DiskView) (old : ShardView D) (is_disk : IsD
       (subst (λ (c : DefragCause). MakesEvents view (IsVacating old s (Err (record { moved = 0; cause = c }))) old s old) (sym memory) (vacates_not view old s is_disk agrees))
 
   -- It gave this choice.
-  module _ (given : Option Vacancy) (told : (setup : Setup) (s : State) → QueueStands setup old.shelf s → StandsFor setup old.shelf s → VacatesFrom s.book given) where
+  module _ (given : Option Vacancy) (told : (setup : Setup) (s : State) → BooksStand setup old.shelf s → StandsFor setup old.shelf s → VacatesFrom s.book given) where
     -- none
     pub gives_none : given ≡ None → (s : State) → Agrees old s → MakesEvents view (IsVacating old s (Ok None)) old s (over mid)
     gives_none none s agrees =

@@ -21,7 +21,7 @@ use Rattle.block_shelf.specs.declared.refusals.ReadRefusal.{ReadRefusal}
 use Rattle.block_shelf.specs.declared.refusals.ReadRefusal.TheVariants as read
 use Rattle.block_shelf.specs.View.{ShelfView}
 use Rattle.block_shelf.specs.Disks.{OnlyRead}
-use Rattle.block_shelf.specs.Standing.{StandsFor, QueueStands, IsPlaced, IsCopyIn}
+use Rattle.block_shelf.specs.Standing.{StandsFor, BooksStand, IsPlaced, IsCopyIn}
 use Rattle.block_shelf.specs.Calls.{copy_live}
 use Rattle.block_shelf.specs.Reads.{HasRead, IsUndamaged}
 use Rattle.rec_format.specs.Entries.{Names}
@@ -34,7 +34,8 @@ use Rattle.shard_steps.specs.Standing.{StandTogether}
 use Rattle.shard_core.specs.Calls.{HasGot, read_answer}
 use Rattle.shard_steps.specs.Events.{StepMakes}
 use Rattle.shard_steps.proofs.Making.{makes_by}
-use Rattle.shard_steps.proofs.Reading.{both_named, goes_read, stands_over}
+use Rattle.block_shelf.proofs.Looking.{goes_read, stands_over}
+use Rattle.shard_steps.proofs.Reading.{both_named}
 use Rattle.shard_core.proofs.Found.{SeenIs, seen_none}
 use Rattle.shard_steps.proofs.Found.{entry_named, live_found}
 
@@ -84,7 +85,7 @@ module _ {D : Type 0} (view : D → DiskView) (setup : Setup) (digest : Digest) 
           sprig_stands = stand.sprig_stands;
           shelf_stands = record {
             stands = subst (λ (x : ShelfView D). StandsFor setup x s) (sym same) (stands_over setup old new.disk s stand.shelf_stands.stands);
-            queue = subst (λ (x : ShelfView D). QueueStands setup x s) (sym same) (record { same = stand.shelf_stands.queue.same; all = stand.shelf_stands.queue.all });
+            queue = subst (λ (x : ShelfView D). BooksStand setup x s) (sym same) (record { same = stand.shelf_stands.queue.same; all = stand.shelf_stands.queue.all; raid = stand.shelf_stands.queue.raid });
           };
         })
 

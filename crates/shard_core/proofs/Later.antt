@@ -22,4 +22,4 @@ module _ {D : Type 0} (view : D → DiskView) where
   }
 
 pub shape_then : {D : Type 0} (a b c : ShelfView D) → SameShape a b → SameShape b c → SameShape a c
-shape_then a b c first then = record { geometry = then.geometry ∙ first.geometry; limits = then.limits ∙ first.limits }
+shape_then a b c first then = record { geometry = then.geometry ∙ first.geometry; limits = then.limits ∙ first.limits; raid = then.raid ∙ first.raid }

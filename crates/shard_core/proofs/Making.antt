@@ -44,6 +44,7 @@ setup_fits shelf set limits = record {
   shape = record { capacity = refl; blocks = refl; device = refl; devices = refl };
   pending = sym (ap (λ (l : ShelfLimits). l.pending) limits);
   lwm = sym (ap (λ (l : ShelfLimits). l.lwm) limits);
+  sprigs = sym (ap (λ (l : ShelfLimits). l.sprigs) limits);
 }
 
 pub setup_is : {D : Type 0} (shard : ShardView D) → IsWhole shard → IsSetupOf (setup_of shard) shard.shelf

@@ -27,7 +27,7 @@ use Rattle.block_shelf.specs.declared.refusals.PutRefusal.{PutRefusal}
 use Rattle.block_shelf.specs.declared.refusals.PutRefusal.TheVariants as put
 use Rattle.write_buffer.specs.declared.stream.Stream.TheVariants.{Client}
 use Rattle.block_shelf.specs.View.{ShelfView, IsShelf}
-use Rattle.block_shelf.specs.Standing.{QueueStands}
+use Rattle.block_shelf.specs.Standing.{BooksStand}
 use Rattle.block_shelf.specs.Calls.{Goes, copy_live}
 use Rattle.block_shelf.specs.Appends.{IsAppendRefusal, IsCopyOf, TakesIn, append_refusal, refused_steps, stream_of}
 use Rattle.shard_core.specs.declared.refusals.WriteRefusal.{WriteRefusal}
@@ -145,7 +145,7 @@ module _ {D : Type 0} (view : D → DiskView) (setup : Setup) (s : State) (call 
     may_be_unwritten told put.Memory cause closing rose = may.allowed told (unwritten_event put.Memory) refl (inl (refl, refl))
     may_be_unwritten told put.Fault cause closing rose = allowed_by told (unwritten_event put.Fault) refl cause (inr (refl, rose refl, inl (closing refl, refl)))
 
-    pub makes_unwritten : QueueStands setup old s → (refusal : WriteRefusal) → IsUnwritten view setup s kind digest v refusal old sprig new → (refusal ≡ write_refusals.Fault → Rose (view old.disk).faults (view new.disk).faults)
+    pub makes_unwritten : BooksStand setup old s → (refusal : WriteRefusal) → IsUnwritten view setup s kind digest v refusal old sprig new → (refusal ≡ write_refusals.Fault → Rose (view old.disk).faults (view new.disk).faults)
         → MakesWrite (refused (cause_of_write refusal)) new
     makes_unwritten queue refusal un rose =
         let may_be = λ (told : Bool). may_be_unwritten told un.why un.cause un.closing (λ fault. rose (un.is_for ∙ ap write_of fault)) in

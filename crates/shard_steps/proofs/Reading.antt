@@ -21,9 +21,10 @@ use Rattle.block_shelf.specs.declared.refusals.ReadRefusal.{ReadRefusal}
 use Rattle.block_shelf.specs.declared.refusals.ReadRefusal.TheVariants as read
 use Rattle.block_shelf.specs.View.{ShelfView, records_of, gate_at}
 use Rattle.block_shelf.specs.Disks.{OnlyRead}
-use Rattle.block_shelf.specs.Standing.{StandsFor, QueueStands, IsPlaced}
+use Rattle.block_shelf.specs.Standing.{StandsFor, BooksStand, IsPlaced}
 use Rattle.block_shelf.specs.Calls.{Goes, copy_live}
 use Rattle.block_shelf.specs.Reads.{HasRead, IsUndamaged}
+use Rattle.block_shelf.proofs.Looking.{goes_read}
 use Rattle.rec_format.specs.Entries.{Names}
 use Rattle.device_model.specs.Device.{part_of}
 use Rattle.sprig_tree.specs.Entries.{entry_of}
@@ -33,36 +34,6 @@ use Rattle.shard_steps.specs.Standing.{StandTogether}
 use Rattle.shard_steps.specs.Events.{StepMakes}
 use Rattle.shard_steps.proofs.Making.{makes_by}
 use Rattle.shard_steps.proofs.Found.{entry_named, live_found}
-
--- ---- a disk that was only read
-
-pub stands_over : {D : Type 0} (setup : Setup) (old : ShelfView D) (disk : D) (s : State) → StandsFor setup old s → StandsFor setup (record old { disk = disk }) s
-stands_over setup old disk s stands = record {
-  buffers = stands.buffers;
-  free = stands.free;
-  next = stands.next;
-  holds = stands.holds;
-  lives = stands.lives;
-  listed = stands.listed;
-  order = stands.order;
-  entries = stands.entries;
-  kept = stands.kept;
-}
-
-module _ {D : Type 0} (view : D → DiskView) where
-  pub goes_read : (setup : Setup) (old new : ShelfView D) (s : State) → new ≡ record old { disk = new.disk } → OnlyRead (view old.disk) (view new.disk) → IsDisk (view new.disk)
-      → StandsFor setup old s → Goes view setup [] old s new
-  goes_read setup old new s same only now stands = subst (λ (v : ShelfView D). Goes view setup [] old s v) (sym same) (record {
-    stands = stands_over setup old new.disk s stands;
-    queued = λ queue. record { same = queue.same; all = queue.all };
-    placed = λ honest placed. record { buffered = placed.buffered; there = λ d l v is there none c left. placed.there d l v is there none c (within honest c left); kept = placed.kept };
-    safe = λ honest safe. fewer_holds setup old.geometry s (records_of old.buffers) (gate_at old.gates) (view old.disk).may_leave safe (view new.disk).may_leave (within honest);
-    leaves = λ honest safe. record { time = only.time; each = λ c left. inl (held_survives setup old.geometry s (records_of old.buffers) (gate_at old.gates) (view old.disk).may_leave safe.held c (only.images honest c left)) };
-  })
-    where
-      -- what may be left at the end might have been left before
-      within : IsHonest (view old.disk) → (c : List ℕ) → (view new.disk).may_leave c → (view old.disk).may_leave c
-      within honest c left = only.images honest c (now.now_since (view old.disk).moment c (only.time.stays (view old.disk).moment only.time.started) left)
 
 -- ---- what was read
 

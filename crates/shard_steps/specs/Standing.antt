@@ -6,7 +6,7 @@ use Rattle.device_model.specs.Device.{State}
 use Rattle.sprig_tree.specs.State.{SprigState}
 use Rattle.part_laws.specs.Fits.{FitsPart}
 use Rattle.block_shelf.specs.View.{ShelfView}
-use Rattle.block_shelf.specs.Standing.{StandsFor, QueueStands, IsPlaced, ImagesHold}
+use Rattle.block_shelf.specs.Standing.{StandsFor, BooksStand, IsPlaced, ImagesHold}
 use Rattle.shard_steps.specs.Sprigs.{HasTimes}
 
 -- ---- one sprig, and the shelf
@@ -19,7 +19,7 @@ pub record SprigStands (setup : Setup) (part : ℕ) (sprig : SprigState) (s : St
 -- The shelf has the rest of the state, and names no entry.
 pub record ShelfStands {D : Type 0} (setup : Setup) (shelf : ShelfView D) (s : State) : Type 0 where
   pub stands : StandsFor setup shelf s
-  pub queue : QueueStands setup shelf s
+  pub queue : BooksStand setup shelf s
 
 -- both of one state
 pub record StandTogether {D : Type 0} (setup : Setup) (part : ℕ) (sprig : SprigState) (shelf : ShelfView D) (s : State) : Type 0 where

@@ -37,7 +37,7 @@ use Rattle.block_shelf.specs.declared.place.ShelfLimits.{ShelfLimits}
 use Rattle.block_shelf.specs.declared.refusals.PutRefusal.{PutRefusal}
 use Rattle.block_shelf.specs.declared.refusals.PutRefusal.TheVariants as put
 use Rattle.block_shelf.specs.View.{ShelfView, IsShelf, IsSetupOf, SameShape}
-use Rattle.block_shelf.specs.Standing.{StandsFor, QueueStands, IsCopyIn, book_stream}
+use Rattle.block_shelf.specs.Standing.{StandsFor, BooksStand, IsCopyIn, book_stream}
 use Rattle.block_shelf.specs.Starting.{AreLive, StartsWith}
 use Rattle.block_shelf.specs.Flushes.{FlushMakes}
 use Rattle.block_shelf.specs.Calls.{IsPriorIn, Goes, copy_live, prior_live}
@@ -276,6 +276,7 @@ setup_stays setup old new same is = record {
   };
   pending = is.pending ∙ sym (ap (λ l. l.pending) same.limits);
   lwm = is.lwm ∙ sym (ap (λ l. l.lwm) same.limits);
+  sprigs = is.sprigs ∙ sym (ap (λ l. l.sprigs) same.limits);
 }
 
 -- a disk that was only read
@@ -283,7 +284,7 @@ pub kept_read : {D : Type 0} (named : ℕ → Digest) (old new : ShelfView D) (e
 kept_read {D} named old new entries same keeps = subst (λ (v : ShelfView D). KeepsEntries named v entries) (sym same) (record {
   setup = keeps.setup;
   state = keeps.state;
-  is_setup = record { shape = keeps.is_setup.shape; pending = keeps.is_setup.pending; lwm = keeps.is_setup.lwm };
+  is_setup = record { shape = keeps.is_setup.shape; pending = keeps.is_setup.pending; lwm = keeps.is_setup.lwm; sprigs = keeps.is_setup.sprigs };
   stands = record {
     buffers = keeps.stands.buffers;
     free = keeps.stands.free;
@@ -517,7 +518,7 @@ unfolding IsDistinct
 none_found = record { there = λ c there. absurd (omega (arith, there.1)); once = tt; only = λ x there. absurd (omega (arith, there.1)) }
 
 pub new_is : {D : Type 0} (disk : D) (g : Geometry) (limits : ShelfLimits) (gates : List Gate) (next_number : ℕ) (shelf : ShelfView D) → StartsWith disk g limits gates [] next_number shelf
-    → ((setup : Setup) (found : List Copy) → IsSetupOf setup shelf → AreLive [] found → StandsFor setup shelf (entries_state setup found next_number) × QueueStands setup shelf (entries_state setup found next_number)) → IsNewShelf g shelf
+    → ((setup : Setup) (found : List Copy) → IsSetupOf setup shelf → AreLive [] found → StandsFor setup shelf (entries_state setup found next_number) × BooksStand setup shelf (entries_state setup found next_number)) → IsNewShelf g shelf
 new_is {D} disk g limits gates next_number shelf starts stands = record {
   shape = ap (λ (s : ShelfView D). s.geometry) starts.parts;
   stands = λ setup is.
@@ -543,7 +544,7 @@ kept_new named g shelf entries new none =
       commit = false;
       raid_age = 0;
     } in
-    let is : IsSetupOf setup shelf = record { shape = record { capacity = refl; blocks = refl; device = refl; devices = refl }; pending = refl; lwm = refl } in
+    let is : IsSetupOf setup shelf = record { shape = record { capacity = refl; blocks = refl; device = refl; devices = refl }; pending = refl; lwm = refl; sprigs = refl } in
     record {
       setup = setup;
       state = entries_state setup [] shelf.next_number;

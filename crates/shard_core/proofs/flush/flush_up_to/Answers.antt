@@ -28,7 +28,7 @@ loop-number-init g c =
       quiet = λ quiet. quiet;
       later = later_none g.D.Disk.view old.disk now;
       honest = λ honest. honest;
-      shape = record { geometry = refl; limits = refl };
+      shape = record { geometry = refl; limits = refl; raid = refl };
     }
 
 pub returns-in_err-number-clause-flushed : goal.returns-in_err-number-clause-flushed

@@ -25,7 +25,7 @@ pub invariant_of-self-in_default-shut_gate : goal.invariant_of-self-in_default-s
 invariant_of-self-in_default-shut_gate g c =
     let d = g.D.Disk in
     let law = g.met.D.Disk in
-    let old : ShelfView g.row.D.Denot = record { disk = c.self.inside.disk; geometry = c.self.inside.geometry; limits = c.self.inside.limits; buffers = c.self.inside.buffers.items; gates = c.self.inside.gates.items; rolls = c.self.inside.ledger; holds = c.self.inside.holds; free = c.self.inside.free.items; queue = c.self.inside.queue; cache = c.self.inside.cache; next_number = c.self.inside.next_number } in
+    let old : ShelfView g.row.D.Denot = record { disk = c.self.inside.disk; geometry = c.self.inside.geometry; limits = c.self.inside.limits; buffers = c.self.inside.buffers.items; gates = c.self.inside.gates.items; rolls = c.self.inside.ledger; holds = c.self.inside.holds; free = c.self.inside.free.items; queue = c.self.inside.queue; cache = c.self.inside.cache; raid = c.self.inside.raid; next_number = c.self.inside.next_number } in
     let is : IsShelf d.view old = c.self.invariant.0 in
     let some : 0 < length old.free = subst (λ (v : ShelfView g.row.D.Denot). 0 < length v.free) (sym c.self.view_is) c.requires.some in
     let at : c.block-block.result ≡ first_block old.free = c.block-block.ensures ∙ ap (λ (b : BufferState). b.block) c.requires.buffer ∙ ap (λ (v : ShelfView g.row.D.Denot). first_block v.free) (sym c.self.view_is) in
@@ -41,14 +41,14 @@ invariant_of-self-in_default-shut_gate g c =
 
 pub returns-in_default-clause-goes : goal.returns-in_default-clause-goes
 returns-in_default-clause-goes g c setup s stands =
-    let same : _ ≡ c.args.self.now = ap (λ (bs : List BufferState). record { disk = c.self.inside.disk; geometry = c.self.inside.geometry; limits = c.self.inside.limits; buffers = bs; gates = c.self.inside.gates.items; rolls = c.self.inside.ledger; holds = c.self.inside.holds; free = c.self.inside.free.items; queue = c.self.inside.queue; cache = c.self.inside.cache; next_number = c.self.inside.next_number }) c.reserve.ensures.items ∙ c.self.view_is in
+    let same : _ ≡ c.args.self.now = ap (λ (bs : List BufferState). record { disk = c.self.inside.disk; geometry = c.self.inside.geometry; limits = c.self.inside.limits; buffers = bs; gates = c.self.inside.gates.items; rolls = c.self.inside.ledger; holds = c.self.inside.holds; free = c.self.inside.free.items; queue = c.self.inside.queue; cache = c.self.inside.cache; raid = c.self.inside.raid; next_number = c.self.inside.next_number }) c.reserve.ensures.items ∙ c.self.view_is in
     subst (Goes g.D.Disk.view setup [] c.args.self.now s) (sym same) (goes_nowhere g.D.Disk.view g.met.D.Disk.is_disk setup s c.args.self.now stands)
 
 pub returns-in_default-shut_gate-clause-goes : goal.returns-in_default-shut_gate-clause-goes
 returns-in_default-shut_gate-clause-goes g c =
     let d = g.D.Disk in
     let law = g.met.D.Disk in
-    let old : ShelfView g.row.D.Denot = record { disk = c.self.inside.disk; geometry = c.self.inside.geometry; limits = c.self.inside.limits; buffers = c.self.inside.buffers.items; gates = c.self.inside.gates.items; rolls = c.self.inside.ledger; holds = c.self.inside.holds; free = c.self.inside.free.items; queue = c.self.inside.queue; cache = c.self.inside.cache; next_number = c.self.inside.next_number } in
+    let old : ShelfView g.row.D.Denot = record { disk = c.self.inside.disk; geometry = c.self.inside.geometry; limits = c.self.inside.limits; buffers = c.self.inside.buffers.items; gates = c.self.inside.gates.items; rolls = c.self.inside.ledger; holds = c.self.inside.holds; free = c.self.inside.free.items; queue = c.self.inside.queue; cache = c.self.inside.cache; raid = c.self.inside.raid; next_number = c.self.inside.next_number } in
     let is : IsShelf d.view old = c.self.invariant.0 in
     let some : 0 < length old.free = subst (λ (v : ShelfView g.row.D.Denot). 0 < length v.free) (sym c.self.view_is) c.requires.some in
     let at : c.block-block.result ≡ first_block old.free = c.block-block.ensures ∙ ap (λ (b : BufferState). b.block) c.requires.buffer ∙ ap (λ (v : ShelfView g.row.D.Denot). first_block v.free) (sym c.self.view_is) in
@@ -66,7 +66,7 @@ pub invariant_of-self-2 : goal.invariant_of-self-2
 invariant_of-self-2 g c =
     let d = g.D.Disk in
     let law = g.met.D.Disk in
-    let old : ShelfView g.row.D.Denot = record { disk = c.self.inside.disk; geometry = c.self.inside.geometry; limits = c.self.inside.limits; buffers = c.self.inside.buffers.items; gates = c.self.inside.gates.items; rolls = c.self.inside.ledger; holds = c.self.inside.holds; free = c.self.inside.free.items; queue = c.self.inside.queue; cache = c.self.inside.cache; next_number = c.self.inside.next_number } in
+    let old : ShelfView g.row.D.Denot = record { disk = c.self.inside.disk; geometry = c.self.inside.geometry; limits = c.self.inside.limits; buffers = c.self.inside.buffers.items; gates = c.self.inside.gates.items; rolls = c.self.inside.ledger; holds = c.self.inside.holds; free = c.self.inside.free.items; queue = c.self.inside.queue; cache = c.self.inside.cache; raid = c.self.inside.raid; next_number = c.self.inside.next_number } in
     let is : IsShelf d.view old = c.self.invariant.0 in
     let some : 0 < length old.free = subst (λ (v : ShelfView g.row.D.Denot). 0 < length v.free) (sym c.self.view_is) c.requires.some in
     let at : c.block-block.result ≡ first_block old.free = c.block-block.ensures ∙ ap (λ (b : BufferState). b.block) c.requires.buffer ∙ ap (λ (v : ShelfView g.row.D.Denot). first_block v.free) (sym c.self.view_is) in
@@ -92,7 +92,7 @@ pub returns-clause-whole : goal.returns-clause-whole
 returns-clause-whole g c =
     let d = g.D.Disk in
     let law = g.met.D.Disk in
-    let old : ShelfView g.row.D.Denot = record { disk = c.self.inside.disk; geometry = c.self.inside.geometry; limits = c.self.inside.limits; buffers = c.self.inside.buffers.items; gates = c.self.inside.gates.items; rolls = c.self.inside.ledger; holds = c.self.inside.holds; free = c.self.inside.free.items; queue = c.self.inside.queue; cache = c.self.inside.cache; next_number = c.self.inside.next_number } in
+    let old : ShelfView g.row.D.Denot = record { disk = c.self.inside.disk; geometry = c.self.inside.geometry; limits = c.self.inside.limits; buffers = c.self.inside.buffers.items; gates = c.self.inside.gates.items; rolls = c.self.inside.ledger; holds = c.self.inside.holds; free = c.self.inside.free.items; queue = c.self.inside.queue; cache = c.self.inside.cache; raid = c.self.inside.raid; next_number = c.self.inside.next_number } in
     let is : IsShelf d.view old = c.self.invariant.0 in
     let some : 0 < length old.free = subst (λ (v : ShelfView g.row.D.Denot). 0 < length v.free) (sym c.self.view_is) c.requires.some in
     let at : c.block-block.result ≡ first_block old.free = c.block-block.ensures ∙ ap (λ (b : BufferState). b.block) c.requires.buffer ∙ ap (λ (v : ShelfView g.row.D.Denot). first_block v.free) (sym c.self.view_is) in
@@ -105,7 +105,7 @@ pub returns-clause-goes : goal.returns-clause-goes
 returns-clause-goes g c =
     let d = g.D.Disk in
     let law = g.met.D.Disk in
-    let old : ShelfView g.row.D.Denot = record { disk = c.self.inside.disk; geometry = c.self.inside.geometry; limits = c.self.inside.limits; buffers = c.self.inside.buffers.items; gates = c.self.inside.gates.items; rolls = c.self.inside.ledger; holds = c.self.inside.holds; free = c.self.inside.free.items; queue = c.self.inside.queue; cache = c.self.inside.cache; next_number = c.self.inside.next_number } in
+    let old : ShelfView g.row.D.Denot = record { disk = c.self.inside.disk; geometry = c.self.inside.geometry; limits = c.self.inside.limits; buffers = c.self.inside.buffers.items; gates = c.self.inside.gates.items; rolls = c.self.inside.ledger; holds = c.self.inside.holds; free = c.self.inside.free.items; queue = c.self.inside.queue; cache = c.self.inside.cache; raid = c.self.inside.raid; next_number = c.self.inside.next_number } in
     let is : IsShelf d.view old = c.self.invariant.0 in
     let some : 0 < length old.free = subst (λ (v : ShelfView g.row.D.Denot). 0 < length v.free) (sym c.self.view_is) c.requires.some in
     let at : c.block-block.result ≡ first_block old.free = c.block-block.ensures ∙ ap (λ (b : BufferState). b.block) c.requires.buffer ∙ ap (λ (v : ShelfView g.row.D.Denot). first_block v.free) (sym c.self.view_is) in

@@ -1,14 +1,11 @@
 use Rattle.std.proofs.Common.{◌≡◌, ◌≢◌, ℕ, ◌≤◌, Result, Ok, Err, sym, ◌∙◌, ap, subst}
 use Rattle.std.specs.Prelude.{Option, None, IfErr, MatchResult}
 use Rattle.rec_format.specs.Versions.{block_capacity}
-use Rattle.device_model.specs.Book.{Setup}
-use Rattle.device_model.specs.Device.{State}
 use Rattle.device_model.specs.Events.{Cause}
 use Rattle.write_buffer.specs.declared.stream.Stream.{Stream}
 use Rattle.block_shelf.specs.declared.refusals.PutRefusal.{PutRefusal}
 use Rattle.block_shelf.specs.declared.refusals.PutRefusal.TheVariants.{Memory, Fault}
-use Rattle.block_shelf.specs.View.{ShelfView, IsShelf, IsSetupOf}
-use Rattle.block_shelf.specs.Standing.{StandsFor}
+use Rattle.block_shelf.specs.View.{ShelfView, IsShelf}
 use Rattle.block_shelf.specs.Changes.{HasRoom, HasRoomAt, begin_refusal}
 use Rattle.block_shelf.specs.Appends.{IsAppendRefusal, append_refusal, kept_free, stream_of}
 use Rattle.block_shelf.proofs.Causes.{none_in_room, cause_in_new}

@@ -22,7 +22,7 @@ pub invariant_of-self : goal.invariant_of-self
 invariant_of-self g c =
     let d = g.D.Disk in
     let law = g.met.D.Disk in
-    let old : ShelfView g.row.D.Denot = record { disk = c.self.inside.disk; geometry = c.self.inside.geometry; limits = c.self.inside.limits; buffers = c.self.inside.buffers.items; gates = c.self.inside.gates.items; rolls = c.self.inside.ledger; holds = c.self.inside.holds; free = c.self.inside.free.items; queue = c.self.inside.queue; cache = c.self.inside.cache; next_number = c.self.inside.next_number } in
+    let old : ShelfView g.row.D.Denot = record { disk = c.self.inside.disk; geometry = c.self.inside.geometry; limits = c.self.inside.limits; buffers = c.self.inside.buffers.items; gates = c.self.inside.gates.items; rolls = c.self.inside.ledger; holds = c.self.inside.holds; free = c.self.inside.free.items; queue = c.self.inside.queue; cache = c.self.inside.cache; raid = c.self.inside.raid; next_number = c.self.inside.next_number } in
     let b : BufferState = c.index_mut-buffer.result.now in
     let new = c.open_gate.new.disk in
     let first : FoundAt (λ x. is_written x.phase ≡ true) c.args.at old.buffers b = found_at (λ x. is_written x.phase ≡ true) c.args.at old.buffers b (subst (λ (v : ShelfView g.row.D.Denot). IsFirstWith (λ x. is_written x.phase ≡ true) c.args.at v.buffers) (sym c.self.view_is) (c.requires.first, c.requires.written c.requires.first)) c.index_mut-buffer.ensures.value in
@@ -36,7 +36,7 @@ pub returns-in_err-open_gate-clause-goes : goal.returns-in_err-open_gate-clause-
 returns-in_err-open_gate-clause-goes g c =
     let d = g.D.Disk in
     let law = g.met.D.Disk in
-    let old : ShelfView g.row.D.Denot = record { disk = c.self.inside.disk; geometry = c.self.inside.geometry; limits = c.self.inside.limits; buffers = c.self.inside.buffers.items; gates = c.self.inside.gates.items; rolls = c.self.inside.ledger; holds = c.self.inside.holds; free = c.self.inside.free.items; queue = c.self.inside.queue; cache = c.self.inside.cache; next_number = c.self.inside.next_number } in
+    let old : ShelfView g.row.D.Denot = record { disk = c.self.inside.disk; geometry = c.self.inside.geometry; limits = c.self.inside.limits; buffers = c.self.inside.buffers.items; gates = c.self.inside.gates.items; rolls = c.self.inside.ledger; holds = c.self.inside.holds; free = c.self.inside.free.items; queue = c.self.inside.queue; cache = c.self.inside.cache; raid = c.self.inside.raid; next_number = c.self.inside.next_number } in
     let b : BufferState = c.index_mut-buffer.result.now in
     let new = c.open_gate.new.disk in
     let first : FoundAt (λ x. is_written x.phase ≡ true) c.args.at old.buffers b = found_at (λ x. is_written x.phase ≡ true) c.args.at old.buffers b (subst (λ (v : ShelfView g.row.D.Denot). IsFirstWith (λ x. is_written x.phase ≡ true) c.args.at v.buffers) (sym c.self.view_is) (c.requires.first, c.requires.written c.requires.first)) c.index_mut-buffer.ensures.value in
@@ -52,7 +52,7 @@ returns-in_err-open_gate-clause-goes g c =
 
 pub returns-in_err-open_gate-clause-changed : goal.returns-in_err-open_gate-clause-changed
 returns-in_err-open_gate-clause-changed g c first =
-    let old : ShelfView g.row.D.Denot = record { disk = c.self.inside.disk; geometry = c.self.inside.geometry; limits = c.self.inside.limits; buffers = c.self.inside.buffers.items; gates = c.self.inside.gates.items; rolls = c.self.inside.ledger; holds = c.self.inside.holds; free = c.self.inside.free.items; queue = c.self.inside.queue; cache = c.self.inside.cache; next_number = c.self.inside.next_number } in
+    let old : ShelfView g.row.D.Denot = record { disk = c.self.inside.disk; geometry = c.self.inside.geometry; limits = c.self.inside.limits; buffers = c.self.inside.buffers.items; gates = c.self.inside.gates.items; rolls = c.self.inside.ledger; holds = c.self.inside.holds; free = c.self.inside.free.items; queue = c.self.inside.queue; cache = c.self.inside.cache; raid = c.self.inside.raid; next_number = c.self.inside.next_number } in
     let b : BufferState = c.index_mut-buffer.result.now in
     let gates : List Gate = slice_set old.gates c.block-block.result Unsure in
     told_fault _ _ c.from_residual.result c.from_residual.ensures.0 (λ fault.
@@ -67,7 +67,7 @@ pub invariant_of-self-2 : goal.invariant_of-self-2
 invariant_of-self-2 g c =
     let d = g.D.Disk in
     let law = g.met.D.Disk in
-    let old : ShelfView g.row.D.Denot = record { disk = c.self.inside.disk; geometry = c.self.inside.geometry; limits = c.self.inside.limits; buffers = c.self.inside.buffers.items; gates = c.self.inside.gates.items; rolls = c.self.inside.ledger; holds = c.self.inside.holds; free = c.self.inside.free.items; queue = c.self.inside.queue; cache = c.self.inside.cache; next_number = c.self.inside.next_number } in
+    let old : ShelfView g.row.D.Denot = record { disk = c.self.inside.disk; geometry = c.self.inside.geometry; limits = c.self.inside.limits; buffers = c.self.inside.buffers.items; gates = c.self.inside.gates.items; rolls = c.self.inside.ledger; holds = c.self.inside.holds; free = c.self.inside.free.items; queue = c.self.inside.queue; cache = c.self.inside.cache; raid = c.self.inside.raid; next_number = c.self.inside.next_number } in
     let b : BufferState = c.index_mut-buffer.result.now in
     let new = c.open_gate.new.disk in
     let first : FoundAt (λ x. is_written x.phase ≡ true) c.args.at old.buffers b = found_at (λ x. is_written x.phase ≡ true) c.args.at old.buffers b (subst (λ (v : ShelfView g.row.D.Denot). IsFirstWith (λ x. is_written x.phase ≡ true) c.args.at v.buffers) (sym c.self.view_is) (c.requires.first, c.requires.written c.requires.first)) c.index_mut-buffer.ensures.value in
@@ -81,7 +81,7 @@ pub returns-clause-goes : goal.returns-clause-goes
 returns-clause-goes g c =
     let d = g.D.Disk in
     let law = g.met.D.Disk in
-    let old : ShelfView g.row.D.Denot = record { disk = c.self.inside.disk; geometry = c.self.inside.geometry; limits = c.self.inside.limits; buffers = c.self.inside.buffers.items; gates = c.self.inside.gates.items; rolls = c.self.inside.ledger; holds = c.self.inside.holds; free = c.self.inside.free.items; queue = c.self.inside.queue; cache = c.self.inside.cache; next_number = c.self.inside.next_number } in
+    let old : ShelfView g.row.D.Denot = record { disk = c.self.inside.disk; geometry = c.self.inside.geometry; limits = c.self.inside.limits; buffers = c.self.inside.buffers.items; gates = c.self.inside.gates.items; rolls = c.self.inside.ledger; holds = c.self.inside.holds; free = c.self.inside.free.items; queue = c.self.inside.queue; cache = c.self.inside.cache; raid = c.self.inside.raid; next_number = c.self.inside.next_number } in
     let b : BufferState = c.index_mut-buffer.result.now in
     let new = c.open_gate.new.disk in
     let first : FoundAt (λ x. is_written x.phase ≡ true) c.args.at old.buffers b = found_at (λ x. is_written x.phase ≡ true) c.args.at old.buffers b (subst (λ (v : ShelfView g.row.D.Denot). IsFirstWith (λ x. is_written x.phase ≡ true) c.args.at v.buffers) (sym c.self.view_is) (c.requires.first, c.requires.written c.requires.first)) c.index_mut-buffer.ensures.value in
@@ -97,7 +97,7 @@ returns-clause-goes g c =
 
 pub returns-clause-changed : goal.returns-clause-changed
 returns-clause-changed g c =
-    let old : ShelfView g.row.D.Denot = record { disk = c.self.inside.disk; geometry = c.self.inside.geometry; limits = c.self.inside.limits; buffers = c.self.inside.buffers.items; gates = c.self.inside.gates.items; rolls = c.self.inside.ledger; holds = c.self.inside.holds; free = c.self.inside.free.items; queue = c.self.inside.queue; cache = c.self.inside.cache; next_number = c.self.inside.next_number } in
+    let old : ShelfView g.row.D.Denot = record { disk = c.self.inside.disk; geometry = c.self.inside.geometry; limits = c.self.inside.limits; buffers = c.self.inside.buffers.items; gates = c.self.inside.gates.items; rolls = c.self.inside.ledger; holds = c.self.inside.holds; free = c.self.inside.free.items; queue = c.self.inside.queue; cache = c.self.inside.cache; raid = c.self.inside.raid; next_number = c.self.inside.next_number } in
     let b : BufferState = c.index_mut-buffer.result.now in
     subst (λ (v : ShelfView g.row.D.Denot). (first : IsFirstAt c.args.at v.buffers) → record old { disk = c.open_gate.new.disk; buffers = slice_set old.buffers c.args.at c.set_phase.new.self; gates = slice_set (slice_set old.gates c.block-block.result Unsure) c.block-block.result Set } ≡ with_opening c.open_gate.new.disk Set v first.sealed) c.self.view_is
     (λ first.

@@ -88,4 +88,4 @@ returns-in-Some-clause-shape g c =
     let old = c.args.self.now in
     let s = stands_still old c.replace.new.self c.in-Some.before c.args.at c.replace.ensures.taken c.requires.room.stands in
     let all = all_is old c.replace.new.self c.write-place.new.self c.requeue.new.self c.in-Some.before c.replace.ensures.taken (with_written c.args.digest.now c.args.version.now s.front s.buffer s.behind c.replace.new.self) (c.write-place.ensures.written s).0 c.requeue.ensures in
-    record { geometry = ap (λ (x : ShelfView g.row.D.Denot). x.geometry) all; limits = ap (λ (x : ShelfView g.row.D.Denot). x.limits) all }
+    record { geometry = ap (λ (x : ShelfView g.row.D.Denot). x.geometry) all; limits = ap (λ (x : ShelfView g.row.D.Denot). x.limits) all; raid = ap (λ (x : ShelfView g.row.D.Denot). x.raid) all }

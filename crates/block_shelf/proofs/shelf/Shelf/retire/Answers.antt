@@ -27,7 +27,7 @@ free_let_go-requires-clause-apart g c = apart_back _ _ c.self.invariant.0.apart
 pub free_let_go-requires-clause-others : goal.free_let_go-requires-clause-others
 free_let_go-requires-clause-others g c =
     let d = g.D.Disk in
-    let old : ShelfView g.row.D.Denot = record { disk = c.self.inside.disk; geometry = c.self.inside.geometry; limits = c.self.inside.limits; buffers = c.self.inside.buffers.items; gates = c.self.inside.gates.items; rolls = c.self.inside.ledger; holds = c.self.inside.holds; free = c.self.inside.free.items; queue = c.self.inside.queue; cache = c.self.inside.cache; next_number = c.self.inside.next_number } in
+    let old : ShelfView g.row.D.Denot = record { disk = c.self.inside.disk; geometry = c.self.inside.geometry; limits = c.self.inside.limits; buffers = c.self.inside.buffers.items; gates = c.self.inside.gates.items; rolls = c.self.inside.ledger; holds = c.self.inside.holds; free = c.self.inside.free.items; queue = c.self.inside.queue; cache = c.self.inside.cache; raid = c.self.inside.raid; next_number = c.self.inside.next_number } in
     let b : BufferState = c.remove-buffer.result in
     let first : FoundAt (λ x. x.phase ≡ GateBegun) c.args.at old.buffers b = found_at (λ x. x.phase ≡ GateBegun) c.args.at old.buffers b (subst (λ (v : ShelfView g.row.D.Denot). IsFirstWith (λ x. x.phase ≡ GateBegun) c.args.at v.buffers) (sym c.self.view_is) (c.requires.first, c.requires.begun c.requires.first)) c.remove-buffer.ensures.value in
     let rest : c.remove-buffer.new.self.items ≡ first.front ++ first.behind = first.left c.remove-buffer.new.self.items c.remove-buffer.ensures.items in
@@ -39,7 +39,7 @@ free_let_go-requires-clause-others g c =
 pub invariant_of-self : goal.invariant_of-self
 invariant_of-self g c =
     let d = g.D.Disk in
-    let old : ShelfView g.row.D.Denot = record { disk = c.self.inside.disk; geometry = c.self.inside.geometry; limits = c.self.inside.limits; buffers = c.self.inside.buffers.items; gates = c.self.inside.gates.items; rolls = c.self.inside.ledger; holds = c.self.inside.holds; free = c.self.inside.free.items; queue = c.self.inside.queue; cache = c.self.inside.cache; next_number = c.self.inside.next_number } in
+    let old : ShelfView g.row.D.Denot = record { disk = c.self.inside.disk; geometry = c.self.inside.geometry; limits = c.self.inside.limits; buffers = c.self.inside.buffers.items; gates = c.self.inside.gates.items; rolls = c.self.inside.ledger; holds = c.self.inside.holds; free = c.self.inside.free.items; queue = c.self.inside.queue; cache = c.self.inside.cache; raid = c.self.inside.raid; next_number = c.self.inside.next_number } in
     let b : BufferState = c.remove-buffer.result in
     let first : FoundAt (λ x. x.phase ≡ GateBegun) c.args.at old.buffers b = found_at (λ x. x.phase ≡ GateBegun) c.args.at old.buffers b (subst (λ (v : ShelfView g.row.D.Denot). IsFirstWith (λ x. x.phase ≡ GateBegun) c.args.at v.buffers) (sym c.self.view_is) (c.requires.first, c.requires.begun c.requires.first)) c.remove-buffer.ensures.value in
     let rest : c.remove-buffer.new.self.items ≡ first.front ++ first.behind = first.left c.remove-buffer.new.self.items c.remove-buffer.ensures.items in
@@ -56,7 +56,7 @@ pub returns-clause-goes : goal.returns-clause-goes
 returns-clause-goes g c =
     let law = g.met.D.Disk in
     let d = g.D.Disk in
-    let old : ShelfView g.row.D.Denot = record { disk = c.self.inside.disk; geometry = c.self.inside.geometry; limits = c.self.inside.limits; buffers = c.self.inside.buffers.items; gates = c.self.inside.gates.items; rolls = c.self.inside.ledger; holds = c.self.inside.holds; free = c.self.inside.free.items; queue = c.self.inside.queue; cache = c.self.inside.cache; next_number = c.self.inside.next_number } in
+    let old : ShelfView g.row.D.Denot = record { disk = c.self.inside.disk; geometry = c.self.inside.geometry; limits = c.self.inside.limits; buffers = c.self.inside.buffers.items; gates = c.self.inside.gates.items; rolls = c.self.inside.ledger; holds = c.self.inside.holds; free = c.self.inside.free.items; queue = c.self.inside.queue; cache = c.self.inside.cache; raid = c.self.inside.raid; next_number = c.self.inside.next_number } in
     let b : BufferState = c.remove-buffer.result in
     let first : FoundAt (λ x. x.phase ≡ GateBegun) c.args.at old.buffers b = found_at (λ x. x.phase ≡ GateBegun) c.args.at old.buffers b (subst (λ (v : ShelfView g.row.D.Denot). IsFirstWith (λ x. x.phase ≡ GateBegun) c.args.at v.buffers) (sym c.self.view_is) (c.requires.first, c.requires.begun c.requires.first)) c.remove-buffer.ensures.value in
     let rest : c.remove-buffer.new.self.items ≡ first.front ++ first.behind = first.left c.remove-buffer.new.self.items c.remove-buffer.ensures.items in
@@ -82,7 +82,7 @@ returns-clause-number g c =
 pub returns-clause-left : goal.returns-clause-left
 returns-clause-left g c =
     let d = g.D.Disk in
-    let old : ShelfView g.row.D.Denot = record { disk = c.self.inside.disk; geometry = c.self.inside.geometry; limits = c.self.inside.limits; buffers = c.self.inside.buffers.items; gates = c.self.inside.gates.items; rolls = c.self.inside.ledger; holds = c.self.inside.holds; free = c.self.inside.free.items; queue = c.self.inside.queue; cache = c.self.inside.cache; next_number = c.self.inside.next_number } in
+    let old : ShelfView g.row.D.Denot = record { disk = c.self.inside.disk; geometry = c.self.inside.geometry; limits = c.self.inside.limits; buffers = c.self.inside.buffers.items; gates = c.self.inside.gates.items; rolls = c.self.inside.ledger; holds = c.self.inside.holds; free = c.self.inside.free.items; queue = c.self.inside.queue; cache = c.self.inside.cache; raid = c.self.inside.raid; next_number = c.self.inside.next_number } in
     let b : BufferState = c.remove-buffer.result in
     let first : FoundAt (λ x. x.phase ≡ GateBegun) c.args.at old.buffers b = found_at (λ x. x.phase ≡ GateBegun) c.args.at old.buffers b (subst (λ (v : ShelfView g.row.D.Denot). IsFirstWith (λ x. x.phase ≡ GateBegun) c.args.at v.buffers) (sym c.self.view_is) (c.requires.first, c.requires.begun c.requires.first)) c.remove-buffer.ensures.value in
     let rest : c.remove-buffer.new.self.items ≡ first.front ++ first.behind = first.left c.remove-buffer.new.self.items c.remove-buffer.ensures.items in

@@ -28,7 +28,7 @@ write_body-requires-clause-size g c =
 
 pub write_body-requires-clause-shut : goal.write_body-requires-clause-shut
 write_body-requires-clause-shut g c =
-    let old : ShelfView g.row.D.Denot = record { disk = c.self.inside.disk; geometry = c.self.inside.geometry; limits = c.self.inside.limits; buffers = c.self.inside.buffers.items; gates = c.self.inside.gates.items; rolls = c.self.inside.ledger; holds = c.self.inside.holds; free = c.self.inside.free.items; queue = c.self.inside.queue; cache = c.self.inside.cache; next_number = c.self.inside.next_number } in
+    let old : ShelfView g.row.D.Denot = record { disk = c.self.inside.disk; geometry = c.self.inside.geometry; limits = c.self.inside.limits; buffers = c.self.inside.buffers.items; gates = c.self.inside.gates.items; rolls = c.self.inside.ledger; holds = c.self.inside.holds; free = c.self.inside.free.items; queue = c.self.inside.queue; cache = c.self.inside.cache; raid = c.self.inside.raid; next_number = c.self.inside.next_number } in
     let b : BufferState = c.index_mut-buffer.result.now in
     let first : FoundAt (λ x. x.phase ≡ Sealed) c.args.at old.buffers b = found_at (λ x. x.phase ≡ Sealed) c.args.at old.buffers b (subst (λ (v : ShelfView g.row.D.Denot). IsFirstWith (λ x. x.phase ≡ Sealed) c.args.at v.buffers) (sym c.self.view_is) (c.requires.first, c.requires.sealed c.requires.first)) c.index_mut-buffer.ensures.value in
     shut_before g.D.Disk.view old first.front b first.behind first.parts c.self.invariant.0 first.has c.block.result c.block.ensures
@@ -37,7 +37,7 @@ pub invariant_of-self : goal.invariant_of-self
 invariant_of-self g c =
     let d = g.D.Disk in
     let law = g.met.D.Disk in
-    let old : ShelfView g.row.D.Denot = record { disk = c.self.inside.disk; geometry = c.self.inside.geometry; limits = c.self.inside.limits; buffers = c.self.inside.buffers.items; gates = c.self.inside.gates.items; rolls = c.self.inside.ledger; holds = c.self.inside.holds; free = c.self.inside.free.items; queue = c.self.inside.queue; cache = c.self.inside.cache; next_number = c.self.inside.next_number } in
+    let old : ShelfView g.row.D.Denot = record { disk = c.self.inside.disk; geometry = c.self.inside.geometry; limits = c.self.inside.limits; buffers = c.self.inside.buffers.items; gates = c.self.inside.gates.items; rolls = c.self.inside.ledger; holds = c.self.inside.holds; free = c.self.inside.free.items; queue = c.self.inside.queue; cache = c.self.inside.cache; raid = c.self.inside.raid; next_number = c.self.inside.next_number } in
     let b : BufferState = c.index_mut-buffer.result.now in
     let new = c.write_body.new.disk in
     let first : FoundAt (λ x. x.phase ≡ Sealed) c.args.at old.buffers b = found_at (λ x. x.phase ≡ Sealed) c.args.at old.buffers b (subst (λ (v : ShelfView g.row.D.Denot). IsFirstWith (λ x. x.phase ≡ Sealed) c.args.at v.buffers) (sym c.self.view_is) (c.requires.first, c.requires.sealed c.requires.first)) c.index_mut-buffer.ensures.value in
@@ -48,7 +48,7 @@ pub returns-in_err-write_body-clause-goes : goal.returns-in_err-write_body-claus
 returns-in_err-write_body-clause-goes g c =
     let d = g.D.Disk in
     let law = g.met.D.Disk in
-    let old : ShelfView g.row.D.Denot = record { disk = c.self.inside.disk; geometry = c.self.inside.geometry; limits = c.self.inside.limits; buffers = c.self.inside.buffers.items; gates = c.self.inside.gates.items; rolls = c.self.inside.ledger; holds = c.self.inside.holds; free = c.self.inside.free.items; queue = c.self.inside.queue; cache = c.self.inside.cache; next_number = c.self.inside.next_number } in
+    let old : ShelfView g.row.D.Denot = record { disk = c.self.inside.disk; geometry = c.self.inside.geometry; limits = c.self.inside.limits; buffers = c.self.inside.buffers.items; gates = c.self.inside.gates.items; rolls = c.self.inside.ledger; holds = c.self.inside.holds; free = c.self.inside.free.items; queue = c.self.inside.queue; cache = c.self.inside.cache; raid = c.self.inside.raid; next_number = c.self.inside.next_number } in
     let b : BufferState = c.index_mut-buffer.result.now in
     let new = c.write_body.new.disk in
     let first : FoundAt (λ x. x.phase ≡ Sealed) c.args.at old.buffers b = found_at (λ x. x.phase ≡ Sealed) c.args.at old.buffers b (subst (λ (v : ShelfView g.row.D.Denot). IsFirstWith (λ x. x.phase ≡ Sealed) c.args.at v.buffers) (sym c.self.view_is) (c.requires.first, c.requires.sealed c.requires.first)) c.index_mut-buffer.ensures.value in
@@ -60,7 +60,7 @@ pub invariant_of-self-2 : goal.invariant_of-self-2
 invariant_of-self-2 g c =
     let d = g.D.Disk in
     let law = g.met.D.Disk in
-    let old : ShelfView g.row.D.Denot = record { disk = c.self.inside.disk; geometry = c.self.inside.geometry; limits = c.self.inside.limits; buffers = c.self.inside.buffers.items; gates = c.self.inside.gates.items; rolls = c.self.inside.ledger; holds = c.self.inside.holds; free = c.self.inside.free.items; queue = c.self.inside.queue; cache = c.self.inside.cache; next_number = c.self.inside.next_number } in
+    let old : ShelfView g.row.D.Denot = record { disk = c.self.inside.disk; geometry = c.self.inside.geometry; limits = c.self.inside.limits; buffers = c.self.inside.buffers.items; gates = c.self.inside.gates.items; rolls = c.self.inside.ledger; holds = c.self.inside.holds; free = c.self.inside.free.items; queue = c.self.inside.queue; cache = c.self.inside.cache; raid = c.self.inside.raid; next_number = c.self.inside.next_number } in
     let b : BufferState = c.index_mut-buffer.result.now in
     let new = c.write_body.new.disk in
     let first : FoundAt (λ x. x.phase ≡ Sealed) c.args.at old.buffers b = found_at (λ x. x.phase ≡ Sealed) c.args.at old.buffers b (subst (λ (v : ShelfView g.row.D.Denot). IsFirstWith (λ x. x.phase ≡ Sealed) c.args.at v.buffers) (sym c.self.view_is) (c.requires.first, c.requires.sealed c.requires.first)) c.index_mut-buffer.ensures.value in
@@ -73,7 +73,7 @@ pub returns-clause-goes : goal.returns-clause-goes
 returns-clause-goes g c =
     let d = g.D.Disk in
     let law = g.met.D.Disk in
-    let old : ShelfView g.row.D.Denot = record { disk = c.self.inside.disk; geometry = c.self.inside.geometry; limits = c.self.inside.limits; buffers = c.self.inside.buffers.items; gates = c.self.inside.gates.items; rolls = c.self.inside.ledger; holds = c.self.inside.holds; free = c.self.inside.free.items; queue = c.self.inside.queue; cache = c.self.inside.cache; next_number = c.self.inside.next_number } in
+    let old : ShelfView g.row.D.Denot = record { disk = c.self.inside.disk; geometry = c.self.inside.geometry; limits = c.self.inside.limits; buffers = c.self.inside.buffers.items; gates = c.self.inside.gates.items; rolls = c.self.inside.ledger; holds = c.self.inside.holds; free = c.self.inside.free.items; queue = c.self.inside.queue; cache = c.self.inside.cache; raid = c.self.inside.raid; next_number = c.self.inside.next_number } in
     let b : BufferState = c.index_mut-buffer.result.now in
     let new = c.write_body.new.disk in
     let first : FoundAt (λ x. x.phase ≡ Sealed) c.args.at old.buffers b = found_at (λ x. x.phase ≡ Sealed) c.args.at old.buffers b (subst (λ (v : ShelfView g.row.D.Denot). IsFirstWith (λ x. x.phase ≡ Sealed) c.args.at v.buffers) (sym c.self.view_is) (c.requires.first, c.requires.sealed c.requires.first)) c.index_mut-buffer.ensures.value in
@@ -84,7 +84,7 @@ returns-clause-goes g c =
 
 pub returns-clause-changed : goal.returns-clause-changed
 returns-clause-changed g c =
-    let old : ShelfView g.row.D.Denot = record { disk = c.self.inside.disk; geometry = c.self.inside.geometry; limits = c.self.inside.limits; buffers = c.self.inside.buffers.items; gates = c.self.inside.gates.items; rolls = c.self.inside.ledger; holds = c.self.inside.holds; free = c.self.inside.free.items; queue = c.self.inside.queue; cache = c.self.inside.cache; next_number = c.self.inside.next_number } in
+    let old : ShelfView g.row.D.Denot = record { disk = c.self.inside.disk; geometry = c.self.inside.geometry; limits = c.self.inside.limits; buffers = c.self.inside.buffers.items; gates = c.self.inside.gates.items; rolls = c.self.inside.ledger; holds = c.self.inside.holds; free = c.self.inside.free.items; queue = c.self.inside.queue; cache = c.self.inside.cache; raid = c.self.inside.raid; next_number = c.self.inside.next_number } in
     let b : BufferState = c.index_mut-buffer.result.now in
     subst (λ (v : ShelfView g.row.D.Denot). (first : IsFirstAt c.args.at v.buffers) → record old { disk = c.write_body.new.disk; buffers = slice_set old.buffers c.args.at c.set_phase.new.self } ≡ with_body c.write_body.new.disk v first.sealed) c.self.view_is
     (λ first.

@@ -1,0 +1,48 @@
+-- The gate of a block without a buffer is closed, where it was unsure.
+use Rattle.std.proofs.Common.{◌≡◌, ◌≢◌, ◌<◌, ℕ, List, [], sym, ◌∙◌, ap, subst, arith}
+use Rattle.std.specs.Prelude.{slice_set}
+use Rattle.std.specs.List.{AllByRecursion}
+use Rattle.std.proofs.lemmas.List.{get_or-set_same}
+use Rattle.disk_model.specs.Disk.{DiskView, IsDisk, IsHonest, TornFrom, meanwhile}
+use Rattle.device_model.specs.Book.{Setup}
+use Rattle.device_model.specs.Device.{State}
+use Rattle.block_format.specs.declared.geometry.Gate.{Gate}
+use Rattle.block_format.specs.declared.geometry.Gate.TheVariants.{Shut, Set, Unsure}
+use Rattle.block_format.specs.Layout.{block_place}
+use Rattle.kept_images.specs.Gates.{GateStands}
+use Rattle.block_shelf.specs.Disks.{IsLater}
+use Rattle.block_shelf.specs.View.{ShelfView, IsShelf, gate_at}
+use Rattle.block_shelf.specs.Standing.{StandsFor}
+use Rattle.block_shelf.specs.Calls.{Goes}
+use Rattle.block_shelf.proofs.Closing.{gate_shelf, goes_shut, goes_unsure}
+
+not_shut : (gate : Gate) → gate ≡ Unsure → gate ≢ Shut
+not_shut gate is e = grind (arith, is, e)
+
+not_set : (gate : Gate) → gate ≡ Unsure → gate ≢ Set
+not_set gate is e = grind (arith, is, e)
+
+module _ {D : Type 0} (view : D → DiskView) (is_disk : (disk : D) → IsDisk (view disk)) (shelf : ShelfView D) (disk : D) (block : ℕ) (is : IsShelf view shelf) (lt : block < shelf.geometry.blocks) (unbuffered : AllByRecursion (λ b. b.block ≢ block) shelf.buffers)
+    (later : IsLater (view shelf.disk) (view disk)) (honest : IsHonest (view shelf.disk) → IsHonest (view disk)) (was_honest : IsHonest (view disk) → IsHonest (view shelf.disk))
+    (torn : IsHonest (view shelf.disk) → TornFrom (block_place shelf.geometry block) 4096 (view shelf.disk).may_leave (meanwhile (view shelf.disk) (view disk)))
+    (gates : List Gate) (known : IsHonest (view disk) → GateStands shelf.geometry (view disk).may_leave block (gate_at gates block)) where
+  now_known : (gate : Gate) → gates ≡ slice_set shelf.gates block gate → IsHonest (view disk) → GateStands shelf.geometry (view disk).may_leave block gate
+  now_known gate set now =
+      subst (GateStands shelf.geometry (view disk).may_leave block) (ap (λ (l : List Gate). gate_at l block) set ∙ get_or-set_same shelf.gates block gate Shut (subst (λ (n : ℕ). block < n) (sym is.gates) lt)) (known now)
+
+  pub closed_shelf : (gate : Gate) → gates ≡ slice_set shelf.gates block gate → IsShelf view (record shelf { disk = disk; gates = gates })
+  closed_shelf gate set = subst (λ (l : List Gate). IsShelf view (record shelf { disk = disk; gates = l })) (sym set)
+      (gate_shelf view shelf disk block is (is_disk disk) (is_disk shelf.disk) lt unbuffered later.size was_honest later.time torn gate (now_known gate set))
+
+  module _ (unsure : gate_at shelf.gates block ≡ Unsure) (setup : Setup) (s : State) (stands : StandsFor setup shelf s) where
+    -- it is shut
+    pub goes_closed : gates ≡ slice_set shelf.gates block Shut → Goes view setup [] shelf s (record shelf { disk = disk; gates = gates })
+    goes_closed set = subst (λ (l : List Gate). Goes view setup [] shelf s (record shelf { disk = disk; gates = l })) (sym set)
+        (goes_shut view shelf disk block is (is_disk disk) (is_disk shelf.disk) lt unbuffered later.size was_honest later.time torn setup s stands (not_shut (gate_at shelf.gates block) unsure)
+        (λ set_. absurd (not_set (gate_at shelf.gates block) unsure set_)) (λ was. now_known Shut set (honest was)))
+
+    -- or unsure still
+    pub goes_unclosed : gates ≡ slice_set shelf.gates block Unsure → Goes view setup [] shelf s (record shelf { disk = disk; gates = gates })
+    goes_unclosed set = subst (λ (l : List Gate). Goes view setup [] shelf s (record shelf { disk = disk; gates = l })) (sym set)
+        (goes_unsure view shelf disk block is (is_disk disk) (is_disk shelf.disk) lt unbuffered later.size was_honest later.time torn setup s stands (not_shut (gate_at shelf.gates block) unsure)
+        (λ set_. absurd (not_set (gate_at shelf.gates block) unsure set_)))

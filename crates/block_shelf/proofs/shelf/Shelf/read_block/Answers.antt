@@ -1,0 +1,55 @@
+use Rattle.std.proofs.Common.{arith, ◌≡◌, ◌+◌, ◌-◌, ◌≤◌, List, ℕ, length, ◌∙◌, ap, subst, drop, take}
+use Rattle.std.specs.Prelude.{MatchResult}
+use Rattle.std.proofs.lemmas.List.{take_at}
+use Rattle.block_format.specs.Layout.{body_bytes}
+use Rattle.write_buffer.proofs.Sizes.{sized}
+use Rattle.block_shelf.specs.View.{ShelfView}
+use Rattle.block_shelf.specs.Scans.{ReadsBody, IsDamageOf}
+use Rattle.block_shelf.proofs.ReadOnly.{shelf_stays, images_of_now, read_there}
+use Rattle.block_shelf.proofs.shelf.Shelf.read_block.Goals as goal
+
+pub overflow_sub-size : goal.overflow_sub-size
+overflow_sub-size g c = let s = sized c.self.inside.geometry.block_size c.self.invariant.0.geometry.block_size in omega (arith, s.low)
+
+pub read_at-requires : goal.read_at-requires
+read_at-requires g c =
+    let s = sized c.self.inside.geometry.block_size c.self.invariant.0.geometry.block_size in
+    omega (arith, s.low, c.start_of_block.ensures.room, c.self.invariant.0.room, c.in-Ok.ensures.len, c.deref_mut.ensures.len)
+
+pub invariant_of-self : goal.invariant_of-self
+invariant_of-self g c = (
+  shelf_stays g.D.Disk.view _ c.read_at.new.self c.self.invariant.0 c.read_at.ensures.call.size c.read_at.ensures.call.was_honest
+      (λ honest. images_of_now _ _ (g.met.D.Disk.is_disk c.read_at.new.self) c.read_at.ensures.call.time c.read_at.ensures.images),
+  c.self.invariant.1,
+)
+
+pub found_in-requires-clause-head : goal.found_in-requires-clause-head
+found_in-requires-clause-head g c =
+    let s = sized c.self.inside.geometry.block_size c.self.invariant.0.geometry.block_size in
+    omega (arith, s.low, c.in-Ok.ensures.len, c.deref_mut.ensures.len, c.deref.ensures.len)
+
+pub found_in-requires-clause-size : goal.found_in-requires-clause-size
+found_in-requires-clause-size g c =
+    let s = sized c.self.inside.geometry.block_size c.self.invariant.0.geometry.block_size in
+    omega (arith, s.high, c.in-Ok.ensures.len, c.deref_mut.ensures.len, c.deref.ensures.len)
+
+pub invariant_of-self-2 : goal.invariant_of-self-2
+invariant_of-self-2 g c = (
+  shelf_stays g.D.Disk.view _ c.read_at.new.self c.self.invariant.0 c.read_at.ensures.call.size c.read_at.ensures.call.was_honest
+      (λ honest. images_of_now _ _ (g.met.D.Disk.is_disk c.read_at.new.self) c.read_at.ensures.call.time c.read_at.ensures.images),
+  c.self.invariant.1,
+)
+
+pub returns-clause-read : goal.returns-clause-read
+returns-clause-read g c =
+    let geometry = c.self.inside.geometry in
+    let s = sized geometry.block_size c.self.invariant.0.geometry.block_size in
+    let many : length c.deref_mut.result.now ≡ geometry.block_size - 4096 = omega (arith, c.in-Ok.ensures.len, c.deref_mut.ensures.len) in
+    let size : length c.read_at.new.out ≡ c.in-Ok.body.len = omega arith in
+    let bytes = c.deref.ensures.value ∙ take_at c.read_at.new.out (drop (length c.read_at.new.out) c.in-Ok.body.items) c.in-Ok.body.len size in
+    let long : length c.deref.result.now ≡ geometry.block_size - 4096 = omega (arith, c.in-Ok.ensures.len, c.deref_mut.ensures.len, c.deref.ensures.len) in
+    subst (λ (w : ShelfView g.row.D.Denot). (g.D.Disk.view w.disk).tells → MatchResult c.found_in.result (λ found. ReadsBody w.geometry (body_bytes w.geometry c.args.block (g.D.Disk.view w.disk).seen) c.args.block found.items) (IsDamageOf w.geometry (body_bytes w.geometry c.args.block (g.D.Disk.view w.disk).seen) c.args.block))
+    c.self.view_is
+    (λ told. subst (λ (t : List ℕ). MatchResult c.found_in.result (λ found. ReadsBody geometry t c.args.block found.items) (IsDamageOf geometry t c.args.block))
+    (bytes ∙ read_there (g.D.Disk.view c.self.inside.disk).seen c.read_at.new.out _ _ _ _ (c.in-Ok-read_at.ensures.read told) (ap (λ (n : ℕ). n + 4096) c.start_of_block.ensures.place) many)
+    (c.found_in.ensures.read geometry long))

@@ -1,0 +1,66 @@
+-- Crate block_shelf. What a raid's scan of a block finds, and what it makes.
+use Rattle.std.specs.Prelude.{◌≡◌, ℕ, ◌==◌, List, [], ◌∷◌, filter}
+use Rattle.disk_model.specs.Disk.{DiskView, IsHonest}
+use Rattle.rec_format.specs.declared.version.Digest.{Digest}
+use Rattle.rec_format.specs.declared.version.Stamp.{Stamp}
+use Rattle.rec_format.specs.declared.version.Version.{Version}
+use Rattle.rec_format.specs.Places.{device_number}
+use Rattle.rec_format.specs.Versions.{block_capacity}
+use Rattle.device_model.specs.Book.{Setup}
+use Rattle.device_model.specs.Device.{State}
+use Rattle.device_model.specs.Steps.{scanned_block}
+use Rattle.block_format.specs.declared.geometry.Geometry.{Geometry}
+use Rattle.block_format.specs.declared.geometry.Found.{Found}
+use Rattle.block_format.specs.Layout.{Body, IsBody, IsFaultAt}
+use Rattle.block_format.specs.Readings.{found_from}
+use Rattle.block_flusher.specs.Images.{IsBodyOf}
+use Rattle.kept_facts.specs.Facts.{Possible}
+use Rattle.kept_facts.specs.Asking.{FindsOlder}
+use Rattle.kept_images.specs.Kept.{possible_in}
+use Rattle.kept_images.specs.Held.{loosened}
+use Rattle.kept_images.specs.Scans.{IsScanOf}
+use Rattle.block_shelf.specs.declared.refusals.VacateRefusal.{VacateRefusal}
+use Rattle.block_shelf.specs.declared.refusals.VacateRefusal.TheVariants.{Damaged, Memory, Fault}
+use Rattle.block_shelf.specs.View.{ShelfView, records_of, gate_at}
+use Rattle.block_shelf.specs.Standing.{ImagesHold}
+use Rattle.block_shelf.specs.Calls.{Goes}
+
+-- the copies that a start may find: those that wait in a pending buffer, and those that a crash may leave, also behind a gate that is unsure
+abbrev pub possible_copies : {D : Type 0} → (D → DiskView) → ShelfView D → State → Possible
+possible_copies view shelf s = possible_in shelf.geometry s.book (records_of shelf.buffers) (loosened shelf.geometry (gate_at shelf.gates) (view shelf.disk).may_leave)
+
+-- the records of digests of the device
+abbrev pub own_found : Geometry → List Found → List Found
+own_found g found = filter (λ f. device_number g.devices f.head.digest == g.device) found
+
+-- these are the heads of the records of a block's body
+pub record ReadsBody (g : Geometry) (bytes : List ℕ) (block : ℕ) (found : List Found) : Type 0 where
+  pub body : Body
+  pub is_body : IsBody (block_capacity g.block_size) bytes body
+  pub placed : body.block ≡ block
+  pub found_is : found ≡ found_from 0 body.records
+
+-- Damage is told of this block, by the place of the first fault of these bytes, which are no body of the block.
+abbrev pub IsDamageOf : Geometry → List ℕ → (block : ℕ) → VacateRefusal → Type 0
+IsDamageOf g bytes block (Damaged other place) = (other ≡ block) × IsFaultAt (block_capacity g.block_size) bytes block place × (IsBodyOf g block bytes → ⊥)
+IsDamageOf g bytes block Memory = Unit {0}
+IsDamageOf g bytes block Fault = Unit {0}
+
+-- there is no damage
+abbrev pub IsSound : VacateRefusal → Type 0
+IsSound (Damaged block place) = ⊥
+IsSound Memory = Unit {0}
+IsSound Fault = Unit {0}
+
+-- Over an honest disk whose image was sound: these are the heads of all records that may be in a block.
+pub record ReadsAll {D : Type 0} (view : D → DiskView) (shelf : ShelfView D) (s : State) (block : ℕ) (found : List Found) : Type 0 where
+  pub records : List (Digest × Version)
+  pub found_is : found ≡ found_from 0 records
+  pub all : IsScanOf shelf.geometry s.book (records_of shelf.buffers) (loosened shelf.geometry (gate_at shelf.gates) (view shelf.disk).may_leave) block records
+
+-- A block is scanned from a state for which the shelf stood, by one step. Over an honest disk whose image was sound each copy in the block that
+-- may be older than a marked entry is found: one that waits, and one that a crash may leave.
+pub record Scans {D : Type 0} (view : D → DiskView) (setup : Setup) (block : ℕ) (old : ShelfView D) (s : State) (new : ShelfView D) : Type 0 where
+  pub copies : List (Digest × Stamp)
+  pub goes : Goes view setup (scanned_block copies ∷ []) old s new
+  pub all : IsHonest (view old.disk) → ImagesHold setup view old s → FindsOlder s (possible_copies view new s) block copies

@@ -1,0 +1,211 @@
+// What a raid comes upon in a block.
+ghost use Rattle.std.specs.Prelude.{◌≡◌, ◌≢◌, ◌<◌, ◌≤◌, ◌-◌, ◌==◌, ℕ, List, [], ◌∷◌, length, map, filter, Ok, IfOk, IfErr, OnOk, OnErr, MatchResult};
+ghost use Rattle.std.specs.List.{All, AllByRecursion};
+ghost use Rattle.fault_count.specs.Counts.{Rose};
+ghost use Rattle.disk_model.specs.Disk.{IsHonest};
+ghost use Rattle.rec_format.specs.Places.{device_number, part_number_of, part_count};
+ghost use Rattle.device_model.specs.Book.{Setup};
+ghost use Rattle.device_model.specs.Device.{State};
+ghost use Rattle.device_model.specs.Steps.{raid_given_up};
+ghost use Rattle.block_format.specs.Layout.{IsGeometry, body_bytes};
+ghost use Rattle.block_format.specs.Readings.{AtMostOneBody};
+ghost use Rattle.block_format.specs.declared.geometry.Geometry.{Geometry};
+ghost use Rattle.raid_book.specs.declared.turn.RaidNext.TheVariants as turn;
+ghost use Rattle.raid_book.specs.Books.{given_up};
+ghost use Rattle.block_shelf.specs.Disks.{IsLater, OnlyRead};
+ghost use Rattle.block_shelf.specs.View.{IsShelf, IsSetupOf, gate_at};
+ghost use Rattle.block_shelf.specs.Standing.{StandsFor, BooksStand, ImagesHold};
+ghost use Rattle.block_shelf.specs.Calls.{Goes};
+ghost use Rattle.block_shelf.specs.Scans.{Scans, ReadsAll, ReadsBody, IsDamageOf, IsSound, own_found};
+
+use crate::close::shut_gate;
+use crate::{NoMemory, Shelf, VacateRefusal};
+use block_flusher::start_of_block;
+use block_format::{BodyRefusal, Found, Gate, Geometry, SECTOR_BYTES, read_body};
+use disk_model::Disk;
+use partition_map::{device_of, part_number};
+use raid_book::RaidNext;
+use std::alloc::Global;
+
+impl<D: Disk> Shelf<D> {
+    /// Scans the block whose turn it is, and answers it: each record of the device that may be in it goes to the raid's book. What is in a
+    /// pending buffer is taken from memory, also where the write of its gate has begun. Of the other blocks, free ones too, one with an
+    /// unsure gate is closed and synced first, a closed one has no records, and any other is read from the disk, also where its flushed buffer
+    /// is kept. After a refusal the raid is given up.
+    pub fn scan_step(&mut self, alloc: Global) -> Result<u32, VacateRefusal>
+        requires turn { (block : ℕ) × (self.old.raid.next ≡ turn.Scan block) }
+        ensures scanned { (setup : Setup) (s : State) → IsSetupOf setup self.old → StandsFor setup self.old s → BooksStand setup self.old s
+            → MatchResult result (λ block. Scans D.view setup block self.old s self.new) (λ refusal. Goes D.view setup (raid_given_up ∷ []) self.old s self.new) }
+        ensures block { IfOk result (λ block. self.old.raid.next ≡ turn.Scan block) }
+        ensures given_up { OnErr result (self.new.raid ≡ given_up self.old.raid) }
+
+        // Damage is what the disk has in the block, and over an honest disk whose image was sound there is none.
+        ensures damaged { (D.view self.old.disk).tells → (block : ℕ) → self.old.raid.next ≡ turn.Scan block → IfErr result (IsDamageOf self.old.geometry (body_bytes self.old.geometry block (D.view self.old.disk).seen) block) }
+        ensures sound { (setup : Setup) (s : State) → IsHonest (D.view self.old.disk) → StandsFor setup self.old s → ImagesHold setup D.view self.old s → IfErr result IsSound }
+        ensures rest { self.new ≡ record self.old { disk = self.new.disk; gates = self.new.gates; raid = self.new.raid } }
+        ensures cause { result ≡ Err VacateRefusal.Fault → Rose (D.view self.old.disk).faults (D.view self.new.disk).faults }
+        ensures later { IsLater (D.view self.old.disk) (D.view self.new.disk) }
+        ensures honest { IsHonest (D.view self.old.disk) → IsHonest (D.view self.new.disk) }
+    {
+        let RaidNext::Scan(block) = self.raid.next() else {
+            unreachable!();
+        };
+        match self.scan_block(alloc, block) {
+            Ok(()) => Ok(block),
+            Err(refusal) => {
+                self.give_up();
+                Err(refusal)
+            }
+        }
+    }
+}
+
+impl<D: Disk> Shelf<D> {
+    // What may be in the block whose turn it is goes to the raid's book.
+    fn scan_block(&mut self, alloc: Global, block: u32) -> Result<(), VacateRefusal>
+        requires block { block < self.old.geometry.blocks }
+        requires turn { self.old.raid.next ≡ turn.Scan block }
+        ensures scanned { (setup : Setup) (s : State) → IsSetupOf setup self.old → StandsFor setup self.old s → BooksStand setup self.old s
+            → MatchResult result (λ done. Scans D.view setup block self.old s self.new) (λ refusal. Goes D.view setup [] self.old s self.new) }
+        ensures same { OnErr result (self.new.raid ≡ self.old.raid) }
+        ensures damaged { (D.view self.old.disk).tells → IfErr result (IsDamageOf self.old.geometry (body_bytes self.old.geometry block (D.view self.old.disk).seen) block) }
+        ensures sound { (setup : Setup) (s : State) → IsHonest (D.view self.old.disk) → StandsFor setup self.old s → ImagesHold setup D.view self.old s → IfErr result IsSound }
+        ensures rest { self.new ≡ record self.old { disk = self.new.disk; gates = self.new.gates; raid = self.new.raid } }
+        ensures cause { result ≡ Err VacateRefusal.Fault → Rose (D.view self.old.disk).faults (D.view self.new.disk).faults }
+        ensures later { IsLater (D.view self.old.disk) (D.view self.new.disk) }
+        ensures honest { IsHonest (D.view self.old.disk) → IsHonest (D.view self.new.disk) }
+    {
+        let found = self.records_in(alloc, block)?;
+        let Ok(own) = own_of(alloc, &self.geometry, &found) else {
+            return Err(VacateRefusal::Memory);
+        };
+        let Ok(parts) = parts_in(alloc, &self.geometry, self.limits.sprigs, &own) else {
+            return Err(VacateRefusal::Memory);
+        };
+        let Ok(()) = self.raid.scanned(alloc, block, &own, &parts) else {
+            return Err(VacateRefusal::Memory);
+        };
+        Ok(())
+    }
+
+    // The heads of the records that may be in a block.
+    fn records_in(&mut self, alloc: Global, block: u32) -> Result<Vec<Found>, VacateRefusal>
+        requires block { block < self.old.geometry.blocks }
+        ensures goes { (setup : Setup) (s : State) → StandsFor setup self.old s → Goes D.view setup [] self.old s self.new }
+        ensures all { (setup : Setup) (s : State) → IsHonest (D.view self.old.disk) → StandsFor setup self.old s → ImagesHold setup D.view self.old s
+            → MatchResult result (λ found. ReadsAll D.view self.new s block found.items) IsSound }
+        ensures damaged { (D.view self.old.disk).tells → IfErr result (IsDamageOf self.old.geometry (body_bytes self.old.geometry block (D.view self.old.disk).seen) block) }
+        ensures rest { self.new ≡ record self.old { disk = self.new.disk; gates = self.new.gates } }
+        ensures cause { result ≡ Err VacateRefusal.Fault → Rose (D.view self.old.disk).faults (D.view self.new.disk).faults }
+        ensures later { IsLater (D.view self.old.disk) (D.view self.new.disk) }
+        ensures honest { IsHonest (D.view self.old.disk) → IsHonest (D.view self.new.disk) }
+    {
+        if let Some(buffer) = self.buffer_of(block) {
+            return found_in(alloc, buffer.body(), block);
+        }
+        self.close_unsure(block)?;
+        if self.gate(block) == Gate::Shut {
+            return Ok(Vec::new(alloc));
+        }
+        self.read_block(alloc, block)
+    }
+
+    // What is known of the gate of a block.
+    fn gate(&self, block: u32) -> Gate
+        requires { block < self.now.geometry.blocks }
+        ensures { result ≡ gate_at self.now.gates block }
+    {
+        self.gates[block as usize]
+    }
+
+    // The gate of a block without a buffer is closed and synced, if it is unsure.
+    fn close_unsure(&mut self, block: u32) -> Result<(), VacateRefusal>
+        requires block { block < self.old.geometry.blocks }
+        requires unbuffered { AllByRecursion (λ b. b.block ≢ block) self.old.buffers }
+        ensures goes { (setup : Setup) (s : State) → StandsFor setup self.old s → Goes D.view setup [] self.old s self.new }
+        ensures quiet { gate_at self.old.gates block ≢ Gate.Unsure → (result ≡ Ok tt) × (self.new ≡ self.old) }
+        ensures sure { OnOk result (gate_at self.new.gates block ≢ Gate.Unsure) }
+        ensures rest { self.new ≡ record self.old { disk = self.new.disk; gates = self.new.gates } }
+        ensures shut { gate_at self.old.gates block ≡ Gate.Unsure → OnOk result (gate_at self.new.gates block ≡ Gate.Shut) }
+        ensures failed { IfErr result (λ refusal. refusal ≡ VacateRefusal.Fault) }
+        ensures whole { IsShelf D.view self.new }
+        ensures cause { OnErr result (Rose (D.view self.old.disk).faults (D.view self.new.disk).faults) }
+        ensures later { IsLater (D.view self.old.disk) (D.view self.new.disk) }
+        ensures honest { IsHonest (D.view self.old.disk) → IsHonest (D.view self.new.disk) }
+    {
+        if self.gate(block) != Gate::Unsure {
+            return Ok(());
+        }
+        let Ok(()) = shut_gate(&mut self.disk, &self.geometry, &mut self.gates, block) else {
+            return Err(VacateRefusal::Fault);
+        };
+        Ok(())
+    }
+
+    // The heads of the records of a block, as the disk has it.
+    fn read_block(&mut self, alloc: Global, block: u32) -> Result<Vec<Found>, VacateRefusal>
+        requires block { block < self.old.geometry.blocks }
+        ensures read { (D.view self.old.disk).tells → let bytes = body_bytes self.old.geometry block (D.view self.old.disk).seen in
+            MatchResult result (λ found. ReadsBody self.old.geometry bytes block found.items) (IsDamageOf self.old.geometry bytes block) }
+        ensures cause { result ≡ Err VacateRefusal.Fault → Rose (D.view self.old.disk).faults (D.view self.new.disk).faults }
+        ensures disk { OnlyRead (D.view self.old.disk) (D.view self.new.disk) }
+        ensures same { self.new ≡ record self.old { disk = self.new.disk } }
+    {
+        let size = self.geometry.block_size as usize - SECTOR_BYTES;
+        let Ok(mut body) = vec![in alloc; 0; size] else {
+            return Err(VacateRefusal::Memory);
+        };
+        let place = start_of_block(&self.geometry, block) + SECTOR_BYTES as u64;
+        let Ok(()) = self.disk.read_at(place, &mut body) else {
+            return Err(VacateRefusal::Fault);
+        };
+        found_in(alloc, &body, block)
+    }
+}
+
+// The heads of the records of a body.
+fn found_in(alloc: Global, body: &[u8], block: u32) -> Result<Vec<Found>, VacateRefusal>
+    requires head { 32 ≤ length body.now }
+    requires size { length body.now ≤ 1044480 }
+    ensures read { (g : Geometry) → length body.now ≡ g.block_size - 4096 → MatchResult result (λ found. ReadsBody g body.now block found.items) (IsDamageOf g body.now block) }
+    ensures quiet { result ≢ Err VacateRefusal.Fault }
+    ensures one_body { AtMostOneBody }
+{
+    match read_body(alloc, body, block) {
+        Ok((_, found)) => Ok(found),
+        Err(BodyRefusal::Bad { place }) => Err(VacateRefusal::Damaged { block, place }),
+        Err(BodyRefusal::Memory) => Err(VacateRefusal::Memory),
+    }
+}
+
+// Those of digests of the device.
+fn own_of(alloc: Global, geometry: &Geometry, found: &[Found]) -> Result<Vec<Found>, NoMemory>
+    requires { IsGeometry geometry.now }
+    ensures { IfOk result (λ own. own.items ≡ own_found geometry.now found.now) }
+{
+    let mut own = Vec::new(alloc);
+    for record in found {
+        if device_of(&record.head.digest, geometry.devices) == geometry.device {
+            own.push(*record)?;
+        }
+    }
+    Ok(own)
+}
+
+// The part of each.
+fn parts_in(
+    alloc: Global,
+    geometry: &Geometry,
+    sprigs: u32,
+    found: &[Found],
+) -> Result<Vec<u32>, NoMemory>
+    requires geometry { IsGeometry geometry.now }
+    requires sprigs { (1 ≤ sprigs) × (sprigs ≤ 256) }
+    ensures parts { IfOk result (λ parts. parts.items ≡ map (λ f. part_number_of geometry.now.devices sprigs f.head.digest) found.now) }
+{
+    let mut parts = Vec::with_capacity(alloc, found.len())?;
+    for record in found {
+        parts.push(part_number(&record.head.digest, sprigs, geometry.devices))?;
+    }
+    Ok(parts)
+}
