@@ -1,4 +1,4 @@
-ghost use Rattle.std.specs.Prelude.{◌≤◌, ◌<◌, ◌≢◌, vec_len, IfOk};
+ghost use Rattle.std.specs.Prelude.{◌≡◌, ◌≤◌, ◌<◌, ◌≢◌, vec_len, IfOk};
 ghost use Rattle.line_proto.specs.Built.{IsInRange};
 ghost use Rattle.line_proto.specs.declared.command.Command.{Command};
 
@@ -70,10 +70,8 @@ fn close(node: &mut Node<MemDisk>) -> Result<Option<u16>, Fail> {
     Ok(node.close())
 }
 
-#[test]
-fn a_record_is_put_and_seen(rt: HostRuntime) -> Result<(), Fail> {
-    let alloc = rt.alloc();
-    let mut node = started(alloc, formatted(&rt, alloc)?)?;
+/// A record is put, and seen with its fields.
+fn put_and_see(rt: &impl Abort, alloc: Global, node: &mut Node<MemDisk>) -> Result<(), Fail> {
     let get = Command::Get(RISING);
     assert!(rt; matches!(&node.act(alloc, &get, 1000), Reply::Nothing));
     let put = Command::Put {
@@ -95,6 +93,15 @@ fn a_record_is_put_and_seen(rt: HostRuntime) -> Result<(), Fail> {
     assert!(rt; stamp == (Stamp { lut: 1000, gen_: 1 }));
     assert_eq!(rt; void, 0);
     assert!(rt; payload.as_slice() == b"hello".as_slice());
+    Ok(())
+}
+
+// Its disk is given back.
+#[test]
+fn a_record_is_put_and_seen(rt: HostRuntime) -> Result<(), Fail> {
+    let alloc = rt.alloc();
+    let mut node = started(alloc, formatted(&rt, alloc)?)?;
+    put_and_see(&rt, alloc, &mut node)?;
     assert_eq!(rt; node.stop().len(), 1);
     Ok(())
 }
@@ -113,12 +120,12 @@ fn put_of(alloc: Global, digest: Digest, bytes: usize, expect: Option<u16>) -> R
 }
 
 /// Of two records that don't share a block tending flushes the first, whose buffer is sealed, and `flush` the second.
-#[test]
-fn what_is_sealed_is_flushed(rt: HostRuntime) -> Result<(), Fail> {
-    let alloc = rt.alloc();
-    let mut node = started(alloc, formatted(&rt, alloc)?)?;
-    let mut first = RISING;
-    first.0[0] = 1;
+fn flush_sealed(
+    rt: &impl Abort,
+    alloc: Global,
+    node: &mut Node<MemDisk>,
+    first: Digest,
+) -> Result<(), Fail> {
     for digest in [first, RISING] {
         let put = put_of(alloc, digest, 11_152, None)?;
         assert!(rt; matches!(&node.act(alloc, &put, 1000), Reply::Done2 { a: 1, b: 1000 }));
@@ -136,25 +143,44 @@ fn what_is_sealed_is_flushed(rt: HostRuntime) -> Result<(), Fail> {
             Reply::Done1 { n: 0 }
         )
     );
-    let put = put_of(alloc, first, 1, None)?;
-    assert!(rt; matches!(&node.act(alloc, &put, 1000), Reply::Done2 { a: 2, b: 1000 }));
-    let Reply::StatOf(before) = node.act(alloc, &Command::Stat, 1000) else {
-        return Err(Fail::new("it tells no numbers"));
-    };
-    assert!(rt; close(&mut node)?.is_none());
-    let Reply::StatOf(after) = node.act(alloc, &Command::Stat, 1000) else {
-        return Err(Fail::new("it tells no numbers"));
-    };
-    assert_eq!(rt; (before.pending, after.pending), (1, 0));
-    assert_eq!(rt; node.stop().len(), 1);
     Ok(())
 }
 
-/// What each command on one digest is answered behind those before it: a tombstone isn't seen, and generations go on behind it.
+/// How many buffers wait.
+fn pending(alloc: Global, node: &mut Node<MemDisk>) -> Result<u64, Fail> {
+    match node.act(alloc, &Command::Stat, 1000) {
+        Reply::StatOf(counts) => Ok(counts.pending),
+        _ => Err(Fail::new("it tells no numbers")),
+    }
+}
+
+/// Then the closing of the node flushes what waits of a record that is put again.
+fn flush_all(
+    rt: &impl Abort,
+    alloc: Global,
+    node: &mut Node<MemDisk>,
+    first: Digest,
+) -> Result<(), Fail> {
+    flush_sealed(rt, alloc, node, first)?;
+    let put = put_of(alloc, first, 1, None)?;
+    assert!(rt; matches!(&node.act(alloc, &put, 1000), Reply::Done2 { a: 2, b: 1000 }));
+    assert_eq!(rt; pending(alloc, node)?, 1);
+    assert!(rt; close(node)?.is_none());
+    assert_eq!(rt; pending(alloc, node)?, 0);
+    Ok(())
+}
+
 #[test]
-fn a_digest_is_buried_and_deleted(rt: HostRuntime) -> Result<(), Fail> {
+fn what_is_sealed_is_flushed(rt: HostRuntime) -> Result<(), Fail> {
     let alloc = rt.alloc();
+    let mut first = RISING;
+    first.0[0] = 1;
     let mut node = started(alloc, formatted(&rt, alloc)?)?;
+    flush_all(&rt, alloc, &mut node, first)
+}
+
+/// What each command on one digest is answered behind those before it: a tombstone isn't seen, and generations go on behind it.
+fn bury_and_delete(rt: &impl Abort, alloc: Global, node: &mut Node<MemDisk>) -> Result<(), Fail> {
     let meta = Command::Meta(RISING);
     let bury = Command::Bury(RISING);
     let del = Command::Del(RISING);
@@ -193,18 +219,22 @@ fn a_digest_is_buried_and_deleted(rt: HostRuntime) -> Result<(), Fail> {
     );
     assert!(rt; matches!(&node.act(alloc, &del, 1000), Reply::Gone));
     assert!(rt; matches!(&node.act(alloc, &del, 1000), Reply::Nothing));
-    assert_eq!(rt; node.stop().len(), 1);
     Ok(())
 }
 
-/// A restart drops what waits. Where it fails the node halts: it answers every command so, and gives its disk back.
 #[test]
-fn a_node_restarts_until_its_disk_fails(rt: HostRuntime) -> Result<(), Fail> {
+fn a_digest_is_buried_and_deleted(rt: HostRuntime) -> Result<(), Fail> {
     let alloc = rt.alloc();
-    let mut disk = formatted(&rt, alloc)?;
-    // The start syncs once, and so does each restart.
-    disk.fail_after(DiskCall::Sync, 2)?;
-    let mut node = started(alloc, disk)?;
+    let mut node = started(alloc, formatted(&rt, alloc)?)?;
+    bury_and_delete(&rt, alloc, &mut node)
+}
+
+/// A restart drops what waits. Where it fails the node halts: it answers every command so, and gives its disk back.
+fn restart_until_halted(
+    rt: &impl Abort,
+    alloc: Global,
+    node: &mut Node<MemDisk>,
+) -> Result<(), Fail> {
     let put = put_of(alloc, RISING, 5, None)?;
     assert!(rt; matches!(&node.act(alloc, &put, 1000), Reply::Done2 { a: 1, b: 1000 }));
     let Reply::StatOf(counts) = node.act(alloc, &Command::Stat, 1000) else {
@@ -222,6 +252,21 @@ fn a_node_restarts_until_its_disk_fails(rt: HostRuntime) -> Result<(), Fail> {
     assert!(rt; matches!(node.halted(), Some((0, StartCause::Fault))));
     assert!(rt; matches!(&node.act(alloc, &put, 1000), Reply::Halted));
     node.tend(alloc);
+    Ok(())
+}
+
+/// The start syncs once, and so does each restart.
+fn failing_at_third_sync(rt: &impl Abort, alloc: Global) -> Result<MemDisk, Fail> {
+    let mut disk = formatted(rt, alloc)?;
+    disk.fail_after(DiskCall::Sync, 2)?;
+    Ok(disk)
+}
+
+#[test]
+fn a_node_restarts_until_its_disk_fails(rt: HostRuntime) -> Result<(), Fail> {
+    let alloc = rt.alloc();
+    let mut node = started(alloc, failing_at_third_sync(&rt, alloc)?)?;
+    restart_until_halted(&rt, alloc, &mut node)?;
     assert_eq!(rt; node.stop().len(), 1);
     Ok(())
 }
@@ -247,17 +292,7 @@ const EVEN: Digest = Digest([0; 20]);
 const ODD: Digest = Digest([1; 20]);
 
 /// Of two devices the second has a disk whose sync fails: a flush is a fault, the numbers are sums, and the closing names the second.
-#[test]
-fn two_devices_are_served(rt: HostRuntime) -> Result<(), Fail> {
-    let alloc = rt.alloc();
-    let mut second = one_of_two(&rt, alloc, 1)?;
-    // The start syncs once; the two syncs behind it are those of its body, which is written twice.
-    for skip in [1, 2] {
-        second.fail_after(DiskCall::Sync, skip)?;
-    }
-    let mut disks = vec![in alloc; one_of_two(&rt, alloc, 0)?]?;
-    disks.push(second)?;
-    let mut node = started_on(alloc, disks)?;
+fn serve_two(rt: &impl Abort, alloc: Global, node: &mut Node<MemDisk>) -> Result<(), Fail> {
     for digest in [EVEN, ODD] {
         let put = put_of(alloc, digest, 5, None)?;
         assert!(rt; matches!(&node.act(alloc, &put, 1000), Reply::Done2 { a: 1, b: 1000 }));
@@ -272,7 +307,32 @@ fn two_devices_are_served(rt: HostRuntime) -> Result<(), Fail> {
             Reply::Fail(LineFault::Fault)
         )
     );
-    assert!(rt; matches!(close(&mut node)?, Some(1)));
+    assert!(rt; matches!(close(node)?, Some(1)));
+    Ok(())
+}
+
+/// The start syncs once; the two syncs behind it are those of its body, which is written twice.
+fn failing_second(rt: &impl Abort, alloc: Global) -> Result<MemDisk, Fail> {
+    let mut second = one_of_two(rt, alloc, 1)?;
+    for skip in [1, 2] {
+        second.fail_after(DiskCall::Sync, skip)?;
+    }
+    Ok(second)
+}
+
+fn two_disks(rt: &impl Abort, alloc: Global) -> Result<Vec<MemDisk>, Fail>
+    ensures { IfOk result (λ disks. vec_len disks ≡ 2) }
+{
+    let mut disks = vec![in alloc; one_of_two(rt, alloc, 0)?]?;
+    disks.push(failing_second(rt, alloc)?)?;
+    Ok(disks)
+}
+
+#[test]
+fn two_devices_are_served(rt: HostRuntime) -> Result<(), Fail> {
+    let alloc = rt.alloc();
+    let mut node = started_on(alloc, two_disks(&rt, alloc)?)?;
+    serve_two(&rt, alloc, &mut node)?;
     assert_eq!(rt; node.stop().len(), 2);
     Ok(())
 }

@@ -32,10 +32,14 @@ fn used(rt: &impl Abort, alloc: Global, blocks: u8) -> Result<MemDisk, Fail> {
 /// isn't.
 fn found(rt: &impl Abort, alloc: Global, image: MemDisk) -> Result<Option<u8>, Fail> {
     let mut lone = Lone::start(alloc, image)?;
+    Ok(found_in(rt, &mut lone))
+}
+
+fn found_in(rt: &impl Abort, lone: &mut Lone) -> Option<u8> {
     let found = lone.seen(rt, 1, 1999);
     assert!(rt; matches!(found, None | Some(b'o' | b'n')));
     assert!(rt; lone.seen(rt, 1, 2000) == found.filter(|first| *first == b'o'));
-    Ok(found)
+    found
 }
 
 // From the last moment of its flush on the later version is found, until its block is used again. In the end the older one is. Nothing else

@@ -1,4 +1,6 @@
 // What a start finds behind a durable delete, wherever a crash ends the run.
+ghost use Rattle.std.specs.Prelude.{◌≤◌, IfOk};
+
 use super::latest::BESIDE;
 use super::rows::{Line, run_over};
 use super::*;
@@ -93,6 +95,19 @@ fn assert_latest(
     Ok(())
 }
 
+/// And not the first record if that is gone.
+fn assert_shown(
+    rt: &impl Abort,
+    alloc: Global,
+    lone: &mut Lone,
+    bytes: &[u8],
+    gone: bool,
+) -> Result<(), Fail> {
+    assert_latest(rt, alloc, lone, bytes)?;
+    assert!(rt; !gone || !shows_first(lone)?);
+    Ok(())
+}
+
 /// Asserts that a start from this image shows of each digest the latest copy there, and not the first record if that is gone.
 fn assert_image(
     rt: &impl Abort,
@@ -102,9 +117,7 @@ fn assert_image(
 ) -> Result<(), Fail> {
     let bytes = bytes_of(rt, alloc, &mut image)?;
     let mut lone = started(alloc, image)?;
-    assert_latest(rt, alloc, &mut lone, &bytes)?;
-    assert!(rt; !gone || !shows_first(&mut lone)?);
-    Ok(())
+    assert_shown(rt, alloc, &mut lone, &bytes, gone)
 }
 
 /// Asserts so of each image of a moment, where at most two writes weren't synced.
@@ -122,20 +135,45 @@ fn assert_moment(
     Ok(())
 }
 
+/// How many moments a disk has behind so many lines: at least one.
+fn moments_behind(rt: &impl Abort, alloc: Global, count: usize) -> Result<u64, Fail>
+    ensures { IfOk result (λ moments. 1 ≤ moments) }
+{
+    Ok(reached(rt, alloc, count)?.moments())
+}
+
+/// The image of a moment shows the first record.
+fn image_shows_first(alloc: Global, image: MemDisk) -> Result<bool, Fail> {
+    let mut lone = started(alloc, image)?;
+    shows_first(&mut lone)
+}
+
+/// Asserts so of each moment of the run from its begin on, where the record is gone from one on, and not before.
+fn assert_run(
+    rt: &impl Abort,
+    alloc: Global,
+    disk: &MemDisk,
+    begun: u64,
+    buried: u64,
+) -> Result<(), Fail> {
+    assert!(rt; 1 <= buried && buried < disk.moments());
+    assert!(rt; begun < 100 && disk.moments() == begun + 32);
+    assert!(rt; image_shows_first(alloc, disk.image(buried - 1, 0)?)?);
+    for moment in begun..begun + 32 {
+        assert_moment(rt, alloc, disk, moment, buried <= moment)?;
+    }
+    Ok(())
+}
+
 // A start makes one moment, a flush four, and closing the gate of the first record's block two. Before the last moment of the flush in line
 // 4 a crash may leave the first record, and from then on none does.
 #[test]
 fn a_record_stays_deleted(rt: HostRuntime) -> Result<(), Fail> {
     let alloc = rt.alloc();
-    let begun = reached(&rt, alloc, 0)?.moments() - 1;
+    let begun = moments_behind(&rt, alloc, 0)? - 1;
     assert!(rt; begun < 100);
     let buried = begun + 8;
-    assert!(rt; reached(&rt, alloc, 4)?.moments() == buried + 1);
+    assert!(rt; moments_behind(&rt, alloc, 4)? == buried + 1);
     let disk = reached(&rt, alloc, 20)?;
-    assert!(rt; disk.moments() == begun + 32);
-    assert!(rt; shows_first(&mut started(alloc, disk.image(buried - 1, 0)?)?)?);
-    for moment in begun..begun + 32 {
-        assert_moment(&rt, alloc, &disk, moment, buried <= moment)?;
-    }
-    Ok(())
+    assert_run(&rt, alloc, &disk, begun, buried)
 }

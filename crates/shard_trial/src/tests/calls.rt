@@ -39,7 +39,7 @@ fn assert_put(rt: &impl Abort, lone: &mut Lone, record: &Stored) -> Result<(), F
 
 /// A record is put and flushed, and put again.
 fn put_again(rt: &impl Abort, lone: &mut Lone) -> Result<(), Fail> {
-    lone.assert_finds(rt, &hello(), false)?;
+    lone.assert_finds_each(rt, &[hello(), put_of(alike(2), 1000, 1, b"")], false)?;
     assert_put(rt, lone, &hello())?;
     lone.tend();
     assert!(rt; lone.flush() == Ok(1));
@@ -48,14 +48,19 @@ fn put_again(rt: &impl Abort, lone: &mut Lone) -> Result<(), Fail> {
     assert_put(rt, lone, &replaced())
 }
 
+/// So it is on a new device, which is stopped then.
+fn put_again_on(rt: &impl Abort, alloc: Global) -> Result<MemDisk, Fail> {
+    let mut lone = start_new(rt, alloc)?;
+    put_again(rt, &mut lone)?;
+    Ok(lone.stop())
+}
+
 // From its write buffer, from the disk, and behind the next start. A buffer that isn't flushed is lost.
 #[test]
 fn a_record_is_put_and_seen(rt: HostRuntime) -> Result<(), Fail> {
-    let mut lone = start_new(&rt, rt.alloc())?;
-    put_again(&rt, &mut lone)?;
-    let mut lone = lone.restart(false)?;
-    lone.assert_finds(&rt, &hello(), true)?;
-    lone.assert_finds(&rt, &put_of(alike(2), 1000, 1, b""), false)
+    let alloc = rt.alloc();
+    let disk = put_again_on(&rt, alloc)?;
+    assert_found(&rt, alloc, disk, &[hello()], true)
 }
 
 /// With its record it takes a whole block.

@@ -42,8 +42,8 @@ fn assert_there(
     record: &Stored,
 ) -> Result<(), Fail> {
     for count in [0, 1, 16, 4096] {
-        let mut lone = started(alloc, torn(rt, disk, moment, count)?)?;
-        assert!(rt; lone.finds(record, true)?, "{count} bytes, moment {moment}");
+        let image = torn(rt, disk, moment, count)?;
+        assert_found(rt, alloc, image, &[*record], true)?;
     }
     Ok(())
 }

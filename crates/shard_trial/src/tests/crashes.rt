@@ -141,6 +141,12 @@ fn holds_any(lone: &mut Lone, least: usize, most: usize) -> Result<bool, Fail> {
     Ok(false)
 }
 
+/// So it is where a start reads this image.
+fn image_holds(alloc: Global, image: MemDisk, least: usize, most: usize) -> Result<bool, Fail> {
+    let mut lone = started(alloc, image)?;
+    holds_any(&mut lone, least, most)
+}
+
 /// Asserts that a start from this image finds so many of the records that were put, at least and at most.
 fn assert_left(
     rt: &impl Abort,
@@ -150,8 +156,7 @@ fn assert_left(
     (least, most): (usize, usize),
 ) -> Result<(), Fail> {
     assert!(rt; moment < disk.moments());
-    let mut lone = started(alloc, disk.image(moment, pick)?)?;
-    let found = holds_any(&mut lone, least, most)?;
+    let found = image_holds(alloc, disk.image(moment, pick)?, least, most)?;
     assert!(rt; found, "{least} to {most} at moment {moment}, pick {pick}");
     Ok(())
 }

@@ -42,6 +42,21 @@ fn is_fault(lone: &mut Lone, digest: &Digest) -> bool {
     matches!(&lone.get(digest), Err(ReadRefusal::Fault))
 }
 
+/// The device is taken into use, and these records are read. The first read of the second one may fail.
+fn assert_read(
+    rt: &impl Abort,
+    alloc: Global,
+    disk: MemDisk,
+    records: &[Stored],
+    fails: bool,
+) -> Result<(), Fail> {
+    let mut lone = started(alloc, disk)?;
+    if fails {
+        assert!(rt; is_fault(&mut lone, &ONES));
+    }
+    lone.assert_finds_each(rt, records, true)
+}
+
 // A start reads the header, the 8 gates, and the bodies behind the two that are open. Each of these reads fails in turn, and then that
 // of a record.
 #[test]
@@ -51,12 +66,7 @@ fn each_read_fails(rt: HostRuntime) -> Result<(), Fail> {
     let high = put_of(ONES, 600, 5, b"high");
     for skip in 0..12 {
         let disk = failing_read(&rt, alloc, &[(1, 2, &[low]), (2, 7, &[high])], skip)?;
-        let mut lone = started(alloc, disk)?;
-        if skip == 11 {
-            assert!(rt; is_fault(&mut lone, &ONES));
-        }
-        lone.assert_finds(&rt, &low, true)?;
-        lone.assert_finds(&rt, &high, true)?;
+        assert_read(&rt, alloc, disk, &[low, high], skip == 11)?;
     }
     Ok(())
 }

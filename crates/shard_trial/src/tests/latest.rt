@@ -28,6 +28,17 @@ fn assert_row(
     lone.assert_finds(rt, &next, true)
 }
 
+/// So it is on a device with these blocks open.
+fn assert_found_row(
+    rt: &impl Abort,
+    alloc: Global,
+    blocks: &[Filled],
+    row: Row,
+) -> Result<(), Fail> {
+    let mut lone = started_with(rt, alloc, blocks)?;
+    assert_row(rt, &mut lone, row)
+}
+
 fn assert_rows(rt: &impl Abort, lone: &mut Lone, rows: &[Row]) -> Result<(), Fail> {
     for row in rows {
         assert_row(rt, lone, *row)?;
@@ -58,6 +69,17 @@ fn records_of_an_open_block_are_found(rt: HostRuntime) -> Result<(), Fail> {
     assert_rows(&rt, &mut lone, &rows)
 }
 
+/// What a put of this digest answers where a start found this record.
+fn put_over_found(
+    rt: &impl Abort,
+    alloc: Global,
+    record: Stored,
+    digest: &Digest,
+) -> Result<Result<Stamp, WriteRefusal>, Fail> {
+    let mut lone = started_with(rt, alloc, &[(1, 5, &[record])])?;
+    Ok(lone.put(rt, digest, b"x"))
+}
+
 // A digest of its own in a sprig gets a time above all that were found there, a tombstone's too.
 #[test]
 fn times_of_a_sprig_are_found(rt: HostRuntime) -> Result<(), Fail> {
@@ -74,8 +96,8 @@ fn times_of_a_sprig_are_found(rt: HostRuntime) -> Result<(), Fail> {
         (put_of(RISING, TOP_TIME, 1, b""), RISING, last),
         (put_of(RISING, TOP_TIME, 65_535, b""), RISING, spent),
     ] {
-        let mut lone = started_with(&rt, alloc, &[(1, 5, &[record])])?;
-        assert!(rt; lone.put(&rt, &digest, b"x") == wanted);
+        let answer = put_over_found(&rt, alloc, record, &digest)?;
+        assert!(rt; answer == wanted);
     }
     Ok(())
 }
@@ -105,6 +127,18 @@ fn numbers_of_buffers_are_found(rt: HostRuntime) -> Result<(), Fail> {
     spend(&rt, &mut lone);
     let mut lone = lone.restart(false)?;
     assert_spent(&rt, &mut lone)
+}
+
+/// A small device with these blocks open, over which these bytes are written.
+fn written_over(
+    rt: &impl Abort,
+    alloc: Global,
+    blocks: &[Filled],
+    texts: &[(u64, &[u8])],
+) -> Result<MemDisk, Fail> {
+    let mut disk = device_with(rt, alloc, blocks)?;
+    write_each(rt, &mut disk, texts)?;
+    Ok(disk)
 }
 
 /// The records of blocks 0 and 2, and the one that is put into block 1.
@@ -146,20 +180,22 @@ fn put_third(rt: &impl Abort, lone: &mut Lone) {
     assert!(rt; lone.flush() == Ok(1));
 }
 
+/// The device with neighbours behind that put.
+fn with_third_put(rt: &impl Abort, alloc: Global) -> Result<MemDisk, Fail> {
+    let mut lone = started(alloc, with_neighbours(rt, alloc)?)?;
+    put_third(rt, &mut lone);
+    Ok(lone.stop())
+}
+
 // The lowest block that is closed is written, as the format says, and nothing else changes.
 #[test]
 fn the_lowest_closed_block_is_taken(rt: HostRuntime) -> Result<(), Fail> {
     let alloc = rt.alloc();
-    let mut lone = started(alloc, with_neighbours(&rt, alloc)?)?;
-    put_third(&rt, &mut lone);
-    let there = bytes_of(&rt, alloc, lone.stop())?;
+    let there = bytes_of(&rt, alloc, with_third_put(&rt, alloc)?)?;
     let wanted = bytes_of(&rt, alloc, with_all_three(&rt, alloc)?)?;
     assert!(rt; there == wanted);
-    let mut lone = started(alloc, with_all_three(&rt, alloc)?)?;
-    for record in neighbours() {
-        lone.assert_finds(&rt, &record, true)?;
-    }
-    Ok(())
+    let disk = with_all_three(&rt, alloc)?;
+    assert_found(&rt, alloc, disk, &neighbours(), true)
 }
 
 /// Three blocks in each order.
@@ -189,8 +225,7 @@ fn the_latest_copy_is_found(rt: HostRuntime) -> Result<(), Fail> {
                 (1, b, &[two]),
                 (2, c, &[three]),
             ];
-            let mut lone = started_with(&rt, alloc, &blocks)?;
-            assert_row(&rt, &mut lone, (three, seen, 2000, gen_))?;
+            assert_found_row(&rt, alloc, &blocks, (three, seen, 2000, gen_))?;
         }
     }
     Ok(())
@@ -214,8 +249,8 @@ fn the_lowest_of_equal_copies_is_found(rt: HostRuntime) -> Result<(), Fail> {
         ([tomb, one], [one, one], false),
         ([older, tomb], [one, two], false),
     ] {
-        let mut lone = started_with(&rt, alloc, &[(2, 2, &low), (1, 5, &high)])?;
-        lone.assert_finds(&rt, &one, seen)?;
+        let disk = device_with(&rt, alloc, &[(2, 2, &low), (1, 5, &high)])?;
+        assert_found(&rt, alloc, disk, &[one], seen)?;
     }
     Ok(())
 }
@@ -231,14 +266,15 @@ fn put_by_turns(rt: &impl Abort, lone: &mut Lone) {
 // The next start finds the last put of each.
 #[test]
 fn records_are_found_again(rt: HostRuntime) -> Result<(), Fail> {
-    let mut lone = started_with(&rt, rt.alloc(), &[])?;
+    let alloc = rt.alloc();
+    let mut lone = started_with(&rt, alloc, &[])?;
     put_by_turns(&rt, &mut lone);
-    let mut lone = lone.restart(false)?;
-    for (byte, gen_, payload) in [(0, 3, b"\x06"), (1, 3, b"\x07"), (2, 2, b"\x05")] {
-        let record = put_of(numbered(byte), 1000, gen_, payload);
-        lone.assert_finds(&rt, &record, true)?;
-    }
-    Ok(())
+    let last = [
+        put_of(numbered(0), 1000, 3, b"\x06"),
+        put_of(numbered(1), 1000, 3, b"\x07"),
+        put_of(numbered(2), 1000, 2, b"\x05"),
+    ];
+    assert_found(&rt, alloc, lone.stop(), &last, true)
 }
 
 // Whatever stands behind a closed gate isn't read. Only the first 16 bytes of a sector open it.
@@ -252,13 +288,12 @@ fn sixteen_bytes_open_a_gate(rt: HostRuntime) -> Result<(), Fail> {
         (16, 1, true),
         (4095, 1, true),
     ] {
-        let mut disk = device_with(&rt, alloc, &[(1, 3, &[record])])?;
         let texts: [(u64, &[u8]); 2] = [
             (gate_place(3) + place, &[byte]),
             (body_place(4), &[0xff; 12_288]),
         ];
-        write_each(&rt, &mut disk, &texts)?;
-        started(alloc, disk)?.assert_finds(&rt, &record, opened)?;
+        let disk = written_over(&rt, alloc, &[(1, 3, &[record])], &texts)?;
+        assert_found(&rt, alloc, disk, &[record], opened)?;
     }
     Ok(())
 }

@@ -164,6 +164,19 @@ impl Lone {
         Ok(())
     }
 
+    /// Asserts so of each of these records.
+    pub fn assert_finds_each(
+        &mut self,
+        rt: &impl Abort,
+        records: &[Stored],
+        seen: bool,
+    ) -> Result<(), Fail> {
+        for record in records {
+            self.assert_finds(rt, record, seen)?;
+        }
+        Ok(())
+    }
+
     pub fn flush(&mut self) -> Result<u64, DiskFault> {
         self.shard.flush()
     }

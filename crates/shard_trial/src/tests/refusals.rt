@@ -117,7 +117,7 @@ fn the_device_is_another_or_too_short(rt: HostRuntime) -> Result<(), Fail> {
         assert!(rt; cause == StartCause::OtherGeometry { kept, asked, len });
     }
     for len in [SMALL_BYTES, SMALL_BYTES + 1] {
-        let _lone = started(alloc, headed(&rt, alloc, &SMALL, len)?)?;
+        assert_found(&rt, alloc, headed(&rt, alloc, &SMALL, len)?, &[], true)?;
     }
     Ok(())
 }
@@ -179,6 +179,19 @@ const NO_BODIES: [(u64, &[u8], u32); 36] = [
     (104, &[1, 0, 0, 0, 0, 0, 0, 0x40], 96),
 ];
 
+/// Why a device with these blocks open isn't taken into use where these bytes are written over it.
+fn cause_with(
+    rt: &impl Abort,
+    alloc: Global,
+    blocks: &[Filled],
+    texts: &[(u64, &[u8])],
+) -> Result<StartCause, Fail> {
+    let mut disk = device_with(rt, alloc, blocks)?;
+    write_each(rt, &mut disk, texts)?;
+    let (_, cause) = refused(alloc, disk, ALONE)?;
+    Ok(cause)
+}
+
 // Right bodies, of which that of block 3 has some bytes written over, and then that of block 6 too: the first fault is told.
 #[test]
 fn a_byte_of_a_body_is_wrong(rt: HostRuntime) -> Result<(), Fail> {
@@ -190,19 +203,16 @@ fn a_byte_of_a_body_is_wrong(rt: HostRuntime) -> Result<(), Fail> {
     let right = [hello, world];
     let blocks: [(u64, u32, &[Stored]); 3] = [(9, 0, &right), (7, 3, &right), (8, 6, &[])];
     for (at, bytes, place) in NO_BODIES {
-        let mut disk = device_with(&rt, alloc, &blocks)?;
         let texts: [(u64, &[u8]); 2] = [
             (body_place(3).saturating_add(at), bytes),
             (body_place(6), b"a"),
         ];
-        write_each(&rt, &mut disk, &texts)?;
-        let (_, cause) = refused(alloc, disk, ALONE)?;
+        let cause = cause_with(&rt, alloc, &blocks, &texts)?;
         let damaged = StartCause::DamagedBlock { block: 3, place };
         assert!(rt; cause == damaged, "{bytes:?} at {at}");
     }
-    let mut lone = started_with(&rt, alloc, &blocks)?;
-    lone.assert_finds(&rt, &hello, true)?;
-    lone.assert_finds(&rt, &world, true)
+    let disk = device_with(&rt, alloc, &blocks)?;
+    assert_found(&rt, alloc, disk, &[hello, world], true)
 }
 
 /// The longest payload.
@@ -219,14 +229,12 @@ fn a_record_is_cut_short(rt: HostRuntime) -> Result<(), Fail> {
         (12_208, 0, 12_288),
     ] {
         let record = put_of(ONES, 1, 1, &LONG[..length]);
-        let mut disk = device_with(&rt, alloc, &[(1, 0, &[record])])?;
         let texts: [(u64, &[u8]); 3] = [
             (body_place(0) + 16, &[2]),
             (body_place(0) + 20, &[254, 2]),
             (body_place(0) + u64::from(place), &HELLO[..there]),
         ];
-        write_each(&rt, &mut disk, &texts)?;
-        let (_, cause) = refused(alloc, disk, ALONE)?;
+        let cause = cause_with(&rt, alloc, &[(1, 0, &[record])], &texts)?;
         assert!(rt; cause == StartCause::DamagedBlock { block: 0, place });
     }
     Ok(())

@@ -66,19 +66,30 @@ fn used_again(rt: &impl Abort, alloc: Global) -> Result<MemDisk, Fail> {
     Ok(lone.stop())
 }
 
+fn moments_filled(rt: &impl Abort, alloc: Global) -> Result<u64, Fail> {
+    Ok(filled(rt, alloc)?.stop().moments())
+}
+
+/// Each image of a moment has both records.
+fn assert_kept(rt: &impl Abort, alloc: Global, disk: &MemDisk, moment: u64) -> Result<(), Fail> {
+    for pick in [0, 1, u64::MAX] {
+        assert!(rt; moment < disk.moments());
+        let records = [record(1), record(3)];
+        assert_found(rt, alloc, disk.image(moment, pick)?, &records, true)?;
+    }
+    Ok(())
+}
+
 // Both vacated blocks are used again once the moved records are flushed, and not before. Whenever a crash comes, and whichever of the writes
 // under way it leaves, records 1 and 3 are there.
 #[test]
 fn blocks_are_vacated_and_used_again(rt: HostRuntime) -> Result<(), Fail> {
     let alloc = rt.alloc();
-    let begun = filled(&rt, alloc)?.stop().moments();
+    let begun = moments_filled(&rt, alloc)?;
     let disk = used_again(&rt, alloc)?;
     assert!(rt; 1 <= begun && begun < disk.moments());
     for moment in begun - 1..disk.moments() {
-        for pick in [0, 1, u64::MAX] {
-            let mut left = started(alloc, disk.image(moment, pick)?)?;
-            assert!(rt; has_kept(&mut left)?, "moment {moment}, pick {pick}");
-        }
+        assert_kept(&rt, alloc, &disk, moment)?;
     }
     Ok(())
 }

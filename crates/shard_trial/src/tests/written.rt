@@ -116,7 +116,7 @@ pub fn write_each(rt: &impl Abort, disk: &mut MemDisk, texts: &[(u64, &[u8])]) -
 }
 
 /// A block that is open: the number of its buffer, its place, and its records.
-type Filled<'a> = (u64, u32, &'a [Stored]);
+pub type Filled<'a> = (u64, u32, &'a [Stored]);
 
 fn write_block(
     rt: &impl Abort,
@@ -165,6 +165,18 @@ pub fn larger_device(rt: &impl Abort, alloc: Global) -> Result<MemDisk, Fail> {
     let mut disk = MemDisk::new(alloc, 266_240)?;
     write_each(rt, &mut disk, &[(0, &FRONT), (24, &[16])])?;
     Ok(disk)
+}
+
+/// A start over the disk finds each of these records, or nothing of their digests.
+pub fn assert_found(
+    rt: &impl Abort,
+    alloc: Global,
+    disk: MemDisk,
+    records: &[Stored],
+    seen: bool,
+) -> Result<(), Fail> {
+    let mut lone = started(alloc, disk)?;
+    lone.assert_finds_each(rt, records, seen)
 }
 
 /// A small device with these blocks open is taken into use.
