@@ -1,0 +1,3 @@
+pub mod Raids
+pub mod Marks
+pub mod Scans

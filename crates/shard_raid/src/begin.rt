@@ -1,0 +1,62 @@
+// How a raid begins.
+ghost use Rattle.std.specs.Prelude.{◌≡◌, ◌+◌, ◌==◌, None, Some, if◌then◌else◌};
+ghost use Rattle.rec_format.specs.Versions.{top_number};
+ghost use Rattle.device_model.specs.Book.{Setup};
+ghost use Rattle.device_model.specs.Device.{State};
+ghost use Rattle.device_model.specs.Events.{begin_call, raid_numbered};
+ghost use Rattle.raid_book.specs.Books.{begun};
+ghost use Rattle.block_shelf.specs.View.{IsSetupOf};
+ghost use Rattle.shard_steps.specs.Standing.{ShelfStands};
+ghost use Rattle.shard_steps.specs.Events.{MakesEvent};
+ghost use Rattle.shard_raid.specs.Raids.{RaidView, begun_raid, number_of, StandOn};
+
+use block_shelf::Shelf;
+use disk_model::Disk;
+use raid_book::RaidNext;
+use std::marker::Model;
+
+/// A raid that was begun: its number, and its next turn. It can't be copied.
+#[derive(Drop)]
+pub struct Raid {
+    number: u64,
+    next: RaidNext,
+}
+
+impl Model for Raid {
+    ghost use Rattle.shard_raid.specs.Raids.{RaidView};
+
+    ghost Value = { RaidView };
+
+    ghost view = { λ r. record { number = r.number; next = r.next } };
+}
+
+impl Raid {
+    /// Its number.
+    pub fn number(&self) -> u64
+        ensures { result ≡ self.now.number }
+    {
+        self.number
+    }
+
+    /// Its next turn.
+    pub fn next(&self) -> RaidNext
+        ensures { result ≡ self.now.next }
+    {
+        self.next
+    }
+}
+
+/// Begins a raid, also over a running one, whose marks are void then. Its number is one more than the last; where that was 2^62 none begins,
+/// and nothing changes. Its first turn is that of the first part.
+pub fn raid_begin<D: Disk>(shelf: &mut Shelf<D>) -> Option<Raid>
+    ensures makes { (setup : Setup) (s : State) → IsSetupOf setup shelf.old → ShelfStands setup shelf.old s
+        → MakesEvent D.view setup begin_call (raid_numbered (number_of result)) shelf.old s shelf.new (StandOn setup shelf.new s) }
+    ensures raid { result ≡ (if shelf.old.raid.number == top_number then None else Some (begun_raid (shelf.old.raid.number + 1))) }
+    ensures book { shelf.new ≡ (if shelf.old.raid.number == top_number then shelf.old else record shelf.old { raid = begun shelf.old.raid }) }
+{
+    // No raid's number is above 2^62.
+    let _last = shelf.raid().number();
+    let number = shelf.begin_raid()?;
+    let next = shelf.raid().next();
+    Some(Raid { number, next })
+}

@@ -1,0 +1,65 @@
+// How a raid scans a block.
+ghost use Rattle.std.specs.Prelude.{◌≡◌, ℕ, Err, IfOk, IfErr, OnErr};
+ghost use Rattle.fault_count.specs.Counts.{Rose};
+ghost use Rattle.disk_model.specs.Disk.{IsHonest};
+ghost use Rattle.device_model.specs.Book.{Setup};
+ghost use Rattle.device_model.specs.Device.{State};
+ghost use Rattle.block_format.specs.Layout.{body_bytes};
+ghost use Rattle.raid_book.specs.Books.{given_up};
+ghost use Rattle.block_shelf.specs.Disks.{IsLater};
+ghost use Rattle.block_shelf.specs.View.{IsSetupOf};
+ghost use Rattle.shard_steps.specs.Standing.{ShelfStands};
+ghost use Rattle.shard_raid.specs.Scans.{ScanMakes, IsOfTurn, IsDamageOf, refusal_to_scan};
+
+use block_shelf::{Shelf, VacateRefusal};
+use disk_model::Disk;
+use raid_book::RaidNext;
+use std::alloc::Global;
+
+/// Why a turn of a raid is refused.
+#[derive(Clone, Copy, PartialEq, Eq)]
+pub enum RaidRefusal {
+    /// It isn't the next turn of the raid that runs: that has this number, and this is its next turn.
+    Stale { number: u64, next: RaidNext },
+    /// What is in the block from this place on isn't in the format.
+    Damaged { block: u32, place: u32 },
+    /// There was no memory for it.
+    Memory,
+    /// The disk failed.
+    Fault,
+}
+
+/// Scans the block whose turn it is, and answers it: the copies that may be in it, also those that only a crash would bring back, are found,
+/// and the raid goes on to its next turn. After a refusal the raid is given up, and its marks are void.
+pub fn raid_scan<D: Disk>(alloc: Global, shelf: &mut Shelf<D>) -> Result<u32, RaidRefusal>
+    requires turn { (block : ℕ) × (shelf.old.raid.next ≡ RaidNext.Scan block) }
+    ensures makes { (setup : Setup) (s : State) (now block : ℕ) → shelf.old.raid.next ≡ RaidNext.Scan block → IsSetupOf setup shelf.old → ShelfStands setup shelf.old s
+        → ScanMakes D.view setup block now result shelf.old s shelf.new }
+    ensures block { IfOk result (λ block. shelf.old.raid.next ≡ RaidNext.Scan block) }
+    ensures of_turn { IfErr result IsOfTurn }
+    ensures given_up { OnErr result (shelf.new.raid ≡ given_up shelf.old.raid) }
+
+    // Damage is what the disk has in the block.
+    ensures damaged { (D.view shelf.old.disk).tells → (block : ℕ) → shelf.old.raid.next ≡ RaidNext.Scan block
+        → IfErr result (IsDamageOf shelf.old.geometry (body_bytes shelf.old.geometry block (D.view shelf.old.disk).seen) block) }
+    ensures rest { shelf.new ≡ record shelf.old { disk = shelf.new.disk; gates = shelf.new.gates; raid = shelf.new.raid } }
+    ensures cause { result ≡ Err RaidRefusal.Fault → Rose (D.view shelf.old.disk).faults (D.view shelf.new.disk).faults }
+    ensures later { IsLater (D.view shelf.old.disk) (D.view shelf.new.disk) }
+    ensures honest { IsHonest (D.view shelf.old.disk) → IsHonest (D.view shelf.new.disk) }
+{
+    match shelf.scan_step(alloc) {
+        Ok(block) => Ok(block),
+        Err(refusal) => Err(scan_refusal(refusal)),
+    }
+}
+
+// What a refusal of the shelf to scan a block is to the raid.
+fn scan_refusal(refusal: VacateRefusal) -> RaidRefusal
+    ensures { result ≡ refusal_to_scan refusal }
+{
+    match refusal {
+        VacateRefusal::Damaged { block, place } => RaidRefusal::Damaged { block, place },
+        VacateRefusal::Memory => RaidRefusal::Memory,
+        VacateRefusal::Fault => RaidRefusal::Fault,
+    }
+}
