@@ -4,16 +4,16 @@ use Rattle.std.specs.Prelude.{Some, IsSomeAnd, Contains, ◌==◌}
 use Rattle.std.specs.List.{AllByRecursion}
 use Rattle.std.proofs.lemmas.Bool.{both_ways, and_parts, or_cases, cond-false, eqb-true}
 use Rattle.std.proofs.lemmas.List.{append-nil, length-set, length-append}
-use Rattle.disk_model.specs.Disk.{DiskView, IsDisk}
+use Rattle.disk_model.specs.Disk.{DiskView, IsDisk, IsHonest}
 use Rattle.disk_model.specs.Runs.{OneOf}
 use Rattle.rec_format.specs.declared.version.Digest.{Digest}
 use Rattle.rec_format.specs.declared.version.Version.{Version}
 use Rattle.rec_format.specs.Places.{same_digest}
 use Rattle.rec_format.proofs.Laws.{same_digest_refl, same_digest_is}
-use Rattle.device_model.specs.Histories.{dropped, top_of}
-use Rattle.device_model.specs.Book.{Setup, Buffer, Live, live_of, may_be_free, use_of}
-use Rattle.device_model.specs.Device.{State, entry, history, entry_is_covered}
-use Rattle.device_model.specs.Steps.{removed, after_step, states_through}
+use Rattle.device_model.specs.Histories.{Item, top_of}
+use Rattle.device_model.specs.Book.{Setup, Buffer, Live, live_of, may_be_free, use_of, dropped_live}
+use Rattle.device_model.specs.Device.{State, entry, history}
+use Rattle.device_model.specs.Steps.{Step, with_item, after_step, states_through}
 use Rattle.recovery.specs.Surviving.{Survives}
 use Rattle.recovery.proofs.Growing.{all_from, all_at}
 use Rattle.recovery.proofs.Members.{map_there, map_from}
@@ -27,13 +27,17 @@ use Rattle.hold_book.specs.Holds.{Holds, IsHeld, has_hold, with_pair, HoldState,
 use Rattle.hold_book.proofs.Laws.{has_hold-with_hold}
 use Rattle.kept_trail.specs.Trail.{places_of, IsBooked}
 use Rattle.kept_trail.proofs.Books.{live_there, others_live}
+use Rattle.kept_facts.specs.Asking.{MayTake}
+use Rattle.kept_images.specs.Changes.{is_plain}
+use Rattle.kept_images.specs.Kept.{BookInOrder}
 use Rattle.kept_images.proofs.Holding.{plain_holds}
 use Rattle.kept_images.proofs.Stepping.{plain_book}
 use Rattle.raid_book.specs.Raids.{SameButMarks}
 use Rattle.block_shelf.specs.declared.place.Place.{Place}
 use Rattle.block_shelf.specs.View.{ShelfView, IsShelf, IsRoll, IsSetupOf, ArePacked, IsUnused, AreApart, records_of, gate_at}
-use Rattle.block_shelf.specs.Standing.{HasCopy, HasRecord, StandsFor, BooksStand, IsPlaced, LivesSame, book_buffer}
+use Rattle.block_shelf.specs.Standing.{HasCopy, HasRecord, StandsFor, BooksStand, IsPlaced, ImagesHold, LivesSame, book_buffer}
 use Rattle.block_shelf.specs.Calls.{Goes, copy_live}
+use Rattle.block_shelf.specs.Scans.{possible_copies}
 use Rattle.block_shelf.specs.Changes.{has_buffer_in, without_copy, with_free, with_requeued, rolls_without}
 use Rattle.block_shelf.proofs.Blocks.{apart_push, apart_back, few}
 use Rattle.block_shelf.proofs.Frees.{IsVacant, vacant_from, vacant_is}
@@ -160,9 +164,10 @@ module _ {D : Type 0} (view : D → DiskView) (shelf : ShelfView D) (is : IsShel
 -- ---- the state
 
 module _ {D : Type 0} (view : D → DiskView) (is_disk : (disk : D) → IsDisk (view disk)) (setup : Setup) (shelf : ShelfView D) (s : State) (is : IsShelf view shelf) (stands : StandsFor setup shelf s)
-    (of_shelf : IsSetupOf setup shelf) (digest : Digest) (place : Place) (live : Contains s.book.live (copy_live digest place)) (below : place.block < shelf.geometry.blocks) where
+    (of_shelf : IsSetupOf setup shelf) (digest : Digest) (place : Place) (live : Contains s.book.live (copy_live digest place)) (below : place.block < shelf.geometry.blocks)
+    (item : Item) (step : Step) (only : after_step setup step s ≡ with_item digest item (dropped_live setup digest s.book) s) (plain : is_plain step ≡ true) where
   abbrev after : State
-  after = after_step setup (removed digest) s
+  after = with_item digest item (dropped_live setup digest s.book) s
 
   abbrev rolls : List BlockRoll
   rolls = rolls_without place.block place.unit shelf.rolls
@@ -201,8 +206,7 @@ module _ {D : Type 0} (view : D → DiskView) (is_disk : (disk : D) → IsDisk (
       false_else false never = refl
 
   entry_left : (e : Digest) → same_digest digest e ≡ false → entry after e ≡ entry s e
-  unfolding after_step
-  entry_left e other = ap top_of (cond-false (same_digest e digest) (dropped ∷ history s e) (history s e) (by (same_digest e digest) refl))
+  entry_left e other = ap top_of (cond-false (same_digest e digest) (item ∷ history s e) (history s e) (by (same_digest e digest) refl))
     where
       by : (b : Bool) → same_digest e digest ≡ b → b ≡ false
       by false is = refl
@@ -247,7 +251,7 @@ module _ {D : Type 0} (view : D → DiskView) (is_disk : (disk : D) → IsDisk (
     };
     lives = lives_left;
     listed = dropped_listed setup s digest booked stands.listed;
-    order = plain_book setup s (records_of shelf.buffers) stands.order (removed digest) refl;
+    order = subst (λ (t : State). BookInOrder setup t (records_of shelf.buffers)) only (plain_book setup s (records_of shelf.buffers) stands.order step plain);
     entries = λ l there.
         let left = left_live setup s digest l (subst (λ (x : List Live). Contains x l) (dropped_lives setup s digest) there) in
         let old = stands.entries l left.0 in
@@ -281,7 +285,6 @@ module _ {D : Type 0} (view : D → DiskView) (is_disk : (disk : D) → IsDisk (
       (fewer_own setup s digest booked stands.listed)
 
   dropped_raid : SameButMarks s.raid after.raid
-  unfolding after_step
   dropped_raid = refl
 
   queued_with : (free : List ℕ) → BooksStand setup shelf s → BooksStand setup (record requeued_view { free = free }) after
@@ -293,13 +296,17 @@ module _ {D : Type 0} (view : D → DiskView) (is_disk : (disk : D) → IsDisk (
       (λ b lt other. queued_alike setup s.book (fewer setup s digest) b refl
       (ap (sum_by (λ (l : Live). l.units)) (use_elsewhere digest b s.book.live (λ l there same at. other (sym at ∙ ap (λ (x : Live). x.block) (sym (stands.listed.one (copy_live digest place) l live there same)))))))
 
-  goes_with : entry_is_covered s digest ≡ false → (free : List ℕ) → after.book.free ≡ free → Goes view setup (removed digest ∷ []) shelf s (record requeued_view { free = free })
-  goes_with uncovered free same = record {
-    stands = stands_with free requeued_view.queue same;
-    queued = queued_with free;
-    placed = λ honest placed. placed_with free requeued_view.queue placed;
-    safe = λ honest safe. plain_holds setup shelf.geometry s (records_of shelf.buffers) (gate_at shelf.gates) (view shelf.disk).may_leave safe (removed digest) refl uncovered;
-    leaves = λ honest safe. stays view setup shelf s (is_disk shelf.disk) (OneOf (Survives setup) (states_through setup (removed digest ∷ []) s)) (λ c h. inl h) safe;
+  -- what the step asks of the copies that an image may have
+  abbrev pub MayStep : Type 0
+  MayStep = IsHonest (view shelf.disk) → ImagesHold setup view shelf s → MayTake setup s (possible_copies view shelf s) step
+
+  goes_with : MayStep → (free : List ℕ) → after.book.free ≡ free → Goes view setup (step ∷ []) shelf s (record requeued_view { free = free })
+  goes_with may free same = record {
+    stands = subst (StandsFor setup (record requeued_view { free = free })) (sym only) (stands_with free requeued_view.queue same);
+    queued = λ was. subst (BooksStand setup (record requeued_view { free = free })) (sym only) (queued_with free was);
+    placed = λ honest placed. subst (IsPlaced view (record requeued_view { free = free })) (sym only) (placed_with free requeued_view.queue placed);
+    safe = λ honest safe. plain_holds setup shelf.geometry s (records_of shelf.buffers) (gate_at shelf.gates) (view shelf.disk).may_leave safe step plain (may honest safe);
+    leaves = λ honest safe. stays view setup shelf s (is_disk shelf.disk) (OneOf (Survives setup) (states_through setup (step ∷ []) s)) (λ c h. inl h) safe;
   }
 
   -- ---- whether the block is free then
@@ -338,11 +345,11 @@ module _ {D : Type 0} (view : D → DiskView) (is_disk : (disk : D) → IsDisk (
       dropped_frees setup s digest booked stands.listed (copy_live digest place) live (same_digest_refl digest) lt_setup
       ∙ ap (λ (l : List ℕ). l ++ cond (may_be_free (fewer setup s digest) place.block) (place.block ∷ []) []) stands.free ∙ ap (λ (b : Bool). shelf.free ++ cond b (place.block ∷ []) []) is_may
 
-  pub goes_freed : entry_is_covered s digest ≡ false → IsUnused requeued_view place.block → Goes view setup (removed digest ∷ []) shelf s (with_free place.block requeued_view)
-  goes_freed uncovered unused = goes_with uncovered (shelf.free ++ place.block ∷ []) (frees true (vacant_is (fewer setup s digest) place.block (is_vacant unused)))
+  pub goes_freed : MayStep → IsUnused requeued_view place.block → Goes view setup (step ∷ []) shelf s (with_free place.block requeued_view)
+  goes_freed may unused = goes_with may (shelf.free ++ place.block ∷ []) (frees true (vacant_is (fewer setup s digest) place.block (is_vacant unused)))
 
-  pub goes_kept : entry_is_covered s digest ≡ false → (IsUnused requeued_view place.block → ⊥) → Goes view setup (removed digest ∷ []) shelf s requeued_view
-  goes_kept uncovered used = goes_with uncovered shelf.free (frees false (by (may_be_free (fewer setup s digest) place.block) refl) ∙ append-nil shelf.free)
+  pub goes_kept : MayStep → (IsUnused requeued_view place.block → ⊥) → Goes view setup (step ∷ []) shelf s requeued_view
+  goes_kept may used = goes_with may shelf.free (frees false (by (may_be_free (fewer setup s digest) place.block) refl) ∙ append-nil shelf.free)
     where
       by : (may : Bool) → may_be_free (fewer setup s digest) place.block ≡ may → may_be_free (fewer setup s digest) place.block ≡ false
       by false is_may = is_may

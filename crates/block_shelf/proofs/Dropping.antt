@@ -8,7 +8,6 @@ use Rattle.rec_format.specs.Places.{same_digest}
 use Rattle.rec_format.proofs.Laws.{same_digest_is}
 use Rattle.device_model.specs.Book.{Setup, Book, Live, without_live, may_be_free, is_in, all_blocks, refreshed, dropped_live}
 use Rattle.device_model.specs.Device.{State}
-use Rattle.device_model.specs.Steps.{removed, after_step}
 use Rattle.recovery.proofs.Growing.{all_from, all_at}
 use Rattle.recovery.proofs.Members.{filter_there, filter_from, first_there, rest_there}
 use Rattle.kept_trail.specs.Trail.{IsBooked}
@@ -23,35 +22,35 @@ module _ (setup : Setup) (s : State) (digest : Digest) where
   abbrev pub fewer : Book
   fewer = record s.book { live = without_live digest s.book.live }
 
-  abbrev pub after : State
-  after = after_step setup (removed digest) s
+  abbrev pub after_book : Book
+  after_book = dropped_live setup digest s.book
 
-  pub dropped_buffers : after.book.buffers ≡ s.book.buffers
-  unfolding after_step dropped_live refreshed
+  pub dropped_buffers : after_book.buffers ≡ s.book.buffers
+  unfolding dropped_live refreshed
   dropped_buffers = refl
 
-  pub dropped_next : after.book.next_number ≡ s.book.next_number
-  unfolding after_step dropped_live refreshed
+  pub dropped_next : after_book.next_number ≡ s.book.next_number
+  unfolding dropped_live refreshed
   dropped_next = refl
 
-  pub dropped_holds : after.book.holds ≡ s.book.holds
-  unfolding after_step dropped_live refreshed
+  pub dropped_holds : after_book.holds ≡ s.book.holds
+  unfolding dropped_live refreshed
   dropped_holds = refl
 
-  pub dropped_lives : after.book.live ≡ without_live digest s.book.live
-  unfolding after_step dropped_live refreshed
+  pub dropped_lives : after_book.live ≡ without_live digest s.book.live
+  unfolding dropped_live refreshed
   dropped_lives = refl
 
-  pub dropped_book : after.book ≡ refreshed setup fewer
-  unfolding after_step dropped_live
+  pub dropped_book : after_book ≡ refreshed setup fewer
+  unfolding dropped_live
   dropped_book = refl
 
-  dropped_free : after.book.free ≡ (refreshed setup fewer).free
-  unfolding after_step dropped_live
+  dropped_free : after_book.free ≡ (refreshed setup fewer).free
+  unfolding dropped_live
   dropped_free = refl
 
-  dropped_may : (b : ℕ) → may_be_free after.book b ≡ may_be_free fewer b
-  unfolding after_step dropped_live refreshed
+  dropped_may : (b : ℕ) → may_be_free after_book b ≡ may_be_free fewer b
+  unfolding dropped_live refreshed
   dropped_may b = refl
 
   -- another live copy stays, and no other comes
@@ -77,13 +76,13 @@ module _ (setup : Setup) (s : State) (digest : Digest) (booked : IsBooked s.book
   abbrev fewer' : Book
   fewer' = fewer setup s digest
 
-  abbrev after' : State
-  after' = after_step setup (removed digest) s
+  abbrev after' : Book
+  after' = dropped_live setup digest s.book
 
   pub fewer_own : HaveOwnDigests fewer'.live
   fewer_own = own_digests_kept (λ l. not (same_digest digest l.digest)) s.book.live listed.own
 
-  pub dropped_listed : IsListed setup after'.book
+  pub dropped_listed : IsListed setup after'
   dropped_listed = record {
     all = λ b lt may. subst (λ (l : List ℕ). Contains l b) (sym (dropped_free setup s digest)) (refreshed_all setup fewer' b lt (sym (dropped_may setup s digest b) ∙ may));
     one = λ l m in_l in_m same.
@@ -133,7 +132,7 @@ module _ (setup : Setup) (s : State) (digest : Digest) (booked : IsBooked s.book
         by true = ap not unlisted
 
     -- only the block of the copy may come to the free ones
-    pub dropped_frees : after'.book.free ≡ s.book.free ++ cond (may_be_free fewer' l.block) (l.block ∷ []) []
+    pub dropped_frees : after'.free ≡ s.book.free ++ cond (may_be_free fewer' l.block) (l.block ∷ []) []
     dropped_frees =
         dropped_free setup s digest ∙ refreshed_free setup fewer'
         ∙ updated_more (may_be_free fewer') s.book.free (all_blocks setup) (cond (may_be_free fewer' l.block) (l.block ∷ []) [])

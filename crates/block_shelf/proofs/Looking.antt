@@ -25,7 +25,7 @@ stands_over setup old disk s stands = record {
 
 module _ {D : Type 0} (view : D → DiskView) where
   -- what may be left at the end might have been left before
-  pub read_within : (old new : ShelfView D) → OnlyRead (view old.disk) (view new.disk) → IsDisk (view new.disk) → IsHonest (view old.disk) → (c : List ℕ) → (view new.disk).may_leave c → (view old.disk).may_leave c
+  read_within : (old new : ShelfView D) → OnlyRead (view old.disk) (view new.disk) → IsDisk (view new.disk) → IsHonest (view old.disk) → (c : List ℕ) → (view new.disk).may_leave c → (view old.disk).may_leave c
   read_within old new only now honest c left = only.images honest c (now.now_since (view old.disk).moment c (only.time.stays (view old.disk).moment only.time.started) left)
 
   pub goes_read : (setup : Setup) (old new : ShelfView D) (s : State) → new ≡ record old { disk = new.disk } → OnlyRead (view old.disk) (view new.disk) → IsDisk (view new.disk)

@@ -1,8 +1,10 @@
--- What a scan reads of a block is all that may be in it, and over a sound image nothing of it is damaged.
-use Rattle.std.proofs.Common.{◌≡◌, ◌≢◌, ◌<◌, ℕ, ◌-◌, ◌+◌, ◌*◌, ◌/◌, Bool, true, false, List, [], ◌∷◌, ◌++◌, map, length, inl, sym, ◌∙◌, ap, subst, arith, refl, ne_eqb, Result, Ok, Err}
+-- What a scan reads of a block is all that may be in it and nothing else, and over a sound image nothing of it is damaged.
+use Rattle.std.proofs.Common.{◌≡◌, ◌≢◌, ◌<◌, ℕ, true, false, List, [], map, inl, inr, sym, ◌∙◌, ap, subst, arith, refl, ne_eqb, Result, Ok, Err}
 use Rattle.std.specs.Prelude.{Contains, ◌==◌, MatchResult, IfErr}
 use Rattle.std.specs.List.{AllByRecursion}
 use Rattle.disk_model.specs.Disk.{Images, DiskView, IsHonest}
+use Rattle.rec_format.specs.declared.version.Digest.{Digest}
+use Rattle.rec_format.specs.declared.version.Version.{Version}
 use Rattle.rec_format.specs.Versions.{block_capacity}
 use Rattle.device_model.specs.Book.{Setup, Buffer, has_buffer}
 use Rattle.device_model.specs.Device.{State}
@@ -17,12 +19,13 @@ use Rattle.recovery.proofs.Growing.{all_at}
 use Rattle.recovery.proofs.Each.{all_map}
 use Rattle.recovery.proofs.Members.{map_there}
 use Rattle.kept_trail.specs.Trail.{Records, places_of}
-use Rattle.kept_images.specs.Gates.{GateStands, IsBodyWith}
+use Rattle.kept_images.specs.Kept.{Shows}
+use Rattle.kept_images.specs.Gates.{GateStands}
 use Rattle.kept_images.specs.Held.{loosened}
 use Rattle.kept_images.specs.Scans.{IsScanOf}
 use Rattle.kept_images.proofs.Scanning.{read_waiting}
 use Rattle.kept_images.proofs.HeldCourses.{begun_read, shut_read, set_read}
-use Rattle.kept_images.proofs.Loosening.{shut_still, loosened_fewer}
+use Rattle.kept_images.proofs.Loosening.{shut_still, loosened_has}
 use Rattle.write_buffer.specs.declared.phase.Phase.{Phase}
 use Rattle.write_buffer.specs.declared.phase.Phase.TheVariants as phase
 use Rattle.write_buffer.specs.Buffers.{BufferState, bytes_of, body_in}
@@ -67,18 +70,6 @@ each_answer P Q R S (Err e) ok err is = err e is
 pub only_err : {X E : Type 0} (P : X → Type 0) (R S : E → Type 0) (r : Result X E) → ((e : E) → R e → S e) → MatchResult r P R → IfErr r S
 only_err P R S (Ok x) err is = tt
 only_err P R S (Err e) err is = err e is
-
--- what was read of a block is all that may be in it also where less may be left
-pub reads_later : {D : Type 0} (view : D → DiskView) (shelf : ShelfView D) (disk : D) (s : State) (block : ℕ) (found : List Found) → ((c : List ℕ) → (view disk).may_leave c → (view shelf.disk).may_leave c)
-    → ReadsAll view shelf s block found → ReadsAll view (record shelf { disk = disk }) s block found
-reads_later view shelf disk s block found within reads = record {
-  records = reads.records;
-  found_is = reads.found_is;
-  all = record {
-    pending = reads.all.pending;
-    stored = λ c image. reads.all.stored c (loosened_fewer shelf.geometry (gate_at shelf.gates) (view shelf.disk).may_leave (view disk).may_leave within c image);
-  };
-}
 
 module _ {D : Type 0} (view : D → DiskView) (setup : Setup) (shelf : ShelfView D) (s : State) (is : IsShelf view shelf) (stands : StandsFor setup shelf s) (honest : IsHonest (view shelf.disk)) (safe : ImagesHold setup view shelf s) (block : ℕ) where
   abbrev g : Geometry
@@ -125,6 +116,7 @@ module _ {D : Type 0} (view : D → DiskView) (setup : Setup) (shelf : ShelfView
       records = b.records;
       found_is = found_is;
       all = subst (IsScanOf g s.book records (loosened g (gate_at shelf.gates) images) block) own_records (by b.phase refl);
+      only = λ r has. inl (b.number, record { placed = placed; has = subst (λ (l : List (Digest × Version)). Contains l r) (sym own_records) has });
     }
       where
         by : (p : Phase) → b.phase ≡ p → IsScanOf g s.book records (loosened g (gate_at shelf.gates) images) block (records b.number)
@@ -149,7 +141,12 @@ module _ {D : Type 0} (view : D → DiskView) (setup : Setup) (shelf : ShelfView
 
     -- nothing where its gate is shut
     pub shut_reads : gate_at shelf.gates block ≡ Shut → ReadsAll view shelf s block []
-    shut_reads shut = record { records = []; found_is = refl; all = shut_read setup g s records (gate_at shelf.gates) images block lt safe none shut }
+    shut_reads shut = record {
+      records = [];
+      found_is = refl;
+      all = shut_read setup g s records (gate_at shelf.gates) images block lt safe none shut;
+      only = λ r has. absurd (omega (arith, has.1));
+    }
 
     module _ (set : gate_at shelf.gates block ≡ Set) where
       stands_set : GateStands g images block Set
@@ -160,14 +157,23 @@ module _ {D : Type 0} (view : D → DiskView) (setup : Setup) (shelf : ShelfView
       set_reads found reads = record {
         records = reads.body.records;
         found_is = reads.found_is;
-        all = set_read setup g s records (gate_at shelf.gates) images block lt safe (view shelf.disk).seen reads.body none set honest.image
-            (record {
-              within = subst (λ (k : ℕ). k < g.blocks) (sym reads.placed) lt;
-              is_open = subst (λ (k : ℕ). IsOpen (gate_sector g k (view shelf.disk).seen)) (sym reads.placed) (stands_set.0 (view shelf.disk).seen honest.image);
-              is_body = subst (λ (k : ℕ). IsBody (block_capacity g.block_size) (body_bytes g k (view shelf.disk).seen) reads.body) (sym reads.placed) reads.is_body;
-            })
-            reads.placed;
+        all = set_read setup g s records (gate_at shelf.gates) images block lt safe (view shelf.disk).seen reads.body none set honest.image shows reads.placed;
+        only = λ r has. inr (record {
+          image = (view shelf.disk).seen;
+          is_left = loosened_has g (gate_at shelf.gates) images (view shelf.disk).seen honest.image;
+          body = reads.body;
+          shown = shows;
+          placed = reads.placed;
+          has = has;
+        });
       }
+        where
+          shows : Shows g (view shelf.disk).seen reads.body
+          shows = record {
+            within = subst (λ (k : ℕ). k < g.blocks) (sym reads.placed) lt;
+            is_open = subst (λ (k : ℕ). IsOpen (gate_sector g k (view shelf.disk).seen)) (sym reads.placed) (stands_set.0 (view shelf.disk).seen honest.image);
+            is_body = subst (λ (k : ℕ). IsBody (block_capacity g.block_size) (body_bytes g k (view shelf.disk).seen) reads.body) (sym reads.placed) reads.is_body;
+          }
 
       -- which is one
       pub set_sound : (refusal : VacateRefusal) → IsDamageOf g (body_bytes g block (view shelf.disk).seen) block refusal → IsSound refusal

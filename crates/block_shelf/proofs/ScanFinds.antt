@@ -1,10 +1,11 @@
--- What a scan finds of the records that may be in a block: those of the device, each with its part.
-use Rattle.std.proofs.Common.{◌≡◌, ◌<◌, ◌+◌, ◌-◌, ◌*◌, ◌/◌, ◌⊎◌, inl, inr, ⊎_elim, ℕ, Bool, true, false, List, [], ◌∷◌, map, cond, refl, sym, ◌∙◌, ap, subst, arith, Option, None, Some}
-use Rattle.std.specs.Prelude.{Contains, filter, ◌==◌}
-use Rattle.std.specs.List.{AllByRecursion, All}
+-- What a scan finds of the records that may be in a block: those of the device and nothing else, each with its part.
+use Rattle.std.proofs.Common.{◌≡◌, ◌<◌, ◌+◌, ◌-◌, ◌*◌, ◌/◌, ◌⊎◌, inl, inr, ℕ, Bool, true, false, List, [], ◌∷◌, map, cond, refl, sym, ◌∙◌, ap, subst, arith, Option, None, Some}
+use Rattle.std.specs.Prelude.{Contains, ◌==◌}
+use Rattle.std.specs.List.{AllByRecursion}
 use Rattle.std.proofs.lemmas.Bool.{eq-eqb, eqb-true, false≢true}
 use Rattle.std.proofs.lemmas.Nat.{mod_below}
 use Rattle.rec_format.specs.declared.version.Digest.{Digest}
+use Rattle.rec_format.specs.declared.version.Head.{Head}
 use Rattle.rec_format.specs.declared.version.Stamp.{Stamp}
 use Rattle.rec_format.specs.declared.version.Version.{Version}
 use Rattle.rec_format.specs.Places.{device_number, partition_number, sprig_number, part_number_of, part_count}
@@ -18,8 +19,9 @@ use Rattle.block_format.specs.declared.geometry.Found.{Found}
 use Rattle.block_format.specs.Readings.{found_from}
 use Rattle.recovery.specs.Sound.{IsShapeOf}
 use Rattle.recovery.proofs.Growing.{cons_cases}
-use Rattle.recovery.proofs.Members.{first_there, rest_there, map_there, filter_there, filter_from}
+use Rattle.recovery.proofs.Members.{first_there, rest_there, map_there, map_from, filter_there, filter_from}
 use Rattle.kept_facts.specs.Facts.{Possible, HasFacts}
+use Rattle.kept_facts.specs.Asking.{FindsPossible}
 use Rattle.kept_facts.proofs.Guarded.{top_is}
 use Rattle.kept_images.specs.Scans.{FindsAmong}
 use Rattle.partition_map.proofs.PartLaws.{part_below}
@@ -56,6 +58,33 @@ own_finds setup g s possible records found shape facts is r there marked older =
     let in_own : Contains (own_found g found) one.0 =
     filter_there (λ (f : Found). device_number g.devices f.head.digest == g.device) found one.0 (eq-eqb (device_number g.devices one.0.head.digest) g.device own) (subst (λ (l : List Found). Contains l one.0) (sym is) one.1) in
     subst (Contains (found_copies (own_found g found))) (ap (λ h. (h.digest, h.stamp)) one.2) (map_there (λ (f : Found). (f.head.digest, f.head.stamp)) (own_found g found) one.0 in_own)
+
+head_from : (unit : ℕ) (records : List (Digest × Version)) (f : Found) → Contains (found_from unit records) f → (r : Digest × Version) × Contains records r × (f.head ≡ head_of r.0 r.1)
+head_from unit [] f there = absurd (omega (arith, there.1))
+head_from unit (x ∷ records) f there = by (cons_cases first (found_from (unit + version_units x.1) records) f there) (head_from (unit + version_units x.1) records f)
+  where
+    first : Found
+    first = record { head = head_of x.0 x.1; unit = unit; units = version_units x.1 }
+
+    by : (first ≡ f) ⊎ Contains (found_from (unit + version_units x.1) records) f
+        → (Contains (found_from (unit + version_units x.1) records) f → (r : Digest × Version) × Contains records r × (f.head ≡ head_of r.0 r.1))
+        → (r : Digest × Version) × Contains (x ∷ records) r × (f.head ≡ head_of r.0 r.1)
+    by (inl same) rest = (x, first_there x records, ap (λ (y : Found). y.head) (sym same))
+    by (inr more) rest = let is = rest more in (is.0, rest_there x records is.0 is.1, is.2)
+
+-- of what is possible in a block nothing else is found
+pub own_only : (g : Geometry) (possible : Possible) (block : ℕ) (records : List (Digest × Version)) (found : List Found) → found ≡ found_from 0 records → ((r : Digest × Version) → Contains records r → possible block r.0 r.1)
+    → FindsPossible possible block (found_copies (own_found g found))
+own_only g possible block records found found_is only digest stamp there =
+    let f = map_from key (own_found g found) (digest, stamp) there in
+    let r = head_from 0 records f.0 (subst (λ (l : List Found). Contains l f.0) found_is (filter_from (λ (x : Found). device_number g.devices x.head.digest == g.device) found f.0 f.1).0) in (
+      r.0.1,
+      subst (λ (d : Digest). possible block d r.0.1) (ap (λ (h : Head). h.digest) (sym r.2) ∙ ap (λ (c : Digest × Stamp). c.0) f.2) (only r.0 r.1),
+      ap (λ (h : Head). h.stamp) (sym r.2) ∙ ap (λ (c : Digest × Stamp). c.1) f.2,
+    )
+  where
+    key : Found → Digest × Stamp
+    key x = (x.head.digest, x.head.stamp)
 
 -- each is of a part of the device
 pub parts_below : (g : Geometry) (sprigs : ℕ) (found : List Found) → 0 < g.devices → 0 < sprigs → AllByRecursion (λ p. p < part_count g.device g.devices sprigs) (map (λ f. part_number_of g.devices sprigs f.head.digest) (own_found g found))

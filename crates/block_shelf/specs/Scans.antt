@@ -1,5 +1,5 @@
 -- Crate block_shelf. What a raid's scan of a block finds, and what it makes.
-use Rattle.std.specs.Prelude.{◌≡◌, ℕ, ◌==◌, List, [], ◌∷◌, filter}
+use Rattle.std.specs.Prelude.{◌≡◌, ℕ, ◌==◌, List, [], ◌∷◌, filter, Contains}
 use Rattle.disk_model.specs.Disk.{DiskView, IsHonest}
 use Rattle.rec_format.specs.declared.version.Digest.{Digest}
 use Rattle.rec_format.specs.declared.version.Stamp.{Stamp}
@@ -15,7 +15,7 @@ use Rattle.block_format.specs.Layout.{Body, IsBody, IsFaultAt}
 use Rattle.block_format.specs.Readings.{found_from}
 use Rattle.block_flusher.specs.Images.{IsBodyOf}
 use Rattle.kept_facts.specs.Facts.{Possible}
-use Rattle.kept_facts.specs.Asking.{FindsOlder}
+use Rattle.kept_facts.specs.Asking.{FindsOlder, FindsPossible}
 use Rattle.kept_images.specs.Kept.{possible_in}
 use Rattle.kept_images.specs.Held.{loosened}
 use Rattle.kept_images.specs.Scans.{IsScanOf}
@@ -52,15 +52,17 @@ IsSound (Damaged block place) = ⊥
 IsSound Memory = Unit {0}
 IsSound Fault = Unit {0}
 
--- Over an honest disk whose image was sound: these are the heads of all records that may be in a block.
+-- Over an honest disk whose image was sound: these are the heads of all records that may be in a block, and of no others.
 pub record ReadsAll {D : Type 0} (view : D → DiskView) (shelf : ShelfView D) (s : State) (block : ℕ) (found : List Found) : Type 0 where
   pub records : List (Digest × Version)
   pub found_is : found ≡ found_from 0 records
   pub all : IsScanOf shelf.geometry s.book (records_of shelf.buffers) (loosened shelf.geometry (gate_at shelf.gates) (view shelf.disk).may_leave) block records
+  pub only : (r : Digest × Version) → Contains records r → possible_copies view shelf s block r.0 r.1
 
 -- A block is scanned from a state for which the shelf stood, by one step. Over an honest disk whose image was sound each copy in the block that
--- may be older than a marked entry is found: one that waits, and one that a crash may leave.
+-- may be older than a marked entry is found: one that waits, and one that a crash may leave. Nothing else is found than such copies.
 pub record Scans {D : Type 0} (view : D → DiskView) (setup : Setup) (block : ℕ) (old : ShelfView D) (s : State) (new : ShelfView D) : Type 0 where
   pub copies : List (Digest × Stamp)
   pub goes : Goes view setup (scanned_block copies ∷ []) old s new
   pub all : IsHonest (view old.disk) → ImagesHold setup view old s → FindsOlder s (possible_copies view new s) block copies
+  pub only : IsHonest (view old.disk) → ImagesHold setup view old s → FindsPossible (possible_copies view new s) block copies

@@ -1,13 +1,16 @@
 // How a copy stops being live.
 ghost use Rattle.std.specs.Prelude.{◌≡◌, ◌≢◌, ◌<◌, [], ◌∷◌, false, Contains, IsSomeAnd, MatchBool};
 ghost use Rattle.std.specs.List.{AllByRecursion};
+ghost use Rattle.disk_model.specs.Disk.{IsHonest};
 ghost use Rattle.rec_format.specs.declared.version.Digest.{Digest as DigestValue};
 ghost use Rattle.device_model.specs.Book.{Setup};
 ghost use Rattle.device_model.specs.Device.{State, entry_is_covered};
-ghost use Rattle.device_model.specs.Steps.{removed};
+ghost use Rattle.device_model.specs.Steps.{removed, rid_of};
+ghost use Rattle.kept_facts.specs.Facts.{NoneOlder};
 ghost use Rattle.unit_ledger.specs.Rolls.{copies_in, copy_at};
 ghost use Rattle.block_shelf.specs.View.{IsShelf, SameShape, IsSetupOf, IsUnused};
-ghost use Rattle.block_shelf.specs.Standing.{StandsFor};
+ghost use Rattle.block_shelf.specs.Standing.{StandsFor, ImagesHold};
+ghost use Rattle.block_shelf.specs.Scans.{possible_copies};
 ghost use Rattle.block_shelf.specs.Calls.{Goes, copy_live};
 ghost use Rattle.block_shelf.specs.Changes.{without_copy, with_free};
 
@@ -23,7 +26,13 @@ impl<D: Disk> Shelf<D> {
         requires live { IsSomeAnd (copy_at place.unit (copies_in place.block self.old.rolls)) (λ c. c.units ≡ place.units) }
         ensures dropped { (setup : Setup) (s : State) (digest : DigestValue) → IsSetupOf setup self.old → StandsFor setup self.old s
             → Contains s.book.live (copy_live digest place) → entry_is_covered s digest ≡ false → Goes D.view setup (removed digest ∷ []) self.old s self.new }
+
+        // So it is where a raid removes a tombstone's entry: then no possible copy of its digest may be older.
+        ensures rid { (setup : Setup) (s : State) (digest : DigestValue) → IsSetupOf setup self.old → StandsFor setup self.old s
+            → Contains s.book.live (copy_live digest place) → (IsHonest (D.view self.old.disk) → ImagesHold setup D.view self.old s → NoneOlder s (possible_copies D.view self.old s) digest)
+            → Goes D.view setup (rid_of digest ∷ []) self.old s self.new }
         ensures disk { self.new.disk ≡ self.old.disk }
+        ensures gates { self.new.gates ≡ self.old.gates }
         ensures cache { self.new.cache ≡ self.old.cache }
         ensures shape { SameShape self.old self.new }
     {

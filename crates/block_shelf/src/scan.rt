@@ -1,8 +1,8 @@
 // What a raid comes upon in a block.
-ghost use Rattle.std.specs.Prelude.{◌≡◌, ◌≢◌, ◌<◌, ◌≤◌, ◌-◌, ◌==◌, ℕ, List, [], ◌∷◌, length, map, filter, Ok, IfOk, IfErr, OnOk, OnErr, MatchResult};
+ghost use Rattle.std.specs.Prelude.{◌≡◌, ◌≢◌, ◌<◌, ◌≤◌, ◌-◌, ◌==◌, ℕ, List, [], ◌∷◌, Contains, length, map, filter, Ok, IfOk, IfErr, OnOk, OnErr, MatchResult};
 ghost use Rattle.std.specs.List.{All, AllByRecursion};
 ghost use Rattle.fault_count.specs.Counts.{Rose};
-ghost use Rattle.disk_model.specs.Disk.{IsHonest};
+ghost use Rattle.disk_model.specs.Disk.{IsHonest, Within};
 ghost use Rattle.rec_format.specs.Places.{device_number, part_number_of, part_count};
 ghost use Rattle.device_model.specs.Book.{Setup};
 ghost use Rattle.device_model.specs.Device.{State};
@@ -10,13 +10,15 @@ ghost use Rattle.device_model.specs.Steps.{raid_given_up};
 ghost use Rattle.block_format.specs.Layout.{IsGeometry, body_bytes};
 ghost use Rattle.block_format.specs.Readings.{AtMostOneBody};
 ghost use Rattle.block_format.specs.declared.geometry.Geometry.{Geometry};
+ghost use Rattle.write_buffer.specs.Buffers.{BufferState};
+ghost use Rattle.kept_facts.specs.Facts.{SamePossible};
 ghost use Rattle.raid_book.specs.declared.turn.RaidNext.TheVariants as turn;
-ghost use Rattle.raid_book.specs.Books.{given_up};
+ghost use Rattle.raid_book.specs.Books.{given_up, with_scan};
 ghost use Rattle.block_shelf.specs.Disks.{IsLater, OnlyRead};
-ghost use Rattle.block_shelf.specs.View.{IsShelf, IsSetupOf, gate_at};
+ghost use Rattle.block_shelf.specs.View.{IsShelf, IsSetupOf, AreSure, gate_at};
 ghost use Rattle.block_shelf.specs.Standing.{StandsFor, BooksStand, ImagesHold};
 ghost use Rattle.block_shelf.specs.Calls.{Goes};
-ghost use Rattle.block_shelf.specs.Scans.{Scans, ReadsAll, ReadsBody, IsDamageOf, IsSound, own_found};
+ghost use Rattle.block_shelf.specs.Scans.{Scans, ReadsAll, ReadsBody, IsDamageOf, IsSound, own_found, possible_copies};
 
 use crate::close::shut_gate;
 use crate::{NoMemory, Shelf, VacateRefusal};
@@ -31,13 +33,22 @@ impl<D: Disk> Shelf<D> {
     /// Scans the block whose turn it is, and answers it: each record of the device that may be in it goes to the raid's book. What is in a
     /// pending buffer is taken from memory, also where the write of its gate has begun. Of the other blocks, free ones too, one with an
     /// unsure gate is closed and synced first, a closed one has no records, and any other is read from the disk, also where its flushed buffer
-    /// is kept. After a refusal the raid is given up.
+    /// is kept. Nothing else goes to the book than what may be in the block. After a refusal the raid is given up.
     pub fn scan_step(&mut self, alloc: Global) -> Result<u32, VacateRefusal>
         requires turn { (block : ℕ) × (self.old.raid.next ≡ turn.Scan block) }
         ensures scanned { (setup : Setup) (s : State) → IsSetupOf setup self.old → StandsFor setup self.old s → BooksStand setup self.old s
             → MatchResult result (λ block. Scans D.view setup block self.old s self.new) (λ refusal. Goes D.view setup (raid_given_up ∷ []) self.old s self.new) }
         ensures block { IfOk result (λ block. self.old.raid.next ≡ turn.Scan block) }
+        ensures turned { OnOk result (self.new.raid ≡ with_scan self.new.raid.found self.old.raid) }
         ensures given_up { OnErr result (self.new.raid ≡ given_up self.old.raid) }
+
+        // A pending block makes no call of the disk.
+        ensures waiting { (block : ℕ) (b : BufferState) → self.old.raid.next ≡ turn.Scan block → Contains self.old.buffers b → b.block ≡ block → self.new.disk ≡ self.old.disk }
+
+        // Where no gate is unsure the gates stay as they are, and over an honest disk whose image was sound what is possible stays so.
+        ensures sure { AreSure self.old.gates → self.new.gates ≡ self.old.gates }
+        ensures alike { (setup : Setup) (s : State) → AreSure self.old.gates → IsHonest (D.view self.old.disk) → StandsFor setup self.old s → ImagesHold setup D.view self.old s
+            → SamePossible (possible_copies D.view self.old s) (possible_copies D.view self.new s) }
 
         // Damage is what the disk has in the block, and over an honest disk whose image was sound there is none.
         ensures damaged { (D.view self.old.disk).tells → (block : ℕ) → self.old.raid.next ≡ turn.Scan block → IfErr result (IsDamageOf self.old.geometry (body_bytes self.old.geometry block (D.view self.old.disk).seen) block) }
@@ -67,7 +78,11 @@ impl<D: Disk> Shelf<D> {
         requires turn { self.old.raid.next ≡ turn.Scan block }
         ensures scanned { (setup : Setup) (s : State) → IsSetupOf setup self.old → StandsFor setup self.old s → BooksStand setup self.old s
             → MatchResult result (λ done. Scans D.view setup block self.old s self.new) (λ refusal. Goes D.view setup [] self.old s self.new) }
+        ensures turned { OnOk result (self.new.raid ≡ with_scan self.new.raid.found self.old.raid) }
         ensures same { OnErr result (self.new.raid ≡ self.old.raid) }
+        ensures waiting { (b : BufferState) → Contains self.old.buffers b → b.block ≡ block → self.new.disk ≡ self.old.disk }
+        ensures sure { gate_at self.old.gates block ≢ Gate.Unsure → self.new.gates ≡ self.old.gates }
+        ensures fewer { gate_at self.old.gates block ≢ Gate.Unsure → IsHonest (D.view self.old.disk) → Within (D.view self.old.disk).may_leave (D.view self.new.disk).may_leave }
         ensures damaged { (D.view self.old.disk).tells → IfErr result (IsDamageOf self.old.geometry (body_bytes self.old.geometry block (D.view self.old.disk).seen) block) }
         ensures sound { (setup : Setup) (s : State) → IsHonest (D.view self.old.disk) → StandsFor setup self.old s → ImagesHold setup D.view self.old s → IfErr result IsSound }
         ensures rest { self.new ≡ record self.old { disk = self.new.disk; gates = self.new.gates; raid = self.new.raid } }
@@ -94,6 +109,9 @@ impl<D: Disk> Shelf<D> {
         ensures goes { (setup : Setup) (s : State) → StandsFor setup self.old s → Goes D.view setup [] self.old s self.new }
         ensures all { (setup : Setup) (s : State) → IsHonest (D.view self.old.disk) → StandsFor setup self.old s → ImagesHold setup D.view self.old s
             → MatchResult result (λ found. ReadsAll D.view self.new s block found.items) IsSound }
+        ensures waiting { (b : BufferState) → Contains self.old.buffers b → b.block ≡ block → self.new.disk ≡ self.old.disk }
+        ensures sure { gate_at self.old.gates block ≢ Gate.Unsure → self.new.gates ≡ self.old.gates }
+        ensures fewer { gate_at self.old.gates block ≢ Gate.Unsure → IsHonest (D.view self.old.disk) → Within (D.view self.old.disk).may_leave (D.view self.new.disk).may_leave }
         ensures damaged { (D.view self.old.disk).tells → IfErr result (IsDamageOf self.old.geometry (body_bytes self.old.geometry block (D.view self.old.disk).seen) block) }
         ensures rest { self.new ≡ record self.old { disk = self.new.disk; gates = self.new.gates } }
         ensures cause { result ≡ Err VacateRefusal.Fault → Rose (D.view self.old.disk).faults (D.view self.new.disk).faults }
@@ -149,6 +167,7 @@ impl<D: Disk> Shelf<D> {
             MatchResult result (λ found. ReadsBody self.old.geometry bytes block found.items) (IsDamageOf self.old.geometry bytes block) }
         ensures cause { result ≡ Err VacateRefusal.Fault → Rose (D.view self.old.disk).faults (D.view self.new.disk).faults }
         ensures disk { OnlyRead (D.view self.old.disk) (D.view self.new.disk) }
+        ensures whole { IsShelf D.view self.new }
         ensures same { self.new ≡ record self.old { disk = self.new.disk } }
     {
         let size = self.geometry.block_size as usize - SECTOR_BYTES;

@@ -23,6 +23,10 @@ pub record MayBeWritten (setup : Setup) (s : State) (digest : Digest) (v : Versi
 abbrev pub FindsOlder : State → Possible → (block : ℕ) → List (Digest × Stamp) → Type 0
 FindsOlder s possible block copies = (digest : Digest) (v : Version) → Contains s.raid.marked digest → IsOlder s possible block digest v → Contains copies (digest, v.stamp)
 
+-- a scan finds nothing but possible copies of its block
+abbrev pub FindsPossible : Possible → (block : ℕ) → List (Digest × Stamp) → Type 0
+FindsPossible possible block copies = (digest : Digest) (stamp : Stamp) → Contains copies (digest, stamp) → (v : Version) × possible block digest v × (v.stamp ≡ stamp)
+
 -- what a step asks; moves, seals, flushes and the other turns of a raid ask nothing
 abbrev pub MayTake : Setup → State → Possible → Step → Type 0
 MayTake setup s possible (wrote digest v) = MayBeWritten setup s digest v
@@ -62,3 +66,7 @@ WritesOwn setup _ = Unit {0}
 -- if the event is a scan, it finds what it has to
 abbrev pub ScansAll : State → Possible → Event → Type 0
 ScansAll s possible event = (block : ℕ) (copies : List (Digest × Stamp)) → s.raid.next ≡ scan_turn block → event.steps ≡ scanned_block copies ∷ [] → FindsOlder s possible block copies
+
+-- if the event is a scan, it finds nothing but what is possible
+abbrev pub ScansOnly : State → Possible → Event → Type 0
+ScansOnly s possible event = (block : ℕ) (copies : List (Digest × Stamp)) → s.raid.next ≡ scan_turn block → event.steps ≡ scanned_block copies ∷ [] → FindsPossible possible block copies

@@ -57,6 +57,10 @@ pub record HasFacts (setup : Setup) (s : State) (possible : Possible) : Type 0 w
 abbrev pub Becomes : Setup → State → (old new : Possible) → Type 0
 Becomes setup s old new = (block : ℕ) (digest : Digest) (v : Version) → new block digest v → old block digest v ⊎ ((block < setup.blocks) × (entry s digest ≡ Some v))
 
+-- the same copies are possible
+abbrev pub SamePossible : (old new : Possible) → Type 0
+SamePossible old new = (block : ℕ) (digest : Digest) (v : Version) → (old block digest v → new block digest v) × (new block digest v → old block digest v)
+
 -- no possible copy of a digest is older than its entry
 abbrev pub NoneOlder : State → Possible → Digest → Type 0
 NoneOlder s possible digest = (block : ℕ) (v : Version) → IsOlder s possible block digest v → ⊥

@@ -1,10 +1,24 @@
-use Rattle.std.proofs.Common.{[], ◌∷◌, sym, ◌∙◌, ap, subst}
-use Rattle.device_model.specs.Steps.{removed}
+use Rattle.std.proofs.Common.{◌≡◌, true, false, [], ◌∷◌, refl, sym, ◌∙◌, ap, subst}
+use Rattle.std.specs.Prelude.{Contains}
+use Rattle.disk_model.specs.Disk.{DiskView, IsDisk, IsHonest}
+use Rattle.rec_format.specs.declared.version.Digest.{Digest}
+use Rattle.device_model.specs.Histories.{dropped, rid}
+use Rattle.device_model.specs.Book.{Setup, dropped_live}
+use Rattle.device_model.specs.Device.{State, entry_is_covered}
+use Rattle.device_model.specs.Steps.{removed, rid_of, with_item, after_step}
 use Rattle.block_shelf.specs.View.{ShelfView, IsUnused}
 use Rattle.block_shelf.specs.Calls.{Goes}
 use Rattle.block_shelf.specs.Changes.{with_free, with_requeued}
 use Rattle.block_shelf.proofs.DropSteps.{goes_freed, goes_kept}
 use Rattle.block_shelf.proofs.shelf.Shelf.drop_live.Goals as goal
+
+drops : (setup : Setup) (s : State) (digest : Digest) → after_step setup (removed digest) s ≡ with_item digest dropped (dropped_live setup digest s.book) s
+unfolding after_step
+drops setup s digest = refl
+
+rids : (setup : Setup) (s : State) (digest : Digest) → after_step setup (rid_of digest) s ≡ with_item digest rid (dropped_live setup digest s.book) s
+unfolding after_step
+rids setup s digest = refl
 
 pub returns-then-is_unused-clause-dropped : goal.returns-then-is_unused-clause-dropped
 returns-then-is_unused-clause-dropped g c setup s digest is stands live uncovered =
@@ -13,7 +27,7 @@ returns-then-is_unused-clause-dropped g c setup s digest is stands live uncovere
     let queued = c.requeue.ensures ∙ ap (with_requeued c.args.place.block) c.take_live.ensures.taken in
     let unused = subst (λ (v : ShelfView g.row.D.Denot). IsUnused v c.args.place.block) queued c.if-is_unused.ensures in
     subst (Goes d.view setup (removed digest ∷ []) c.args.self.now s) (sym (c.free_block.ensures ∙ ap (with_free c.args.place.block) queued))
-    (goes_freed d.view law.is_disk setup c.args.self.now s c.take_live.ensures.whole stands is digest c.args.place live c.requires.block uncovered unused)
+    (goes_freed d.view law.is_disk setup c.args.self.now s c.take_live.ensures.whole stands is digest c.args.place live c.requires.block dropped (removed digest) (drops setup s digest) refl (λ honest safe. uncovered) unused)
 
 pub returns-else-is_unused-clause-dropped : goal.returns-else-is_unused-clause-dropped
 returns-else-is_unused-clause-dropped g c setup s digest is stands live uncovered =
@@ -21,5 +35,23 @@ returns-else-is_unused-clause-dropped g c setup s digest is stands live uncovere
     let law = g.met.D.Disk in
     let queued = c.requeue.ensures ∙ ap (with_requeued c.args.place.block) c.take_live.ensures.taken in
     subst (Goes d.view setup (removed digest ∷ []) c.args.self.now s) (sym queued)
-    (goes_kept d.view law.is_disk setup c.args.self.now s c.take_live.ensures.whole stands is digest c.args.place live c.requires.block uncovered
+    (goes_kept d.view law.is_disk setup c.args.self.now s c.take_live.ensures.whole stands is digest c.args.place live c.requires.block dropped (removed digest) (drops setup s digest) refl (λ honest safe. uncovered)
+    (λ unused. c.if-is_unused.ensures (subst (λ (v : ShelfView g.row.D.Denot). IsUnused v c.args.place.block) (sym queued) unused)))
+
+pub returns-then-is_unused-clause-rid : goal.returns-then-is_unused-clause-rid
+returns-then-is_unused-clause-rid g c setup s digest is stands live none =
+    let d = g.D.Disk in
+    let law = g.met.D.Disk in
+    let queued = c.requeue.ensures ∙ ap (with_requeued c.args.place.block) c.take_live.ensures.taken in
+    let unused = subst (λ (v : ShelfView g.row.D.Denot). IsUnused v c.args.place.block) queued c.if-is_unused.ensures in
+    subst (Goes d.view setup (rid_of digest ∷ []) c.args.self.now s) (sym (c.free_block.ensures ∙ ap (with_free c.args.place.block) queued))
+    (goes_freed d.view law.is_disk setup c.args.self.now s c.take_live.ensures.whole stands is digest c.args.place live c.requires.block rid (rid_of digest) (rids setup s digest) refl none unused)
+
+pub returns-else-is_unused-clause-rid : goal.returns-else-is_unused-clause-rid
+returns-else-is_unused-clause-rid g c setup s digest is stands live none =
+    let d = g.D.Disk in
+    let law = g.met.D.Disk in
+    let queued = c.requeue.ensures ∙ ap (with_requeued c.args.place.block) c.take_live.ensures.taken in
+    subst (Goes d.view setup (rid_of digest ∷ []) c.args.self.now s) (sym queued)
+    (goes_kept d.view law.is_disk setup c.args.self.now s c.take_live.ensures.whole stands is digest c.args.place live c.requires.block rid (rid_of digest) (rids setup s digest) refl none
     (λ unused. c.if-is_unused.ensures (subst (λ (v : ShelfView g.row.D.Denot). IsUnused v c.args.place.block) (sym queued) unused)))

@@ -1,4 +1,4 @@
-use Rattle.std.proofs.Common.{arith, ◌≡◌, ◌+◌, ◌-◌, ◌≤◌, List, ℕ, length, ◌∙◌, ap, subst, drop, take}
+use Rattle.std.proofs.Common.{arith, ◌≡◌, ◌+◌, ◌-◌, List, ℕ, length, ◌∙◌, ap, subst, drop}
 use Rattle.std.specs.Prelude.{MatchResult}
 use Rattle.std.proofs.lemmas.List.{take_at}
 use Rattle.block_format.specs.Layout.{body_bytes}
@@ -53,3 +53,9 @@ returns-clause-read g c =
     (λ told. subst (λ (t : List ℕ). MatchResult c.found_in.result (λ found. ReadsBody geometry t c.args.block found.items) (IsDamageOf geometry t c.args.block))
     (bytes ∙ read_there (g.D.Disk.view c.self.inside.disk).seen c.read_at.new.out _ _ _ _ (c.in-Ok-read_at.ensures.read told) (ap (λ (n : ℕ). n + 4096) c.start_of_block.ensures.place) many)
     (c.found_in.ensures.read geometry long))
+
+pub returns-in_default-read_at-clause-whole : goal.returns-in_default-read_at-clause-whole
+returns-in_default-read_at-clause-whole g c = (invariant_of-self g c).0
+
+pub returns-clause-whole : goal.returns-clause-whole
+returns-clause-whole g c = (invariant_of-self-2 g c).0

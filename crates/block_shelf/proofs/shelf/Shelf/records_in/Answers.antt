@@ -1,19 +1,18 @@
-use Rattle.std.proofs.Common.{arith, rules, ◌≡◌, ◌≢◌, ◌+◌, ◌*◌, ◌-◌, ◌<◌, ℕ, List, [], length, sym, ◌∙◌, ap, subst}
-use Rattle.std.specs.Prelude.{MatchResult, Contains}
+use Rattle.std.proofs.Common.{arith, rules, ◌≡◌, ◌≢◌, ◌+◌, ◌*◌, ◌-◌, ◌<◌, ℕ, List, [], length, refl, sym, ◌∙◌, ap, subst}
+use Rattle.std.specs.Prelude.{MatchResult}
 use Rattle.std.specs.List.{AllByRecursion}
-use Rattle.disk_model.specs.Disk.{IsHonest}
 use Rattle.rec_format.specs.Versions.{block_capacity}
 use Rattle.block_format.specs.declared.geometry.Gate.{Gate}
-use Rattle.block_format.specs.declared.geometry.Gate.TheVariants.{Shut, Set, Unsure}
-use Rattle.block_format.specs.declared.geometry.Found.{Found}
+use Rattle.block_format.specs.declared.geometry.Gate.TheVariants.{Shut, Set}
 use Rattle.block_format.specs.Layout.{IsBody, body_bytes}
 use Rattle.write_buffer.specs.Buffers.{BufferState, bytes_of, body_in}
 use Rattle.write_buffer.proofs.Sizes.{sized, body_size}
-use Rattle.block_shelf.specs.View.{ShelfView, gate_at}
+use Rattle.block_shelf.specs.View.{ShelfView, IsShelf, gate_at}
+use Rattle.block_shelf.specs.Calls.{Goes}
 use Rattle.block_shelf.specs.Scans.{ReadsAll, ReadsBody, IsDamageOf, IsSound}
 use Rattle.block_shelf.proofs.Going.{goes_none, goes_then}
-use Rattle.block_shelf.proofs.Looking.{goes_read, read_within}
-use Rattle.block_shelf.proofs.ScanBlocks.{each_answer, only_err, no_damage, undamaged, only_set, reads_later, buffer_found, shut_reads, set_reads, set_sound}
+use Rattle.block_shelf.proofs.Looking.{goes_read}
+use Rattle.block_shelf.proofs.ScanBlocks.{each_answer, only_err, no_damage, undamaged, only_set, buffer_found, shut_reads, set_reads, set_sound}
 use Rattle.block_shelf.proofs.shelf.Shelf.records_in.Goals as goal
 
 pub found_in-requires-clause-size : goal.found_in-requires-clause-size
@@ -79,10 +78,15 @@ returns-clause-all g c setup s honest stands safe =
     let unbuffered : AllByRecursion (λ b. b.block ≢ c.args.block) mid.buffers = subst (λ (v : ShelfView g.row.D.Denot). AllByRecursion (λ b. b.block ≢ c.args.block) v.buffers) (sym c.close_unsure.ensures.rest) none in
     let unshut : gate_at mid.gates c.args.block ≢ Shut = subst (λ (x : Gate). x ≢ Shut) c.gate.ensures (grind (arith, c.if-eq.false, c.eq.ensures)) in
     let set : gate_at mid.gates c.args.block ≡ Set = only_set (gate_at mid.gates c.args.block) unshut c.in_ok-close_unsure.ensures.sure in
-    let bytes : List ℕ = body_bytes mid.geometry c.args.block (g.D.Disk.view mid.disk).seen in
-    each_answer (λ found. ReadsBody mid.geometry bytes c.args.block found.items) (λ found. ReadsAll g.D.Disk.view new s c.args.block found.items) (IsDamageOf mid.geometry bytes c.args.block) IsSound c.read_block.result
-    (λ found reads. subst (λ (v : ShelfView g.row.D.Denot). ReadsAll g.D.Disk.view v s c.args.block found.items) (sym c.read_block.ensures.same)
-    (reads_later g.D.Disk.view mid new.disk s c.args.block found.items (read_within g.D.Disk.view mid new c.read_block.ensures.disk (g.met.D.Disk.is_disk new.disk) mid_honest)
-    (set_reads g.D.Disk.view setup mid s c.close_unsure.ensures.whole went.stands mid_honest (went.safe honest safe) c.args.block lt unbuffered set found.items reads)))
-    (λ refusal damage. set_sound g.D.Disk.view setup mid s c.close_unsure.ensures.whole went.stands mid_honest (went.safe honest safe) c.args.block lt unbuffered set refusal damage)
+    let view = g.D.Disk.view in
+    let bytes : List ℕ = body_bytes mid.geometry c.args.block (view mid.disk).seen in
+    let here : ShelfView g.row.D.Denot = record mid { disk = new.disk } in
+    let whole : IsShelf view here = subst (IsShelf view) c.read_block.ensures.same c.read_block.ensures.whole in
+    let looked : Goes view setup [] mid s here = goes_read view setup mid here s refl c.read_block.ensures.disk (g.met.D.Disk.is_disk new.disk) went.stands in
+    let told = c.read_block.ensures.disk.bytes mid_honest.told in
+    each_answer (λ found. ReadsBody mid.geometry bytes c.args.block found.items) (λ found. ReadsAll view new s c.args.block found.items) (IsDamageOf mid.geometry bytes c.args.block) IsSound c.read_block.result
+    (λ found reads. subst (λ (v : ShelfView g.row.D.Denot). ReadsAll view v s c.args.block found.items) (sym c.read_block.ensures.same)
+    (set_reads view setup here s whole looked.stands (c.read_block.ensures.disk.honest mid_honest) (looked.safe mid_honest (went.safe honest safe)) c.args.block lt unbuffered set found.items
+    (subst (λ (l : List ℕ). ReadsBody mid.geometry (body_bytes mid.geometry c.args.block l) c.args.block found.items) (sym told.1) reads)))
+    (λ refusal damage. set_sound view setup mid s c.close_unsure.ensures.whole went.stands mid_honest (went.safe honest safe) c.args.block lt unbuffered set refusal damage)
     (c.read_block.ensures.read mid_honest.told)

@@ -1,4 +1,4 @@
-use Rattle.std.proofs.Common.{arith, ◌≡◌, ◌<◌, ℕ, List, [], ◌∷◌, map, sym, ◌∙◌, ap, subst}
+use Rattle.std.proofs.Common.{arith, ◌≡◌, ◌<◌, ℕ, List, [], map, sym, ◌∙◌, ap, subst}
 use Rattle.std.specs.List.{All}
 use Rattle.std.proofs.lemmas.List.Elements.{All-from_recursion}
 use Rattle.disk_model.specs.Disk.{IsHonest}
@@ -7,7 +7,6 @@ use Rattle.rec_format.specs.declared.version.Stamp.{Stamp}
 use Rattle.rec_format.specs.Places.{part_number_of, part_count}
 use Rattle.device_model.specs.Device.{scan_turn}
 use Rattle.device_model.specs.Steps.{after_step, scanned_block}
-use Rattle.block_format.specs.declared.geometry.Geometry.{Geometry}
 use Rattle.block_format.specs.declared.geometry.Found.{Found}
 use Rattle.kept_facts.specs.Asking.{FindsOlder}
 use Rattle.kept_images.specs.Held.{loosened}
@@ -18,10 +17,10 @@ use Rattle.raid_book.specs.Turns.{turn_of}
 use Rattle.block_shelf.specs.View.{ShelfView, IsSetupOf, records_of, gate_at}
 use Rattle.block_shelf.specs.Standing.{ImagesHold}
 use Rattle.block_shelf.specs.Calls.{Goes}
-use Rattle.block_shelf.specs.Scans.{Scans, ReadsAll, IsSound, own_found, possible_copies}
+use Rattle.block_shelf.specs.Scans.{ReadsAll, IsSound, own_found, possible_copies}
 use Rattle.block_shelf.proofs.Begun.{err_is}
 use Rattle.block_shelf.proofs.RaidTurns.{goes_scanned}
-use Rattle.block_shelf.proofs.ScanFinds.{own_finds, parts_below}
+use Rattle.block_shelf.proofs.ScanFinds.{own_finds, own_only, parts_below}
 use Rattle.block_shelf.proofs.shelf.Shelf.scan_block.Goals as goal
 
 pub returns-in_err-found-clause-sound : goal.returns-in_err-found-clause-sound
@@ -70,9 +69,11 @@ returns-clause-scanned g c setup s is stands books =
     let raid : RaidStands setup c.scanned.new.self (after_step setup (scanned_block copies) s).raid =
     subst (λ (l : List Found). RaidStands setup c.scanned.new.self (after_step setup (scanned_block (found_copies l)) s).raid) own (c.in-Ok-scanned.ensures.raid setup s raid_was parts) in
     let turn : s.raid.next ≡ scan_turn c.args.block = sym books.raid.turns.next ∙ ap turn_of c.requires.turn in
+    let reads_here : IsHonest (view old.disk) → ImagesHold setup view old s → ReadsAll view here s c.args.block found =
+    λ honest safe. subst (λ (v : ShelfView g.row.D.Denot). ReadsAll view v s c.args.block found) (sym c.self.view_is) (c.in_ok-found.ensures.all setup s honest stands safe) in
     let finds : IsHonest (view old.disk) → ImagesHold setup view old s → FindsOlder s (possible_copies view here s) c.args.block copies =
     λ honest safe.
-    let reads = subst (λ (v : ShelfView g.row.D.Denot). ReadsAll view v s c.args.block found) (sym c.self.view_is) (c.in_ok-found.ensures.all setup s honest stands safe) in
+    let reads = reads_here honest safe in
     let held = (went.safe honest safe).held in
     scan_finds here.geometry s (records_of here.buffers) (loosened here.geometry (gate_at here.gates) (view here.disk).may_leave) c.args.block reads.records copies reads.all
     (own_finds setup here.geometry s (possible_copies view here s) reads.records found held.shape held.facts reads.found_is) in
@@ -80,4 +81,11 @@ returns-clause-scanned g c setup s is stands books =
       copies = copies;
       goes = goes_scanned view setup old here s went c.args.block copies c.scanned.new.self turn raid finds;
       all = finds;
+      only = λ honest safe. let reads = reads_here honest safe in own_only here.geometry (possible_copies view here s) c.args.block reads.records found reads.found_is reads.only;
     }
+
+pub returns-in_default-scanned-clause-waiting : goal.returns-in_default-scanned-clause-waiting
+returns-in_default-scanned-clause-waiting g c b there at = ap (λ (v : ShelfView g.row.D.Denot). v.disk) c.self.view_is ∙ c.records_in.ensures.waiting b there at
+
+pub returns-clause-waiting : goal.returns-clause-waiting
+returns-clause-waiting g c b there at = ap (λ (v : ShelfView g.row.D.Denot). v.disk) c.self.view_is ∙ c.records_in.ensures.waiting b there at
