@@ -28,7 +28,7 @@ use Rattle.shard_raid.proofs.Times.{times_remarked, high_stays}
 -- ---- marks of one raid
 
 -- A raid of this number, which runs where the number isn't 0.
-abbrev raid_of : ℕ → RaidState
+abbrev pub raid_of : ℕ → RaidState
 raid_of number = record { number = number; next = cond (number == 0) finished (apply_turn 0); scanned = 0; marked = []; found = [] }
 
 pub mark_is : (number : ℕ) (e : Entry) (next : Turn) → is_running next ≡ not (number == 0) → (is_running next && (e.mark == number)) ≡ is_marked_by number e
@@ -49,7 +49,7 @@ runs_as number = by (number == 0)
     by true = refl
     by false = refl
 
-has_mark_is : (number : ℕ) (e : Entry) → has_mark (raid_of number) e ≡ is_marked_by number e
+pub has_mark_is : (number : ℕ) (e : Entry) → has_mark (raid_of number) e ≡ is_marked_by number e
 has_mark_is number e = mark_is number e (raid_of number).next (runs_as number)
 
 no_mark : (number : ℕ) (e : Entry) → e.mark ≡ 0 → has_mark (raid_of number) e ≡ false

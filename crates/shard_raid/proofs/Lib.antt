@@ -3,3 +3,7 @@ pub mod Walking
 pub mod Comparing
 pub mod Turns
 pub mod Scanning
+pub mod Nearer
+pub mod OneEnd
+pub mod EndWalk
+pub mod EndTurn

@@ -10,7 +10,7 @@ use Rattle.device_model.specs.Steps.{Step, scanned_block, raid_given_up}
 use Rattle.device_model.specs.Events.{Event, Call, Answer, turn_call, block_scanned, refused, stale}
 use Rattle.device_model.specs.Legal.{Allowed, Only, TurnEnds, same_turn}
 use Rattle.block_format.specs.declared.geometry.Geometry.{Geometry}
-use Rattle.kept_facts.specs.Asking.{ScansAll, FindsOlder}
+use Rattle.kept_facts.specs.Asking.{ScansAll, ScansOnly, FindsOlder, FindsPossible}
 use Rattle.part_laws.specs.Sparing.{Spares}
 use Rattle.part_laws.proofs.Spared.{spared}
 use Rattle.raid_book.specs.declared.turn.RaidNext.TheVariants.{Scan}
@@ -57,8 +57,9 @@ module _ {D : Type 0} (view : D → DiskView) (setup : Setup) (block now : ℕ) 
   -- A shelf that goes by a step that spares each part makes the event of the turn. The event is built here, since what it finds is told of it.
   makes_step : (result : Result ℕ RaidRefusal) (step : Step) → Goes view setup (step ∷ []) old s new → ((part : ℕ) → Spares setup part s step) → TurnEnds setup false s (event (scan_answer result) step) (scan_turn block) now
       → (IsHonest (view old.disk) → ImagesHold setup view old s → TurnEnds setup true s (event (scan_answer result) step) (scan_turn block) now)
-      → (IsHonest (view old.disk) → ImagesHold setup view old s → ScansAll s (possible_copies view new s) (event (scan_answer result) step)) → ScanMakes view setup block now result old s new
-  makes_step result step goes spares ends ends_told finds = record {
+      → (IsHonest (view old.disk) → ImagesHold setup view old s → ScansAll s (possible_copies view new s) (event (scan_answer result) step))
+      → (IsHonest (view old.disk) → ImagesHold setup view old s → ScansOnly s (possible_copies view new s) (event (scan_answer result) step)) → ScanMakes view setup block now result old s new
+  makes_step result step goes spares ends ends_told finds only = record {
     makes = record {
       event = event (scan_answer result) step;
       is_call = refl;
@@ -75,6 +76,7 @@ module _ {D : Type 0} (view : D → DiskView) (setup : Setup) (block now : ℕ) 
       leaves = λ honest safe. goes.leaves honest safe.safe;
     };
     finds = finds;
+    only = only;
   }
 
   -- ---- the block was scanned
@@ -95,11 +97,23 @@ module _ {D : Type 0} (view : D → DiskView) (setup : Setup) (block now : ℕ) 
         row_is : scans.copies ≡ row
         row_is = cc
 
+    nothing_else : FindsPossible (possible_copies view new s) block scans.copies → ScansOnly s (possible_copies view new s) scanned
+    nothing_else only other row comes steps = subst (λ (b : ℕ). FindsPossible (possible_copies view new s) b row) at_other (subst (FindsPossible (possible_copies view new s) block) row_is only)
+      where
+        turns : scan_turn block ≡ scan_turn other
+        turns = sym scan_comes ∙ comes
+
+        at_other : block ≡ other
+        at_other = cc
+
+        row_is : scans.copies ≡ row
+        row_is = cc
+
     ends : (told : Bool) → TurnEnds setup told s scanned (scan_turn block) now
     ends told = inl (refl, scans.copies, refl)
 
     makes_here : ScanMakes view setup block now (Ok block) old s new
-    makes_here = makes_step (Ok block) (scanned_block scans.copies) scans.goes (λ part. (block, scan_comes)) (ends false) (λ honest hold. ends true) (λ honest hold. found (scans.all honest hold))
+    makes_here = makes_step (Ok block) (scanned_block scans.copies) scans.goes (λ part. (block, scan_comes)) (ends false) (λ honest hold. ends true) (λ honest hold. found (scans.all honest hold)) (λ honest hold. nothing_else (scans.only honest hold))
 
   pub makes_scanned : (told : ℕ) → old.raid.next ≡ Scan told → Scans view setup told old s new → ScanMakes view setup block now (Ok told) old s new
   makes_scanned told there = subst (λ (b : ℕ). Scans view setup b old s new → ScanMakes view setup block now (Ok b) old s new) same makes_here
@@ -116,8 +130,11 @@ module _ {D : Type 0} (view : D → DiskView) (setup : Setup) (block now : ℕ) 
   pub makes_given_up : Goes view setup (raid_given_up ∷ []) old s new → (refusal : VacateRefusal) → (refusal ≡ vacate.Fault → Rose (view old.disk).faults (view new.disk).faults)
       → (IsHonest (view old.disk) → ImagesHold setup view old s → IsSound refusal) → ScanMakes view setup block now (Err (refusal_to_scan refusal)) old s new
   makes_given_up goes refusal rose sound =
-      makes_step (Err (refusal_to_scan refusal)) raid_given_up goes (λ part. tt) (ends false refusal rose (λ no. absurd (false≢true no))) (λ honest hold. ends true refusal rose (λ yes. sound honest hold)) (λ honest hold. none_found)
+      makes_step (Err (refusal_to_scan refusal)) raid_given_up goes (λ part. tt) (ends false refusal rose (λ no. absurd (false≢true no))) (λ honest hold. ends true refusal rose (λ yes. sound honest hold)) (λ honest hold. none_found) (λ honest hold. none_else)
     where
+      none_else : ScansOnly s (possible_copies view new s) (event (scan_answer (Err (refusal_to_scan refusal))) raid_given_up)
+      none_else other row comes steps = absurd cc
+
       none_found : ScansAll s (possible_copies view new s) (event (scan_answer (Err (refusal_to_scan refusal))) raid_given_up)
       none_found other row comes steps = absurd cc
 

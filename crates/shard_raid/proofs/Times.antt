@@ -9,7 +9,8 @@ use Rattle.sprig_tree.specs.State.{SprigState}
 use Rattle.part_laws.specs.Becoming.{remarked}
 use Rattle.shard_raid.specs.Marks.{HasHighTime}
 
-below_found : (high : ℕ) (d : Digest) (es : List Entry) (e : Entry) → AllByRecursion (λ x. x.stamp.lut ≤ high) es → entry_of d es ≡ Some e → e.stamp.lut ≤ high
+-- each time that is found is at most the high time
+pub below_found : (high : ℕ) (d : Digest) (es : List Entry) (e : Entry) → AllByRecursion (λ x. x.stamp.lut ≤ high) es → entry_of d es ≡ Some e → e.stamp.lut ≤ high
 below_found high d [] e all found = absurd cc
 below_found high d (x ∷ es) e all found = by (same_digest d x.digest) found (below_found high d es e all.1)
   where

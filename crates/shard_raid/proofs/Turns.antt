@@ -10,7 +10,7 @@ use Rattle.rec_format.specs.declared.entry.Entry.{Entry}
 use Rattle.rec_format.specs.Versions.{top_number}
 use Rattle.device_model.specs.Book.{Setup}
 use Rattle.device_model.specs.Device.{State, Turn, mark_turn, apply_turn, eligible_in}
-use Rattle.device_model.specs.Steps.{Step, raid_begun, marked_part, compared_part, after_step}
+use Rattle.device_model.specs.Steps.{Step, raid_begun, marked_part, compared_part, after_step, after_steps}
 use Rattle.device_model.specs.Events.{Event, Answer, begin_call, turn_call, raid_numbered, marks_made, marks_undone, refused, stale}
 use Rattle.device_model.specs.Legal.{Allowed, Only, TurnEnds, same_turn, unmarked_by}
 use Rattle.tomb_rules.specs.Covers.{is_eligible_entry}
@@ -136,16 +136,16 @@ module _ {D : Type 0} (view : D → DiskView) (setup : Setup) (old : ShelfView D
     timed : (mark_for : Entry → ℕ) → is.entries ≡ remarked mark_for was.entries → HasTimes is
     timed mark_for entries = subst (AllByRecursion (λ e. 1 ≤ e.stamp.lut)) (sym entries) (times_remarked (λ n. 1 ≤ n) mark_for was.entries stand.sprig_stands.times)
 
-    -- A shelf that goes by the step of its next turn makes the event of that turn.
-    makes_turn : (next : RaidNext) (turn : Turn) (step : Step) (answer : Answer) (now : ℕ) (new : ShelfView D) → old.raid.next ≡ next → turn_of next ≡ turn → same_turn turn turn ≡ true → Goes view setup (step ∷ []) old s new
-        → ((told : Bool) → TurnEnds setup told s (event_of view setup old new s (turn_call old.raid.number turn now) answer (step ∷ [])) turn now) → (view old.disk).faults ≤ (view new.disk).faults
-        → SprigStands setup part is (after_step setup step s) → StepMakes view setup part (turn_call old.raid.number turn now) answer old s is new
-    makes_turn next turn step answer now new at same itself goes ends up sprig_stands =
-        makes_by view setup old new s (turn_call old.raid.number turn now) answer (step ∷ []) (StandTogether setup part is new) up goes (allowed false) (λ honest safe. allowed true)
+    -- A shelf that goes by the steps of its next turn makes the event of that turn.
+    pub makes_turn : (next : RaidNext) (turn : Turn) (steps : List Step) (answer : Answer) (now : ℕ) (new : ShelfView D) → old.raid.next ≡ next → turn_of next ≡ turn → same_turn turn turn ≡ true → Goes view setup steps old s new
+        → ((told : Bool) → TurnEnds setup told s (event_of view setup old new s (turn_call old.raid.number turn now) answer steps) turn now) → (view old.disk).faults ≤ (view new.disk).faults
+        → SprigStands setup part is (after_steps setup steps s) → StepMakes view setup part (turn_call old.raid.number turn now) answer old s is new
+    makes_turn next turn steps answer now new at same itself goes ends up sprig_stands =
+        makes_by view setup old new s (turn_call old.raid.number turn now) answer steps (StandTogether setup part is new) up goes (allowed false) (λ honest safe. allowed true)
         (record { sprig_stands = sprig_stands; shelf_stands = record { stands = goes.stands; queue = goes.queued books } })
       where
         e : Event
-        e = event_of view setup old new s (turn_call old.raid.number turn now) answer (step ∷ [])
+        e = event_of view setup old new s (turn_call old.raid.number turn now) answer steps
 
         allowed : (told : Bool) → Allowed setup told s e (turn_call old.raid.number turn now)
         allowed told = subst (λ (b : Bool). MatchBool b (TurnEnds setup told s e turn now) (Only e (refused (stale s.raid.number s.raid.next)))) (sym (is_next next turn at same itself)) (ends told)
@@ -176,7 +176,7 @@ module _ {D : Type 0} (view : D → DiskView) (setup : Setup) (old : ShelfView D
       makes_marked new put =
           subst (λ (v : ShelfView D). StepMakes view setup part (turn_call old.raid.number (mark_turn part) now) (marks_made marked) old s is v)
           (sym (put ∙ ap (λ (n : RaidNext). record old { raid = after_turn n part old.raid }) at))
-          (makes_turn (Mark part) (mark_turn part) (marked_part part now) (marks_made marked) now to at refl (eq-eqb part part refl) goes_marked (λ told. (ap (λ (n : ℕ). marks_made n) made_are, refl)) (omega arith) sprig_marked)
+          (makes_turn (Mark part) (mark_turn part) (marked_part part now ∷ []) (marks_made marked) now to at refl (eq-eqb part part refl) goes_marked (λ told. (ap (λ (n : ℕ). marks_made n) made_are, refl)) (omega arith) sprig_marked)
 
     -- Its found copies are compared.
     module _ (at : old.raid.next ≡ Apply part) (now undone : ℕ) (marks : HasMarksBy (mark_left (copies_for part old.raid.found)) was is) (count : undone ≡ count_by (is_undone old.raid.number (copies_for part old.raid.found)) was.entries)
@@ -220,4 +220,4 @@ module _ {D : Type 0} (view : D → DiskView) (setup : Setup) (old : ShelfView D
       pub makes_compared : (new : ShelfView D) → new ≡ behind → StepMakes view setup part (turn_call old.raid.number (apply_turn part) now) (marks_undone undone) old s is new
       makes_compared new put =
           subst (λ (v : ShelfView D). StepMakes view setup part (turn_call old.raid.number (apply_turn part) now) (marks_undone undone) old s is v) (sym put)
-          (makes_turn (Apply part) (apply_turn part) (compared_part part) (marks_undone undone) now behind at refl (eq-eqb part part refl) goes_compared (λ told. (ap (λ (n : ℕ). marks_undone n) undone_are, refl)) (omega arith) sprig_compared)
+          (makes_turn (Apply part) (apply_turn part) (compared_part part ∷ []) (marks_undone undone) now behind at refl (eq-eqb part part refl) goes_compared (λ told. (ap (λ (n : ℕ). marks_undone n) undone_are, refl)) (omega arith) sprig_compared)

@@ -1,5 +1,5 @@
 -- The walk that marks the entries of a sprig: those that were gone over have their marks, and the others are as they were.
-use Rattle.std.proofs.Common.{◌≡◌, ◌⊎◌, inl, inr, ℕ, ◌+◌, ◌<◌, ◌≤◌, max, Bool, true, false, List, ◌∷◌, ◌++◌, length, take, drop, get_or, Option, Some, None, refl, sym, ◌∙◌, ap, arith}
+use Rattle.std.proofs.Common.{◌≡◌, ◌⊎◌, inl, inr, ℕ, ◌+◌, ◌<◌, ◌≤◌, max, Bool, true, false, List, ◌++◌, length, take, drop, get_or, Option, Some, None, refl, sym, ◌∙◌, ap, arith}
 use Rattle.std.specs.Prelude.{slice_get, count_by}
 use Rattle.std.proofs.lemmas.Bool.{cond-true, cond-false}
 use Rattle.std.proofs.lemmas.List.{append-nil, take_all, drop_all, length-take}
@@ -31,12 +31,19 @@ abbrev pub left_from : Option Entry → List Entry → List Entry
 left_from next es = walk_from (λ e. e.digest) next es
 
 -- where there is none, all were gone over
-past_all : (es : List Entry) (i : ℕ) → slice_get es i ≡ None → length es ≤ i
+pub past_all : (es : List Entry) (i : ℕ) → slice_get es i ≡ None → length es ≤ i
 past_all es i none = by (slice_get_cases es i).1
   where
     by : ((x : Entry) × (i < length es) × (slice_get es i ≡ Some x) × (get_or es i x ≡ x)) ⊎ ((length es ≤ i) × (slice_get es i ≡ None)) → length es ≤ i
     by (inl there) = let never : Some there.0 ≡ None = sym there.2 ∙ none in absurd cc
     by (inr past) = past.0
+
+-- fewer are left from one behind an entry than from the entry
+pub fewer_left : (es : List Entry) (at : ℕ) (e : Entry) (after : Option Entry) → IsInDigestOrder es → slice_get es at ≡ Some e → after ≡ slice_get es (at + 1) → length (left_from after es) < length (left_from (Some e) es)
+fewer_left es at e after order there after_is =
+    let behind_it : length (left_from after es) ≡ length (behind (λ x. x.digest) (Some e.digest) es) =
+    ap (λ (o : Option Entry). length (left_from o es)) (after_is ∙ sym (entry_after-at es at e order there)) ∙ ap length (sym (entries_behind (Some e.digest) es order)) in
+    omega (arith, behind_it)
 
 module _ (mark age now : ℕ) (old : SprigState) (order : IsInDigestOrder old.entries) where
   abbrev m : Entry → ℕ
@@ -88,10 +95,9 @@ module _ (mark age now : ℕ) (old : SprigState) (order : IsInDigestOrder old.en
 
       fewer : (after : Option Entry) → after ≡ slice_get old.entries (walked.at + 1) → length (left_from after old.entries) < length (left_from next old.entries)
       fewer after after_is =
-          let behind_it : length (left_from after old.entries) ≡ length (behind (λ x. x.digest) (Some e.digest) old.entries) =
-          ap (λ (o : Option Entry). length (left_from o old.entries)) (after_is ∙ sym (entry_after-at old.entries walked.at e order there)) ∙ ap length (sym (entries_behind (Some e.digest) old.entries order)) in
-          let with_it : length (left_from next old.entries) ≡ length (e ∷ behind (λ x. x.digest) (Some e.digest) old.entries) = ap (λ (o : Option Entry). length (left_from o old.entries)) is in
-          omega (arith, behind_it, with_it)
+          let less = fewer_left old.entries walked.at e after order there after_is in
+          let with_it : length (left_from next old.entries) ≡ length (left_from (Some e) old.entries) = ap (λ (o : Option Entry). length (left_from o old.entries)) is in
+          omega (arith, less, with_it)
 
       pub few : marked < length old.entries
       few = omega (arith, within, walked.count, count_by-le-length test (take walked.at old.entries), length-take walked.at old.entries)

@@ -1,3 +1,4 @@
 pub mod Raids
 pub mod Marks
 pub mod Scans
+pub mod Ends

@@ -5,7 +5,7 @@ use Rattle.device_model.specs.Book.{Setup}
 use Rattle.device_model.specs.Device.{State, scan_turn}
 use Rattle.device_model.specs.Events.{Answer, Cause, turn_call, block_scanned, refused, stale, damaged, no_memory, disk_fault}
 use Rattle.block_format.specs.declared.geometry.Geometry.{Geometry}
-use Rattle.kept_facts.specs.Asking.{ScansAll}
+use Rattle.kept_facts.specs.Asking.{ScansAll, ScansOnly}
 use Rattle.raid_book.specs.Turns.{turn_of}
 use Rattle.block_shelf.specs.declared.refusals.VacateRefusal.{VacateRefusal}
 use Rattle.block_shelf.specs.declared.refusals.VacateRefusal.TheVariants as vacate
@@ -51,7 +51,8 @@ IsDamageOf g bytes block Memory = Unit {0}
 IsDamageOf g bytes block Fault = Unit {0}
 
 -- From a state for which the shelf stood, the scan of a block makes one event. Over an honest disk whose image was sound that event finds
--- each copy in the block that may be older than a marked entry: one that waits, and one that a crash may leave.
+-- each copy in the block that may be older than a marked entry: one that waits, and one that a crash may leave. It finds nothing but such copies.
 pub record ScanMakes {D : Type 0} (view : D → DiskView) (setup : Setup) (block now : ℕ) (result : Result ℕ RaidRefusal) (old : ShelfView D) (s : State) (new : ShelfView D) : Type 0 where
   pub makes : MakesEvent view setup (turn_call old.raid.number (scan_turn block) now) (scan_answer result) old s new (StandOn setup new s)
   pub finds : IsHonest (view old.disk) → ImagesHold setup view old s → ScansAll s (possible_copies view new s) makes.event
+  pub only : IsHonest (view old.disk) → ImagesHold setup view old s → ScansOnly s (possible_copies view new s) makes.event

@@ -1,18 +1,18 @@
 // How a raid begins.
-ghost use Rattle.std.specs.Prelude.{◌≡◌, ◌+◌, ◌==◌, None, Some, if◌then◌else◌};
+ghost use Rattle.std.specs.Prelude.{◌≡◌, ◌+◌, ◌==◌, None, Some, IfSome, MatchBool, if◌then◌else◌};
 ghost use Rattle.rec_format.specs.Versions.{top_number};
 ghost use Rattle.device_model.specs.Book.{Setup};
 ghost use Rattle.device_model.specs.Device.{State};
 ghost use Rattle.device_model.specs.Events.{begin_call, raid_numbered};
-ghost use Rattle.raid_book.specs.Books.{begun};
+ghost use Rattle.raid_book.specs.Books.{FitsTurn, begun};
 ghost use Rattle.block_shelf.specs.View.{IsSetupOf};
 ghost use Rattle.shard_steps.specs.Standing.{ShelfStands};
 ghost use Rattle.shard_steps.specs.Events.{MakesEvent};
-ghost use Rattle.shard_raid.specs.Raids.{RaidView, begun_raid, number_of, StandOn};
+ghost use Rattle.shard_raid.specs.Raids.{RaidView, IsNext, begun_raid, number_of, StandOn};
 
 use block_shelf::Shelf;
 use disk_model::Disk;
-use raid_book::RaidNext;
+use raid_book::{RaidBook, RaidNext};
 use std::marker::Model;
 
 /// A raid that was begun: its number, and its next turn. It can't be copied.
@@ -44,6 +44,23 @@ impl Raid {
     {
         self.next
     }
+
+    /// Whether it is the raid that runs, and its next turn is the next one.
+    pub fn is_next(&self, book: &RaidBook) -> bool
+        ensures told { MatchBool result (IsNext self.now book.now) (IsNext self.now book.now → ⊥) }
+        ensures fits { FitsTurn book.now.next book.now }
+    {
+        let next = book.next();
+        self.number == book.number() && self.next == next
+    }
+
+    /// Goes on to the next turn of the raid that runs.
+    pub fn go_on(&mut self, book: &RaidBook)
+        ensures next { self.new ≡ record self.old { next = book.now.next } }
+        ensures fits { FitsTurn book.now.next book.now }
+    {
+        self.next = book.next();
+    }
 }
 
 /// Begins a raid, also over a running one, whose marks are void then. Its number is one more than the last; where that was 2^62 none begins,
@@ -52,6 +69,7 @@ pub fn raid_begin<D: Disk>(shelf: &mut Shelf<D>) -> Option<Raid>
     ensures makes { (setup : Setup) (s : State) → IsSetupOf setup shelf.old → ShelfStands setup shelf.old s
         → MakesEvent D.view setup begin_call (raid_numbered (number_of result)) shelf.old s shelf.new (StandOn setup shelf.new s) }
     ensures raid { result ≡ (if shelf.old.raid.number == top_number then None else Some (begun_raid (shelf.old.raid.number + 1))) }
+    ensures next { IfSome result (λ raid. IsNext raid shelf.new.raid) }
     ensures book { shelf.new ≡ (if shelf.old.raid.number == top_number then shelf.old else record shelf.old { raid = begun shelf.old.raid }) }
 {
     // No raid's number is above 2^62.

@@ -1,5 +1,5 @@
 // How the copies of a part that a raid's scans found are compared with its entries.
-ghost use Rattle.std.specs.Prelude.{◌≡◌, ◌≢◌, ℕ, [], count_by, ◌&&◌};
+ghost use Rattle.std.specs.Prelude.{◌≡◌, ◌≢◌, ◌<◌, ℕ, [], count_by, ◌&&◌};
 ghost use Rattle.device_model.specs.Book.{Setup};
 ghost use Rattle.device_model.specs.Device.{State, apply_turn};
 ghost use Rattle.device_model.specs.Events.{turn_call, marks_undone};
@@ -11,6 +11,7 @@ ghost use Rattle.block_shelf.specs.View.{IsSetupOf};
 ghost use Rattle.shard_steps.specs.Standing.{StandTogether};
 ghost use Rattle.shard_steps.specs.Events.{StepMakes};
 ghost use Rattle.shard_raid.specs.Marks.{HasMarksBy, is_marked_by, Unmarks};
+ghost use Rattle.shard_raid.specs.Raids.{turns_left};
 
 use crate::mark::with_mark;
 use block_shelf::Shelf;
@@ -34,10 +35,13 @@ pub fn raid_apply<D: Disk>(sprig: &mut Sprig, shelf: &mut Shelf<D>, part: u32) -
         next = turn_with shelf.old.raid.blocks shelf.old.raid.scanned (least_part shelf.new.raid.found);
       };
     } }
+    ensures nearer { turns_left shelf.new.raid < turns_left shelf.old.raid }
     ensures taken { copies_for part shelf.new.raid.found ≡ [] }
     ensures others { (other : ℕ) → other ≢ part → copies_for other shelf.new.raid.found ≡ copies_for other shelf.old.raid.found }
 {
     let undone = compare_found(sprig, shelf, part);
+    // What is left in the book is of parts that are no lesser.
+    let _next = shelf.raid().next();
     shelf.end_turn(part);
     undone
 }
@@ -76,7 +80,7 @@ fn unmark(sprig: &mut Sprig, digest: &Digest, stamp: Stamp, number: u64) -> bool
 }
 
 // Whether the entry has the mark of the raid of this number; 0 is no mark.
-fn is_marked_by(entry: &Entry, number: u64) -> bool
+pub(crate) fn is_marked_by(entry: &Entry, number: u64) -> bool
     ensures { result ≡ is_marked_by number entry.now }
 {
     entry.mark != 0 && entry.mark == number

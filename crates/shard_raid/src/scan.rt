@@ -1,13 +1,16 @@
 // How a raid scans a block.
-ghost use Rattle.std.specs.Prelude.{◌≡◌, ℕ, Err, IfOk, IfErr, OnErr};
+ghost use Rattle.std.specs.Prelude.{◌≡◌, ℕ, Err, IfOk, IfErr, OnOk, OnErr};
 ghost use Rattle.fault_count.specs.Counts.{Rose};
 ghost use Rattle.disk_model.specs.Disk.{IsHonest};
 ghost use Rattle.device_model.specs.Book.{Setup};
 ghost use Rattle.device_model.specs.Device.{State};
 ghost use Rattle.block_format.specs.Layout.{body_bytes};
-ghost use Rattle.raid_book.specs.Books.{given_up};
+ghost use Rattle.kept_facts.specs.Facts.{SamePossible};
+ghost use Rattle.raid_book.specs.Books.{given_up, with_scan};
 ghost use Rattle.block_shelf.specs.Disks.{IsLater};
-ghost use Rattle.block_shelf.specs.View.{IsSetupOf};
+ghost use Rattle.block_shelf.specs.View.{AreSure, IsSetupOf};
+ghost use Rattle.block_shelf.specs.Standing.{ImagesHold};
+ghost use Rattle.block_shelf.specs.Scans.{possible_copies};
 ghost use Rattle.shard_steps.specs.Standing.{ShelfStands};
 ghost use Rattle.shard_raid.specs.Scans.{ScanMakes, IsOfTurn, IsDamageOf, refusal_to_scan};
 
@@ -37,7 +40,13 @@ pub fn raid_scan<D: Disk>(alloc: Global, shelf: &mut Shelf<D>) -> Result<u32, Ra
         → ScanMakes D.view setup block now result shelf.old s shelf.new }
     ensures block { IfOk result (λ block. shelf.old.raid.next ≡ RaidNext.Scan block) }
     ensures of_turn { IfErr result IsOfTurn }
+    ensures turned { OnOk result (shelf.new.raid ≡ with_scan shelf.new.raid.found shelf.old.raid) }
     ensures given_up { OnErr result (shelf.new.raid ≡ given_up shelf.old.raid) }
+
+    // Where no gate is unsure the gates stay as they are, and over an honest disk whose image was sound what is possible stays so.
+    ensures sure { AreSure shelf.old.gates → shelf.new.gates ≡ shelf.old.gates }
+    ensures alike { (setup : Setup) (s : State) → AreSure shelf.old.gates → IsHonest (D.view shelf.old.disk) → ShelfStands setup shelf.old s → ImagesHold setup D.view shelf.old s
+        → SamePossible (possible_copies D.view shelf.old s) (possible_copies D.view shelf.new s) }
 
     // Damage is what the disk has in the block.
     ensures damaged { (D.view shelf.old.disk).tells → (block : ℕ) → shelf.old.raid.next ≡ RaidNext.Scan block

@@ -1,4 +1,7 @@
-use Rattle.std.proofs.Common.{◌∙◌, ap}
+use Rattle.std.proofs.Common.{◌∙◌, ap, subst}
+use Rattle.raid_book.specs.declared.turn.RaidNext.{RaidNext}
+use Rattle.raid_book.specs.Books.{BookState, FitsTurn}
+use Rattle.shard_raid.proofs.Nearer.{compared_nearer}
 use Rattle.raid_book.specs.Found.{copies_for}
 use Rattle.block_shelf.specs.View.{ShelfView}
 use Rattle.shard_raid.proofs.Comparing.{others_stay, none_left}
@@ -28,3 +31,8 @@ returns-clause-others g c other apart =
     (compared_is c.args.part c.args.shelf.now c.compare_found-undone.new.shelf c.end_turn.new.self c.requires.turn c.compare_found-undone.ensures.rest c.end_turn.ensures)
     ∙ others_stay c.args.part other c.compare_found-undone.new.shelf.raid.found apart
     ∙ c.compare_found-undone.ensures.others other apart
+
+pub returns-clause-nearer : goal.returns-clause-nearer
+returns-clause-nearer g c =
+    compared_nearer c.args.shelf.now c.compare_found-undone.new.shelf c.end_turn.new.self c.args.part c.requires.turn c.compare_found-undone.ensures.rest
+    (subst (λ (b : BookState). FitsTurn b.next b) c.raid.ensures.book (subst (λ (n : RaidNext). FitsTurn n c.raid.result.now) c.next-next.ensures.value c.next-next.ensures.fits)) c.end_turn.ensures

@@ -20,3 +20,9 @@ pub returns-in-Err-clause-damaged : goal.returns-in-Err-clause-damaged
 returns-in-Err-clause-damaged g c tells block at =
     let bytes = body_bytes c.args.shelf.now.geometry block (g.D.Disk.view c.args.shelf.now.disk).seen in
     subst (IsDamageOf c.args.shelf.now.geometry bytes block) (sym c.scan_refusal.ensures) (damage_told c.args.shelf.now.geometry bytes block c.in-Err.refusal (c.in-Err.ensures.damaged tells block at))
+
+pub returns-in-Ok-clause-alike : goal.returns-in-Ok-clause-alike
+returns-in-Ok-clause-alike g c setup s sure honest stand hold = c.scan_step.ensures.alike setup s sure honest stand.stands hold
+
+pub returns-in-Err-clause-alike : goal.returns-in-Err-clause-alike
+returns-in-Err-clause-alike g c setup s sure honest stand hold = c.scan_step.ensures.alike setup s sure honest stand.stands hold
