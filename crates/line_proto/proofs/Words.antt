@@ -12,9 +12,8 @@ use Rattle.hex.specs.Hex.{is_hex_digit, decode_sized}
 use Rattle.hex.proofs.HexLemmas.{decode_of-ok, decode_sized-ok, decode_sized-twice}
 use Rattle.rec_format.specs.declared.version.Digest.{Digest}
 use Rattle.line_proto.specs.declared.command.Command.{Command}
-use Rattle.line_proto.specs.declared.command.Command.TheVariants.{Put, Get, Meta, Del, Bury, Flush, Defrag, Expire, Stat, Restart, Quit}
-use Rattle.line_proto.specs.Lines.{line_limit, IsDigestText, IsExpectText, IsDataText, IsDigestLine, Spells}
-use Rattle.line_proto.specs.Built.{IsBuilt, IsLine, IsInRange}
+use Rattle.line_proto.specs.declared.command.Command.TheVariants.{Put, Get, Meta, Del, Bury, Flush, Defrag, Expire, Raid, Stat, Restart, Quit}
+use Rattle.line_proto.specs.Lines.{line_limit, IsDigestText, IsExpectText, IsDataText, IsDigestLine, Spells, IsCommandLine, IsInRange}
 use Rattle.line_proto.specs.Reading.{IsWord, IsFour, IsPut, IsAlone, IsDigestCommand, IsPutCommand}
 
 word_of_digits : (bytes : List ℕ) → AllDigits 10 bytes → IsWord bytes
@@ -176,8 +175,8 @@ apart a b differs is = eqb-false (slice_index a 0) (slice_index b 0) differs (ap
 not_alone : (line word text alone : List ℕ) → line ≡ word ++ 32 ∷ text → IsWord alone → line ≡ alone → ⊥
 not_alone line word text alone parted is_word is = no_cut word text (subst IsWord (sym is ∙ parted) is_word)
 
-built_line : (line : List ℕ) (c : Command) (X : Type 0) → length line ≤ line_limit → IsBuilt c → X ↔ Spells line c → X ↔ IsLine line c
-built_line line c X fits built both = (λ is. record { spelled = record { short = fits; spells = both.0 is }; built = built }, λ l. both.1 l.spelled.spells)
+short_line : (line : List ℕ) (c : Command) (X : Type 0) → length line ≤ line_limit → X ↔ Spells line c → X ↔ IsCommandLine line c
+short_line line c X fits both = (λ is. record { short = fits; spells = both.0 is }, λ l. both.1 l.spells)
 
 -- a word and a digest's text make the line of that word
 digest_line : (line word text w : List ℕ) (digest : Digest) → (line ≡ word ++ 32 ∷ text) × IsWord word → IsWord w → ((word ≡ w) × IsDigestText text digest) ↔ IsDigestLine line w digest
@@ -189,22 +188,22 @@ digest_line line word text w digest parted is_word = (
 )
 
 -- a line whose first word isn't `put` is the command of one digest that its parts are
-digest_command : (line word text : List ℕ) → length line ≤ line_limit → (line ≡ word ++ 32 ∷ text) × IsWord word → (word ≡ codes "put" → ⊥) → (c : Command) → IsDigestCommand word text c ↔ IsLine line c
+digest_command : (line word text : List ℕ) → length line ≤ line_limit → (line ≡ word ++ 32 ∷ text) × IsWord word → (word ≡ codes "put" → ⊥) → (c : Command) → IsDigestCommand word text c ↔ IsCommandLine line c
 digest_command line word text fits parted no_put (Put digest ttl expect payload) = (
   λ wrong. absurd wrong,
-  λ other. absurd (no_put (one_cut word (codes "put") _ _ parted.1 (word_by (codes "put") refl) (sym parted.0 ∙ other.spelled.spells.line_is)).0),
+  λ other. absurd (no_put (one_cut word (codes "put") _ _ parted.1 (word_by (codes "put") refl) (sym parted.0 ∙ other.spells.line_is)).0),
 )
-digest_command line word text fits parted no_put (Get digest) = built_line line (Get digest) _ fits tt (digest_line line word text (codes "get") digest parted (word_by (codes "get") refl))
-digest_command line word text fits parted no_put (Meta digest) = built_line line (Meta digest) _ fits tt (digest_line line word text (codes "meta") digest parted (word_by (codes "meta") refl))
-digest_command line word text fits parted no_put (Del digest) = built_line line (Del digest) _ fits tt (digest_line line word text (codes "del") digest parted (word_by (codes "del") refl))
-digest_command line word text fits parted no_put (Bury digest) = built_line line (Bury digest) _ fits tt (digest_line line word text (codes "bury") digest parted (word_by (codes "bury") refl))
-digest_command line word text fits parted no_put Flush = (λ wrong. absurd wrong, λ other. absurd (not_alone line word text (codes "flush") parted.0 (word_by (codes "flush") refl) other.spelled.spells))
-digest_command line word text fits parted no_put Defrag = (λ wrong. absurd wrong, λ other. absurd (not_alone line word text (codes "defrag") parted.0 (word_by (codes "defrag") refl) other.spelled.spells))
-digest_command line word text fits parted no_put Expire = (λ wrong. absurd wrong, λ other. absurd (not_alone line word text (codes "expire") parted.0 (word_by (codes "expire") refl) other.spelled.spells))
-digest_command line word text fits parted no_put Stat = (λ wrong. absurd wrong, λ other. absurd (not_alone line word text (codes "stat") parted.0 (word_by (codes "stat") refl) other.spelled.spells))
-digest_command line word text fits parted no_put Restart = (λ wrong. absurd wrong, λ other. absurd (not_alone line word text (codes "restart") parted.0 (word_by (codes "restart") refl) other.spelled.spells))
-digest_command line word text fits parted no_put Quit = (λ wrong. absurd wrong, λ other. absurd (not_alone line word text (codes "quit") parted.0 (word_by (codes "quit") refl) other.spelled.spells))
-digest_command line word text fits parted no_put c = (λ wrong. absurd wrong, λ other. absurd other.built)
+digest_command line word text fits parted no_put (Get digest) = short_line line (Get digest) _ fits (digest_line line word text (codes "get") digest parted (word_by (codes "get") refl))
+digest_command line word text fits parted no_put (Meta digest) = short_line line (Meta digest) _ fits (digest_line line word text (codes "meta") digest parted (word_by (codes "meta") refl))
+digest_command line word text fits parted no_put (Del digest) = short_line line (Del digest) _ fits (digest_line line word text (codes "del") digest parted (word_by (codes "del") refl))
+digest_command line word text fits parted no_put (Bury digest) = short_line line (Bury digest) _ fits (digest_line line word text (codes "bury") digest parted (word_by (codes "bury") refl))
+digest_command line word text fits parted no_put Flush = (λ wrong. absurd wrong, λ other. absurd (not_alone line word text (codes "flush") parted.0 (word_by (codes "flush") refl) other.spells))
+digest_command line word text fits parted no_put Defrag = (λ wrong. absurd wrong, λ other. absurd (not_alone line word text (codes "defrag") parted.0 (word_by (codes "defrag") refl) other.spells))
+digest_command line word text fits parted no_put Expire = (λ wrong. absurd wrong, λ other. absurd (not_alone line word text (codes "expire") parted.0 (word_by (codes "expire") refl) other.spells))
+digest_command line word text fits parted no_put Raid = (λ wrong. absurd wrong, λ other. absurd (not_alone line word text (codes "raid") parted.0 (word_by (codes "raid") refl) other.spells))
+digest_command line word text fits parted no_put Stat = (λ wrong. absurd wrong, λ other. absurd (not_alone line word text (codes "stat") parted.0 (word_by (codes "stat") refl) other.spells))
+digest_command line word text fits parted no_put Restart = (λ wrong. absurd wrong, λ other. absurd (not_alone line word text (codes "restart") parted.0 (word_by (codes "restart") refl) other.spells))
+digest_command line word text fits parted no_put Quit = (λ wrong. absurd wrong, λ other. absurd (not_alone line word text (codes "quit") parted.0 (word_by (codes "quit") refl) other.spells))
 
 -- a line whose first word is `put` is of no other word
 no_put : (line word text w : List ℕ) (digest : Digest) → (line ≡ word ++ 32 ∷ text) × IsWord word → word ≡ codes "put" → (slice_index (codes "put") 0 == slice_index w 0) ≡ false → IsWord w → IsDigestLine line w digest → ⊥
@@ -212,27 +211,24 @@ no_put line word text w digest parted is_put differs is_word spelled =
     apart (codes "put") w differs (sym is_put ∙ (one_cut word w text spelled.text parted.1 is_word (sym parted.0 ∙ spelled.line_is)).0)
 
 -- a line whose first word is `put` is the command of what stands behind it
-put_command : (line word text : List ℕ) → length line ≤ line_limit → (line ≡ word ++ 32 ∷ text) × IsWord word → word ≡ codes "put" → (c : Command) → IsPutCommand text c ↔ IsLine line c
+put_command : (line word text : List ℕ) → length line ≤ line_limit → (line ≡ word ++ 32 ∷ text) × IsWord word → word ≡ codes "put" → (c : Command) → IsPutCommand text c ↔ IsCommandLine line c
 put_command line word text fits parted is_put (Put digest ttl expect payload) = (
   λ put.
       record {
-        spelled = record {
-          short = fits;
-          spells = record {
-            digest_text = put.digest_text;
-            expect_text = put.expect_text;
-            data_text = put.data_text;
-            is_digest = put.is_digest;
-            in_range = put.in_range;
-            is_expect = put.is_expect;
-            is_data = put.is_data;
-            line_is = parted.0 ∙ (λ i. is_put i ++ 32 ∷ put.spelled i);
-          };
+        short = fits;
+        spells = record {
+          digest_text = put.digest_text;
+          expect_text = put.expect_text;
+          data_text = put.data_text;
+          is_digest = put.is_digest;
+          in_range = put.in_range;
+          is_expect = put.is_expect;
+          is_data = put.is_data;
+          line_is = parted.0 ∙ (λ i. is_put i ++ 32 ∷ put.spelled i);
         };
-        built = tt;
       },
   λ other.
-      let put = other.spelled.spells in
+      let put = other.spells in
       record {
         digest_text = put.digest_text;
         expect_text = put.expect_text;
@@ -244,47 +240,47 @@ put_command line word text fits parted is_put (Put digest ttl expect payload) = 
         spelled = (one_cut word (codes "put") text _ parted.1 (word_by (codes "put") refl) (sym parted.0 ∙ put.line_is)).1;
       },
 )
-put_command line word text fits parted is_put (Get digest) = (λ wrong. absurd wrong, λ other. absurd (no_put line word text (codes "get") digest parted is_put refl (word_by (codes "get") refl) other.spelled.spells))
-put_command line word text fits parted is_put (Meta digest) = (λ wrong. absurd wrong, λ other. absurd (no_put line word text (codes "meta") digest parted is_put refl (word_by (codes "meta") refl) other.spelled.spells))
-put_command line word text fits parted is_put (Del digest) = (λ wrong. absurd wrong, λ other. absurd (no_put line word text (codes "del") digest parted is_put refl (word_by (codes "del") refl) other.spelled.spells))
-put_command line word text fits parted is_put (Bury digest) = (λ wrong. absurd wrong, λ other. absurd (no_put line word text (codes "bury") digest parted is_put refl (word_by (codes "bury") refl) other.spelled.spells))
-put_command line word text fits parted is_put Flush = (λ wrong. absurd wrong, λ other. absurd (not_alone line word text (codes "flush") parted.0 (word_by (codes "flush") refl) other.spelled.spells))
-put_command line word text fits parted is_put Defrag = (λ wrong. absurd wrong, λ other. absurd (not_alone line word text (codes "defrag") parted.0 (word_by (codes "defrag") refl) other.spelled.spells))
-put_command line word text fits parted is_put Expire = (λ wrong. absurd wrong, λ other. absurd (not_alone line word text (codes "expire") parted.0 (word_by (codes "expire") refl) other.spelled.spells))
-put_command line word text fits parted is_put Stat = (λ wrong. absurd wrong, λ other. absurd (not_alone line word text (codes "stat") parted.0 (word_by (codes "stat") refl) other.spelled.spells))
-put_command line word text fits parted is_put Restart = (λ wrong. absurd wrong, λ other. absurd (not_alone line word text (codes "restart") parted.0 (word_by (codes "restart") refl) other.spelled.spells))
-put_command line word text fits parted is_put Quit = (λ wrong. absurd wrong, λ other. absurd (not_alone line word text (codes "quit") parted.0 (word_by (codes "quit") refl) other.spelled.spells))
-put_command line word text fits parted is_put c = (λ wrong. absurd wrong, λ other. absurd other.built)
+put_command line word text fits parted is_put (Get digest) = (λ wrong. absurd wrong, λ other. absurd (no_put line word text (codes "get") digest parted is_put refl (word_by (codes "get") refl) other.spells))
+put_command line word text fits parted is_put (Meta digest) = (λ wrong. absurd wrong, λ other. absurd (no_put line word text (codes "meta") digest parted is_put refl (word_by (codes "meta") refl) other.spells))
+put_command line word text fits parted is_put (Del digest) = (λ wrong. absurd wrong, λ other. absurd (no_put line word text (codes "del") digest parted is_put refl (word_by (codes "del") refl) other.spells))
+put_command line word text fits parted is_put (Bury digest) = (λ wrong. absurd wrong, λ other. absurd (no_put line word text (codes "bury") digest parted is_put refl (word_by (codes "bury") refl) other.spells))
+put_command line word text fits parted is_put Flush = (λ wrong. absurd wrong, λ other. absurd (not_alone line word text (codes "flush") parted.0 (word_by (codes "flush") refl) other.spells))
+put_command line word text fits parted is_put Defrag = (λ wrong. absurd wrong, λ other. absurd (not_alone line word text (codes "defrag") parted.0 (word_by (codes "defrag") refl) other.spells))
+put_command line word text fits parted is_put Expire = (λ wrong. absurd wrong, λ other. absurd (not_alone line word text (codes "expire") parted.0 (word_by (codes "expire") refl) other.spells))
+put_command line word text fits parted is_put Raid = (λ wrong. absurd wrong, λ other. absurd (not_alone line word text (codes "raid") parted.0 (word_by (codes "raid") refl) other.spells))
+put_command line word text fits parted is_put Stat = (λ wrong. absurd wrong, λ other. absurd (not_alone line word text (codes "stat") parted.0 (word_by (codes "stat") refl) other.spells))
+put_command line word text fits parted is_put Restart = (λ wrong. absurd wrong, λ other. absurd (not_alone line word text (codes "restart") parted.0 (word_by (codes "restart") refl) other.spells))
+put_command line word text fits parted is_put Quit = (λ wrong. absurd wrong, λ other. absurd (not_alone line word text (codes "quit") parted.0 (word_by (codes "quit") refl) other.spells))
 
 -- so a line is read where its parts are
 pub line_of_digest : (line word text : List ℕ) (read : Option Command) → length line ≤ line_limit → (line ≡ word ++ 32 ∷ text) × IsWord word → (word ≡ codes "put" → ⊥)
-    → ((c : Command) → (read ≡ Some c) ↔ IsDigestCommand word text c) → (c : Command) → (read ≡ Some c) ↔ IsLine line c
+    → ((c : Command) → (read ≡ Some c) ↔ IsDigestCommand word text c) → (c : Command) → (read ≡ Some c) ↔ IsCommandLine line c
 line_of_digest line word text read fits parted no_put reads c =
     let both = digest_command line word text fits parted no_put c in
     (λ r. both.0 ((reads c).0 r), λ is. (reads c).1 (both.1 is))
 
 pub line_of_put : (line word text : List ℕ) (read : Option Command) → length line ≤ line_limit → (line ≡ word ++ 32 ∷ text) × IsWord word → word ≡ codes "put"
-    → ((c : Command) → (read ≡ Some c) ↔ IsPutCommand text c) → (c : Command) → (read ≡ Some c) ↔ IsLine line c
+    → ((c : Command) → (read ≡ Some c) ↔ IsPutCommand text c) → (c : Command) → (read ≡ Some c) ↔ IsCommandLine line c
 line_of_put line word text read fits parted is_put reads c =
     let both = put_command line word text fits parted is_put c in
     (λ r. both.0 ((reads c).0 r), λ is. (reads c).1 (both.1 is))
 
 -- a line without a space is the command of its one word
-alone_command : (line : List ℕ) → length line ≤ line_limit → IsWord line → (c : Command) → IsAlone line c ↔ IsLine line c
-alone_command line fits is_word (Put digest ttl expect payload) = (λ wrong. absurd wrong, λ other. absurd (no_cut (codes "put") _ (subst IsWord other.spelled.spells.line_is is_word)))
-alone_command line fits is_word (Get digest) = (λ wrong. absurd wrong, λ other. absurd (no_cut (codes "get") _ (subst IsWord other.spelled.spells.line_is is_word)))
-alone_command line fits is_word (Meta digest) = (λ wrong. absurd wrong, λ other. absurd (no_cut (codes "meta") _ (subst IsWord other.spelled.spells.line_is is_word)))
-alone_command line fits is_word (Del digest) = (λ wrong. absurd wrong, λ other. absurd (no_cut (codes "del") _ (subst IsWord other.spelled.spells.line_is is_word)))
-alone_command line fits is_word (Bury digest) = (λ wrong. absurd wrong, λ other. absurd (no_cut (codes "bury") _ (subst IsWord other.spelled.spells.line_is is_word)))
-alone_command line fits is_word Flush = built_line line Flush _ fits tt (λ is. is, λ is. is)
-alone_command line fits is_word Defrag = built_line line Defrag _ fits tt (λ is. is, λ is. is)
-alone_command line fits is_word Expire = built_line line Expire _ fits tt (λ is. is, λ is. is)
-alone_command line fits is_word Stat = built_line line Stat _ fits tt (λ is. is, λ is. is)
-alone_command line fits is_word Restart = built_line line Restart _ fits tt (λ is. is, λ is. is)
-alone_command line fits is_word Quit = built_line line Quit _ fits tt (λ is. is, λ is. is)
-alone_command line fits is_word c = (λ wrong. absurd wrong, λ other. absurd other.built)
+alone_command : (line : List ℕ) → length line ≤ line_limit → IsWord line → (c : Command) → IsAlone line c ↔ IsCommandLine line c
+alone_command line fits is_word (Put digest ttl expect payload) = (λ wrong. absurd wrong, λ other. absurd (no_cut (codes "put") _ (subst IsWord other.spells.line_is is_word)))
+alone_command line fits is_word (Get digest) = (λ wrong. absurd wrong, λ other. absurd (no_cut (codes "get") _ (subst IsWord other.spells.line_is is_word)))
+alone_command line fits is_word (Meta digest) = (λ wrong. absurd wrong, λ other. absurd (no_cut (codes "meta") _ (subst IsWord other.spells.line_is is_word)))
+alone_command line fits is_word (Del digest) = (λ wrong. absurd wrong, λ other. absurd (no_cut (codes "del") _ (subst IsWord other.spells.line_is is_word)))
+alone_command line fits is_word (Bury digest) = (λ wrong. absurd wrong, λ other. absurd (no_cut (codes "bury") _ (subst IsWord other.spells.line_is is_word)))
+alone_command line fits is_word Flush = short_line line Flush _ fits (λ is. is, λ is. is)
+alone_command line fits is_word Defrag = short_line line Defrag _ fits (λ is. is, λ is. is)
+alone_command line fits is_word Expire = short_line line Expire _ fits (λ is. is, λ is. is)
+alone_command line fits is_word Raid = short_line line Raid _ fits (λ is. is, λ is. is)
+alone_command line fits is_word Stat = short_line line Stat _ fits (λ is. is, λ is. is)
+alone_command line fits is_word Restart = short_line line Restart _ fits (λ is. is, λ is. is)
+alone_command line fits is_word Quit = short_line line Quit _ fits (λ is. is, λ is. is)
 
-pub line_of_alone : (line : List ℕ) (read : Option Command) → length line ≤ line_limit → IsWord line → ((c : Command) → (read ≡ Some c) ↔ IsAlone line c) → (c : Command) → (read ≡ Some c) ↔ IsLine line c
+pub line_of_alone : (line : List ℕ) (read : Option Command) → length line ≤ line_limit → IsWord line → ((c : Command) → (read ≡ Some c) ↔ IsAlone line c) → (c : Command) → (read ≡ Some c) ↔ IsCommandLine line c
 line_of_alone line read fits is_word reads c =
     let both = alone_command line fits is_word c in
     (λ r. both.0 ((reads c).0 r), λ is. (reads c).1 (both.1 is))
@@ -295,32 +291,19 @@ data_fits text [] is = omega arith
 data_fits text (byte ∷ bytes) is = omega (arith, (decode_of-ok text (byte ∷ bytes) is).2)
 
 -- a line's command is within what lines allow
-pub in_range : (line : List ℕ) (c : Command) → IsLine line c → IsInRange c
+pub in_range : (line : List ℕ) (c : Command) → IsCommandLine line c → IsInRange c
 in_range line (Put digest ttl expect payload) is =
-    let put = is.spelled.spells in
+    let put = is.spells in
     let fits = data_fits put.data_text payload put.is_data in
-    record {
-      numbers = (put.in_range, within (length payload) (length put.data_text) (length line) fits (shorter line put.digest_text (decimal ttl) put.expect_text put.data_text put.line_is) is.spelled.short);
-      built = tt;
-    }
+    (put.in_range, within (length payload) (length put.data_text) (length line) fits (shorter line put.digest_text (decimal ttl) put.expect_text put.data_text put.line_is) is.short)
   where
     within : (a b c : ℕ) → a ≤ b → b ≤ c → c ≤ line_limit → a ≤ 2 ^ 31
     within a b c one two three = omega arith
 
     shorter : (line a b c d : List ℕ) → line ≡ 112 ∷ 117 ∷ 116 ∷ 32 ∷ (a ++ 32 ∷ (b ++ 32 ∷ (c ++ 32 ∷ d))) → length d ≤ length line
     shorter line a b c d one = omega (arith, ap length one, length-append a (32 ∷ (b ++ 32 ∷ (c ++ 32 ∷ d))), length-append b (32 ∷ (c ++ 32 ∷ d)), length-append c (32 ∷ d))
-in_range line (Get digest) is = record { numbers = tt; built = tt }
-in_range line (Meta digest) is = record { numbers = tt; built = tt }
-in_range line (Del digest) is = record { numbers = tt; built = tt }
-in_range line (Bury digest) is = record { numbers = tt; built = tt }
-in_range line Flush is = record { numbers = tt; built = tt }
-in_range line Defrag is = record { numbers = tt; built = tt }
-in_range line Expire is = record { numbers = tt; built = tt }
-in_range line Stat is = record { numbers = tt; built = tt }
-in_range line Restart is = record { numbers = tt; built = tt }
-in_range line Quit is = record { numbers = tt; built = tt }
-in_range line c is = absurd is.built
+in_range line c is = tt
 
-pub read_in_range : (line : List ℕ) (read : Option Command) → ((c : Command) → (read ≡ Some c) ↔ IsLine line c) → IfSome read IsInRange
+pub read_in_range : (line : List ℕ) (read : Option Command) → ((c : Command) → (read ≡ Some c) ↔ IsCommandLine line c) → IfSome read IsInRange
 read_in_range line (Some c) reads = in_range line c ((reads c).0 refl)
 read_in_range line None reads = tt

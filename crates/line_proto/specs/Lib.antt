@@ -1,4 +1,3 @@
 pub mod Lines
-pub mod Built
 pub mod Reading
 pub mod Stream

@@ -1,5 +1,5 @@
 -- Crate line_proto. The text of commands and replies.
-use Rattle.std.specs.Prelude.{ℕ, ◌≤◌, List, [], ◌∷◌, ◌++◌, length, codes, decimal, Option, Some, None, Ok, ◌≡◌}
+use Rattle.std.specs.Prelude.{ℕ, ◌^◌, ◌≤◌, List, [], ◌∷◌, ◌++◌, length, codes, decimal, Option, Some, None, Ok, ◌≡◌}
 use Rattle.std.specs.List.{join_with_byte}
 use Rattle.hex.specs.Hex.{decode_of, encode_lower}
 use Rattle.rec_format.specs.declared.version.Digest.{Digest}
@@ -71,13 +71,23 @@ Spells line command.Stat = line ≡ codes "stat"
 Spells line command.Restart = line ≡ codes "restart"
 Spells line command.Quit = line ≡ codes "quit"
 
+-- the line, without its LF, asks for this command
 pub record IsCommandLine (line : List ℕ) (c : Command) : Type 0 where
   pub short : length line ≤ line_limit
   pub spells : Spells line c
 
+-- it asks for none
+abbrev pub IsNoCommand : List ℕ → Type 0
+IsNoCommand line = (c : Command) → IsCommandLine line c → ⊥
+
 -- some line spells it
 abbrev pub HasLine : Command → Type 0
 HasLine c = (line : List ℕ) × IsCommandLine line c
+
+-- what a store is asked: its numbers and payload are within what a line allows
+abbrev pub IsInRange : Command → Type 0
+IsInRange (command.Put digest ttl expect payload) = (ttl ≤ 315360000) × (length payload ≤ 2 ^ 31)
+IsInRange c = Unit {0}
 
 -- ---- the text of a command
 

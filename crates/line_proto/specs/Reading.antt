@@ -37,7 +37,7 @@ pub record IsPut (text : List ℕ) (digest : Digest) (ttl : ℕ) (expect : Optio
   pub is_data : IsDataText data_text payload
   pub spelled : text ≡ words_line (digest_text ∷ decimal ttl ∷ expect_text ∷ data_text ∷ [])
 
--- the line is the one word of this command, which is built
+-- the line is the one word of this command
 abbrev pub IsAlone : List ℕ → Command → Type 0
 IsAlone line command.Flush = line ≡ codes "flush"
 IsAlone line command.Stat = line ≡ codes "stat"
@@ -45,6 +45,7 @@ IsAlone line command.Restart = line ≡ codes "restart"
 IsAlone line command.Quit = line ≡ codes "quit"
 IsAlone line command.Defrag = line ≡ codes "defrag"
 IsAlone line command.Expire = line ≡ codes "expire"
+IsAlone line command.Raid = line ≡ codes "raid"
 IsAlone line _ = ⊥
 
 -- what stands behind `put ` is this command

@@ -1,6 +1,6 @@
 // A line to a command.
 ghost use Rattle.std.specs.Prelude.{◌≡◌, ◌↔◌, List, ℕ, Option, Some, IfOk, IfSome, MatchOption};
-ghost use Rattle.line_proto.specs.Built.{IsLine, IsInRange};
+ghost use Rattle.line_proto.specs.Lines.{IsCommandLine, IsInRange};
 ghost use Rattle.line_proto.specs.Reading.{IsFour, IsAlone, IsDigestCommand, IsPutCommand};
 ghost use Rattle.line_proto.specs.declared.command.Command.{Command};
 
@@ -45,6 +45,9 @@ fn alone_of(line: &[u8]) -> Option<Command>
     }
     if line == b"expire".as_slice() {
         return Some(Command::Expire);
+    }
+    if line == b"raid".as_slice() {
+        return Some(Command::Raid);
     }
     None
 }
@@ -96,10 +99,10 @@ fn put_of(alloc: Global, text: &[u8]) -> Result<Option<Command>, NoMemory>
     }))
 }
 
-/// The command that a line asks for, its LF not counted. It is none exactly where the line asks for no command that is
-/// built: it is outside the grammar, too long, or its command isn't built yet. The only error is want of memory.
+/// The command that a line asks for, its LF not counted. It is none exactly where the line asks for no command: it is
+/// outside the grammar or too long. The only error is want of memory.
 pub fn read_command(alloc: Global, line: &[u8]) -> Result<Option<Command>, NoMemory>
-    ensures exact { IfOk result (λ read. (command : Command) → (read ≡ Some command) ↔ IsLine line.now command) }
+    ensures exact { IfOk result (λ read. (command : Command) → (read ≡ Some command) ↔ IsCommandLine line.now command) }
     ensures in_range { IfOk result (λ read. IfSome read IsInRange) }
 {
     if line.len() > LINE_LIMIT {

@@ -1,6 +1,6 @@
 // What a session asks of a store.
 ghost use Rattle.std.specs.Prelude.{◌≢◌, ◌≤◌, ◌^◌, ℕ};
-ghost use Rattle.line_proto.specs.Built.{IsInRange};
+ghost use Rattle.line_proto.specs.Lines.{IsInRange};
 ghost use Rattle.line_proto.specs.declared.command.Command.{Command};
 ghost use Rattle.line_proto.specs.declared.reply.Reply.{Reply};
 

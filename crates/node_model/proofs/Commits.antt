@@ -1,4 +1,4 @@
--- With commit on, what a line wrote is flushed when it is answered as done: of the commands that are built.
+-- With commit on, what a line wrote is flushed when it is answered as done.
 use Rattle.std.proofs.Common.{◌≡◌, ℕ, zero, suc, ◌+◌, Bool, true, false, cond, List, [], ◌∷◌, ◌++◌, map, refl, sym, ap, ◌∙◌, subst, inl, inr}
 use Rattle.std.specs.Prelude.{Option, Some, None, MatchOption, MatchBool, IsTrue, ◌==◌, slice_get}
 use Rattle.std.specs.List.{AllByRecursion}
@@ -19,12 +19,11 @@ use Rattle.kept_trail.specs.Numbers.{HasNumbers}
 use Rattle.line_proto.specs.declared.command.Command.{Command}
 use Rattle.line_proto.specs.declared.command.Command.TheVariants as command
 use Rattle.line_proto.specs.declared.reply.Reply.{Reply}
-use Rattle.line_proto.specs.Built.{IsBuilt}
 use Rattle.node_model.specs.Commands.{Slot, Node, NodeEvent, at_place, slot_after, node_after, IsLegalOn, on_device, answer_reply, EachDevice, expired_entries, Expires, one_sum, Does}
 use Rattle.node_model.specs.Run.{ImagesLeft, Served, ServesAll, AnswersLine, node_or, node_at_reply, node_after_line, steps_on, WritesFlushed, top_is_flushed, flushed_if_wrote}
 use Rattle.node_model.specs.Headline.{On, is_failed, CommitsAt, CommitsAll}
 use Rattle.node_model.proofs.Flushing.{write_commits}
-use Rattle.node_model.proofs.Unwritten.{WritesNone, none_flushed, on_each, all_flushes, all_defrags, calls_write_nothing}
+use Rattle.node_model.proofs.Unwritten.{WritesNone, none_flushed, on_each, all_flushes, all_defrags, all_raids, calls_write_nothing}
 use Rattle.node_model.proofs.Expiries.{HasRemoved, all_removed}
 use Rattle.node_model.proofs.Numbered.{AreNumbered, steps_numbered, line_numbered}
 use Rattle.node_model.proofs.Tops.{removal_stays}
@@ -261,26 +260,27 @@ one_event told node n event work r is reply_is commits legal device =
 no_work : (failed : Bool) (node : Node) (work : List NodeEvent) → work ≡ [] → (new : Node) (device : ℕ) → Waited failed node new (steps_on device work) device
 no_work failed node work is new device = subst (λ (w : List NodeEvent). Waited failed node new (steps_on device w) device) (sym is) (none_written failed node new device)
 
-does_commit : (told : Bool) (node : Node) (c : Command) (now : ℕ) (work : List NodeEvent) (r : Reply) → IsBuilt c → AreNumbered node → Does node c now work r → IsLegalOn told node work → (device : ℕ)
+does_commit : (told : Bool) (node : Node) (c : Command) (now : ℕ) (work : List NodeEvent) (r : Reply) → AreNumbered node → Does node c now work r → IsLegalOn told node work → (device : ℕ)
     → Waited (is_failed r) node (node_after work node) (steps_on device work) device
-does_commit told node (command.Put digest ttl expect payload) now work r built numbers does legal device = one_event told node _ does.0 work r does.1 does.3
+does_commit told node (command.Put digest ttl expect payload) now work r numbers does legal device = one_event told node _ does.0 work r does.1 does.3
     (λ slot follows. put_commits slot told does.0 digest ttl expect payload now (subst (Allowed slot.setup told slot.state does.0) does.2 follows.allowed)) legal device
-does_commit told node (command.Get digest) now work r built numbers does legal device = one_event told node _ does.0 work r does.1 does.3
+does_commit told node (command.Get digest) now work r numbers does legal device = one_event told node _ does.0 work r does.1 does.3
     (λ slot follows. get_commits slot told does.0 digest now (subst (Allowed slot.setup told slot.state does.0) does.2 follows.allowed)) legal device
-does_commit told node command.Quit now work r built numbers does legal device = no_work (is_failed r) node work does.0 (node_after work node) device
-does_commit told node (command.Meta digest) now work r built numbers does legal device = no_work (is_failed r) node work does.0 (node_after work node) device
-does_commit told node (command.Del digest) now work r built numbers does legal device = one_event told node _ does.0 work r does.1 does.3
+does_commit told node command.Quit now work r numbers does legal device = no_work (is_failed r) node work does.0 (node_after work node) device
+does_commit told node (command.Meta digest) now work r numbers does legal device = no_work (is_failed r) node work does.0 (node_after work node) device
+does_commit told node (command.Del digest) now work r numbers does legal device = one_event told node _ does.0 work r does.1 does.3
     (λ slot follows. delete_commits slot told does.0 digest now (subst (Allowed slot.setup told slot.state does.0) does.2 follows.allowed)) legal device
-does_commit told node (command.Bury digest) now work r built numbers does legal device = one_event told node _ does.0 work r does.1 does.3
+does_commit told node (command.Bury digest) now work r numbers does legal device = one_event told node _ does.0 work r does.1 does.3
     (λ slot follows. entombs_commit slot does.0 digest now stamp_given (subst (Allowed slot.setup told slot.state does.0) does.2 follows.allowed)) legal device
-does_commit told node command.Flush now work r built numbers does legal device = unwritten (is_failed r) node (node_after work node) work device
+does_commit told node command.Flush now work r numbers does legal device = unwritten (is_failed r) node (node_after work node) work device
     (calls_write_nothing told node work (all_flushes node work does.0 does.1) legal device)
-does_commit told node command.Defrag now work r built numbers does legal device = unwritten (is_failed r) node (node_after work node) work device
+does_commit told node command.Defrag now work r numbers does legal device = unwritten (is_failed r) node (node_after work node) work device
     (calls_write_nothing told node work (all_defrags node work does.0 does.1) legal device)
-does_commit told node command.Expire now work r built numbers does legal device = expires_commit told node now work r numbers does legal device
-does_commit told node command.Raid now work r built numbers does legal device = absurd built
-does_commit told node command.Stat now work r built numbers does legal device = no_work (is_failed r) node work does.0 (node_after work node) device
-does_commit told node command.Restart now work r built numbers does legal device = absurd does
+does_commit told node command.Expire now work r numbers does legal device = expires_commit told node now work r numbers does legal device
+does_commit told node command.Raid now work r numbers does legal device = unwritten (is_failed r) node (node_after work node) work device
+    (calls_write_nothing told node work (all_raids now node work does.0 does.1) legal device)
+does_commit told node command.Stat now work r numbers does legal device = no_work (is_failed r) node work does.0 (node_after work node) device
+does_commit told node command.Restart now work r numbers does legal device = absurd does
 
 answer_commits : (left : ImagesLeft) (told : Bool) (node : Node) (line : Option (List ℕ)) (served : Served) → AreNumbered node → AnswersLine left told node line served → IsLegalOn told node served.work → CommitsAt node served
 answer_commits left told node None served numbers (inl refuses) legal device = no_work _ node served.work refuses.2 (node_at_reply served node) device
@@ -289,7 +289,7 @@ answer_commits left told node (Some line) served numbers (inr (inl refuses)) leg
 answer_commits left told node (Some line) served numbers (inr (inr lacks)) legal device = no_work _ node served.work lacks.1 (node_at_reply served node) device
 answer_commits left told node (Some line) served numbers (inl does) legal device = elim does.4 [
   | inl made ↦ subst (λ (o : Option Node). Waited (is_failed served.reply) node (node_or (node_after served.work node) o) (steps_on device served.work) device) (sym made.0)
-      (does_commit told node does.0 _ served.work served.reply does.2.built numbers made.1 legal device)
+      (does_commit told node does.0 _ served.work served.reply numbers made.1 legal device)
   | inr ends ↦ no_work (is_failed served.reply) node served.work ends.1.0 (node_at_reply served node) device
 ]
 

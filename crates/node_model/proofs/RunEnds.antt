@@ -17,7 +17,7 @@ use Rattle.device_model.specs.Legal.{FlushEnds, StopsIn, seal_if, seal_all, flus
 use Rattle.line_proto.specs.declared.command.Command.{Command}
 use Rattle.line_proto.specs.declared.command.Command.TheVariants as command
 use Rattle.line_proto.specs.declared.reply.Reply.{Reply}
-use Rattle.line_proto.specs.Built.{IsBuilt, IsLine}
+use Rattle.line_proto.specs.Lines.{IsCommandLine}
 use Rattle.line_proto.specs.Stream.{ended}
 use Rattle.node_model.specs.declared.run_end.RunEnd.{RunEnd}
 use Rattle.node_model.specs.declared.run_end.RunEnd.TheVariants as end
@@ -110,29 +110,29 @@ sums_go : (outcome : Outcome) → halts (two_sums outcome) ≡ false
 sums_go (did a b) = refl
 sums_go (stopped cause) = refl
 
-does_goes : (told : Bool) (node : Node) (c : Command) (now : ℕ) (work : List NodeEvent) (r : Reply) → IsBuilt c → Does node c now work r → IsLegalOn told node work → halts r ≡ false
-does_goes told node (command.Put digest ttl expect payload) now work r built does legal =
+does_goes : (told : Bool) (node : Node) (c : Command) (now : ℕ) (work : List NodeEvent) (r : Reply) → Does node c now work r → IsLegalOn told node work → halts r ≡ false
+does_goes told node (command.Put digest ttl expect payload) now work r does legal =
     one_goes told node _ does.0 (put_call digest ttl expect payload now) work r does.1 does.2 does.3
     (λ slot allowed. put_goes slot.setup told slot.state does.0 digest ttl expect payload now allowed) legal
-does_goes told node (command.Get digest) now work r built does legal =
+does_goes told node (command.Get digest) now work r does legal =
     one_goes told node _ does.0 (get_call digest now) work r does.1 does.2 does.3 (λ slot allowed. get_goes slot.setup told slot.state does.0 digest now allowed) legal
-does_goes told node command.Flush now work r built does legal = ap halts does.2 ∙ sum_goes does.0
-does_goes told node command.Quit now work r built does legal = ap halts does.1
-does_goes told node (command.Meta digest) now work r built does legal = ap halts does.1 ∙ meta_goes (seen_on (slice_get node (device_number (length node) digest)) now digest)
-does_goes told node (command.Del digest) now work r built does legal =
+does_goes told node command.Flush now work r does legal = ap halts does.2 ∙ sum_goes does.0
+does_goes told node command.Quit now work r does legal = ap halts does.1
+does_goes told node (command.Meta digest) now work r does legal = ap halts does.1 ∙ meta_goes (seen_on (slice_get node (device_number (length node) digest)) now digest)
+does_goes told node (command.Del digest) now work r does legal =
     one_goes told node _ does.0 (delete_call digest now) work r does.1 does.2 does.3 (λ slot allowed. delete_goes slot.setup told slot.state does.0 digest now allowed) legal
-does_goes told node (command.Bury digest) now work r built does legal =
+does_goes told node (command.Bury digest) now work r does legal =
     one_goes told node _ does.0 (bury_call digest now) work r does.1 does.2 does.3
     (λ slot allowed. entombs_goes slot.setup slot.state does.0 digest now stamp_given (λ stamp. refl) allowed) legal
-does_goes told node command.Defrag now work r built does legal = ap halts does.2 ∙ sums_go does.0
-does_goes told node command.Expire now work r built does legal = ap halts does.2 ∙ sum_goes does.0
-does_goes told node command.Raid now work r built does legal = absurd built
-does_goes told node command.Stat now work r built does legal = ap halts does.1
-does_goes told node command.Restart now work r built does legal = absurd does
+does_goes told node command.Defrag now work r does legal = ap halts does.2 ∙ sums_go does.0
+does_goes told node command.Expire now work r does legal = ap halts does.2 ∙ sum_goes does.0
+does_goes told node command.Raid now work r does legal = ap halts does.2 ∙ sums_go does.0
+does_goes told node command.Stat now work r does legal = ap halts does.1
+does_goes told node command.Restart now work r does legal = absurd does
 
 -- the line doesn't ask for a restart
 abbrev pub IsNoRestart : Option (List ℕ) → Type 0
-IsNoRestart line = IfSome line (λ bytes. IsLine bytes command.Restart → ⊥)
+IsNoRestart line = IfSome line (λ bytes. IsCommandLine bytes command.Restart → ⊥)
 
 line_goes : (left : ImagesLeft) (told : Bool) (node : Node) (line : Option (List ℕ)) (served : Served) → IsNoRestart line → AnswersLine left told node line served → IsLegalOn told node served.work
     → halts served.reply ≡ false
@@ -141,8 +141,8 @@ line_goes left told node None served other (inr lacks) legal = ap halts lacks.2
 line_goes left told node (Some line) served other (inr (inl refuses)) legal = ap halts refuses.1.3
 line_goes left told node (Some line) served other (inr (inr lacks)) legal = ap halts lacks.2
 line_goes left told node (Some line) served other (inl does) legal = elim does.4 [
-  | inl made ↦ does_goes told node does.0 _ served.work served.reply does.2.built made.1 legal
-  | inr ends ↦ absurd (other (subst (IsLine line) ends.0 does.2))
+  | inl made ↦ does_goes told node does.0 _ served.work served.reply made.1 legal
+  | inr ends ↦ absurd (other (subst (IsCommandLine line) ends.0 does.2))
 ]
 
 neither : (a b : Bool) → a ≡ false → b ≡ false → (a || b) ≡ false

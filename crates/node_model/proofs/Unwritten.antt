@@ -1,14 +1,15 @@
--- A flush writes no record, and neither does a defragmentation: what is moved was written before.
+-- A flush writes no record, and neither does a defragmentation, since what is moved was written before, or a raid, which only removes and clears.
 use Rattle.std.proofs.Common.{◌≡◌, ◌⊎◌, ℕ, zero, suc, ◌+◌, Bool, true, false, cond, List, [], ◌∷◌, ◌++◌, length, map, refl, sym, subst, inl, inr}
-use Rattle.std.specs.Prelude.{Option, Some, None, MatchBool, MatchOption, ◌==◌, slice_get, is_some}
+use Rattle.std.specs.Prelude.{Option, Some, None, MatchBool, MatchOption, ◌&&◌, ◌==◌, nat_le, slice_get, is_some}
 use Rattle.std.specs.List.{AllByRecursion}
 use Rattle.rec_format.specs.declared.version.Digest.{Digest}
+use Rattle.rec_format.specs.Versions.{is_tombstone, top_number}
 use Rattle.device_model.specs.Book.{Setup, Book, Stream, client, defrag, filling_buffer, has_room, live_of}
-use Rattle.device_model.specs.Device.{State}
-use Rattle.device_model.specs.Steps.{Step, wrote, moved, gate_begun, flushed_buffer, closing_failed, after_steps}
-use Rattle.device_model.specs.Events.{Event, Call, flush_call, choose_call, move_call, Cause, happened, block_chosen, refused, after_event, after_events}
-use Rattle.device_model.specs.Legal.{Follows, Allowed, FlushEnds, NoMemory, Only, Unless, DamageFound, DiskFails, WhereReads, is_in_block, live_units, move_reserve, no_place, queue_front, seal_if, seal_all, flush_all}
-use Rattle.node_model.specs.Commands.{Slot, Node, NodeEvent, at_place, slot_after, on_device, IsLegalOn, EachDevice, Flushes, Defragments}
+use Rattle.device_model.specs.Device.{State, Turn, mark_turn, scan_turn, apply_turn, drop_turn, finished, entry, entry_passes}
+use Rattle.device_model.specs.Steps.{Step, wrote, moved, rid_of, uncovered, gate_begun, flushed_buffer, closing_failed, raid_begun, raid_given_up, marked_part, scanned_block, compared_part, done_part, after_steps}
+use Rattle.device_model.specs.Events.{Event, Call, flush_call, choose_call, move_call, begin_call, turn_call, Cause, stale, happened, block_chosen, raid_numbered, refused, after_event, after_events}
+use Rattle.device_model.specs.Legal.{Follows, Allowed, FlushEnds, NoMemory, Only, Unless, DamageFound, DiskFails, TurnEnds, same_turn, drop_step, marked_in, WhereReads, is_in_block, live_units, move_reserve, no_place, queue_front, seal_if, seal_all, flush_all}
+use Rattle.node_model.specs.Commands.{Slot, Node, NodeEvent, at_place, slot_after, on_device, IsLegalOn, EachDevice, Flushes, Defragments, TakesTurns, removed_by, cleared_by, Raids}
 use Rattle.device_model.specs.Vacating.{Outcome, did, stopped, moved_by, MovesOut, Vacates, VacatesUpTo}
 use Rattle.line_proto.proofs.Falling.{all_append}
 use Rattle.recovery.proofs.Opening.{all_parted}
@@ -58,13 +59,15 @@ flush_unwritten slot told event follows is =
     ends_unwritten event (seal_all slot.state.book) (flush_all sealed.book) (seals_write_none slot.state.book)
     (all_map FlushStep WritesNone (flush_all sealed.book) one_writes_none (all_flush_steps sealed.book.buffers)) (subst (λ (c : Call). Allowed slot.setup told slot.state event c) is follows.allowed)
 
--- ---- the calls of a defragmentation
+-- ---- the calls of a defragmentation and a raid
 
 -- a call that writes no record
 abbrev pub IsUnwriting : Call → Type 0
 IsUnwriting flush_call = Unit {0}
 IsUnwriting choose_call = Unit {0}
 IsUnwriting (move_call digest block) = Unit {0}
+IsUnwriting begin_call = Unit {0}
+IsUnwriting (turn_call number turn now) = Unit {0}
 IsUnwriting _ = ⊥
 
 none_made : (event : Event) → event.steps ≡ [] → AllByRecursion WritesNone event.steps
@@ -110,10 +113,47 @@ move_unwritten slot told event digest block = by (is_in_block block (live_of dig
     by true (inl no_memory) = none_made event no_memory.1
     by true (inr rest) = unless (no_place slot.setup defrag move_reserve (live_units (live_of digest slot.state.book.live)) slot.state.book) rest
 
+begin_unwritten : (slot : Slot) (told : Bool) (event : Event) → Allowed slot.setup told slot.state event begin_call → AllByRecursion WritesNone event.steps
+begin_unwritten slot told event = by (nat_le top_number slot.state.raid.number)
+  where
+    by : (last : Bool) → MatchBool last (Only event (raid_numbered None)) ((event.answer ≡ raid_numbered (Some (slot.state.raid.number + 1))) × (event.steps ≡ raid_begun ∷ [])) → AllByRecursion WritesNone event.steps
+    by true only = none_made event only.1
+    by false begun = step_made event raid_begun tt begun.1
+
+-- marked entries are removed or cleared
+drops_unwritten : (s : State) (digests : List Digest) → AllByRecursion WritesNone (map (drop_step s) digests)
+drops_unwritten s [] = tt
+drops_unwritten s (digest ∷ digests) = (by (entry_passes is_tombstone (entry s digest)), drops_unwritten s digests)
+  where
+    by : (tombstone : Bool) → WritesNone (cond tombstone (rid_of digest) (uncovered digest))
+    by true = tt
+    by false = tt
+
+turn_ends_unwritten : (setup : Setup) (told : Bool) (s : State) (event : Event) (turn : Turn) (now : ℕ) → TurnEnds setup told s event turn now → AllByRecursion WritesNone event.steps
+turn_ends_unwritten setup told s event (mark_turn part) now ends = step_made event (marked_part part now) tt ends.1
+turn_ends_unwritten setup told s event (scan_turn block) now (inl scanned) = step_made event (scanned_block scanned.1) tt scanned.2
+turn_ends_unwritten setup told s event (scan_turn block) now (inr (inl damaged)) = step_made event raid_given_up tt damaged.2
+turn_ends_unwritten setup told s event (scan_turn block) now (inr (inr (inl failed))) = step_made event raid_given_up tt failed.1
+turn_ends_unwritten setup told s event (scan_turn block) now (inr (inr (inr no_memory))) = step_made event raid_given_up tt no_memory.1
+turn_ends_unwritten setup told s event (apply_turn part) now ends = step_made event (compared_part part) tt ends.1
+turn_ends_unwritten setup told s event (drop_turn part) now ends =
+    subst (AllByRecursion WritesNone) (sym ends.1)
+    (all_append WritesNone (map (drop_step s) (marked_in setup part s)) (done_part part ∷ []) (drops_unwritten s (marked_in setup part s)) (tt, tt))
+turn_ends_unwritten setup told s event finished now only = none_made event only.1
+
+turn_unwritten : (slot : Slot) (told : Bool) (event : Event) (number : ℕ) (turn : Turn) (now : ℕ) → Allowed slot.setup told slot.state event (turn_call number turn now) → AllByRecursion WritesNone event.steps
+turn_unwritten slot told event number turn now = by ((number == slot.state.raid.number) && same_turn turn slot.state.raid.next)
+  where
+    by : (next : Bool) → MatchBool next (TurnEnds slot.setup told slot.state event turn now) (Only event (refused (stale slot.state.raid.number slot.state.raid.next))) → AllByRecursion WritesNone event.steps
+    by true ends = turn_ends_unwritten slot.setup told slot.state event turn now ends
+    by false only = none_made event only.1
+
 call_unwritten : (slot : Slot) (told : Bool) (event : Event) → Follows slot.setup told slot.state slot.faults event → (call : Call) → event.call ≡ call → IsUnwriting call → AllByRecursion WritesNone event.steps
 call_unwritten slot told event follows flush_call is unwriting = flush_unwritten slot told event follows is
 call_unwritten slot told event follows choose_call is unwriting = choose_unwritten slot told event (subst (λ (c : Call). Allowed slot.setup told slot.state event c) is follows.allowed)
 call_unwritten slot told event follows (move_call digest block) is unwriting = move_unwritten slot told event digest block (subst (λ (c : Call). Allowed slot.setup told slot.state event c) is follows.allowed)
+call_unwritten slot told event follows begin_call is unwriting = begin_unwritten slot told event (subst (λ (c : Call). Allowed slot.setup told slot.state event c) is follows.allowed)
+call_unwritten slot told event follows (turn_call number turn now) is unwriting = turn_unwritten slot told event number turn now (subst (λ (c : Call). Allowed slot.setup told slot.state event c) is follows.allowed)
 call_unwritten slot told event follows call is unwriting = absurd unwriting
 
 -- ---- the events of a vacating
@@ -155,6 +195,27 @@ defrags_unwriting setup (suc n) s count vacated events outcome (mine, rest, is, 
     by more (inr (inl some)) = all_append (λ event. IsUnwriting event.call) mine rest (vacates_unwriting setup s mine (did some.0 1) some.1) (more some.0 some.2)
     by more (inr (inr stops)) = all_append (λ event. IsUnwriting event.call) mine rest (vacates_unwriting setup s mine (stopped stops.0) stops.1) (subst AreUnwriting (sym stops.2) tt)
 
+-- ---- the events of a raid
+
+turns_unwriting : (number now : ℕ) (slot : Slot) (removed cleared : ℕ) (events : List Event) (outcome : Outcome) → TakesTurns number now slot removed cleared events outcome → AreUnwriting events
+turns_unwriting number now slot removed cleared [] outcome takes = tt
+turns_unwriting number now slot removed cleared (event ∷ events) outcome (called_so, more, how) =
+    let rest : Type 0 = TakesTurns number now (slot_after event slot) (removed + removed_by event.answer) (cleared + cleared_by event.answer) events outcome in (
+      called event (turn_call number slot.state.raid.next now) called_so tt,
+      if_refused event.answer (λ cause. (events ≡ []) × (outcome ≡ stopped cause)) rest (AreUnwriting events)
+          (λ cause ends. subst AreUnwriting (sym ends.0) tt)
+          (turns_unwriting number now (slot_after event slot) (removed + removed_by event.answer) (cleared + cleared_by event.answer) events outcome) how,
+    )
+
+raids_unwriting : (now : ℕ) (slot : Slot) (events : List Event) (outcome : Outcome) → Raids now slot events outcome → AreUnwriting events
+raids_unwriting now slot events outcome (first, turns, is, begins, how) = subst AreUnwriting (sym is) (
+  called first begin_call begins tt,
+  elim how [
+    | inl last ↦ subst AreUnwriting (sym last.1) tt
+    | inr begun ↦ turns_unwriting begun.0 now (slot_after first slot) 0 0 turns outcome begun.2
+  ],
+)
+
 -- ---- the events of a node
 
 abbrev pub IsUnwritingOn : NodeEvent → Type 0
@@ -186,6 +247,9 @@ all_flushes node work outcome each = all_unwriting Flushes flush_unwriting 0 nod
 pub all_defrags : (node : Node) (work : List NodeEvent) (outcome : Outcome) → EachDevice Defragments 0 node 0 0 work outcome → AllByRecursion IsUnwritingOn work
 all_defrags node work outcome each =
     all_unwriting Defragments (λ slot events ends does. defrags_unwriting slot.setup (length slot.state.book.queue) slot.state 0 0 events ends does) 0 node 0 0 work outcome each
+
+pub all_raids : (now : ℕ) (node : Node) (work : List NodeEvent) (outcome : Outcome) → EachDevice (Raids now) 0 node 0 0 work outcome → AllByRecursion IsUnwritingOn work
+all_raids now node work outcome each = all_unwriting (Raids now) (raids_unwriting now) 0 node 0 0 work outcome each
 
 on_one : (told : Bool) (o : Option Slot) (event : Event) → MatchOption o ⊥ (λ slot. Follows slot.setup told slot.state slot.faults event) → IsUnwriting event.call → AllByRecursion WritesNone event.steps
 on_one told None event follows is = absurd follows

@@ -17,7 +17,7 @@ use Rattle.line_proto.specs.declared.command.Command.TheVariants as command
 use Rattle.line_proto.specs.declared.reply.Reply.{Reply}
 use Rattle.line_proto.specs.declared.reply.Reply.TheVariants as reply
 use Rattle.line_proto.specs.declared.reply.LineFault.TheVariants as why
-use Rattle.line_proto.specs.Built.{IsLine, IsNoCommand}
+use Rattle.line_proto.specs.Lines.{IsCommandLine, IsNoCommand}
 use Rattle.node_model.specs.Commands.{Slot, Node, NodeEvent, node_after, IsLegalOn, on_device, total, Does, TendsEach}
 
 -- the images that a device's disk might have left since the run's start, by the device's number
@@ -93,7 +93,7 @@ Carries left told node c now work restarted r =
 -- a line in the grammar, at the clock's time
 abbrev pub DoesLine : ImagesLeft → (told : Bool) → Node → List ℕ → Served → Type 0
 DoesLine left told node line served =
-    (c : Command) × (now : ℕ) × IsLine line c × (served.time ≡ Some now)
+    (c : Command) × (now : ℕ) × IsCommandLine line c × (served.time ≡ Some now)
     × Carries left told node c (bounded_time now) served.work served.restarted served.reply
 
 -- a line outside the grammar, which isn't carried out and takes no time

@@ -10,8 +10,7 @@ use Rattle.line_proto.proofs.Falling.{all_append}
 use Rattle.line_proto.specs.declared.command.Command.{Command}
 use Rattle.line_proto.specs.declared.line_end.LineEnd.{LineEnd}
 use Rattle.line_proto.specs.declared.line_end.LineEnd.TheVariants.{Whole, TooLong}
-use Rattle.line_proto.specs.Lines.{line_limit}
-use Rattle.line_proto.specs.Built.{IsLine, IsNoCommand}
+use Rattle.line_proto.specs.Lines.{line_limit, IsCommandLine, IsNoCommand}
 use Rattle.line_proto.specs.Stream.{IsOneLine, ended, line_end, FallInto}
 use Rattle.node_session.specs.Turns.{IsCommand, NamesNoCommand}
 use Rattle.node_session.specs.Session.{unended}
@@ -23,13 +22,13 @@ whole_of : (line : List ℕ) (limit : ℕ) → length line ≤ limit → cond (l
 whole_of line limit short = let test : leb (length line) limit ≡ true = grind (arith, nat_tests) in rw test refl
 
 pub no_command_of : (line : List ℕ) → NamesNoCommand (line_end line) → IsNoCommand line
-no_command_of line refused c is = (subst NamesNoCommand (whole_of line line_limit is.spelled.short) refused) c is
+no_command_of line refused c is = (subst NamesNoCommand (whole_of line line_limit is.short) refused) c is
 
-on_test : (line : List ℕ) (c : Command) (test : Bool) → IsCommand (cond test (Whole line) TooLong) c → IsLine line c
+on_test : (line : List ℕ) (c : Command) (test : Bool) → IsCommand (cond test (Whole line) TooLong) c → IsCommandLine line c
 on_test line c true is = is
 on_test line c false is = absurd is
 
-pub command_of : (line : List ℕ) (c : Command) → IsCommand (line_end line) c → IsLine line c
+pub command_of : (line : List ℕ) (c : Command) → IsCommand (line_end line) c → IsCommandLine line c
 command_of line c is = on_test line c (leb (length line) line_limit) is
 
 -- ---- any bytes fall into lines

@@ -9,8 +9,7 @@ use Rattle.line_proto.specs.declared.reply.Reply.TheVariants.{Bye, Fail, Halted}
 use Rattle.line_proto.specs.declared.reply.LineFault.TheVariants.{Line, Memory}
 use Rattle.line_proto.specs.declared.line_end.LineEnd.{LineEnd}
 use Rattle.line_proto.specs.declared.line_end.LineEnd.TheVariants.{Whole, TooLong}
-use Rattle.line_proto.specs.Built.{IsLine, IsNoCommand}
-use Rattle.line_proto.specs.Lines.{reply_text}
+use Rattle.line_proto.specs.Lines.{IsCommandLine, IsNoCommand, reply_text}
 use Rattle.node_session.specs.declared.stop.Stop.{Stop}
 use Rattle.node_session.specs.declared.stop.Stop.TheVariants.{Quit as QuitStop, Memory as MemoryStop, Halted as HaltStop}
 
@@ -26,7 +25,7 @@ NamesNoCommand (Whole line) = IsNoCommand line
 -- it is this command
 abbrev pub IsCommand : LineEnd → Command → Type 0
 IsCommand TooLong command = ⊥
-IsCommand (Whole line) command = IsLine line command
+IsCommand (Whole line) command = IsCommandLine line command
 
 -- The command, unless it is `quit`, is carried out at the clock's time.
 pub record CarriesOut {T : Type 0} (acts : T → Command → ℕ → Reply → T → Type 0) (line : LineEnd) (old : T) (times : Times) (reply : Reply) (new : T) (later : Times) : Type 0 where

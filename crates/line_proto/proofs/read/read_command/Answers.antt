@@ -2,15 +2,14 @@ use Rattle.std.proofs.Common.{◌≡◌, ◌≤◌, ◌↔◌, ◌∙◌, ℕ, L
 use Rattle.std.specs.Prelude.{Option, Some, Result, Ok, Err, IfOk, IfSome, codes}
 use Rattle.std.specs.Cmp.Lexicographic.{same_text, other_text}
 use Rattle.line_proto.specs.declared.command.Command.{Command}
-use Rattle.line_proto.specs.Lines.{line_limit}
-use Rattle.line_proto.specs.Built.{IsLine, IsInRange}
+use Rattle.line_proto.specs.Lines.{line_limit, IsCommandLine, IsInRange}
 use Rattle.line_proto.specs.Reading.{IsWord, IsPutCommand}
 use Rattle.line_proto.proofs.Words.{line_of_digest, line_of_put, line_of_alone, read_in_range}
 use Rattle.line_proto.proofs.read.read_command.Goals as goal
 
 -- what stands behind `put ` is read as the line is
 put_read : {E : Type 0} (line word text : List ℕ) (read : Result (Option Command) E) → length line ≤ line_limit → (line ≡ word ++ 32 ∷ text) × IsWord word → word ≡ codes "put"
-    → IfOk read (λ r. (c : Command) → (r ≡ Some c) ↔ IsPutCommand text c) → IfOk read (λ r. (c : Command) → (r ≡ Some c) ↔ IsLine line c) × IfOk read (λ r. IfSome r IsInRange)
+    → IfOk read (λ r. (c : Command) → (r ≡ Some c) ↔ IsPutCommand text c) → IfOk read (λ r. (c : Command) → (r ≡ Some c) ↔ IsCommandLine line c) × IfOk read (λ r. IfSome r IsInRange)
 put_read line word text (Ok read) fits parted is_put reads = let exact = line_of_put line word text read fits parted is_put reads in (exact, read_in_range line read exact)
 put_read line word text (Err e) fits parted is_put reads = (tt, tt)
 

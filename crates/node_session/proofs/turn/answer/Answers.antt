@@ -1,5 +1,5 @@
 use Rattle.std.proofs.Common.{List, ℕ, sym, ◌∙◌, ap, subst, refl, Some}
-use Rattle.line_proto.specs.Built.{IsLine}
+use Rattle.line_proto.specs.Lines.{IsCommandLine}
 use Rattle.line_proto.specs.declared.line_end.LineEnd.{LineEnd}
 use Rattle.line_proto.specs.declared.command.Command.TheVariants.{Quit}
 use Rattle.node_session.specs.Turns.{IsCommand}
@@ -8,7 +8,7 @@ use Rattle.node_session.proofs.turn.answer.Goals as goal
 pub returns-in-Quit : goal.returns-in-Quit
 returns-in-Quit g c =
     let is_line = (c.in-Ok-Some.ensures.exact Quit).0 (c.in-Ok-Some.field-0-is ∙ ap Some c.in-Quit.is) in
-    let of_bytes = subst (λ (bytes : List ℕ). IsLine bytes Quit) c.as_slice.ensures is_line in
+    let of_bytes = subst (λ (bytes : List ℕ). IsCommandLine bytes Quit) c.as_slice.ensures is_line in
     record {
       is_quit = subst (λ (line : LineEnd). IsCommand line Quit) (sym c.in-Whole.is) of_bytes;
       farewell = refl;
