@@ -1,0 +1,5 @@
+pub mod Items
+pub mod Counts
+pub mod Dropping
+pub mod Marking
+pub mod Exact
