@@ -35,3 +35,4 @@ pub mod Choosing
 pub mod Choices
 pub mod Tending
 pub mod Expiring
+pub mod Raiding

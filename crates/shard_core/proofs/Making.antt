@@ -26,7 +26,8 @@ use Rattle.rec_format.specs.declared.version.Digest.{Digest}
 use Rattle.shard_core.specs.Stands.{Agrees, IsWhole}
 use Rattle.shard_steps.specs.Standing.{ShelfStands, StandTogether}
 use Rattle.shard_core.specs.Calls.{Makes, FlushesAll, flush_answer}
-use Rattle.shard_steps.specs.Events.{StepMakes}
+use Rattle.shard_steps.specs.Events.{MakesEvent, StepMakes}
+use Rattle.shard_raid.specs.Raids.{StandOn}
 use Rattle.shard_steps.proofs.Making.{IsFlushing, event_of, makes_by}
 use Rattle.block_shelf.specs.declared.place.ShelfLimits.{ShelfLimits}
 
@@ -67,31 +68,22 @@ whole_made view call answer old new whole shape limits s made = record {
   stands = (after_event (setup_of old) made.event s, made.stands);
 }
 
--- A step over the sprig of a digest's part, which stands at this place, and the shelf is a call of the shard.
-module _ {D : Type 0} (view : D → DiskView) (digest : Digest) (old new : ShardView D) (k : ℕ) (before after : SprigState) (shape : SameSetup old new) (place : k ≡ part_of (setup_of old) digest) (there : k < length old.sprigs)
+-- A step over the sprig of a part, which stands at this place, and the shelf is a call of the shard.
+module _ {D : Type 0} (view : D → DiskView) (part : ℕ) (old new : ShardView D) (k : ℕ) (before after : SprigState) (shape : SameSetup old new) (place : k ≡ part) (there : k < length old.sprigs)
     (at : before ≡ get_or old.sprigs k before) (becomes : new.sprigs ≡ set old.sprigs k after) where
-  abbrev part : ℕ
-  part = part_of (setup_of old) digest
-
-  sprig_at : slice_get old.sprigs part ≡ Some before
-  sprig_at = subst (λ (n : ℕ). slice_get old.sprigs n ≡ Some before) place (get_there old.sprigs k before there at)
-
-  pub held_at : held (setup_of old) digest old.sprigs ≡ entry_of digest before.entries
-  held_at = ap (entry_in digest) sprig_at
+  pub part_at : slice_get old.sprigs part ≡ Some before
+  part_at = subst (λ (n : ℕ). slice_get old.sprigs n ≡ Some before) place (get_there old.sprigs k before there at)
 
   -- where the shard stands for a state, so do the sprig and the shelf
-  pub step_stands : (s : State) → Agrees old s → StandTogether (setup_of old) part before old.shelf s
-  step_stands s agrees = record {
-    sprig_stands = record { fits = agrees.sprigs.each part before sprig_at; times = all_get HasTimes old.sprigs part before agrees.times sprig_at };
+  pub part_stands : (s : State) → Agrees old s → StandTogether (setup_of old) part before old.shelf s
+  part_stands s agrees = record {
+    sprig_stands = record { fits = agrees.sprigs.each part before part_at; times = all_get HasTimes old.sprigs part before agrees.times part_at };
     shelf_stands = agrees.shelf;
   }
 
-  pub sprigs_same : SameSprig before after → AreSame old.sprigs new.sprigs
-  sprigs_same same = subst (AreSame old.sprigs) (sym becomes) (set_same old.sprigs k before after (get_there old.sprigs k before there at) same)
-
-  pub lifted : (call : Call) (answer : Answer) → NamesOwn (setup_of old) call → part_named (setup_of old) call ≡ Some part → (s : State) → Agrees old s
+  pub part_lifted : (call : Call) (answer : Answer) → NamesOwn (setup_of old) call → part_named (setup_of old) call ≡ Some part → (s : State) → Agrees old s
       → StepMakes view (setup_of old) part call answer old.shelf s after new.shelf → Makes view call answer old s new
-  lifted call answer names named s agrees made = record {
+  part_lifted call answer names named s agrees made = record {
     event = made.event;
     is_call = made.is_call;
     is_answer = made.is_answer;
@@ -113,6 +105,48 @@ module _ {D : Type 0} (view : D → DiskView) (digest : Digest) (old new : Shard
     where
       behind : State
       behind = after_event (setup_of old) made.event s
+
+-- So is one over the sprig of a digest's part.
+module _ {D : Type 0} (view : D → DiskView) (digest : Digest) (old new : ShardView D) (k : ℕ) (before after : SprigState) (shape : SameSetup old new) (place : k ≡ part_of (setup_of old) digest) (there : k < length old.sprigs)
+    (at : before ≡ get_or old.sprigs k before) (becomes : new.sprigs ≡ set old.sprigs k after) where
+  abbrev pub part : ℕ
+  part = part_of (setup_of old) digest
+
+  pub held_at : held (setup_of old) digest old.sprigs ≡ entry_of digest before.entries
+  held_at = ap (entry_in digest) (part_at view part old new k before after shape place there at becomes)
+
+  pub step_stands : (s : State) → Agrees old s → StandTogether (setup_of old) part before old.shelf s
+  step_stands s agrees = part_stands view part old new k before after shape place there at becomes s agrees
+
+  pub sprigs_same : SameSprig before after → AreSame old.sprigs new.sprigs
+  sprigs_same same = subst (AreSame old.sprigs) (sym becomes) (set_same old.sprigs k before after (get_there old.sprigs k before there at) same)
+
+  pub lifted : (call : Call) (answer : Answer) → NamesOwn (setup_of old) call → part_named (setup_of old) call ≡ Some part → (s : State) → Agrees old s
+      → StepMakes view (setup_of old) part call answer old.shelf s after new.shelf → Makes view call answer old s new
+  lifted call answer names named s agrees made = part_lifted view part old new k before after shape place there at becomes call answer names named s agrees made
+
+-- What the shelf alone makes of itself is a call of the shard that names no part.
+abbrev pub shelf_lifted : {D : Type 0} (view : D → DiskView) (old new : ShardView D) → SameSetup old new → new.sprigs ≡ old.sprigs → (call : Call) (answer : Answer) → NamesOwn (setup_of old) call → part_named (setup_of old) call ≡ None
+    → (s : State) → Agrees old s → MakesEvent view (setup_of old) call answer old.shelf s new.shelf (StandOn (setup_of old) new.shelf s) → Makes view call answer old s new
+shelf_lifted view old new shape sprigs call answer names named s agrees made =
+    let behind = after_event (setup_of old) made.event s in
+    record {
+      event = made.event;
+      is_call = made.is_call;
+      is_answer = made.is_answer;
+      follows = made.follows;
+      told = made.told;
+      counted = made.counted;
+      stands = record {
+        sprigs = subst (λ (x : Setup). FitsParts x new.sprigs behind) (setup_same old new shape) (subst (λ (l : List SprigState). FitsParts (setup_of old) l behind) (sym sprigs)
+            (parts_fit_on (setup_of old) false s made.event old.sprigs made.follows.allowed (subst (NamesOwn (setup_of old)) (sym made.is_call) names) agrees.sprigs (ap (part_named (setup_of old)) made.is_call ∙ named)));
+        times = subst (AllByRecursion HasTimes) (sym sprigs) agrees.times;
+        shelf = shelf_over old new shape behind made.stands.shelf_stands;
+      };
+      placed = made.placed;
+      safe = made.safe;
+      leaves = made.leaves;
+    }
 
 -- ---- a flush
 

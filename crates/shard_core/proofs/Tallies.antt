@@ -1,6 +1,6 @@
 -- What a step over one sprig makes of the tally of all, and what the tally says of a state.
 use Rattle.std.proofs.Common.{◌≡◌, ℕ, zero, suc, ◌+◌, ◌-◌, ◌%◌, ◌^◌, ◌<◌, ◌≤◌, Bool, true, ◌&&◌, List, [], ◌∷◌, length, get_or, set, get_or-set_same, refl, sym, ◌∙◌, ap, subst, arith}
-use Rattle.std.specs.Prelude.{◌==◌, Option, Some, None, sum_by}
+use Rattle.std.specs.Prelude.{◌==◌, Option, Some, None, sum_by, count_by, slice_get}
 use Rattle.std.proofs.lemmas.Bool.{and_parts, false≢true}
 use Rattle.std.proofs.lemmas.List.Sums.{sum_by-set, sum_by-cons, length-filter}
 use Rattle.rec_format.specs.declared.version.Digest.{Digest}
@@ -10,7 +10,7 @@ use Rattle.device_model.specs.Device.{State, entry, entry_passes, entry_is_cover
 use Rattle.disk_model.specs.Disk.{DiskView}
 use Rattle.sprig_tree.specs.declared.tally.Tally.{Tally}
 use Rattle.sprig_tree.specs.State.{SprigState}
-use Rattle.sprig_tree.specs.Tallies.{tally_of, joined, parted}
+use Rattle.sprig_tree.specs.Tallies.{tally_of, is_tomb_entry, is_put_entry, joined, parted}
 use Rattle.part_laws.proofs.Counting.{puts_sum, tombstones_sum, covered_sum}
 use Rattle.block_shelf.specs.View.{IsShelf}
 use Rattle.shard_core.specs.Stands.{Agrees, IsWhole}
@@ -66,6 +66,12 @@ tally_same sprigs k before after at same =
     let three = same_sum (λ s. (tally_of s.entries).covered) sprigs k before after at (ap (λ l. (tally_of l).covered) same) in
     λ i. record { records = one i % 2 ^ 64; tombstones = two i % 2 ^ 64; covered = three i % 2 ^ 64 }
 
+-- one of them counts for no more than all
+part_of_sum : (f : SprigState → ℕ) (sprigs : List SprigState) (k : ℕ) (sprig : SprigState) → slice_get sprigs k ≡ Some sprig → f sprig ≤ sum_by f sprigs
+part_of_sum f [] k sprig at = absurd cc
+part_of_sum f (x ∷ xs) zero sprig at = let one : x ≡ sprig = cc in let sum = sum_by-cons f x xs in let is = ap f one in omega (arith, sum, is)
+part_of_sum f (x ∷ xs) (suc k) sprig at = let sum = sum_by-cons f x xs in let rest = part_of_sum f xs k sprig at in omega (arith, sum, rest)
+
 -- ---- a state
 
 -- a small sum doesn't go around
@@ -103,6 +109,15 @@ module _ {D : Type 0} (view : D → DiskView) (shard : ShardView D) (s : State) 
       subst (λ (n : ℕ). n ≤ 2 ^ 32) (sym (length-filter told (digests_of s.log)))
       (few_entries view shard s is whole agrees told
       (λ d passes. passed (is_expired_put now) (entry s d) (and_parts (part_of (setup_of shard) d == part) (entry_passes (is_expired_put now) (entry s d)) passes).1))
+
+  -- A sprig has at most 2^32 entries of each kind.
+  pub few_in_sprig : (k : ℕ) (sprig : SprigState) → slice_get shard.sprigs k ≡ Some sprig → (count_by is_put_entry sprig.entries ≤ 2 ^ 32) × (count_by is_tomb_entry sprig.entries ≤ 2 ^ 32)
+  few_in_sprig k sprig at =
+      let puts = puts_sum (setup_of shard) shard.sprigs s some_devices some_sprigs agrees.sprigs in
+      let tombs = tombstones_sum (setup_of shard) shard.sprigs s some_devices some_sprigs agrees.sprigs in
+      let one = part_of_sum (λ x. count_by is_put_entry x.entries) shard.sprigs k sprig at in
+      let two = part_of_sum (λ x. count_by is_tomb_entry x.entries) shard.sprigs k sprig at in
+      (omega (arith, puts, few_puts, one), omega (arith, tombs, few_tombstones, two))
 
   -- The tally of a shard tells how many records, tombstones and covered records the state has.
   pub tally_tells : record { records : (tally_sum shard.sprigs).records ≡ put_count s; tombstones : (tally_sum shard.sprigs).tombstones ≡ tombstone_count s; covered : (tally_sum shard.sprigs).covered ≡ covered_count s }

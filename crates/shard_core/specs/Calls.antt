@@ -7,7 +7,7 @@ use Rattle.rec_format.specs.declared.version.Version.{Version}
 use Rattle.rec_format.specs.declared.entry.Entry.{Entry}
 use Rattle.device_model.specs.Device.{State, seen}
 use Rattle.device_model.specs.Steps.{Step}
-use Rattle.device_model.specs.Events.{Call, Answer, stamp_given, happened, found_version, counted, refused, Cause, too_big, wrong_generation, spent, overload, no_space, damaged, no_memory, disk_fault}
+use Rattle.device_model.specs.Events.{Call, Answer, stamp_given, happened, found_version, counted, refused, Cause, too_big, wrong_generation, spent, overload, no_space, no_memory, disk_fault}
 use Rattle.device_model.specs.Legal.{flush_count, StopsIn}
 use Rattle.disk_model.specs.Disk.{DiskView}
 use Rattle.expiry_rule.specs.Seen.{seen_entry}

@@ -9,3 +9,4 @@ pub mod Writing
 pub mod Numbers
 pub mod Vacating
 pub mod Expiring
+pub mod Raids

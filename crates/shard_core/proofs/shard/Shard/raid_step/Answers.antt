@@ -1,0 +1,37 @@
+use Rattle.std.proofs.Common.{◌≡◌, sym, ap, subst, ◌∙◌, Result, Ok, Err}
+use Rattle.std.proofs.lemmas.Result.{err_from_is_err_and}
+use Rattle.raid_book.specs.Books.{BookState}
+use Rattle.shard_raid.specs.Raids.{RaidView, IsNext}
+use Rattle.shard_raid.specs.declared.scan.RaidRefusal.{RaidRefusal}
+use Rattle.shard_raid.specs.declared.scan.RaidRefusal.TheVariants.{Stale}
+use Rattle.shard_core.specs.View.{ShardView}
+use Rattle.shard_core.specs.declared.raid.RaidDid.{RaidDid}
+use Rattle.shard_core.specs.Raids.{TurnMakes}
+use Rattle.shard_core.proofs.Raiding.{stale_made}
+use Rattle.shard_core.proofs.shard.Shard.raid_step.Goals as goal
+
+pub returns-then-not-is_next-clause-makes : goal.returns-then-not-is_next-clause-makes
+returns-then-not-is_next-clause-makes g c s agrees =
+    let book : c.raid-book.result.now ≡ c.args.self.now.shelf.raid = c.raid-book.ensures.book ∙ ap (λ (v : ShardView g.row.D.Denot). v.shelf.raid) c.self.view_is in
+    let number : c.number.result ≡ c.args.self.now.shelf.raid.number = c.number.ensures.value ∙ ap (λ (b : BookState). b.number) book in
+    let next : c.next.result ≡ c.args.self.now.shelf.raid.next = c.next.ensures.value ∙ ap (λ (b : BookState). b.next) book in
+    let made =
+    stale_made g.D.Disk.view g.met.D.Disk.is_disk c.args.now c.args.self.now c.args.raid.now (subst (λ (b : BookState). IsNext c.args.raid.now b → ⊥) book c.if-not-is_next.ensures.told) s agrees in
+    subst (λ (r : Result RaidDid RaidRefusal). TurnMakes g.D.Disk.view c.args.raid.now c.args.now r c.args.self.now s c.args.self.now) (sym (λ i. Err (Stale (number i) (next i)))) made
+
+pub returns-in_err-did-clause-makes : goal.returns-in_err-did-clause-makes
+returns-in_err-did-clause-makes g c s agrees =
+    let book : c.raid-book.result.now ≡ c.args.self.now.shelf.raid = c.raid-book.ensures.book ∙ ap (λ (v : ShardView g.row.D.Denot). v.shelf.raid) c.self.view_is in
+    let number : c.args.self.now.shelf.raid.number ≡ c.args.raid.now.number = sym (c.if-not-is_next.ensures.told.number ∙ ap (λ (b : BookState). b.number) book) in
+    let raid : record { number = c.args.self.now.shelf.raid.number; next = c.next-2.result } ≡ c.args.raid.now = λ i. record { number = number i; next = c.next-2.ensures i } in
+    let p = err_from_is_err_and c.from_residual.result c.from_residual.ensures.1 in
+    let same : c.from_residual.result ≡ Err c.in_err-did.field-0.0 = p.1 ∙ ap (λ (r : RaidRefusal). Err r) p.2 in
+    subst (λ (r : Result RaidDid RaidRefusal). TurnMakes g.D.Disk.view c.args.raid.now c.args.now r c.args.self.now s c.take_turn.new.self) (sym same)
+    (subst (λ (r : RaidView). TurnMakes g.D.Disk.view r c.args.now (Err c.in_err-did.field-0.0) c.args.self.now s c.take_turn.new.self) raid (c.in_err-did.ensures.makes s agrees))
+
+pub returns-clause-makes : goal.returns-clause-makes
+returns-clause-makes g c s agrees =
+    let book : c.raid-book.result.now ≡ c.args.self.now.shelf.raid = c.raid-book.ensures.book ∙ ap (λ (v : ShardView g.row.D.Denot). v.shelf.raid) c.self.view_is in
+    let number : c.args.self.now.shelf.raid.number ≡ c.args.raid.now.number = sym (c.if-not-is_next.ensures.told.number ∙ ap (λ (b : BookState). b.number) book) in
+    let raid : record { number = c.args.self.now.shelf.raid.number; next = c.next-2.result } ≡ c.args.raid.now = λ i. record { number = number i; next = c.next-2.ensures i } in
+    subst (λ (r : RaidView). TurnMakes g.D.Disk.view r c.args.now (Ok c.in_ok-did.did) c.args.self.now s c.take_turn.new.self) raid (c.in_ok-did.ensures.makes s agrees)
