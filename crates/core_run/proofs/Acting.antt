@@ -7,7 +7,7 @@ use Rattle.device_model.specs.Book.{Setup}
 use Rattle.device_model.specs.Device.{State}
 use Rattle.device_model.specs.Events.{Event, Call, Cause, Answer, flush_call, disk_fault, counted, refused}
 use Rattle.device_model.specs.Vacating.{Outcome, VacatesUpTo, Tends, did, stopped}
-use Rattle.node_model.specs.Commands.{Slot, Node, NodeEvent, EachDevice, Flushes, Defragments, expired_entries, Expires, TendsEach, on_device}
+use Rattle.node_model.specs.Commands.{Slot, Node, NodeEvent, EachDevice, Flushes, Defragments, expired_entries, Expires, Raids, fault_of, TendsEach, on_device}
 use Rattle.device_model.specs.Expiring.{ExpiresEach}
 use Rattle.node_model.specs.Run.{ClosesEach}
 use Rattle.shard_core.specs.View.{ShardView, setup_of}
@@ -16,9 +16,10 @@ use Rattle.shard_core.specs.Calls.{Makes, cause_of_write, flush_answer}
 use Rattle.shard_core.specs.Vacating.{IsCauseOf}
 use Rattle.shard_core.specs.declared.refusals.DefragCause.{DefragCause}
 use Rattle.shard_core.specs.declared.refusals.WriteRefusal.{WriteRefusal}
+use Rattle.line_proto.specs.declared.reply.LineFault.{LineFault}
 use Rattle.shard_core.proofs.Events.{RunsBy, runs_one, runs_made}
 use Rattle.core_run.specs.Standing.{Each, StandsOn, StandsSafelyOn}
-use Rattle.core_run.specs.Turns.{GoesOn, Through, TendTurn, CloseTurn, EndsAs, WorksEach, plus_one, plus_both, FlushesOn, IsFlushed, FlushesEach, DefragsOn, IsDefrag, IsDefragged, DefragsEach, ExpiresOn, IsExpiry, IsExpired, ExpiresAll}
+use Rattle.core_run.specs.Turns.{GoesOn, Through, TendTurn, CloseTurn, EndsAs, WorksEach, plus_one, plus_both, FlushesOn, IsFlushed, FlushesEach, DefragsOn, IsDefrag, IsDefragged, DefragsEach, ExpiresOn, IsExpiry, IsExpired, ExpiresAll, slot_for, RaidsOn, IsRaid, IsRaided, RaidsEach}
 use Rattle.core_run.proofs.Places.{moved, events_of, nones, no_events, only_at, only_event}
 use Rattle.core_run.proofs.Making.{Made, LeftOn, Along, along_none, along_one, slot_at}
 use Rattle.core_run.proofs.Turning.{rests_any, rests_safe, rests_left, many_any, many_safe, many_left}
@@ -199,6 +200,25 @@ module _ {D : Type 0} (view : D → DiskView) (Stands : ShardView D → Slot →
       → Turned olds news node (λ mines. (outcome : Outcome) × IsExpired result outcome × EachDevice (Expires now) 0 node 0 0 (events_of mines) outcome)
   expire_turns now result olds news node each stands =
       work_turns (ExpiresOn view now) plus_one (λ n. (n, 0)) (λ refusal cause. cause ≡ cause_of_write refusal) (Expires now) (λ a b. refl) (expire_does now) result 0 olds news node each stands
+
+  -- a raid
+  raid_does : (now : ℕ) (result : Result (ℕ × ℕ) LineFault) (old new : ShardView D) (slot : Slot) → RaidsOn view now result old new → Stands old slot
+      → (outcome : Outcome) × IsRaided result outcome × (mine : List Event) × Raids now slot mine outcome × Holds old new slot mine
+  raid_does now result old new slot raids stands =
+      let on = kind.stands old slot stands in
+      let m = raids.makes slot.state on.agrees in
+      let same : slot_for view old slot.state ≡ slot = λ i. record { setup = sym on.setup_is i; state = slot.state; faults = sym on.faults_is i } in (
+        m.works.0,
+        m.works.1,
+        m.events,
+        subst (λ (x : Slot). Raids now x m.events m.works.0) same m.works.2,
+        kind.many old new raids.goes slot m.events (runs_made view old new slot.state (IsRaid view old now slot.state result) m) stands,
+      )
+
+  pub raid_turns : (now : ℕ) (result : Result (ℕ × ℕ) LineFault) (olds news : List (ShardView D)) (node : Node) → RaidsEach view now result olds news → Each Stands olds node
+      → Turned olds news node (λ mines. (outcome : Outcome) × IsRaided result outcome × EachDevice (Raids now) 0 node 0 0 (events_of mines) outcome)
+  raid_turns now result olds news node each stands =
+      work_turns (RaidsOn view now) plus_both (λ sums. sums) (λ fault cause. fault ≡ fault_of cause) (Raids now) (λ a b. refl) (raid_does now) result (0, 0) olds news node each stands
 
   -- a tending of all
   pub tend_turns : {A : Type 0} (a b : A) (olds news : List (ShardView D)) (node : Node) → Through (TendTurn view) (length olds) a olds news b → Each Stands olds node

@@ -1,32 +1,37 @@
 -- Each command of a node that serves, and of one that halted, means what it has to mean.
-use Rattle.std.proofs.Common.{◌≡◌, inl, inr, ℕ, zero, suc, ◌<◌, true, false, List, [], ◌∷◌, length, set, refl, sym, ◌∙◌, ap, subst, arith}
+use Rattle.std.proofs.Common.{◌≡◌, inl, inr, ℕ, zero, suc, ◌+◌, ◌<◌, true, false, List, [], ◌∷◌, length, set, refl, sym, ◌∙◌, ap, subst, arith}
 use Rattle.std.specs.Prelude.{◌≢◌, Option, Some, Result, Ok, Err, MatchOption, slice_get}
 use Rattle.disk_model.specs.Disk.{DiskView, IsDisk}
 use Rattle.rec_format.specs.declared.version.Digest.{Digest}
 use Rattle.rec_format.specs.declared.entry.Counts.{Counts}
 use Rattle.rec_format.specs.Places.{device_number}
 use Rattle.device_model.specs.Device.{State, seen}
-use Rattle.device_model.specs.Events.{Event, Call, put_call, get_call, delete_call, bury_call}
+use Rattle.device_model.specs.Book.{Setup}
+use Rattle.device_model.specs.Events.{Event, Call, put_call, get_call, delete_call, bury_call, after_events}
+use Rattle.block_shelf.specs.View.{AreSure}
+use Rattle.block_shelf.specs.Scans.{possible_copies}
+use Rattle.raid_laws.specs.Exact.{RaidsExactly}
+use Rattle.line_proto.specs.declared.reply.LineFault.{LineFault}
 use Rattle.line_proto.specs.declared.command.Command.{Command}
 use Rattle.line_proto.specs.declared.command.Command.TheVariants as command
 use Rattle.line_proto.specs.declared.reply.Reply.{Reply}
 use Rattle.line_proto.specs.declared.reply.Reply.TheVariants as reply
 use Rattle.cold_scan.specs.declared.header.StartCause.{StartCause}
-use Rattle.device_model.specs.Vacating.{Outcome}
+use Rattle.device_model.specs.Vacating.{Outcome, did, stopped}
 use Rattle.node_model.specs.Commands.{Slot, Node, NodeEvent, Does, on_device, answer_reply, meta_reply, seen_on, one_sum, two_sums, node_counts}
 use Rattle.node_model.specs.Meaning.{ActsFrom}
-use Rattle.shard_core.specs.View.{ShardView}
+use Rattle.shard_core.specs.View.{ShardView, setup_of}
 use Rattle.shard_core.specs.Stands.{Agrees}
 use Rattle.shard_core.specs.Calls.{GetsStored}
 use Rattle.shard_core.specs.declared.refusals.DefragCause.{DefragCause}
 use Rattle.shard_core.specs.declared.refusals.WriteRefusal.{WriteRefusal}
 use Rattle.core_run.specs.Views.{serving, halted, disks_served, views_of, unknown, AreLater}
 use Rattle.core_run.specs.Standing.{Each, StandsOn, StandsSafelyOn, StandsFor, StandsSafely, Halts, HaltsSafely}
-use Rattle.core_run.specs.Calls.{digest_of, RepliesStored, Acts, Tends}
-use Rattle.core_run.specs.Turns.{GoesOn, RepliesTo, RepliesOn, TendTurn, Through, WorksEach, plus_one, plus_both, IsFlushed, FlushesOn, FlushesEach, IsDefragged, DefragsOn, DefragsEach, IsExpired, ExpiresOn, ExpiresAll}
+use Rattle.core_run.specs.Calls.{digest_of, RepliesStored, RaidedExactly, Acts, Tends}
+use Rattle.core_run.specs.Turns.{GoesOn, RepliesTo, RepliesOn, TendTurn, Through, WorksEach, plus_one, plus_both, IsFlushed, FlushesOn, FlushesEach, IsDefragged, DefragsOn, DefragsEach, IsExpired, ExpiresOn, ExpiresAll, IsRaided, RaidsOn, RaidsEach}
 use Rattle.core_run.proofs.Places.{events_of, nones, no_events}
 use Rattle.core_run.proofs.Making.{Made, slot_at, each_length, each_more, along_none}
-use Rattle.core_run.proofs.Acting.{Safely, over_any, over_safe, event_turn, flush_turns, defrag_turns, expire_turns, tend_turns}
+use Rattle.core_run.proofs.Acting.{Safely, over_any, over_safe, event_turn, flush_turns, defrag_turns, expire_turns, raid_turns, tend_turns}
 use Rattle.core_run.proofs.Replying.{known_goes_on, stat_goes_on, one_sum_goes_on, two_sums_goes_on, one_digest}
 use Rattle.core_run.proofs.Nodes.{one_shards, serves_or_halts, later_same, later_at, later_through, acts_any, acts_safe, tends_any, tends_safe}
 
@@ -46,6 +51,7 @@ module _ {D : Type 0} (view : D → DiskView) (is_disk : (disk : D) → IsDisk (
   -- ---- a command, whatever it is, by what it comes to from each state
 
   module _ (olds news : List (ShardView D)) (c : Command) (now : ℕ) (r : Reply) (later : AreLater view (disks_served olds) (disks_served news)) (other : c ≢ command.Restart) (stored : RepliesStored view olds c now r)
+      (exact : c ≡ command.Raid → (removed cleared : ℕ) → r ≡ reply.Done2 removed cleared → (node : Node) → Each (StandsSafelyOn view) olds node → RaidedExactly view now olds node news removed cleared)
       (any : (node : Node) → Each (StandsOn view) olds node → ActsFrom (StandsFor view) unknown (Halts view) false (serving olds) node c now r (serving news))
       (safe : (node : Node) → Each (StandsSafelyOn view) olds node → ActsFrom (StandsSafely view) (views_of view) (HaltsSafely view) true (serving olds) node c now r (serving news)) where
     pub acts_serving : Acts view (serving olds) c now r (serving news)
@@ -55,6 +61,12 @@ module _ {D : Type 0} (view : D → DiskView) (is_disk : (disk : D) → IsDisk (
       safe = λ node stands. safe node (subst (λ (s : List (ShardView D)). Each (StandsSafelyOn view) s node) (sym (one_shards olds stands.0 stands.1)) stands.2);
       stored = λ shards same. subst (λ (s : List (ShardView D)). RepliesStored view s c now r) (one_shards olds shards same) stored;
       again = λ shards same is. absurd (other is);
+      exact = λ before after same then is removed cleared told node stands.
+          let one = one_shards olds before same in
+          let two = one_shards news after then in
+          subst (λ (x : List (ShardView D)). RaidedExactly view now x node after removed cleared) one
+          (subst (λ (x : List (ShardView D)). RaidedExactly view now olds node x removed cleared) two
+          (exact is removed cleared told node (subst (λ (x : List (ShardView D)). Each (StandsSafelyOn view) x node) (sym one) stands)));
       stays = λ why disks same. absurd (serves_or_halts olds why disks same);
     }
 
@@ -70,7 +82,7 @@ module _ {D : Type 0} (view : D → DiskView) (is_disk : (disk : D) → IsDisk (
     later : AreLater view (disks_served olds) (disks_served News)
     later = later_at view is_disk olds Place old new at goes.later
 
-    module _ (call : Call) (c : Command) (now : ℕ) (r : Reply) (replies : RepliesTo view call old r new) (other : c ≢ command.Restart) (stored : RepliesStored view olds c now r)
+    module _ (call : Call) (c : Command) (now : ℕ) (r : Reply) (replies : RepliesTo view call old r new) (other : c ≢ command.Restart) (none : c ≢ command.Raid) (stored : RepliesStored view olds c now r)
         (does : (node : Node) (event : Event) (work : List NodeEvent) → work ≡ on_device (device_number (length node) digest) event ∷ [] → event.call ≡ call → r ≡ answer_reply event.answer → Does node c now work r) where
       at_node : (node : Node) (event : Event) (work : List NodeEvent) → length node ≡ length olds → work ≡ on_device Place event ∷ [] → work ≡ on_device (device_number (length node) digest) event ∷ []
       at_node node event work same is = is ∙ ap (λ (n : ℕ). on_device (device_number n digest) event ∷ []) (sym same)
@@ -88,7 +100,7 @@ module _ {D : Type 0} (view : D → DiskView) (is_disk : (disk : D) → IsDisk (
           (does node t.2 (events_of t.0) (at_node node t.2 (events_of t.0) (each_length (StandsSafelyOn view) olds node stands) t.5) t.3 (replies.1 ∙ ap answer_reply (sym t.4))) replies.2
 
       event_acts : Acts view (serving olds) c now r (serving News)
-      event_acts = acts_serving olds News c now r later other stored from_any from_safe
+      event_acts = acts_serving olds News c now r later other stored (λ is. absurd (none is)) from_any from_safe
 
     -- what is known of a record
     module _ (now : ℕ) (r : Reply) (same : new ≡ old) (knows : (s : State) → Agrees old s → r ≡ meta_reply (seen s now digest)) where
@@ -121,19 +133,19 @@ module _ {D : Type 0} (view : D → DiskView) (is_disk : (disk : D) → IsDisk (
 
       meta_acts : Acts view (serving olds) (command.Meta digest) now r (serving News)
       meta_acts = subst (λ (s : List (ShardView D)). Acts view (serving olds) (command.Meta digest) now r (serving s)) (sym news_same)
-          (acts_serving olds olds (command.Meta digest) now r (later_same view is_disk (disks_served olds)) (λ is. cc) tt know_any know_safe)
+          (acts_serving olds olds (command.Meta digest) now r (later_same view is_disk (disks_served olds)) (λ is. cc) tt (λ is. absurd cc) know_any know_safe)
 
     by_command : (c : Command) (now : ℕ) (r : Reply) → digest_of c ≡ Some digest → RepliesOn view old c now r new → Acts view (serving olds) c now r (serving News)
     by_command (command.Put d ttl expect payload) now r on replies =
         let same : d ≡ digest = one_digest d digest on in
         subst (λ (x : Digest). Acts view (serving olds) (command.Put x ttl expect payload) now r (serving News)) (sym same)
         (event_acts (put_call digest ttl expect payload now) (command.Put digest ttl expect payload) now r (subst (λ (x : Digest). RepliesTo view (put_call x ttl expect payload now) old r new) same replies)
-        (λ is. cc) tt (λ node event work at is_call given. (event, at, is_call, given)))
+        (λ is. cc) (λ is. cc) tt (λ node event work at is_call given. (event, at, is_call, given)))
     by_command (command.Get d) now r on replies =
         let same : d ≡ digest = one_digest d digest on in
         let mine = subst (λ (x : Digest). RepliesOn view old (command.Get x) now r new) same replies in
         subst (λ (x : Digest). Acts view (serving olds) (command.Get x) now r (serving News)) (sym same)
-        (event_acts (get_call digest now) (command.Get digest) now r mine.0 (λ is. cc)
+        (event_acts (get_call digest now) (command.Get digest) now r mine.0 (λ is. cc) (λ is. cc)
         (mine.1.0, mine.1.1, subst (λ (o : Option (ShardView D)). MatchOption o ⊥ (λ shard. GetsStored view shard digest now mine.1.0)) (sym at) mine.1.2)
         (λ node event work at is_call given. (event, at, is_call, given)))
     by_command (command.Meta d) now r on replies =
@@ -144,12 +156,12 @@ module _ {D : Type 0} (view : D → DiskView) (is_disk : (disk : D) → IsDisk (
         let same : d ≡ digest = one_digest d digest on in
         subst (λ (x : Digest). Acts view (serving olds) (command.Del x) now r (serving News)) (sym same)
         (event_acts (delete_call digest now) (command.Del digest) now r (subst (λ (x : Digest). RepliesTo view (delete_call x now) old r new) same replies)
-        (λ is. cc) tt (λ node event work at is_call given. (event, at, is_call, given)))
+        (λ is. cc) (λ is. cc) tt (λ node event work at is_call given. (event, at, is_call, given)))
     by_command (command.Bury d) now r on replies =
         let same : d ≡ digest = one_digest d digest on in
         subst (λ (x : Digest). Acts view (serving olds) (command.Bury x) now r (serving News)) (sym same)
         (event_acts (bury_call digest now) (command.Bury digest) now r (subst (λ (x : Digest). RepliesTo view (bury_call x now) old r new) same replies)
-        (λ is. cc) tt (λ node event work at is_call given. (event, at, is_call, given)))
+        (λ is. cc) (λ is. cc) tt (λ node event work at is_call given. (event, at, is_call, given)))
     by_command command.Flush now r on replies = cc
     by_command command.Defrag now r on replies = cc
     by_command command.Expire now r on replies = cc
@@ -180,7 +192,7 @@ module _ {D : Type 0} (view : D → DiskView) (is_disk : (disk : D) → IsDisk (
   pub flush_acts : {E : Type 0} (flushed : Result ℕ E) (olds news : List (ShardView D)) (now : ℕ) (r : Reply) → FlushesEach view flushed olds news
       → ((outcome : Outcome) → IsFlushed flushed outcome → r ≡ one_sum outcome) → Acts view (serving olds) command.Flush now r (serving news)
   flush_acts {E} flushed olds news now r each is =
-      acts_serving olds news command.Flush now r (work_later (FlushesOn {E = E} view) plus_one (λ result old new does. does.goes) flushed 0 olds news each) (λ e. cc) tt
+      acts_serving olds news command.Flush now r (work_later (FlushesOn {E = E} view) plus_one (λ result old new does. does.goes) flushed 0 olds news each) (λ e. cc) tt (λ e. absurd cc)
       (λ node stands.
       let t = flush_turns view (StandsOn view) (Made false (StandsOn view)) (over_any view) flushed olds news node each stands in
       acts_any view olds news node t.0 t.1 command.Flush now r (t.2.0, t.2.2, is t.2.0 t.2.1) (λ h. one_sum_goes_on t.2.0 (sym (is t.2.0 t.2.1) ∙ h)))
@@ -191,7 +203,7 @@ module _ {D : Type 0} (view : D → DiskView) (is_disk : (disk : D) → IsDisk (
   pub defrag_acts : (result : Result (ℕ × ℕ) DefragCause) (olds news : List (ShardView D)) (now : ℕ) (r : Reply) → DefragsEach view result olds news
       → ((outcome : Outcome) → IsDefragged result outcome → r ≡ two_sums outcome) → Acts view (serving olds) command.Defrag now r (serving news)
   defrag_acts result olds news now r each is =
-      acts_serving olds news command.Defrag now r (work_later (DefragsOn view) plus_both (λ done old new does. does.goes) result (0, 0) olds news each) (λ e. cc) tt
+      acts_serving olds news command.Defrag now r (work_later (DefragsOn view) plus_both (λ done old new does. does.goes) result (0, 0) olds news each) (λ e. cc) tt (λ e. absurd cc)
       (λ node stands.
       let t = defrag_turns view (StandsOn view) (Made false (StandsOn view)) (over_any view) result olds news node each stands in
       acts_any view olds news node t.0 t.1 command.Defrag now r (t.2.0, t.2.2, is t.2.0 t.2.1) (λ h. two_sums_goes_on t.2.0 (sym (is t.2.0 t.2.1) ∙ h)))
@@ -202,7 +214,7 @@ module _ {D : Type 0} (view : D → DiskView) (is_disk : (disk : D) → IsDisk (
   pub expire_acts : (result : Result ℕ WriteRefusal) (olds news : List (ShardView D)) (now : ℕ) (r : Reply) → ExpiresAll view now result olds news
       → ((outcome : Outcome) → IsExpired result outcome → r ≡ one_sum outcome) → Acts view (serving olds) command.Expire now r (serving news)
   expire_acts result olds news now r each is =
-      acts_serving olds news command.Expire now r (work_later (ExpiresOn view now) plus_one (λ done old new does. does.goes) result 0 olds news each) (λ e. cc) tt
+      acts_serving olds news command.Expire now r (work_later (ExpiresOn view now) plus_one (λ done old new does. does.goes) result 0 olds news each) (λ e. cc) tt (λ e. absurd cc)
       (λ node stands.
       let t = expire_turns view (StandsOn view) (Made false (StandsOn view)) (over_any view) now result olds news node each stands in
       acts_any view olds news node t.0 t.1 command.Expire now r (t.2.0, t.2.2, is t.2.0 t.2.1) (λ h. one_sum_goes_on t.2.0 (sym (is t.2.0 t.2.1) ∙ h)))
@@ -210,12 +222,58 @@ module _ {D : Type 0} (view : D → DiskView) (is_disk : (disk : D) → IsDisk (
       let t = expire_turns view (StandsSafelyOn view) (Safely view) (over_safe view is_disk) now result olds news node each stands in
       acts_safe view olds news node t.0 t.1 command.Expire now r (t.2.0, t.2.2, is t.2.0 t.2.1) (λ h. one_sum_goes_on t.2.0 (sym (is t.2.0 t.2.1) ∙ h)))
 
+  -- ---- a raid
+
+  -- what each device removed and cleared comes to what all did
+  each_exact : (now : ℕ) (sums a : ℕ × ℕ) (olds news : List (ShardView D)) (node : Node) → WorksEach (RaidsOn view now) plus_both (Ok sums) a olds news → Each (StandsSafelyOn view) olds node
+      → (others : ℕ × ℕ) × (sums.0 ≡ a.0 + others.0) × (sums.1 ≡ a.1 + others.1) × RaidedExactly view now olds node news others.0 others.1
+  each_exact now sums a [] news node each stands = let same = each.1 in ((0, 0), omega (arith, ap (λ (p : ℕ × ℕ). p.0) same), omega (arith, ap (λ (p : ℕ × ℕ). p.1) same), (refl, refl))
+  each_exact now sums a (old ∷ olds) [] node each stands = absurd each
+  each_exact now sums a (old ∷ olds) (new ∷ news) [] each stands = absurd stands
+  each_exact now sums a (old ∷ olds) (new ∷ news) (slot ∷ node) (one, raids, more) stands =
+      let m = raids.makes slot.state stands.0.stands.agrees in
+      let rest = each_exact now sums (plus_both a one) olds news node more stands.1 in
+      let here : (AreSure old.shelf.gates → RaidsExactly slot.setup now slot.state (possible_copies view old.shelf slot.state) one.0 one.1 (after_events (setup_of old) m.events slot.state)) =
+      λ sure. subst (λ (x : Setup). RaidsExactly x now slot.state (possible_copies view old.shelf slot.state) one.0 one.1 (after_events (setup_of old) m.events slot.state)) (sym stands.0.stands.setup_is)
+      (m.works.3 sure stands.0.honest stands.0.safe) in (
+        (one.0 + rest.0.0, one.1 + rest.0.1),
+        omega (arith, rest.1),
+        omega (arith, rest.2),
+        (one.0, one.1, rest.0, refl, refl, (after_events (setup_of old) m.events slot.state, m.stands, here), rest.3),
+      )
+
+  raid_exact_each : (result : Result (ℕ × ℕ) LineFault) (olds news : List (ShardView D)) (now : ℕ) (r : Reply) → RaidsEach view now result olds news → ((outcome : Outcome) → IsRaided result outcome → r ≡ two_sums outcome)
+      → (removed cleared : ℕ) → r ≡ reply.Done2 removed cleared → (node : Node) → Each (StandsSafelyOn view) olds node → RaidedExactly view now olds node news removed cleared
+  raid_exact_each (Ok sums) olds news now r each is removed cleared told node stands =
+      let all = each_exact now sums (0, 0) olds news node each stands in
+      let both : reply.Done2 sums.0 sums.1 ≡ reply.Done2 removed cleared = sym (is (did sums.0 sums.1) refl) ∙ told in
+      let one : sums.0 ≡ removed = cc in
+      let two : sums.1 ≡ cleared = cc in
+      let gone : all.0.0 ≡ removed = omega (arith, all.1, one) in
+      let bare : all.0.1 ≡ cleared = omega (arith, all.2, two) in
+      subst (λ (n : ℕ). RaidedExactly view now olds node news n cleared) gone (subst (λ (n : ℕ). RaidedExactly view now olds node news all.0.0 n) bare all.3)
+  raid_exact_each (Err fault) olds news now r each is removed cleared told node stands =
+      let t = raid_turns view (StandsSafelyOn view) (Safely view) (over_safe view is_disk) now (Err fault) olds news node each stands in
+      let both : two_sums (stopped t.2.1.0) ≡ reply.Done2 removed cleared = ap two_sums (sym t.2.1.2) ∙ sym (is t.2.0 t.2.1) ∙ told in
+      absurd cc
+
+  pub raid_acts : (result : Result (ℕ × ℕ) LineFault) (olds news : List (ShardView D)) (now : ℕ) (r : Reply) → RaidsEach view now result olds news
+      → ((outcome : Outcome) → IsRaided result outcome → r ≡ two_sums outcome) → Acts view (serving olds) command.Raid now r (serving news)
+  raid_acts result olds news now r each is =
+      acts_serving olds news command.Raid now r (work_later (RaidsOn view now) plus_both (λ done old new does. does.goes) result (0, 0) olds news each) (λ e. cc) tt (λ e. raid_exact_each result olds news now r each is)
+      (λ node stands.
+      let t = raid_turns view (StandsOn view) (Made false (StandsOn view)) (over_any view) now result olds news node each stands in
+      acts_any view olds news node t.0 t.1 command.Raid now r (t.2.0, t.2.2, is t.2.0 t.2.1) (λ h. two_sums_goes_on t.2.0 (sym (is t.2.0 t.2.1) ∙ h)))
+      (λ node stands.
+      let t = raid_turns view (StandsSafelyOn view) (Safely view) (over_safe view is_disk) now result olds news node each stands in
+      acts_safe view olds news node t.0 t.1 command.Raid now r (t.2.0, t.2.2, is t.2.0 t.2.1) (λ h. two_sums_goes_on t.2.0 (sym (is t.2.0 t.2.1) ∙ h)))
+
   -- ---- the numbers
 
   pub stat_acts : (olds : List (ShardView D)) (now : ℕ) (counts : Counts) → ((node : Node) → Each (StandsOn view) olds node → counts ≡ node_counts node)
       → Acts view (serving olds) command.Stat now (reply.StatOf counts) (serving olds)
   stat_acts olds now counts told =
-      acts_serving olds olds command.Stat now (reply.StatOf counts) (later_same view is_disk (disks_served olds)) (λ e. cc) tt
+      acts_serving olds olds command.Stat now (reply.StatOf counts) (later_same view is_disk (disks_served olds)) (λ e. cc) tt (λ e. absurd cc)
       (λ node stands.
       acts_any view olds olds node (nones (length olds)) (along_none (Made false (StandsOn view)) (StandsOn view) (over_any view).rests olds node stands) command.Stat now (reply.StatOf counts)
       (no_events (length olds), ap reply.StatOf (told node stands)) (stat_goes_on counts))
@@ -247,6 +305,7 @@ module _ {D : Type 0} (view : D → DiskView) (is_disk : (disk : D) → IsDisk (
     safe = λ node stands. absurd (serves_or_halts stands.0 why disks (sym stands.1));
     stored = λ shards same. absurd (serves_or_halts shards why disks (sym same));
     again = λ shards same is. absurd (serves_or_halts shards why disks (sym same));
+    exact = λ before after same then is removed cleared told. absurd (serves_or_halts before why disks (sym same));
     stays = λ other kept same. (refl, refl);
   }
 

@@ -1,6 +1,6 @@
 -- The expired entries of one part removed behind those of others, and what a device makes of it.
-use Rattle.std.proofs.Common.{◌≡◌, ◌≢◌, ℕ, suc, ◌+◌, ◌<◌, ◌≤◌, Bool, false, List, [], ◌∷◌, ◌++◌, refl, sym, ◌∙◌, ap, subst, arith}
-use Rattle.std.specs.Prelude.{Some, Ok, Err, Result}
+use Rattle.std.proofs.Common.{◌≡◌, ◌≢◌, ℕ, suc, ◌+◌, ◌<◌, ◌≤◌, Bool, false, List, [], ◌++◌, refl, sym, ◌∙◌, ap, subst, arith}
+use Rattle.std.specs.Prelude.{Some, Ok, Err}
 use Rattle.std.specs.List.{AllByRecursion}
 use Rattle.disk_model.specs.Disk.{DiskView, IsDisk}
 use Rattle.rec_format.specs.declared.version.Digest.{Digest}
@@ -9,7 +9,7 @@ use Rattle.rec_format.specs.Versions.{is_expired_put}
 use Rattle.device_model.specs.Book.{Setup}
 use Rattle.device_model.specs.Device.{State, entry, entry_passes, part_of, expired_in, digests_of}
 use Rattle.device_model.specs.Steps.{part_total}
-use Rattle.device_model.specs.Events.{Event, Call, Cause, expire_call, after_events}
+use Rattle.device_model.specs.Events.{Event, Cause, expire_call, after_events}
 use Rattle.device_model.specs.Passes.{part_named}
 use Rattle.device_model.specs.Vacating.{Outcome, did, stopped}
 use Rattle.device_model.specs.Expiring.{ExpiresEach}
@@ -24,7 +24,6 @@ use Rattle.shard_core.specs.Calls.{cause_of_write}
 use Rattle.shard_core.specs.Vacating.{MakesEvents}
 use Rattle.shard_core.specs.Expiring.{IsExpiring}
 use Rattle.shard_core.specs.declared.refusals.ExpireRefusal.{ExpireRefusal}
-use Rattle.shard_core.specs.declared.refusals.WriteRefusal.{WriteRefusal}
 use Rattle.shard_core.proofs.Events.{runs_none, makes_events, runs_made, after_all}
 use Rattle.core_run.specs.Turns.{GoesOn, IsExpiry}
 use Rattle.core_run.proofs.Turning.{setups_same}

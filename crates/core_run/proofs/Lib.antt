@@ -4,6 +4,7 @@ pub mod Turning
 pub mod Looping
 pub mod Defragging
 pub mod Expiring
+pub mod Raiding
 pub mod Startings
 pub mod Counting
 pub mod Acting

@@ -168,6 +168,7 @@ module _ {D : Type 0} (view : D → DiskView) (set : Settings) where
         safe = λ node stands. safe node (subst (λ (s : List (ShardView D)). Each (StandsSafelyOn view) s node) (sym (one_shards olds stands.0 stands.1)) stands.2);
         stored = λ shards same. tt;
         again = λ shards same is. (set, subst (λ (s : List (ShardView D)). Restarted view set s (serving fresh)) (one_shards olds shards same) (inl (fresh, refl, starts)));
+        exact = λ before after same then is. absurd cc;
         stays = λ why disks same. absurd (serves_or_halts olds why disks same);
       }
 
@@ -230,5 +231,6 @@ module _ {D : Type 0} (view : D → DiskView) (set : Settings) where
         safe = λ node stands. safe_refused node (subst (λ (s : List (ShardView D)). Each (StandsSafelyOn view) s node) (sym (one_shards olds stands.0 stands.1)) stands.2);
         stored = λ shards same. tt;
         again = λ shards same is. (set, subst (λ (s : List (ShardView D)). Restarted view set s (halted reason disks)) (one_shards olds shards same) (inr (reason, disks, refl, refuses)));
+        exact = λ before after same then is. absurd cc;
         stays = λ why kept same. absurd (serves_or_halts olds why kept same);
       }

@@ -1,13 +1,17 @@
 -- Crate core_run. What the calls of a node mean by what is seen of it.
-use Rattle.std.specs.Prelude.{◌≡◌, ◌⊎◌, ℕ, ◌<◌, true, false, List, length, Option, Some, None, MatchOption, Result, slice_get}
+use Rattle.std.specs.Prelude.{◌≡◌, ◌⊎◌, ℕ, ◌+◌, ◌<◌, true, false, List, [], ◌∷◌, length, Option, Some, None, MatchOption, Result, slice_get}
 use Rattle.disk_model.specs.Disk.{DiskView}
 use Rattle.rec_format.specs.declared.version.Digest.{Digest}
 use Rattle.rec_format.specs.declared.version.Version.{Version}
 use Rattle.rec_format.specs.Places.{device_number}
+use Rattle.device_model.specs.Device.{State}
+use Rattle.block_shelf.specs.View.{AreSure}
+use Rattle.block_shelf.specs.Scans.{possible_copies}
 use Rattle.block_shelf.specs.declared.refusals.ReadRefusal.{ReadRefusal}
 use Rattle.cold_scan.specs.declared.header.StartCause.{StartCause}
 use Rattle.shard_core.specs.declared.settings.Settings.{Settings}
 use Rattle.shard_core.specs.View.{ShardView}
+use Rattle.shard_core.specs.Stands.{Agrees}
 use Rattle.shard_core.specs.Calls.{GetsStored, read_answer}
 use Rattle.line_proto.specs.declared.command.Command.{Command}
 use Rattle.line_proto.specs.declared.command.Command.TheVariants as command
@@ -19,7 +23,8 @@ use Rattle.node_model.specs.RunEnd.{IsQuiet, AllQuiet}
 use Rattle.node_model.specs.Meaning.{ActsBy, TendsBy, ClosesBy}
 use Rattle.core_run.specs.Views.{NodeView, serving, halted, disks_served, disks_of, views_of, unknown, faults_of, AreLater}
 use Rattle.core_run.specs.Starts.{StartsEach, RefusesAt}
-use Rattle.core_run.specs.Standing.{StandsFor, StandsSafely, Halts, HaltsSafely}
+use Rattle.raid_laws.specs.Exact.{RaidsExactly}
+use Rattle.core_run.specs.Standing.{Each, StandsSafelyOn, StandsFor, StandsSafely, Halts, HaltsSafely}
 
 -- the digest that a command is on
 abbrev pub digest_of : Command → Option Digest
@@ -44,15 +49,29 @@ Restarted {D} view set shards new =
     ((fresh : List (ShardView D)) × (new ≡ serving fresh) × StartsEach view set 0 (length shards) (disks_served shards) fresh)
     ⊎ ((why : ℕ × StartCause) × (disks : List D) × (new ≡ halted why disks) × RefusesAt view set why.0 0 (length shards) why.1 (disks_served shards) disks)
 
+-- Of each device so many tombstones were removed, and so many covers cleared, and the sums were told. It stands for a state then; and where none of
+-- its gates was unsure, these were just the tombstones and covers that may go.
+abbrev pub RaidedExactly : {D : Type 0} → (view : D → DiskView) → (now : ℕ) → (olds : List (ShardView D)) → Node → (news : List (ShardView D)) → (removed cleared : ℕ) → Type 0
+RaidedExactly view now [] node news removed cleared = (removed ≡ 0) × (cleared ≡ 0)
+RaidedExactly view now (old ∷ olds) [] news removed cleared = ⊥
+RaidedExactly view now (old ∷ olds) (slot ∷ node) [] removed cleared = ⊥
+RaidedExactly view now (old ∷ olds) (slot ∷ node) (new ∷ news) removed cleared =
+    (gone : ℕ) × (bare : ℕ) × (others : ℕ × ℕ) × (removed ≡ gone + others.0) × (cleared ≡ bare + others.1)
+    × ((after : State) × Agrees new after × (AreSure old.shelf.gates → RaidsExactly slot.setup now slot.state (possible_copies view old.shelf slot.state) gone bare after))
+    × RaidedExactly view now olds node news others.0 others.1
+
 -- Each command is carried out from each state for which the node stood: over every disk, where what is read may be anything, and over
 -- honest ones, with what a crash leaves meanwhile. A get is replied as its record is stored. A restart goes to a state behind a start of
--- each device from its disk, or one is refused, and then the node halts. A node that halted answers so from then on, and does nothing.
+-- each device from its disk, or one is refused, and then the node halts. A raid that isn't refused is exact, over honest disks whose images were
+-- sound. A node that halted answers so from then on, and does nothing.
 pub record Acts {D : Type 0} (view : D → DiskView) (old : NodeView D) (c : Command) (now : ℕ) (r : Reply) (new : NodeView D) : Type 0 where
   pub later : AreLater view (disks_of old) (disks_of new)
   pub any : ActsBy (StandsFor view) unknown (Halts view) false old c now r new
   pub safe : ActsBy (StandsSafely view) (views_of view) (HaltsSafely view) true old c now r new
   pub stored : (shards : List (ShardView D)) → old ≡ serving shards → RepliesStored view shards c now r
   pub again : (shards : List (ShardView D)) → old ≡ serving shards → c ≡ command.Restart → (set : Settings) × Restarted view set shards new
+  pub exact : (olds news : List (ShardView D)) → old ≡ serving olds → new ≡ serving news → c ≡ command.Raid → (removed cleared : ℕ) → r ≡ reply.Done2 removed cleared → (node : Node) → Each (StandsSafelyOn view) olds node
+      → RaidedExactly view now olds node news removed cleared
   pub stays : (why : ℕ × StartCause) (disks : List D) → old ≡ halted why disks → (r ≡ reply.Halted) × (new ≡ old)
 
 pub record Tends {D : Type 0} (view : D → DiskView) (old new : NodeView D) : Type 0 where

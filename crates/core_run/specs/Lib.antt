@@ -3,4 +3,5 @@ pub mod Starts
 pub mod Standing
 pub mod Calls
 pub mod Turns
+pub mod Raids
 pub mod Formatting

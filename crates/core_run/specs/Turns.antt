@@ -2,15 +2,17 @@
 use Rattle.std.specs.Prelude.{◌≡◌, ◌≢◌, ℕ, zero, suc, ◌+◌, ◌%◌, ◌^◌, List, [], ◌∷◌, length, Option, Some, None, Result, Ok, Err, OnOk, OnErr, ◌⊎◌}
 use Rattle.disk_model.specs.Disk.{DiskView, IsHonest}
 use Rattle.device_model.specs.Device.{State, seen}
-use Rattle.device_model.specs.Events.{Call, put_call, get_call, delete_call, bury_call, flush_call, Answer, Cause, disk_fault, Event}
+use Rattle.device_model.specs.Events.{Call, put_call, get_call, delete_call, bury_call, flush_call, Answer, Cause, disk_fault, Event, after_events}
 use Rattle.device_model.specs.Vacating.{Outcome, VacatesUpTo, Tends, did, stopped}
 use Rattle.device_model.specs.Expiring.{ExpiresEach}
 use Rattle.block_shelf.specs.Disks.{IsLater}
+use Rattle.block_shelf.specs.View.{AreSure}
+use Rattle.block_shelf.specs.Scans.{possible_copies}
 use Rattle.block_shelf.specs.declared.refusals.ReadRefusal.{ReadRefusal}
 use Rattle.rec_format.specs.declared.entry.Counts.{Counts}
 use Rattle.rec_format.specs.declared.version.Version.{Version}
 use Rattle.shard_core.specs.View.{ShardView, SameSetup, setup_of}
-use Rattle.shard_core.specs.Stands.{Agrees}
+use Rattle.shard_core.specs.Stands.{Agrees, IsSafe}
 use Rattle.shard_core.specs.Calls.{Makes, GetsStored, cause_of_write, read_answer, flush_answer}
 use Rattle.shard_core.specs.Vacating.{MakesEvents, IsCauseOf}
 use Rattle.shard_core.specs.declared.refusals.DefragCause.{DefragCause}
@@ -19,7 +21,9 @@ use Rattle.line_proto.specs.declared.command.Command.{Command}
 use Rattle.line_proto.specs.declared.command.Command.TheVariants as command
 use Rattle.line_proto.specs.declared.reply.Reply.{Reply}
 use Rattle.line_proto.specs.declared.reply.Reply.TheVariants as reply
-use Rattle.node_model.specs.Commands.{answer_reply, meta_reply, expired_entries}
+use Rattle.line_proto.specs.declared.reply.LineFault.{LineFault}
+use Rattle.node_model.specs.Commands.{Slot, Raids, answer_reply, fault_of, meta_reply, expired_entries}
+use Rattle.raid_laws.specs.Exact.{RaidsExactly}
 
 -- ---- one device
 
@@ -79,6 +83,31 @@ pub record ExpiresOn {D : Type 0} (view : D → DiskView) (now : ℕ) (result : 
   pub goes : GoesOn view old new
   pub makes : (s : State) → Agrees old s → MakesEvents view (IsExpiry old now s result) old s new
 
+-- ---- raids
+
+-- a device of the model in a state for which a shard stands
+abbrev pub slot_for : {D : Type 0} → (view : D → DiskView) → ShardView D → State → Slot
+slot_for view shard s = record { setup = setup_of shard; state = s; faults = (view shard.shelf.disk).faults }
+
+-- so many tombstones were removed and so many covers cleared, or a turn was refused
+abbrev pub IsRaided : Result (ℕ × ℕ) LineFault → Outcome → Type 0
+IsRaided result outcome = EndsAs (λ sums. sums) (λ fault cause. fault ≡ fault_of cause) result outcome
+
+-- Where no gate is unsure, over an honest disk whose image was sound, a raid that isn't refused removes and clears just what may go.
+abbrev pub IsExact : {D : Type 0} → (view : D → DiskView) → ShardView D → (now : ℕ) → State → Result (ℕ × ℕ) LineFault → (after : State) → Type 0
+IsExact view shard now s (Ok sums) after =
+    AreSure shard.shelf.gates → IsHonest (view shard.shelf.disk) → IsSafe view shard s → RaidsExactly (setup_of shard) now s (possible_copies view shard.shelf s) sums.0 sums.1 after
+IsExact view shard now s (Err other) after = Unit {0}
+
+-- a whole raid of one device
+abbrev pub IsRaid : {D : Type 0} → (view : D → DiskView) → ShardView D → (now : ℕ) → State → Result (ℕ × ℕ) LineFault → List Event → Type 0
+IsRaid view shard now s result events =
+    (outcome : Outcome) × IsRaided result outcome × Raids now (slot_for view shard s) events outcome × IsExact view shard now s result (after_events (setup_of shard) events s)
+
+pub record RaidsOn {D : Type 0} (view : D → DiskView) (now : ℕ) (result : Result (ℕ × ℕ) LineFault) (old new : ShardView D) : Type 0 where
+  pub goes : GoesOn view old new
+  pub makes : (s : State) → Agrees old s → MakesEvents view (IsRaid view old now s result) old s new
+
 -- a flush of one device, by what it answers
 pub record FlushesOn {D E : Type 0} (view : D → DiskView) (flushed : Result ℕ E) (old new : ShardView D) : Type 0 where
   pub goes : GoesOn view old new
@@ -132,6 +161,10 @@ DefragsEach view result olds news = WorksEach (DefragsOn view) plus_both result 
 -- the expired entries of each device are removed, and so many with them
 abbrev pub ExpiresAll : {D : Type 0} → (view : D → DiskView) → (now : ℕ) → Result ℕ WriteRefusal → (olds news : List (ShardView D)) → Type 0
 ExpiresAll view now result olds news = WorksEach (ExpiresOn view now) plus_one result 0 olds news
+
+-- a raid of each device: so many tombstones are removed, and so many covers cleared
+abbrev pub RaidsEach : {D : Type 0} → (view : D → DiskView) → (now : ℕ) → Result (ℕ × ℕ) LineFault → (olds news : List (ShardView D)) → Type 0
+RaidsEach view now result olds news = WorksEach (RaidsOn view now) plus_both result (0, 0) olds news
 
 abbrev pub first_failed : {E : Type 0} → (device : ℕ) → (failed : Option ℕ) → Result ℕ E → Option ℕ
 first_failed device (Some earlier) flushed = Some earlier

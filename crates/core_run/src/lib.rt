@@ -4,6 +4,7 @@
 mod devices;
 mod format;
 mod node;
+mod raid;
 mod replies;
 mod starts;
 

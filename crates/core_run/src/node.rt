@@ -3,7 +3,7 @@ ghost use Rattle.std.specs.Prelude.{◌≡◌, ◌≢◌, ◌≤◌, ◌<◌, �
 ghost use Rattle.rec_format.specs.declared.version.Digest.{Digest};
 ghost use Rattle.rec_format.specs.Places.{device_number};
 ghost use Rattle.shard_core.specs.View.{IsSettings, ShardView};
-ghost use Rattle.line_proto.specs.Built.{IsInRange};
+ghost use Rattle.line_proto.specs.Lines.{IsInRange};
 ghost use Rattle.node_model.specs.Commands.{Slot, node_counts};
 ghost use Rattle.core_run.specs.Views.{serving, halted, disks_of};
 ghost use Rattle.core_run.specs.Standing.{StandsFor};
@@ -12,8 +12,10 @@ ghost use Rattle.core_run.specs.Turns.{RepliesOn, GoesOn};
 ghost use Rattle.core_run.specs.Calls.{Acts, Closes, digest_of};
 
 use crate::devices::{close_each, counts_of, defrag_each, expire_each, flush_each, tend_each};
+use crate::raid::raid_each;
 use crate::replies::{
-    defrag_reply, delete_reply, expire_reply, flush_reply, known_reply, read_reply, write_reply,
+    defrag_reply, delete_reply, expire_reply, flush_reply, known_reply, raid_reply, read_reply,
+    write_reply,
 };
 use crate::starts::{start_all, stop_all};
 use disk_model::Disk;
@@ -220,6 +222,7 @@ impl<D: Disk> Store for Node<D> {
             Command::Flush => flush_reply(flush_each(&mut self.shards)),
             Command::Defrag => defrag_reply(defrag_each(alloc, &mut self.shards)),
             Command::Expire => expire_reply(expire_each(alloc, &mut self.shards, now)),
+            Command::Raid => raid_reply(raid_each(alloc, &mut self.shards, now)),
             Command::Stat => Reply::StatOf(counts_of(&self.shards)),
             Command::Restart => self.restart(alloc),
             _ => unreachable!(),

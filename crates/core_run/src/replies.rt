@@ -6,7 +6,7 @@ ghost use Rattle.device_model.specs.Vacating.{Outcome};
 ghost use Rattle.node_model.specs.Commands.{answer_reply, fault_of, meta_reply, one_sum, two_sums};
 ghost use Rattle.shard_core.specs.Vacating.{IsCauseOf};
 ghost use Rattle.shard_core.specs.Calls.{cause_of_write, delete_answer, meta_of, read_answer, write_answer};
-ghost use Rattle.core_run.specs.Turns.{IsDefragged, IsExpired, IsFlushed};
+ghost use Rattle.core_run.specs.Turns.{IsDefragged, IsExpired, IsFlushed, IsRaided};
 
 use disk_model::DiskFault;
 use line_proto::{LineFault, Reply};
@@ -112,6 +112,18 @@ pub fn expire_reply(expired: Result<u64, WriteRefusal>) -> Reply
     match expired {
         Ok(n) => Reply::Done1 { n },
         Err(refusal) => Reply::Fail(write_fault(refusal)),
+    }
+}
+
+pub fn raid_reply(raided: Result<(u64, u64), LineFault>) -> Reply
+    ensures { (outcome : Outcome) → IsRaided raided outcome → result ≡ two_sums outcome }
+{
+    match raided {
+        Ok((removed, cleared)) => Reply::Done2 {
+            a: removed,
+            b: cleared,
+        },
+        Err(fault) => Reply::Fail(fault),
     }
 }
 

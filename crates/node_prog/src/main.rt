@@ -13,6 +13,8 @@ mod load;
 mod loads;
 mod outcome;
 #[cfg(test)]
+mod raids;
+#[cfg(test)]
 mod restarts;
 mod run;
 mod settings;

@@ -1,5 +1,5 @@
 ghost use Rattle.std.specs.Prelude.{◌≡◌, ◌≤◌, ◌<◌, ◌≢◌, vec_len, IfOk};
-ghost use Rattle.line_proto.specs.Built.{IsInRange};
+ghost use Rattle.line_proto.specs.Lines.{IsInRange};
 ghost use Rattle.line_proto.specs.declared.command.Command.{Command};
 
 use block_format::Geometry;

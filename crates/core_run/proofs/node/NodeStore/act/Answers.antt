@@ -9,9 +9,9 @@ use Rattle.shard_core.specs.View.{ShardView}
 use Rattle.core_run.specs.Views.{NodeView}
 use Rattle.core_run.specs.Standing.{Each, StandsOn}
 use Rattle.core_run.specs.Calls.{Acts}
-use Rattle.core_run.specs.Turns.{FlushesOn, FlushesEach, plus_one, DefragsOn, DefragsEach, plus_both, ExpiresOn, ExpiresAll}
+use Rattle.core_run.specs.Turns.{FlushesOn, FlushesEach, plus_one, DefragsOn, DefragsEach, plus_both, ExpiresOn, ExpiresAll, RaidsOn, RaidsEach}
 use Rattle.core_run.proofs.Making.{there_is}
-use Rattle.core_run.proofs.Commands.{digest_acts, flush_acts, defrag_acts, expire_acts, stat_acts, acts_halted}
+use Rattle.core_run.proofs.Commands.{digest_acts, flush_acts, defrag_acts, expire_acts, raid_acts, stat_acts, acts_halted}
 use Rattle.core_run.proofs.Keeping.{SameEach, all_kept, all_act, node_kept, node_halts, acts_so, same_all, devices_of, device_at, same_at, same_worked, not_some, is_there}
 use Rattle.core_run.proofs.node.NodeStore.act.Given.{Over}
 use Rattle.core_run.proofs.node.NodeStore.act.Goals as goal
@@ -118,6 +118,25 @@ returns-in-Expire g c =
     all_act c.self.inside.set (vec_capacity c.self.inside.disks) c.self.inside.shards c.expire_each.new.shards c.self.inside.refused c.self.inside.disks.items (same_expired g c) c.self.invariant none g.D.Disk.view
     c.args.self.now c.args.command.now command.Expire c.args.now c.expire_reply.result c.self.view_is c.in-Expire.is
     (expire_acts g.D.Disk.view g.met.D.Disk.is_disk c.expire_each.result c.self.inside.shards.items c.expire_each.new.shards c.args.now c.expire_reply.result (expired g c) c.expire_reply.ensures)
+
+-- ---- a raid
+
+raided : (g : Over) (c : goal.After-raid_reply g) → RaidsEach g.D.Disk.view c.args.now c.raid_each.result c.self.inside.shards.items c.raid_each.new.shards
+raided g c = subst (λ (s : List (ShardView g.row.D.Denot)). RaidsEach g.D.Disk.view c.args.now c.raid_each.result s c.raid_each.new.shards) c.deref_mut-in-Raid.ensures.value c.raid_each.ensures
+
+same_raided : (g : Over) (c : goal.After-raid_reply g) → SameEach c.self.inside.shards.items c.raid_each.new.shards
+same_raided g c = same_worked (RaidsOn g.D.Disk.view c.args.now) plus_both (λ result old new does. does.goes.shape) c.raid_each.result (0, 0) c.self.inside.shards.items c.raid_each.new.shards (raided g c)
+
+pub invariant_of-self-in-Raid : goal.invariant_of-self-in-Raid
+invariant_of-self-in-Raid g c =
+    all_kept c.self.inside.set (vec_capacity c.self.inside.disks) c.self.inside.shards c.raid_each.new.shards c.self.inside.refused c.self.inside.disks.items (same_raided g c) c.self.invariant
+
+pub returns-in-Raid : goal.returns-in-Raid
+returns-in-Raid g c =
+    let none = not_some c.self.inside.refused c.is_some.result c.is_some.ensures c.if-is_some.false in
+    all_act c.self.inside.set (vec_capacity c.self.inside.disks) c.self.inside.shards c.raid_each.new.shards c.self.inside.refused c.self.inside.disks.items (same_raided g c) c.self.invariant none g.D.Disk.view
+    c.args.self.now c.args.command.now command.Raid c.args.now c.raid_reply.result c.self.view_is c.in-Raid.is
+    (raid_acts g.D.Disk.view g.met.D.Disk.is_disk c.raid_each.result c.self.inside.shards.items c.raid_each.new.shards c.args.now c.raid_reply.result (raided g c) c.raid_reply.ensures)
 
 pub returns-in-Stat : goal.returns-in-Stat
 returns-in-Stat g c =
