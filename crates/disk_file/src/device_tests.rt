@@ -35,6 +35,11 @@ impl Watch for Told {
     }
 }
 
+// Why this isn't opened.
+fn refusal_of(rt: &HostRuntime, name: &str) -> Option<OpenFault> {
+    open_device(rt, name).err()
+}
+
 #[test]
 fn a_new_device_is_written_whole_and_locked(rt: HostRuntime) -> Result<(), Fail> {
     let name = "disk_file_new";
@@ -44,7 +49,7 @@ fn a_new_device_is_written_whole_and_locked(rt: HostRuntime) -> Result<(), Fail>
     let made = make_device(&rt, rt.alloc(), name, len, &mut told)?;
     assert_eq!(rt; (made.len(), told.times, told.last), (len, 3, (len, len)));
     assert!(rt; told.ended);
-    assert!(rt; matches!(open_device(&rt, name), Err(OpenFault::InUse)));
+    assert!(rt; matches!(refusal_of(&rt, name), Some(OpenFault::InUse)));
     drop(made);
     assert_eq!(rt; open_device(&rt, name)?.len(), len);
     fs::remove_file(&rt, name)?;
@@ -75,16 +80,21 @@ fn a_file_that_is_there_is_never_made_anew(rt: HostRuntime) -> Result<(), Fail> 
 fn what_cannot_be_a_device_is_refused(rt: HostRuntime) -> Result<(), Fail> {
     let missing = "disk_file_missing";
     let _ = fs::remove_file(&rt, missing);
-    assert!(rt; matches!(open_device(&rt, missing), Err(OpenFault::Missing)));
+    assert!(rt; matches!(refusal_of(&rt, missing), Some(OpenFault::Missing)));
     for name in [".", "/dev/null"] {
         assert!(rt;
-            matches!(open_device(&rt, name), Err(OpenFault::NoStorage)),
+            matches!(refusal_of(&rt, name), Some(OpenFault::NoStorage)),
             "{name}"
         );
     }
     let mut told = Told::new();
     let made = make_device(&rt, rt.alloc(), "disk_file_missing/device", MIB, &mut told);
     assert!(rt; matches!(made, Err(OpenFault::Unmade(_))));
+    Ok(())
+}
+
+#[test]
+fn a_refusal_says_how_long_the_file_is(rt: HostRuntime) -> Result<(), Fail> {
     let text = OpenFault::Longer { len: 9, asked: 8 }.to_string(rt.alloc())?;
     assert_eq!(rt;
         text.as_str(),

@@ -5,18 +5,18 @@ use std::fs::{File, Metadata, OpenFile, OpenOptions};
 use std::io::{Seek, SeekFrom};
 use std::os::fd::{AsRawFd, RawFd};
 use std::os::unix::fs::FileExt;
+use std::process::Abort;
+use std::rt::Files;
 use std::test::Fail;
 use std::{fs, io};
 
-// Makes a file of this length, or one anew.
-fn fresh(rt: &HostRuntime, path: &str, len: u64) -> io::Result<File> {
-    let _ = fs::remove_file(rt, path);
-    let file = File::create_new(rt, path)?;
-    file.set_len(len)?;
-    Ok(file)
+// Makes a file of zeros, or one anew.
+fn fresh(rt: &HostRuntime, path: &str) -> io::Result<File> {
+    fs::write(rt, path, &[0; 8192])?;
+    open_again(rt, path)
 }
 
-fn open_again(rt: &HostRuntime, path: &str) -> io::Result<File> {
+fn open_again<R: Files<File = File>>(rt: &R, path: &str) -> io::Result<File> {
     OpenOptions::new().read(true).write(true).open(rt, path)
 }
 
@@ -25,39 +25,86 @@ fn size_of<D: Disk + Send>(disk: &D) -> u64 {
     disk.len()
 }
 
+// Writes within the disk, and wants this answer.
+fn writes<D: Disk>(
+    rt: &impl Abort,
+    disk: &mut D,
+    place: u64,
+    bytes: &[u8],
+    answer: Result<(), DiskFault>,
+) {
+    assert!(rt; bytes.len() as u64 <= disk.len() && place <= disk.len() - bytes.len() as u64);
+    assert_eq!(rt; disk.write_at(place, bytes), answer);
+}
+
+// Reads within the disk, and wants this answer.
+fn reads<D: Disk>(
+    rt: &impl Abort,
+    disk: &mut D,
+    place: u64,
+    out: &mut [u8],
+    answer: Result<(), DiskFault>,
+) {
+    assert!(rt; out.len() as u64 <= disk.len() && place <= disk.len() - out.len() as u64);
+    assert_eq!(rt; disk.read_at(place, out), answer);
+}
+
+fn syncs<D: Disk>(rt: &impl Abort, disk: &mut D, answer: Result<(), DiskFault>) {
+    assert_eq!(rt; disk.sync(), answer);
+}
+
+fn write_record<D: Disk + Send>(rt: &impl Abort, disk: &mut D) {
+    assert_eq!(rt; disk.len(), 8192);
+    assert_eq!(rt; size_of(disk), 8192);
+    writes(rt, disk, 4000, b"record", Ok(()));
+    syncs(rt, disk, Ok(()));
+}
+
+fn read_record<D: Disk>(rt: &impl Abort, disk: &mut D) {
+    assert_eq!(rt; disk.len(), 8192);
+    let mut out = [1; 8];
+    reads(rt, disk, 3999, &mut out, Ok(()));
+    assert_eq!(rt; out, *b"\0record\0");
+}
+
 #[test]
 fn what_is_written_is_read_again(rt: HostRuntime) -> Result<(), Fail> {
     let path = "disk_file_again";
-    let mut disk = FileDisk::new(fresh(&rt, path, 8192)?, 8192);
-    assert_eq!(rt; disk.len(), 8192);
-    assert_eq!(rt; size_of(&disk), 8192);
-    assert_eq!(rt; disk.write_at(4000, b"record"), Ok(()));
-    assert_eq!(rt; disk.sync(), Ok(()));
-    drop(disk);
-    let mut disk = FileDisk::new(open_again(&rt, path)?, 8192);
-    assert_eq!(rt; disk.len(), 8192);
-    let mut out = [1; 8];
-    assert_eq!(rt; disk.read_at(3999, &mut out), Ok(()));
-    assert_eq!(rt; out, *b"\0record\0");
+    write_record(&rt, &mut FileDisk::new(fresh(&rt, path)?, 8192));
+    read_record(&rt, &mut FileDisk::new(open_again(&rt, path)?, 8192));
     fs::remove_file(&rt, path)?;
+    Ok(())
+}
+
+// Of a disk over a file of 100 bytes.
+fn stays_short<D: Disk>(rt: &impl Abort, disk: &mut D) {
+    assert_eq!(rt; disk.len(), 8192);
+    writes(rt, disk, 92, b"the last", Ok(()));
+    writes(rt, disk, 93, b"too long", Err(DiskFault));
+    writes(rt, disk, 4000, b"far", Err(DiskFault));
+    let mut out = [0; 8];
+    reads(rt, disk, 92, &mut out, Ok(()));
+    assert_eq!(rt; out, *b"the last");
+    reads(rt, disk, 93, &mut out, Err(DiskFault));
+}
+
+// Cuts it while the disk has it open.
+fn cut<R: Files<File = File> + Abort>(
+    rt: &R,
+    path: &str,
+    disk: &mut FileDisk<File>,
+) -> io::Result<()> {
+    let other = open_again(rt, path)?;
+    other.set_len(100)?;
+    stays_short(rt, disk);
+    assert_eq!(rt; other.metadata()?.len(), 100);
     Ok(())
 }
 
 #[test]
 fn a_file_that_was_cut_is_not_made_longer(rt: HostRuntime) -> Result<(), Fail> {
     let path = "disk_file_cut";
-    let mut disk = FileDisk::new(fresh(&rt, path, 8192)?, 8192);
-    let other = open_again(&rt, path)?;
-    other.set_len(100)?;
-    assert_eq!(rt; disk.len(), 8192);
-    assert_eq!(rt; disk.write_at(92, b"the last"), Ok(()));
-    assert_eq!(rt; disk.write_at(93, b"too long"), Err(DiskFault));
-    assert_eq!(rt; disk.write_at(4000, b"far"), Err(DiskFault));
-    let mut out = [0; 8];
-    assert_eq!(rt; disk.read_at(92, &mut out), Ok(()));
-    assert_eq!(rt; out, *b"the last");
-    assert_eq!(rt; disk.read_at(93, &mut out), Err(DiskFault));
-    assert_eq!(rt; other.metadata()?.len(), 100);
+    cut(&rt, path, &mut FileDisk::new(fresh(&rt, path)?, 8192))?;
     fs::remove_file(&rt, path)?;
     Ok(())
 }
@@ -157,21 +204,56 @@ impl<'a> OpenFile for SlowFile<'a> {
     }
 }
 
+// Three bytes more are written than there is room for.
+fn goes_on<D: Disk>(rt: &impl Abort, disk: &mut D) {
+    assert_eq!(rt; disk.len(), 100);
+    let mut out = [0; 3];
+    reads(rt, disk, 0, &mut out, Ok(()));
+    assert_eq!(rt; out, *b"xxx");
+    writes(rt, disk, 0, b"abc", Ok(()));
+    writes(rt, disk, 3, b"def", Err(DiskFault));
+}
+
 #[test]
 fn short_and_interrupted_calls_go_on(rt: HostRuntime) -> Result<(), Fail> {
     let behaviour = Behaviour::new(5);
     let file = SlowFile {
         behaviour: &behaviour,
     };
-    let mut disk = FileDisk::new(file, 100);
-    assert_eq!(rt; disk.len(), 100);
-    let mut out = [0; 3];
-    assert_eq!(rt; disk.read_at(0, &mut out), Ok(()));
-    assert_eq!(rt; out, *b"xxx");
-    assert_eq!(rt; disk.write_at(0, b"abc"), Ok(()));
-    assert_eq!(rt; disk.write_at(3, b"def"), Err(DiskFault));
+    goes_on(&rt, &mut FileDisk::new(file, 100));
     assert_eq!(rt; behaviour.room.get(), 0);
     Ok(())
+}
+
+// Two writes that a failed sync lost.
+fn lose<D: Disk>(rt: &impl Abort, behaviour: &Behaviour, disk: &mut D) {
+    assert_eq!(rt; disk.len(), 100);
+    writes(rt, disk, 40, b"old", Ok(()));
+    syncs(rt, disk, Ok(()));
+    writes(rt, disk, 10, b"a body", Ok(()));
+    writes(rt, disk, 0, b"gate", Ok(()));
+    behaviour.failing.set(1);
+    syncs(rt, disk, Err(DiskFault));
+    syncs(rt, disk, Err(DiskFault));
+}
+
+// They are lost until the whole of each is written again.
+fn write_again<D: Disk>(rt: &impl Abort, behaviour: &Behaviour, disk: &mut D) {
+    writes(rt, disk, 0, b"gate", Ok(()));
+    writes(rt, disk, 11, b" body", Ok(()));
+    syncs(rt, disk, Err(DiskFault));
+    let room = behaviour.room.replace(0);
+    writes(rt, disk, 10, b"a body", Err(DiskFault));
+    behaviour.room.set(room);
+    syncs(rt, disk, Err(DiskFault));
+    writes(rt, disk, 10, b"a body", Ok(()));
+    syncs(rt, disk, Ok(()));
+    syncs(rt, disk, Ok(()));
+}
+
+fn lose_and_write_again<D: Disk>(rt: &impl Abort, behaviour: &Behaviour, disk: &mut D) {
+    lose(rt, behaviour, disk);
+    write_again(rt, behaviour, disk);
 }
 
 #[test]
@@ -180,26 +262,7 @@ fn what_a_failed_sync_lost_has_to_be_written_again(rt: HostRuntime) -> Result<()
     let file = SlowFile {
         behaviour: &behaviour,
     };
-    let mut disk = FileDisk::new(file, 100);
-    assert_eq!(rt; disk.len(), 100);
-    assert_eq!(rt; disk.write_at(40, b"old"), Ok(()));
-    assert_eq!(rt; disk.sync(), Ok(()));
-    assert_eq!(rt; disk.write_at(10, b"a body"), Ok(()));
-    assert_eq!(rt; disk.write_at(0, b"gate"), Ok(()));
-    behaviour.failing.set(1);
-    assert_eq!(rt;
-        (disk.sync(), disk.sync()),
-        (Err(DiskFault), Err(DiskFault))
-    );
-    assert_eq!(rt; disk.write_at(0, b"gate"), Ok(()));
-    assert_eq!(rt; disk.write_at(11, b" body"), Ok(()));
-    assert_eq!(rt; disk.sync(), Err(DiskFault));
-    let room = behaviour.room.replace(0);
-    assert_eq!(rt; disk.write_at(10, b"a body"), Err(DiskFault));
-    behaviour.room.set(room);
-    assert_eq!(rt; disk.sync(), Err(DiskFault));
-    assert_eq!(rt; disk.write_at(10, b"a body"), Ok(()));
-    assert_eq!(rt; (disk.sync(), disk.sync()), (Ok(()), Ok(())));
+    lose_and_write_again(&rt, &behaviour, &mut FileDisk::new(file, 100));
     assert_eq!(rt; behaviour.syncs.get(), 7);
     Ok(())
 }
