@@ -1,7 +1,9 @@
 mod alone;
 mod between;
+mod images;
 mod known;
 mod lone;
+mod rounds;
 mod script;
 
 use disk_model::{Disk, DiskFault, MemDisk};

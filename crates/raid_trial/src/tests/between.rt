@@ -1,4 +1,5 @@
 // Raids with other calls between their turns.
+use super::images::image_of;
 use super::known::{Known, Step, known_at, number_of};
 use super::lone::NOW;
 use super::*;
@@ -185,7 +186,7 @@ fn make_base(rt: &impl Abort, lone: &mut Lone, script: &[Call; CALLS]) -> [Step;
 }
 
 /// A new disk with what is left of one in the end.
-fn left_of(rt: &impl Abort, disk: &MemDisk) -> Result<MemDisk, Fail> {
+pub fn left_of(rt: &impl Abort, disk: &MemDisk) -> Result<MemDisk, Fail> {
     let end = disk.moments();
     assert!(rt; 0 < end);
     Ok(disk.image(end - 1, 0)?)
@@ -244,7 +245,12 @@ fn steps_of(
 }
 
 /// The number of the call whose put is shown of a digest, or 0 where nothing is.
-fn shown(rt: &impl Abort, lone: &mut Lone, steps: &[Step], digest: Digest) -> Result<usize, Fail> {
+pub fn shown(
+    rt: &impl Abort,
+    lone: &mut Lone,
+    steps: &[Step],
+    digest: Digest,
+) -> Result<usize, Fail> {
     match lone.get(rt, &digest) {
         Ok(Some(version)) => match number_of(steps, digest, version.payload.as_slice()) {
             Some(number) => Ok(number),
@@ -278,7 +284,7 @@ fn image_is_allowed(
     is_allowed(rt, &mut lone, steps, moment)
 }
 
-/// Asserts so of each image of a moment, where at most one write wasn't synced.
+/// Asserts so of both images of a moment.
 fn assert_moment(
     rt: &impl Abort,
     alloc: Global,
@@ -287,11 +293,10 @@ fn assert_moment(
     moment: u64,
     way: Way,
 ) -> Result<(), Fail> {
-    for pick in 0..2 {
-        assert!(rt; moment < disk.moments());
-        let image = disk.image(moment, pick)?;
+    for with_first in [false, true] {
+        let image = image_of(rt, disk, moment, with_first)?;
         let allowed = image_is_allowed(rt, alloc, image, steps, moment)?;
-        assert!(rt; allowed, "{way:?}, moment {moment}, pick {pick}");
+        assert!(rt; allowed, "{way:?}, moment {moment}, {with_first}");
     }
     Ok(())
 }

@@ -22,7 +22,7 @@ const SHAPE: Geometry = Geometry {
     devices: 16,
 };
 
-const DEVICE_BYTES: u64 = 266_240;
+pub const DEVICE_BYTES: u64 = 266_240;
 
 /// One sprig in each of 256 partitions. Blocks are vacated that aren't used to the half, and a raid may take a tombstone at once.
 const SET: Settings = Settings {

@@ -123,7 +123,7 @@ pub const NEW: [Call; CALLS] = [
 ];
 
 /// With its record it takes a block.
-static LARGE: [u8; 12_000] = [0; 12_000];
+pub static LARGE: [u8; 12_000] = [0; 12_000];
 
 /// Puts and flushes a large record seven times, of one digest or of as many.
 fn put_large(rt: &impl Abort, lone: &mut Lone, alike: bool) -> Did {
