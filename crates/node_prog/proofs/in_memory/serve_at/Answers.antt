@@ -1,5 +1,0 @@
-use Rattle.std.proofs.Common.{refl, sym, ◌∙◌}
-use Rattle.node_prog.proofs.in_memory.serve_at.Goals as goal
-
-pub node_top-outcome-requires : goal.node_top-outcome-requires
-node_top-outcome-requires c = record { disks = λ job names asks. sym c.len.ensures ∙ c.if-not-names_so_many.ensures refl job names asks }

@@ -1,0 +1,271 @@
+// A file of scenarios, and the lines of each.
+use crate::play::play;
+use crate::program::Program;
+use crate::stage::Stage;
+use scenario_text::{Block, Names, Report, Trouble};
+use std::alloc::Global;
+use std::mem;
+
+#[derive(Clone, Copy)]
+struct Line<'t> {
+    number: u64,
+    text: &'t str,
+}
+
+// A scenario that is being played.
+#[derive(Drop)]
+struct Scene<'p, P> {
+    program: &'p P,
+    stage: Stage,
+    block: Option<Block>,
+}
+
+impl<'p, P: Program> Scene<'p, P> {
+    fn new(alloc: Global, program: &'p P) -> Self {
+        Scene {
+            program,
+            stage: Stage::new(alloc),
+            block: None,
+        }
+    }
+
+    // Plays the start whose lines are all taken up.
+    fn finish(&mut self, report: &mut Report) -> Result<(), Trouble> {
+        match mem::replace(&mut self.block, None) {
+            Some(mut block) => play(self.program, &mut self.stage, &mut block, report),
+            None => Ok(()),
+        }
+    }
+
+    fn begin(&mut self, line: Line<'_>, words: &str) -> Result<(), Trouble> {
+        self.block = Some(Block::new(self.stage.alloc, line.number, words)?);
+        Ok(())
+    }
+
+    // Two devices or one are made, of 16 blocks of 16,384 bytes each.
+    fn make_devices(
+        &mut self,
+        line: Line<'_>,
+        names: &str,
+        report: &mut Report,
+    ) -> Result<(), Trouble> {
+        let alloc = self.stage.alloc;
+        let mut count = 0_u64;
+        for name in names.split(' ') {
+            self.stage.add(name, 266_240)?;
+            count = count.saturating_add(1);
+        }
+        let words = format!(in alloc; "format --block-size 16384 --blocks 16 {names}")?;
+        self.begin(line, words.as_str())?;
+        let known = Names::new(alloc);
+        let written = format!(in alloc; "< formatted {count}")?;
+        if let Some(block) = &mut self.block {
+            let _is_taken = block.take(alloc, line.number, &known, written.as_str())?;
+        }
+        self.finish(report)
+    }
+
+    // Whether the start whose lines are taken up takes this one.
+    fn is_of_block(&mut self, line: Line<'_>, names: &Names) -> Result<bool, Trouble> {
+        let alloc = self.stage.alloc;
+        match &mut self.block {
+            Some(block) => block.take(alloc, line.number, names, line.text),
+            None => Ok(false),
+        }
+    }
+
+    fn take(&mut self, line: Line<'_>, names: &Names, report: &mut Report) -> Result<(), Trouble> {
+        if self.is_of_block(line, names)? {
+            return Ok(());
+        }
+        self.finish(report)?;
+        if let Some(words) = line.text.strip_prefix("$ ") {
+            return self.begin(line, words);
+        }
+        let (word, rest) = line.text.split_once(' ').unwrap_or((line.text, ""));
+        if word == "device" {
+            return self.make_devices(line, rest, report);
+        }
+        let mut written: Vec<u8> = Vec::new(self.stage.alloc);
+        names.write_line(rest, &mut written)?;
+        match str::from_utf8(&written) {
+            Ok(rest) => self.stage.arrange(word, rest),
+            Err(_) => Err(Trouble::Line("this isn't text")),
+        }
+    }
+}
+
+// `each DISK CALL A-B`: the scenario is played once for each of these calls, which fails.
+#[derive(Clone, Copy)]
+struct Each<'t> {
+    call: &'t str,
+    first: u64,
+    last: u64,
+}
+
+fn each_of(rest: &str) -> Result<Each<'_>, Trouble> {
+    if let Some((call, numbers)) = rest.rsplit_once(' ')
+        && let Some((first, last)) = numbers.split_once('-')
+        && let Ok(first) = first.parse::<u64>()
+        && let Ok(last) = last.parse::<u64>()
+    {
+        return Ok(Each { call, first, last });
+    }
+    Err(Trouble::Line("it is each DISK CALL A-B"))
+}
+
+// Tells why a scenario isn't played beyond a line.
+fn tell_trouble(trouble: Trouble, number: u64, report: &mut Report) -> Result<(), Trouble> {
+    match trouble {
+        Trouble::Memory => Err(Trouble::Memory),
+        Trouble::Line(why) => report.tell(number, "", "a line to play", why),
+    }
+}
+
+// Takes up a line of a scenario, where one that begins with `each` is a call that fails.
+fn take_line<P: Program>(
+    scene: &mut Scene<'_, P>,
+    alloc: Global,
+    line: Line<'_>,
+    number: u64,
+    names: &Names,
+    report: &mut Report,
+) -> Result<(), Trouble> {
+    let Some(rest) = line.text.strip_prefix("each ") else {
+        return scene.take(line, names, report);
+    };
+    let call = each_of(rest)?.call;
+    let text = format!(in alloc; "fail {call} {number}")?;
+    let failing = Line {
+        number: line.number,
+        text: text.as_str(),
+    };
+    scene.take(failing, names, report)
+}
+
+// Plays the lines of a scenario, where a line that begins with `each` is a call that fails.
+fn play_lines<P: Program>(
+    alloc: Global,
+    program: &P,
+    lines: &[Line<'_>],
+    number: u64,
+    names: &Names,
+    report: &mut Report,
+) -> Result<(), Trouble> {
+    let mut scene = Scene::new(alloc, program);
+    let mut last = 0;
+    for line in lines {
+        last = line.number;
+        if let Err(trouble) = take_line(&mut scene, alloc, *line, number, names, report) {
+            return tell_trouble(trouble, last, report);
+        }
+    }
+    match scene.finish(report) {
+        Ok(()) => Ok(()),
+        Err(trouble) => tell_trouble(trouble, last, report),
+    }
+}
+
+// The calls of which each is to fail in turn, if a line says so.
+fn calls_of(lines: &[Line<'_>]) -> Result<(u64, u64), Trouble> {
+    for line in lines {
+        if let Some(rest) = line.text.strip_prefix("each ") {
+            let each = each_of(rest)?;
+            return Ok((each.first, each.last.min(1000)));
+        }
+    }
+    Ok((1, 1))
+}
+
+// Plays a scenario as often as it says.
+fn play_scenario<P: Program>(
+    alloc: Global,
+    program: &P,
+    file: &str,
+    name: &str,
+    lines: &[Line<'_>],
+    names: &Names,
+    report: &mut Report,
+) -> Result<(), Trouble> {
+    let (first, last) = calls_of(lines)?;
+    for number in first..last.saturating_add(1) {
+        play_lines(alloc, program, lines, number, names, report)?;
+    }
+    report.end(file, name)
+}
+
+// What is read of a file: the names, and the lines of the scenario that is being read.
+#[derive(Drop)]
+struct Reader<'t> {
+    names: Names,
+    title: Option<&'t str>,
+    lines: Vec<Line<'t>>,
+}
+
+impl<'t> Reader<'t> {
+    fn end_scenario<P: Program>(
+        &mut self,
+        alloc: Global,
+        program: &P,
+        file: &str,
+        report: &mut Report,
+    ) -> Result<(), Trouble> {
+        if let Some(title) = self.title {
+            play_scenario(
+                alloc,
+                program,
+                file,
+                title,
+                &self.lines,
+                &self.names,
+                report,
+            )?;
+        }
+        self.lines.clear();
+        Ok(())
+    }
+
+    fn take<P: Program>(
+        &mut self,
+        alloc: Global,
+        program: &P,
+        file: &str,
+        line: Line<'t>,
+        report: &mut Report,
+    ) -> Result<(), Trouble> {
+        if line.text.is_empty() || line.text.starts_with('#') {
+            return Ok(());
+        }
+        if let Some(title) = line.text.strip_prefix("== ") {
+            self.end_scenario(alloc, program, file, report)?;
+            self.title = Some(title);
+            return Ok(());
+        }
+        if let Some(rest) = line.text.strip_prefix("name ") {
+            return self.names.take(rest);
+        }
+        self.lines.push(line)?;
+        Ok(())
+    }
+}
+
+/// Plays all scenarios of a file's text.
+pub fn play_text<P: Program>(
+    alloc: Global,
+    program: &P,
+    file: &str,
+    text: &str,
+    report: &mut Report,
+) -> Result<(), Trouble> {
+    let mut reader = Reader {
+        names: Names::new(alloc),
+        title: None,
+        lines: Vec::new(alloc),
+    };
+    let mut number = 0_u64;
+    for text in text.lines() {
+        number = number.saturating_add(1);
+        reader.take(alloc, program, file, Line { number, text }, report)?;
+    }
+    reader.end_scenario(alloc, program, file, report)
+}
