@@ -49,6 +49,14 @@ impl Took {
     }
 }
 
+impl Took {
+    /// What came of marks that were still there in the end.
+    pub fn ended(&self, alloc: Global) -> Result<String, Trouble> {
+        let (removed, cleared) = (self.removed, self.cleared);
+        Ok(format!(in alloc; "removed {removed} cleared {cleared}")?)
+    }
+}
+
 /// How many turns come before each line, or those up to the next scan.
 #[derive(Clone, Copy)]
 pub enum Beside {

@@ -217,8 +217,11 @@ fn play_images<P: Program>(
     let last = end.saturating_sub(1);
     let first = if images.is_last { last } else { before };
     for moment in first..end {
-        let at = (moment.saturating_sub(before), moment, end);
-        play_moment(program, stage, block, images, at, report)?;
+        let step = moment.saturating_sub(before);
+        if step % images.every.max(1) == 0 || moment == last {
+            let at = (step, moment, end);
+            play_moment(program, stage, block, images, at, report)?;
+        }
     }
     Ok(())
 }
