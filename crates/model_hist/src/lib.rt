@@ -4,7 +4,5 @@
 
 mod finds;
 mod reading;
-#[cfg(test)]
-mod tests;
 
 pub use finds::{cold, copies};
