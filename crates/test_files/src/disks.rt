@@ -1,4 +1,5 @@
-use super::*;
+// Disks over files, over one that was cut, and over one whose calls are short, are interrupted or fail.
+use disk_file::FileDisk;
 use disk_model::{Disk, DiskFault};
 use std::cell::Cell;
 use std::fs::{File, Metadata, OpenFile, OpenOptions};

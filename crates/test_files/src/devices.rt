@@ -1,7 +1,7 @@
-use super::*;
+// Devices that are opened and made, and what can't be one.
+use disk_file::{OpenFault, Watch, fill_standard, make_device, open_device};
 use disk_model::Disk;
 use std::fs;
-use std::fs::File;
 use std::test::Fail;
 
 const MIB: u64 = 1 << 20;
