@@ -5,5 +5,3 @@
 mod devices;
 #[cfg(test)]
 mod disks;
-#[cfg(test)]
-mod making;
