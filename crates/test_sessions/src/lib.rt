@@ -1,5 +1,7 @@
-//! Tests of sessions that no run of the program has: one that ends at a small limit, and one over a store that halts of itself.
+//! Tests of what no run of the program does: a session with a small limit, one over a store that halts, and lines printed of commands.
 #![tactic(auto)]
 
 #[cfg(test)]
-mod tests;
+mod commands;
+#[cfg(test)]
+mod sessions;

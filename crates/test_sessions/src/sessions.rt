@@ -1,3 +1,4 @@
+// Sessions that no run has: one that ends at a small limit, and one over a store that halts of itself.
 use io_traits::{Both, ListClock, TextSink, TextSource};
 use line_proto::{Command, Reply, Store};
 use node_session::{Ended, session};
