@@ -26,6 +26,14 @@ impl<'a, L: Ends, E: Eprint + IsTerminal + Drop> Cleared<'a, L, E> {
     {
         Cleared { link, progress }
     }
+
+    /// The link below.
+    pub fn into_link(self) -> L
+        ensures { result ≡ self.entry }
+    {
+        let Cleared { link, .. } = self;
+        link
+    }
 }
 
 impl<'a, L: Ends, E: Eprint + IsTerminal + Drop> Ends for Cleared<'a, L, E> {

@@ -30,6 +30,14 @@ impl<'a, D: Disk, E: Eprint + IsTerminal + Drop> Watched<'a, D, E> {
         Watched { disk, progress }
     }
 
+    /// The disk below.
+    pub fn into_disk(self) -> D
+        ensures { result ≡ self.entry }
+    {
+        let Watched { disk, .. } = self;
+        disk
+    }
+
     // Tells a call that went well over so many bytes from a place on.
     fn tell(&self, what: &'static str, place: u64, count: usize) {
         if !self.progress.has_begun() {

@@ -1,9 +1,10 @@
 // Starts of a scenario: the program over its disks, or over each image of one of them.
 use crate::program::{Ending, Program};
 use crate::raw::shown;
+use crate::slow::Slow;
 use crate::stage::{Images, Stage};
 use disk_model::MemDisk;
-use scenario_text::{Block, Report, Row, Trouble};
+use scenario_text::{Block, Pick, Report, Row, Trouble};
 use std::alloc::Global;
 
 // The disks of these names leave the stage.
@@ -30,6 +31,7 @@ fn compare_first(
     report: &mut Report,
     alloc: Global,
 ) -> Result<(), Trouble> {
+    report.count_lines(&ending.text);
     match block.rows.first() {
         Some(row) => report.compare(row, "", &ending.text, ending.end.as_str()),
         None => {
@@ -50,25 +52,85 @@ fn play_once<P: Program>(
     let disks = lend_all(stage, names)?;
     let ending = program.start(stage.alloc, &block.words, disks, &stage.around)?;
     compare_first(block, &ending, report, stage.alloc)?;
+    stage
+        .past
+        .go_on(&block.words, &stage.around.input, &ending)?;
     put_all_back(stage, names, ending.disks)
 }
 
+// Where an image is of: a moment, counted from the one before the last start, whether it is the last one, and the pick.
+#[derive(Clone, Copy)]
+struct At {
+    step: u64,
+    moment: u64,
+    end: u64,
+    pick: Pick,
+}
+
+impl At {
+    fn is_last(&self) -> bool {
+        self.end <= self.moment.saturating_add(1)
+    }
+
+    fn place(&self, alloc: Global) -> Result<String, Trouble> {
+        let step = self.step;
+        match self.pick {
+            Pick::Writes(u64::MAX) => Ok(format!(in alloc; " at {step} pick all")?),
+            Pick::Writes(pick) => Ok(format!(in alloc; " at {step} pick {pick}")?),
+            Pick::Torn(count) => Ok(format!(in alloc; " at {step} pick torn{count}")?),
+        }
+    }
+}
+
 // The row of a moment and a pick, if there is one.
-fn row_of(block: &Block, (step, is_last, pick): (u64, bool, u64)) -> Option<&Row> {
-    block.rows.iter().find(|row| row.is_of(step, is_last, pick))
+fn row_of<'b>(block: &'b Block, at: &At) -> Option<&'b Row> {
+    block
+        .rows
+        .iter()
+        .find(|row| row.is_of(at.step, at.is_last(), at.pick))
+}
+
+// Compares what a start over an image showed with what the lines before allow.
+fn compare_allowed(
+    stage: &Stage,
+    images: &Images,
+    names: &[String],
+    row: &Row,
+    at: &At,
+    ending: &Ending,
+    report: &mut Report,
+) -> Result<(), Trouble> {
+    let alloc = stage.alloc;
+    let place = at.place(alloc)?;
+    let mut disk = 0_usize;
+    for name in names {
+        if name.as_str() == images.name.as_str() {
+            let crashed = stage.past.crashed(disk, names.len(), at.moment, at.end)?;
+            let input = stage.around.input.as_slice();
+            return crashed.compare(alloc, row, place.as_str(), input, ending, report);
+        }
+        disk = disk.saturating_add(1);
+    }
+    Err(Trouble::Line("the program doesn't have that disk"))
 }
 
 // Compares what came of a start over an image with the row that tells of it.
 fn compare_image(
+    stage: &Stage,
+    images: &Images,
+    names: &[String],
     block: &Block,
-    at: (u64, bool, u64),
+    at: &At,
     ending: &Ending,
     report: &mut Report,
-    alloc: Global,
 ) -> Result<(), Trouble> {
-    let (step, _, pick) = at;
-    let place = format!(in alloc; " at {step} pick {pick}")?;
+    let place = at.place(stage.alloc)?;
+    report.count_image();
+    report.count_lines(&ending.text);
     match row_of(block, at) {
+        Some(row) if row.is_allowed => {
+            compare_allowed(stage, images, names, row, at, ending, report)
+        }
         Some(row) => report.compare(row, place.as_str(), &ending.text, ending.end.as_str()),
         None => report.tell(block.number, place.as_str(), "a row", "none"),
     }
@@ -79,12 +141,12 @@ fn image_disks(
     stage: &mut Stage,
     names: &[String],
     crashed: &str,
-    (moment, pick): (u64, u64),
+    at: &At,
 ) -> Result<Vec<MemDisk>, Trouble> {
     let mut disks = Vec::new(stage.alloc);
     for name in names {
         let disk = if name.as_str() == crashed {
-            stage.image(crashed, moment, pick)?
+            stage.image(crashed, at.moment, at.pick)?
         } else {
             stage.copy(name.as_str())?
         };
@@ -93,19 +155,26 @@ fn image_disks(
     Ok(disks)
 }
 
-// A start over these disks, one of which is an image.
-fn play_image<P: Program>(
+// Whether it serves lines.
+fn serves(words: &[String]) -> bool {
+    begins(words, "run") || begins(words, "device")
+}
+
+// Compares what a start over images shows of each digest with what the slow forms of the model read of them.
+fn compare_slowly<P: Program>(
     program: &P,
     stage: &Stage,
     block: &Block,
-    disks: Vec<MemDisk>,
-    at: (u64, bool, u64),
+    mut disks: Vec<MemDisk>,
+    at: &At,
     report: &mut Report,
 ) -> Result<(), Trouble> {
     let alloc = stage.alloc;
-    let ending = program.start(alloc, &block.words, disks, &stage.around)?;
-    report.count_image();
-    compare_image(block, at, &ending, report, alloc)
+    let slow = Slow::of(alloc, &mut disks)?;
+    let around = slow.around(alloc)?;
+    let ending = program.start(alloc, &block.words, disks, &around)?;
+    let place = at.place(alloc)?;
+    slow.compare(alloc, block.number, place.as_str(), &ending, report)
 }
 
 // A start over each chosen image of a moment.
@@ -114,13 +183,24 @@ fn play_moment<P: Program>(
     stage: &mut Stage,
     block: &Block,
     images: &Images,
-    (step, moment, is_last): (u64, u64, bool),
+    (step, moment, end): (u64, u64, u64),
     report: &mut Report,
 ) -> Result<(), Trouble> {
+    let names = program.names(&block.words);
     for pick in &images.picks {
-        let names = program.names(&block.words);
-        let disks = image_disks(stage, names, images.name.as_str(), (moment, *pick))?;
-        play_image(program, stage, block, disks, (step, is_last, *pick), report)?;
+        let at = At {
+            step,
+            moment,
+            end,
+            pick: *pick,
+        };
+        if serves(&block.words) {
+            let disks = image_disks(stage, names, images.name.as_str(), &at)?;
+            compare_slowly(program, stage, block, disks, &at, report)?;
+        }
+        let disks = image_disks(stage, names, images.name.as_str(), &at)?;
+        let ending = program.start(stage.alloc, &block.words, disks, &stage.around)?;
+        compare_image(stage, images, names, block, &at, &ending, report)?;
     }
     Ok(())
 }
@@ -137,7 +217,7 @@ fn play_images<P: Program>(
     let last = end.saturating_sub(1);
     let first = if images.is_last { last } else { before };
     for moment in first..end {
-        let at = (moment.saturating_sub(before), moment, moment == last);
+        let at = (moment.saturating_sub(before), moment, end);
         play_moment(program, stage, block, images, at, report)?;
     }
     Ok(())

@@ -25,6 +25,15 @@ fn too_much() -> Trouble {
     Trouble::Line("the disk has no such place")
 }
 
+/// All bytes of a disk.
+pub fn bytes_of(alloc: Global, disk: &mut MemDisk) -> Result<Vec<u8>, Trouble> {
+    let mut bytes = vec![in alloc; 0; disk.len() as usize]?;
+    match disk.read_at(0, &mut bytes) {
+        Ok(()) => Ok(bytes),
+        Err(_) => Err(Trouble::Line("a disk can't be read")),
+    }
+}
+
 /// Writes bytes that are within the disk, and syncs it.
 pub fn write(disk: &mut MemDisk, place: u64, bytes: &[u8]) -> Result<(), Trouble> {
     let count = bytes.len() as u64;

@@ -6,10 +6,28 @@ use scenario_text::{Block, Names, Report, Trouble};
 use std::alloc::Global;
 use std::mem;
 
+// A line of a file, and the number of its round, if it stands in rounds.
 #[derive(Clone, Copy)]
 struct Line<'t> {
     number: u64,
     text: &'t str,
+    round: Option<u8>,
+}
+
+// A line with the number of its round, as two digits in hex, for each `#`, and with the value for which its scenario is played for each `%`.
+fn written_out(alloc: Global, line: Line<'_>, value: Option<u64>) -> Result<String, Trouble> {
+    let mut text = String::new(alloc);
+    for letter in line.text.chars() {
+        match (letter, line.round, value) {
+            ('#', Some(round), _) => text.push_str(hex::encode(
+                alloc,
+                [round].as_slice(),
+            )?.as_str())?,
+            ('%', _, Some(value)) => text.push_str(format!(in alloc; "{value}")?.as_str())?,
+            _ => text.push(letter)?,
+        }
+    }
+    Ok(text)
 }
 
 // A scenario that is being played.
@@ -95,7 +113,8 @@ impl<'p, P: Program> Scene<'p, P> {
     }
 }
 
-// `each DISK CALL A-B`: the scenario is played once for each of these calls, which fails.
+// `each DISK CALL A-B`: the scenario is played once for each of these calls, which fails. `each value A-B`: it is played once for each of
+// these values.
 #[derive(Clone, Copy)]
 struct Each<'t> {
     call: &'t str,
@@ -111,7 +130,13 @@ fn each_of(rest: &str) -> Result<Each<'_>, Trouble> {
     {
         return Ok(Each { call, first, last });
     }
-    Err(Trouble::Line("it is each DISK CALL A-B"))
+    Err(Trouble::Line("it is each DISK CALL A-B, or each value A-B"))
+}
+
+impl Each<'_> {
+    fn is_of_values(&self) -> bool {
+        self.call == "value"
+    }
 }
 
 // Tells why a scenario isn't played beyond a line.
@@ -122,33 +147,45 @@ fn tell_trouble(trouble: Trouble, number: u64, report: &mut Report) -> Result<()
     }
 }
 
-// Takes up a line of a scenario, where one that begins with `each` is a call that fails.
+// For which call or value a scenario is played.
+#[derive(Clone, Copy)]
+struct Turn {
+    number: u64,
+    value: Option<u64>,
+}
+
+// Takes up a line of a scenario, where one that begins with `each` is a call that fails, or nothing.
 fn take_line<P: Program>(
     scene: &mut Scene<'_, P>,
     alloc: Global,
     line: Line<'_>,
-    number: u64,
+    turn: Turn,
     names: &Names,
     report: &mut Report,
 ) -> Result<(), Trouble> {
-    let Some(rest) = line.text.strip_prefix("each ") else {
-        return scene.take(line, names, report);
-    };
-    let call = each_of(rest)?.call;
-    let text = format!(in alloc; "fail {call} {number}")?;
-    let failing = Line {
+    let mut text = written_out(alloc, line, turn.value)?;
+    if let Some(rest) = line.text.strip_prefix("each ") {
+        let each = each_of(rest)?;
+        if each.is_of_values() {
+            return Ok(());
+        }
+        let (call, number) = (each.call, turn.number);
+        text = format!(in alloc; "fail {call} {number}")?;
+    }
+    let written = Line {
         number: line.number,
         text: text.as_str(),
+        round: None,
     };
-    scene.take(failing, names, report)
+    scene.take(written, names, report)
 }
 
-// Plays the lines of a scenario, where a line that begins with `each` is a call that fails.
+// Plays the lines of a scenario once.
 fn play_lines<P: Program>(
     alloc: Global,
     program: &P,
     lines: &[Line<'_>],
-    number: u64,
+    turn: Turn,
     names: &Names,
     report: &mut Report,
 ) -> Result<(), Trouble> {
@@ -156,7 +193,7 @@ fn play_lines<P: Program>(
     let mut last = 0;
     for line in lines {
         last = line.number;
-        if let Err(trouble) = take_line(&mut scene, alloc, *line, number, names, report) {
+        if let Err(trouble) = take_line(&mut scene, alloc, *line, turn, names, report) {
             return tell_trouble(trouble, last, report);
         }
     }
@@ -166,15 +203,15 @@ fn play_lines<P: Program>(
     }
 }
 
-// The calls of which each is to fail in turn, if a line says so.
-fn calls_of(lines: &[Line<'_>]) -> Result<(u64, u64), Trouble> {
+// The calls of which each is to fail in turn, or the values, if a line says so.
+fn turns_of(lines: &[Line<'_>]) -> Result<(u64, u64, bool), Trouble> {
     for line in lines {
         if let Some(rest) = line.text.strip_prefix("each ") {
             let each = each_of(rest)?;
-            return Ok((each.first, each.last.min(1000)));
+            return Ok((each.first, each.last.min(1000), each.is_of_values()));
         }
     }
-    Ok((1, 1))
+    Ok((1, 1, false))
 }
 
 // Plays a scenario as often as it says.
@@ -187,9 +224,10 @@ fn play_scenario<P: Program>(
     names: &Names,
     report: &mut Report,
 ) -> Result<(), Trouble> {
-    let (first, last) = calls_of(lines)?;
+    let (first, last, has_values) = turns_of(lines)?;
     for number in first..last.saturating_add(1) {
-        play_lines(alloc, program, lines, number, names, report)?;
+        let value = if has_values { Some(number) } else { None };
+        play_lines(alloc, program, lines, Turn { number, value }, names, report)?;
     }
     report.end(file, name)
 }
@@ -200,9 +238,65 @@ struct Reader<'t> {
     names: Names,
     title: Option<&'t str>,
     lines: Vec<Line<'t>>,
+    rounds: Option<Rounds<'t>>,
+}
+
+// Lines that stand in rounds from one number to another, up to the line `end`.
+#[derive(Drop)]
+struct Rounds<'t> {
+    first: u8,
+    last: u8,
+    lines: Vec<Line<'t>>,
+}
+
+impl<'t> Rounds<'t> {
+    // `A-B`.
+    fn of(alloc: Global, numbers: &str) -> Result<Rounds<'t>, Trouble> {
+        if let Some((first, last)) = numbers.split_once('-')
+            && let Ok(first) = first.parse::<u8>()
+            && let Ok(last) = last.parse::<u8>()
+        {
+            return Ok(Rounds {
+                first,
+                last,
+                lines: Vec::new(alloc),
+            });
+        }
+        Err(Trouble::Line("it is rounds A-B"))
+    }
+
+    fn write(&self, lines: &mut Vec<Line<'t>>) -> Result<(), Trouble> {
+        for round in self.first..=self.last {
+            for line in &self.lines {
+                lines.push(Line {
+                    round: Some(round),
+                    ..*line
+                })?;
+            }
+        }
+        Ok(())
+    }
 }
 
 impl<'t> Reader<'t> {
+    // Takes up a line of a scenario, or of its rounds.
+    fn add(&mut self, alloc: Global, line: Line<'t>) -> Result<(), Trouble> {
+        if let Some(numbers) = line.text.strip_prefix("rounds ") {
+            self.rounds = Some(Rounds::of(alloc, numbers)?);
+            return Ok(());
+        }
+        let Some(mut rounds) = mem::replace(&mut self.rounds, None) else {
+            self.lines.push(line)?;
+            return Ok(());
+        };
+        if line.text == "end" {
+            return rounds.write(&mut self.lines);
+        }
+        rounds.lines.push(line)?;
+        self.rounds = Some(rounds);
+        Ok(())
+    }
+
     fn end_scenario<P: Program>(
         &mut self,
         alloc: Global,
@@ -244,8 +338,7 @@ impl<'t> Reader<'t> {
         if let Some(rest) = line.text.strip_prefix("name ") {
             return self.names.take(rest);
         }
-        self.lines.push(line)?;
-        Ok(())
+        self.add(alloc, line)
     }
 }
 
@@ -261,11 +354,17 @@ pub fn play_text<P: Program>(
         names: Names::new(alloc),
         title: None,
         lines: Vec::new(alloc),
+        rounds: None,
     };
     let mut number = 0_u64;
     for text in text.lines() {
         number = number.saturating_add(1);
-        reader.take(alloc, program, file, Line { number, text }, report)?;
+        let line = Line {
+            number,
+            text,
+            round: None,
+        };
+        reader.take(alloc, program, file, line, report)?;
     }
     reader.end_scenario(alloc, program, file, report)
 }

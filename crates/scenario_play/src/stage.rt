@@ -1,8 +1,10 @@
 // The disks of a scenario, and what is to happen to them.
+use crate::course::Past;
 use crate::program::Around;
 use crate::raw::{OpenBlock, write_hex};
+use crate::torn::torn_image;
 use disk_model::{Disk, DiskCall, MemDisk};
-use scenario_text::{Block, Trouble, pick_of};
+use scenario_text::{Block, Pick, Trouble, pick_of};
 use std::alloc::Global;
 use std::mem;
 
@@ -21,7 +23,7 @@ pub struct Images {
     pub name: String,
     /// Whether those of the last moment alone.
     pub is_last: bool,
-    pub picks: Vec<u64>,
+    pub picks: Vec<Pick>,
 }
 
 #[derive(Drop)]
@@ -29,6 +31,8 @@ pub struct Stage {
     pub alloc: Global,
     disks: Vec<Named>,
     pub around: Around,
+    /// What the starts so far told of digests.
+    pub past: Past,
     images: Option<Images>,
     open: Option<OpenBlock>,
 }
@@ -94,12 +98,8 @@ impl Stage {
         Stage {
             alloc,
             disks: Vec::new(alloc),
-            around: Around {
-                input: Vec::new(alloc),
-                source_fails: Vec::new(alloc),
-                sink_fails: Vec::new(alloc),
-                times: Vec::new(alloc),
-            },
+            around: Around::new(alloc),
+            past: Past::new(alloc),
             images: None,
             open: None,
         }
@@ -159,6 +159,9 @@ impl Stage {
     pub fn started(&mut self) {
         self.around.source_fails.clear();
         self.around.sink_fails.clear();
+        self.around.piece = usize::MAX;
+        self.around.shows_link = false;
+        self.around.has_terminal = false;
     }
 
     pub fn take_images(&mut self) -> Option<Images> {
@@ -183,12 +186,16 @@ impl Stage {
     }
 
     /// A new disk with what a crash at a moment might have left.
-    pub fn image(&mut self, name: &str, moment: u64, pick: u64) -> Result<MemDisk, Trouble> {
+    pub fn image(&mut self, name: &str, moment: u64, pick: Pick) -> Result<MemDisk, Trouble> {
+        let alloc = self.alloc;
         let disk = self.disk(name)?;
         if moment >= disk.moments() {
             return Err(Trouble::Line("the disk has no such moment"));
         }
-        Ok(disk.image(moment, pick)?)
+        match pick {
+            Pick::Writes(pick) => Ok(disk.image(moment, pick)?),
+            Pick::Torn(count) => torn_image(alloc, disk, moment, count),
+        }
     }
 
     /// A call of a disk, of the source or of the sink that is to fail.
@@ -290,6 +297,18 @@ impl Stage {
                 Ok(())
             }
             "bytes" => self.write_bytes(rest),
+            "pieces" => {
+                self.around.piece = number_of(rest)?.clamp(1, 1 << 30) as usize;
+                Ok(())
+            }
+            "writes" => {
+                self.around.shows_link = true;
+                Ok(())
+            }
+            "terminal" => {
+                self.around.has_terminal = true;
+                Ok(())
+            }
             "images" => self.choose_images(rest),
             "block" => self.open_block(rest),
             "record" => self.add_record(rest),

@@ -1,13 +1,15 @@
 //! Worked examples: files of scenarios are played over disks in memory, and told whether all came out as written.
 #![tactic(auto)]
 
+mod link;
 mod served;
+mod terminal;
 
 use crate::served::start;
-use scenario_device::{CallTrouble, serve_device};
 use disk_model::MemDisk;
 use node_words::read_words;
-use scenario_play::{Around, Ending, Program, play_text};
+use scenario_device::serve_device;
+use scenario_play::{Around, Ending, Notes, Program, play_text};
 use scenario_text::{Report, Trouble};
 use std::alloc::Global;
 use std::env::args;
@@ -24,21 +26,18 @@ fn call_device(
     mut disks: Vec<MemDisk>,
     around: &Around,
 ) -> Result<Ending, Trouble> {
+    let notes = Notes::new(alloc, &disks)?;
     let Some(disk) = disks.pop() else {
         return Err(Trouble::Line("which device?"));
     };
-    match serve_device(alloc, words, disk, &around.input) {
-        Ok((disk, text)) => {
-            disks.push(disk)?;
-            Ok(Ending {
-                end: String::from_str(alloc, "= 0")?,
-                text,
-                disks,
-            })
-        }
-        Err(CallTrouble::Memory) => Err(Trouble::Memory),
-        Err(CallTrouble::Line(why)) => Err(Trouble::Line(why)),
-    }
+    let (disk, text) = serve_device(alloc, words, disk, &notes, &around.input)?;
+    disks.push(disk)?;
+    Ok(Ending {
+        end: String::from_str(alloc, "= 0")?,
+        text,
+        disks,
+        begun: notes.into_begun(),
+    })
 }
 
 fn is_device(words: &[String]) -> bool {

@@ -3,15 +3,17 @@ ghost use Rattle.std.specs.Prelude.{◌≡◌, List, ℕ, length, map, string_by
 ghost use Rattle.node_words.specs.Words.{Asks};
 ghost use Rattle.node_words.specs.declared.job.Job.{Job};
 
-use disk_model::MemDisk;
-use io_traits::{Both, ListClock, TextSink, TextSource};
+use crate::link::Link;
+use crate::terminal::{Screen, ScreenStream};
+use disk_model::{Disk, MemDisk};
+use io_traits::{Clock, ListClock, Sink, Source};
+use node_gen::lines_of;
 use node_jobs::{Outcome, node_top};
-use node_words::read_words;
-use scenario_play::{Around, Ending};
+use node_progress::{Cleared, CountedClock, Progress, Watched};
+use node_words::{Job, read_words};
+use scenario_play::{Around, Ending, Noted, NotedClock, Notes};
 use scenario_text::Trouble;
 use std::alloc::Global;
-
-pub type Link = Both<TextSource, TextSink>;
 
 // Whether the words name so many devices, or ask for nothing.
 fn names_so_many(words: &[String], count: usize) -> bool
@@ -24,13 +26,13 @@ fn names_so_many(words: &[String], count: usize) -> bool
 }
 
 // The program with these words.
-fn top(
+fn top<D: Disk, L: Source + Sink, C: Clock>(
     alloc: Global,
     words: &[String],
-    disks: Vec<MemDisk>,
-    link: &mut Link,
-    clock: &mut ListClock,
-) -> Result<Outcome<MemDisk>, Trouble> {
+    disks: Vec<D>,
+    link: &mut L,
+    clock: &mut C,
+) -> Result<Outcome<D>, Trouble> {
     if !names_so_many(words, disks.len()) {
         return Err(Trouble::Line("there are more disks, or fewer"));
     }
@@ -57,14 +59,119 @@ pub fn end_of(alloc: Global, status: u8, note: &str) -> Result<String, Trouble> 
     }
 }
 
-fn link_of(alloc: Global, around: &Around) -> Result<Link, Trouble> {
-    Ok(Both {
-        source: TextSource::new(
-            around.input.to_vec(alloc)?,
-            around.source_fails.to_vec(alloc)?,
-        ),
-        sink: TextSink::new(alloc, around.sink_fails.to_vec(alloc)?),
+// The disks, whose moments are noted.
+fn noted(
+    alloc: Global,
+    disks: Vec<MemDisk>,
+    notes: &Notes,
+) -> Result<Vec<Noted<'_, MemDisk>>, Trouble> {
+    let mut all = Vec::new(alloc);
+    let mut place = 0_usize;
+    for disk in disks {
+        all.push(Noted::new(disk, place, notes))?;
+        place = place.saturating_add(1);
+    }
+    Ok(all)
+}
+
+// The disks without their notes.
+fn plain(alloc: Global, disks: Vec<Noted<'_, MemDisk>>) -> Result<Vec<MemDisk>, Trouble> {
+    let mut all = Vec::new(alloc);
+    for disk in disks {
+        all.push(disk.into_disk())?;
+    }
+    Ok(all)
+}
+
+// What came of a start: how it ended, and its disks.
+#[derive(Drop)]
+struct Came<'n> {
+    end: String,
+    text: Vec<u8>,
+    disks: Vec<Noted<'n, MemDisk>>,
+}
+
+// Where standard error is no terminal.
+fn start_plainly<'n>(
+    alloc: Global,
+    words: &[String],
+    disks: Vec<Noted<'n, MemDisk>>,
+    around: &Around,
+    notes: &'n Notes,
+) -> Result<Came<'n>, Trouble> {
+    let mut clock = NotedClock::new(clock_of(alloc, &around.times)?, notes);
+    let mut link = Link::new(alloc, around)?;
+    let outcome = top(alloc, words, disks, &mut link, &mut clock)?;
+    Ok(Came {
+        end: end_of(alloc, outcome.status, outcome.note.as_str())?,
+        text: link.into_shown(),
+        disks: outcome.disks,
     })
+}
+
+// How many lines are served, where the words tell that.
+fn lines_asked(words: &[String]) -> Option<u64> {
+    match read_words(words)?.job {
+        Job::Generate { count, .. } => Some(lines_of(count)),
+        Job::Format(_) | Job::Run(_) | Job::Check => None,
+    }
+}
+
+type Shown<'s> = Progress<ScreenStream<'s>>;
+
+// The disks, which tell a terminal how far their calls are.
+fn watched<'p, 'n, 's>(
+    alloc: Global,
+    disks: Vec<Noted<'n, MemDisk>>,
+    progress: &'p Shown<'s>,
+) -> Result<Vec<Watched<'p, Noted<'n, MemDisk>, ScreenStream<'s>>>, Trouble> {
+    let mut all = Vec::new(alloc);
+    for disk in disks {
+        all.push(Watched::new(disk, progress))?;
+    }
+    Ok(all)
+}
+
+// Where standard error is this terminal.
+fn start_shown<'n>(
+    alloc: Global,
+    words: &[String],
+    disks: Vec<Noted<'n, MemDisk>>,
+    around: &Around,
+    notes: &'n Notes,
+    progress: &Shown<'_>,
+) -> Result<Came<'n>, Trouble> {
+    let clock = NotedClock::new(clock_of(alloc, &around.times)?, notes);
+    let mut clock = CountedClock::new(clock, progress, lines_asked(words));
+    let mut link = Cleared::new(Link::new(alloc, around)?, progress);
+    let disks = watched(alloc, disks, progress)?;
+    let outcome = top(alloc, words, disks, &mut link, &mut clock)?;
+    progress.end();
+    let mut plain = Vec::new(alloc);
+    for disk in outcome.disks {
+        plain.push(disk.into_disk())?;
+    }
+    Ok(Came {
+        end: end_of(alloc, outcome.status, outcome.note.as_str())?,
+        text: link.into_link().into_shown(),
+        disks: plain,
+    })
+}
+
+// So it is, and what the terminal showed stands behind what was written.
+fn start_on_terminal<'n>(
+    alloc: Global,
+    words: &[String],
+    disks: Vec<Noted<'n, MemDisk>>,
+    around: &Around,
+    notes: &'n Notes,
+) -> Result<Came<'n>, Trouble> {
+    let screen = Screen::new(alloc);
+    let progress = Progress::new(screen.stream());
+    let mut came = start_shown(alloc, words, disks, around, notes, &progress)?;
+    drop(progress);
+    screen.tell(&mut came.text)?;
+    Ok(came)
 }
 
 /// Starts the program with these words over these disks.
@@ -74,12 +181,18 @@ pub fn start(
     disks: Vec<MemDisk>,
     around: &Around,
 ) -> Result<Ending, Trouble> {
-    let mut clock = clock_of(alloc, &around.times)?;
-    let mut link = link_of(alloc, around)?;
-    let outcome = top(alloc, words, disks, &mut link, &mut clock)?;
+    let notes = Notes::new(alloc, &disks)?;
+    let disks = noted(alloc, disks, &notes)?;
+    let Came { end, text, disks } = if around.has_terminal {
+        start_on_terminal(alloc, words, disks, around, &notes)?
+    } else {
+        start_plainly(alloc, words, disks, around, &notes)?
+    };
+    let disks = plain(alloc, disks)?;
     Ok(Ending {
-        end: end_of(alloc, outcome.status, outcome.note.as_str())?,
-        text: link.sink.written().to_vec(alloc)?,
-        disks: outcome.disks,
+        end,
+        text,
+        disks,
+        begun: notes.into_begun(),
     })
 }
