@@ -1,8 +1,8 @@
 use Rattle.std.proofs.Common.{ap, arith}
 use Rattle.turn_table.specs.Rule.{events}
 use Rattle.turn_table.specs.Passes.{seen, view}
-use Rattle.turn_table.proofs.Adding.{added, kept, total-push}
-use Rattle.turn_table.proofs.tests.add.Goals as goal
+use Rattle.test_threads.proofs.Adding.{added, kept, total-push}
+use Rattle.test_threads.proofs.tests.counters.add.Goals as goal
 
 pub give_hub-requires-clause-fits : goal.give_hub-requires-clause-fits
 give_hub-requires-clause-fits g c =

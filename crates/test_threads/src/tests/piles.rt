@@ -1,9 +1,9 @@
 ghost use Rattle.std.specs.Prelude.{◌≡◌, ◌+◌, ◌^◌, IfOk, vec_len};
 ghost use Rattle.turn_table.specs.Passes.{HoldsNothing, IsPassOf, own_count, joined_count, part_count};
 
-use crate::{Log, Piles, count, open, push, try_len};
 use std::alloc::Global;
 use std::test::Fail;
+use table_trial::{Log, Piles, count, open, push, try_len};
 use turn_table::{NewRefusal, Pass, Table};
 
 // Ten values were counted before; the log and the first pile have a 7.

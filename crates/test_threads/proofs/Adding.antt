@@ -5,7 +5,7 @@ use Rattle.std.specs.Prelude.{IsSomeAnd}
 use Rattle.turn_table.specs.declared.rule.View.{View}
 use Rattle.turn_table.specs.Rule.{entry, events}
 use Rattle.turn_table.specs.Plays.{with_hub, with_event, without_hub, having_found_out}
-use Rattle.turn_table.specs.Counters.{total, amount_of}
+use Rattle.test_threads.specs.Counters.{total, amount_of}
 
 pub total-push : (es : List (ℕ × ℕ)) (e : ℕ × ℕ) → total (es ++ e ∷ []) ≡ total es + e.1
 total-push [] e = omega arith
