@@ -14,5 +14,5 @@ counts_of-requires g c =
 
 pub returns : goal.returns
 returns g c = λ node stands.
-    let shards = c.deref.ensures.value ∙ ap (λ (n : NodeView g.row.D.Denot). n.shards) (c.self.view_is ∙ stands.1.0) in
-    c.counts_of.ensures node (subst (λ (s : List (ShardView g.row.D.Denot)). Each (StandsOn g.D.Disk.view) s node) (sym shards) stands.1.1)
+    let shards = c.deref.ensures.value ∙ ap (λ (n : NodeView g.row.D.Denot). n.shards) (c.self.view_is ∙ stands.1) in
+    c.counts_of.ensures node (subst (λ (s : List (ShardView g.row.D.Denot)). Each (StandsOn g.D.Disk.view) s node) (sym shards) stands.2)
