@@ -83,6 +83,8 @@ pub struct Raids {
     handles: Vec<Raid>,
     pub beside: Beside,
     pub begins_in: Option<u64>,
+    /// How many milliseconds later than a line a turn comes.
+    pub later: u64,
     /// What all turns did since the last one began.
     pub took: Took,
 }
@@ -118,6 +120,7 @@ impl Raids {
             handles: Vec::new(alloc),
             beside: Beside::Turns(0),
             begins_in: None,
+            later: 0,
             took: Took::NOTHING,
         }
     }
