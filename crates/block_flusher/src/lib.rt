@@ -8,6 +8,3 @@ mod place;
 pub use body::write_body;
 pub use gates::{close_gate, open_gate};
 pub use place::start_of_block;
-
-#[cfg(test)]
-mod tests;

@@ -6,8 +6,6 @@ mod gate;
 mod geometry;
 mod head;
 mod header;
-#[cfg(test)]
-mod tests;
 
 pub use body::{MAX_BODY_BYTES, read_body};
 pub use gate::{GATE_BYTES, SECTOR_BYTES, is_open, write_closed, write_open};

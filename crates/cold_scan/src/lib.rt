@@ -5,8 +5,6 @@ mod bodies;
 mod device;
 mod gates;
 mod header;
-#[cfg(test)]
-mod tests;
 
 pub use bodies::Kept;
 pub use device::{Finding, StartRefusal, scan};

@@ -31,7 +31,7 @@ module _ {D : Type 0} (view : D → DiskView) (is_disk : (disk : D) → IsDisk (
   given_is : given ≡ disks_served olds
   given_is = stopped ∙ ap (λ (d : List D). disks_served olds ++ reverse d) (no_disks set a b olds refused disks none keeps) ∙ append-nil (disks_served olds)
 
-  as_many : n ≡ length olds
+  pub as_many : n ≡ length olds
   as_many = many ∙ ap length given_is ∙ length-map olds (λ s. s.shelf.disk)
 
   was : serving olds ≡ self

@@ -4,8 +4,6 @@
 
 mod links;
 mod queue;
-#[cfg(test)]
-mod tests;
 
 pub use queue::Queue;
 use std::alloc::AllocError;

@@ -4,8 +4,6 @@
 
 mod counts;
 mod device;
-#[cfg(test)]
-mod tests;
 
 pub use counts::DeviceCheck;
 pub use device::check_device;

@@ -3,12 +3,8 @@
 #![tactic(auto)]
 
 mod device_file;
-#[cfg(test)]
-mod device_tests;
 mod file_disk;
 mod standard;
-#[cfg(test)]
-mod tests;
 mod unsynced;
 mod watch;
 

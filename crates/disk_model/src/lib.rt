@@ -22,6 +22,3 @@ pub enum DiskCall {
     Write,
     Sync,
 }
-
-#[cfg(test)]
-mod tests;

@@ -10,9 +10,6 @@ ghost use Rattle.expiry_rule.specs.Seen.{seen_entry, expired_entry};
 
 use rec_format::{Entry, Kind};
 
-#[cfg(test)]
-mod tests;
-
 /// The void time of a put with this lifetime in seconds, written at the time `now`: a lifetime of 0
 /// has none.
 pub fn void_of(ttl: u32, now: u64) -> u64

@@ -5,8 +5,6 @@
 mod book;
 mod counts;
 mod search;
-#[cfg(test)]
-mod tests;
 
 pub use book::HoldBook;
 use std::alloc::AllocError;

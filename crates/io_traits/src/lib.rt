@@ -20,6 +20,3 @@ pub use traits::{Clock, Ends, Sink, SinkFault, Source, SourceFault};
 
 /// There was no memory for it.
 pub type NoMemory = AllocError;
-
-#[cfg(test)]
-mod tests;

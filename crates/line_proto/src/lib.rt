@@ -24,6 +24,3 @@ pub use store::Store;
 
 /// There was no memory for it.
 pub type NoMemory = AllocError;
-
-#[cfg(test)]
-mod tests;

@@ -1,10 +1,8 @@
-//! What a start finds in an image, in slow and plain forms. They go over a whole image in memory, and serve tests that
-//! compare; no part of the program uses them.
+//! What a start finds in an image, in slow and plain forms. They go over a whole image in memory and serve to compare; no
+//! part of the program uses them.
 #![tactic(auto)]
 
 mod finds;
 mod reading;
-#[cfg(test)]
-mod tests;
 
 pub use finds::{cold, copies};

@@ -15,6 +15,3 @@ pub use counts::ReplyCounts;
 pub use script::Script;
 pub use step::lines_of;
 pub use summary::Summary;
-
-#[cfg(test)]
-mod tests;

@@ -1,3 +1,4 @@
+pub mod Examples
 pub mod Counts
 pub mod Flushing
 pub mod ByParts

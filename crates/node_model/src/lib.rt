@@ -9,6 +9,3 @@ mod run_end;
 pub use note::Note;
 pub use report::Report;
 pub use run_end::{DeviceRefusal, RunEnd};
-
-#[cfg(test)]
-mod tests;

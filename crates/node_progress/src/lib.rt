@@ -5,8 +5,6 @@
 mod cleared;
 mod counted_clock;
 mod progress;
-#[cfg(test)]
-mod tests;
 mod watched;
 
 pub use cleared::Cleared;

@@ -11,6 +11,3 @@ mod turn;
 pub use ended::Ended;
 pub use input::session;
 pub use replies::send;
-
-#[cfg(test)]
-mod tests;

@@ -12,8 +12,6 @@ mod options;
 mod plan;
 mod request;
 mod table;
-#[cfg(test)]
-mod tests;
 
 pub use job::{Job, Shape, Tuning};
 pub use names::Names;

@@ -9,9 +9,6 @@ ghost use Rattle.partition_map.specs.Parts.{NamesOnePart, AllAreParts};
 
 use rec_format::Digest;
 
-#[cfg(test)]
-mod tests;
-
 /// The partitions of a namespace, as the Aerospike documentation has them.
 pub const PARTITIONS: u32 = 4096;
 

@@ -3,8 +3,6 @@
 #![tactic(auto)]
 
 mod cache;
-#[cfg(test)]
-mod tests;
 
 pub use cache::Cache;
 use std::alloc::AllocError;

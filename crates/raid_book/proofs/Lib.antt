@@ -4,3 +4,4 @@ pub mod Leasts
 pub mod Books
 pub mod Marks
 pub mod Standing
+pub mod Examples

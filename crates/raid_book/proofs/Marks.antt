@@ -1,5 +1,5 @@
 -- A book goes on to stand for a raid whose marks alone have changed.
-use Rattle.std.proofs.Common.{◌≡◌, ℕ, sym, subst}
+use Rattle.std.proofs.Common.{sym, subst}
 use Rattle.device_model.specs.Book.{Setup}
 use Rattle.device_model.specs.Device.{RaidState}
 use Rattle.raid_book.specs.Books.{BookState}

@@ -8,8 +8,6 @@ mod entry;
 mod fields;
 mod reading;
 mod stamps;
-#[cfg(test)]
-mod tests;
 mod version;
 mod writing;
 

@@ -49,6 +49,14 @@ impl Took {
     }
 }
 
+impl Took {
+    /// What came of marks that were still there in the end.
+    pub fn ended(&self, alloc: Global) -> Result<String, Trouble> {
+        let (removed, cleared) = (self.removed, self.cleared);
+        Ok(format!(in alloc; "removed {removed} cleared {cleared}")?)
+    }
+}
+
 /// How many turns come before each line, or those up to the next scan.
 #[derive(Clone, Copy)]
 pub enum Beside {
@@ -75,6 +83,8 @@ pub struct Raids {
     handles: Vec<Raid>,
     pub beside: Beside,
     pub begins_in: Option<u64>,
+    /// How many milliseconds later than a line a turn comes.
+    pub later: u64,
     /// What all turns did since the last one began.
     pub took: Took,
 }
@@ -110,6 +120,7 @@ impl Raids {
             handles: Vec::new(alloc),
             beside: Beside::Turns(0),
             begins_in: None,
+            later: 0,
             took: Took::NOTHING,
         }
     }

@@ -1,4 +1,5 @@
 // Starts of a scenario: the program over its disks, or over each image of one of them.
+use crate::disk_calls::DiskCalls;
 use crate::program::{Ending, Program};
 use crate::raw::shown;
 use crate::slow::Slow;
@@ -217,8 +218,11 @@ fn play_images<P: Program>(
     let last = end.saturating_sub(1);
     let first = if images.is_last { last } else { before };
     for moment in first..end {
-        let at = (moment.saturating_sub(before), moment, end);
-        play_moment(program, stage, block, images, at, report)?;
+        let step = moment.saturating_sub(before);
+        if step % images.every.max(1) == 0 || moment == last {
+            let at = (step, moment, end);
+            play_moment(program, stage, block, images, at, report)?;
+        }
     }
     Ok(())
 }
@@ -245,6 +249,19 @@ fn begins(words: &[String], word: &str) -> bool {
     }
 }
 
+// One start over the disks themselves, or one over each of the images that were chosen.
+fn play_start<P: Program>(
+    program: &P,
+    stage: &mut Stage,
+    block: &Block,
+    report: &mut Report,
+) -> Result<(), Trouble> {
+    match stage.take_images() {
+        Some(images) => play_images(program, stage, block, &images, report),
+        None => play_once(program, stage, block, report),
+    }
+}
+
 /// Plays a start.
 pub fn play<P: Program>(
     program: &P,
@@ -256,9 +273,10 @@ pub fn play<P: Program>(
         return play_bytes(stage, block, report);
     }
     stage.take_input(block);
-    let played = match stage.take_images() {
-        Some(images) => play_images(program, stage, block, &images, report),
-        None => play_once(program, stage, block, report),
+    let played = if begins(&block.words, "disk") {
+        play_start(&DiskCalls, stage, block, report)
+    } else {
+        play_start(program, stage, block, report)
     };
     stage.started();
     played

@@ -1,7 +1,7 @@
 // A file of scenarios, and the lines of each.
 use crate::play::play;
 use crate::program::Program;
-use crate::stage::Stage;
+use crate::stage::{Stage, number_of};
 use scenario_text::{Block, Names, Report, Trouble};
 use std::alloc::Global;
 use std::mem;
@@ -113,29 +113,47 @@ impl<'p, P: Program> Scene<'p, P> {
     }
 }
 
-// `each DISK CALL A-B`: the scenario is played once for each of these calls, which fails. `each value A-B`: it is played once for each of
-// these values.
+// `each DISK CALL NUMBERS`: the scenario is played once for each of these calls, which fails. `each value NUMBERS`: it is played once for each
+// of these values.
 #[derive(Clone, Copy)]
 struct Each<'t> {
     call: &'t str,
-    first: u64,
-    last: u64,
+    numbers: &'t str,
 }
 
 fn each_of(rest: &str) -> Result<Each<'_>, Trouble> {
-    if let Some((call, numbers)) = rest.rsplit_once(' ')
-        && let Some((first, last)) = numbers.split_once('-')
-        && let Ok(first) = first.parse::<u64>()
-        && let Ok(last) = last.parse::<u64>()
-    {
-        return Ok(Each { call, first, last });
+    if let Some(numbers) = rest.strip_prefix("value ") {
+        return Ok(Each {
+            call: "value",
+            numbers,
+        });
     }
-    Err(Trouble::Line("it is each DISK CALL A-B, or each value A-B"))
+    for kind in [" read ", " write ", " sync "] {
+        if let Some((_disk, numbers)) = rest.split_once(kind)
+            && let Some(call) = rest.strip_suffix(numbers)
+        {
+            return Ok(Each { call, numbers });
+        }
+    }
+    Err(Trouble::Line("it is each DISK CALL NUMBERS, or each value NUMBERS"))
 }
 
 impl Each<'_> {
     fn is_of_values(&self) -> bool {
         self.call == "value"
+    }
+
+    // Single numbers, and those from one to another as `A-B`, at most 1,000 of them.
+    fn push_numbers(&self, numbers: &mut Vec<u64>) -> Result<(), Trouble> {
+        for word in self.numbers.split(' ') {
+            let (first, last) = word.split_once('-').unwrap_or((word, word));
+            let first = number_of(first)?;
+            let last = number_of(last)?.min(first.saturating_add(999));
+            for number in first..last.saturating_add(1) {
+                numbers.push(number)?;
+            }
+        }
+        Ok(())
     }
 }
 
@@ -170,7 +188,7 @@ fn take_line<P: Program>(
             return Ok(());
         }
         let (call, number) = (each.call, turn.number);
-        text = format!(in alloc; "fail {call} {number}")?;
+        text = format!(in alloc; "fail {call}{number}")?;
     }
     let written = Line {
         number: line.number,
@@ -204,14 +222,17 @@ fn play_lines<P: Program>(
 }
 
 // The calls of which each is to fail in turn, or the values, if a line says so.
-fn turns_of(lines: &[Line<'_>]) -> Result<(u64, u64, bool), Trouble> {
+fn turns_of(alloc: Global, lines: &[Line<'_>]) -> Result<(Vec<u64>, bool), Trouble> {
+    let mut numbers = Vec::new(alloc);
     for line in lines {
         if let Some(rest) = line.text.strip_prefix("each ") {
             let each = each_of(rest)?;
-            return Ok((each.first, each.last.min(1000), each.is_of_values()));
+            each.push_numbers(&mut numbers)?;
+            return Ok((numbers, each.is_of_values()));
         }
     }
-    Ok((1, 1, false))
+    numbers.push(1)?;
+    Ok((numbers, false))
 }
 
 // Plays a scenario as often as it says.
@@ -224,8 +245,8 @@ fn play_scenario<P: Program>(
     names: &Names,
     report: &mut Report,
 ) -> Result<(), Trouble> {
-    let (first, last, has_values) = turns_of(lines)?;
-    for number in first..last.saturating_add(1) {
+    let (numbers, has_values) = turns_of(alloc, lines)?;
+    for number in numbers {
         let value = if has_values { Some(number) } else { None };
         play_lines(alloc, program, lines, Turn { number, value }, names, report)?;
     }

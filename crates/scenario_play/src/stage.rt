@@ -23,6 +23,8 @@ pub struct Images {
     pub name: String,
     /// Whether those of the last moment alone.
     pub is_last: bool,
+    /// Of how many moments each one is taken.
+    pub every: u64,
     pub picks: Vec<Pick>,
 }
 
@@ -240,6 +242,10 @@ impl Stage {
             Some(picks) => (true, picks),
             None => (false, rest),
         };
+        let (every, rest) = match rest.strip_prefix("every ") {
+            Some(rest) => rest.split_once(' ').unwrap_or((rest, "0")),
+            None => ("1", rest),
+        };
         let mut picks = Vec::new(self.alloc);
         for pick in rest.split(' ') {
             picks.push(pick_of(pick)?)?;
@@ -247,6 +253,7 @@ impl Stage {
         self.images = Some(Images {
             name: String::from_str(self.alloc, name)?,
             is_last,
+            every: number_of(every)?,
             picks,
         });
         Ok(())

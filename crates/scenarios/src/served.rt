@@ -85,27 +85,27 @@ fn plain(alloc: Global, disks: Vec<Noted<'_, MemDisk>>) -> Result<Vec<MemDisk>, 
 
 // What came of a start: how it ended, and its disks.
 #[derive(Drop)]
-struct Came<'n> {
+struct Came {
     end: String,
     text: Vec<u8>,
-    disks: Vec<Noted<'n, MemDisk>>,
+    disks: Vec<MemDisk>,
 }
 
 // Where standard error is no terminal.
-fn start_plainly<'n>(
+fn start_plainly(
     alloc: Global,
     words: &[String],
-    disks: Vec<Noted<'n, MemDisk>>,
+    disks: Vec<Noted<'_, MemDisk>>,
     around: &Around,
-    notes: &'n Notes,
-) -> Result<Came<'n>, Trouble> {
+    notes: &Notes,
+) -> Result<Came, Trouble> {
     let mut clock = NotedClock::new(clock_of(alloc, &around.times)?, notes);
     let mut link = Link::new(alloc, around)?;
     let outcome = top(alloc, words, disks, &mut link, &mut clock)?;
     Ok(Came {
         end: end_of(alloc, outcome.status, outcome.note.as_str())?,
         text: link.into_shown(),
-        disks: outcome.disks,
+        disks: plain(alloc, outcome.disks)?,
     })
 }
 
@@ -120,14 +120,26 @@ fn lines_asked(words: &[String]) -> Option<u64> {
 type Shown<'s> = Progress<ScreenStream<'s>>;
 
 // The disks, which tell a terminal how far their calls are.
-fn watched<'p, 'n, 's>(
+fn watched<'n>(
     alloc: Global,
     disks: Vec<Noted<'n, MemDisk>>,
-    progress: &'p Shown<'s>,
-) -> Result<Vec<Watched<'p, Noted<'n, MemDisk>, ScreenStream<'s>>>, Trouble> {
+    progress: &'n Shown<'n>,
+) -> Result<Vec<Watched<'n, Noted<'n, MemDisk>, ScreenStream<'n>>>, Trouble> {
     let mut all = Vec::new(alloc);
     for disk in disks {
         all.push(Watched::new(disk, progress))?;
+    }
+    Ok(all)
+}
+
+// The disks without it.
+fn unwatched<'n>(
+    alloc: Global,
+    disks: Vec<Watched<'n, Noted<'n, MemDisk>, ScreenStream<'n>>>,
+) -> Result<Vec<Noted<'n, MemDisk>>, Trouble> {
+    let mut all = Vec::new(alloc);
+    for disk in disks {
+        all.push(disk.into_disk())?;
     }
     Ok(all)
 }
@@ -139,33 +151,29 @@ fn start_shown<'n>(
     disks: Vec<Noted<'n, MemDisk>>,
     around: &Around,
     notes: &'n Notes,
-    progress: &Shown<'_>,
-) -> Result<Came<'n>, Trouble> {
+    progress: &'n Shown<'n>,
+) -> Result<Came, Trouble> {
     let clock = NotedClock::new(clock_of(alloc, &around.times)?, notes);
     let mut clock = CountedClock::new(clock, progress, lines_asked(words));
     let mut link = Cleared::new(Link::new(alloc, around)?, progress);
     let disks = watched(alloc, disks, progress)?;
     let outcome = top(alloc, words, disks, &mut link, &mut clock)?;
     progress.end();
-    let mut plain = Vec::new(alloc);
-    for disk in outcome.disks {
-        plain.push(disk.into_disk())?;
-    }
     Ok(Came {
         end: end_of(alloc, outcome.status, outcome.note.as_str())?,
         text: link.into_link().into_shown(),
-        disks: plain,
+        disks: plain(alloc, unwatched(alloc, outcome.disks)?)?,
     })
 }
 
 // So it is, and what the terminal showed stands behind what was written.
-fn start_on_terminal<'n>(
+fn start_on_terminal(
     alloc: Global,
     words: &[String],
-    disks: Vec<Noted<'n, MemDisk>>,
+    disks: Vec<Noted<'_, MemDisk>>,
     around: &Around,
-    notes: &'n Notes,
-) -> Result<Came<'n>, Trouble> {
+    notes: &Notes,
+) -> Result<Came, Trouble> {
     let screen = Screen::new(alloc);
     let progress = Progress::new(screen.stream());
     let mut came = start_shown(alloc, words, disks, around, notes, &progress)?;
@@ -188,7 +196,6 @@ pub fn start(
     } else {
         start_plainly(alloc, words, disks, around, &notes)?
     };
-    let disks = plain(alloc, disks)?;
     Ok(Ending {
         end,
         text,

@@ -5,3 +5,4 @@ pub mod Order
 pub mod Found
 pub mod Laws
 pub mod Tallied
+pub mod Examples

@@ -4,8 +4,6 @@
 
 mod sprig;
 mod tally;
-#[cfg(test)]
-mod tests;
 
 pub use sprig::Sprig;
 use std::alloc::AllocError;

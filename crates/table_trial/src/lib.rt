@@ -3,8 +3,6 @@
 
 mod machine;
 mod store;
-#[cfg(test)]
-mod tests;
 
 pub use machine::{Happening, Log, Origin, Piles};
 pub use store::{count, open, push, try_len};

@@ -10,9 +10,6 @@ ghost use Rattle.tomb_rules.specs.Covers.{cover_of, is_eligible_entry};
 
 use rec_format::{Entry, Kind, Stamp};
 
-#[cfg(test)]
-mod tests;
-
 /// The cover flag of a put that takes the place of this entry: the entry's own, and clear where
 /// there is none.
 pub fn cover_after(prior: Option<&Entry>) -> bool

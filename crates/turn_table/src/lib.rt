@@ -14,8 +14,6 @@ mod rule;
 mod shares;
 mod steps;
 mod table;
-#[cfg(test)]
-mod tests;
 
 pub use machine::Machine;
 pub use noted::{Noted, Notes};

@@ -1,3 +1,4 @@
 pub mod Copies
 pub mod Lives
 pub mod Order
+pub mod Examples

@@ -4,8 +4,6 @@
 
 mod ledger;
 mod roll;
-#[cfg(test)]
-mod tests;
 
 pub use ledger::Ledger;
 pub use roll::LiveCopy;

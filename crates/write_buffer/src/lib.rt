@@ -6,8 +6,6 @@ mod buffer;
 mod parts;
 mod phase;
 mod stream;
-#[cfg(test)]
-mod tests;
 
 pub use buffer::Buffer;
 pub use phase::Phase;

@@ -32,3 +32,15 @@ returns g c =
     let within = c.loop-device.auto.device-end in
     let all : c.loop-device.device ≡ length c.args.shards.now = omega (arith, over, within) in
     subst (λ (n : ℕ). Through (CloseTurn DiskFault g.D.Disk.view) n (0, None) c.args.shards.now c.loop-device.shards (n, c.loop-device.failed)) all c.loop-device.invariant
+
+pub bounds-shards-device : goal.bounds-shards-device
+bounds-shards-device g c = subst (λ (n : ℕ). c.loop-device.device < n) (sym c.loop-device.auto.shards) c.loop-device-test.true
+
+pub overflow_cast-failed : goal.overflow_cast-failed
+overflow_cast-failed g c =
+    let there = c.loop-device-test.true in
+    let most = c.requires.few in
+    omega (arith, there, most)
+
+pub loop-device-smaller : goal.loop-device-smaller
+loop-device-smaller g c = let there = c.loop-device-test.true in omega (arith, there)

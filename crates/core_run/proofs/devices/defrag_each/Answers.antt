@@ -31,3 +31,28 @@ returns g c =
     worked_all (DefragsOn g.D.Disk.view) plus_both (0, 0) c.args.shards.now c.loop-shard.shards (c.loop-shard.moved, c.loop-shard.vacated)
     (through_all (WorkTurn (DefragsOn g.D.Disk.view) plus_both) c.loop-shard.shard-index (0, 0) c.args.shards.now c.loop-shard.shards (c.loop-shard.moved, c.loop-shard.vacated) c.loop-shard.invariant.turns
     (λ there. let over = c.loop-shard-test.false in let same = c.loop-shard.auto.shards in omega (arith, over, same, there)))
+
+pub loop-shard-init : goal.loop-shard-init
+loop-shard-init g c = record { turns = (refl, refl); few_moved = omega arith; few_vacated = omega arith }
+
+pub overflow_add-moved : goal.overflow_add-moved
+overflow_add-moved g c =
+    let few = c.in_ok-one.ensures.few in
+    let so_far = c.loop-shard.invariant.few_moved in
+    let there = c.loop-shard-test.true in
+    let most = c.requires.few in
+    omega (arith, few, so_far, there, most)
+
+pub overflow_add-vacated : goal.overflow_add-vacated
+overflow_add-vacated g c =
+    let few = c.in_ok-one.ensures.few in
+    let so_far = c.loop-shard.invariant.few_vacated in
+    let there = c.loop-shard-test.true in
+    let most = c.requires.few in
+    omega (arith, few, so_far, there, most)
+
+pub bounds-shards-shard-index : goal.bounds-shards-shard-index
+bounds-shards-shard-index g c = subst (λ (n : ℕ). c.loop-shard.shard-index < n) (sym c.loop-shard.auto.shards) c.loop-shard-test.true
+
+pub loop-shard-smaller : goal.loop-shard-smaller
+loop-shard-smaller g c = let there = c.loop-shard-test.true in omega (arith, there)

@@ -29,3 +29,20 @@ returns g c =
     worked_all (ExpiresOn g.D.Disk.view c.args.now) plus_one 0 c.args.shards.now c.loop-shard.shards c.loop-shard.removed
     (through_all (WorkTurn (ExpiresOn g.D.Disk.view c.args.now) plus_one) c.loop-shard.shard-index 0 c.args.shards.now c.loop-shard.shards c.loop-shard.removed c.loop-shard.invariant.turns
     (λ there. let over = c.loop-shard-test.false in let same = c.loop-shard.auto.shards in omega (arith, over, same, there)))
+
+pub loop-shard-init : goal.loop-shard-init
+loop-shard-init g c = record { turns = (refl, refl); few = omega arith }
+
+pub overflow_add-removed : goal.overflow_add-removed
+overflow_add-removed g c =
+    let few = c.in_ok-removed.ensures.few in
+    let so_far = c.loop-shard.invariant.few in
+    let there = c.loop-shard-test.true in
+    let most = c.requires.few in
+    omega (arith, few, so_far, there, most)
+
+pub bounds-shards-shard-index : goal.bounds-shards-shard-index
+bounds-shards-shard-index g c = subst (λ (n : ℕ). c.loop-shard.shard-index < n) (sym c.loop-shard.auto.shards) c.loop-shard-test.true
+
+pub loop-shard-smaller : goal.loop-shard-smaller
+loop-shard-smaller g c = let there = c.loop-shard-test.true in omega (arith, there)

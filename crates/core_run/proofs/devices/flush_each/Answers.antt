@@ -49,3 +49,9 @@ returns g c =
     worked_all (FlushesOn {E = DiskFault} g.D.Disk.view) plus_one 0 c.args.shards.now c.loop-shard.shards c.loop-shard.flushed
     (through_all (WorkTurn (FlushesOn {E = DiskFault} g.D.Disk.view) plus_one) c.loop-shard.shard-index 0 c.args.shards.now c.loop-shard.shards c.loop-shard.flushed c.loop-shard.invariant.turns
     (λ there. let over = c.loop-shard-test.false in let same = c.loop-shard.auto.shards in omega (arith, over, same, there)))
+
+pub bounds-shards-shard-index : goal.bounds-shards-shard-index
+bounds-shards-shard-index g c = subst (λ (n : ℕ). c.loop-shard.shard-index < n) (sym c.loop-shard.auto.shards) c.loop-shard-test.true
+
+pub loop-shard-smaller : goal.loop-shard-smaller
+loop-shard-smaller g c = let there = c.loop-shard-test.true in omega (arith, there)

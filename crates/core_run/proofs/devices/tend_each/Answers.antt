@@ -18,3 +18,9 @@ pub returns : goal.returns
 returns g c =
     through_all (TendTurn {A = ℕ} g.D.Disk.view) c.loop-shard.shard-index 0 c.args.shards.now c.loop-shard.shards 0 c.loop-shard.invariant
     (λ there. let over = c.loop-shard-test.false in let same = c.loop-shard.auto.shards in omega (arith, over, same, there))
+
+pub bounds-shards-shard-index : goal.bounds-shards-shard-index
+bounds-shards-shard-index g c = subst (λ (n : ℕ). c.loop-shard.shard-index < n) (sym c.loop-shard.auto.shards) c.loop-shard-test.true
+
+pub loop-shard-smaller : goal.loop-shard-smaller
+loop-shard-smaller g c = let there = c.loop-shard-test.true in omega (arith, there)

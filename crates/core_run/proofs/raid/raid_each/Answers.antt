@@ -31,3 +31,28 @@ returns g c =
     worked_all (RaidsOn g.D.Disk.view c.args.now) plus_both (0, 0) c.args.shards.now c.loop-shard.shards (c.loop-shard.removed, c.loop-shard.cleared)
     (through_all (WorkTurn (RaidsOn g.D.Disk.view c.args.now) plus_both) c.loop-shard.shard-index (0, 0) c.args.shards.now c.loop-shard.shards (c.loop-shard.removed, c.loop-shard.cleared) c.loop-shard.invariant.turns
     (λ there. let over = c.loop-shard-test.false in let same = c.loop-shard.auto.shards in omega (arith, over, same, there)))
+
+pub loop-shard-init : goal.loop-shard-init
+loop-shard-init g c = record { turns = (refl, refl); few_removed = omega arith; few_cleared = omega arith }
+
+pub overflow_add-removed : goal.overflow_add-removed
+overflow_add-removed g c =
+    let few = c.in_ok-one.ensures.few in
+    let so_far = c.loop-shard.invariant.few_removed in
+    let there = c.loop-shard-test.true in
+    let most = c.requires.few in
+    omega (arith, few, so_far, there, most)
+
+pub overflow_add-cleared : goal.overflow_add-cleared
+overflow_add-cleared g c =
+    let few = c.in_ok-one.ensures.few in
+    let so_far = c.loop-shard.invariant.few_cleared in
+    let there = c.loop-shard-test.true in
+    let most = c.requires.few in
+    omega (arith, few, so_far, there, most)
+
+pub bounds-shards-shard-index : goal.bounds-shards-shard-index
+bounds-shards-shard-index g c = subst (λ (n : ℕ). c.loop-shard.shard-index < n) (sym c.loop-shard.auto.shards) c.loop-shard-test.true
+
+pub loop-shard-smaller : goal.loop-shard-smaller
+loop-shard-smaller g c = let there = c.loop-shard-test.true in omega (arith, there)

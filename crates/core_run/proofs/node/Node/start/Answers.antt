@@ -18,3 +18,19 @@ invariant_of-result g c =
     node_started g.D.Disk.view c.args.set 0 (vec_capacity c.start_all.new.disks) c.args.disks.items c.start_all.new.shards.items None c.start_all.new.disks.items c.requires.set refl e.starts.1
     (subst (λ (n : ℕ). 1 ≤ n) many c.requires.disks.0) (subst (λ (n : ℕ). n ≤ 16) many c.requires.disks.1) (omega (arith, many, room, kept))
     (subst (λ (n : ℕ). StartsEach g.D.Disk.view c.args.set 0 n c.args.disks.items c.start_all.new.shards.items) many e.starts.0)
+
+pub start_all-requires : goal.start_all-requires
+start_all-requires g c =
+    let made = c.in-Ok.ensures {u = tt} in
+    let room = made.capacity in
+    let many = c.len.ensures in
+    let held = c.args.disks.ok.1 in
+    record { none = made.items; room = (omega (arith, room, many), omega (arith, held)); few = c.requires.disks.1; set = c.requires.set }
+
+pub returns-in-Ok-start_all : goal.returns-in-Ok-start_all
+returns-in-Ok-start_all g c =
+    let e = (c.in-Ok-start_all.ensures {u = tt}).starts in
+    record { begun = (c.start_all.new.shards.items, (λ i. record { shards = c.start_all.new.shards.items; refused = None; disks = e.1 i }), e.0) }
+
+pub returns-in-Err : goal.returns-in-Err
+returns-in-Err g c = record { begun = (c.in-Err.ensures {u = tt}).starts.0 }

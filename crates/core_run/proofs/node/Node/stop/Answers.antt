@@ -1,10 +1,19 @@
-use Rattle.std.proofs.Common.{◌++◌, List, ap, sym, ◌∙◌}
+use Rattle.std.proofs.Common.{◌++◌, List, length, ap, sym, ◌∙◌, arith}
 use Rattle.std.specs.Prelude.{reverse, vec_capacity}
 use Rattle.std.proofs.lemmas.List.{append-nil}
 use Rattle.core_run.specs.Views.{disks_served, disks_of}
-use Rattle.core_run.proofs.Keeping.{node_serves, node_halts, none_by, some_by, no_disks}
+use Rattle.core_run.proofs.Keeping.{node_serves, node_halts, none_by, some_by, no_disks, devices_of}
 use Rattle.core_run.proofs.node.Node.stop.Goals as goal
 use Rattle.core_run.proofs.node.Node.stop.Goals.{then-is_none, else-is_none}
+
+pub stop_all-requires : goal.stop_all-requires
+stop_all-requires g c =
+    let none = none_by c.self.inside.refused c.is_none.result c.is_none.ensures c.if-is_none.true in
+    let fits = (devices_of c.self.inside.set (vec_capacity c.self.inside.shards) (vec_capacity c.self.inside.disks) c.self.inside.shards.items c.self.inside.refused c.self.inside.disks.items none c.self.invariant).2 in
+    let empty = ap length (no_disks c.self.inside.set (vec_capacity c.self.inside.shards) (vec_capacity c.self.inside.disks) c.self.inside.shards.items c.self.inside.refused c.self.inside.disks.items none c.self.invariant) in
+    let shards = c.self.inside.shards.ok.0 in
+    let disks = c.self.inside.disks.ok.0 in
+    record { room = omega (arith, fits, empty, shards, disks) }
 
 pub returns : goal.returns
 returns g c =

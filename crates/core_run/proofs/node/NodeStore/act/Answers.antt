@@ -1,4 +1,4 @@
-use Rattle.std.proofs.Common.{◌≡◌, ◌<◌, ℕ, List, length, get_or, set, arith, sym, subst, ap, ◌∙◌}
+use Rattle.std.proofs.Common.{◌≡◌, ◌<◌, ◌≤◌, ℕ, List, length, get_or, set, arith, sym, subst, ap, ◌∙◌}
 use Rattle.std.specs.Prelude.{Some, slice_get, option_map, vec_len, vec_capacity}
 use Rattle.disk_model.specs.declared.disk.DiskFault.{DiskFault}
 use Rattle.rec_format.specs.Places.{device_number}
@@ -12,7 +12,7 @@ use Rattle.core_run.specs.Calls.{Acts}
 use Rattle.core_run.specs.Turns.{FlushesOn, FlushesEach, plus_one, DefragsOn, DefragsEach, plus_both, ExpiresOn, ExpiresAll, RaidsOn, RaidsEach}
 use Rattle.core_run.proofs.Making.{there_is}
 use Rattle.core_run.proofs.Commands.{digest_acts, flush_acts, defrag_acts, expire_acts, raid_acts, stat_acts, acts_halted}
-use Rattle.core_run.proofs.Keeping.{SameEach, all_kept, all_act, node_kept, node_halts, acts_so, same_all, devices_of, device_at, same_at, same_worked, not_some, is_there}
+use Rattle.core_run.proofs.Keeping.{few_served, SameEach, all_kept, all_act, node_kept, node_halts, acts_so, same_all, devices_of, device_at, same_at, same_worked, not_some, is_there}
 use Rattle.core_run.proofs.node.NodeStore.act.Given.{Over}
 use Rattle.core_run.proofs.node.NodeStore.act.Goals as goal
 
@@ -22,6 +22,63 @@ returns-then-is_some g c =
     subst (λ (n : NodeView g.row.D.Denot). Acts g.D.Disk.view n c.args.command.now c.args.now reply.Halted n)
     (sym (node_halts c.self.inside.set (vec_capacity c.self.inside.shards) (vec_capacity c.self.inside.disks) c.self.inside.shards.items c.self.inside.refused c.self.inside.disks.items some.0 some.1 c.self.invariant) ∙ c.self.view_is)
     (acts_halted g.D.Disk.view g.met.D.Disk.is_disk some.0 c.self.inside.disks.items c.args.command.now c.args.now)
+
+-- ---- what the calls ask
+
+few_of : {X : Type 0} (shards listed : List X) → listed ≡ shards → length shards ≤ 16 → length listed ≤ 16
+few_of shards listed same few = subst (λ s. length s ≤ 16) (sym same) few
+
+pub overflow_cast-len : goal.overflow_cast-len
+overflow_cast-len g c =
+    let few = few_served c.self.inside.set (vec_capacity c.self.inside.shards) (vec_capacity c.self.inside.disks) c.self.inside.shards.items c.self.inside.refused c.self.inside.disks.items c.self.invariant in
+    let many = c.len.ensures ∙ c.self.inside.shards.ok.0 in
+    omega (arith, few, many)
+
+pub device_of-device-requires-clause-some : goal.device_of-device-requires-clause-some
+device_of-device-requires-clause-some g c =
+    let none = not_some c.self.inside.refused c.is_some.result c.is_some.ensures c.if-is_some.false in
+    subst (λ n. 1 ≤ n) (sym (c.len.ensures ∙ c.self.inside.shards.ok.0)) (devices_of c.self.inside.set (vec_capacity c.self.inside.shards) (vec_capacity c.self.inside.disks) c.self.inside.shards.items c.self.inside.refused c.self.inside.disks.items none c.self.invariant).0
+
+pub device_of-device-requires-clause-most : goal.device_of-device-requires-clause-most
+device_of-device-requires-clause-most g c = subst (λ n. n ≤ 16) (sym (c.len.ensures ∙ c.self.inside.shards.ok.0)) (few_served c.self.inside.set (vec_capacity c.self.inside.shards) (vec_capacity c.self.inside.disks) c.self.inside.shards.items c.self.inside.refused c.self.inside.disks.items c.self.invariant)
+
+below : (from device len n : ℕ) → from ≡ device → device < len → len ≡ n → from < n
+below from device len n is less len_is = omega arith
+
+pub index_mut-requires : goal.index_mut-requires
+index_mut-requires g c = below c.from.result c.device_of-device.result c.len.result (vec_len c.self.inside.shards) c.from.ensures c.device_of-device.ensures.below c.len.ensures
+
+pub act_on-requires-clause-time : goal.act_on-requires-clause-time
+act_on-requires-clause-time g c = c.requires.now
+
+pub act_on-requires-clause-range : goal.act_on-requires-clause-range
+act_on-requires-clause-range g c = c.requires.command
+
+pub act_on-requires-clause-on : goal.act_on-requires-clause-on
+act_on-requires-clause-on g c = sym c.digest_of.ensures ∙ ap (option_map (λ d. d.now)) c.in-Some.is
+
+pub flush_each-requires : goal.flush_each-requires
+flush_each-requires g c = record { few = few_of c.self.inside.shards.items c.deref_mut.result.now c.deref_mut.ensures.value (few_served c.self.inside.set (vec_capacity c.self.inside.shards) (vec_capacity c.self.inside.disks) c.self.inside.shards.items c.self.inside.refused c.self.inside.disks.items c.self.invariant) }
+
+pub defrag_each-requires : goal.defrag_each-requires
+defrag_each-requires g c = record { few = few_of c.self.inside.shards.items c.deref_mut-in-Defrag.result.now c.deref_mut-in-Defrag.ensures.value (few_served c.self.inside.set (vec_capacity c.self.inside.shards) (vec_capacity c.self.inside.disks) c.self.inside.shards.items c.self.inside.refused c.self.inside.disks.items c.self.invariant) }
+
+pub expire_each-requires-clause-few : goal.expire_each-requires-clause-few
+expire_each-requires-clause-few g c = few_of c.self.inside.shards.items c.deref_mut-in-Expire.result.now c.deref_mut-in-Expire.ensures.value (few_served c.self.inside.set (vec_capacity c.self.inside.shards) (vec_capacity c.self.inside.disks) c.self.inside.shards.items c.self.inside.refused c.self.inside.disks.items c.self.invariant)
+
+pub expire_each-requires-clause-time : goal.expire_each-requires-clause-time
+expire_each-requires-clause-time g c = c.requires.now
+
+pub raid_each-requires : goal.raid_each-requires
+raid_each-requires g c = record { few = few_of c.self.inside.shards.items c.deref_mut-in-Raid.result.now c.deref_mut-in-Raid.ensures.value (few_served c.self.inside.set (vec_capacity c.self.inside.shards) (vec_capacity c.self.inside.disks) c.self.inside.shards.items c.self.inside.refused c.self.inside.disks.items c.self.invariant) }
+
+pub counts_of-requires : goal.counts_of-requires
+counts_of-requires g c = record { few = few_of c.self.inside.shards.items c.deref.result.now c.deref.ensures.value (few_served c.self.inside.set (vec_capacity c.self.inside.shards) (vec_capacity c.self.inside.disks) c.self.inside.shards.items c.self.inside.refused c.self.inside.disks.items c.self.invariant) }
+
+pub restart-requires : goal.restart-requires
+restart-requires g c =
+    let none = not_some c.self.inside.refused c.is_some.result c.is_some.ensures c.if-is_some.false in
+    record { served = ap (λ (n : NodeView g.row.D.Denot). n.refused) (sym c.self.view_is) ∙ none }
 
 -- the device of the digest
 device_there : {X : Type 0} (shards : List X) (n len device from : ℕ) (x : X) → len ≡ n → n ≡ length shards → device < len → from ≡ device → x ≡ get_or shards from x → slice_get shards from ≡ Some x

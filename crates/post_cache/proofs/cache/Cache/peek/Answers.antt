@@ -1,4 +1,4 @@
-use Rattle.std.proofs.Common.{ℕ, List, Bor, Some, eqb, option_map, ap, sym, ◌∙◌, rules, tests}
+use Rattle.std.proofs.Common.{Bor, eqb, option_map, ap, sym, ◌∙◌, rules, tests}
 use Rattle.std.proofs.lemmas.Iterator.{YieldsList-from_slice}
 use Rattle.std.proofs.lemmas.Iterator.Search.{find_from_yields_List}
 use Rattle.post_cache.specs.declared.cache.Slot.{Slot}

@@ -1,5 +1,0 @@
-use Rattle.line_proto.proofs.tests.printed_again.Goals as goal
-
--- the line that was read spells it
-pub print_command-requires : goal.print_command-requires
-print_command-requires c = (c.args.text.now, (c.in_ok-command.ensures.exact c.in-Some.command).0 c.in-Some.is)

@@ -1,0 +1,7 @@
+//! Tests of disks over files: what the system's own calls do, also where they are short, are interrupted or fail.
+#![tactic(auto)]
+
+#[cfg(test)]
+mod devices;
+#[cfg(test)]
+mod disks;
