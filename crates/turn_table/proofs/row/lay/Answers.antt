@@ -1,4 +1,4 @@
-use Rattle.std.proofs.Common.{sym, ◌∙◌, arith}
+use Rattle.std.proofs.Common.{◌∙◌, arith}
 use Rattle.turn_table.proofs.Rows.{all_to_lay, laid_on}
 use Rattle.turn_table.proofs.row.lay.Goals as goal
 
