@@ -44,3 +44,24 @@ returns-in-Err-open_bodies-clause-read g c =
     (reads_on _ _ (g.D.Disk.view c.read_gates.new.disk) (g.met.D.Disk.is_disk c.shape_of.new.disk)
     (reads_on _ _ (g.D.Disk.view c.shape_of.new.disk) (g.met.D.Disk.is_disk c.sync.new.self)
     (read_synced (g.D.Disk.view c.args.disk.now) (g.D.Disk.view c.sync.new.self) c.sync.result c.sync.ensures.bytes c.sync.ensures.images c.sync.ensures.call) c.shape_of.ensures.read) c.read_gates.ensures.read) c.open_bodies.ensures.read
+
+pub returns-in-Ok-open_bodies-clause-read : goal.returns-in-Ok-open_bodies-clause-read
+returns-in-Ok-open_bodies-clause-read g c =
+    reads_on (g.D.Disk.view c.args.disk.now) _ (g.D.Disk.view c.open_bodies.new.disk) (g.met.D.Disk.is_disk c.read_gates.new.disk)
+    (reads_on _ _ (g.D.Disk.view c.read_gates.new.disk) (g.met.D.Disk.is_disk c.shape_of.new.disk)
+    (reads_on _ _ (g.D.Disk.view c.shape_of.new.disk) (g.met.D.Disk.is_disk c.sync.new.self)
+    (read_synced (g.D.Disk.view c.args.disk.now) (g.D.Disk.view c.sync.new.self) c.sync.result c.sync.ensures.bytes c.sync.ensures.images c.sync.ensures.call) c.shape_of.ensures.read) c.read_gates.ensures.read) c.open_bodies.ensures.read
+
+pub returns-in-Err-read_gates-clause-read : goal.returns-in-Err-read_gates-clause-read
+returns-in-Err-read_gates-clause-read g c =
+    reads_on (g.D.Disk.view c.args.disk.now) _ (g.D.Disk.view c.read_gates.new.disk) (g.met.D.Disk.is_disk c.shape_of.new.disk)
+    (reads_on _ _ (g.D.Disk.view c.shape_of.new.disk) (g.met.D.Disk.is_disk c.sync.new.self)
+    (read_synced (g.D.Disk.view c.args.disk.now) (g.D.Disk.view c.sync.new.self) c.sync.result c.sync.ensures.bytes c.sync.ensures.images c.sync.ensures.call) c.shape_of.ensures.read) c.read_gates.ensures.read
+
+pub returns-in-Err-clause-read : goal.returns-in-Err-clause-read
+returns-in-Err-clause-read g c =
+    reads_on (g.D.Disk.view c.args.disk.now) _ (g.D.Disk.view c.shape_of.new.disk) (g.met.D.Disk.is_disk c.sync.new.self)
+    (read_synced (g.D.Disk.view c.args.disk.now) (g.D.Disk.view c.sync.new.self) c.sync.result c.sync.ensures.bytes c.sync.ensures.images c.sync.ensures.call) c.shape_of.ensures.read
+
+pub returns-in_default-clause-read : goal.returns-in_default-clause-read
+returns-in_default-clause-read g c = read_synced (g.D.Disk.view c.args.disk.now) (g.D.Disk.view c.sync.new.self) c.sync.result c.sync.ensures.bytes c.sync.ensures.images c.sync.ensures.call

@@ -20,3 +20,12 @@ loop-block-preserved g c = record {
       gates_more c.args.geometry.now bytes c.loop-block.gates.items c.push.new.self.items c.gate_of.result c.loop-block.block c.in-Ok-push.ensures.items c.loop-block.invariant.count (c.loop-block.invariant.gates told)
       (c.gate_of.ensures.told (gate_sector c.args.geometry.now c.loop-block.block bytes) same);
 }
+
+pub returns-in_default-clause-read : goal.returns-in_default-clause-read
+returns-in_default-clause-read g c = reads_on _ _ (g.D.Disk.view c.read_at.new.self) (g.met.D.Disk.is_disk c.loop-block.disk) c.loop-block.invariant.read (search rules)
+
+pub returns-in_default-push-clause-read : goal.returns-in_default-push-clause-read
+returns-in_default-push-clause-read g c = reads_on _ _ (g.D.Disk.view c.read_at.new.self) (g.met.D.Disk.is_disk c.loop-block.disk) c.loop-block.invariant.read (search rules)
+
+pub loop-block-smaller : goal.loop-block-smaller
+loop-block-smaller g c = let there = c.loop-block-test.true in omega (arith, there)
