@@ -28,6 +28,11 @@ pub err_is : {A E : Type 0} (r : Result A E) (said : E) (Q : E → Type 0) → I
 err_is (Ok a) said Q is holds = tt
 err_is (Err e) said Q is holds = subst Q (sym is) holds
 
+-- what holds of an error that was passed on
+pub passed_on : {A E : Type 0} (r : Result A E) (said : E) (P : Result A E → Type 0) → IsErrAnd r (λ e. e ≡ said) → P (Err said) → P r
+passed_on (Ok a) said P is holds = absurd is
+passed_on {E = E} (Err e) said P is holds = subst (λ (x : E). P (Err x)) (sym is) holds
+
 -- only a fault makes a step
 pub unfailed_steps : (refusal : PutRefusal) → refusal ≢ Fault → refused_steps refusal ≡ []
 unfailed_steps (Big units capacity) other = refl
