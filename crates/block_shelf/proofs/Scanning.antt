@@ -20,9 +20,10 @@ use Rattle.block_shelf.specs.View.{ShelfView, IsShelf, IsSetupOf, gate_at}
 use Rattle.block_shelf.specs.Disks.{IsLater, OnlyRead}
 use Rattle.block_shelf.specs.Standing.{StandsFor, BooksStand, ImagesHold}
 use Rattle.block_shelf.specs.Calls.{Goes}
-use Rattle.block_shelf.specs.Scans.{ClosesUnsure, ReadsIn, ScansIn, ReadsAll, ReadsBody, IsDamageOf, IsSound, Scans}
+use Rattle.block_shelf.specs.Scans.{ClosesUnsure, ReadsBlock, ReadsIn, ScansIn, ReadsAll, ReadsBody, IsDamageOf, IsSound, Scans}
 use Rattle.block_shelf.proofs.Going.{goes_none}
 use Rattle.block_shelf.proofs.Looking.{goes_read}
+use Rattle.block_shelf.proofs.ReadOnly.{images_of_now, only_none, shelf_stays}
 use Rattle.block_shelf.proofs.Roomed.{later_none}
 use Rattle.block_shelf.proofs.ScanBlocks.{each_answer, only_err, only_set, set_reads, set_sound, shut_reads}
 
@@ -259,3 +260,31 @@ module _ {D : Type 0} (view : D → DiskView) (is_disk : (disk : D) → IsDisk (
       later = reads.later;
       honest = reads.honest;
     }
+
+  -- ---- the disk
+
+  module _ {A : Type 0} (heads : A → List Found) (is : IsShelf view old) where
+    pub block_unread : ReadsBlock view block old old heads (Err Memory)
+    block_unread = record {
+      read = λ told. tt;
+      cause = λ same. absurd (refusals_differ (same_error (Err Memory) (Err Fault) Memory Fault refl refl same));
+      disk = only_none (view old.disk) (is_disk old.disk);
+      whole = is;
+      same = refl;
+    }
+
+    pub block_read : (disk : D) → OnlyRead (view old.disk) (view disk) → (result : Result A VacateRefusal)
+        → ((view old.disk).tells → let bytes = body_bytes old.geometry block (view old.disk).seen in MatchResult result (λ found. ReadsBody old.geometry bytes block (heads found)) (IsDamageOf old.geometry bytes block))
+        → (result ≡ Err Fault → Rose (view old.disk).faults (view disk).faults) → ReadsBlock view block old (record old { disk = disk }) heads result
+    block_read disk only result read cause = record {
+      read = read;
+      cause = cause;
+      disk = only;
+      whole = shelf_stays view old disk is only.size only.was_honest (λ honest. images_of_now (view old.disk) (view disk) (is_disk disk) only.time (only.images honest));
+      same = refl;
+    }
+
+-- the shelf before is the same
+pub block_of : {D A : Type 0} (was old : ShelfView D) → was ≡ old → (view : D → DiskView) (block : ℕ) (disk : D) (heads : A → List Found) (result : Result A VacateRefusal)
+    → ReadsBlock view block was (record was { disk = disk }) heads result → ReadsBlock view block old (record was { disk = disk }) heads result
+block_of {D} was old same view block disk heads result reads = subst (λ (v : ShelfView D). ReadsBlock view block v (record was { disk = disk }) heads result) same reads

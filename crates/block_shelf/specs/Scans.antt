@@ -26,7 +26,7 @@ use Rattle.raid_book.specs.Books.{with_scan}
 use Rattle.block_shelf.specs.declared.refusals.VacateRefusal.{VacateRefusal}
 use Rattle.block_shelf.specs.declared.refusals.VacateRefusal.TheVariants.{Damaged, Memory, Fault}
 use Rattle.block_shelf.specs.View.{ShelfView, IsShelf, IsSetupOf, records_of, gate_at}
-use Rattle.block_shelf.specs.Disks.{IsLater}
+use Rattle.block_shelf.specs.Disks.{IsLater, OnlyRead}
 use Rattle.block_shelf.specs.Standing.{StandsFor, BooksStand, ImagesHold}
 use Rattle.block_shelf.specs.Calls.{Goes}
 
@@ -116,3 +116,12 @@ pub record ScansIn {D : Type 0} (view : D → DiskView) (block : ℕ) (old new :
   pub cause : result ≡ Err Fault → Rose (view old.disk).faults (view new.disk).faults
   pub later : IsLater (view old.disk) (view new.disk)
   pub honest : IsHonest (view old.disk) → IsHonest (view new.disk)
+
+-- The heads of the records of a block are read from the disk, or the damage that is there is told.
+pub record ReadsBlock {D A : Type 0} (view : D → DiskView) (block : ℕ) (old new : ShelfView D) (heads : A → List Found) (result : Result A VacateRefusal) : Type 0 where
+  pub read : (view old.disk).tells
+      → let bytes = body_bytes old.geometry block (view old.disk).seen in MatchResult result (λ found. ReadsBody old.geometry bytes block (heads found)) (IsDamageOf old.geometry bytes block)
+  pub cause : result ≡ Err Fault → Rose (view old.disk).faults (view new.disk).faults
+  pub disk : OnlyRead (view old.disk) (view new.disk)
+  pub whole : IsShelf view new
+  pub same : new ≡ record old { disk = new.disk }

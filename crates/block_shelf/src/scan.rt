@@ -14,11 +14,11 @@ ghost use Rattle.write_buffer.specs.Buffers.{BufferState};
 ghost use Rattle.kept_facts.specs.Facts.{SamePossible};
 ghost use Rattle.raid_book.specs.declared.turn.RaidNext.TheVariants as turn;
 ghost use Rattle.raid_book.specs.Books.{given_up, with_scan};
-ghost use Rattle.block_shelf.specs.Disks.{IsLater, OnlyRead};
+ghost use Rattle.block_shelf.specs.Disks.{IsLater};
 ghost use Rattle.block_shelf.specs.View.{IsShelf, IsSetupOf, AreSure, gate_at};
 ghost use Rattle.block_shelf.specs.Standing.{StandsFor, BooksStand, ImagesHold};
 ghost use Rattle.block_shelf.specs.Calls.{Goes};
-ghost use Rattle.block_shelf.specs.Scans.{Scans, ScansIn, ReadsIn, ReadsBody, ClosesUnsure, IsDamageOf, IsSound, own_found, possible_copies};
+ghost use Rattle.block_shelf.specs.Scans.{Scans, ScansIn, ReadsIn, ReadsBlock, ReadsBody, ClosesUnsure, IsDamageOf, IsSound, own_found, possible_copies};
 
 use crate::close::shut_gate;
 use crate::{NoMemory, Shelf, VacateRefusal};
@@ -132,12 +132,7 @@ impl<D: Disk> Shelf<D> {
     // The heads of the records of a block, as the disk has it.
     fn read_block(&mut self, alloc: Global, block: u32) -> Result<Vec<Found>, VacateRefusal>
         requires block { block < self.old.geometry.blocks }
-        ensures read { (D.view self.old.disk).tells → let bytes = body_bytes self.old.geometry block (D.view self.old.disk).seen in
-            MatchResult result (λ found. ReadsBody self.old.geometry bytes block found.items) (IsDamageOf self.old.geometry bytes block) }
-        ensures cause { result ≡ Err VacateRefusal.Fault → Rose (D.view self.old.disk).faults (D.view self.new.disk).faults }
-        ensures disk { OnlyRead (D.view self.old.disk) (D.view self.new.disk) }
-        ensures whole { IsShelf D.view self.new }
-        ensures same { self.new ≡ record self.old { disk = self.new.disk } }
+        ensures { ReadsBlock D.view block self.old self.new (λ found. found.items) result }
     {
         let size = self.geometry.block_size as usize - SECTOR_BYTES;
         let Ok(mut body) = vec![in alloc; 0; size] else {
