@@ -1,4 +1,5 @@
 use Rattle.std.proofs.Common.{◌≡◌, ◌≤◌, ℕ, Ok, Err, length, sym, ◌∙◌, ap, subst}
+use Rattle.rec_format.specs.Places.{device_number}
 use Rattle.rec_format.specs.Versions.{version_units, block_capacity}
 use Rattle.block_shelf.specs.declared.refusals.PutRefusal.{PutRefusal}
 use Rattle.block_shelf.specs.View.{ShelfView, IsShelf}
@@ -9,7 +10,7 @@ use Rattle.block_shelf.specs.Begins.{BeginsFor}
 use Rattle.block_shelf.proofs.Roomed.{room_prior}
 use Rattle.block_shelf.proofs.Begun.{passed_on}
 use Rattle.block_shelf.proofs.Appended.{begun_prior, shut_prior}
-use Rattle.block_shelf.proofs.FoundRoom.{told_room, told_no_room, can_in_room, can_in_new}
+use Rattle.block_shelf.proofs.FoundRoom.{stands_within, told_room, told_no_room, can_in_room, can_in_new}
 use Rattle.block_shelf.proofs.Appending.{too_big_for, lacks_memory, cannot_begin, appends_in_room, appends_in_new}
 use Rattle.block_shelf.proofs.shelf.Shelf.append_copy.Goals as goal
 use Rattle.block_shelf.proofs.shelf.Shelf.append_copy.Goals.{in-Some+in_ok-reserve_at-in-Some, in-None+in_ok-begin-in-None}
@@ -42,6 +43,31 @@ returns-in_err-begin-in-None g c =
     let full = told_no_room c.stream_of.result (stream_of c.args.class) c.args.units (version_units v) old.buffers c.stream_of.ensures c.requires.units c.in-None.ensures in
     passed_on c.from_residual-in_err-begin-in-None.result c.in_err-begin-in-None.field-0.0 Q c.from_residual-in_err-begin-in-None.ensures.1
     (cannot_begin g.D.Disk.view g.met.D.Disk.is_disk c.args.class c.args.digest.now v c.args.prior old whole fits full new c.in_err-begin-in-None.field-0.0 c.in_err-begin-in-None.ensures)
+
+pub reserve_at-requires : goal.reserve_at-requires
+reserve_at-requires g c = record { within = stands_within c.in-Some.at c.args.self.now.buffers c.in-Some.ensures.stands }
+
+pub put_here-requires-clause-units : goal.put_here-requires-clause-units
+put_here-requires-clause-units g c = c.requires.units
+
+pub put_here-requires-clause-version : goal.put_here-requires-clause-version
+put_here-requires-clause-version g c = c.requires.version
+
+pub put_here-requires-clause-hold : goal.put_here-requires-clause-hold
+put_here-requires-clause-hold g c =
+    elim c.match-room_at.branch [
+      | in-Some+in_ok-reserve_at-in-Some w ↦ subst (λ (x : ShelfView g.row.D.Denot). 1 ≤ x.holds.spare) (sym w.self-is) w.in_ok-reserve_at-in-Some.ensures.hold
+      | in-None+in_ok-begin-in-None w ↦ subst (λ (x : ShelfView g.row.D.Denot). 1 ≤ x.holds.spare) (sym w.self-is) w.in_ok-begin-in-None.ensures.hold
+    ]
+
+pub put_here-requires-clause-named : goal.put_here-requires-clause-named
+put_here-requires-clause-named g c =
+    elim c.match-room_at.branch [
+      | in-Some+in_ok-reserve_at-in-Some w ↦
+          subst (λ (x : ShelfView g.row.D.Denot). device_number x.geometry.devices c.args.digest.now ≡ x.geometry.device) (sym (w.self-is ∙ w.reserve_at.ensures.same.rest)) c.requires.named
+      | in-None+in_ok-begin-in-None w ↦
+          subst (λ (x : ShelfView g.row.D.Denot). device_number x.geometry.devices c.args.digest.now ≡ x.geometry.device) (sym (w.self-is ∙ w.in_ok-begin-in-None.ensures.begun)) c.requires.named
+    ]
 
 pub put_here-requires-clause-room : goal.put_here-requires-clause-room
 put_here-requires-clause-room g c =
