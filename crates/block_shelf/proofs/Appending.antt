@@ -1,6 +1,6 @@
 -- An append of a copy does what it promises: where the copy is too big for a block, where memory is wanting, where no buffer can begin, where there is room, and
 -- where a buffer begins.
-use Rattle.std.proofs.Common.{◌≡◌, ℕ, ◌-◌, ◌<◌, ◌≤◌, false, List, [], None, Result, Ok, Err, length, map, refl, sym, ◌∙◌, ap, subst, arith}
+use Rattle.std.proofs.Common.{◌≡◌, ℕ, ◌-◌, ◌<◌, ◌≤◌, false, [], Result, Ok, Err, length, map, refl, sym, ◌∙◌, ap, subst, arith}
 use Rattle.std.specs.Prelude.{Option, Some}
 use Rattle.disk_model.specs.Bytes.{torn_refl}
 use Rattle.disk_model.specs.Disk.{DiskView, IsDisk, IsHonest, TellsTorn}

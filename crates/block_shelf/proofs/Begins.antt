@@ -5,8 +5,7 @@ use Rattle.std.specs.Prelude.{MatchResult, OnOk, IfErr, Option, slice_set}
 use Rattle.fault_count.specs.Counts.{Rose}
 use Rattle.disk_model.specs.Bytes.{torn_refl}
 use Rattle.disk_model.specs.Disk.{DiskView, IsDisk, IsHonest, TellsTorn, TornFrom, meanwhile}
-use Rattle.device_model.specs.Book.{Setup, first_block}
-use Rattle.device_model.specs.Device.{State}
+use Rattle.device_model.specs.Book.{first_block}
 use Rattle.device_model.specs.Events.{Cause}
 use Rattle.device_model.specs.Steps.{Step}
 use Rattle.block_format.specs.declared.geometry.Gate.{Gate}
@@ -23,10 +22,10 @@ use Rattle.block_shelf.specs.View.{ShelfView, IsShelf, gate_at}
 use Rattle.block_shelf.specs.Disks.{IsLater}
 use Rattle.block_shelf.specs.Calls.{Goes}
 use Rattle.block_shelf.specs.Changes.{SameButRoom, begin_refusal, with_begun}
-use Rattle.block_shelf.specs.Appends.{kept_free, IsAppendRefusal, IsLeftBy, refused_steps, ready_for, stream_of, with_first_shut, with_first_unclosed}
+use Rattle.block_shelf.specs.Appends.{kept_free, IsAppendRefusal, IsLeftBy, ready_for, stream_of, with_first_shut, with_first_unclosed}
 use Rattle.block_shelf.specs.Begins.{BeginsIn, BeginsFor}
 use Rattle.block_shelf.proofs.Begun.{goes_begun, left_behind, ready_is, unfailed_steps}
-use Rattle.block_shelf.proofs.FirstClosed.{goes_closed, goes_unclosed, shut_shelf, unclosed_shelf}
+use Rattle.block_shelf.proofs.FirstClosed.{goes_closed, goes_unclosed, shut_shelf}
 use Rattle.block_shelf.proofs.Roomed.{goes_nowhere, goes_room, later_none, room_disk, room_none, room_stands}
 
 -- the block that was read first

@@ -1,7 +1,7 @@
 -- A scan of a block does what its parts promise: a pending block is read from memory, an unsure gate is closed, and any other block is read from
 -- the disk.
-use Rattle.std.proofs.Common.{◌≡◌, ◌≢◌, ◌<◌, ℕ, List, [], Result, Ok, Err, refl, sym, ◌∙◌, ap, subst, arith}
-use Rattle.std.specs.Prelude.{Contains, MatchResult, IfErr, OnOk, OnErr}
+use Rattle.std.proofs.Common.{◌≡◌, ◌≢◌, ◌<◌, ℕ, List, [], Result, Ok, Err, refl, sym, ◌∙◌, ap, subst}
+use Rattle.std.specs.Prelude.{Contains, MatchResult, IfErr}
 use Rattle.std.specs.List.{AllByRecursion}
 use Rattle.fault_count.specs.Counts.{Rose}
 use Rattle.disk_model.specs.Disk.{DiskView, IsDisk, IsHonest, Within}

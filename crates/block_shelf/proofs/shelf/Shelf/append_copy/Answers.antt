@@ -1,4 +1,4 @@
-use Rattle.std.proofs.Common.{◌≡◌, ◌≤◌, ℕ, Ok, Err, length, sym, ◌∙◌, ap, subst}
+use Rattle.std.proofs.Common.{◌≡◌, ◌≤◌, ℕ, Err, length, sym, ◌∙◌, ap, subst}
 use Rattle.rec_format.specs.Places.{device_number}
 use Rattle.rec_format.specs.Versions.{version_units, block_capacity}
 use Rattle.block_shelf.specs.declared.refusals.PutRefusal.{PutRefusal}
@@ -6,7 +6,6 @@ use Rattle.block_shelf.specs.View.{ShelfView, IsShelf}
 use Rattle.block_shelf.specs.Calls.{IsPriorIn}
 use Rattle.block_shelf.specs.Changes.{CanTake, HasRoomAt, SameButRoom, with_begun}
 use Rattle.block_shelf.specs.Appends.{AppendsCopy, ready_for, stream_of, with_first_shut}
-use Rattle.block_shelf.specs.Begins.{BeginsFor}
 use Rattle.block_shelf.proofs.Roomed.{room_prior}
 use Rattle.block_shelf.proofs.Begun.{passed_on}
 use Rattle.block_shelf.proofs.Appended.{begun_prior, shut_prior}

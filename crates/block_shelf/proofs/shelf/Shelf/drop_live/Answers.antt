@@ -1,10 +1,8 @@
-use Rattle.std.proofs.Common.{◌≡◌, ◌<◌, ℕ, true, false, [], ◌∷◌, refl, sym, ◌∙◌, ap, subst}
-use Rattle.std.specs.Prelude.{Contains}
-use Rattle.disk_model.specs.Disk.{DiskView, IsDisk, IsHonest}
+use Rattle.std.proofs.Common.{◌≡◌, ◌<◌, ℕ, [], ◌∷◌, refl, sym, ◌∙◌, ap, subst}
 use Rattle.rec_format.specs.declared.version.Digest.{Digest}
 use Rattle.device_model.specs.Histories.{dropped, rid}
 use Rattle.device_model.specs.Book.{Setup, dropped_live}
-use Rattle.device_model.specs.Device.{State, entry_is_covered}
+use Rattle.device_model.specs.Device.{State}
 use Rattle.device_model.specs.Steps.{removed, rid_of, with_item, after_step}
 use Rattle.block_shelf.specs.View.{ShelfView, IsUnused}
 use Rattle.block_shelf.specs.Calls.{Goes}

@@ -1,11 +1,10 @@
 use Rattle.std.proofs.Common.{arith, ◌≡◌, ◌+◌, ◌-◌, List, ℕ, Err, length, ◌∙◌, ap, subst, drop}
 use Rattle.std.specs.Prelude.{MatchResult}
 use Rattle.std.proofs.lemmas.List.{take_at}
-use Rattle.block_format.specs.Layout.{body_bytes}
 use Rattle.write_buffer.proofs.Sizes.{sized}
 use Rattle.block_shelf.specs.declared.refusals.VacateRefusal.TheVariants.{Fault}
 use Rattle.block_shelf.specs.View.{ShelfView, IsShelf}
-use Rattle.block_shelf.specs.Scans.{ReadsBlock, ReadsBody, IsDamageOf}
+use Rattle.block_shelf.specs.Scans.{ReadsBody, IsDamageOf}
 use Rattle.block_shelf.proofs.ReadOnly.{shelf_stays, images_of_now, only_read, read_there}
 use Rattle.block_shelf.proofs.Scanning.{block_of, block_unread, block_read}
 use Rattle.block_shelf.proofs.shelf.Shelf.read_block.Goals as goal

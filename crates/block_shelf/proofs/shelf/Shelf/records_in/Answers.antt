@@ -1,4 +1,4 @@
-use Rattle.std.proofs.Common.{arith, rules, ◌≡◌, ◌≢◌, ◌+◌, ◌*◌, ◌-◌, ◌<◌, ℕ, List, [], length, refl, sym, ◌∙◌, ap, subst}
+use Rattle.std.proofs.Common.{arith, rules, ◌≡◌, ◌≢◌, ◌+◌, ◌*◌, ◌-◌, ℕ, List, length, ◌∙◌, ap, subst}
 use Rattle.std.specs.Prelude.{MatchResult}
 use Rattle.std.specs.List.{AllByRecursion}
 use Rattle.rec_format.specs.Versions.{block_capacity}
@@ -7,7 +7,7 @@ use Rattle.block_format.specs.declared.geometry.Gate.TheVariants.{Shut}
 use Rattle.block_format.specs.Layout.{IsBody, body_bytes}
 use Rattle.write_buffer.specs.Buffers.{BufferState, bytes_of, body_in}
 use Rattle.write_buffer.proofs.Sizes.{sized, body_size}
-use Rattle.block_shelf.specs.View.{ShelfView, IsShelf, gate_at}
+use Rattle.block_shelf.specs.View.{gate_at}
 use Rattle.block_shelf.specs.Scans.{ReadsIn, ReadsAll, ReadsBody, IsDamageOf, IsSound}
 use Rattle.block_shelf.proofs.Begun.{passed_on}
 use Rattle.block_shelf.proofs.ScanBlocks.{each_answer, only_err, no_damage, undamaged, buffer_found}

@@ -18,7 +18,7 @@ use Rattle.block_shelf.specs.declared.refusals.VacateRefusal.TheVariants.{Memory
 use Rattle.block_shelf.specs.View.{ShelfView, IsSetupOf, records_of, gate_at}
 use Rattle.block_shelf.specs.Standing.{ImagesHold}
 use Rattle.block_shelf.specs.Calls.{Goes}
-use Rattle.block_shelf.specs.Scans.{ReadsIn, ScansIn, ReadsAll, own_found, possible_copies}
+use Rattle.block_shelf.specs.Scans.{ScansIn, ReadsAll, own_found, possible_copies}
 use Rattle.block_shelf.proofs.Begun.{passed_on}
 use Rattle.block_shelf.proofs.Scanning.{reads_at, unread, wanting_memory, taken_in}
 use Rattle.block_shelf.proofs.RaidTurns.{goes_scanned}
