@@ -21,7 +21,7 @@ use Rattle.block_shelf.specs.Calls.{Goes}
 use Rattle.block_shelf.specs.Scans.{ScansIn, ReadsAll, own_found, possible_copies}
 use Rattle.block_shelf.proofs.Begun.{passed_on}
 use Rattle.block_shelf.proofs.Scanning.{reads_at, unread, wanting_memory, taken_in}
-use Rattle.block_shelf.proofs.RaidTurns.{goes_scanned}
+use Rattle.block_shelf.proofs.RaidTurns.{goes_scanned, raided_shelf}
 use Rattle.block_shelf.proofs.ScanFinds.{own_finds, own_only, parts_below}
 use Rattle.block_shelf.proofs.shelf.Shelf.scan_block.Goals as goal
 
@@ -35,6 +35,25 @@ returns-in_default g c = wanting_memory g.D.Disk.view g.met.D.Disk.is_disk c.arg
 
 pub returns-in_default-parts_in : goal.returns-in_default-parts_in
 returns-in_default-parts_in g c = wanting_memory g.D.Disk.view g.met.D.Disk.is_disk c.args.block c.args.self.now _ c.records_in.new.self c.in_ok-found.found c.in_ok-found.ensures
+
+pub scanned-requires-clause-turn : goal.scanned-requires-clause-turn
+scanned-requires-clause-turn g c = ap (λ (v : ShelfView g.row.D.Denot). v.raid.next) (c.self.view_is ∙ c.records_in.ensures.rest) ∙ c.requires.turn
+
+pub invariant_of-self : goal.invariant_of-self
+invariant_of-self g c =
+    let here : ShelfView g.row.D.Denot = record { disk = c.self.inside.disk; geometry = c.self.inside.geometry; limits = c.self.inside.limits; buffers = c.self.inside.buffers.items; gates = c.self.inside.gates.items; rolls = c.self.inside.ledger; holds = c.self.inside.holds; free = c.self.inside.free.items; queue = c.self.inside.queue; cache = c.self.inside.cache; raid = c.self.inside.raid; next_number = c.self.inside.next_number } in
+    let was = c.self.invariant.0.raid in (
+      raided_shelf g.D.Disk.view here c.scanned.new.self c.self.invariant.0 (record { parts = ap (λ (b : BookState). b.parts) c.in_default-scanned.ensures.err ∙ was.parts; blocks = ap (λ (b : BookState). b.blocks) c.in_default-scanned.ensures.err ∙ was.blocks }),
+      c.self.invariant.1,
+    )
+
+pub invariant_of-self-2 : goal.invariant_of-self-2
+invariant_of-self-2 g c =
+    let here : ShelfView g.row.D.Denot = record { disk = c.self.inside.disk; geometry = c.self.inside.geometry; limits = c.self.inside.limits; buffers = c.self.inside.buffers.items; gates = c.self.inside.gates.items; rolls = c.self.inside.ledger; holds = c.self.inside.holds; free = c.self.inside.free.items; queue = c.self.inside.queue; cache = c.self.inside.cache; raid = c.self.inside.raid; next_number = c.self.inside.next_number } in
+    let was = c.self.invariant.0.raid in (
+      raided_shelf g.D.Disk.view here c.scanned.new.self c.self.invariant.0 (record { parts = ap (λ (b : BookState). b.parts) c.in-Ok-scanned.ensures.book ∙ was.parts; blocks = ap (λ (b : BookState). b.blocks) c.in-Ok-scanned.ensures.book ∙ was.blocks }),
+      c.self.invariant.1,
+    )
 
 pub scanned-requires-clause-below : goal.scanned-requires-clause-below
 scanned-requires-clause-below g c =
