@@ -1,5 +1,6 @@
-use Rattle.std.proofs.Common.{◌≡◌, ℕ, Bool, length, refl, sym, ap, ◌∙◌, subst, arith}
-use Rattle.std.specs.Prelude.{Option, Some, None, Result, Ok, Err, IfOk}
+use Rattle.std.proofs.Common.{◌≡◌, ℕ, Bool, length, refl, sym, ap, ◌∙◌, subst, arith, inr, true}
+use Rattle.block_shelf.proofs.Roomed.{room_none}
+use Rattle.std.specs.Prelude.{Option, Some, None, Result, Ok, Err, IfOk, ◌⊎◌, IfErr}
 use Rattle.std.proofs.lemmas.Bool.{false≢true}
 use Rattle.std.proofs.lemmas.Result.{err_from_is_err_and}
 use Rattle.rec_format.specs.declared.entry.Entry.{Entry}
@@ -17,11 +18,11 @@ use Rattle.block_shelf.specs.declared.place.Class.TheVariants as class
 use Rattle.shard_core.specs.declared.refusals.WriteRefusal.{WriteRefusal}
 use Rattle.shard_core.specs.declared.refusals.WriteRefusal.TheVariants as write
 use Rattle.shard_core.specs.View.{setup_for}
-use Rattle.shard_core.specs.Calls.{cause_of_write, write_answer}
+use Rattle.shard_core.specs.Calls.{cause_of_write, write_answer, IsRefusedStep}
 use Rattle.shard_steps.specs.Events.{StepMakes}
 use Rattle.shard_core.specs.Writing.{IsWriteOf, IsFit, IsUnfit, written_answer}
 use Rattle.shard_core.proofs.Later.{later_none}
-use Rattle.shard_core.proofs.Puts.{stamp_fine, unfit_refusal, spent_refusal, put_writes, stands_against, memory_wants, makes_nothing}
+use Rattle.shard_core.proofs.Puts.{stamp_fine, unfit_refusal, spent_refusal, put_writes, stands_against, memory_wants, makes_nothing, unfit_left}
 use Rattle.shard_core.proofs.put.put_step.Goals as goal
 
 pub returns-in_err-check_put-clause-makes : goal.returns-in_err-check_put-clause-makes
@@ -175,3 +176,20 @@ write_step-requires-clause-client g c = refl
 
 pub write_step-requires-clause-found : goal.write_step-requires-clause-found
 write_step-requires-clause-found g c = c.find-found.ensures.value
+
+pub returns-in_err-check_put-clause-refused : goal.returns-in_err-check_put-clause-refused
+returns-in_err-check_put-clause-refused g c =
+    let refusal : WriteRefusal = c.in_err-check_put.field-0.0 in
+    let p = err_from_is_err_and c.from_residual.result c.from_residual.ensures.1 in
+    let same : c.from_residual.result ≡ Err refusal = p.1 ∙ ap (λ (r : WriteRefusal). Err r) p.2 in
+    subst (λ (r : Result Stamp WriteRefusal). IfErr r (λ e. ((e ≡ write.Fault) × (c.args.set.now.commit ≡ true)) ⊎ IsRefusedStep c.args.sprig.now c.args.sprig.now c.args.shelf.now c.args.shelf.now e)) (sym same)
+    (inr (unfit_left c.args.sprig.now c.args.shelf.now (length c.args.payload.now) c.capacity.result c.args.expect c.generation_of.result refusal (c.in_err-check_put.ensures {u = tt})))
+
+pub returns-in_err-stamp-clause-refused : goal.returns-in_err-stamp-clause-refused
+returns-in_err-stamp-clause-refused g c =
+    let p = err_from_is_err_and c.from_residual-in_err-stamp.result c.from_residual-in_err-stamp.ensures.1 in
+    let same : c.from_residual-in_err-stamp.result ≡ Err write.Spent = p.1 ∙ ap (λ (r : WriteRefusal). Err r) (p.2 ∙ (c.in_err-stamp.ensures {u = tt}).0) in
+    subst (λ (r : Result Stamp WriteRefusal). IfErr r (λ e. ((e ≡ write.Fault) × (c.args.set.now.commit ≡ true)) ⊎ IsRefusedStep c.args.sprig.now c.args.sprig.now c.args.shelf.now c.args.shelf.now e)) (sym same) (inr (record { sprig = record { entries = refl; high = refl }; shelf = refl }))
+
+pub returns-in_default-clause-refused : goal.returns-in_default-clause-refused
+returns-in_default-clause-refused g c = inr (record { sprig = record { entries = refl; high = refl }; shelf = room_none c.args.shelf.now })

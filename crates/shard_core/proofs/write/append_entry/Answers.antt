@@ -1,4 +1,6 @@
 use Rattle.std.proofs.Common.{◌≡◌, ◌<◌, false, refl, sym, ◌∙◌, ap, subst}
+use Rattle.shard_core.specs.Calls.{IsShelfLeft}
+use Rattle.block_shelf.proofs.Roomed.{room_none}
 use Rattle.std.specs.Prelude.{Option, Some, None, IfSome, option_map}
 use Rattle.rec_format.specs.declared.entry.Entry.{Entry}
 use Rattle.sprig_tree.specs.Entries.{entry_of}
@@ -17,7 +19,7 @@ use Rattle.block_shelf.proofs.Going.{goes_none}
 use Rattle.shard_steps.specs.Sprigs.{place_of}
 use Rattle.shard_steps.proofs.Found.{lies_found, prior_is, prior_stands, same_stands}
 use Rattle.shard_core.proofs.Later.{later_none}
-use Rattle.shard_core.proofs.Writes.{copy_of, wrote_by}
+use Rattle.shard_core.proofs.Writes.{copy_of, wrote_by, left_by}
 use Rattle.shard_core.proofs.write.append_entry.Goals as goal
 
 pub prior_place-prior-requires : goal.prior_place-prior-requires
@@ -120,3 +122,18 @@ returns-in-Ok-append-clause-shape g c = c.append.ensures.shape
 
 pub returns-in-Ok-append-clause-whole : goal.returns-in-Ok-append-clause-whole
 returns-in-Ok-append-clause-whole g c = c.append.ensures.whole
+
+pub returns-in_default-clause-refused : goal.returns-in_default-clause-refused
+returns-in_default-clause-refused g c = record {
+  sprig = record { entries = ap (λ (x : SprigState). x.entries) c.in_default.ensures.err; high = ap (λ (x : SprigState). x.hw) c.in_default.ensures.err };
+  shelf = room_none c.args.shelf.now;
+}
+
+pub returns-in-Err-clause-refused : goal.returns-in-Err-clause-refused
+returns-in-Err-clause-refused g c = record {
+  sprig = record { entries = c.reserve.ensures.entries; high = c.reserve.ensures.high };
+  shelf = subst (IsShelfLeft c.args.shelf.now c.append.new.self) (sym c.write_refusal.ensures) (left_by c.args.shelf.now c.append.new.self c.in-Err.refusal c.in-Err.ensures.refused);
+}
+
+pub returns-in-Ok-append-clause-refused : goal.returns-in-Ok-append-clause-refused
+returns-in-Ok-append-clause-refused g c = tt

@@ -1,6 +1,7 @@
-use Rattle.std.proofs.Common.{◌≡◌, List, ◌∷◌, sym, ap, ◌∙◌, subst}
+use Rattle.std.proofs.Common.{◌≡◌, List, ◌∷◌, sym, ap, ◌∙◌, subst, inl, inr, true, refl}
+use Rattle.shard_core.specs.Calls.{IsRefusedStep}
 use Rattle.std.proofs.Math.Nat.{le_trans}
-use Rattle.std.specs.Prelude.{Result, Ok, Err}
+use Rattle.std.specs.Prelude.{Result, Ok, Err, ◌⊎◌, IfErr}
 use Rattle.std.proofs.lemmas.Bool.{false≢true}
 use Rattle.std.proofs.lemmas.Result.{err_from_is_err_and}
 use Rattle.fault_count.specs.Counts.{Rose}
@@ -153,3 +154,15 @@ returns-clause-whole g c = c.append_entry.ensures.whole
 
 pub returns-clause-refused : goal.returns-clause-refused
 returns-clause-refused g c = tt
+
+pub returns-in_err-block-clause-refused : goal.returns-in_err-block-clause-refused
+returns-in_err-block-clause-refused g c =
+    let p = err_from_is_err_and c.from_residual.result c.from_residual.ensures.1 in
+    let same : c.from_residual.result ≡ Err c.in_err-block.field-0.0 = p.1 ∙ ap (λ (r : WriteRefusal). Err r) p.2 in
+    subst (λ (r : Result Stamp WriteRefusal). IfErr r (λ e. ((e ≡ write.Fault) × (c.args.set.now.commit ≡ true)) ⊎ IsRefusedStep c.args.sprig.now c.append_entry.new.sprig c.args.shelf.now c.append_entry.new.shelf e)) (sym same) (inr (c.in_err-block.ensures {u = tt}).refused)
+
+pub returns-in_err-commit-clause-refused : goal.returns-in_err-commit-clause-refused
+returns-in_err-commit-clause-refused g c =
+    let p = err_from_is_err_and c.from_residual-in_err-commit.result c.from_residual-in_err-commit.ensures.1 in
+    let same : c.from_residual-in_err-commit.result ≡ Err write.Fault = p.1 ∙ ap (λ (r : WriteRefusal). Err r) (p.2 ∙ (c.in_err-commit.ensures {u = tt}).fault) in
+    subst (λ (r : Result Stamp WriteRefusal). IfErr r (λ e. ((e ≡ write.Fault) × (c.args.set.now.commit ≡ true)) ⊎ IsRefusedStep c.args.sprig.now c.append_entry.new.sprig c.args.shelf.now c.commit.new.shelf e)) (sym same) (inl (refl, c.if-not-set.false))
