@@ -26,19 +26,23 @@ fn names_so_many(words: &[String], count: usize) -> bool
     }
 }
 
-// The program with these words.
+// The program with these words; none where these name more disks, or fewer.
 fn top<D: Disk, L: Source + Sink, C: Clock>(
     alloc: Global,
     words: &[String],
     disks: Vec<D>,
     link: &mut L,
     clock: &mut C,
-) -> Result<Outcome<D>, Trouble> {
+) -> Option<Outcome<D>> {
     if !names_so_many(words, disks.len()) {
-        return Err(Trouble::Line("there are more disks, or fewer"));
+        return None;
     }
     let outcome = node_top(alloc, words, disks, link, clock);
-    Ok(outcome)
+    Some(outcome)
+}
+
+fn unnamed() -> Trouble {
+    Trouble::Line("there are more disks than names, or fewer")
 }
 
 /// A clock that tells these times, the last of them for ever; where there are none, 1000.
@@ -101,7 +105,9 @@ fn start_plainly<D: Disk, C: Clock>(
     mut clock: C,
 ) -> Result<Came<D>, Trouble> {
     let mut link = Link::new(alloc, around)?;
-    let outcome = top(alloc, words, disks, &mut link, &mut clock)?;
+    let Some(outcome) = top(alloc, words, disks, &mut link, &mut clock) else {
+        return Err(unnamed());
+    };
     Ok(Came {
         end: end_of(alloc, outcome.status, outcome.note.as_str())?,
         text: link.into_shown(),
@@ -154,7 +160,9 @@ fn start_shown<D: Disk, C: Clock, E: Eprint + IsTerminal + Drop>(
     let mut clock = CountedClock::new(clock, progress, lines_asked(words));
     let mut link = Cleared::new(Link::new(alloc, around)?, progress);
     let disks = watched(alloc, disks, progress)?;
-    let outcome = top(alloc, words, disks, &mut link, &mut clock)?;
+    let Some(outcome) = top(alloc, words, disks, &mut link, &mut clock) else {
+        return Err(unnamed());
+    };
     progress.end();
     Ok(Came {
         end: end_of(alloc, outcome.status, outcome.note.as_str())?,

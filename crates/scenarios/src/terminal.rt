@@ -36,11 +36,11 @@ impl Screen {
     pub fn tell(self, text: &mut Vec<u8>) -> Result<(), Trouble> {
         let Screen { shown, .. } = self;
         for call in shown.into_inner() {
-            let told = match call.as_str().trim_matches('\r').trim_end() {
-                "" => "cleared",
-                told => told,
-            };
+            let told = call.as_str().trim_matches('\r').trim_end();
             text.extend_from_slice(b"~ ")?;
+            if told.is_empty() {
+                text.extend_from_slice(b"cleared")?;
+            }
             text.extend_from_slice(told.as_bytes())?;
             text.push(b'\n')?;
         }
