@@ -1,7 +1,7 @@
 -- Where an append puts its copy: in a buffer that has room, or in one that has begun.
-use Rattle.std.proofs.Common.{◌≡◌, ℕ, ◌+◌, ◌-◌, ◌≤◌, List, [], length, map, refl, sym, ◌∙◌, ap, subst, arith}
+use Rattle.std.proofs.Common.{◌≡◌, ℕ, ◌+◌, ◌-◌, ◌<◌, ◌≤◌, List, [], ◌∷◌, length, map, refl, sym, ◌∙◌, ap, subst, arith}
 use Rattle.std.specs.Prelude.{Option}
-use Rattle.std.proofs.lemmas.List.{length_push}
+use Rattle.std.proofs.lemmas.List.{length_push, length-append}
 use Rattle.rec_format.specs.declared.version.Digest.{Digest}
 use Rattle.rec_format.specs.declared.version.Version.{Version}
 use Rattle.rec_format.specs.Versions.{block_capacity}
@@ -22,6 +22,9 @@ told_room stream other n units place at buffers of_stream same there room =
 pub told_no_room : (stream other : Stream) (n units : ℕ) (buffers : List BufferState) → stream ≡ other → n ≡ units → (HasRoom stream n buffers → ⊥) → HasRoom other units buffers → ⊥
 told_no_room stream other n units buffers of_stream same none =
     subst (λ (m : ℕ). HasRoom other m buffers → ⊥) same (subst (λ (x : Stream). HasRoom x n buffers → ⊥) of_stream none)
+
+pub stands_within : (at : ℕ) (buffers : List BufferState) → StandsAt at buffers → at < length buffers
+stands_within at buffers s = subst (λ (l : List BufferState). at < length l) (sym s.parts) (omega (arith, s.before, length-append s.front (s.buffer ∷ s.behind)))
 
 -- ---- the buffer takes the copy
 

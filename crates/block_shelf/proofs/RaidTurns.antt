@@ -16,11 +16,37 @@ use Rattle.kept_images.proofs.Holding.{plain_holds}
 use Rattle.kept_images.proofs.Stepping.{plain_book}
 use Rattle.raid_book.specs.Books.{BookState, begun, given_up}
 use Rattle.raid_book.specs.Raids.{RaidStands}
-use Rattle.block_shelf.specs.View.{ShelfView, records_of, gate_at}
+use Rattle.block_shelf.specs.View.{ShelfView, IsShelf, IsRaidOf, records_of, gate_at}
 use Rattle.block_shelf.specs.Standing.{StandsFor, BooksStand, IsPlaced, ImagesHold}
 use Rattle.block_shelf.specs.Calls.{Goes}
 use Rattle.block_shelf.specs.Scans.{possible_copies}
 use Rattle.block_shelf.proofs.Going.{stays}
+
+-- the book may be another of the same parts and blocks
+pub raided_shelf : {D : Type 0} (view : D → DiskView) (shelf : ShelfView D) (book : BookState) → IsShelf view shelf → IsRaidOf shelf.geometry shelf.limits book → IsShelf view (record shelf { raid = book })
+raided_shelf view shelf book is of = record {
+  geometry = is.geometry;
+  limits = is.limits;
+  room = is.room;
+  number = is.number;
+  buffers = is.buffers;
+  order = is.order;
+  free = is.free;
+  apart = is.apart;
+  gates = is.gates;
+  rolls = is.rolls;
+  each = is.each;
+  held = is.held;
+  vacant = is.vacant;
+  unheld = is.unheld;
+  packed = is.packed;
+  waits = is.waits;
+  ready = is.ready;
+  stand = is.stand;
+  queue = is.queue;
+  cache = is.cache;
+  raid = of;
+}
 
 -- a step that changes the raid of a state alone
 module _ {D : Type 0} (view : D → DiskView) (setup : Setup) (shelf : ShelfView D) (book : BookState) (s : State) (raid : RaidState) (step : Step) (only : after_step setup step s ≡ record s { raid = raid }) (plain : is_plain step ≡ true) where

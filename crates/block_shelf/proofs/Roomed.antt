@@ -1,5 +1,5 @@
 -- Memory is taken, and nothing else has changed: the state stays, and so do the images.
-use Rattle.std.proofs.Common.{◌≡◌, inl, List, [], ◌∷◌, refl, sym, ◌∙◌, ap, subst}
+use Rattle.std.proofs.Common.{◌≡◌, inl, List, [], ◌∷◌, refl, sym, ◌∙◌, ap, subst, arith}
 use Rattle.std.specs.Prelude.{Option, Some, None, IsTrue, IsSomeAnd, Contains}
 use Rattle.disk_model.specs.Disk.{DiskView, IsDisk}
 use Rattle.disk_model.specs.Runs.{OneOf, Leaves, leaves_none}
@@ -12,6 +12,7 @@ use Rattle.hold_book.specs.Holds.{Holds, has_hold}
 use Rattle.kept_images.proofs.Held.{held_survives}
 use Rattle.block_shelf.specs.declared.place.Place.{Place}
 use Rattle.block_shelf.specs.View.{ShelfView, IsShelf, gate_at, records_of}
+use Rattle.block_shelf.specs.Disks.{IsLater}
 use Rattle.block_shelf.specs.Standing.{StandsFor, BooksStand, IsPlaced, ImagesHold}
 use Rattle.block_shelf.specs.Calls.{Goes, IsPriorIn}
 use Rattle.block_shelf.specs.Changes.{SameButRoom}
@@ -71,6 +72,9 @@ room_then {D} old mid new first then = record {
 }
 
 -- ---- no step
+
+pub later_none : (v : DiskView) → IsDisk v → IsLater v v
+later_none v is = record { time = (leaves_none (λ c. Unit {0}) v is (λ c image. tt)).time; count = omega arith; size = refl }
 
 module _ {D : Type 0} (view : D → DiskView) (is_disk : (disk : D) → IsDisk (view disk)) (setup : Setup) (s : State) where
   pub goes_nowhere : (shelf : ShelfView D) → StandsFor setup shelf s → Goes view setup [] shelf s shelf

@@ -1,5 +1,5 @@
 -- A raid clears the cover of an entry: the shelf is as it was, and stands for the state behind it.
-use Rattle.std.proofs.Common.{◌≡◌, Bool, true, false, [], ◌∷◌, cond, inl, refl, sym, ◌∙◌, ap, subst}
+use Rattle.std.proofs.Common.{◌≡◌, Bool, true, false, [], ◌∷◌, cond, inl, refl, sym, ◌∙◌, subst}
 use Rattle.disk_model.specs.Disk.{DiskView, IsDisk, IsHonest}
 use Rattle.disk_model.specs.Runs.{OneOf}
 use Rattle.rec_format.specs.declared.version.Digest.{Digest}

@@ -1,32 +1,36 @@
 -- Crate block_shelf. What an append promises: why it is refused, what a refusal leaves, and where the copy is.
-use Rattle.std.specs.Prelude.{◌≡◌, ◌≢◌, ℕ, ◌+◌, ◌<◌, ◌≤◌, nat_lt, List, [], ◌∷◌, Option, Some, None, slice_set, if◌then◌else◌}
+use Rattle.std.specs.Prelude.{◌≡◌, ◌≢◌, ℕ, ◌+◌, ◌<◌, ◌≤◌, false, nat_lt, List, [], ◌∷◌, Option, Some, None, Result, Err, slice_set, if◌then◌else◌, IfOk, IfErr, OnOk, MatchResult}
 use Rattle.rec_format.specs.declared.version.Digest.{Digest}
 use Rattle.rec_format.specs.declared.version.Version.{Version}
 use Rattle.rec_format.specs.Versions.{block_capacity, version_units}
-use Rattle.device_model.specs.Book.{Setup, Book, Live, first_block, first_to_back, live_of}
+use Rattle.fault_count.specs.Counts.{Rose}
+use Rattle.device_model.specs.Book.{Setup, Book, Live, first_block, first_to_back, has_room, live_of}
 use Rattle.device_model.specs.Device.{State, entry}
 use Rattle.device_model.specs.Steps.{Step, wrote, moved, closing_failed, after_step, states_through}
 use Rattle.device_model.specs.Events.{Cause, too_big, spent, overload, no_space}
 use Rattle.device_model.specs.Legal.{first_cause, no_place, ReadInstead}
-use Rattle.disk_model.specs.Disk.{DiskView, IsHonest}
+use Rattle.disk_model.specs.Disk.{DiskView, IsHonest, TellsTorn}
 use Rattle.disk_model.specs.Runs.{OneOf, Leaves}
 use Rattle.block_format.specs.declared.geometry.Geometry.{Geometry}
 use Rattle.block_format.specs.declared.geometry.Gate.TheVariants.{Shut, Unsure}
+use Rattle.block_format.specs.Layout.{block_place}
 use Rattle.recovery.specs.Surviving.{Survives}
 use Rattle.write_buffer.specs.declared.stream.Stream.{Stream}
 use Rattle.write_buffer.specs.declared.stream.Stream.TheVariants.{Client, Defrag}
 use Rattle.write_buffer.specs.Buffers.{BufferState, used_units}
 use Rattle.hold_book.specs.Holds.{with_pair}
+use Rattle.unit_ledger.specs.Rolls.{copies_in}
 use Rattle.kept_facts.specs.Asking.{MayBeWritten}
 use Rattle.block_shelf.specs.declared.place.Place.{Place}
 use Rattle.block_shelf.specs.declared.place.Class.{Class}
 use Rattle.block_shelf.specs.declared.place.Class.TheVariants as class
 use Rattle.block_shelf.specs.declared.refusals.PutRefusal.{PutRefusal}
 use Rattle.block_shelf.specs.declared.refusals.PutRefusal.TheVariants as put
-use Rattle.block_shelf.specs.View.{ShelfView, gate_at}
+use Rattle.block_shelf.specs.View.{ShelfView, IsShelf, IsRoll, IsSetupOf, SameShape, gate_at}
+use Rattle.block_shelf.specs.Disks.{IsLater}
 use Rattle.block_shelf.specs.Standing.{StandsFor, BooksStand, ImagesHold, IsPlaced, book_stream}
-use Rattle.block_shelf.specs.Calls.{copy_live}
-use Rattle.block_shelf.specs.Changes.{HasRoom, SameButRoom, without_copy, without_kept, with_written, with_requeued, with_gate_known}
+use Rattle.block_shelf.specs.Calls.{Goes, copy_live, prior_live}
+use Rattle.block_shelf.specs.Changes.{HasRoom, SameButRoom, StandsAt, without_copy, without_kept, with_written, with_requeued, with_gate_known}
 
 -- so many units in a block of the device
 abbrev pub IsPlaceFor : Geometry → (units : ℕ) → Place → Type 0
@@ -173,3 +177,34 @@ pub record TakesIn {D : Type 0} (view : D → DiskView) (setup : Setup) (kind : 
   pub placed : IsHonest (view old.disk) → IsExact kind s digest v → IsPlaced view old s → IsPlaced view new (after_step setup (copy_step kind digest v) s)
   pub safe : IsHonest (view old.disk) → MayBeCopied setup kind s digest v → ImagesHold setup view old s → ImagesHold setup view new (after_step setup (copy_step kind digest v) s)
   pub leaves : IsHonest (view old.disk) → ImagesHold setup view old s → Leaves (OneOf (Survives setup) (states_through setup (copy_step kind digest v ∷ []) s)) (view old.disk) (view new.disk)
+
+-- ---- what the parts of an append promise
+
+-- The copy comes into the buffer at this place in the list, in place of the copy before. No call of the disk is made.
+pub record PutsHere {D : Type 0} (view : D → DiskView) (at units : ℕ) (digest : Digest) (v : Version) (prior : Option Place) (old new : ShelfView D) (place : Place) : Type 0 where
+  pub put : (b : StandsAt at old.buffers) → PutsCopy digest v prior b.front b.buffer b.behind old new place
+  pub there : IsPlaceFor old.geometry units place
+  pub disk : new.disk ≡ old.disk
+  pub shape : SameShape old new
+  pub whole : IsShelf view old
+  pub each : (block : ℕ) → IsRoll (copies_in block new.rolls)
+
+-- A copy is appended, or this is why not. The disk is called only where a buffer begins behind a gate that isn't known
+-- to be shut, and changes only there.
+pub record AppendsCopy {D : Type 0} (view : D → DiskView) (kind : Class) (digest : Digest) (v : Version) (prior : Option Place) (old new : ShelfView D) (result : Result Place PutRefusal) : Type 0 where
+  pub appended : (setup : Setup) (s : State) → IsSetupOf setup old → StandsFor setup old s → live_of digest s.book.live ≡ prior_live digest prior → IsCopyOf kind s digest v → IfOk result (TakesIn view setup kind digest v old s new)
+  pub causes : (setup : Setup) (s : State) → IsSetupOf setup old → StandsFor setup old s → MatchResult result
+      (λ place. append_refusal setup kind (version_units v) s.book ≡ None)
+      (λ refusal. IsAppendRefusal (append_refusal setup kind (version_units v) s.book) refusal
+      × (refusal ≡ put.Fault → has_room setup (book_stream (stream_of kind)) (version_units v) s.book ≡ false) × Goes view setup (refused_steps refusal) old s new)
+  pub refused : IfErr result (IsLeftBy old new)
+  pub first : OnOk result (BeginsInFirst (stream_of kind) (version_units v) old new)
+  pub place : IfOk result (IsPlaceFor old.geometry (version_units v))
+  pub whole : IsShelf view old
+  pub shape : SameShape old new
+  pub in_room : HasRoom (stream_of kind) (version_units v) old.buffers → new.disk ≡ old.disk
+  pub quiet : gate_at old.gates (first_block old.free) ≡ Shut → new.disk ≡ old.disk
+  pub bytes : TellsTorn (block_place old.geometry (first_block old.free)) 4096 (view old.disk) (view new.disk)
+  pub cause : result ≡ Err put.Fault → Rose (view old.disk).faults (view new.disk).faults
+  pub later : IsLater (view old.disk) (view new.disk)
+  pub honest : IsHonest (view old.disk) → IsHonest (view new.disk)

@@ -1,6 +1,7 @@
 -- Crate block_shelf. What a raid's scan of a block finds, and what it makes.
-use Rattle.std.specs.Prelude.{◌≡◌, ℕ, ◌==◌, List, [], ◌∷◌, filter, Contains}
-use Rattle.disk_model.specs.Disk.{DiskView, IsHonest}
+use Rattle.std.specs.Prelude.{◌≡◌, ◌≢◌, ℕ, ◌==◌, List, [], ◌∷◌, filter, Contains, Result, Ok, Err, IfErr, MatchResult, OnOk, OnErr}
+use Rattle.fault_count.specs.Counts.{Rose}
+use Rattle.disk_model.specs.Disk.{DiskView, IsHonest, Within}
 use Rattle.rec_format.specs.declared.version.Digest.{Digest}
 use Rattle.rec_format.specs.declared.version.Stamp.{Stamp}
 use Rattle.rec_format.specs.declared.version.Version.{Version}
@@ -11,7 +12,8 @@ use Rattle.device_model.specs.Device.{State}
 use Rattle.device_model.specs.Steps.{scanned_block}
 use Rattle.block_format.specs.declared.geometry.Geometry.{Geometry}
 use Rattle.block_format.specs.declared.geometry.Found.{Found}
-use Rattle.block_format.specs.Layout.{Body, IsBody, IsFaultAt}
+use Rattle.block_format.specs.declared.geometry.Gate.TheVariants.{Shut, Unsure}
+use Rattle.block_format.specs.Layout.{Body, IsBody, IsFaultAt, body_bytes}
 use Rattle.block_format.specs.Readings.{found_from}
 use Rattle.block_flusher.specs.Images.{IsBodyOf}
 use Rattle.kept_facts.specs.Facts.{Possible}
@@ -19,10 +21,13 @@ use Rattle.kept_facts.specs.Asking.{FindsOlder, FindsPossible}
 use Rattle.kept_images.specs.Kept.{possible_in}
 use Rattle.kept_images.specs.Held.{loosened}
 use Rattle.kept_images.specs.Scans.{IsScanOf}
+use Rattle.write_buffer.specs.Buffers.{BufferState}
+use Rattle.raid_book.specs.Books.{with_scan}
 use Rattle.block_shelf.specs.declared.refusals.VacateRefusal.{VacateRefusal}
 use Rattle.block_shelf.specs.declared.refusals.VacateRefusal.TheVariants.{Damaged, Memory, Fault}
-use Rattle.block_shelf.specs.View.{ShelfView, records_of, gate_at}
-use Rattle.block_shelf.specs.Standing.{ImagesHold}
+use Rattle.block_shelf.specs.View.{ShelfView, IsShelf, IsSetupOf, records_of, gate_at}
+use Rattle.block_shelf.specs.Disks.{IsLater, OnlyRead}
+use Rattle.block_shelf.specs.Standing.{StandsFor, BooksStand, ImagesHold}
 use Rattle.block_shelf.specs.Calls.{Goes}
 
 -- the copies that a start may find: those that wait in a pending buffer, and those that a crash may leave, also behind a gate that is unsure
@@ -66,3 +71,57 @@ pub record Scans {D : Type 0} (view : D → DiskView) (setup : Setup) (block : �
   pub goes : Goes view setup (scanned_block copies ∷ []) old s new
   pub all : IsHonest (view old.disk) → ImagesHold setup view old s → FindsOlder s (possible_copies view new s) block copies
   pub only : IsHonest (view old.disk) → ImagesHold setup view old s → FindsPossible (possible_copies view new s) block copies
+
+-- ---- what the parts of a scan promise
+
+-- The gate of a block without a buffer is closed and synced, if it was unsure.
+pub record ClosesUnsure {D : Type 0} (view : D → DiskView) (block : ℕ) (old new : ShelfView D) (result : Result (Unit {0}) VacateRefusal) : Type 0 where
+  pub goes : (setup : Setup) (s : State) → StandsFor setup old s → Goes view setup [] old s new
+  pub quiet : gate_at old.gates block ≢ Unsure → (result ≡ Ok tt) × (new ≡ old)
+  pub sure : OnOk result (gate_at new.gates block ≢ Unsure)
+  pub rest : new ≡ record old { disk = new.disk; gates = new.gates }
+  pub shut : gate_at old.gates block ≡ Unsure → OnOk result (gate_at new.gates block ≡ Shut)
+  pub failed : IfErr result (λ refusal. refusal ≡ Fault)
+  pub whole : IsShelf view new
+  pub cause : OnErr result (Rose (view old.disk).faults (view new.disk).faults)
+  pub later : IsLater (view old.disk) (view new.disk)
+  pub honest : IsHonest (view old.disk) → IsHonest (view new.disk)
+
+-- The heads of the records that may be in a block are answered. A pending block makes no call of the disk, and only where its gate was unsure
+-- does a scan change what the disk has.
+pub record ReadsIn {D A : Type 0} (view : D → DiskView) (block : ℕ) (old new : ShelfView D) (heads : A → List Found) (result : Result A VacateRefusal) : Type 0 where
+  pub goes : (setup : Setup) (s : State) → StandsFor setup old s → Goes view setup [] old s new
+  pub all : (setup : Setup) (s : State) → IsHonest (view old.disk) → StandsFor setup old s → ImagesHold setup view old s → MatchResult result (λ found. ReadsAll view new s block (heads found)) IsSound
+  pub waiting : (b : BufferState) → Contains old.buffers b → b.block ≡ block → new.disk ≡ old.disk
+  pub sure : gate_at old.gates block ≢ Unsure → new.gates ≡ old.gates
+  pub fewer : gate_at old.gates block ≢ Unsure → IsHonest (view old.disk) → Within (view old.disk).may_leave (view new.disk).may_leave
+  pub damaged : (view old.disk).tells → IfErr result (IsDamageOf old.geometry (body_bytes old.geometry block (view old.disk).seen) block)
+  pub rest : new ≡ record old { disk = new.disk; gates = new.gates }
+  pub cause : result ≡ Err Fault → Rose (view old.disk).faults (view new.disk).faults
+  pub later : IsLater (view old.disk) (view new.disk)
+  pub honest : IsHonest (view old.disk) → IsHonest (view new.disk)
+
+-- What may be in the block whose turn it is goes to the raid's book, or its book stays.
+pub record ScansIn {D : Type 0} (view : D → DiskView) (block : ℕ) (old new : ShelfView D) (result : Result (Unit {0}) VacateRefusal) : Type 0 where
+  pub scanned : (setup : Setup) (s : State) → IsSetupOf setup old → StandsFor setup old s → BooksStand setup old s
+      → MatchResult result (λ done. Scans view setup block old s new) (λ refusal. Goes view setup [] old s new)
+  pub turned : OnOk result (new.raid ≡ with_scan new.raid.found old.raid)
+  pub same : OnErr result (new.raid ≡ old.raid)
+  pub waiting : (b : BufferState) → Contains old.buffers b → b.block ≡ block → new.disk ≡ old.disk
+  pub sure : gate_at old.gates block ≢ Unsure → new.gates ≡ old.gates
+  pub fewer : gate_at old.gates block ≢ Unsure → IsHonest (view old.disk) → Within (view old.disk).may_leave (view new.disk).may_leave
+  pub damaged : (view old.disk).tells → IfErr result (IsDamageOf old.geometry (body_bytes old.geometry block (view old.disk).seen) block)
+  pub sound : (setup : Setup) (s : State) → IsHonest (view old.disk) → StandsFor setup old s → ImagesHold setup view old s → IfErr result IsSound
+  pub rest : new ≡ record old { disk = new.disk; gates = new.gates; raid = new.raid }
+  pub cause : result ≡ Err Fault → Rose (view old.disk).faults (view new.disk).faults
+  pub later : IsLater (view old.disk) (view new.disk)
+  pub honest : IsHonest (view old.disk) → IsHonest (view new.disk)
+
+-- The heads of the records of a block are read from the disk, or the damage that is there is told.
+pub record ReadsBlock {D A : Type 0} (view : D → DiskView) (block : ℕ) (old new : ShelfView D) (heads : A → List Found) (result : Result A VacateRefusal) : Type 0 where
+  pub read : (view old.disk).tells
+      → let bytes = body_bytes old.geometry block (view old.disk).seen in MatchResult result (λ found. ReadsBody old.geometry bytes block (heads found)) (IsDamageOf old.geometry bytes block)
+  pub cause : result ≡ Err Fault → Rose (view old.disk).faults (view new.disk).faults
+  pub disk : OnlyRead (view old.disk) (view new.disk)
+  pub whole : IsShelf view new
+  pub same : new ≡ record old { disk = new.disk }

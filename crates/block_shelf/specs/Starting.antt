@@ -1,5 +1,5 @@
 -- Crate block_shelf. How a shelf begins behind a start.
-use Rattle.std.specs.Prelude.{ℕ, ◌+◌, ◌*◌, ◌<◌, ◌≤◌, ◌≡◌, true, false, not, sum_by, ◌==◌, List, [], ◌∷◌, map, filter, Contains}
+use Rattle.std.specs.Prelude.{ℕ, ◌+◌, ◌*◌, ◌<◌, ◌≤◌, ◌≡◌, true, false, not, sum_by, ◌==◌, List, [], ◌∷◌, length, map, filter, Contains}
 use Rattle.std.specs.List.{AllByRecursion, IsDistinct, list_any, range_with_len}
 use Rattle.std.specs.FinSet as set
 use Rattle.rec_format.specs.declared.version.Digest.{Digest}
@@ -12,9 +12,11 @@ use Rattle.block_format.specs.declared.geometry.Gate.{Gate}
 use Rattle.block_format.specs.Layout.{IsRecordAt, body_bytes}
 use Rattle.block_format.specs.Copies.{Copy}
 use Rattle.unit_ledger.specs.declared.roll.LiveCopy.{LiveCopy}
-use Rattle.unit_ledger.specs.Rolls.{copies_in}
-use Rattle.defrag_queue.specs.Queues.{is_below_mark}
-use Rattle.raid_book.specs.Books.{empty_book}
+use Rattle.unit_ledger.specs.Rolls.{BlockRoll, copies_in, rolled_use}
+use Rattle.defrag_queue.specs.Queues.{QueueState, is_below_mark}
+use Rattle.raid_book.specs.Books.{BookState, empty_book}
+use Rattle.post_cache.specs.Bodies.{CacheState}
+use Rattle.write_buffer.specs.Buffers.{BufferState}
 use Rattle.block_shelf.specs.declared.place.Place.{Place}
 use Rattle.block_shelf.specs.declared.place.ShelfLimits.{ShelfLimits}
 use Rattle.block_shelf.specs.View.{ShelfView, IsQueueOf}
@@ -95,3 +97,14 @@ pub record AreLive (live : List (Digest × Place)) (found : List Copy) : Type 0 
 -- each image has their records
 abbrev pub AllHave : Geometry → Images → List Copy → Type 0
 AllHave g images found = (c : Copy) → Contains found c → (image : List ℕ) → images image → IsRecordAt (body_bytes g c.block image) (32 + 16 * c.unit) c.digest c.version
+
+-- what a shelf of these live copies keeps in memory from its start on
+pub record KeepsFor (g : Geometry) (limits : ShelfLimits) (live : List (Digest × Place)) (ledger : List BlockRoll) (unused : List ℕ) (places : ℕ) (waiting : QueueState) (bodies : CacheState BufferState) (book : BookState) : Type 0 where
+  pub size : length ledger ≡ g.blocks
+  pub copies : (block : ℕ) → copies_in block ledger ≡ copies_at block live
+  pub free : unused ≡ blocks_without live g.blocks
+  pub memory : g.blocks ≤ places
+  pub shape : (waiting.blocks ≡ g.blocks) × (waiting.capacity ≡ block_capacity g.block_size) × (waiting.lwm ≡ limits.lwm)
+  pub queue : waiting.queue ≡ filter (λ b. is_below_mark (block_capacity g.block_size) limits.lwm (rolled_use b ledger) true) (range_with_len 0 g.blocks)
+  pub cache : bodies ≡ record { kept = []; limit = limits.cache }
+  pub raid : book ≡ empty_book (part_count g.device g.devices limits.sprigs) g.blocks

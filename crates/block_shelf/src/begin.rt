@@ -1,19 +1,10 @@
 // How a buffer begins in the first free block.
-ghost use Rattle.std.specs.Prelude.{◌≡◌, ◌≢◌, ◌≤◌, ◌<◌, [], None, Err, length, IfErr, MatchResult, OnOk};
+ghost use Rattle.std.specs.Prelude.{◌≡◌, ◌≢◌, ◌≤◌, ◌<◌, None, Err, length, MatchResult};
 ghost use Rattle.rec_format.specs.Versions.{top_number};
-ghost use Rattle.disk_model.specs.Disk.{IsHonest, TellsTorn};
-ghost use Rattle.device_model.specs.Book.{Setup, first_block};
-ghost use Rattle.device_model.specs.Device.{State};
-ghost use Rattle.block_format.specs.declared.geometry.Gate.TheVariants.{Shut};
-ghost use Rattle.block_format.specs.Layout.{block_place};
-ghost use Rattle.fault_count.specs.Counts.{Rose};
-ghost use Rattle.unit_ledger.specs.Rolls.{spare_of};
-ghost use Rattle.block_shelf.specs.View.{IsShelf, gate_at};
-ghost use Rattle.block_shelf.specs.Disks.{IsLater};
-ghost use Rattle.block_shelf.specs.Standing.{StandsFor};
-ghost use Rattle.block_shelf.specs.Calls.{Goes};
-ghost use Rattle.block_shelf.specs.Changes.{SameButRoom, begin_refusal, begun_buffer, with_begun};
-ghost use Rattle.block_shelf.specs.Appends.{kept_free, IsAppendRefusal, IsLeftBy, refused_steps, ready_for, stream_of, with_first_shut};
+ghost use Rattle.block_shelf.specs.View.{IsShelf};
+ghost use Rattle.block_shelf.specs.Changes.{begin_refusal, begun_buffer};
+ghost use Rattle.block_shelf.specs.Appends.{kept_free, IsAppendRefusal, stream_of};
+ghost use Rattle.block_shelf.specs.Begins.{BeginsIn, BeginsFor};
 
 use crate::append::stream_of;
 use crate::close::shut_gate;
@@ -30,21 +21,7 @@ impl<D: Disk> Shelf<D> {
     // buffer, for its place in the list, for a live copy in its block, and for a hold. A gate that isn't known to be shut is closed first;
     // where that fails the block goes to the back of the free ones.
     pub(crate) fn begin(&mut self, alloc: Global, class: Class) -> Result<(), PutRefusal>
-        ensures refusal { MatchResult result (λ done. begin_refusal (kept_free class) self.old ≡ None) (IsAppendRefusal (begin_refusal (kept_free class) self.old)) }
-        ensures begun { OnOk result (self.new ≡ with_begun (stream_of class) (ready_for self.new self.old)) }
-        ensures ready { OnOk result (SameButRoom (with_first_shut self.new.disk self.old) (ready_for self.new self.old)) }
-        ensures whole { OnOk result (IsShelf D.view (ready_for self.new self.old)) }
-        ensures space { OnOk result (1 ≤ spare_of (first_block self.old.free) self.new.rolls) }
-        ensures hold { OnOk result (1 ≤ self.new.holds.spare) }
-        ensures refused { IfErr result (IsLeftBy self.old self.new) }
-        ensures goes { (setup : Setup) (s : State) → StandsFor setup self.old s → MatchResult result
-            (λ done. Goes D.view setup [] self.old s (ready_for self.new self.old))
-            (λ refusal. Goes D.view setup (refused_steps refusal) self.old s self.new) }
-        ensures cause { result ≡ Err PutRefusal.Fault → Rose (D.view self.old.disk).faults (D.view self.new.disk).faults }
-        ensures quiet { gate_at self.old.gates (first_block self.old.free) ≡ Shut → self.new.disk ≡ self.old.disk }
-        ensures bytes { TellsTorn (block_place self.old.geometry (first_block self.old.free)) 4096 (D.view self.old.disk) (D.view self.new.disk) }
-        ensures later { IsLater (D.view self.old.disk) (D.view self.new.disk) }
-        ensures honest { IsHonest (D.view self.old.disk) → IsHonest (D.view self.new.disk) }
+        ensures { BeginsFor D.view class self.old self.new result }
     {
         self.may_begin(class)?;
         let block = self.free[0];
@@ -84,18 +61,7 @@ impl<D: Disk> Shelf<D> {
         requires buffer { buffer ≡ begun_buffer buffer.stream self.old }
         requires number { self.old.next_number ≤ top_number }
         requires some { 0 < length self.old.free }
-        ensures begun { OnOk result (self.new ≡ with_begun buffer.stream (with_first_shut self.new.disk self.old)) }
-        ensures whole { OnOk result (IsShelf D.view (with_first_shut self.new.disk self.old)) }
-        ensures refusal { IfErr result (IsAppendRefusal None) }
-        ensures refused { IfErr result (IsLeftBy self.old self.new) }
-        ensures goes { (setup : Setup) (s : State) → StandsFor setup self.old s → MatchResult result
-            (λ done. Goes D.view setup [] self.old s (with_first_shut self.new.disk self.old))
-            (λ refusal. Goes D.view setup (refused_steps refusal) self.old s self.new) }
-        ensures cause { result ≡ Err PutRefusal.Fault → Rose (D.view self.old.disk).faults (D.view self.new.disk).faults }
-        ensures quiet { gate_at self.old.gates (first_block self.old.free) ≡ Shut → self.new.disk ≡ self.old.disk }
-        ensures bytes { TellsTorn (block_place self.old.geometry (first_block self.old.free)) 4096 (D.view self.old.disk) (D.view self.new.disk) }
-        ensures later { IsLater (D.view self.old.disk) (D.view self.new.disk) }
-        ensures honest { IsHonest (D.view self.old.disk) → IsHonest (D.view self.new.disk) }
+        ensures { BeginsIn D.view buffer.stream self.old self.new result }
     {
         let block = buffer.block();
         let stream = buffer.stream();

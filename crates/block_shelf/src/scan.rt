@@ -2,7 +2,7 @@
 ghost use Rattle.std.specs.Prelude.{◌≡◌, ◌≢◌, ◌<◌, ◌≤◌, ◌-◌, ◌==◌, ℕ, List, [], ◌∷◌, Contains, length, map, filter, Ok, IfOk, IfErr, OnOk, OnErr, MatchResult};
 ghost use Rattle.std.specs.List.{All, AllByRecursion};
 ghost use Rattle.fault_count.specs.Counts.{Rose};
-ghost use Rattle.disk_model.specs.Disk.{IsHonest, Within};
+ghost use Rattle.disk_model.specs.Disk.{IsHonest};
 ghost use Rattle.rec_format.specs.Places.{device_number, part_number_of, part_count};
 ghost use Rattle.device_model.specs.Book.{Setup};
 ghost use Rattle.device_model.specs.Device.{State};
@@ -14,11 +14,11 @@ ghost use Rattle.write_buffer.specs.Buffers.{BufferState};
 ghost use Rattle.kept_facts.specs.Facts.{SamePossible};
 ghost use Rattle.raid_book.specs.declared.turn.RaidNext.TheVariants as turn;
 ghost use Rattle.raid_book.specs.Books.{given_up, with_scan};
-ghost use Rattle.block_shelf.specs.Disks.{IsLater, OnlyRead};
+ghost use Rattle.block_shelf.specs.Disks.{IsLater};
 ghost use Rattle.block_shelf.specs.View.{IsShelf, IsSetupOf, AreSure, gate_at};
 ghost use Rattle.block_shelf.specs.Standing.{StandsFor, BooksStand, ImagesHold};
 ghost use Rattle.block_shelf.specs.Calls.{Goes};
-ghost use Rattle.block_shelf.specs.Scans.{Scans, ReadsAll, ReadsBody, IsDamageOf, IsSound, own_found, possible_copies};
+ghost use Rattle.block_shelf.specs.Scans.{Scans, ScansIn, ReadsIn, ReadsBlock, ReadsBody, ClosesUnsure, IsDamageOf, IsSound, own_found, possible_copies};
 
 use crate::close::shut_gate;
 use crate::{NoMemory, Shelf, VacateRefusal};
@@ -76,19 +76,7 @@ impl<D: Disk> Shelf<D> {
     fn scan_block(&mut self, alloc: Global, block: u32) -> Result<(), VacateRefusal>
         requires block { block < self.old.geometry.blocks }
         requires turn { self.old.raid.next ≡ turn.Scan block }
-        ensures scanned { (setup : Setup) (s : State) → IsSetupOf setup self.old → StandsFor setup self.old s → BooksStand setup self.old s
-            → MatchResult result (λ done. Scans D.view setup block self.old s self.new) (λ refusal. Goes D.view setup [] self.old s self.new) }
-        ensures turned { OnOk result (self.new.raid ≡ with_scan self.new.raid.found self.old.raid) }
-        ensures same { OnErr result (self.new.raid ≡ self.old.raid) }
-        ensures waiting { (b : BufferState) → Contains self.old.buffers b → b.block ≡ block → self.new.disk ≡ self.old.disk }
-        ensures sure { gate_at self.old.gates block ≢ Gate.Unsure → self.new.gates ≡ self.old.gates }
-        ensures fewer { gate_at self.old.gates block ≢ Gate.Unsure → IsHonest (D.view self.old.disk) → Within (D.view self.old.disk).may_leave (D.view self.new.disk).may_leave }
-        ensures damaged { (D.view self.old.disk).tells → IfErr result (IsDamageOf self.old.geometry (body_bytes self.old.geometry block (D.view self.old.disk).seen) block) }
-        ensures sound { (setup : Setup) (s : State) → IsHonest (D.view self.old.disk) → StandsFor setup self.old s → ImagesHold setup D.view self.old s → IfErr result IsSound }
-        ensures rest { self.new ≡ record self.old { disk = self.new.disk; gates = self.new.gates; raid = self.new.raid } }
-        ensures cause { result ≡ Err VacateRefusal.Fault → Rose (D.view self.old.disk).faults (D.view self.new.disk).faults }
-        ensures later { IsLater (D.view self.old.disk) (D.view self.new.disk) }
-        ensures honest { IsHonest (D.view self.old.disk) → IsHonest (D.view self.new.disk) }
+        ensures { ScansIn D.view block self.old self.new result }
     {
         let found = self.records_in(alloc, block)?;
         let Ok(own) = own_of(alloc, &self.geometry, &found) else {
@@ -106,17 +94,7 @@ impl<D: Disk> Shelf<D> {
     // The heads of the records that may be in a block.
     fn records_in(&mut self, alloc: Global, block: u32) -> Result<Vec<Found>, VacateRefusal>
         requires block { block < self.old.geometry.blocks }
-        ensures goes { (setup : Setup) (s : State) → StandsFor setup self.old s → Goes D.view setup [] self.old s self.new }
-        ensures all { (setup : Setup) (s : State) → IsHonest (D.view self.old.disk) → StandsFor setup self.old s → ImagesHold setup D.view self.old s
-            → MatchResult result (λ found. ReadsAll D.view self.new s block found.items) IsSound }
-        ensures waiting { (b : BufferState) → Contains self.old.buffers b → b.block ≡ block → self.new.disk ≡ self.old.disk }
-        ensures sure { gate_at self.old.gates block ≢ Gate.Unsure → self.new.gates ≡ self.old.gates }
-        ensures fewer { gate_at self.old.gates block ≢ Gate.Unsure → IsHonest (D.view self.old.disk) → Within (D.view self.old.disk).may_leave (D.view self.new.disk).may_leave }
-        ensures damaged { (D.view self.old.disk).tells → IfErr result (IsDamageOf self.old.geometry (body_bytes self.old.geometry block (D.view self.old.disk).seen) block) }
-        ensures rest { self.new ≡ record self.old { disk = self.new.disk; gates = self.new.gates } }
-        ensures cause { result ≡ Err VacateRefusal.Fault → Rose (D.view self.old.disk).faults (D.view self.new.disk).faults }
-        ensures later { IsLater (D.view self.old.disk) (D.view self.new.disk) }
-        ensures honest { IsHonest (D.view self.old.disk) → IsHonest (D.view self.new.disk) }
+        ensures { ReadsIn D.view block self.old self.new (λ found. found.items) result }
     {
         if let Some(buffer) = self.buffer_of(block) {
             return found_in(alloc, buffer.body(), block);
@@ -140,16 +118,7 @@ impl<D: Disk> Shelf<D> {
     fn close_unsure(&mut self, block: u32) -> Result<(), VacateRefusal>
         requires block { block < self.old.geometry.blocks }
         requires unbuffered { AllByRecursion (λ b. b.block ≢ block) self.old.buffers }
-        ensures goes { (setup : Setup) (s : State) → StandsFor setup self.old s → Goes D.view setup [] self.old s self.new }
-        ensures quiet { gate_at self.old.gates block ≢ Gate.Unsure → (result ≡ Ok tt) × (self.new ≡ self.old) }
-        ensures sure { OnOk result (gate_at self.new.gates block ≢ Gate.Unsure) }
-        ensures rest { self.new ≡ record self.old { disk = self.new.disk; gates = self.new.gates } }
-        ensures shut { gate_at self.old.gates block ≡ Gate.Unsure → OnOk result (gate_at self.new.gates block ≡ Gate.Shut) }
-        ensures failed { IfErr result (λ refusal. refusal ≡ VacateRefusal.Fault) }
-        ensures whole { IsShelf D.view self.new }
-        ensures cause { OnErr result (Rose (D.view self.old.disk).faults (D.view self.new.disk).faults) }
-        ensures later { IsLater (D.view self.old.disk) (D.view self.new.disk) }
-        ensures honest { IsHonest (D.view self.old.disk) → IsHonest (D.view self.new.disk) }
+        ensures { ClosesUnsure D.view block self.old self.new result }
     {
         if self.gate(block) != Gate::Unsure {
             return Ok(());
@@ -163,12 +132,7 @@ impl<D: Disk> Shelf<D> {
     // The heads of the records of a block, as the disk has it.
     fn read_block(&mut self, alloc: Global, block: u32) -> Result<Vec<Found>, VacateRefusal>
         requires block { block < self.old.geometry.blocks }
-        ensures read { (D.view self.old.disk).tells → let bytes = body_bytes self.old.geometry block (D.view self.old.disk).seen in
-            MatchResult result (λ found. ReadsBody self.old.geometry bytes block found.items) (IsDamageOf self.old.geometry bytes block) }
-        ensures cause { result ≡ Err VacateRefusal.Fault → Rose (D.view self.old.disk).faults (D.view self.new.disk).faults }
-        ensures disk { OnlyRead (D.view self.old.disk) (D.view self.new.disk) }
-        ensures whole { IsShelf D.view self.new }
-        ensures same { self.new ≡ record self.old { disk = self.new.disk } }
+        ensures { ReadsBlock D.view block self.old self.new (λ found. found.items) result }
     {
         let size = self.geometry.block_size as usize - SECTOR_BYTES;
         let Ok(mut body) = vec![in alloc; 0; size] else {

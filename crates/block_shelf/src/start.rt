@@ -16,7 +16,7 @@ ghost use Rattle.defrag_queue.specs.Queues.{is_below_mark};
 ghost use Rattle.raid_book.specs.Books.{empty_book};
 ghost use Rattle.block_shelf.specs.View.{AreLimits, GatesStand, IsSetupOf, gate_at};
 ghost use Rattle.block_shelf.specs.Standing.{StandsFor, BooksStand, IsPlaced, ImagesHold};
-ghost use Rattle.block_shelf.specs.Starting.{CanBeLive, StartsWith, AreLive, AllHave, copies_at, blocks_without};
+ghost use Rattle.block_shelf.specs.Starting.{CanBeLive, KeepsFor, StartsWith, AreLive, AllHave, copies_at};
 
 use crate::{NoMemory, Place, Shelf, ShelfLimits};
 use block_format::{Gate, Geometry, capacity};
@@ -104,14 +104,7 @@ fn kept_of(
     requires geometry { IsGeometry geometry.now }
     requires live { CanBeLive geometry.now live.now }
     requires limits { AreLimits limits.now }
-    ensures size { IfOk result (λ kept. length kept.ledger ≡ geometry.now.blocks) }
-    ensures copies { IfOk result (λ kept. (block : ℕ) → copies_in block kept.ledger ≡ copies_at block live.now) }
-    ensures free { IfOk result (λ kept. kept.free.items ≡ blocks_without live.now geometry.now.blocks) }
-    ensures memory { IfOk result (λ kept. geometry.now.blocks ≤ deque_capacity kept.free) }
-    ensures shape { IfOk result (λ kept. (kept.queue.blocks ≡ geometry.now.blocks) × (kept.queue.capacity ≡ block_capacity geometry.now.block_size) × (kept.queue.lwm ≡ limits.now.lwm)) }
-    ensures queue { IfOk result (λ kept. kept.queue.queue ≡ filter (λ b. is_below_mark (block_capacity geometry.now.block_size) limits.now.lwm (rolled_use b kept.ledger) true) (range_with_len 0 geometry.now.blocks)) }
-    ensures cache { IfOk result (λ kept. kept.cache ≡ record { kept = []; limit = limits.now.cache }) }
-    ensures raid { IfOk result (λ kept. kept.raid ≡ empty_book (part_count geometry.now.device geometry.now.devices limits.now.sprigs) geometry.now.blocks) }
+    ensures { IfOk result (λ kept. KeepsFor geometry.now limits.now live.now kept.ledger kept.free.items (deque_capacity kept.free) kept.queue kept.cache kept.raid) }
 {
     let ledger = ledger_of(alloc, geometry, live)?;
     let free = unused_blocks(alloc, geometry.blocks, &ledger)?;

@@ -105,8 +105,11 @@ impl<'n, D: Disk> Disk for Noted<'n, D> {
     }
 
     fn sync(&mut self) -> Result<(), DiskFault> {
-        self.notes.count(self.place);
-        self.disk.sync()
+        let answer = self.disk.sync();
+        if answer.is_ok() {
+            self.notes.count(self.place);
+        }
+        answer
     }
 }
 

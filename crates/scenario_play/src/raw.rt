@@ -76,8 +76,12 @@ fn words_of(line: &str) -> Result<Words<'_>, Trouble> {
     let (digest, rest) = rest.split_once(' ').unwrap_or((rest, ""));
     let (lut, rest) = rest.split_once(' ').unwrap_or((rest, ""));
     let (gen_, rest) = rest.split_once(' ').unwrap_or((rest, ""));
-    let (void, data) = rest.split_once(' ').unwrap_or(("0", "-"));
-    let Ok(gen_) = gen_.parse::<u16>() else {
+    let behind = if rest.is_empty() {
+        Some(("0", "-"))
+    } else {
+        rest.split_once(' ')
+    };
+    let (Ok(gen_), Some((void, data))) = (gen_.parse::<u16>(), behind) else {
         return Err(Trouble::Line("it is record KIND DIGEST LUT GEN VOID DATA"));
     };
     Ok(Words {

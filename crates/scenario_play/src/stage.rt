@@ -131,6 +131,7 @@ impl Stage {
             disk: Some(disk),
             before: 0,
         };
+        self.disks.retain(|other| other.name.as_str() != name);
         self.disks.push(named)?;
         Ok(())
     }

@@ -4,7 +4,7 @@ ghost use Rattle.node_words.specs.Words.{Asks};
 ghost use Rattle.node_words.specs.declared.job.Job.{Job};
 
 use crate::link::Link;
-use crate::terminal::{Screen, ScreenStream};
+use crate::terminal::Screen;
 use disk_model::{Disk, MemDisk};
 use io_traits::{Clock, ListClock, Sink, Source};
 use node_gen::lines_of;
@@ -14,6 +14,7 @@ use node_words::{Job, read_words};
 use scenario_play::{Around, Ending, Noted, NotedClock, Notes};
 use scenario_text::Trouble;
 use std::alloc::Global;
+use std::io::IsTerminal;
 
 // Whether the words name so many devices, or ask for nothing.
 fn names_so_many(words: &[String], count: usize) -> bool
@@ -25,19 +26,23 @@ fn names_so_many(words: &[String], count: usize) -> bool
     }
 }
 
-// The program with these words.
+// The program with these words; none where these name more disks, or fewer.
 fn top<D: Disk, L: Source + Sink, C: Clock>(
     alloc: Global,
     words: &[String],
     disks: Vec<D>,
     link: &mut L,
     clock: &mut C,
-) -> Result<Outcome<D>, Trouble> {
+) -> Option<Outcome<D>> {
     if !names_so_many(words, disks.len()) {
-        return Err(Trouble::Line("there are more disks, or fewer"));
+        return None;
     }
     let outcome = node_top(alloc, words, disks, link, clock);
-    Ok(outcome)
+    Some(outcome)
+}
+
+fn unnamed() -> Trouble {
+    Trouble::Line("there are more disks than names, or fewer")
 }
 
 /// A clock that tells these times, the last of them for ever; where there are none, 1000.
@@ -85,27 +90,28 @@ fn plain(alloc: Global, disks: Vec<Noted<'_, MemDisk>>) -> Result<Vec<MemDisk>, 
 
 // What came of a start: how it ended, and its disks.
 #[derive(Drop)]
-struct Came {
+struct Came<D: Drop> {
     end: String,
     text: Vec<u8>,
-    disks: Vec<MemDisk>,
+    disks: Vec<D>,
 }
 
 // Where standard error is no terminal.
-fn start_plainly(
+fn start_plainly<D: Disk, C: Clock>(
     alloc: Global,
     words: &[String],
-    disks: Vec<Noted<'_, MemDisk>>,
+    disks: Vec<D>,
     around: &Around,
-    notes: &Notes,
-) -> Result<Came, Trouble> {
-    let mut clock = NotedClock::new(clock_of(alloc, &around.times)?, notes);
+    mut clock: C,
+) -> Result<Came<D>, Trouble> {
     let mut link = Link::new(alloc, around)?;
-    let outcome = top(alloc, words, disks, &mut link, &mut clock)?;
+    let Some(outcome) = top(alloc, words, disks, &mut link, &mut clock) else {
+        return Err(unnamed());
+    };
     Ok(Came {
         end: end_of(alloc, outcome.status, outcome.note.as_str())?,
         text: link.into_shown(),
-        disks: plain(alloc, outcome.disks)?,
+        disks: outcome.disks,
     })
 }
 
@@ -117,14 +123,12 @@ fn lines_asked(words: &[String]) -> Option<u64> {
     }
 }
 
-type Shown<'s> = Progress<ScreenStream<'s>>;
-
 // The disks, which tell a terminal how far their calls are.
-fn watched<'n>(
+fn watched<'p, D: Disk, E: Eprint + IsTerminal + Drop>(
     alloc: Global,
-    disks: Vec<Noted<'n, MemDisk>>,
-    progress: &'n Shown<'n>,
-) -> Result<Vec<Watched<'n, Noted<'n, MemDisk>, ScreenStream<'n>>>, Trouble> {
+    disks: Vec<D>,
+    progress: &'p Progress<E>,
+) -> Result<Vec<Watched<'p, D, E>>, Trouble> {
     let mut all = Vec::new(alloc);
     for disk in disks {
         all.push(Watched::new(disk, progress))?;
@@ -133,10 +137,10 @@ fn watched<'n>(
 }
 
 // The disks without it.
-fn unwatched<'n>(
+fn unwatched<D: Disk, E: Eprint + IsTerminal + Drop>(
     alloc: Global,
-    disks: Vec<Watched<'n, Noted<'n, MemDisk>, ScreenStream<'n>>>,
-) -> Result<Vec<Noted<'n, MemDisk>>, Trouble> {
+    disks: Vec<Watched<'_, D, E>>,
+) -> Result<Vec<D>, Trouble> {
     let mut all = Vec::new(alloc);
     for disk in disks {
         all.push(disk.into_disk())?;
@@ -144,39 +148,40 @@ fn unwatched<'n>(
     Ok(all)
 }
 
-// Where standard error is this terminal.
-fn start_shown<'n>(
+// Where standard error is a terminal, on which the progress is shown.
+fn start_shown<D: Disk, C: Clock, E: Eprint + IsTerminal + Drop>(
     alloc: Global,
     words: &[String],
-    disks: Vec<Noted<'n, MemDisk>>,
+    disks: Vec<D>,
     around: &Around,
-    notes: &'n Notes,
-    progress: &'n Shown<'n>,
-) -> Result<Came, Trouble> {
-    let clock = NotedClock::new(clock_of(alloc, &around.times)?, notes);
+    clock: C,
+    progress: &Progress<E>,
+) -> Result<Came<D>, Trouble> {
     let mut clock = CountedClock::new(clock, progress, lines_asked(words));
     let mut link = Cleared::new(Link::new(alloc, around)?, progress);
     let disks = watched(alloc, disks, progress)?;
-    let outcome = top(alloc, words, disks, &mut link, &mut clock)?;
+    let Some(outcome) = top(alloc, words, disks, &mut link, &mut clock) else {
+        return Err(unnamed());
+    };
     progress.end();
     Ok(Came {
         end: end_of(alloc, outcome.status, outcome.note.as_str())?,
         text: link.into_link().into_shown(),
-        disks: plain(alloc, unwatched(alloc, outcome.disks)?)?,
+        disks: unwatched(alloc, outcome.disks)?,
     })
 }
 
 // So it is, and what the terminal showed stands behind what was written.
-fn start_on_terminal(
+fn start_on_terminal<D: Disk, C: Clock>(
     alloc: Global,
     words: &[String],
-    disks: Vec<Noted<'_, MemDisk>>,
+    disks: Vec<D>,
     around: &Around,
-    notes: &Notes,
-) -> Result<Came, Trouble> {
+    clock: C,
+) -> Result<Came<D>, Trouble> {
     let screen = Screen::new(alloc);
     let progress = Progress::new(screen.stream());
-    let mut came = start_shown(alloc, words, disks, around, notes, &progress)?;
+    let mut came = start_shown(alloc, words, disks, around, clock, &progress)?;
     drop(progress);
     screen.tell(&mut came.text)?;
     Ok(came)
@@ -191,11 +196,13 @@ pub fn start(
 ) -> Result<Ending, Trouble> {
     let notes = Notes::new(alloc, &disks)?;
     let disks = noted(alloc, disks, &notes)?;
+    let clock = NotedClock::new(clock_of(alloc, &around.times)?, &notes);
     let Came { end, text, disks } = if around.has_terminal {
-        start_on_terminal(alloc, words, disks, around, &notes)?
+        start_on_terminal(alloc, words, disks, around, clock)?
     } else {
-        start_plainly(alloc, words, disks, around, &notes)?
+        start_plainly(alloc, words, disks, around, clock)?
     };
+    let disks = plain(alloc, disks)?;
     Ok(Ending {
         end,
         text,

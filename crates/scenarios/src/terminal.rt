@@ -32,12 +32,15 @@ impl Screen {
     }
 
     /// Puts what was shown behind a text: a line for each call, without the return to the start of the line. A line that was cleared is told as
-    /// an empty one.
+    /// `cleared`.
     pub fn tell(self, text: &mut Vec<u8>) -> Result<(), Trouble> {
         let Screen { shown, .. } = self;
         for call in shown.into_inner() {
             let told = call.as_str().trim_matches('\r').trim_end();
             text.extend_from_slice(b"~ ")?;
+            if told.is_empty() {
+                text.extend_from_slice(b"cleared")?;
+            }
             text.extend_from_slice(told.as_bytes())?;
             text.push(b'\n')?;
         }

@@ -26,7 +26,7 @@ use Rattle.block_shelf.specs.Appends.{append_refusal}
 use Rattle.shard_core.specs.declared.refusals.WriteRefusal.{WriteRefusal}
 use Rattle.shard_core.specs.declared.refusals.WriteRefusal.TheVariants as write
 use Rattle.shard_steps.specs.Standing.{SprigStands, StandTogether}
-use Rattle.shard_core.specs.Calls.{cause_of_write}
+use Rattle.shard_core.specs.Calls.{cause_of_write, IsRefusedStep}
 use Rattle.shard_steps.specs.Events.{StepMakes}
 use Rattle.shard_core.specs.Writing.{IsWriteOf, IsEntombing, WrittenOrNot, IsExpected, IsFit, IsUnfit}
 use Rattle.block_shelf.proofs.Going.{goes_none}
@@ -210,3 +210,13 @@ pub makes_nothing : {D : Type 0} (view : D → DiskView) (setup : Setup) (digest
 makes_nothing view setup digest sprig shelf s call answer has_now stand may =
     makes_by view setup shelf shelf s call answer [] (StandTogether setup (part_of setup digest) sprig shelf) (le_refl (view shelf.disk).faults) (goes_none view setup shelf s has_now stand.shelf_stands.stands)
     (may false _ refl refl refl) (λ honest safe. may true _ refl refl refl) stand
+
+-- a put that doesn't fit leaves everything as it was
+pub unfit_left : {D : Type 0} (sprig : SprigState) (shelf : ShelfView D) (size capacity : ℕ) (expect : Option ℕ) (seen : ℕ) (refusal : WriteRefusal) → IsUnfit size capacity expect seen refusal → IsRefusedStep sprig sprig shelf shelf refusal
+unfit_left sprig shelf size capacity expect seen (write.Big n most) unfit = record { sprig = record { entries = refl; high = refl }; shelf = refl }
+unfit_left sprig shelf size capacity expect seen (write.Gen other) unfit = record { sprig = record { entries = refl; high = refl }; shelf = refl }
+unfit_left sprig shelf size capacity expect seen write.Spent unfit = absurd unfit
+unfit_left sprig shelf size capacity expect seen (write.Load n) unfit = absurd unfit
+unfit_left sprig shelf size capacity expect seen (write.Space n) unfit = absurd unfit
+unfit_left sprig shelf size capacity expect seen write.Memory unfit = absurd unfit
+unfit_left sprig shelf size capacity expect seen write.Fault unfit = absurd unfit

@@ -29,11 +29,11 @@ use Rattle.write_buffer.specs.declared.stream.Stream.TheVariants.{Client}
 use Rattle.block_shelf.specs.View.{ShelfView, IsShelf}
 use Rattle.block_shelf.specs.Standing.{BooksStand}
 use Rattle.block_shelf.specs.Calls.{Goes, copy_live}
-use Rattle.block_shelf.specs.Appends.{IsAppendRefusal, IsCopyOf, TakesIn, append_refusal, refused_steps, stream_of}
+use Rattle.block_shelf.specs.Appends.{IsAppendRefusal, IsCopyOf, TakesIn, append_refusal, refused_steps, stream_of, IsLeftBy}
 use Rattle.shard_core.specs.declared.refusals.WriteRefusal.{WriteRefusal}
 use Rattle.shard_core.specs.declared.refusals.WriteRefusal.TheVariants as write_refusals
 use Rattle.shard_steps.specs.Standing.{SprigStands, StandTogether}
-use Rattle.shard_core.specs.Calls.{FlushesAll, cause_of_write, write_of}
+use Rattle.shard_core.specs.Calls.{FlushesAll, cause_of_write, write_of, IsShelfLeft}
 use Rattle.shard_steps.specs.Events.{StepMakes}
 use Rattle.shard_core.specs.Writing.{IsWriteOf, Wrote, IsUnwritten, Commits}
 use Rattle.block_shelf.proofs.Going.{goes_then}
@@ -235,3 +235,12 @@ committed (Err e) = Err write_refusals.Fault
 pub commits_from : {E : Type 0} (r : Result ℕ E) (full steps : List Step) → FlushesAll r full steps → Commits (committed r) full steps
 commits_from (Ok n) full steps is = is.0
 commits_from (Err e) full steps is = (refl, is)
+
+-- what a refused append leaves, a refused write leaves
+pub left_by : {D : Type 0} (old new : ShelfView D) (refusal : PutRefusal) → IsLeftBy old new refusal → IsShelfLeft old new (write_of refusal)
+left_by old new (put.Big n most) left = left
+left_by old new put.Spent left = left
+left_by old new (put.Load n) left = left
+left_by old new (put.Space n) left = left
+left_by old new put.Memory left = left
+left_by old new put.Fault left = left

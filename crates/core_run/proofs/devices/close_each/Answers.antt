@@ -36,11 +36,5 @@ returns g c =
 pub bounds-shards-device : goal.bounds-shards-device
 bounds-shards-device g c = subst (λ (n : ℕ). c.loop-device.device < n) (sym c.loop-device.auto.shards) c.loop-device-test.true
 
-pub overflow_cast-failed : goal.overflow_cast-failed
-overflow_cast-failed g c =
-    let there = c.loop-device-test.true in
-    let most = c.requires.few in
-    omega (arith, there, most)
-
 pub loop-device-smaller : goal.loop-device-smaller
 loop-device-smaller g c = let there = c.loop-device-test.true in omega (arith, there)

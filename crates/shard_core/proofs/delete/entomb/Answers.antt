@@ -1,5 +1,7 @@
-use Rattle.std.proofs.Common.{◌≡◌, ℕ, refl, sym, ap, ◌∙◌, subst, arith}
-use Rattle.std.specs.Prelude.{Option, Some, None, Result, Ok, Err, IfOk}
+use Rattle.std.proofs.Common.{◌≡◌, ℕ, refl, sym, ap, ◌∙◌, subst, arith, inr, true}
+use Rattle.shard_core.proofs.Later.{later_none}
+use Rattle.shard_core.specs.Calls.{IsRefusedStep}
+use Rattle.std.specs.Prelude.{Option, Some, None, Result, Ok, Err, IfOk, ◌⊎◌, IfErr}
 use Rattle.std.proofs.lemmas.Result.{err_from_is_err_and}
 use Rattle.rec_format.specs.declared.entry.Entry.{Entry}
 use Rattle.rec_format.specs.declared.version.Stamp.{Stamp}
@@ -59,3 +61,31 @@ returns-clause-makes g c s call ok stand entombs =
         subst (λ (y : Stamp). StepMakes g.D.Disk.view (setup_for c.args.shelf.now.geometry c.args.set.now) (part_of (setup_for c.args.shelf.now.geometry c.args.set.now) c.args.digest.now) call (ok y) c.args.shelf.now s c.write_step.new.sprig c.write_step.new.shelf)
         (sym (same ∙ ap (λ (v : Version). v.stamp) c.tombstone-tombstone.ensures)) made
     by (Err refusal) same made = made
+
+pub returns-in_err-stamp-clause-later : goal.returns-in_err-stamp-clause-later
+returns-in_err-stamp-clause-later g c = later_none g.D.Disk.view c.args.shelf.now.disk (g.met.D.Disk.is_disk c.args.shelf.now.disk)
+
+pub returns-in_err-stamp-clause-honest : goal.returns-in_err-stamp-clause-honest
+returns-in_err-stamp-clause-honest g c = λ honest. honest
+
+pub returns-in_err-stamp-clause-shape : goal.returns-in_err-stamp-clause-shape
+returns-in_err-stamp-clause-shape g c = record { geometry = refl; limits = refl; raid = refl }
+
+pub returns-in_err-stamp-clause-refused : goal.returns-in_err-stamp-clause-refused
+returns-in_err-stamp-clause-refused g c =
+    let p = err_from_is_err_and c.from_residual.result c.from_residual.ensures.1 in
+    let same : c.from_residual.result ≡ Err write.Spent = p.1 ∙ ap (λ (r : WriteRefusal). Err r) (p.2 ∙ (c.in_err-stamp.ensures {u = tt}).0) in
+    subst (λ (r : Result Stamp WriteRefusal). IfErr r (λ e. ((e ≡ write.Fault) × (c.args.set.now.commit ≡ true)) ⊎ IsRefusedStep c.args.sprig.now c.args.sprig.now c.args.shelf.now c.args.shelf.now e)) (sym same)
+    (inr (record { sprig = record { entries = refl; high = refl }; shelf = refl }))
+
+pub returns-clause-refused : goal.returns-clause-refused
+returns-clause-refused g c = c.write_step.ensures.refused
+
+pub returns-clause-later : goal.returns-clause-later
+returns-clause-later g c = c.write_step.ensures.later
+
+pub returns-clause-honest : goal.returns-clause-honest
+returns-clause-honest g c = c.write_step.ensures.honest
+
+pub returns-clause-shape : goal.returns-clause-shape
+returns-clause-shape g c = c.write_step.ensures.shape

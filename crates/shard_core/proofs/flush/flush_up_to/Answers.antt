@@ -1,13 +1,15 @@
-use Rattle.std.proofs.Common.{inl, inr, ◌≡◌, ◌≢◌, ◌+◌, ◌<◌, ℕ, [], refl, ◌∙◌, ap, subst, arith}
+use Rattle.std.proofs.Common.{inl, inr, ◌≡◌, ◌≢◌, ◌+◌, ◌<◌, ◌≤◌, ◌^◌, true, false, ℕ, [], refl, sym, ◌∙◌, ap, subst, arith}
 use Rattle.std.specs.Prelude.{Option, Some, None, Result, Ok, Err, OnErr}
+use Rattle.std.specs.List.{AllByRecursion}
+use Rattle.fault_count.specs.Counts.{Rose}
 use Rattle.device_model.specs.Legal.{flush_between}
 use Rattle.disk_model.specs.Disk.{IsDisk}
 use Rattle.disk_model.specs.declared.disk.DiskFault.{DiskFault}
-use Rattle.block_shelf.specs.View.{ShelfView}
+use Rattle.block_shelf.specs.View.{ShelfView, is_unsealed}
 use Rattle.block_shelf.specs.Flushes.{FirstLeaves, FirstStays}
 use Rattle.block_shelf.proofs.Going.{goes_none}
 use Rattle.shard_core.proofs.Later.{later_none, later_then, shape_then}
-use Rattle.shard_core.proofs.FlushLoop.{Stepped, Fewer, fits_before, one_fewer, setup_stays, went_on, went_all, went_through, went_stopped, quiet_on, most_on, ends_on, all_gone, whole_still, stays_some, stays_quiet, where_err, on_err}
+use Rattle.shard_core.proofs.FlushLoop.{Stepped, Fewer, fits_before, one_fewer, setup_stays, went_on, went_all, went_through, went_stopped, quiet_on, most_on, ends_on, all_gone, whole_still, stays_some, stays_quiet, where_err, where_ok, on_err, rose_since}
 use Rattle.shard_core.proofs.flush.flush_up_to.Goals as goal
 
 pub loop-number-init : goal.loop-number-init
@@ -60,6 +62,30 @@ returns-in_err-number-clause-left g c =
 
 pub returns-in_err-number-clause-whole : goal.returns-in_err-number-clause-whole
 returns-in_err-number-clause-whole g c = whole_still g.D.Disk.view c.args.shelf.now c.loop-number.shelf c.loop-number.invariant.whole c.flush_step.ensures.whole
+
+pub returns-in_err-number-clause-few : goal.returns-in_err-number-clause-few
+returns-in_err-number-clause-few g c = where_ok c.from_residual.result (λ n. n < 2 ^ 60) c.from_residual.ensures.0
+
+pub returns-in_err-number-clause-all : goal.returns-in_err-number-clause-all
+returns-in_err-number-clause-all g c =
+    where_ok c.from_residual.result (λ n. AllByRecursion (λ b. b.number ≤ c.args.last) c.args.shelf.now.buffers → AllByRecursion (λ b. is_unsealed b.phase ≡ true) c.flush_step.new.self.buffers) c.from_residual.ensures.0
+
+pub returns-in_err-number-clause-cause : goal.returns-in_err-number-clause-cause
+returns-in_err-number-clause-cause g c =
+    let old : ShelfView g.row.D.Denot = c.args.shelf.now in
+    let mid : ShelfView g.row.D.Denot = c.loop-number.shelf in
+    let new : ShelfView g.row.D.Denot = c.flush_step.new.self in
+    on_err c.from_residual.result (Rose (g.D.Disk.view old.disk).faults (g.D.Disk.view new.disk).faults)
+    (rose_since (g.D.Disk.view old.disk).faults (g.D.Disk.view mid.disk).faults (g.D.Disk.view new.disk).faults c.loop-number.invariant.later.count c.in_err-number.ensures.cause)
+
+pub returns-in_err-number-clause-later : goal.returns-in_err-number-clause-later
+returns-in_err-number-clause-later g c = later_then g.D.Disk.view c.args.shelf.now.disk c.loop-number.shelf.disk c.flush_step.new.self.disk c.loop-number.invariant.later c.flush_step.ensures.later
+
+pub returns-in_err-number-clause-honest : goal.returns-in_err-number-clause-honest
+returns-in_err-number-clause-honest g c honest = c.flush_step.ensures.honest (c.loop-number.invariant.honest honest)
+
+pub returns-in_err-number-clause-shape : goal.returns-in_err-number-clause-shape
+returns-in_err-number-clause-shape g c = shape_then c.args.shelf.now c.loop-number.shelf c.flush_step.new.self c.loop-number.invariant.shape c.flush_step.ensures.shape
 
 -- ---- one more
 
@@ -123,6 +149,26 @@ returns-then-number-last-clause-quiet g c = λ quiet.
 pub returns-then-number-last-clause-whole : goal.returns-then-number-last-clause-whole
 returns-then-number-last-clause-whole g c = whole_still g.D.Disk.view c.args.shelf.now c.loop-number.shelf c.loop-number.invariant.whole c.flush_step.ensures.whole
 
+pub returns-then-number-last-clause-few : goal.returns-then-number-last-clause-few
+returns-then-number-last-clause-few g c =
+    let few = fits_before g.D.Disk.view c.loop-number.count c.loop-number.shelf c.flush_step.ensures.whole c.loop-number.invariant.few in
+    omega (arith, few)
+
+pub returns-then-number-last-clause-left : goal.returns-then-number-last-clause-left
+returns-then-number-last-clause-left g c = tt
+
+pub returns-then-number-last-clause-cause : goal.returns-then-number-last-clause-cause
+returns-then-number-last-clause-cause g c = tt
+
+pub returns-then-number-last-clause-later : goal.returns-then-number-last-clause-later
+returns-then-number-last-clause-later g c = later_then g.D.Disk.view c.args.shelf.now.disk c.loop-number.shelf.disk c.flush_step.new.self.disk c.loop-number.invariant.later c.flush_step.ensures.later
+
+pub returns-then-number-last-clause-honest : goal.returns-then-number-last-clause-honest
+returns-then-number-last-clause-honest g c honest = c.flush_step.ensures.honest (c.loop-number.invariant.honest honest)
+
+pub returns-then-number-last-clause-shape : goal.returns-then-number-last-clause-shape
+returns-then-number-last-clause-shape g c = shape_then c.args.shelf.now c.loop-number.shelf c.flush_step.new.self c.loop-number.invariant.shape c.flush_step.ensures.shape
+
 -- ---- no more
 
 pub returns-in_default-clause-flushed : goal.returns-in_default-clause-flushed
@@ -139,3 +185,35 @@ returns-in_default-clause-flushed g c = λ setup s is stands ends.
 
 pub returns-in_default-clause-whole : goal.returns-in_default-clause-whole
 returns-in_default-clause-whole g c = whole_still g.D.Disk.view c.args.shelf.now c.loop-number.shelf c.loop-number.invariant.whole c.flush_step.ensures.whole
+
+pub returns-in_default-clause-few : goal.returns-in_default-clause-few
+returns-in_default-clause-few g c =
+    let few = fits_before g.D.Disk.view c.loop-number.count c.loop-number.shelf c.flush_step.ensures.whole c.loop-number.invariant.few in
+    omega (arith, few)
+
+pub returns-in_default-clause-all : goal.returns-in_default-clause-all
+returns-in_default-clause-all g c = λ most.
+    let is_none : c.flush_step.result ≡ Ok None = c.in_ok-number.was ∙ ap (λ (o : Option ℕ). Ok o) c.in_default.is in
+    let same : c.flush_step.new.self ≡ c.loop-number.shelf = subst (λ (r : Result (Option ℕ) DiskFault). Fewer r c.loop-number.shelf c.flush_step.new.self) is_none c.flush_step.ensures.first in
+    subst (λ (v : ShelfView g.row.D.Denot). AllByRecursion (λ b. is_unsealed b.phase ≡ true) v.buffers) (sym same) (c.flush_step.ensures.none is_none)
+
+pub returns-in_default-clause-quiet : goal.returns-in_default-clause-quiet
+returns-in_default-clause-quiet g c = λ quiet.
+    let is_none : c.flush_step.result ≡ Ok None = c.in_ok-number.was ∙ ap (λ (o : Option ℕ). Ok o) c.in_default.is in
+    let same : c.flush_step.new.self ≡ c.loop-number.shelf = subst (λ (r : Result (Option ℕ) DiskFault). Fewer r c.loop-number.shelf c.flush_step.new.self) is_none c.flush_step.ensures.first in
+    subst (λ (v : ShelfView g.row.D.Denot). AllByRecursion (λ b. is_unsealed b.phase ≡ false) v.buffers) (sym same) (c.loop-number.invariant.quiet (record { none_filling = quiet })).none_filling
+
+pub returns-in_default-clause-left : goal.returns-in_default-clause-left
+returns-in_default-clause-left g c = tt
+
+pub returns-in_default-clause-cause : goal.returns-in_default-clause-cause
+returns-in_default-clause-cause g c = tt
+
+pub returns-in_default-clause-later : goal.returns-in_default-clause-later
+returns-in_default-clause-later g c = later_then g.D.Disk.view c.args.shelf.now.disk c.loop-number.shelf.disk c.flush_step.new.self.disk c.loop-number.invariant.later c.flush_step.ensures.later
+
+pub returns-in_default-clause-honest : goal.returns-in_default-clause-honest
+returns-in_default-clause-honest g c honest = c.flush_step.ensures.honest (c.loop-number.invariant.honest honest)
+
+pub returns-in_default-clause-shape : goal.returns-in_default-clause-shape
+returns-in_default-clause-shape g c = shape_then c.args.shelf.now c.loop-number.shelf c.flush_step.new.self c.loop-number.invariant.shape c.flush_step.ensures.shape

@@ -1,5 +1,6 @@
-use Rattle.std.proofs.Common.{◌≡◌, ℕ, Bool, length, sym, ap, ◌∙◌, subst, arith}
-use Rattle.std.specs.Prelude.{Option, Some, None, Result, Ok, Err, IfOk}
+use Rattle.std.proofs.Common.{◌≡◌, ℕ, Bool, length, refl, sym, ap, ◌∙◌, subst, arith, inr, true}
+use Rattle.block_shelf.proofs.Roomed.{room_none}
+use Rattle.std.specs.Prelude.{Option, Some, None, Result, Ok, Err, IfOk, ◌⊎◌, IfErr}
 use Rattle.std.proofs.lemmas.Bool.{false≢true}
 use Rattle.std.proofs.lemmas.Result.{err_from_is_err_and}
 use Rattle.rec_format.specs.declared.entry.Entry.{Entry}
@@ -17,10 +18,11 @@ use Rattle.block_shelf.specs.declared.place.Class.TheVariants as class
 use Rattle.shard_core.specs.declared.refusals.WriteRefusal.{WriteRefusal}
 use Rattle.shard_core.specs.declared.refusals.WriteRefusal.TheVariants as write
 use Rattle.shard_core.specs.View.{setup_for}
-use Rattle.shard_core.specs.Calls.{cause_of_write, write_answer}
+use Rattle.shard_core.specs.Calls.{cause_of_write, write_answer, IsRefusedStep}
 use Rattle.shard_steps.specs.Events.{StepMakes}
 use Rattle.shard_core.specs.Writing.{IsWriteOf, IsFit, IsUnfit, written_answer}
-use Rattle.shard_core.proofs.Puts.{stamp_fine, unfit_refusal, spent_refusal, put_writes, stands_against, memory_wants, makes_nothing}
+use Rattle.shard_core.proofs.Later.{later_none}
+use Rattle.shard_core.proofs.Puts.{stamp_fine, unfit_refusal, spent_refusal, put_writes, stands_against, memory_wants, makes_nothing, unfit_left}
 use Rattle.shard_core.proofs.put.put_step.Goals as goal
 
 pub returns-in_err-check_put-clause-makes : goal.returns-in_err-check_put-clause-makes
@@ -94,3 +96,100 @@ returns-clause-makes g c s stand =
         subst (λ (y : Stamp). StepMakes g.D.Disk.view (setup_for c.args.shelf.now.geometry c.args.set.now) (part_of (setup_for c.args.shelf.now.geometry c.args.set.now) c.args.digest.now) (put_call c.args.digest.now c.args.ttl c.args.expect c.args.payload.now c.args.now) (stamp_given y) c.args.shelf.now s c.write_step.new.sprig c.write_step.new.shelf)
         (sym (same ∙ stamped)) made
     by (Err refusal) same made stamped = made
+
+-- ---- what stays
+
+pub returns-in_err-check_put-clause-in_room : goal.returns-in_err-check_put-clause-in_room
+returns-in_err-check_put-clause-in_room g c waits room = refl
+
+pub returns-in_err-check_put-clause-quiet : goal.returns-in_err-check_put-clause-quiet
+returns-in_err-check_put-clause-quiet g c waits shut = refl
+
+pub returns-in_err-check_put-clause-later : goal.returns-in_err-check_put-clause-later
+returns-in_err-check_put-clause-later g c = later_none g.D.Disk.view c.args.shelf.now.disk (g.met.D.Disk.is_disk c.args.shelf.now.disk)
+
+pub returns-in_err-check_put-clause-honest : goal.returns-in_err-check_put-clause-honest
+returns-in_err-check_put-clause-honest g c honest = honest
+
+pub returns-in_err-check_put-clause-shape : goal.returns-in_err-check_put-clause-shape
+returns-in_err-check_put-clause-shape g c = record { geometry = refl; limits = refl; raid = refl }
+
+pub returns-in_err-stamp-clause-in_room : goal.returns-in_err-stamp-clause-in_room
+returns-in_err-stamp-clause-in_room g c waits room = refl
+
+pub returns-in_err-stamp-clause-quiet : goal.returns-in_err-stamp-clause-quiet
+returns-in_err-stamp-clause-quiet g c waits shut = refl
+
+pub returns-in_err-stamp-clause-later : goal.returns-in_err-stamp-clause-later
+returns-in_err-stamp-clause-later g c = later_none g.D.Disk.view c.args.shelf.now.disk (g.met.D.Disk.is_disk c.args.shelf.now.disk)
+
+pub returns-in_err-stamp-clause-honest : goal.returns-in_err-stamp-clause-honest
+returns-in_err-stamp-clause-honest g c honest = honest
+
+pub returns-in_err-stamp-clause-shape : goal.returns-in_err-stamp-clause-shape
+returns-in_err-stamp-clause-shape g c = record { geometry = refl; limits = refl; raid = refl }
+
+pub returns-in_default-clause-in_room : goal.returns-in_default-clause-in_room
+returns-in_default-clause-in_room g c waits room = refl
+
+pub returns-in_default-clause-quiet : goal.returns-in_default-clause-quiet
+returns-in_default-clause-quiet g c waits shut = refl
+
+pub returns-in_default-clause-later : goal.returns-in_default-clause-later
+returns-in_default-clause-later g c = later_none g.D.Disk.view c.args.shelf.now.disk (g.met.D.Disk.is_disk c.args.shelf.now.disk)
+
+pub returns-in_default-clause-honest : goal.returns-in_default-clause-honest
+returns-in_default-clause-honest g c honest = honest
+
+pub returns-in_default-clause-shape : goal.returns-in_default-clause-shape
+returns-in_default-clause-shape g c = record { geometry = refl; limits = refl; raid = refl }
+
+pub returns-clause-later : goal.returns-clause-later
+returns-clause-later g c = c.write_step.ensures.later
+
+pub returns-clause-honest : goal.returns-clause-honest
+returns-clause-honest g c = c.write_step.ensures.honest
+
+pub returns-clause-shape : goal.returns-clause-shape
+returns-clause-shape g c = c.write_step.ensures.shape
+
+pub returns-clause-quiet : goal.returns-clause-quiet
+returns-clause-quiet g c = c.write_step.ensures.quiet
+
+pub returns-clause-refused : goal.returns-clause-refused
+returns-clause-refused g c = c.write_step.ensures.refused
+
+pub write_step-requires-clause-named : goal.write_step-requires-clause-named
+write_step-requires-clause-named g c = c.requires.named
+
+pub write_step-requires-clause-settings : goal.write_step-requires-clause-settings
+write_step-requires-clause-settings g c = c.requires.settings
+
+pub write_step-requires-clause-limits : goal.write_step-requires-clause-limits
+write_step-requires-clause-limits g c = c.requires.limits
+
+pub write_step-requires-clause-stand : goal.write_step-requires-clause-stand
+write_step-requires-clause-stand g c = c.requires.stand
+
+pub write_step-requires-clause-client : goal.write_step-requires-clause-client
+write_step-requires-clause-client g c = refl
+
+pub write_step-requires-clause-found : goal.write_step-requires-clause-found
+write_step-requires-clause-found g c = c.find-found.ensures.value
+
+pub returns-in_err-check_put-clause-refused : goal.returns-in_err-check_put-clause-refused
+returns-in_err-check_put-clause-refused g c =
+    let refusal : WriteRefusal = c.in_err-check_put.field-0.0 in
+    let p = err_from_is_err_and c.from_residual.result c.from_residual.ensures.1 in
+    let same : c.from_residual.result ≡ Err refusal = p.1 ∙ ap (λ (r : WriteRefusal). Err r) p.2 in
+    subst (λ (r : Result Stamp WriteRefusal). IfErr r (λ e. ((e ≡ write.Fault) × (c.args.set.now.commit ≡ true)) ⊎ IsRefusedStep c.args.sprig.now c.args.sprig.now c.args.shelf.now c.args.shelf.now e)) (sym same)
+    (inr (unfit_left c.args.sprig.now c.args.shelf.now (length c.args.payload.now) c.capacity.result c.args.expect c.generation_of.result refusal (c.in_err-check_put.ensures {u = tt})))
+
+pub returns-in_err-stamp-clause-refused : goal.returns-in_err-stamp-clause-refused
+returns-in_err-stamp-clause-refused g c =
+    let p = err_from_is_err_and c.from_residual-in_err-stamp.result c.from_residual-in_err-stamp.ensures.1 in
+    let same : c.from_residual-in_err-stamp.result ≡ Err write.Spent = p.1 ∙ ap (λ (r : WriteRefusal). Err r) (p.2 ∙ (c.in_err-stamp.ensures {u = tt}).0) in
+    subst (λ (r : Result Stamp WriteRefusal). IfErr r (λ e. ((e ≡ write.Fault) × (c.args.set.now.commit ≡ true)) ⊎ IsRefusedStep c.args.sprig.now c.args.sprig.now c.args.shelf.now c.args.shelf.now e)) (sym same) (inr (record { sprig = record { entries = refl; high = refl }; shelf = refl }))
+
+pub returns-in_default-clause-refused : goal.returns-in_default-clause-refused
+returns-in_default-clause-refused g c = inr (record { sprig = record { entries = refl; high = refl }; shelf = room_none c.args.shelf.now })

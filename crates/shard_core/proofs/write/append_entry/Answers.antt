@@ -1,4 +1,6 @@
 use Rattle.std.proofs.Common.{◌≡◌, ◌<◌, false, refl, sym, ◌∙◌, ap, subst}
+use Rattle.shard_core.specs.Calls.{IsShelfLeft}
+use Rattle.block_shelf.proofs.Roomed.{room_none}
 use Rattle.std.specs.Prelude.{Option, Some, None, IfSome, option_map}
 use Rattle.rec_format.specs.declared.entry.Entry.{Entry}
 use Rattle.sprig_tree.specs.Entries.{entry_of}
@@ -11,11 +13,13 @@ use Rattle.write_buffer.specs.declared.stream.Stream.{Stream}
 use Rattle.block_shelf.specs.declared.refusals.PutRefusal.TheVariants as put
 use Rattle.block_shelf.specs.Standing.{book_stream}
 use Rattle.block_shelf.specs.Calls.{IsPriorIn, prior_live}
+use Rattle.block_shelf.specs.Changes.{HasRoom}
 use Rattle.shard_steps.specs.Standing.{SprigStands}
 use Rattle.block_shelf.proofs.Going.{goes_none}
 use Rattle.shard_steps.specs.Sprigs.{place_of}
 use Rattle.shard_steps.proofs.Found.{lies_found, prior_is, prior_stands, same_stands}
-use Rattle.shard_core.proofs.Writes.{copy_of, wrote_by}
+use Rattle.shard_core.proofs.Later.{later_none}
+use Rattle.shard_core.proofs.Writes.{copy_of, wrote_by, left_by}
 use Rattle.shard_core.proofs.write.append_entry.Goals as goal
 
 pub prior_place-prior-requires : goal.prior_place-prior-requires
@@ -62,3 +66,74 @@ returns-in-Ok-append-clause-wrote g c setup s is stand =
     (c.in-Ok-append.ensures.appended setup s is stand.shelf_stands.stands live (copy_of c.args.class c.requires.client s c.args.digest.now c.args.version.now)) (c.in-Ok-append.ensures.causes setup s is stand.shelf_stands.stands)
     c.in-Ok-append.ensures.place.0 c.requires.version.time.0
     (subst (λ (e : Entry). TakesEntry e c.reserve.new.self c.enter.new.sprig) c.entry_at.ensures c.enter.ensures)
+
+-- ---- what stays
+
+pub returns-in_default-clause-in_room : goal.returns-in_default-clause-in_room
+returns-in_default-clause-in_room g c = λ room. refl
+
+pub returns-in_default-clause-quiet : goal.returns-in_default-clause-quiet
+returns-in_default-clause-quiet g c = λ shut. refl
+
+pub returns-in_default-clause-later : goal.returns-in_default-clause-later
+returns-in_default-clause-later g c = later_none g.D.Disk.view c.args.shelf.now.disk (g.met.D.Disk.is_disk c.args.shelf.now.disk)
+
+pub returns-in_default-clause-honest : goal.returns-in_default-clause-honest
+returns-in_default-clause-honest g c = λ honest. honest
+
+pub returns-in_default-clause-shape : goal.returns-in_default-clause-shape
+returns-in_default-clause-shape g c = record { geometry = refl; limits = refl; raid = refl }
+
+pub returns-in_default-clause-whole : goal.returns-in_default-clause-whole
+returns-in_default-clause-whole g c = c.prior_place-prior.ensures.whole
+
+pub returns-in-Err-clause-in_room : goal.returns-in-Err-clause-in_room
+returns-in-Err-clause-in_room g c room = c.append.ensures.in_room (subst (λ (t : Stream). HasRoom t (version_units c.args.version.now) c.args.shelf.now.buffers) (sym c.requires.client) room)
+
+pub returns-in-Err-clause-quiet : goal.returns-in-Err-clause-quiet
+returns-in-Err-clause-quiet g c = c.append.ensures.quiet
+
+pub returns-in-Err-clause-later : goal.returns-in-Err-clause-later
+returns-in-Err-clause-later g c = c.append.ensures.later
+
+pub returns-in-Err-clause-honest : goal.returns-in-Err-clause-honest
+returns-in-Err-clause-honest g c = c.append.ensures.honest
+
+pub returns-in-Err-clause-shape : goal.returns-in-Err-clause-shape
+returns-in-Err-clause-shape g c = c.append.ensures.shape
+
+pub returns-in-Err-clause-whole : goal.returns-in-Err-clause-whole
+returns-in-Err-clause-whole g c = c.append.ensures.whole
+
+pub returns-in-Ok-append-clause-in_room : goal.returns-in-Ok-append-clause-in_room
+returns-in-Ok-append-clause-in_room g c room = c.append.ensures.in_room (subst (λ (t : Stream). HasRoom t (version_units c.args.version.now) c.args.shelf.now.buffers) (sym c.requires.client) room)
+
+pub returns-in-Ok-append-clause-quiet : goal.returns-in-Ok-append-clause-quiet
+returns-in-Ok-append-clause-quiet g c = c.append.ensures.quiet
+
+pub returns-in-Ok-append-clause-later : goal.returns-in-Ok-append-clause-later
+returns-in-Ok-append-clause-later g c = c.append.ensures.later
+
+pub returns-in-Ok-append-clause-honest : goal.returns-in-Ok-append-clause-honest
+returns-in-Ok-append-clause-honest g c = c.append.ensures.honest
+
+pub returns-in-Ok-append-clause-shape : goal.returns-in-Ok-append-clause-shape
+returns-in-Ok-append-clause-shape g c = c.append.ensures.shape
+
+pub returns-in-Ok-append-clause-whole : goal.returns-in-Ok-append-clause-whole
+returns-in-Ok-append-clause-whole g c = c.append.ensures.whole
+
+pub returns-in_default-clause-refused : goal.returns-in_default-clause-refused
+returns-in_default-clause-refused g c = record {
+  sprig = record { entries = ap (λ (x : SprigState). x.entries) c.in_default.ensures.err; high = ap (λ (x : SprigState). x.hw) c.in_default.ensures.err };
+  shelf = room_none c.args.shelf.now;
+}
+
+pub returns-in-Err-clause-refused : goal.returns-in-Err-clause-refused
+returns-in-Err-clause-refused g c = record {
+  sprig = record { entries = c.reserve.ensures.entries; high = c.reserve.ensures.high };
+  shelf = subst (IsShelfLeft c.args.shelf.now c.append.new.self) (sym c.write_refusal.ensures) (left_by c.args.shelf.now c.append.new.self c.in-Err.refusal c.in-Err.ensures.refused);
+}
+
+pub returns-in-Ok-append-clause-refused : goal.returns-in-Ok-append-clause-refused
+returns-in-Ok-append-clause-refused g c = tt

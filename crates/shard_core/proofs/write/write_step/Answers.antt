@@ -1,6 +1,8 @@
-use Rattle.std.proofs.Common.{◌≡◌, List, ◌∷◌, sym, ap, ◌∙◌, subst}
+use Rattle.std.proofs.Common.{◌≡◌, List, ◌∷◌, sym, ap, ◌∙◌, subst, inl, inr, true, refl}
+use Rattle.shard_core.specs.Calls.{IsRefusedStep}
 use Rattle.std.proofs.Math.Nat.{le_trans}
-use Rattle.std.specs.Prelude.{Result, Ok, Err}
+use Rattle.std.specs.Prelude.{Result, Ok, Err, ◌⊎◌, IfErr}
+use Rattle.std.proofs.lemmas.Bool.{false≢true}
 use Rattle.std.proofs.lemmas.Result.{err_from_is_err_and}
 use Rattle.fault_count.specs.Counts.{Rose}
 use Rattle.rec_format.specs.declared.version.Stamp.{Stamp}
@@ -16,7 +18,7 @@ use Rattle.shard_core.specs.View.{setup_for}
 use Rattle.shard_steps.specs.Events.{StepMakes}
 use Rattle.shard_core.specs.Writing.{Wrote, Commits, written_answer}
 use Rattle.shard_core.proofs.FlushLoop.{rose_since, setup_stays}
-use Rattle.shard_core.proofs.Later.{later_then}
+use Rattle.shard_core.proofs.Later.{later_then, shape_then}
 use Rattle.shard_core.proofs.Making.{setup_fits}
 use Rattle.shard_core.proofs.Writes.{makes_unwritten, makes_waiting, ends_done, ends_faulted}
 use Rattle.shard_core.proofs.write.write_step.Goals as goal
@@ -78,3 +80,89 @@ returns-clause-makes g c s call ok stand may =
     let up = le_trans c.append_entry.ensures.later.count c.commit.ensures.later.count in
     ends_done g.D.Disk.view setup s call c.args.class c.args.digest.now c.args.version.now ok c.args.shelf.now c.append_entry.new.sprig may c.in_ok-block.block c.append_entry.new.shelf it c.append_entry.ensures.honest
     c.if-not-set.false c.commit.new.shelf up (Ok c.in_ok-commit.field-0) went.0 went.1 went.2 went.1
+
+-- ---- what stays
+
+pub returns-in_err-block-clause-in_room : goal.returns-in_err-block-clause-in_room
+returns-in_err-block-clause-in_room g c waits = c.append_entry.ensures.in_room
+
+pub returns-in_err-block-clause-quiet : goal.returns-in_err-block-clause-quiet
+returns-in_err-block-clause-quiet g c waits = c.append_entry.ensures.quiet
+
+pub returns-in_err-block-clause-later : goal.returns-in_err-block-clause-later
+returns-in_err-block-clause-later g c = c.append_entry.ensures.later
+
+pub returns-in_err-block-clause-honest : goal.returns-in_err-block-clause-honest
+returns-in_err-block-clause-honest g c = c.append_entry.ensures.honest
+
+pub returns-in_err-block-clause-shape : goal.returns-in_err-block-clause-shape
+returns-in_err-block-clause-shape g c = c.append_entry.ensures.shape
+
+pub returns-in_err-block-clause-whole : goal.returns-in_err-block-clause-whole
+returns-in_err-block-clause-whole g c = c.append_entry.ensures.whole
+
+pub returns-then-not-set-clause-in_room : goal.returns-then-not-set-clause-in_room
+returns-then-not-set-clause-in_room g c waits = c.append_entry.ensures.in_room
+
+pub returns-then-not-set-clause-quiet : goal.returns-then-not-set-clause-quiet
+returns-then-not-set-clause-quiet g c waits = c.append_entry.ensures.quiet
+
+pub returns-then-not-set-clause-refused : goal.returns-then-not-set-clause-refused
+returns-then-not-set-clause-refused g c = tt
+
+pub returns-then-not-set-clause-later : goal.returns-then-not-set-clause-later
+returns-then-not-set-clause-later g c = c.append_entry.ensures.later
+
+pub returns-then-not-set-clause-honest : goal.returns-then-not-set-clause-honest
+returns-then-not-set-clause-honest g c = c.append_entry.ensures.honest
+
+pub returns-then-not-set-clause-shape : goal.returns-then-not-set-clause-shape
+returns-then-not-set-clause-shape g c = c.append_entry.ensures.shape
+
+pub returns-then-not-set-clause-whole : goal.returns-then-not-set-clause-whole
+returns-then-not-set-clause-whole g c = c.append_entry.ensures.whole
+
+pub returns-in_err-commit-clause-in_room : goal.returns-in_err-commit-clause-in_room
+returns-in_err-commit-clause-in_room g c waits room = absurd (false≢true (sym waits ∙ c.if-not-set.false))
+
+pub returns-in_err-commit-clause-quiet : goal.returns-in_err-commit-clause-quiet
+returns-in_err-commit-clause-quiet g c waits shut = absurd (false≢true (sym waits ∙ c.if-not-set.false))
+
+pub returns-in_err-commit-clause-honest : goal.returns-in_err-commit-clause-honest
+returns-in_err-commit-clause-honest g c honest = c.commit.ensures.honest (c.append_entry.ensures.honest honest)
+
+pub returns-in_err-commit-clause-shape : goal.returns-in_err-commit-clause-shape
+returns-in_err-commit-clause-shape g c = shape_then c.args.shelf.now c.append_entry.new.shelf c.commit.new.shelf c.append_entry.ensures.shape c.commit.ensures.shape
+
+pub returns-in_err-commit-clause-whole : goal.returns-in_err-commit-clause-whole
+returns-in_err-commit-clause-whole g c = c.append_entry.ensures.whole
+
+pub returns-clause-in_room : goal.returns-clause-in_room
+returns-clause-in_room g c waits room = absurd (false≢true (sym waits ∙ c.if-not-set.false))
+
+pub returns-clause-quiet : goal.returns-clause-quiet
+returns-clause-quiet g c waits shut = absurd (false≢true (sym waits ∙ c.if-not-set.false))
+
+pub returns-clause-honest : goal.returns-clause-honest
+returns-clause-honest g c honest = c.commit.ensures.honest (c.append_entry.ensures.honest honest)
+
+pub returns-clause-shape : goal.returns-clause-shape
+returns-clause-shape g c = shape_then c.args.shelf.now c.append_entry.new.shelf c.commit.new.shelf c.append_entry.ensures.shape c.commit.ensures.shape
+
+pub returns-clause-whole : goal.returns-clause-whole
+returns-clause-whole g c = c.append_entry.ensures.whole
+
+pub returns-clause-refused : goal.returns-clause-refused
+returns-clause-refused g c = tt
+
+pub returns-in_err-block-clause-refused : goal.returns-in_err-block-clause-refused
+returns-in_err-block-clause-refused g c =
+    let p = err_from_is_err_and c.from_residual.result c.from_residual.ensures.1 in
+    let same : c.from_residual.result ≡ Err c.in_err-block.field-0.0 = p.1 ∙ ap (λ (r : WriteRefusal). Err r) p.2 in
+    subst (λ (r : Result Stamp WriteRefusal). IfErr r (λ e. ((e ≡ write.Fault) × (c.args.set.now.commit ≡ true)) ⊎ IsRefusedStep c.args.sprig.now c.append_entry.new.sprig c.args.shelf.now c.append_entry.new.shelf e)) (sym same) (inr (c.in_err-block.ensures {u = tt}).refused)
+
+pub returns-in_err-commit-clause-refused : goal.returns-in_err-commit-clause-refused
+returns-in_err-commit-clause-refused g c =
+    let p = err_from_is_err_and c.from_residual-in_err-commit.result c.from_residual-in_err-commit.ensures.1 in
+    let same : c.from_residual-in_err-commit.result ≡ Err write.Fault = p.1 ∙ ap (λ (r : WriteRefusal). Err r) (p.2 ∙ (c.in_err-commit.ensures {u = tt}).fault) in
+    subst (λ (r : Result Stamp WriteRefusal). IfErr r (λ e. ((e ≡ write.Fault) × (c.args.set.now.commit ≡ true)) ⊎ IsRefusedStep c.args.sprig.now c.append_entry.new.sprig c.args.shelf.now c.commit.new.shelf e)) (sym same) (inl (refl, c.if-not-set.false))

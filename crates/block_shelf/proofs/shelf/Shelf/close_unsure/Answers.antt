@@ -1,21 +1,21 @@
-use Rattle.std.proofs.Common.{arith, ◌≡◌, ◌≢◌, ◌<◌, List, [], sym, ◌∙◌, ap, subst}
+use Rattle.std.proofs.Common.{arith, rules, ◌≡◌, ◌≢◌, ◌<◌, ℕ, List, Ok, Err, sym, ◌∙◌, ap, subst}
 use Rattle.std.specs.Prelude.{slice_set}
 use Rattle.std.specs.List.{AllByRecursion}
 use Rattle.std.specs.Vec.{with_items}
-use Rattle.std.proofs.lemmas.List.{with_items_is}
-use Rattle.device_model.specs.Book.{Setup}
-use Rattle.device_model.specs.Device.{State}
+use Rattle.std.proofs.lemmas.List.{get_or-set_same, with_items_is}
 use Rattle.block_format.specs.declared.geometry.Gate.{Gate}
 use Rattle.block_format.specs.declared.geometry.Gate.TheVariants.{Shut, Unsure}
 use Rattle.block_shelf.specs.View.{ShelfView, IsShelf, gate_at}
-use Rattle.block_shelf.specs.Standing.{StandsFor}
-use Rattle.block_shelf.specs.Calls.{Goes}
-use Rattle.block_shelf.proofs.Going.{goes_none}
+use Rattle.block_shelf.specs.declared.refusals.VacateRefusal.TheVariants.{Fault}
+use Rattle.block_shelf.specs.Scans.{ClosesUnsure}
+use Rattle.block_shelf.proofs.Scanning.{no_close, closes, fails_to_close}
 use Rattle.block_shelf.proofs.Unsure.{closed_shelf, goes_closed, goes_unclosed}
 use Rattle.block_shelf.proofs.shelf.Shelf.close_unsure.Goals as goal
 
-pub returns-then-ne-clause-goes : goal.returns-then-ne-clause-goes
-returns-then-ne-clause-goes g c setup s stands = goes_none g.D.Disk.view setup c.args.self.now s (g.met.D.Disk.is_disk c.args.self.now.disk) stands
+pub returns-then-ne : goal.returns-then-ne
+returns-then-ne g c =
+    let sure : gate_at c.args.self.now.gates c.args.block ≢ Unsure = grind (arith, c.if-ne.true, c.ne.ensures, c.gate.ensures) in
+    no_close g.D.Disk.view g.met.D.Disk.is_disk c.args.block c.args.self.now sure (search rules)
 
 pub invariant_of-self : goal.invariant_of-self
 invariant_of-self g c =
@@ -34,8 +34,8 @@ invariant_of-self g c =
       c.self.invariant.1,
     )
 
-pub returns-in_default-clause-goes : goal.returns-in_default-clause-goes
-returns-in_default-clause-goes g c =
+pub returns-in_default : goal.returns-in_default
+returns-in_default g c =
     let d = g.D.Disk in
     let law = g.met.D.Disk in
     let old : ShelfView g.row.D.Denot = record { disk = c.self.inside.disk; geometry = c.self.inside.geometry; limits = c.self.inside.limits; buffers = c.self.inside.buffers.items; gates = c.self.inside.gates.items; rolls = c.self.inside.ledger; holds = c.self.inside.holds; free = c.self.inside.free.items; queue = c.self.inside.queue; cache = c.self.inside.cache; raid = c.self.inside.raid; next_number = c.self.inside.next_number } in
@@ -47,9 +47,11 @@ returns-in_default-clause-goes g c =
     let known : c.shut_gate.new.gates ≡ slice_set old.gates c.args.block Unsure = e.known ∙ ap (λ (l : List Gate). slice_set l c.args.block Unsure) c.deref_mut.ensures.value in
     let gates : (with_items c.self.inside.gates c.shut_gate.new.gates).items ≡ c.shut_gate.new.gates = with_items_is c.self.inside.gates c.shut_gate.new.gates (c.shut_gate.auto.gates ∙ c.deref_mut.ensures.len) in
     let unsure : gate_at old.gates c.args.block ≡ Unsure = subst (λ (v : ShelfView g.row.D.Denot). gate_at v.gates c.args.block ≡ Unsure) (sym c.self.view_is) (grind (arith, c.if-ne.false, c.ne.ensures, c.gate.ensures)) in
-    subst (λ (v : ShelfView g.row.D.Denot). (setup : Setup) (s : State) → StandsFor setup v s → Goes d.view setup [] v s (record old { disk = disk; gates = (with_items c.self.inside.gates c.shut_gate.new.gates).items })) c.self.view_is
-    (λ setup s stands. subst (λ (l : List Gate). Goes d.view setup [] old s (record old { disk = disk; gates = l })) (sym gates)
-    (goes_unclosed d.view law.is_disk old disk c.args.block is lt unbuffered e.later e.honest e.was_honest e.images c.shut_gate.new.gates e.stands unsure setup s stands known))
+    let closed = closed_shelf d.view law.is_disk old disk c.args.block is lt unbuffered e.later e.honest e.was_honest e.images c.shut_gate.new.gates e.stands Unsure known in
+    subst (λ (v : ShelfView g.row.D.Denot). ClosesUnsure d.view c.args.block v (record old { disk = disk; gates = (with_items c.self.inside.gates c.shut_gate.new.gates).items }) (Err Fault)) c.self.view_is
+    (subst (λ (l : List Gate). ClosesUnsure d.view c.args.block old (record old { disk = disk; gates = l }) (Err Fault)) (sym gates)
+    (fails_to_close d.view law.is_disk c.args.block old unsure disk c.shut_gate.new.gates closed
+    (λ setup s stands. goes_unclosed d.view law.is_disk old disk c.args.block is lt unbuffered e.later e.honest e.was_honest e.images c.shut_gate.new.gates e.stands unsure setup s stands known) e.later e.honest e.cause))
 
 pub invariant_of-self-2 : goal.invariant_of-self-2
 invariant_of-self-2 g c =
@@ -68,8 +70,8 @@ invariant_of-self-2 g c =
       c.self.invariant.1,
     )
 
-pub returns-clause-goes : goal.returns-clause-goes
-returns-clause-goes g c =
+pub returns : goal.returns
+returns g c =
     let d = g.D.Disk in
     let law = g.met.D.Disk in
     let old : ShelfView g.row.D.Denot = record { disk = c.self.inside.disk; geometry = c.self.inside.geometry; limits = c.self.inside.limits; buffers = c.self.inside.buffers.items; gates = c.self.inside.gates.items; rolls = c.self.inside.ledger; holds = c.self.inside.holds; free = c.self.inside.free.items; queue = c.self.inside.queue; cache = c.self.inside.cache; raid = c.self.inside.raid; next_number = c.self.inside.next_number } in
@@ -81,12 +83,9 @@ returns-clause-goes g c =
     let known : c.shut_gate.new.gates ≡ slice_set old.gates c.args.block Shut = e.known ∙ ap (λ (l : List Gate). slice_set l c.args.block Shut) c.deref_mut.ensures.value in
     let gates : (with_items c.self.inside.gates c.shut_gate.new.gates).items ≡ c.shut_gate.new.gates = with_items_is c.self.inside.gates c.shut_gate.new.gates (c.shut_gate.auto.gates ∙ c.deref_mut.ensures.len) in
     let unsure : gate_at old.gates c.args.block ≡ Unsure = subst (λ (v : ShelfView g.row.D.Denot). gate_at v.gates c.args.block ≡ Unsure) (sym c.self.view_is) (grind (arith, c.if-ne.false, c.ne.ensures, c.gate.ensures)) in
-    subst (λ (v : ShelfView g.row.D.Denot). (setup : Setup) (s : State) → StandsFor setup v s → Goes d.view setup [] v s (record old { disk = disk; gates = (with_items c.self.inside.gates c.shut_gate.new.gates).items })) c.self.view_is
-    (λ setup s stands. subst (λ (l : List Gate). Goes d.view setup [] old s (record old { disk = disk; gates = l })) (sym gates)
-    (goes_closed d.view law.is_disk old disk c.args.block is lt unbuffered e.later e.honest e.was_honest e.images c.shut_gate.new.gates e.stands unsure setup s stands known))
-
-pub returns-in_default-clause-whole : goal.returns-in_default-clause-whole
-returns-in_default-clause-whole g c = (invariant_of-self g c).0
-
-pub returns-clause-whole : goal.returns-clause-whole
-returns-clause-whole g c = (invariant_of-self-2 g c).0
+    let closed = closed_shelf d.view law.is_disk old disk c.args.block is lt unbuffered e.later e.honest e.was_honest e.images c.shut_gate.new.gates e.stands Shut known in
+    let shut : gate_at c.shut_gate.new.gates c.args.block ≡ Shut = ap (λ (l : List Gate). gate_at l c.args.block) known ∙ get_or-set_same old.gates c.args.block Shut Shut (subst (λ (n : ℕ). c.args.block < n) (sym is.gates) lt) in
+    subst (λ (v : ShelfView g.row.D.Denot). ClosesUnsure d.view c.args.block v (record old { disk = disk; gates = (with_items c.self.inside.gates c.shut_gate.new.gates).items }) (Ok tt)) c.self.view_is
+    (subst (λ (l : List Gate). ClosesUnsure d.view c.args.block old (record old { disk = disk; gates = l }) (Ok tt)) (sym gates)
+    (closes d.view law.is_disk c.args.block old unsure disk c.shut_gate.new.gates closed
+    (λ setup s stands. goes_closed d.view law.is_disk old disk c.args.block is lt unbuffered e.later e.honest e.was_honest e.images c.shut_gate.new.gates e.stands unsure setup s stands known) e.later e.honest shut))

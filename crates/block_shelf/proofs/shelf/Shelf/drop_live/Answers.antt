@@ -1,10 +1,8 @@
-use Rattle.std.proofs.Common.{◌≡◌, true, false, [], ◌∷◌, refl, sym, ◌∙◌, ap, subst}
-use Rattle.std.specs.Prelude.{Contains}
-use Rattle.disk_model.specs.Disk.{DiskView, IsDisk, IsHonest}
+use Rattle.std.proofs.Common.{◌≡◌, ◌<◌, ℕ, [], ◌∷◌, refl, sym, ◌∙◌, ap, subst}
 use Rattle.rec_format.specs.declared.version.Digest.{Digest}
 use Rattle.device_model.specs.Histories.{dropped, rid}
 use Rattle.device_model.specs.Book.{Setup, dropped_live}
-use Rattle.device_model.specs.Device.{State, entry_is_covered}
+use Rattle.device_model.specs.Device.{State}
 use Rattle.device_model.specs.Steps.{removed, rid_of, with_item, after_step}
 use Rattle.block_shelf.specs.View.{ShelfView, IsUnused}
 use Rattle.block_shelf.specs.Calls.{Goes}
@@ -19,6 +17,9 @@ drops setup s digest = refl
 rids : (setup : Setup) (s : State) (digest : Digest) → after_step setup (rid_of digest) s ≡ with_item digest rid (dropped_live setup digest s.book) s
 unfolding after_step
 rids setup s digest = refl
+
+pub requeue-requires : goal.requeue-requires
+requeue-requires g c = record { block = subst (λ (n : ℕ). c.args.place.block < n) (sym (ap (λ (x : ShelfView g.row.D.Denot). x.geometry.blocks) c.take_live.ensures.taken)) c.requires.block }
 
 pub returns-then-is_unused-clause-dropped : goal.returns-then-is_unused-clause-dropped
 returns-then-is_unused-clause-dropped g c setup s digest is stands live uncovered =
@@ -55,3 +56,47 @@ returns-else-is_unused-clause-rid g c setup s digest is stands live none =
     subst (Goes d.view setup (rid_of digest ∷ []) c.args.self.now s) (sym queued)
     (goes_kept d.view law.is_disk setup c.args.self.now s c.take_live.ensures.whole stands is digest c.args.place live c.requires.block rid (rid_of digest) (rids setup s digest) refl none
     (λ unused. c.if-is_unused.ensures (subst (λ (v : ShelfView g.row.D.Denot). IsUnused v c.args.place.block) (sym queued) unused)))
+
+-- ---- what stays
+
+pub returns-then-is_unused-clause-disk : goal.returns-then-is_unused-clause-disk
+returns-then-is_unused-clause-disk g c =
+    let queued = c.requeue.ensures ∙ ap (with_requeued c.args.place.block) c.take_live.ensures.taken in
+    ap (λ (x : ShelfView g.row.D.Denot). x.disk) (c.free_block.ensures ∙ ap (with_free c.args.place.block) queued)
+
+pub returns-then-is_unused-clause-gates : goal.returns-then-is_unused-clause-gates
+returns-then-is_unused-clause-gates g c =
+    let queued = c.requeue.ensures ∙ ap (with_requeued c.args.place.block) c.take_live.ensures.taken in
+    ap (λ (x : ShelfView g.row.D.Denot). x.gates) (c.free_block.ensures ∙ ap (with_free c.args.place.block) queued)
+
+pub returns-then-is_unused-clause-cache : goal.returns-then-is_unused-clause-cache
+returns-then-is_unused-clause-cache g c =
+    let queued = c.requeue.ensures ∙ ap (with_requeued c.args.place.block) c.take_live.ensures.taken in
+    ap (λ (x : ShelfView g.row.D.Denot). x.cache) (c.free_block.ensures ∙ ap (with_free c.args.place.block) queued)
+
+pub returns-then-is_unused-clause-shape : goal.returns-then-is_unused-clause-shape
+returns-then-is_unused-clause-shape g c =
+    let queued = c.requeue.ensures ∙ ap (with_requeued c.args.place.block) c.take_live.ensures.taken in
+    let all = (c.free_block.ensures ∙ ap (with_free c.args.place.block) queued) in
+    record { geometry = ap (λ (x : ShelfView g.row.D.Denot). x.geometry) all; limits = ap (λ (x : ShelfView g.row.D.Denot). x.limits) all; raid = ap (λ (x : ShelfView g.row.D.Denot). x.raid) all }
+
+pub returns-else-is_unused-clause-disk : goal.returns-else-is_unused-clause-disk
+returns-else-is_unused-clause-disk g c =
+    let queued = c.requeue.ensures ∙ ap (with_requeued c.args.place.block) c.take_live.ensures.taken in
+    ap (λ (x : ShelfView g.row.D.Denot). x.disk) queued
+
+pub returns-else-is_unused-clause-gates : goal.returns-else-is_unused-clause-gates
+returns-else-is_unused-clause-gates g c =
+    let queued = c.requeue.ensures ∙ ap (with_requeued c.args.place.block) c.take_live.ensures.taken in
+    ap (λ (x : ShelfView g.row.D.Denot). x.gates) queued
+
+pub returns-else-is_unused-clause-cache : goal.returns-else-is_unused-clause-cache
+returns-else-is_unused-clause-cache g c =
+    let queued = c.requeue.ensures ∙ ap (with_requeued c.args.place.block) c.take_live.ensures.taken in
+    ap (λ (x : ShelfView g.row.D.Denot). x.cache) queued
+
+pub returns-else-is_unused-clause-shape : goal.returns-else-is_unused-clause-shape
+returns-else-is_unused-clause-shape g c =
+    let queued = c.requeue.ensures ∙ ap (with_requeued c.args.place.block) c.take_live.ensures.taken in
+    let all = queued in
+    record { geometry = ap (λ (x : ShelfView g.row.D.Denot). x.geometry) all; limits = ap (λ (x : ShelfView g.row.D.Denot). x.limits) all; raid = ap (λ (x : ShelfView g.row.D.Denot). x.raid) all }

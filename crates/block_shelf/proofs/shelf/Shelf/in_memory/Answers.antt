@@ -1,9 +1,13 @@
 use Rattle.std.proofs.Common.{◌∙◌, ap, refl, subst, arith}
+use Rattle.std.proofs.lemmas.List.Elements.{Contains-append_left}
 use Rattle.write_buffer.proofs.Sizes.{sized}
 use Rattle.post_cache.specs.Bodies.{body_of}
 use Rattle.block_shelf.specs.View.{IsShelf, ShelfView}
 use Rattle.block_shelf.proofs.InMemory.{unkept_of, only_buffer, peeked_some, peeked_only, peeked_none, peeked_capacity}
 use Rattle.block_shelf.proofs.shelf.Shelf.in_memory.Goals as goal
+
+pub returns-in-Some-clause-some : goal.returns-in-Some-clause-some
+returns-in-Some-clause-some g c = (Contains-append_left c.args.self.now.buffers _ c.in-Some.buffer.now c.in-Some.ensures.some.0, c.in-Some.ensures.some.1)
 
 pub returns-in-Some-clause-only : goal.returns-in-Some-clause-only
 returns-in-Some-clause-only g c =

@@ -1,5 +1,6 @@
-use Rattle.std.proofs.Common.{◌≡◌, ◌≢◌, ◌<◌, ◌++◌, ℕ, List, [], ◌∷◌, length, refl, sym, ap, subst, ◌∙◌}
+use Rattle.std.proofs.Common.{◌≡◌, ◌≢◌, ◌<◌, ◌≤◌, ◌++◌, arith, ℕ, List, [], ◌∷◌, length, refl, sym, ap, subst, ◌∙◌}
 use Rattle.std.specs.List.{AllByRecursion}
+use Rattle.std.specs.VecDeque.{deque_capacity}
 use Rattle.device_model.specs.Book.{Setup}
 use Rattle.device_model.specs.Device.{State}
 use Rattle.device_model.specs.Steps.{flushed_buffer}
@@ -7,19 +8,49 @@ use Rattle.block_format.specs.declared.geometry.Gate.TheVariants.{Set}
 use Rattle.block_format.specs.Layout.{IsBody}
 use Rattle.write_buffer.specs.declared.phase.Phase.TheVariants.{GateBegun}
 use Rattle.write_buffer.specs.Buffers.{BufferState, bytes_of, body_in}
-use Rattle.hold_book.specs.Holds.{HoldState, without_buffer}
+use Rattle.hold_book.specs.Holds.{HoldState, HoldsBelow, without_buffer}
 use Rattle.post_cache.specs.Bodies.{CacheState, with_kept_body}
-use Rattle.block_shelf.specs.View.{ShelfView, IsShelf, IsSetupOf, gate_at, is_written}
+use Rattle.block_shelf.specs.View.{ShelfView, IsShelf, IsBufferOf, IsSetupOf, gate_at, is_written}
 use Rattle.block_shelf.specs.Standing.{StandsFor}
 use Rattle.block_shelf.specs.Calls.{Goes}
 use Rattle.block_shelf.specs.Changes.{with_requeued, with_flushed}
 use Rattle.block_shelf.specs.Flushes.{IsFirstAt, IsWithoutFirst}
 use Rattle.block_shelf.specs.LetGo.{IsLetGo}
+use Rattle.block_shelf.proofs.Between.{all_own}
 use Rattle.block_shelf.proofs.Blocks.{apart_back}
 use Rattle.block_shelf.proofs.FirstSealed.{FoundAt, IsFirstWith, found_at, first_is, left_first}
 use Rattle.block_shelf.proofs.FlushLeaving.{retired_unlisted, retired_shelf, retired_is, retired_goes}
 use Rattle.block_shelf.proofs.FlushStages.{without_first}
 use Rattle.block_shelf.proofs.shelf.Shelf.retire.Goals as goal
+
+pub free_let_go-requires-clause-held : goal.free_let_go-requires-clause-held
+free_let_go-requires-clause-held g c =
+    subst (λ (n : ℕ). HoldsBelow n c.self.inside.holds.holds) (sym c.self.invariant.0.rolls) c.self.invariant.0.held
+
+pub free_let_go-requires-clause-each : goal.free_let_go-requires-clause-each
+free_let_go-requires-clause-each g c =
+    c.self.invariant.0.each
+
+pub free_let_go-requires-clause-below : goal.free_let_go-requires-clause-below
+free_let_go-requires-clause-below g c =
+    subst (λ (n : ℕ). AllByRecursion (λ b. b < n) c.self.inside.free.items) (sym c.self.invariant.0.rolls) c.self.invariant.0.free
+
+pub free_let_go-requires-clause-room : goal.free_let_go-requires-clause-room
+free_let_go-requires-clause-room g c =
+    subst (λ (n : ℕ). n ≤ deque_capacity c.self.inside.free) (sym c.self.invariant.0.rolls) c.self.invariant.1
+
+pub free_let_go-requires-clause-few : goal.free_let_go-requires-clause-few
+free_let_go-requires-clause-few g c =
+    let most = c.self.invariant.0.geometry.blocks in
+    omega (arith, most, c.self.invariant.0.rolls)
+
+pub free_let_go-requires-clause-own : goal.free_let_go-requires-clause-own
+free_let_go-requires-clause-own g c =
+    let old : ShelfView g.row.D.Denot = record { disk = c.self.inside.disk; geometry = c.self.inside.geometry; limits = c.self.inside.limits; buffers = c.self.inside.buffers.items; gates = c.self.inside.gates.items; rolls = c.self.inside.ledger; holds = c.self.inside.holds; free = c.self.inside.free.items; queue = c.self.inside.queue; cache = c.self.inside.cache; raid = c.self.inside.raid; next_number = c.self.inside.next_number } in
+    let b : BufferState = c.remove-buffer.result in
+    let first : FoundAt (λ x. x.phase ≡ GateBegun) c.args.at old.buffers b = found_at (λ x. x.phase ≡ GateBegun) c.args.at old.buffers b (subst (λ (v : ShelfView g.row.D.Denot). IsFirstWith (λ x. x.phase ≡ GateBegun) c.args.at v.buffers) (sym c.self.view_is) (c.requires.first, c.requires.begun c.requires.first)) c.remove-buffer.ensures.value in
+    let own = all_own (IsBufferOf old.geometry old.next_number) first.front b first.behind (subst (AllByRecursion (IsBufferOf old.geometry old.next_number)) first.parts c.self.invariant.0.buffers) in
+    subst (λ (n : ℕ). c.block-block.result < n) (sym c.self.invariant.0.rolls) (subst (λ (k : ℕ). k < old.geometry.blocks) (sym c.block-block.ensures) own.block)
 
 pub free_let_go-requires-clause-apart : goal.free_let_go-requires-clause-apart
 free_let_go-requires-clause-apart g c = apart_back _ _ c.self.invariant.0.apart

@@ -1,4 +1,4 @@
-use Rattle.std.proofs.Common.{arith, ◌≡◌, ◌<◌, ℕ, List, [], map, sym, ◌∙◌, ap, subst}
+use Rattle.std.proofs.Common.{arith, ◌≡◌, ◌<◌, ℕ, Ok, Err, List, [], map, sym, ◌∙◌, ap, subst}
 use Rattle.std.specs.List.{All}
 use Rattle.std.proofs.lemmas.List.Elements.{All-from_recursion}
 use Rattle.disk_model.specs.Disk.{IsHonest}
@@ -11,26 +11,49 @@ use Rattle.block_format.specs.declared.geometry.Found.{Found}
 use Rattle.kept_facts.specs.Asking.{FindsOlder}
 use Rattle.kept_images.specs.Held.{loosened}
 use Rattle.kept_images.proofs.Scanning.{scan_finds}
-use Rattle.raid_book.specs.Books.{BookState}
+use Rattle.raid_book.specs.Books.{BookState, with_scan}
 use Rattle.raid_book.specs.Raids.{RaidStands, found_copies, found_parts}
 use Rattle.raid_book.specs.Turns.{turn_of}
+use Rattle.block_shelf.specs.declared.refusals.VacateRefusal.TheVariants.{Memory}
 use Rattle.block_shelf.specs.View.{ShelfView, IsSetupOf, records_of, gate_at}
 use Rattle.block_shelf.specs.Standing.{ImagesHold}
 use Rattle.block_shelf.specs.Calls.{Goes}
-use Rattle.block_shelf.specs.Scans.{ReadsAll, IsSound, own_found, possible_copies}
-use Rattle.block_shelf.proofs.Begun.{err_is}
-use Rattle.block_shelf.proofs.RaidTurns.{goes_scanned}
+use Rattle.block_shelf.specs.Scans.{ScansIn, ReadsAll, own_found, possible_copies}
+use Rattle.block_shelf.proofs.Begun.{passed_on}
+use Rattle.block_shelf.proofs.Scanning.{reads_at, unread, wanting_memory, taken_in}
+use Rattle.block_shelf.proofs.RaidTurns.{goes_scanned, raided_shelf}
 use Rattle.block_shelf.proofs.ScanFinds.{own_finds, own_only, parts_below}
 use Rattle.block_shelf.proofs.shelf.Shelf.scan_block.Goals as goal
 
-pub returns-in_err-found-clause-sound : goal.returns-in_err-found-clause-sound
-returns-in_err-found-clause-sound g c setup s honest stands safe = err_is c.from_residual.result c.in_err-found.field-0.0 IsSound c.from_residual.ensures.1 (c.in_err-found.ensures.all setup s honest stands safe)
+pub returns-in_err-found : goal.returns-in_err-found
+returns-in_err-found g c =
+    passed_on c.from_residual.result c.in_err-found.field-0.0 (ScansIn g.D.Disk.view c.args.block c.args.self.now c.records_in.new.self) c.from_residual.ensures.1
+    (unread g.D.Disk.view g.met.D.Disk.is_disk c.args.block c.args.self.now _ c.records_in.new.self c.in_err-found.field-0.0 c.in_err-found.ensures)
 
-pub returns-in_default-clause-scanned : goal.returns-in_default-clause-scanned
-returns-in_default-clause-scanned g c setup s is stands books = c.records_in.ensures.goes setup s stands
+pub returns-in_default : goal.returns-in_default
+returns-in_default g c = wanting_memory g.D.Disk.view g.met.D.Disk.is_disk c.args.block c.args.self.now _ c.records_in.new.self c.in_ok-found.found c.in_ok-found.ensures
 
-pub returns-in_default-parts_in-clause-scanned : goal.returns-in_default-parts_in-clause-scanned
-returns-in_default-parts_in-clause-scanned g c setup s is stands books = c.records_in.ensures.goes setup s stands
+pub returns-in_default-parts_in : goal.returns-in_default-parts_in
+returns-in_default-parts_in g c = wanting_memory g.D.Disk.view g.met.D.Disk.is_disk c.args.block c.args.self.now _ c.records_in.new.self c.in_ok-found.found c.in_ok-found.ensures
+
+pub scanned-requires-clause-turn : goal.scanned-requires-clause-turn
+scanned-requires-clause-turn g c = ap (λ (v : ShelfView g.row.D.Denot). v.raid.next) (c.self.view_is ∙ c.records_in.ensures.rest) ∙ c.requires.turn
+
+pub invariant_of-self : goal.invariant_of-self
+invariant_of-self g c =
+    let here : ShelfView g.row.D.Denot = record { disk = c.self.inside.disk; geometry = c.self.inside.geometry; limits = c.self.inside.limits; buffers = c.self.inside.buffers.items; gates = c.self.inside.gates.items; rolls = c.self.inside.ledger; holds = c.self.inside.holds; free = c.self.inside.free.items; queue = c.self.inside.queue; cache = c.self.inside.cache; raid = c.self.inside.raid; next_number = c.self.inside.next_number } in
+    let was = c.self.invariant.0.raid in (
+      raided_shelf g.D.Disk.view here c.scanned.new.self c.self.invariant.0 (record { parts = ap (λ (b : BookState). b.parts) c.in_default-scanned.ensures.err ∙ was.parts; blocks = ap (λ (b : BookState). b.blocks) c.in_default-scanned.ensures.err ∙ was.blocks }),
+      c.self.invariant.1,
+    )
+
+pub invariant_of-self-2 : goal.invariant_of-self-2
+invariant_of-self-2 g c =
+    let here : ShelfView g.row.D.Denot = record { disk = c.self.inside.disk; geometry = c.self.inside.geometry; limits = c.self.inside.limits; buffers = c.self.inside.buffers.items; gates = c.self.inside.gates.items; rolls = c.self.inside.ledger; holds = c.self.inside.holds; free = c.self.inside.free.items; queue = c.self.inside.queue; cache = c.self.inside.cache; raid = c.self.inside.raid; next_number = c.self.inside.next_number } in
+    let was = c.self.invariant.0.raid in (
+      raided_shelf g.D.Disk.view here c.scanned.new.self c.self.invariant.0 (record { parts = ap (λ (b : BookState). b.parts) c.in-Ok-scanned.ensures.book ∙ was.parts; blocks = ap (λ (b : BookState). b.blocks) c.in-Ok-scanned.ensures.book ∙ was.blocks }),
+      c.self.invariant.1,
+    )
 
 pub scanned-requires-clause-below : goal.scanned-requires-clause-below
 scanned-requires-clause-below g c =
@@ -44,16 +67,21 @@ scanned-requires-clause-below g c =
     (subst (All (λ p. p < most)) (sym parts) (All-from_recursion (λ p. p < most) (map (λ f. part_number_of shape.devices sprigs f.head.digest) (own_found shape c.deref.result.now))
     (parts_below shape sprigs c.deref.result.now (let some = is.geometry.device in omega (arith, some)) (let some = is.limits.sprigs.0 in omega (arith, some)))))
 
-pub returns-in_default-scanned-clause-scanned : goal.returns-in_default-scanned-clause-scanned
-returns-in_default-scanned-clause-scanned g c setup s is stands books =
+pub returns-in_default-scanned : goal.returns-in_default-scanned
+returns-in_default-scanned g c =
     let here : ShelfView g.row.D.Denot = record { disk = c.self.inside.disk; geometry = c.self.inside.geometry; limits = c.self.inside.limits; buffers = c.self.inside.buffers.items; gates = c.self.inside.gates.items; rolls = c.self.inside.ledger; holds = c.self.inside.holds; free = c.self.inside.free.items; queue = c.self.inside.queue; cache = c.self.inside.cache; raid = c.self.inside.raid; next_number = c.self.inside.next_number } in
-    subst (Goes g.D.Disk.view setup [] c.args.self.now s) (sym c.self.view_is ∙ ap (λ (b : BookState). record here { raid = b }) (sym c.in_default-scanned.ensures.err)) (c.records_in.ensures.goes setup s stands)
+    subst (λ (v : ShelfView g.row.D.Denot). ScansIn g.D.Disk.view c.args.block c.args.self.now v (Err Memory)) (sym c.self.view_is ∙ ap (λ (b : BookState). record here { raid = b }) (sym c.in_default-scanned.ensures.err))
+    (wanting_memory g.D.Disk.view g.met.D.Disk.is_disk c.args.block c.args.self.now _ c.records_in.new.self c.in_ok-found.found c.in_ok-found.ensures)
 
-pub returns-clause-scanned : goal.returns-clause-scanned
-returns-clause-scanned g c setup s is stands books =
+pub returns : goal.returns
+returns g c =
     let view = g.D.Disk.view in
     let old = c.args.self.now in
     let here : ShelfView g.row.D.Denot = record { disk = c.self.inside.disk; geometry = c.self.inside.geometry; limits = c.self.inside.limits; buffers = c.self.inside.buffers.items; gates = c.self.inside.gates.items; rolls = c.self.inside.ledger; holds = c.self.inside.holds; free = c.self.inside.free.items; queue = c.self.inside.queue; cache = c.self.inside.cache; raid = c.self.inside.raid; next_number = c.self.inside.next_number } in
+    taken_in view g.met.D.Disk.is_disk c.args.block old _ here c.in_ok-found.found c.scanned.new.self
+    (reads_at view g.met.D.Disk.is_disk c.args.block old _ c.records_in.new.self here (Ok c.in_ok-found.found) (sym c.self.view_is) c.in_ok-found.ensures)
+    (c.in-Ok-scanned.ensures.book ∙ ap (with_scan c.scanned.new.self.found) (ap (λ (v : ShelfView g.row.D.Denot). v.raid) (c.self.view_is ∙ c.records_in.ensures.rest)))
+    (λ setup s is stands books.
     let went : Goes view setup [] old s here = subst (Goes view setup [] old s) (sym c.self.view_is) (c.records_in.ensures.goes setup s stands) in
     let found : List Found = c.in_ok-found.found.items in
     let own : c.deref-3.result.now ≡ own_found here.geometry found = c.deref-3.ensures.value ∙ c.in-Ok.ensures ∙ ap (own_found here.geometry) c.deref.ensures.value in
@@ -82,10 +110,4 @@ returns-clause-scanned g c setup s is stands books =
       goes = goes_scanned view setup old here s went c.args.block copies c.scanned.new.self turn raid finds;
       all = finds;
       only = λ honest safe. let reads = reads_here honest safe in own_only here.geometry (possible_copies view here s) c.args.block reads.records found reads.found_is reads.only;
-    }
-
-pub returns-in_default-scanned-clause-waiting : goal.returns-in_default-scanned-clause-waiting
-returns-in_default-scanned-clause-waiting g c b there at = ap (λ (v : ShelfView g.row.D.Denot). v.disk) c.self.view_is ∙ c.records_in.ensures.waiting b there at
-
-pub returns-clause-waiting : goal.returns-clause-waiting
-returns-clause-waiting g c b there at = ap (λ (v : ShelfView g.row.D.Denot). v.disk) c.self.view_is ∙ c.records_in.ensures.waiting b there at
+    })

@@ -1,10 +1,13 @@
-use Rattle.std.proofs.Common.{arith, ◌≡◌, [], ◌∷◌, sym, ◌∙◌, ap, subst}
+use Rattle.std.proofs.Common.{arith, ◌≡◌, ℕ, [], ◌∷◌, sym, ◌∙◌, ap, subst}
 use Rattle.device_model.specs.Steps.{raid_given_up}
 use Rattle.kept_facts.specs.Facts.{SamePossible}
 use Rattle.raid_book.specs.Books.{given_up}
+use Rattle.disk_model.specs.Disk.{IsHonest}
+use Rattle.block_format.specs.Layout.{body_bytes}
+use Rattle.block_shelf.specs.Disks.{IsLater}
 use Rattle.block_shelf.specs.View.{ShelfView}
 use Rattle.block_shelf.specs.Calls.{Goes}
-use Rattle.block_shelf.specs.Scans.{possible_copies}
+use Rattle.block_shelf.specs.Scans.{IsDamageOf, possible_copies}
 use Rattle.block_shelf.proofs.Going.{goes_then}
 use Rattle.block_shelf.proofs.RaidTurns.{goes_given_up}
 use Rattle.block_shelf.proofs.Unsure.{sure_at, same_possible}
@@ -43,3 +46,59 @@ returns-in-Err-clause-alike g c setup s sure honest stands safe =
     let at = sure_at old.gates c.in-Scan.block sure in
     subst (λ (v : ShelfView g.row.D.Denot). SamePossible (possible_copies view old s) (possible_copies view v s)) (sym c.give_up.ensures)
     (same_possible view setup old c.scan_block.new.self s sure safe (e.honest honest) (e.fewer at honest) e.rest (e.sure at))
+
+-- ---- what stays, and what is told
+
+pub returns-in-Ok-clause-turned : goal.returns-in-Ok-clause-turned
+returns-in-Ok-clause-turned g c =
+    c.in-Ok.ensures.turned
+
+pub returns-in-Ok-clause-given_up : goal.returns-in-Ok-clause-given_up
+returns-in-Ok-clause-given_up g c =
+    tt
+
+pub returns-in-Ok-clause-sure : goal.returns-in-Ok-clause-sure
+returns-in-Ok-clause-sure g c sure =
+    c.scan_block.ensures.sure (sure_at c.args.self.now.gates c.in-Scan.block sure)
+
+pub returns-in-Ok-clause-rest : goal.returns-in-Ok-clause-rest
+returns-in-Ok-clause-rest g c =
+    c.scan_block.ensures.rest
+
+pub returns-in-Ok-clause-later : goal.returns-in-Ok-clause-later
+returns-in-Ok-clause-later g c =
+    c.scan_block.ensures.later
+
+pub returns-in-Ok-clause-honest : goal.returns-in-Ok-clause-honest
+returns-in-Ok-clause-honest g c =
+    c.scan_block.ensures.honest
+
+pub returns-in-Err-clause-turned : goal.returns-in-Err-clause-turned
+returns-in-Err-clause-turned g c =
+    tt
+
+pub returns-in-Err-clause-given_up : goal.returns-in-Err-clause-given_up
+returns-in-Err-clause-given_up g c =
+    ap (λ (v : ShelfView g.row.D.Denot). v.raid) c.give_up.ensures ∙ ap given_up c.in-Err.ensures.same
+
+pub returns-in-Err-clause-sure : goal.returns-in-Err-clause-sure
+returns-in-Err-clause-sure g c sure =
+    ap (λ (v : ShelfView g.row.D.Denot). v.gates) c.give_up.ensures ∙ c.scan_block.ensures.sure (sure_at c.args.self.now.gates c.in-Scan.block sure)
+
+pub returns-in-Err-clause-sound : goal.returns-in-Err-clause-sound
+returns-in-Err-clause-sound g c setup s honest stands safe =
+    c.in-Err.ensures.sound setup s honest stands safe
+
+pub returns-in-Err-clause-later : goal.returns-in-Err-clause-later
+returns-in-Err-clause-later g c =
+    subst (λ (disk : g.row.D.Denot). IsLater (g.D.Disk.view c.args.self.now.disk) (g.D.Disk.view disk)) (sym (ap (λ (v : ShelfView g.row.D.Denot). v.disk) c.give_up.ensures)) c.scan_block.ensures.later
+
+pub returns-in-Err-clause-honest : goal.returns-in-Err-clause-honest
+returns-in-Err-clause-honest g c =
+    subst (λ (disk : g.row.D.Denot). IsHonest (g.D.Disk.view c.args.self.now.disk) → IsHonest (g.D.Disk.view disk)) (sym (ap (λ (v : ShelfView g.row.D.Denot). v.disk) c.give_up.ensures)) c.scan_block.ensures.honest
+
+pub returns-in-Err-clause-damaged : goal.returns-in-Err-clause-damaged
+returns-in-Err-clause-damaged g c told block turn =
+    let old = c.args.self.now in
+    let same : block ≡ c.in-Scan.block = grind (arith, turn, c.in-Scan.ensures.value) in
+    subst (λ (k : ℕ). IsDamageOf old.geometry (body_bytes old.geometry k (g.D.Disk.view old.disk).seen) k c.in-Err.refusal) (sym same) (c.in-Err.ensures.damaged told)

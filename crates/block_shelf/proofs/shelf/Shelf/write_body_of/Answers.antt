@@ -1,17 +1,20 @@
-use Rattle.std.proofs.Common.{◌≡◌, ℕ, ◌+◌, ◌*◌, ◌∷◌, ◌++◌, [], List, refl, sym, ap, ◌∙◌, subst}
+use Rattle.std.proofs.Common.{◌≡◌, ◌<◌, ℕ, ◌+◌, ◌*◌, ◌∷◌, ◌++◌, [], List, refl, sym, ap, ◌∙◌, subst}
 use Rattle.std.specs.List.{AllByRecursion}
 use Rattle.std.specs.Prelude.{slice_set}
 use Rattle.disk_model.specs.Disk.{IsHonest}
 use Rattle.block_flusher.specs.Images.{HasOneBody}
+use Rattle.fault_count.specs.Counts.{Rose}
 use Rattle.device_model.specs.Book.{Setup}
 use Rattle.device_model.specs.Device.{State}
 use Rattle.write_buffer.specs.declared.phase.Phase.TheVariants.{Sealed, BodyDone}
 use Rattle.write_buffer.specs.Buffers.{BufferState, with_phase}
 use Rattle.write_buffer.proofs.Sizes.{body_size}
+use Rattle.block_shelf.specs.Disks.{IsLater}
 use Rattle.block_shelf.specs.View.{ShelfView, IsShelf, IsBufferOf}
 use Rattle.block_shelf.specs.Standing.{StandsFor}
 use Rattle.block_shelf.specs.Calls.{Goes}
 use Rattle.block_shelf.specs.Flushes.{IsFirstAt, with_body}
+use Rattle.block_shelf.proofs.Begun.{on_err}
 use Rattle.block_shelf.proofs.Between.{all_own}
 use Rattle.block_shelf.proofs.FirstSealed.{FoundAt, IsFirstWith, found_at, first_is, set_first}
 use Rattle.block_shelf.proofs.FlushShelf.{KeepsDisk}
@@ -92,3 +95,43 @@ returns-clause-changed g c =
     let sealed : b.phase ≡ Sealed = (found_at (λ x. x.phase ≡ Sealed) c.args.at old.buffers b (subst (λ (v : ShelfView g.row.D.Denot). IsFirstWith (λ x. x.phase ≡ Sealed) c.args.at v.buffers) (sym c.self.view_is) (c.requires.first, c.requires.sealed c.requires.first)) c.index_mut-buffer.ensures.value).has in
     ap (λ (bs : List BufferState). record old { disk = c.write_body.new.disk; buffers = bs })
     (set_first c.args.at old.buffers first c.set_phase.new.self (with_phase BodyDone first.sealed.buffer) (settled_phase b c.set_phase.new.self c.set_phase.ensures.set sealed ∙ ap (with_phase BodyDone) same)))
+
+-- ---- the disk
+
+pub returns-in_err-write_body-clause-cause : goal.returns-in_err-write_body-clause-cause
+returns-in_err-write_body-clause-cause g c =
+    on_err c.from_residual.result (Rose (g.D.Disk.view c.args.self.now.disk).faults (g.D.Disk.view c.write_body.new.disk).faults)
+    (subst (λ (v : ShelfView g.row.D.Denot). Rose (g.D.Disk.view v.disk).faults (g.D.Disk.view c.write_body.new.disk).faults) c.self.view_is c.in_err-write_body.ensures.call.cause.rose)
+
+pub returns-clause-cause : goal.returns-clause-cause
+returns-clause-cause g c = tt
+
+pub returns-in_err-write_body-clause-later : goal.returns-in_err-write_body-clause-later
+returns-in_err-write_body-clause-later g c =
+    let call = c.write_body.ensures.call in
+    subst (λ (v : ShelfView g.row.D.Denot). IsLater (g.D.Disk.view v.disk) (g.D.Disk.view c.write_body.new.disk)) c.self.view_is (record { time = call.time; count = call.cause.later; size = call.size })
+
+pub returns-in_err-write_body-clause-honest : goal.returns-in_err-write_body-clause-honest
+returns-in_err-write_body-clause-honest g c = subst (λ (v : ShelfView g.row.D.Denot). IsHonest (g.D.Disk.view v.disk) → IsHonest (g.D.Disk.view c.write_body.new.disk)) c.self.view_is c.write_body.ensures.call.honest
+
+pub returns-clause-later : goal.returns-clause-later
+returns-clause-later g c =
+    let call = c.write_body.ensures.call in
+    subst (λ (v : ShelfView g.row.D.Denot). IsLater (g.D.Disk.view v.disk) (g.D.Disk.view c.write_body.new.disk)) c.self.view_is (record { time = call.time; count = call.cause.later; size = call.size })
+
+pub returns-clause-honest : goal.returns-clause-honest
+returns-clause-honest g c = subst (λ (v : ShelfView g.row.D.Denot). IsHonest (g.D.Disk.view v.disk) → IsHonest (g.D.Disk.view c.write_body.new.disk)) c.self.view_is c.write_body.ensures.call.honest
+
+pub write_body-requires-clause-geometry : goal.write_body-requires-clause-geometry
+write_body-requires-clause-geometry g c = c.self.invariant.0.geometry
+
+pub write_body-requires-clause-room : goal.write_body-requires-clause-room
+write_body-requires-clause-room g c = c.self.invariant.0.room
+
+pub write_body-requires-clause-block : goal.write_body-requires-clause-block
+write_body-requires-clause-block g c =
+    let old : ShelfView g.row.D.Denot = record { disk = c.self.inside.disk; geometry = c.self.inside.geometry; limits = c.self.inside.limits; buffers = c.self.inside.buffers.items; gates = c.self.inside.gates.items; rolls = c.self.inside.ledger; holds = c.self.inside.holds; free = c.self.inside.free.items; queue = c.self.inside.queue; cache = c.self.inside.cache; raid = c.self.inside.raid; next_number = c.self.inside.next_number } in
+    let b : BufferState = c.index_mut-buffer.result.now in
+    let first : FoundAt (λ x. x.phase ≡ Sealed) c.args.at old.buffers b = found_at (λ x. x.phase ≡ Sealed) c.args.at old.buffers b (subst (λ (v : ShelfView g.row.D.Denot). IsFirstWith (λ x. x.phase ≡ Sealed) c.args.at v.buffers) (sym c.self.view_is) (c.requires.first, c.requires.sealed c.requires.first)) c.index_mut-buffer.ensures.value in
+    let own = all_own (IsBufferOf old.geometry old.next_number) first.front b first.behind (subst (AllByRecursion (IsBufferOf old.geometry old.next_number)) first.parts c.self.invariant.0.buffers) in
+    subst (λ (k : ℕ). k < old.geometry.blocks) (sym c.block.ensures) own.block

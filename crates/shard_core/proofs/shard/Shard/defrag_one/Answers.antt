@@ -1,9 +1,13 @@
-use Rattle.std.proofs.Common.{ap, ◌∙◌, subst}
+use Rattle.std.proofs.Common.{ap, sym, refl, ◌∙◌, subst}
 use Rattle.std.specs.Prelude.{Some, None, Ok, Err}
 use Rattle.device_model.specs.Device.{State}
-use Rattle.shard_core.specs.View.{ShardView}
+use Rattle.disk_model.specs.Disk.{IsHonest}
+use Rattle.block_shelf.specs.View.{ShelfView}
+use Rattle.block_shelf.specs.Disks.{IsLater}
+use Rattle.shard_core.specs.View.{ShardView, SameSetup}
 use Rattle.shard_core.specs.Stands.{Agrees}
 use Rattle.shard_core.specs.Vacating.{MakesEvents, IsVacating, vacate_cause}
+use Rattle.shard_core.proofs.Later.{later_none}
 use Rattle.shard_core.proofs.Choices.{gives_not, gives_none, gives_own, gives_few, gives_all, gives_some}
 use Rattle.shard_core.proofs.shard.Shard.defrag_one.Goals as goal
 
@@ -46,3 +50,65 @@ returns-clause-makes g c =
     let new : ShardView g.row.D.Denot = record { shelf = c.vacate_next.new.self; set = c.self.inside.set; sprigs = c.self.inside.sprigs.items } in
     subst (λ (v : ShardView g.row.D.Denot). (s : State) → Agrees v s → MakesEvents g.D.Disk.view (IsVacating v s (Err (record { moved = 0; cause = c.vacate_cause.result }))) v s new) c.self.view_is
     (gives_not g.D.Disk.view old (g.met.D.Disk.is_disk old.shelf.disk) c.vacate_next.new.self c.vacate_next.ensures.same c.vacate_cause.result (c.vacate_cause.ensures ∙ ap vacate_cause c.in-Err.ensures.refused))
+
+-- ---- what stays
+
+pub returns-in-Ok-clause-later : goal.returns-in-Ok-clause-later
+returns-in-Ok-clause-later g c =
+    subst (λ (v : ShardView g.row.D.Denot). IsLater (g.D.Disk.view v.shelf.disk) (g.D.Disk.view c.move_all.new.self.shelf.disk)) c.self.view_is
+    (subst (λ (x : ShelfView g.row.D.Denot). IsLater (g.D.Disk.view x.disk) (g.D.Disk.view c.move_all.new.self.shelf.disk)) c.vacate_next.ensures.same c.move_all.ensures.later)
+
+pub returns-in-Ok-clause-honest : goal.returns-in-Ok-clause-honest
+returns-in-Ok-clause-honest g c =
+    subst (λ (v : ShardView g.row.D.Denot). IsHonest (g.D.Disk.view v.shelf.disk) → IsHonest (g.D.Disk.view c.move_all.new.self.shelf.disk)) c.self.view_is
+    (subst (λ (x : ShelfView g.row.D.Denot). IsHonest (g.D.Disk.view x.disk) → IsHonest (g.D.Disk.view c.move_all.new.self.shelf.disk)) c.vacate_next.ensures.same c.move_all.ensures.honest)
+
+pub returns-in-Ok-clause-shape : goal.returns-in-Ok-clause-shape
+returns-in-Ok-clause-shape g c =
+    subst (λ (v : ShardView g.row.D.Denot). SameSetup v c.move_all.new.self) c.self.view_is
+    (record { geometry = c.move_all.ensures.shape.geometry ∙ ap (λ (x : ShelfView g.row.D.Denot). x.geometry) c.vacate_next.ensures.same; set = c.move_all.ensures.shape.set })
+
+pub returns-in-Ok-Some-clause-later : goal.returns-in-Ok-Some-clause-later
+returns-in-Ok-Some-clause-later g c =
+    subst (λ (v : ShardView g.row.D.Denot). IsLater (g.D.Disk.view v.shelf.disk) (g.D.Disk.view c.move_all.new.self.shelf.disk)) c.self.view_is
+    (subst (λ (x : ShelfView g.row.D.Denot). IsLater (g.D.Disk.view x.disk) (g.D.Disk.view c.move_all.new.self.shelf.disk)) c.vacate_next.ensures.same c.move_all.ensures.later)
+
+pub returns-in-Ok-Some-clause-honest : goal.returns-in-Ok-Some-clause-honest
+returns-in-Ok-Some-clause-honest g c =
+    subst (λ (v : ShardView g.row.D.Denot). IsHonest (g.D.Disk.view v.shelf.disk) → IsHonest (g.D.Disk.view c.move_all.new.self.shelf.disk)) c.self.view_is
+    (subst (λ (x : ShelfView g.row.D.Denot). IsHonest (g.D.Disk.view x.disk) → IsHonest (g.D.Disk.view c.move_all.new.self.shelf.disk)) c.vacate_next.ensures.same c.move_all.ensures.honest)
+
+pub returns-in-Ok-Some-clause-shape : goal.returns-in-Ok-Some-clause-shape
+returns-in-Ok-Some-clause-shape g c =
+    subst (λ (v : ShardView g.row.D.Denot). SameSetup v c.move_all.new.self) c.self.view_is
+    (record { geometry = c.move_all.ensures.shape.geometry ∙ ap (λ (x : ShelfView g.row.D.Denot). x.geometry) c.vacate_next.ensures.same; set = c.move_all.ensures.shape.set })
+
+pub returns-in-Ok-None-clause-later : goal.returns-in-Ok-None-clause-later
+returns-in-Ok-None-clause-later g c =
+    subst (λ (v : ShardView g.row.D.Denot). IsLater (g.D.Disk.view v.shelf.disk) (g.D.Disk.view c.vacate_next.new.self.disk)) c.self.view_is
+    (subst (λ (x : ShelfView g.row.D.Denot). IsLater (g.D.Disk.view c.self.inside.shelf.disk) (g.D.Disk.view x.disk)) (sym c.vacate_next.ensures.same) (later_none g.D.Disk.view c.self.inside.shelf.disk (g.met.D.Disk.is_disk c.self.inside.shelf.disk)))
+
+pub returns-in-Ok-None-clause-honest : goal.returns-in-Ok-None-clause-honest
+returns-in-Ok-None-clause-honest g c =
+    subst (λ (v : ShardView g.row.D.Denot). IsHonest (g.D.Disk.view v.shelf.disk) → IsHonest (g.D.Disk.view c.vacate_next.new.self.disk)) c.self.view_is
+    (subst (λ (x : ShelfView g.row.D.Denot). IsHonest (g.D.Disk.view c.self.inside.shelf.disk) → IsHonest (g.D.Disk.view x.disk)) (sym c.vacate_next.ensures.same) (λ honest. honest))
+
+pub returns-in-Ok-None-clause-shape : goal.returns-in-Ok-None-clause-shape
+returns-in-Ok-None-clause-shape g c =
+    let new : ShardView g.row.D.Denot = record { shelf = c.vacate_next.new.self; set = c.self.inside.set; sprigs = c.self.inside.sprigs.items } in
+    subst (λ (v : ShardView g.row.D.Denot). SameSetup v new) c.self.view_is (record { geometry = ap (λ (x : ShelfView g.row.D.Denot). x.geometry) c.vacate_next.ensures.same; set = refl })
+
+pub returns-clause-later : goal.returns-clause-later
+returns-clause-later g c =
+    subst (λ (v : ShardView g.row.D.Denot). IsLater (g.D.Disk.view v.shelf.disk) (g.D.Disk.view c.vacate_next.new.self.disk)) c.self.view_is
+    (subst (λ (x : ShelfView g.row.D.Denot). IsLater (g.D.Disk.view c.self.inside.shelf.disk) (g.D.Disk.view x.disk)) (sym c.vacate_next.ensures.same) (later_none g.D.Disk.view c.self.inside.shelf.disk (g.met.D.Disk.is_disk c.self.inside.shelf.disk)))
+
+pub returns-clause-honest : goal.returns-clause-honest
+returns-clause-honest g c =
+    subst (λ (v : ShardView g.row.D.Denot). IsHonest (g.D.Disk.view v.shelf.disk) → IsHonest (g.D.Disk.view c.vacate_next.new.self.disk)) c.self.view_is
+    (subst (λ (x : ShelfView g.row.D.Denot). IsHonest (g.D.Disk.view c.self.inside.shelf.disk) → IsHonest (g.D.Disk.view x.disk)) (sym c.vacate_next.ensures.same) (λ honest. honest))
+
+pub returns-clause-shape : goal.returns-clause-shape
+returns-clause-shape g c =
+    let new : ShardView g.row.D.Denot = record { shelf = c.vacate_next.new.self; set = c.self.inside.set; sprigs = c.self.inside.sprigs.items } in
+    subst (λ (v : ShardView g.row.D.Denot). SameSetup v new) c.self.view_is (record { geometry = ap (λ (x : ShelfView g.row.D.Denot). x.geometry) c.vacate_next.ensures.same; set = refl })

@@ -2,6 +2,8 @@ use Rattle.std.proofs.Common.{arith, ◌≡◌, inl, inr, Bool, ◌<◌, true, f
 use Rattle.std.specs.Prelude.{◌⊎◌, Result, Ok, Err, Option, IfErr, IsOk}
 use Rattle.rec_format.specs.declared.entry.Entry.{Entry}
 use Rattle.rec_format.specs.Places.{device_number}
+use Rattle.disk_model.specs.Disk.{IsHonest}
+use Rattle.block_shelf.specs.Disks.{IsLater}
 use Rattle.device_model.specs.Device.{State, part_of}
 use Rattle.device_model.specs.Events.{delete_call}
 use Rattle.expiry_rule.specs.Seen.{seen_entry}
@@ -58,6 +60,20 @@ invariant_of-self g c =
           c.self.inside.tally c.tally-before.result c.tally.result c.minus.result c.plus-self-inside.result
           c.self.invariant.tallied c.tally-before.ensures c.tally.ensures c.minus.ensures c.plus-self-inside.ensures (omega arith) (omega arith) (omega arith);
     }
+
+pub returns-clause-later : goal.returns-clause-later
+returns-clause-later g c = subst (λ (v : ShardView g.row.D.Denot). IsLater (g.D.Disk.view v.shelf.disk) (g.D.Disk.view c.delete_step-answer.new.shelf.disk)) c.self.view_is c.delete_step-answer.ensures.later
+
+pub returns-clause-honest : goal.returns-clause-honest
+returns-clause-honest g c = subst (λ (v : ShardView g.row.D.Denot). IsHonest (g.D.Disk.view v.shelf.disk) → IsHonest (g.D.Disk.view c.delete_step-answer.new.shelf.disk)) c.self.view_is c.delete_step-answer.ensures.honest
+
+pub returns-clause-shape : goal.returns-clause-shape
+returns-clause-shape g c =
+    let new : ShardView g.row.D.Denot = record { shelf = c.delete_step-answer.new.shelf; set = c.self.inside.set; sprigs = set c.self.inside.sprigs.items c.part_of-part.result c.delete_step-answer.new.sprig } in
+    subst (λ (v : ShardView g.row.D.Denot). SameSetup v new) c.self.view_is (record { geometry = c.delete_step-answer.ensures.shape.geometry; set = refl })
+
+pub delete_step-answer-requires-clause-named : goal.delete_step-answer-requires-clause-named
+delete_step-answer-requires-clause-named g c = subst (λ (v : ShardView g.row.D.Denot). device_number v.shelf.geometry.devices c.args.digest.now ≡ v.shelf.geometry.device) (sym c.self.view_is) c.requires.named
 
 pub returns-clause-refused : goal.returns-clause-refused
 returns-clause-refused g c =

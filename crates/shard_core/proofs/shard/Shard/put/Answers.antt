@@ -1,7 +1,15 @@
-use Rattle.std.proofs.Common.{arith, ◌≡◌, inl, inr, ◌<◌, true, length, set, refl, sym, ap, ◌∙◌, subst}
+use Rattle.std.proofs.Common.{arith, ◌≡◌, inl, inr, ◌<◌, true, false, length, set, refl, sym, ap, ◌∙◌, subst}
 use Rattle.std.specs.Prelude.{◌⊎◌, Result, Ok, Err, IfErr}
 use Rattle.rec_format.specs.declared.version.Stamp.{Stamp}
 use Rattle.rec_format.specs.Places.{device_number}
+use Rattle.rec_format.specs.Versions.{units_for}
+use Rattle.disk_model.specs.Disk.{IsHonest}
+use Rattle.device_model.specs.Book.{first_block}
+use Rattle.block_format.specs.declared.geometry.Gate.TheVariants.{Shut}
+use Rattle.write_buffer.specs.declared.stream.Stream.TheVariants.{Client}
+use Rattle.block_shelf.specs.View.{gate_at}
+use Rattle.block_shelf.specs.Changes.{HasRoom}
+use Rattle.block_shelf.specs.Disks.{IsLater}
 use Rattle.device_model.specs.Device.{State, part_of}
 use Rattle.device_model.specs.Events.{put_call}
 use Rattle.shard_core.specs.declared.refusals.WriteRefusal.{WriteRefusal}
@@ -55,6 +63,31 @@ invariant_of-self g c =
           c.self.inside.tally c.tally-before.result c.tally.result c.minus.result c.plus-self-inside.result
           c.self.invariant.tallied c.tally-before.ensures c.tally.ensures c.minus.ensures c.plus-self-inside.ensures (omega arith) (omega arith) (omega arith);
     }
+
+pub returns-clause-in_room : goal.returns-clause-in_room
+returns-clause-in_room g c =
+    subst (λ (v : ShardView g.row.D.Denot). v.set.commit ≡ false → HasRoom Client (units_for (length c.args.payload.now)) v.shelf.buffers → c.put_step-answer.new.shelf.disk ≡ v.shelf.disk) c.self.view_is c.put_step-answer.ensures.in_room
+
+pub returns-clause-quiet : goal.returns-clause-quiet
+returns-clause-quiet g c =
+    subst (λ (v : ShardView g.row.D.Denot). v.set.commit ≡ false → gate_at v.shelf.gates (first_block v.shelf.free) ≡ Shut → c.put_step-answer.new.shelf.disk ≡ v.shelf.disk) c.self.view_is c.put_step-answer.ensures.quiet
+
+pub returns-clause-later : goal.returns-clause-later
+returns-clause-later g c =
+    subst (λ (v : ShardView g.row.D.Denot). IsLater (g.D.Disk.view v.shelf.disk) (g.D.Disk.view c.put_step-answer.new.shelf.disk)) c.self.view_is c.put_step-answer.ensures.later
+
+pub returns-clause-honest : goal.returns-clause-honest
+returns-clause-honest g c =
+    subst (λ (v : ShardView g.row.D.Denot). IsHonest (g.D.Disk.view v.shelf.disk) → IsHonest (g.D.Disk.view c.put_step-answer.new.shelf.disk)) c.self.view_is c.put_step-answer.ensures.honest
+
+pub returns-clause-shape : goal.returns-clause-shape
+returns-clause-shape g c =
+    let new : ShardView g.row.D.Denot = record { shelf = c.put_step-answer.new.shelf; set = c.self.inside.set; sprigs = set c.self.inside.sprigs.items c.part_of-part.result c.put_step-answer.new.sprig } in
+    subst (λ (v : ShardView g.row.D.Denot). SameSetup v new) c.self.view_is (record { geometry = c.put_step-answer.ensures.shape.geometry; set = refl })
+
+pub put_step-answer-requires-clause-named : goal.put_step-answer-requires-clause-named
+put_step-answer-requires-clause-named g c =
+    subst (λ (v : ShardView g.row.D.Denot). device_number v.shelf.geometry.devices c.args.digest.now ≡ v.shelf.geometry.device) (sym c.self.view_is) c.requires.named
 
 pub returns-clause-refused : goal.returns-clause-refused
 returns-clause-refused g c =

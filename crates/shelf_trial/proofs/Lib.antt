@@ -1,2 +1,0 @@
-pub mod TestDisks
-pub mod TestEntries
