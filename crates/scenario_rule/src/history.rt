@@ -41,6 +41,16 @@ impl Write {
         })
     }
 
+    fn is_same(&self, other: &Write) -> bool {
+        self.is_put == other.is_put
+            && self.gen_ == other.gen_
+            && self.lut == other.lut
+            && self.void == other.void
+            && self.data.as_str() == other.data.as_str()
+            && self.is_covered == other.is_covered
+            && self.is_flushed == other.is_flushed
+    }
+
     /// Whether it is past its life.
     pub fn is_expired(&self, now: u64) -> bool {
         self.void != 0 && self.void <= now / 1000
@@ -65,6 +75,14 @@ impl Item {
 
     fn is_write(&self) -> bool {
         matches!(self, Item::Write(_))
+    }
+
+    fn is_same(&self, other: &Item) -> bool {
+        match (self, other) {
+            (Item::Write(one), Item::Write(other)) => one.is_same(other),
+            (Item::Removed, Item::Removed) => true,
+            _ => false,
+        }
     }
 }
 
@@ -109,13 +127,42 @@ impl History {
             .filter(|write| write.is_put && !write.is_expired(now))
     }
 
-    /// All of it is flushed.
-    pub fn flush(&mut self) {
-        for item in self.items.iter_mut() {
+    /// It with all flushed, without what is older than its last tombstone, since nothing brings that back.
+    fn flushed(&self, alloc: Global) -> Result<History, AllocError> {
+        let mut history = self.copy(alloc)?;
+        for item in history.items.iter_mut() {
             if let Item::Write(write) = item {
                 write.is_flushed = true;
             }
         }
+        let older = history.behind_sure(true).saturating_sub(1);
+        let mut items = Vec::new(alloc);
+        for item in history.items.iter().skip(older) {
+            items.push(item.copy(alloc)?)?;
+        }
+        Ok(History { items })
+    }
+
+    /// Puts it behind others with all flushed, unless it is among them.
+    pub fn add_flushed(&self, alloc: Global, all: &mut Vec<History>) -> Result<(), AllocError> {
+        self.flushed(alloc)?.add_to(all)
+    }
+
+    fn is_same(&self, other: &History) -> bool {
+        self.items.len() == other.items.len()
+            && self
+                .items
+                .iter()
+                .zip(other.items.iter())
+                .all(|(one, other)| one.is_same(other))
+    }
+
+    /// Puts it behind others, unless it is among them.
+    pub fn add_to(self, all: &mut Vec<History>) -> Result<(), AllocError> {
+        if !all.iter().any(|one| one.is_same(&self)) {
+            all.push(self)?;
+        }
+        Ok(())
     }
 
     // The number behind the last flushed write, or tombstone; 0 where there is none.
@@ -147,15 +194,13 @@ impl History {
             flushed
         };
         if is_free {
-            fronts.push(History::new(alloc))?;
+            History::new(alloc).add_to(fronts)?;
         }
         let mut number = 0_usize;
         for item in &self.items {
             number = number.saturating_add(1);
             if least <= number && item.is_write() {
-                let mut front = self.front(alloc, number)?;
-                front.flush();
-                fronts.push(front)?;
+                self.front(alloc, number)?.add_flushed(alloc, fronts)?;
             }
         }
         Ok(())

@@ -19,15 +19,22 @@ struct Digest {
     histories: Vec<History>,
 }
 
+// How lines change histories.
+#[derive(Clone, Copy)]
+struct Manner {
+    alloc: Global,
+    // Whether a write is flushed before it is answered.
+    commits: bool,
+    // Whether a raid may have cleared covers.
+    raids: bool,
+}
+
 /// What is known of each digest that a line named.
 #[derive(Drop)]
 pub struct Known {
     alloc: Global,
     digests: Vec<Digest>,
-    /// Whether a write is flushed before it is answered.
-    commits: bool,
-    /// Whether a raid may have cleared covers.
-    raids: bool,
+    manner: Manner,
 }
 
 // What a line does to a digest, as its reply tells.
@@ -54,56 +61,7 @@ fn deed_of(word: &str, reply: &str) -> Deed {
     }
 }
 
-impl Known {
-    /// Nothing was written yet.
-    pub fn new(alloc: Global) -> Known {
-        Known {
-            alloc,
-            digests: Vec::new(alloc),
-            commits: false,
-            raids: false,
-        }
-    }
-
-    pub fn copy(&self) -> Result<Known, AllocError> {
-        let mut digests = Vec::new(self.alloc);
-        for digest in &self.digests {
-            let mut histories = Vec::new(self.alloc);
-            for history in &digest.histories {
-                histories.push(history.copy(self.alloc)?)?;
-            }
-            digests.push(Digest {
-                digits: String::from_str(self.alloc, digest.digits.as_str())?,
-                histories,
-            })?;
-        }
-        Ok(Known {
-            alloc: self.alloc,
-            digests,
-            commits: self.commits,
-            raids: self.raids,
-        })
-    }
-
-    /// The next lines are those of a session, with commit on or off.
-    pub fn begin(&mut self, commits: bool) {
-        self.commits = commits;
-    }
-
-    // A digest that wasn't named yet has an empty history.
-    fn learn(&mut self, digits: &str) -> Result<(), AllocError> {
-        if self.digests.iter().any(|it| it.digits.as_str() == digits) {
-            return Ok(());
-        }
-        let mut histories = Vec::new(self.alloc);
-        histories.push(History::new(self.alloc))?;
-        self.digests.push(Digest {
-            digits: String::from_str(self.alloc, digits)?,
-            histories,
-        })?;
-        Ok(())
-    }
-
+impl Manner {
     // Whether it may be covered, and whether it may not, what comes over the entry of a history.
     fn covers_over(&self, history: &History) -> (bool, bool) {
         match history.top() {
@@ -127,7 +85,7 @@ impl Known {
                 let mut write = put_of(self.alloc, words, done.reply, done.now)?;
                 write.is_covered = is_covered;
                 write.is_flushed = is_whole && self.commits && !is_faulty(done.reply);
-                after.push(history.with(self.alloc, Item::Write(write))?)?;
+                history.with(self.alloc, Item::Write(write))?.add_to(after)?;
             }
         }
         Ok(())
@@ -142,7 +100,7 @@ impl Known {
     ) -> Result<(), AllocError> {
         let mut write = tomb_of(self.alloc);
         write.is_flushed = is_whole && self.commits && !is_faulty(done.reply);
-        after.push(history.with(self.alloc, Item::Write(write))?)?;
+        history.with(self.alloc, Item::Write(write))?.add_to(after)?;
         Ok(())
     }
 
@@ -159,7 +117,7 @@ impl Known {
             self.bury(history, done, is_whole, after)?;
         }
         if may_be_bare {
-            after.push(history.with(self.alloc, Item::Removed)?)?;
+            history.with(self.alloc, Item::Removed)?.add_to(after)?;
         }
         Ok(())
     }
@@ -180,7 +138,7 @@ impl Known {
             self.remove(history, done, is_whole, after)?;
         }
         if !is_expired || !done.line.starts_with("expire") || !done.reply.starts_with("ok ") {
-            after.push(history.copy(self.alloc)?)?;
+            history.copy(self.alloc)?.add_to(after)?;
         }
         Ok(())
     }
@@ -201,44 +159,89 @@ impl Known {
                 Deed::Bury => self.bury(history, done, is_whole, &mut after)?,
                 Deed::Delete => self.remove(history, done, is_whole, &mut after)?,
                 Deed::Expire => self.expire(history, done, is_whole, &mut after)?,
-                Deed::Nothing => after.push(history.copy(self.alloc)?)?,
+                Deed::Nothing => history.copy(self.alloc)?.add_to(&mut after)?,
             }
             if is_faulty(done.reply) {
-                after.push(history.copy(self.alloc)?)?;
+                history.copy(self.alloc)?.add_to(&mut after)?;
             }
         }
         Ok(after)
     }
+}
 
-    // Goes on by a line of one digest, or by one that removes what is expired.
-    fn change(&mut self, digits: &str, done: &Done<'_>, is_whole: bool) -> Result<(), AllocError> {
-        let mut changed = Vec::new(self.alloc);
+impl Known {
+    /// Nothing was written yet.
+    pub fn new(alloc: Global) -> Known {
+        Known {
+            alloc,
+            digests: Vec::new(alloc),
+            manner: Manner {
+                alloc,
+                commits: false,
+                raids: false,
+            },
+        }
+    }
+
+    pub fn copy(&self) -> Result<Known, AllocError> {
+        let mut digests = Vec::new(self.alloc);
         for digest in &self.digests {
-            let is_named = digits.is_empty() || digest.digits.as_str() == digits;
             let mut histories = Vec::new(self.alloc);
-            if is_named {
-                histories = self.behind(digest, done, is_whole)?;
-            } else {
-                for history in &digest.histories {
-                    histories.push(history.copy(self.alloc)?)?;
-                }
+            for history in &digest.histories {
+                histories.push(history.copy(self.alloc)?)?;
             }
-            changed.push(Digest {
+            digests.push(Digest {
                 digits: String::from_str(self.alloc, digest.digits.as_str())?,
                 histories,
             })?;
         }
-        self.digests = changed;
+        Ok(Known {
+            alloc: self.alloc,
+            digests,
+            manner: self.manner,
+        })
+    }
+
+    /// The next lines are those of a session, with commit on or off.
+    pub fn begin(&mut self, commits: bool) {
+        self.manner.commits = commits;
+    }
+
+    // A digest that wasn't named yet has an empty history.
+    fn learn(&mut self, digits: &str) -> Result<(), AllocError> {
+        if self.digests.iter().any(|it| it.digits.as_str() == digits) {
+            return Ok(());
+        }
+        let mut histories = Vec::new(self.alloc);
+        histories.push(History::new(self.alloc))?;
+        self.digests.push(Digest {
+            digits: String::from_str(self.alloc, digits)?,
+            histories,
+        })?;
+        Ok(())
+    }
+
+    // Goes on by a line of one digest, or by one that removes what is expired.
+    fn change(&mut self, digits: &str, done: &Done<'_>, is_whole: bool) -> Result<(), AllocError> {
+        let manner = self.manner;
+        for digest in self.digests.iter_mut() {
+            if digits.is_empty() || digest.digits.as_str() == digits {
+                digest.histories = manner.behind(digest, done, is_whole)?;
+            }
+        }
         Ok(())
     }
 
     /// All that was written is flushed.
-    pub fn flush(&mut self) {
+    pub fn flush(&mut self) -> Result<(), AllocError> {
         for digest in self.digests.iter_mut() {
-            for history in digest.histories.iter_mut() {
-                history.flush();
+            let mut flushed = Vec::new(self.alloc);
+            for history in &digest.histories {
+                history.add_flushed(self.alloc, &mut flushed)?;
             }
+            digest.histories = flushed;
         }
+        Ok(())
     }
 
     /// A crash came, or a restart: what a start may make of it is known.
@@ -250,7 +253,7 @@ impl Known {
             }
             digest.histories = fronts;
         }
-        self.raids = false;
+        self.manner.raids = false;
         Ok(())
     }
 
@@ -266,12 +269,12 @@ impl Known {
             }
             "expire" | "part" => self.change("", done, is_whole),
             "raid" | "turns" | "beside" => {
-                self.raids = true;
+                self.manner.raids = true;
                 Ok(())
             }
             "flush" => {
                 if is_well && is_whole {
-                    self.flush();
+                    self.flush()?;
                 }
                 Ok(())
             }
@@ -370,7 +373,7 @@ pub fn known_at(course: Course<'_>, moment: u64) -> Result<Vec<Known>, AllocErro
         known.go_on(done, true)?;
     }
     if is_closed && end <= moment.saturating_add(1) {
-        known.flush();
+        known.flush()?;
     }
     known.cut()?;
     all.push(known)?;
@@ -384,7 +387,7 @@ pub fn known_behind(course: Course<'_>) -> Result<Known, AllocError> {
         known.go_on(done, true)?;
     }
     if course.is_closed {
-        known.flush();
+        known.flush()?;
     }
     known.cut()?;
     Ok(known)
