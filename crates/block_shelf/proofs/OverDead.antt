@@ -1,29 +1,31 @@
 -- Where few blocks are free, a buffer that takes records is sealed if it holds a block in which nothing is live.
-use Rattle.std.proofs.Common.{◌≡◌, ◌≢◌, inl, inr, ⊎_elim, ℕ, ◌+◌, ◌<◌, ◌≤◌, Bool, true, false, ◌&&◌, List, [], ◌∷◌, ◌++◌, map, length, sum_by, refl, sym, ◌∙◌, ap, subst, arith}
-use Rattle.std.specs.Prelude.{Option, Some, None, filter, Contains, ◌==◌, nat_le, IsTrue, MatchBool}
+use Rattle.std.proofs.Common.{◌≡◌, ◌≢◌, inl, inr, ⊎_elim, ℕ, ◌+◌, ◌<◌, ◌≤◌, Bool, true, false, ◌&&◌, List, [], ◌∷◌, ◌++◌, map, length, sum_by, refl, sym, ◌∙◌, ap, subst, arith, ◌-◌, ◌*◌, ◌||◌}
+use Rattle.std.specs.Prelude.{nat_lt, is_some, Option, Some, None, filter, Contains, ◌==◌, nat_le, IsTrue, MatchBool}
 use Rattle.std.specs.List.{AllByRecursion}
-use Rattle.std.proofs.lemmas.Bool.{false≢true, eq-eqb, eqb-true, ne_eqb, leb-true, le-leb, and_parts, cases_eq}
+use Rattle.std.proofs.lemmas.Bool.{false≢true, eq-eqb, eqb-true, ne_eqb, leb-true, le-leb, ltb-true, lt-ltb, le-ltb, and_parts, or_cases, or_left, or_right, and_from, cases_eq}
 use Rattle.std.proofs.lemmas.List.Sums.{sum_by-cons}
 use Rattle.disk_model.specs.Disk.{DiskView, IsDisk, IsHonest}
+use Rattle.rec_format.specs.Versions.{block_capacity}
 use Rattle.device_model.specs.Book.{Setup, Buffer, Live, client, defrag, filling_buffer, holds_dead, use_of}
 use Rattle.device_model.specs.Device.{State}
 use Rattle.device_model.specs.Steps.{after_step, after_steps}
-use Rattle.device_model.specs.Legal.{seal_if, seal_low}
-use Rattle.recovery.proofs.Growing.{all_from}
+use Rattle.device_model.specs.Vacating.{can_gain}
+use Rattle.device_model.specs.Legal.{seal_if, is_short, is_nothing, has_gathered, is_due, seal_low}
+use Rattle.recovery.proofs.Growing.{all_at, all_from}
 use Rattle.recovery.proofs.Members.{filter_there, first_there, rest_there, map_there, map_from}
 use Rattle.kept_trail.proofs.Places.{any_there, some_at}
 use Rattle.write_buffer.specs.declared.stream.Stream.{Stream}
 use Rattle.write_buffer.specs.declared.stream.Stream.TheVariants.{Client, Defrag}
-use Rattle.write_buffer.specs.Buffers.{BufferState}
+use Rattle.write_buffer.specs.Buffers.{BufferState, used_units}
 use Rattle.unit_ledger.specs.declared.roll.LiveCopy.{LiveCopy}
 use Rattle.unit_ledger.specs.Rolls.{copies_in, live_in_block}
 use Rattle.hold_book.specs.Holds.{has_hold}
-use Rattle.block_shelf.specs.View.{ShelfView, IsShelf, StandInOrder, fills, is_stream}
-use Rattle.block_shelf.specs.Standing.{StandsFor, book_stream}
+use Rattle.block_shelf.specs.View.{ShelfView, IsShelf, IsSetupOf, IsBufferOf, StandInOrder, fills, is_stream}
+use Rattle.block_shelf.specs.Standing.{StandsFor, BooksStand, book_stream}
 use Rattle.block_shelf.specs.Calls.{Goes}
 use Rattle.block_shelf.specs.Changes.{sealed_buffer, sealed_in}
-use Rattle.block_shelf.specs.Low.{HoldsDead, FillsOverDead, IsLow, SealsLow, with_sealed}
-use Rattle.block_shelf.proofs.Filling.{IsFilling, fills_parts, found_fills, found_there, stream_self}
+use Rattle.block_shelf.specs.Low.{HoldsDead, FillsOverDead, IsShort, HasGathered, IsLow, SealsLow, with_sealed}
+use Rattle.block_shelf.proofs.Filling.{IsFilling, fills_parts, found_fills, found_there, none_found, stream_self}
 use Rattle.block_shelf.proofs.Frees.{filter_none, part_of_sum}
 use Rattle.block_shelf.proofs.Going.{goes_none, goes_then}
 use Rattle.block_shelf.proofs.Sealing.{seals_in}
@@ -48,12 +50,12 @@ pub stands_there : (front : List BufferState) (b : BufferState) (behind : List B
 stands_there [] b behind = first_there b behind
 stands_there (x ∷ front) b behind = rest_there x (front ++ b ∷ behind) b (stands_there front b behind)
 
+same_found : {x y : Buffer} → Some x ≡ Some y → x ≡ y
+same_found e = cc
+
 -- two that do have one number
 same_filling : (stream : Stream) (bs : List BufferState) (b c : BufferState) → StandInOrder bs → Contains bs b → Contains bs c → fills stream b ≡ true → fills stream c ≡ true → b.number ≡ c.number
-same_filling stream bs b c order in_b in_c fills_b fills_c = ap (λ (x : Buffer). x.number) (one (sym (found_there stream bs b order in_b fills_b) ∙ found_there stream bs c order in_c fills_c))
-  where
-    one : {x y : Buffer} → Some x ≡ Some y → x ≡ y
-    one e = cc
+same_filling stream bs b c order in_b in_c fills_b fills_c = ap (λ (x : Buffer). x.number) (same_found (sym (found_there stream bs b order in_b fills_b) ∙ found_there stream bs c order in_c fills_c))
 
 -- what is true of it decides
 pub over_filling : {D : Type 0} (stream : Stream) (shelf : ShelfView D) (b : BufferState) → StandInOrder shelf.buffers → Contains shelf.buffers b → fills stream b ≡ true → (n : ℕ) → n ≡ b.number
@@ -62,9 +64,15 @@ over_filling stream shelf b order there is n number true told = record { buffer 
 over_filling stream shelf b order there is n number false told = λ over.
     told (subst (HoldsDead shelf) (sym (number ∙ same_filling stream shelf.buffers b over.buffer order there over.there is over.fills)) over.holds)
 
+-- ---- lists without anything
+
+nothing_is : (l : List ℕ) → is_nothing l ≡ true → l ≡ []
+nothing_is [] is = refl
+nothing_is (x ∷ l) is = absurd (false≢true is)
+
 -- ---- the book
 
-module _ {D : Type 0} (view : D → DiskView) (shelf : ShelfView D) (is : IsShelf view shelf) (setup : Setup) (s : State) (stands : StandsFor setup shelf s) where
+module _ {D : Type 0} (view : D → DiskView) (shelf : ShelfView D) (is : IsShelf view shelf) (setup : Setup) (s : State) (set : IsSetupOf setup shelf) (stands : StandsFor setup shelf s) (books : BooksStand setup shelf s) where
   -- nothing is live in a block where its use is none
   use_none : (block : ℕ) → use_of s.book block ≡ 0 → copies_in block shelf.rolls ≡ []
   use_none block none = over (copies_in block shelf.rolls) (λ c there. there) (is.each block).takes
@@ -116,19 +124,70 @@ module _ {D : Type 0} (view : D → DiskView) (shelf : ShelfView D) (is : IsShel
               };
             }
 
+    -- the share of the book is that of the shelf
+    same_share : (used : ℕ) → nat_lt ((setup.capacity - used) * 100) (setup.lwm * setup.capacity)
+        ≡ nat_lt ((block_capacity shelf.geometry.block_size - used) * 100) (shelf.limits.lwm * block_capacity shelf.geometry.block_size)
+    same_share used =
+        ap (λ (n : ℕ). nat_lt ((n - used) * 100) (setup.lwm * n)) set.shape.capacity
+        ∙ ap (λ (n : ℕ). nat_lt ((block_capacity shelf.geometry.block_size - used) * 100) (n * block_capacity shelf.geometry.block_size)) set.lwm
+
+    -- the book's buffer is short where the shelf's is
+    short_is : IsShort shelf → is_short setup (filling_buffer defrag s.book.buffers) ≡ true
+    short_is short =
+        ap (is_short setup) (ap (filling_buffer defrag) stands.buffers ∙ found_there Defrag shelf.buffers short.buffer is.order short.there short.fills)
+        ∙ same_share (used_units short.buffer) ∙ lt-ltb ((block_capacity shelf.geometry.block_size - used_units short.buffer) * 100) (shelf.limits.lwm * block_capacity shelf.geometry.block_size) short.short
+
+    is_short_too : is_short setup (filling_buffer defrag s.book.buffers) ≡ true → IsShort shelf
+    is_short_too told = by (filling_buffer defrag s.book.buffers) refl told
+      where
+        by : (o : Option Buffer) → filling_buffer defrag s.book.buffers ≡ o → is_short setup o ≡ true → IsShort shelf
+        by None is_found told = absurd (false≢true told)
+        by (Some b) is_found told =
+            let one : IsFilling Defrag shelf.buffers b = found_fills Defrag shelf.buffers b (ap (filling_buffer defrag) (sym stands.buffers) ∙ is_found) in
+            record {
+              buffer = one.buffer;
+              there = subst (λ (bs : List BufferState). Contains bs one.buffer) (sym one.parts) (stands_there one.front one.buffer one.behind);
+              fills = one.fills;
+              short = ltb-true ((block_capacity shelf.geometry.block_size - used_units one.buffer) * 100) (shelf.limits.lwm * block_capacity shelf.geometry.block_size)
+                  (sym (same_share (used_units one.buffer)) ∙ ap (λ (x : Buffer). nat_lt ((setup.capacity - x.used) * 100) (setup.lwm * setup.capacity)) one.same ∙ told);
+            }
+
+    gathered_is : (st : Stream) → HasGathered st shelf → has_gathered setup s.book (book_stream st) ≡ true
+    gathered_is Client has = refl
+    gathered_is Defrag (inl none) = ap (λ (l : List ℕ). is_nothing l || (is_nothing s.book.free && is_short setup (filling_buffer defrag s.book.buffers))) (books.same ∙ none)
+    gathered_is Defrag (inr (none, short)) =
+        or_right (is_nothing s.book.queue) (is_nothing s.book.free && is_short setup (filling_buffer defrag s.book.buffers))
+        (and_from (is_nothing s.book.free) (is_short setup (filling_buffer defrag s.book.buffers)) (ap is_nothing (stands.free ∙ none)) (short_is short))
+
+    has_gathered_too : (st : Stream) → has_gathered setup s.book (book_stream st) ≡ true → HasGathered st shelf
+    has_gathered_too Client told = tt
+    has_gathered_too Defrag told =
+        ⊎_elim (λ (none : is_nothing s.book.queue ≡ true). inl (sym books.same ∙ nothing_is s.book.queue none))
+        (λ (rest : (is_nothing s.book.free && is_short setup (filling_buffer defrag s.book.buffers)) ≡ true).
+        let two = and_parts (is_nothing s.book.free) (is_short setup (filling_buffer defrag s.book.buffers)) rest in
+        inr (sym stands.free ∙ nothing_is s.book.free two.0, is_short_too two.1))
+        (or_cases (is_nothing s.book.queue) (is_nothing s.book.free && is_short setup (filling_buffer defrag s.book.buffers)) told)
+
     abbrev low : Bool
-    low = nat_le (length s.book.free) 6 && holds_dead s.book found
+    low = is_due setup s.book (book_stream stream)
 
     low_is : IsLow stream shelf → low ≡ true
-    low_is is_low = ap (λ (x : Bool). x && holds_dead s.book found) (ap (λ (l : List ℕ). nat_le (length l) 6) stands.free ∙ le-leb (length shelf.free) 6 is_low.few) ∙ dead_is is_low.over
+    low_is is_low =
+        ap (λ (x : Bool). x && holds_dead s.book found && has_gathered setup s.book (book_stream stream)) (ap (λ (l : List ℕ). nat_le (length l) 6) stands.free ∙ le-leb (length shelf.free) 6 is_low.few)
+        ∙ ap (λ (x : Bool). x && has_gathered setup s.book (book_stream stream)) (dead_is is_low.over) ∙ gathered_is stream is_low.gathered
 
     high_is : (IsLow stream shelf → ⊥) → low ≡ false
-    high_is high = by (nat_le (length s.book.free) 6) (holds_dead s.book found) refl refl
+    high_is high = by (nat_le (length s.book.free) 6) (holds_dead s.book found) (has_gathered setup s.book (book_stream stream)) refl refl refl
       where
-        by : (few dead : Bool) → nat_le (length s.book.free) 6 ≡ few → holds_dead s.book found ≡ dead → (few && dead) ≡ false
-        by false dead is_few told = refl
-        by true false is_few told = refl
-        by true true is_few told = absurd (high (record { few = leb-true (length shelf.free) 6 (sym (ap (λ (l : List ℕ). nat_le (length l) 6) stands.free) ∙ is_few); over = is_dead told }))
+        by : (few dead gathered : Bool) → nat_le (length s.book.free) 6 ≡ few → holds_dead s.book found ≡ dead → has_gathered setup s.book (book_stream stream) ≡ gathered → (few && dead && gathered) ≡ false
+        by false dead gathered is_few told all = refl
+        by true false gathered is_few told all = refl
+        by true true false is_few told all = refl
+        by true true true is_few told all = absurd (high (record {
+          few = leb-true (length shelf.free) 6 (sym (ap (λ (l : List ℕ). nat_le (length l) 6) stands.free) ∙ is_few);
+          over = is_dead told;
+          gathered = has_gathered_too stream all;
+        }))
 
     -- one seal of the stream, or none
     pub goes_where_low : IsDisk (view shelf.disk) → (new : ShelfView D) → SealsLow stream shelf new → Goes view setup (seal_if low (book_stream stream)) shelf s new
@@ -139,29 +198,68 @@ module _ {D : Type 0} (view : D → DiskView) (shelf : ShelfView D) (is : IsShel
         subst (Goes view setup (seal_if low (book_stream stream)) shelf s) (sym is_new)
         (subst (λ (c : Bool). Goes view setup (seal_if c (book_stream stream)) shelf s shelf) (sym (high_is high)) (goes_none view setup shelf s is_disk stands))
 
+-- ---- what is short, and what can gain room, as the calls find it
+
+-- the buffer that takes moved records, and its room
+pub short_at : {D : Type 0} (shelf : ShelfView D) (next : ℕ) → AllByRecursion (IsBufferOf shelf.geometry next) shelf.buffers → StandInOrder shelf.buffers → (b : BufferState) → Contains shelf.buffers b → fills Defrag b ≡ true
+    → (room capacity : ℕ) → used_units b + room ≡ b.capacity → capacity ≡ block_capacity shelf.geometry.block_size → (r : Bool) → r ≡ nat_lt (room * 100) (shelf.limits.lwm * capacity)
+    → MatchBool r (IsShort shelf) (IsShort shelf → ⊥)
+short_at shelf next each order b there is room capacity room_is capacity_is r told = by r told
+  where
+    left : room ≡ block_capacity shelf.geometry.block_size - used_units b
+    left = let own = (all_at (IsBufferOf shelf.geometry next) shelf.buffers b each there).capacity in omega (arith, own, room_is)
+
+    same : nat_lt (room * 100) (shelf.limits.lwm * capacity) ≡ nat_lt ((block_capacity shelf.geometry.block_size - used_units b) * 100) (shelf.limits.lwm * block_capacity shelf.geometry.block_size)
+    same = ap (λ (n : ℕ). nat_lt (n * 100) (shelf.limits.lwm * capacity)) left ∙ ap (λ (n : ℕ). nat_lt ((block_capacity shelf.geometry.block_size - used_units b) * 100) (shelf.limits.lwm * n)) capacity_is
+
+    by : (t : Bool) → t ≡ nat_lt (room * 100) (shelf.limits.lwm * capacity) → MatchBool t (IsShort shelf) (IsShort shelf → ⊥)
+    by true is_so = record { buffer = b; there = there; fills = is; short = ltb-true _ _ (sym (is_so ∙ same)) }
+    by false is_so = λ short.
+        false≢true (is_so ∙ same ∙ ap (λ (x : Buffer). nat_lt ((block_capacity shelf.geometry.block_size - x.used) * 100) (shelf.limits.lwm * block_capacity shelf.geometry.block_size))
+        (same_found (sym (found_there Defrag shelf.buffers b order there is) ∙ found_there Defrag shelf.buffers short.buffer order short.there short.fills)) ∙ lt-ltb _ _ short.short)
+
+-- a filling buffer of moved records
+pub gains_filling : {D : Type 0} (setup : Setup) (shelf : ShelfView D) (s : State) → StandsFor setup shelf s → StandInOrder shelf.buffers → (b : BufferState) → Contains shelf.buffers b → fills Defrag b ≡ true → can_gain s.book ≡ true
+gains_filling setup shelf s stands order b there is =
+    or_left (nat_lt 7 (length s.book.free) || is_some (filling_buffer defrag s.book.buffers)) (nat_lt 1 (length s.book.queue))
+    (or_right (nat_lt 7 (length s.book.free)) (is_some (filling_buffer defrag s.book.buffers))
+    (ap is_some (ap (filling_buffer defrag) stands.buffers ∙ found_there Defrag shelf.buffers b order there is)))
+
+-- none, and at most 7 blocks are free
+pub gains_several : {D : Type 0} (setup : Setup) (shelf : ShelfView D) (s : State) → StandsFor setup shelf s → BooksStand setup shelf s → AllByRecursion (λ b. fills Defrag b ≡ false) shelf.buffers
+    → (free queued : ℕ) → free ≡ length shelf.free → free ≤ 7 → queued ≡ length shelf.queue.queue → nat_lt 1 queued ≡ can_gain s.book
+gains_several setup shelf s stands books none free queued free_is few queued_is =
+    ap (nat_lt 1) (queued_is ∙ sym (ap length books.same))
+    ∙ ap (λ (o : Option Buffer). is_some o || nat_lt 1 (length s.book.queue)) (sym (ap (filling_buffer defrag) stands.buffers ∙ none_found Defrag shelf.buffers none))
+    ∙ ap (λ (x : Bool). (x || is_some (filling_buffer defrag s.book.buffers)) || nat_lt 1 (length s.book.queue)) (sym (le-ltb 7 (length s.book.free) (subst (λ (n : ℕ). n ≤ 7) (free_is ∙ sym (ap length stands.free)) few)))
+
 -- ---- both streams, one after the other
 
 -- what decides of the second stream is as it was
-still_low : (setup : Setup) (c : Bool) (s : State) → (nat_le (length (after_steps setup (seal_if c client) s).book.free) 6 && holds_dead (after_steps setup (seal_if c client) s).book (filling_buffer defrag (after_steps setup (seal_if c client) s).book.buffers))
-    ≡ (nat_le (length s.book.free) 6 && holds_dead s.book (filling_buffer defrag s.book.buffers))
+still_due : (setup : Setup) (c : Bool) (s : State) → is_due setup (after_steps setup (seal_if c client) s).book defrag ≡ is_due setup s.book defrag
 unfolding after_step
-still_low setup true s = ap (λ (o : Option Buffer). nat_le (length s.book.free) 6 && holds_dead s.book o) (other_after setup true s)
-still_low setup false s = refl
+still_due setup true s =
+    ap (λ (o : Option Buffer). nat_le (length s.book.free) 6 && holds_dead s.book o && (is_nothing s.book.queue || (is_nothing s.book.free && is_short setup o))) (other_after setup true s)
+still_due setup false s = refl
 
-pub goes_low : {D : Type 0} (view : D → DiskView) (old mid new : ShelfView D) → IsShelf view old → IsShelf view mid → (setup : Setup) (s : State) → StandsFor setup old s → IsDisk (view old.disk) → IsDisk (view mid.disk)
-    → SealsLow Client old mid → SealsLow Defrag mid new → Goes view setup (seal_low setup s.book) old s new
-goes_low {D} view old mid new is_old is_mid setup s stands disk_old disk_mid first then =
-    let low : Bool = nat_le (length s.book.free) 6 && holds_dead s.book (filling_buffer client s.book.buffers) in
-    let after : State = after_steps setup (seal_if low client) s in
-    let one = goes_where_low view old is_old setup s stands Client disk_old mid first in
-    let two = goes_where_low view mid is_mid setup after one.stands Defrag disk_mid new then in
-    goes_then view setup (seal_if low client) (seal_if (nat_le (length s.book.free) 6 && holds_dead s.book (filling_buffer defrag s.book.buffers)) defrag) old mid new s
+pub goes_low : {D : Type 0} (view : D → DiskView) (old mid new : ShelfView D) → IsShelf view old → IsShelf view mid → (setup : Setup) (s : State) → IsSetupOf setup old → StandsFor setup old s → BooksStand setup old s
+    → IsDisk (view old.disk) → IsDisk (view mid.disk) → SealsLow Client old mid → SealsLow Defrag mid new → Goes view setup (seal_low setup s.book) old s new
+goes_low {D} view old mid new is_old is_mid setup s set stands books disk_old disk_mid first then =
+    let due : Bool = is_due setup s.book client in
+    let after : State = after_steps setup (seal_if due client) s in
+    let one = goes_where_low view old is_old setup s set stands books Client disk_old mid first in
+    let two = goes_where_low view mid is_mid setup after (same_set first) one.stands (one.queued books) Defrag disk_mid new then in
+    goes_then view setup (seal_if due client) (seal_if (is_due setup s.book defrag) defrag) old mid new s
     (λ honest. subst (λ (disk : D). IsHonest (view disk)) (sym (same_disk first)) honest) one
-    (subst (λ (c : Bool). Goes view setup (seal_if c defrag) mid after new) (still_low setup low s) two)
+    (subst (λ (c : Bool). Goes view setup (seal_if c defrag) mid after new) (still_due setup due s) two)
   where
     same_disk : SealsLow Client old mid → mid.disk ≡ old.disk
     same_disk (inl (is_low, is)) = ap (λ (v : ShelfView D). v.disk) is
     same_disk (inr (high, is)) = ap (λ (v : ShelfView D). v.disk) is
+
+    same_set : SealsLow Client old mid → IsSetupOf setup mid
+    same_set (inl (is_low, is)) = subst (IsSetupOf setup) (sym is) (record { shape = set.shape; pending = set.pending; lwm = set.lwm; sprigs = set.sprigs })
+    same_set (inr (high, is)) = subst (IsSetupOf setup) (sym is) set
 
 -- ---- which buffers are sealed
 
@@ -183,21 +281,41 @@ module _ {D : Type 0} where
   own_stays stream old new b there high (inr (is_high, is)) = subst (λ (v : ShelfView D). Contains v.buffers b) (sym is) there
 
   -- what a seal of the clients' stream leaves of the other
+  filling_still : (old : ShelfView D) (b : BufferState) → Contains old.buffers b → fills Defrag b ≡ true → Contains (with_sealed Client old).buffers b
+  filling_still old b there is =
+      subst (Contains (map (sealed_in Client) old.buffers)) (in_other Client b (ap (is_stream Client) (fills_parts Defrag b is).1)) (map_there (sealed_in Client) old.buffers b there)
+
+  filling_before : (old : ShelfView D) (b : BufferState) → Contains (with_sealed Client old).buffers b → fills Defrag b ≡ true → Contains old.buffers b
+  filling_before old b there is =
+      let from = map_from (sealed_in Client) old.buffers b there in
+      let stream = sym (still_told (λ (c : BufferState). c.stream) (λ c. refl) (sealed_in Client) (seals_in Client) from.0) ∙ ap (λ (c : BufferState). c.stream) from.2 ∙ (fills_parts Defrag b is).1 in
+      subst (Contains old.buffers) (sym (in_other Client from.0 (ap (is_stream Client) stream)) ∙ from.2) from.1
+
+  gathered_still : (old : ShelfView D) → HasGathered Defrag old → HasGathered Defrag (with_sealed Client old)
+  gathered_still old (inl none) = inl none
+  gathered_still old (inr (none, short)) =
+      inr (none, record { buffer = short.buffer; there = filling_still old short.buffer short.there short.fills; fills = short.fills; short = short.short })
+
+  gathered_before : (old : ShelfView D) → HasGathered Defrag (with_sealed Client old) → HasGathered Defrag old
+  gathered_before old (inl none) = inl none
+  gathered_before old (inr (none, short)) =
+      inr (none, record { buffer = short.buffer; there = filling_before old short.buffer short.there short.fills; fills = short.fills; short = short.short })
+
   module _ (old mid : ShelfView D) where
     low_still : SealsLow Client old mid → IsLow Defrag old → IsLow Defrag mid
     low_still (inr (high, is)) low = subst (IsLow Defrag) (sym is) low
     low_still (inl (was, is)) low =
         let b = low.over.buffer in
-        let other : is_stream Client b.stream ≡ false = ap (is_stream Client) (fills_parts Defrag b low.over.fills).1 in
         let holds = low.over.holds in
         subst (IsLow Defrag) (sym is) (record {
           few = low.few;
           over = record {
             buffer = b;
-            there = subst (Contains (map (sealed_in Client) old.buffers)) (in_other Client b other) (map_there (sealed_in Client) old.buffers b low.over.there);
+            there = filling_still old b low.over.there low.over.fills;
             fills = low.over.fills;
             holds = record { block = holds.block; held = holds.held; dead = holds.dead };
           };
+          gathered = gathered_still old low.gathered;
         })
 
     low_before : SealsLow Client old mid → IsLow Defrag mid → IsLow Defrag old
@@ -207,18 +325,16 @@ module _ {D : Type 0} where
         before : IsLow Defrag (with_sealed Client old) → IsLow Defrag old
         before low =
             let b = low.over.buffer in
-            let from = map_from (sealed_in Client) old.buffers b low.over.there in
-            let stream = sym (still_told (λ (c : BufferState). c.stream) (λ c. refl) (sealed_in Client) (seals_in Client) from.0) ∙ ap (λ (c : BufferState). c.stream) from.2 ∙ (fills_parts Defrag b low.over.fills).1 in
-            let same : from.0 ≡ b = sym (in_other Client from.0 (ap (is_stream Client) stream)) ∙ from.2 in
             let holds = low.over.holds in
             record {
               few = low.few;
               over = record {
                 buffer = b;
-                there = subst (Contains old.buffers) same from.1;
+                there = filling_before old b low.over.there low.over.fills;
                 fills = low.over.fills;
                 holds = record { block = holds.block; held = holds.held; dead = holds.dead };
               };
+              gathered = gathered_before old low.gathered;
             }
 
   module _ (old mid new : ShelfView D) (first : SealsLow Client old mid) (then : SealsLow Defrag mid new) (b : BufferState) (there : Contains old.buffers b) where

@@ -1,7 +1,9 @@
 -- Crate block_shelf. Which buffer is sealed where few blocks are free.
-use Rattle.std.specs.Prelude.{ℕ, ◌≤◌, ◌≡◌, ◌⊎◌, true, [], length, map, Contains, IsTrue}
+use Rattle.std.specs.Prelude.{ℕ, ◌-◌, ◌*◌, ◌<◌, ◌≤◌, ◌≡◌, ◌⊎◌, true, [], length, map, Contains, IsTrue}
+use Rattle.rec_format.specs.Versions.{block_capacity}
 use Rattle.write_buffer.specs.declared.stream.Stream.{Stream}
-use Rattle.write_buffer.specs.Buffers.{BufferState}
+use Rattle.write_buffer.specs.declared.stream.Stream.TheVariants.{Client, Defrag}
+use Rattle.write_buffer.specs.Buffers.{BufferState, used_units}
 use Rattle.unit_ledger.specs.Rolls.{copies_in}
 use Rattle.hold_book.specs.Holds.{has_hold}
 use Rattle.block_shelf.specs.View.{ShelfView, fills}
@@ -20,10 +22,23 @@ pub record FillsOverDead {D : Type 0} (stream : Stream) (shelf : ShelfView D) : 
   pub fills : fills stream buffer ≡ true
   pub holds : HoldsDead shelf buffer.number
 
--- and at most 6 blocks are free
+-- the buffer that takes moved records has less room than the low-water mark's share of a block
+pub record IsShort {D : Type 0} (shelf : ShelfView D) : Type 0 where
+  pub buffer : BufferState
+  pub there : Contains shelf.buffers buffer
+  pub fills : fills Defrag buffer ≡ true
+  pub short : (block_capacity shelf.geometry.block_size - used_units buffer) * 100 < shelf.limits.lwm * block_capacity shelf.geometry.block_size
+
+-- nothing more can come to the buffer of moved records; one of clients doesn't wait for more
+abbrev pub HasGathered : {D : Type 0} → Stream → ShelfView D → Type 0
+HasGathered Client shelf = Unit {0}
+HasGathered Defrag shelf = (shelf.queue.queue ≡ []) ⊎ ((shelf.free ≡ []) × IsShort shelf)
+
+-- such a buffer is sealed: at most 6 blocks are free, it holds a dead block, and it has gathered what can come
 pub record IsLow {D : Type 0} (stream : Stream) (shelf : ShelfView D) : Type 0 where
   pub few : length shelf.free ≤ 6
   pub over : FillsOverDead stream shelf
+  pub gathered : HasGathered stream shelf
 
 -- the buffers of a stream are sealed
 abbrev pub with_sealed : {D : Type 0} → Stream → ShelfView D → ShelfView D

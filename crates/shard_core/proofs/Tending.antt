@@ -1,11 +1,12 @@
 -- What is sealed is flushed, and then a block is vacated.
-use Rattle.std.proofs.Common.{List, [], ◌∷◌, refl, sym, subst}
+use Rattle.std.proofs.Common.{◌≡◌, true, false, List, [], ◌∷◌, refl, sym, subst}
+use Rattle.std.proofs.lemmas.Bool.{MatchBool-at_true, MatchBool-at_false}
 use Rattle.std.specs.Prelude.{Option, Some, None, Result, Ok, Err}
 use Rattle.disk_model.specs.Disk.{DiskView, IsHonest}
 use Rattle.device_model.specs.Book.{Setup}
 use Rattle.device_model.specs.Device.{State}
 use Rattle.device_model.specs.Events.{Event, flush_sealed_call, after_event}
-use Rattle.device_model.specs.Vacating.{Outcome, did, stopped, Vacates, Tends}
+use Rattle.device_model.specs.Vacating.{Outcome, did, stopped, Vacates, can_gain, Tends}
 use Rattle.shard_core.specs.declared.refusals.DefragRefusal.{DefragRefusal}
 use Rattle.shard_core.specs.declared.defrag.Vacated.{Vacated}
 use Rattle.shard_core.specs.View.{ShardView, SameSetup, setup_of}
@@ -26,15 +27,25 @@ module _ {D : Type 0} (view : D → DiskView) (old mid new : ShardView D) (same 
   abbrev setup : Setup
   setup = setup_of old
 
-  pub tends : (result : Result (Option Vacated) DefragRefusal) → (s : State) → MakesAny view flush_sealed_call old s mid
+  -- what was due is sealed and flushed, and then a block is vacated where that can gain room
+  pub tends_vacating : (result : Result (Option Vacated) DefragRefusal) → (s : State) → (flushed : MakesAny view flush_sealed_call old s mid) → can_gain (after_event setup flushed.1.event s).book ≡ true
       → ((t : State) → Agrees mid t → MakesEvents view (IsVacating mid t result) mid t new) → MakesEvents view (Tends setup s) old s new
-  tends result s flushed vacates =
+  tends_vacating result s flushed gains vacates =
       let first : Event = flushed.1.event in
       let t : State = after_event setup first s in
       let rest = vacates t flushed.1.stands in
       let outcome = some_outcome mid t result rest.events rest.works in
       makes_events view old new s (Tends setup s) (first ∷ rest.events)
-      (first, rest.events, refl, flushed.1.is_call, outcome.0, subst (λ (x : Setup). Vacates x t rest.events outcome.0) (sym (setup_same old mid same)) outcome.1)
+      (first, rest.events, refl, flushed.1.is_call, MatchBool-at_true (can_gain t.book) gains
+      (outcome.0, subst (λ (x : Setup). Vacates x t rest.events outcome.0) (sym (setup_same old mid same)) outcome.1))
       (runs_then view setup old.shelf mid.shelf new.shelf s (Agrees mid) (Agrees new) (first ∷ []) rest.events honest_on
       (runs_one view setup flush_sealed_call flushed.0 old.shelf mid.shelf s (Agrees mid) flushed.1)
       (subst (λ (x : Setup). RunsBy view x mid.shelf t new.shelf (Agrees new) rest.events) (sym (setup_same old mid same)) (runs_made view mid new t (IsVacating mid t result) rest)))
+
+  -- nothing is to gain
+  pub tends_resting : (s : State) → (flushed : MakesAny view flush_sealed_call old s mid) → can_gain (after_event setup flushed.1.event s).book ≡ false → MakesEvents view (Tends setup s) old s mid
+  tends_resting s flushed none =
+      let first : Event = flushed.1.event in
+      makes_events view old mid s (Tends setup s) (first ∷ [])
+      (first, [], refl, flushed.1.is_call, MatchBool-at_false (can_gain (after_event setup first s).book) none refl)
+      (runs_one view setup flush_sealed_call flushed.0 old.shelf mid.shelf s (Agrees mid) flushed.1)

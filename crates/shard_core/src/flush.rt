@@ -83,8 +83,8 @@ impl<D: Disk> Shard<D> {
         flush_sealed(&mut self.shelf)
     }
 
-    /// Where few blocks are free, seals each buffer that is being filled and holds a block in which nothing is live; then flushes what is
-    /// sealed, as far as the disk goes; then vacates the block that has waited longest, if one waits. It answers nothing.
+    /// Makes room: seals what is due where at most 6 blocks are free, flushes what is sealed, as far as the disk goes, and vacates the block that
+    /// has waited longest, if one waits and that can gain room. It answers nothing.
     pub fn tend(&mut self, alloc: Global)
         ensures makes { (s : State) → Agrees self.old s → MakesEvents D.view (Tends (setup_of self.old) s) self.old s self.new }
         ensures later { IsLater (D.view self.old.shelf.disk) (D.view self.new.shelf.disk) }
@@ -92,7 +92,9 @@ impl<D: Disk> Shard<D> {
         ensures shape { SameSetup self.old self.new }
     {
         self.flush_low();
-        let _ = self.defrag_one(alloc);
+        if self.shelf.can_gain() {
+            let _ = self.defrag_one(alloc);
+        }
     }
 }
 

@@ -26,7 +26,7 @@ made g c s agrees =
     let new : ShardView g.row.D.Denot = record { shelf = c.flush_sealed.new.shelf; set = c.self.inside.set; sprigs = c.self.inside.sprigs.items } in
     let mid : ShelfView g.row.D.Denot = c.seal_low.new.self in
     let is = setup_is old c.self.invariant.whole in
-    let first = c.seal_low.ensures.sealed (setup_of old) s is agrees.shelf.stands in
+    let first = c.seal_low.ensures.sealed (setup_of old) s is agrees.shelf.stands agrees.shelf.queue in
     let then = c.flush_sealed.ensures.flushed (setup_of old) (after_steps (setup_of old) (seal_low (setup_of old) s.book) s) (setup_stays (setup_of old) old.shelf mid c.seal_low.ensures.shape is) first.stands in
     makes_flush g.D.Disk.view old new s agrees
     (record { geometry = c.flush_sealed.ensures.shape.geometry ∙ c.seal_low.ensures.shape.geometry; set = refl }) refl
