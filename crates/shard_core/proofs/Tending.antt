@@ -1,7 +1,6 @@
 -- What is sealed is flushed, and then a block is vacated.
-use Rattle.std.proofs.Common.{◌≡◌, true, false, List, [], ◌∷◌, refl, sym, subst}
-use Rattle.std.proofs.lemmas.Bool.{MatchBool-at_true, MatchBool-at_false}
-use Rattle.std.specs.Prelude.{Option, Some, None, Result, Ok, Err}
+use Rattle.std.proofs.Common.{◌≡◌, Bool, true, false, List, [], ◌∷◌, refl, sym, subst}
+use Rattle.std.specs.Prelude.{MatchBool, Option, Some, None, Result, Ok, Err}
 use Rattle.disk_model.specs.Disk.{DiskView, IsHonest}
 use Rattle.device_model.specs.Book.{Setup}
 use Rattle.device_model.specs.Device.{State}
@@ -36,7 +35,7 @@ module _ {D : Type 0} (view : D → DiskView) (old mid new : ShardView D) (same 
       let rest = vacates t flushed.1.stands in
       let outcome = some_outcome mid t result rest.events rest.works in
       makes_events view old new s (Tends setup s) (first ∷ rest.events)
-      (first, rest.events, refl, flushed.1.is_call, MatchBool-at_true (can_gain t.book) gains
+      (first, rest.events, refl, flushed.1.is_call, subst (λ (x : Bool). MatchBool x ((o : Outcome) × Vacates setup t rest.events o) (rest.events ≡ [])) (sym gains)
       (outcome.0, subst (λ (x : Setup). Vacates x t rest.events outcome.0) (sym (setup_same old mid same)) outcome.1))
       (runs_then view setup old.shelf mid.shelf new.shelf s (Agrees mid) (Agrees new) (first ∷ []) rest.events honest_on
       (runs_one view setup flush_sealed_call flushed.0 old.shelf mid.shelf s (Agrees mid) flushed.1)
@@ -46,6 +45,7 @@ module _ {D : Type 0} (view : D → DiskView) (old mid new : ShardView D) (same 
   pub tends_resting : (s : State) → (flushed : MakesAny view flush_sealed_call old s mid) → can_gain (after_event setup flushed.1.event s).book ≡ false → MakesEvents view (Tends setup s) old s mid
   tends_resting s flushed none =
       let first : Event = flushed.1.event in
+      let nothing : List Event = [] in
       makes_events view old mid s (Tends setup s) (first ∷ [])
-      (first, [], refl, flushed.1.is_call, MatchBool-at_false (can_gain (after_event setup first s).book) none refl)
+      (first, [], refl, flushed.1.is_call, subst (λ (x : Bool). MatchBool x ((o : Outcome) × Vacates setup (after_event setup first s) [] o) (nothing ≡ [])) (sym none) refl)
       (runs_one view setup flush_sealed_call flushed.0 old.shelf mid.shelf s (Agrees mid) flushed.1)

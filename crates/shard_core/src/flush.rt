@@ -13,7 +13,7 @@ ghost use Rattle.block_shelf.specs.View.{IsShelf, IsSetupOf, is_unsealed};
 ghost use Rattle.block_shelf.specs.View as shelf_view;
 ghost use Rattle.block_shelf.specs.Standing.{StandsFor};
 ghost use Rattle.block_shelf.specs.Calls.{Goes};
-ghost use Rattle.device_model.specs.Vacating.{Tends};
+ghost use Rattle.device_model.specs.Vacating.{can_gain, Tends};
 ghost use Rattle.shard_core.specs.View.{SameSetup, setup_of};
 ghost use Rattle.shard_core.specs.Stands.{Agrees};
 ghost use Rattle.shard_core.specs.Calls.{Makes, MakesAny, flush_answer, FlushesAll};
@@ -92,7 +92,7 @@ impl<D: Disk> Shard<D> {
         ensures shape { SameSetup self.old self.new }
     {
         self.flush_low();
-        if self.shelf.can_gain() {
+        if self.can_gain() {
             let _ = self.defrag_one(alloc);
         }
     }
@@ -108,5 +108,12 @@ impl<D: Disk> Shard<D> {
     {
         self.shelf.seal_low();
         let _ = flush_sealed(&mut self.shelf);
+    }
+
+    // Whether a block is to be vacated, if one is queued.
+    fn can_gain(&self) -> bool
+        ensures { (s : State) → Agrees self.now s → result ≡ can_gain s.book }
+    {
+        self.shelf.can_gain()
     }
 }

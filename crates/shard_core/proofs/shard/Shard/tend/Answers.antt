@@ -1,7 +1,17 @@
-use Rattle.shard_core.proofs.Tending.{tends}
+use Rattle.std.proofs.Common.{sym, ◌∙◌}
+use Rattle.device_model.specs.Events.{after_event}
+use Rattle.shard_core.specs.View.{setup_of}
+use Rattle.shard_core.proofs.Tending.{tends_vacating, tends_resting}
 use Rattle.shard_core.proofs.shard.Shard.tend.Goals as goal
 
-pub returns-clause-makes : goal.returns-clause-makes
-returns-clause-makes g c s agrees =
-    tends g.D.Disk.view c.args.self.now c.flush_low.new.self c.defrag_one.new.self c.flush_low.ensures.shape c.flush_low.ensures.honest c.defrag_one.result s
-    (c.flush_low.ensures.makes s agrees) c.defrag_one.ensures.makes
+pub returns-then-can_gain-clause-makes : goal.returns-then-can_gain-clause-makes
+returns-then-can_gain-clause-makes g c s agrees =
+    let flushed = c.flush_low.ensures.makes s agrees in
+    tends_vacating g.D.Disk.view c.args.self.now c.flush_low.new.self c.defrag_one.new.self c.flush_low.ensures.shape c.flush_low.ensures.honest c.defrag_one.result s flushed
+    (sym (c.can_gain.ensures (after_event (setup_of c.args.self.now) flushed.1.event s) flushed.1.stands) ∙ c.if-can_gain.true) c.defrag_one.ensures.makes
+
+pub returns-else-can_gain-clause-makes : goal.returns-else-can_gain-clause-makes
+returns-else-can_gain-clause-makes g c s agrees =
+    let flushed = c.flush_low.ensures.makes s agrees in
+    tends_resting g.D.Disk.view c.args.self.now c.flush_low.new.self c.flush_low.new.self c.flush_low.ensures.shape c.flush_low.ensures.honest s flushed
+    (sym (c.can_gain.ensures (after_event (setup_of c.args.self.now) flushed.1.event s) flushed.1.stands) ∙ c.if-can_gain.false)

@@ -1,0 +1,12 @@
+use Rattle.std.proofs.Common.{◌≡◌, subst}
+use Rattle.device_model.specs.Device.{State}
+use Rattle.device_model.specs.Vacating.{can_gain}
+use Rattle.shard_core.specs.View.{ShardView, setup_of}
+use Rattle.shard_core.specs.Stands.{Agrees}
+use Rattle.shard_core.proofs.shard.Shard.can_gain.Goals as goal
+
+pub returns : goal.returns
+returns g c =
+    let shard : ShardView g.row.D.Denot = record { shelf = c.self.inside.shelf; set = c.self.inside.set; sprigs = c.self.inside.sprigs.items } in
+    subst (λ (v : ShardView g.row.D.Denot). (s : State) → Agrees v s → c.can_gain.result ≡ can_gain s.book) c.self.view_is
+    (λ s agrees. c.can_gain.ensures.state (setup_of shard) s agrees.shelf.stands agrees.shelf.queue)
