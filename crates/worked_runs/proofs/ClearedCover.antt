@@ -27,7 +27,7 @@ l1 = served (reply.Done2 1 1000) ((event (bury_call d1 1000) (stamp_given (stamp
 
 l1_is : IsLine start0 (command.Bury d1) 1000 l1
 unfolding refreshed dropped_live placed with_flushed cold_book after_step start_state
-l1_is = record { does = ((event (bury_call d1 1000) (stamp_given (stamp 1 1000)) (wrote d1 (a_tombstone (stamp 1 1000)) ∷ sealed_stream client ∷ gate_begun 1 ∷ flushed_buffer 1 ∷ []) 0 0), refl, refl, refl); legal = (record { begins = refl; counts = lit≤ tt; allowed = inr (inl (refl, refl)) }, tt); tends = (((event (flush_sealed_call) (counted 0) [] 0 0) ∷ (event (choose_call) (block_chosen None) [] 0 0) ∷ []), [], refl, ((event (flush_sealed_call) (counted 0) [] 0 0), ((event (choose_call) (block_chosen None) [] 0 0) ∷ []), refl, refl, (did 0 0), ((event (choose_call) (block_chosen None) [] 0 0), [], refl, refl, inl (refl, refl, refl))), refl); tending = (record { begins = refl; counts = lit≤ tt; allowed = inl (refl, refl) }, (record { begins = refl; counts = lit≤ tt; allowed = inl (refl, refl) }, tt)) }
+l1_is = record { does = ((event (bury_call d1 1000) (stamp_given (stamp 1 1000)) (wrote d1 (a_tombstone (stamp 1 1000)) ∷ sealed_stream client ∷ gate_begun 1 ∷ flushed_buffer 1 ∷ []) 0 0), refl, refl, refl); legal = (record { begins = refl; counts = lit≤ tt; allowed = inr (inl (refl, refl)) }, tt); tends = (((event (flush_sealed_call) (counted 0) [] 0 0) ∷ (event (choose_call) (block_chosen None) [] 0 0) ∷ []), [], refl, ((event (flush_sealed_call) (counted 0) [] 0 0), ((event (choose_call) (block_chosen None) [] 0 0) ∷ []), refl, refl, ((did 0 0), ((event (choose_call) (block_chosen None) [] 0 0), [], refl, refl, inl (refl, refl, refl)))), refl); tending = (record { begins = refl; counts = lit≤ tt; allowed = inl (refl, refl) }, (record { begins = refl; counts = lit≤ tt; allowed = inl (refl, refl) }, tt)) }
 
 abbrev n1 : Node
 n1 = (record { setup = (small_device 16 0 16 true 0); state = record { log = ((d1, write (a_tombstone (stamp 1 1000)) (1 ∷ [])) ∷ []); book = record { live = ((record { digest = d1; block = 0; unit = 0; units = 3 }) ∷ []); buffers = []; holds = []; free = (1 ∷ 2 ∷ 3 ∷ 4 ∷ 5 ∷ 6 ∷ 7 ∷ 8 ∷ 9 ∷ 10 ∷ 11 ∷ 12 ∷ 13 ∷ 14 ∷ 15 ∷ []); queue = []; flushed_numbers = (1 ∷ []); next_number = 2 }; raid = record { number = 0; next = finished; scanned = 0; marked = []; found = [] } }; faults = 0 }) ∷ []
@@ -42,7 +42,7 @@ l2 = served (reply.Done2 2 1000) ((event (put_call d1 0 None (170 ∷ []) 1000) 
 
 l2_is : IsLine n1 (command.Put d1 0 None (170 ∷ [])) 1000 l2
 unfolding refreshed dropped_live placed with_flushed cold_book after_step start_state
-l2_is = record { does = ((event (put_call d1 0 None (170 ∷ []) 1000) (stamp_given (stamp 2 1000)) (wrote d1 (a_put (stamp 2 1000) 0 true (170 ∷ [])) ∷ sealed_stream client ∷ gate_begun 2 ∷ flushed_buffer 2 ∷ []) 0 0), refl, refl, refl); legal = (record { begins = refl; counts = lit≤ tt; allowed = inr (inl (refl, refl)) }, tt); tends = (((event (flush_sealed_call) (counted 0) [] 0 0) ∷ (event (choose_call) (block_chosen None) [] 0 0) ∷ []), [], refl, ((event (flush_sealed_call) (counted 0) [] 0 0), ((event (choose_call) (block_chosen None) [] 0 0) ∷ []), refl, refl, (did 0 0), ((event (choose_call) (block_chosen None) [] 0 0), [], refl, refl, inl (refl, refl, refl))), refl); tending = (record { begins = refl; counts = lit≤ tt; allowed = inl (refl, refl) }, (record { begins = refl; counts = lit≤ tt; allowed = inl (refl, refl) }, tt)) }
+l2_is = record { does = ((event (put_call d1 0 None (170 ∷ []) 1000) (stamp_given (stamp 2 1000)) (wrote d1 (a_put (stamp 2 1000) 0 true (170 ∷ [])) ∷ sealed_stream client ∷ gate_begun 2 ∷ flushed_buffer 2 ∷ []) 0 0), refl, refl, refl); legal = (record { begins = refl; counts = lit≤ tt; allowed = inr (inl (refl, refl)) }, tt); tends = (((event (flush_sealed_call) (counted 0) [] 0 0) ∷ (event (choose_call) (block_chosen None) [] 0 0) ∷ []), [], refl, ((event (flush_sealed_call) (counted 0) [] 0 0), ((event (choose_call) (block_chosen None) [] 0 0) ∷ []), refl, refl, ((did 0 0), ((event (choose_call) (block_chosen None) [] 0 0), [], refl, refl, inl (refl, refl, refl)))), refl); tending = (record { begins = refl; counts = lit≤ tt; allowed = inl (refl, refl) }, (record { begins = refl; counts = lit≤ tt; allowed = inl (refl, refl) }, tt)) }
 
 abbrev n2 : Node
 n2 = (record { setup = (small_device 16 0 16 true 0); state = record { log = ((d1, write (a_put (stamp 2 1000) 0 true (170 ∷ [])) (2 ∷ [])) ∷ (d1, write (a_tombstone (stamp 1 1000)) (1 ∷ [])) ∷ []); book = record { live = ((record { digest = d1; block = 1; unit = 0; units = 4 }) ∷ []); buffers = []; holds = []; free = (2 ∷ 3 ∷ 4 ∷ 5 ∷ 6 ∷ 7 ∷ 8 ∷ 9 ∷ 10 ∷ 11 ∷ 12 ∷ 13 ∷ 14 ∷ 15 ∷ 0 ∷ []); queue = []; flushed_numbers = (1 ∷ 2 ∷ []); next_number = 3 }; raid = record { number = 0; next = finished; scanned = 0; marked = []; found = [] } }; faults = 0 }) ∷ []
@@ -60,7 +60,7 @@ l3 = served (reply.Done2 0 0) ((event (begin_call) (raid_numbered (Some 1)) (rai
 
 l3_is : IsLine n2 command.Raid 1000 l3
 unfolding refreshed dropped_live placed with_flushed cold_book after_step start_state
-l3_is = record { does = (did 0 0, ((event (begin_call) (raid_numbered (Some 1)) (raid_begun ∷ []) 0 0) ∷ turns2, [], refl, inl (0, 0, ((event (begin_call) (raid_numbered (Some 1)) (raid_begun ∷ []) 0 0), turns2, refl, refl, inr (1, refl, (refl, refl, (refl, refl, (refl, refl, (refl, refl, (refl, refl, (refl, refl, (refl, refl, (refl, refl, (refl, refl, (refl, refl, (refl, refl, (refl, refl, (refl, refl, (refl, refl, (refl, refl, (refl, refl, (refl, refl, (refl, refl, (refl, refl, (refl, refl, (refl, refl, (refl, refl, (refl, refl, (refl, refl, (refl, refl, (refl, refl, (refl, refl, (refl, refl, (refl, refl, (refl, refl, (refl, refl, (refl, refl, (refl, refl, (refl, refl, (refl, refl, (refl, refl, (refl, refl, (refl, refl, (refl, refl, (refl, refl, (refl, refl, (refl, refl, (refl, refl, (refl, refl, (refl, refl, (refl, refl, (refl, refl, (refl, refl, (refl, refl, (refl, refl, (refl, refl))))))))))))))))))))))))))))))))))))))))))))))))))))), (refl, refl))), refl); legal = (record { begins = refl; counts = lit≤ tt; allowed = (refl, refl) }, (record { begins = refl; counts = lit≤ tt; allowed = (refl, refl) }, (record { begins = refl; counts = lit≤ tt; allowed = (refl, refl) }, (record { begins = refl; counts = lit≤ tt; allowed = (refl, refl) }, (record { begins = refl; counts = lit≤ tt; allowed = (refl, refl) }, (record { begins = refl; counts = lit≤ tt; allowed = (refl, refl) }, (record { begins = refl; counts = lit≤ tt; allowed = (refl, refl) }, (record { begins = refl; counts = lit≤ tt; allowed = (refl, refl) }, (record { begins = refl; counts = lit≤ tt; allowed = (refl, refl) }, (record { begins = refl; counts = lit≤ tt; allowed = (refl, refl) }, (record { begins = refl; counts = lit≤ tt; allowed = (refl, refl) }, (record { begins = refl; counts = lit≤ tt; allowed = (refl, refl) }, (record { begins = refl; counts = lit≤ tt; allowed = (refl, refl) }, (record { begins = refl; counts = lit≤ tt; allowed = (refl, refl) }, (record { begins = refl; counts = lit≤ tt; allowed = (refl, refl) }, (record { begins = refl; counts = lit≤ tt; allowed = (refl, refl) }, (record { begins = refl; counts = lit≤ tt; allowed = (refl, refl) }, (record { begins = refl; counts = lit≤ tt; allowed = inl (refl, ((d1, (stamp 1 1000)) ∷ []), refl) }, (record { begins = refl; counts = lit≤ tt; allowed = (refl, refl) }, (record { begins = refl; counts = lit≤ tt; allowed = inl (refl, ((d1, (stamp 2 1000)) ∷ []), refl) }, (record { begins = refl; counts = lit≤ tt; allowed = (refl, refl) }, (record { begins = refl; counts = lit≤ tt; allowed = inl (refl, [], refl) }, (record { begins = refl; counts = lit≤ tt; allowed = inl (refl, [], refl) }, (record { begins = refl; counts = lit≤ tt; allowed = inl (refl, [], refl) }, (record { begins = refl; counts = lit≤ tt; allowed = inl (refl, [], refl) }, (record { begins = refl; counts = lit≤ tt; allowed = inl (refl, [], refl) }, (record { begins = refl; counts = lit≤ tt; allowed = inl (refl, [], refl) }, (record { begins = refl; counts = lit≤ tt; allowed = inl (refl, [], refl) }, (record { begins = refl; counts = lit≤ tt; allowed = inl (refl, [], refl) }, (record { begins = refl; counts = lit≤ tt; allowed = inl (refl, [], refl) }, (record { begins = refl; counts = lit≤ tt; allowed = inl (refl, [], refl) }, (record { begins = refl; counts = lit≤ tt; allowed = inl (refl, [], refl) }, (record { begins = refl; counts = lit≤ tt; allowed = inl (refl, [], refl) }, (record { begins = refl; counts = lit≤ tt; allowed = inl (refl, [], refl) }, (record { begins = refl; counts = lit≤ tt; allowed = inl (refl, [], refl) }, (record { begins = refl; counts = lit≤ tt; allowed = (refl, refl) }, (record { begins = refl; counts = lit≤ tt; allowed = (refl, refl) }, (record { begins = refl; counts = lit≤ tt; allowed = (refl, refl) }, (record { begins = refl; counts = lit≤ tt; allowed = (refl, refl) }, (record { begins = refl; counts = lit≤ tt; allowed = (refl, refl) }, (record { begins = refl; counts = lit≤ tt; allowed = (refl, refl) }, (record { begins = refl; counts = lit≤ tt; allowed = (refl, refl) }, (record { begins = refl; counts = lit≤ tt; allowed = (refl, refl) }, (record { begins = refl; counts = lit≤ tt; allowed = (refl, refl) }, (record { begins = refl; counts = lit≤ tt; allowed = (refl, refl) }, (record { begins = refl; counts = lit≤ tt; allowed = (refl, refl) }, (record { begins = refl; counts = lit≤ tt; allowed = (refl, refl) }, (record { begins = refl; counts = lit≤ tt; allowed = (refl, refl) }, (record { begins = refl; counts = lit≤ tt; allowed = (refl, refl) }, (record { begins = refl; counts = lit≤ tt; allowed = (refl, refl) }, (record { begins = refl; counts = lit≤ tt; allowed = (refl, refl) }, tt))))))))))))))))))))))))))))))))))))))))))))))))))); tends = (((event (flush_sealed_call) (counted 0) [] 0 0) ∷ (event (choose_call) (block_chosen None) [] 0 0) ∷ []), [], refl, ((event (flush_sealed_call) (counted 0) [] 0 0), ((event (choose_call) (block_chosen None) [] 0 0) ∷ []), refl, refl, (did 0 0), ((event (choose_call) (block_chosen None) [] 0 0), [], refl, refl, inl (refl, refl, refl))), refl); tending = (record { begins = refl; counts = lit≤ tt; allowed = inl (refl, refl) }, (record { begins = refl; counts = lit≤ tt; allowed = inl (refl, refl) }, tt)) }
+l3_is = record { does = (did 0 0, ((event (begin_call) (raid_numbered (Some 1)) (raid_begun ∷ []) 0 0) ∷ turns2, [], refl, inl (0, 0, ((event (begin_call) (raid_numbered (Some 1)) (raid_begun ∷ []) 0 0), turns2, refl, refl, inr (1, refl, (refl, refl, (refl, refl, (refl, refl, (refl, refl, (refl, refl, (refl, refl, (refl, refl, (refl, refl, (refl, refl, (refl, refl, (refl, refl, (refl, refl, (refl, refl, (refl, refl, (refl, refl, (refl, refl, (refl, refl, (refl, refl, (refl, refl, (refl, refl, (refl, refl, (refl, refl, (refl, refl, (refl, refl, (refl, refl, (refl, refl, (refl, refl, (refl, refl, (refl, refl, (refl, refl, (refl, refl, (refl, refl, (refl, refl, (refl, refl, (refl, refl, (refl, refl, (refl, refl, (refl, refl, (refl, refl, (refl, refl, (refl, refl, (refl, refl, (refl, refl, (refl, refl, (refl, refl, (refl, refl, (refl, refl, (refl, refl, (refl, refl, (refl, refl, (refl, refl))))))))))))))))))))))))))))))))))))))))))))))))))))), (refl, refl))), refl); legal = (record { begins = refl; counts = lit≤ tt; allowed = (refl, refl) }, (record { begins = refl; counts = lit≤ tt; allowed = (refl, refl) }, (record { begins = refl; counts = lit≤ tt; allowed = (refl, refl) }, (record { begins = refl; counts = lit≤ tt; allowed = (refl, refl) }, (record { begins = refl; counts = lit≤ tt; allowed = (refl, refl) }, (record { begins = refl; counts = lit≤ tt; allowed = (refl, refl) }, (record { begins = refl; counts = lit≤ tt; allowed = (refl, refl) }, (record { begins = refl; counts = lit≤ tt; allowed = (refl, refl) }, (record { begins = refl; counts = lit≤ tt; allowed = (refl, refl) }, (record { begins = refl; counts = lit≤ tt; allowed = (refl, refl) }, (record { begins = refl; counts = lit≤ tt; allowed = (refl, refl) }, (record { begins = refl; counts = lit≤ tt; allowed = (refl, refl) }, (record { begins = refl; counts = lit≤ tt; allowed = (refl, refl) }, (record { begins = refl; counts = lit≤ tt; allowed = (refl, refl) }, (record { begins = refl; counts = lit≤ tt; allowed = (refl, refl) }, (record { begins = refl; counts = lit≤ tt; allowed = (refl, refl) }, (record { begins = refl; counts = lit≤ tt; allowed = (refl, refl) }, (record { begins = refl; counts = lit≤ tt; allowed = inl (refl, ((d1, (stamp 1 1000)) ∷ []), refl) }, (record { begins = refl; counts = lit≤ tt; allowed = (refl, refl) }, (record { begins = refl; counts = lit≤ tt; allowed = inl (refl, ((d1, (stamp 2 1000)) ∷ []), refl) }, (record { begins = refl; counts = lit≤ tt; allowed = (refl, refl) }, (record { begins = refl; counts = lit≤ tt; allowed = inl (refl, [], refl) }, (record { begins = refl; counts = lit≤ tt; allowed = inl (refl, [], refl) }, (record { begins = refl; counts = lit≤ tt; allowed = inl (refl, [], refl) }, (record { begins = refl; counts = lit≤ tt; allowed = inl (refl, [], refl) }, (record { begins = refl; counts = lit≤ tt; allowed = inl (refl, [], refl) }, (record { begins = refl; counts = lit≤ tt; allowed = inl (refl, [], refl) }, (record { begins = refl; counts = lit≤ tt; allowed = inl (refl, [], refl) }, (record { begins = refl; counts = lit≤ tt; allowed = inl (refl, [], refl) }, (record { begins = refl; counts = lit≤ tt; allowed = inl (refl, [], refl) }, (record { begins = refl; counts = lit≤ tt; allowed = inl (refl, [], refl) }, (record { begins = refl; counts = lit≤ tt; allowed = inl (refl, [], refl) }, (record { begins = refl; counts = lit≤ tt; allowed = inl (refl, [], refl) }, (record { begins = refl; counts = lit≤ tt; allowed = inl (refl, [], refl) }, (record { begins = refl; counts = lit≤ tt; allowed = inl (refl, [], refl) }, (record { begins = refl; counts = lit≤ tt; allowed = (refl, refl) }, (record { begins = refl; counts = lit≤ tt; allowed = (refl, refl) }, (record { begins = refl; counts = lit≤ tt; allowed = (refl, refl) }, (record { begins = refl; counts = lit≤ tt; allowed = (refl, refl) }, (record { begins = refl; counts = lit≤ tt; allowed = (refl, refl) }, (record { begins = refl; counts = lit≤ tt; allowed = (refl, refl) }, (record { begins = refl; counts = lit≤ tt; allowed = (refl, refl) }, (record { begins = refl; counts = lit≤ tt; allowed = (refl, refl) }, (record { begins = refl; counts = lit≤ tt; allowed = (refl, refl) }, (record { begins = refl; counts = lit≤ tt; allowed = (refl, refl) }, (record { begins = refl; counts = lit≤ tt; allowed = (refl, refl) }, (record { begins = refl; counts = lit≤ tt; allowed = (refl, refl) }, (record { begins = refl; counts = lit≤ tt; allowed = (refl, refl) }, (record { begins = refl; counts = lit≤ tt; allowed = (refl, refl) }, (record { begins = refl; counts = lit≤ tt; allowed = (refl, refl) }, (record { begins = refl; counts = lit≤ tt; allowed = (refl, refl) }, tt))))))))))))))))))))))))))))))))))))))))))))))))))); tends = (((event (flush_sealed_call) (counted 0) [] 0 0) ∷ (event (choose_call) (block_chosen None) [] 0 0) ∷ []), [], refl, ((event (flush_sealed_call) (counted 0) [] 0 0), ((event (choose_call) (block_chosen None) [] 0 0) ∷ []), refl, refl, ((did 0 0), ((event (choose_call) (block_chosen None) [] 0 0), [], refl, refl, inl (refl, refl, refl)))), refl); tending = (record { begins = refl; counts = lit≤ tt; allowed = inl (refl, refl) }, (record { begins = refl; counts = lit≤ tt; allowed = inl (refl, refl) }, tt)) }
 
 abbrev n3 : Node
 n3 = (record { setup = (small_device 16 0 16 true 0); state = record { log = ((d1, write (a_put (stamp 2 1000) 0 true (170 ∷ [])) (2 ∷ [])) ∷ (d1, write (a_tombstone (stamp 1 1000)) (1 ∷ [])) ∷ []); book = record { live = ((record { digest = d1; block = 1; unit = 0; units = 4 }) ∷ []); buffers = []; holds = []; free = (2 ∷ 3 ∷ 4 ∷ 5 ∷ 6 ∷ 7 ∷ 8 ∷ 9 ∷ 10 ∷ 11 ∷ 12 ∷ 13 ∷ 14 ∷ 15 ∷ 0 ∷ []); queue = []; flushed_numbers = (1 ∷ 2 ∷ []); next_number = 3 }; raid = record { number = 1; next = finished; scanned = 16; marked = []; found = [] } }; faults = 0 }) ∷ []
@@ -91,7 +91,7 @@ l4 = served (reply.Done2 1 1000) ((event (put_call (b_digest 2) 0 None (187 ∷ 
 
 l4_is : IsLine start1 (command.Put (b_digest 2) 0 None (187 ∷ [])) 1000 l4
 unfolding refreshed dropped_live placed with_flushed cold_book after_step start_state
-l4_is = record { does = ((event (put_call (b_digest 2) 0 None (187 ∷ []) 1000) (stamp_given (stamp 1 1000)) (wrote (b_digest 2) (a_put (stamp 1 1000) 0 false (187 ∷ [])) ∷ sealed_stream client ∷ gate_begun 3 ∷ flushed_buffer 3 ∷ []) 0 0), refl, refl, refl); legal = (record { begins = refl; counts = lit≤ tt; allowed = inr (inl (refl, refl)) }, tt); tends = (((event (flush_sealed_call) (counted 0) [] 0 0) ∷ (event (choose_call) (block_chosen None) [] 0 0) ∷ []), [], refl, ((event (flush_sealed_call) (counted 0) [] 0 0), ((event (choose_call) (block_chosen None) [] 0 0) ∷ []), refl, refl, (did 0 0), ((event (choose_call) (block_chosen None) [] 0 0), [], refl, refl, inl (refl, refl, refl))), refl); tending = (record { begins = refl; counts = lit≤ tt; allowed = inl (refl, refl) }, (record { begins = refl; counts = lit≤ tt; allowed = inl (refl, refl) }, tt)) }
+l4_is = record { does = ((event (put_call (b_digest 2) 0 None (187 ∷ []) 1000) (stamp_given (stamp 1 1000)) (wrote (b_digest 2) (a_put (stamp 1 1000) 0 false (187 ∷ [])) ∷ sealed_stream client ∷ gate_begun 3 ∷ flushed_buffer 3 ∷ []) 0 0), refl, refl, refl); legal = (record { begins = refl; counts = lit≤ tt; allowed = inr (inl (refl, refl)) }, tt); tends = (((event (flush_sealed_call) (counted 0) [] 0 0) ∷ (event (choose_call) (block_chosen None) [] 0 0) ∷ []), [], refl, ((event (flush_sealed_call) (counted 0) [] 0 0), ((event (choose_call) (block_chosen None) [] 0 0) ∷ []), refl, refl, ((did 0 0), ((event (choose_call) (block_chosen None) [] 0 0), [], refl, refl, inl (refl, refl, refl)))), refl); tending = (record { begins = refl; counts = lit≤ tt; allowed = inl (refl, refl) }, (record { begins = refl; counts = lit≤ tt; allowed = inl (refl, refl) }, tt)) }
 
 abbrev n4 : Node
 n4 = (record { setup = (small_device 16 0 16 true 0); state = record { log = (((b_digest 2), write (a_put (stamp 1 1000) 0 false (187 ∷ [])) (3 ∷ [])) ∷ (d1, write (a_put (stamp 2 1000) 0 true (170 ∷ [])) []) ∷ (d1, write (a_tombstone (stamp 1 1000)) []) ∷ []); book = record { live = ((record { digest = (b_digest 2); block = 0; unit = 0; units = 4 }) ∷ (record { digest = d1; block = 1; unit = 0; units = 4 }) ∷ []); buffers = []; holds = []; free = (2 ∷ 3 ∷ 4 ∷ 5 ∷ 6 ∷ 7 ∷ 8 ∷ 9 ∷ 10 ∷ 11 ∷ 12 ∷ 13 ∷ 14 ∷ 15 ∷ []); queue = []; flushed_numbers = (3 ∷ []); next_number = 4 }; raid = record { number = 0; next = finished; scanned = 0; marked = []; found = [] } }; faults = 0 }) ∷ []
@@ -109,7 +109,7 @@ l5 = served (reply.Done2 0 1) ((event (begin_call) (raid_numbered (Some 1)) (rai
 
 l5_is : IsLine n4 command.Raid 1000 l5
 unfolding refreshed dropped_live placed with_flushed cold_book after_step start_state
-l5_is = record { does = (did 0 1, ((event (begin_call) (raid_numbered (Some 1)) (raid_begun ∷ []) 0 0) ∷ turns4, [], refl, inl (0, 1, ((event (begin_call) (raid_numbered (Some 1)) (raid_begun ∷ []) 0 0), turns4, refl, refl, inr (1, refl, (refl, refl, (refl, refl, (refl, refl, (refl, refl, (refl, refl, (refl, refl, (refl, refl, (refl, refl, (refl, refl, (refl, refl, (refl, refl, (refl, refl, (refl, refl, (refl, refl, (refl, refl, (refl, refl, (refl, refl, (refl, refl, (refl, refl, (refl, refl, (refl, refl, (refl, refl, (refl, refl, (refl, refl, (refl, refl, (refl, refl, (refl, refl, (refl, refl, (refl, refl, (refl, refl, (refl, refl, (refl, refl, (refl, refl, (refl, refl, (refl, refl, (refl, refl, (refl, refl, (refl, refl, (refl, refl, (refl, refl, (refl, refl, (refl, refl, (refl, refl, (refl, refl, (refl, refl, (refl, refl, (refl, refl, (refl, refl, (refl, refl, (refl, refl, (refl, refl))))))))))))))))))))))))))))))))))))))))))))))))))))), (refl, refl))), refl); legal = (record { begins = refl; counts = lit≤ tt; allowed = (refl, refl) }, (record { begins = refl; counts = lit≤ tt; allowed = (refl, refl) }, (record { begins = refl; counts = lit≤ tt; allowed = (refl, refl) }, (record { begins = refl; counts = lit≤ tt; allowed = (refl, refl) }, (record { begins = refl; counts = lit≤ tt; allowed = (refl, refl) }, (record { begins = refl; counts = lit≤ tt; allowed = (refl, refl) }, (record { begins = refl; counts = lit≤ tt; allowed = (refl, refl) }, (record { begins = refl; counts = lit≤ tt; allowed = (refl, refl) }, (record { begins = refl; counts = lit≤ tt; allowed = (refl, refl) }, (record { begins = refl; counts = lit≤ tt; allowed = (refl, refl) }, (record { begins = refl; counts = lit≤ tt; allowed = (refl, refl) }, (record { begins = refl; counts = lit≤ tt; allowed = (refl, refl) }, (record { begins = refl; counts = lit≤ tt; allowed = (refl, refl) }, (record { begins = refl; counts = lit≤ tt; allowed = (refl, refl) }, (record { begins = refl; counts = lit≤ tt; allowed = (refl, refl) }, (record { begins = refl; counts = lit≤ tt; allowed = (refl, refl) }, (record { begins = refl; counts = lit≤ tt; allowed = (refl, refl) }, (record { begins = refl; counts = lit≤ tt; allowed = inl (refl, (((b_digest 2), (stamp 1 1000)) ∷ []), refl) }, (record { begins = refl; counts = lit≤ tt; allowed = (refl, refl) }, (record { begins = refl; counts = lit≤ tt; allowed = inl (refl, ((d1, (stamp 2 1000)) ∷ []), refl) }, (record { begins = refl; counts = lit≤ tt; allowed = (refl, refl) }, (record { begins = refl; counts = lit≤ tt; allowed = inl (refl, [], refl) }, (record { begins = refl; counts = lit≤ tt; allowed = inl (refl, [], refl) }, (record { begins = refl; counts = lit≤ tt; allowed = inl (refl, [], refl) }, (record { begins = refl; counts = lit≤ tt; allowed = inl (refl, [], refl) }, (record { begins = refl; counts = lit≤ tt; allowed = inl (refl, [], refl) }, (record { begins = refl; counts = lit≤ tt; allowed = inl (refl, [], refl) }, (record { begins = refl; counts = lit≤ tt; allowed = inl (refl, [], refl) }, (record { begins = refl; counts = lit≤ tt; allowed = inl (refl, [], refl) }, (record { begins = refl; counts = lit≤ tt; allowed = inl (refl, [], refl) }, (record { begins = refl; counts = lit≤ tt; allowed = inl (refl, [], refl) }, (record { begins = refl; counts = lit≤ tt; allowed = inl (refl, [], refl) }, (record { begins = refl; counts = lit≤ tt; allowed = inl (refl, [], refl) }, (record { begins = refl; counts = lit≤ tt; allowed = inl (refl, [], refl) }, (record { begins = refl; counts = lit≤ tt; allowed = inl (refl, [], refl) }, (record { begins = refl; counts = lit≤ tt; allowed = (refl, refl) }, (record { begins = refl; counts = lit≤ tt; allowed = (refl, refl) }, (record { begins = refl; counts = lit≤ tt; allowed = (refl, refl) }, (record { begins = refl; counts = lit≤ tt; allowed = (refl, refl) }, (record { begins = refl; counts = lit≤ tt; allowed = (refl, refl) }, (record { begins = refl; counts = lit≤ tt; allowed = (refl, refl) }, (record { begins = refl; counts = lit≤ tt; allowed = (refl, refl) }, (record { begins = refl; counts = lit≤ tt; allowed = (refl, refl) }, (record { begins = refl; counts = lit≤ tt; allowed = (refl, refl) }, (record { begins = refl; counts = lit≤ tt; allowed = (refl, refl) }, (record { begins = refl; counts = lit≤ tt; allowed = (refl, refl) }, (record { begins = refl; counts = lit≤ tt; allowed = (refl, refl) }, (record { begins = refl; counts = lit≤ tt; allowed = (refl, refl) }, (record { begins = refl; counts = lit≤ tt; allowed = (refl, refl) }, (record { begins = refl; counts = lit≤ tt; allowed = (refl, refl) }, (record { begins = refl; counts = lit≤ tt; allowed = (refl, refl) }, tt))))))))))))))))))))))))))))))))))))))))))))))))))); tends = (((event (flush_sealed_call) (counted 0) [] 0 0) ∷ (event (choose_call) (block_chosen None) [] 0 0) ∷ []), [], refl, ((event (flush_sealed_call) (counted 0) [] 0 0), ((event (choose_call) (block_chosen None) [] 0 0) ∷ []), refl, refl, (did 0 0), ((event (choose_call) (block_chosen None) [] 0 0), [], refl, refl, inl (refl, refl, refl))), refl); tending = (record { begins = refl; counts = lit≤ tt; allowed = inl (refl, refl) }, (record { begins = refl; counts = lit≤ tt; allowed = inl (refl, refl) }, tt)) }
+l5_is = record { does = (did 0 1, ((event (begin_call) (raid_numbered (Some 1)) (raid_begun ∷ []) 0 0) ∷ turns4, [], refl, inl (0, 1, ((event (begin_call) (raid_numbered (Some 1)) (raid_begun ∷ []) 0 0), turns4, refl, refl, inr (1, refl, (refl, refl, (refl, refl, (refl, refl, (refl, refl, (refl, refl, (refl, refl, (refl, refl, (refl, refl, (refl, refl, (refl, refl, (refl, refl, (refl, refl, (refl, refl, (refl, refl, (refl, refl, (refl, refl, (refl, refl, (refl, refl, (refl, refl, (refl, refl, (refl, refl, (refl, refl, (refl, refl, (refl, refl, (refl, refl, (refl, refl, (refl, refl, (refl, refl, (refl, refl, (refl, refl, (refl, refl, (refl, refl, (refl, refl, (refl, refl, (refl, refl, (refl, refl, (refl, refl, (refl, refl, (refl, refl, (refl, refl, (refl, refl, (refl, refl, (refl, refl, (refl, refl, (refl, refl, (refl, refl, (refl, refl, (refl, refl, (refl, refl, (refl, refl, (refl, refl))))))))))))))))))))))))))))))))))))))))))))))))))))), (refl, refl))), refl); legal = (record { begins = refl; counts = lit≤ tt; allowed = (refl, refl) }, (record { begins = refl; counts = lit≤ tt; allowed = (refl, refl) }, (record { begins = refl; counts = lit≤ tt; allowed = (refl, refl) }, (record { begins = refl; counts = lit≤ tt; allowed = (refl, refl) }, (record { begins = refl; counts = lit≤ tt; allowed = (refl, refl) }, (record { begins = refl; counts = lit≤ tt; allowed = (refl, refl) }, (record { begins = refl; counts = lit≤ tt; allowed = (refl, refl) }, (record { begins = refl; counts = lit≤ tt; allowed = (refl, refl) }, (record { begins = refl; counts = lit≤ tt; allowed = (refl, refl) }, (record { begins = refl; counts = lit≤ tt; allowed = (refl, refl) }, (record { begins = refl; counts = lit≤ tt; allowed = (refl, refl) }, (record { begins = refl; counts = lit≤ tt; allowed = (refl, refl) }, (record { begins = refl; counts = lit≤ tt; allowed = (refl, refl) }, (record { begins = refl; counts = lit≤ tt; allowed = (refl, refl) }, (record { begins = refl; counts = lit≤ tt; allowed = (refl, refl) }, (record { begins = refl; counts = lit≤ tt; allowed = (refl, refl) }, (record { begins = refl; counts = lit≤ tt; allowed = (refl, refl) }, (record { begins = refl; counts = lit≤ tt; allowed = inl (refl, (((b_digest 2), (stamp 1 1000)) ∷ []), refl) }, (record { begins = refl; counts = lit≤ tt; allowed = (refl, refl) }, (record { begins = refl; counts = lit≤ tt; allowed = inl (refl, ((d1, (stamp 2 1000)) ∷ []), refl) }, (record { begins = refl; counts = lit≤ tt; allowed = (refl, refl) }, (record { begins = refl; counts = lit≤ tt; allowed = inl (refl, [], refl) }, (record { begins = refl; counts = lit≤ tt; allowed = inl (refl, [], refl) }, (record { begins = refl; counts = lit≤ tt; allowed = inl (refl, [], refl) }, (record { begins = refl; counts = lit≤ tt; allowed = inl (refl, [], refl) }, (record { begins = refl; counts = lit≤ tt; allowed = inl (refl, [], refl) }, (record { begins = refl; counts = lit≤ tt; allowed = inl (refl, [], refl) }, (record { begins = refl; counts = lit≤ tt; allowed = inl (refl, [], refl) }, (record { begins = refl; counts = lit≤ tt; allowed = inl (refl, [], refl) }, (record { begins = refl; counts = lit≤ tt; allowed = inl (refl, [], refl) }, (record { begins = refl; counts = lit≤ tt; allowed = inl (refl, [], refl) }, (record { begins = refl; counts = lit≤ tt; allowed = inl (refl, [], refl) }, (record { begins = refl; counts = lit≤ tt; allowed = inl (refl, [], refl) }, (record { begins = refl; counts = lit≤ tt; allowed = inl (refl, [], refl) }, (record { begins = refl; counts = lit≤ tt; allowed = inl (refl, [], refl) }, (record { begins = refl; counts = lit≤ tt; allowed = (refl, refl) }, (record { begins = refl; counts = lit≤ tt; allowed = (refl, refl) }, (record { begins = refl; counts = lit≤ tt; allowed = (refl, refl) }, (record { begins = refl; counts = lit≤ tt; allowed = (refl, refl) }, (record { begins = refl; counts = lit≤ tt; allowed = (refl, refl) }, (record { begins = refl; counts = lit≤ tt; allowed = (refl, refl) }, (record { begins = refl; counts = lit≤ tt; allowed = (refl, refl) }, (record { begins = refl; counts = lit≤ tt; allowed = (refl, refl) }, (record { begins = refl; counts = lit≤ tt; allowed = (refl, refl) }, (record { begins = refl; counts = lit≤ tt; allowed = (refl, refl) }, (record { begins = refl; counts = lit≤ tt; allowed = (refl, refl) }, (record { begins = refl; counts = lit≤ tt; allowed = (refl, refl) }, (record { begins = refl; counts = lit≤ tt; allowed = (refl, refl) }, (record { begins = refl; counts = lit≤ tt; allowed = (refl, refl) }, (record { begins = refl; counts = lit≤ tt; allowed = (refl, refl) }, (record { begins = refl; counts = lit≤ tt; allowed = (refl, refl) }, tt))))))))))))))))))))))))))))))))))))))))))))))))))); tends = (((event (flush_sealed_call) (counted 0) [] 0 0) ∷ (event (choose_call) (block_chosen None) [] 0 0) ∷ []), [], refl, ((event (flush_sealed_call) (counted 0) [] 0 0), ((event (choose_call) (block_chosen None) [] 0 0) ∷ []), refl, refl, ((did 0 0), ((event (choose_call) (block_chosen None) [] 0 0), [], refl, refl, inl (refl, refl, refl)))), refl); tending = (record { begins = refl; counts = lit≤ tt; allowed = inl (refl, refl) }, (record { begins = refl; counts = lit≤ tt; allowed = inl (refl, refl) }, tt)) }
 
 abbrev n5 : Node
 n5 = (record { setup = (small_device 16 0 16 true 0); state = record { log = ((d1, cleared) ∷ ((b_digest 2), write (a_put (stamp 1 1000) 0 false (187 ∷ [])) (3 ∷ [])) ∷ (d1, write (a_put (stamp 2 1000) 0 true (170 ∷ [])) []) ∷ (d1, write (a_tombstone (stamp 1 1000)) []) ∷ []); book = record { live = ((record { digest = (b_digest 2); block = 0; unit = 0; units = 4 }) ∷ (record { digest = d1; block = 1; unit = 0; units = 4 }) ∷ []); buffers = []; holds = []; free = (2 ∷ 3 ∷ 4 ∷ 5 ∷ 6 ∷ 7 ∷ 8 ∷ 9 ∷ 10 ∷ 11 ∷ 12 ∷ 13 ∷ 14 ∷ 15 ∷ []); queue = []; flushed_numbers = (3 ∷ []); next_number = 4 }; raid = record { number = 1; next = finished; scanned = 16; marked = []; found = [] } }; faults = 0 }) ∷ []
@@ -124,7 +124,7 @@ l6 = served reply.Gone ((event (delete_call d1 1000) (happened true) (removed d1
 
 l6_is : IsLine n5 (command.Del d1) 1000 l6
 unfolding refreshed dropped_live placed with_flushed cold_book after_step start_state
-l6_is = record { does = ((event (delete_call d1 1000) (happened true) (removed d1 ∷ []) 0 0), refl, refl, refl); legal = (record { begins = refl; counts = lit≤ tt; allowed = (refl, refl) }, tt); tends = (((event (flush_sealed_call) (counted 0) [] 0 0) ∷ (event (choose_call) (block_chosen None) [] 0 0) ∷ []), [], refl, ((event (flush_sealed_call) (counted 0) [] 0 0), ((event (choose_call) (block_chosen None) [] 0 0) ∷ []), refl, refl, (did 0 0), ((event (choose_call) (block_chosen None) [] 0 0), [], refl, refl, inl (refl, refl, refl))), refl); tending = (record { begins = refl; counts = lit≤ tt; allowed = inl (refl, refl) }, (record { begins = refl; counts = lit≤ tt; allowed = inl (refl, refl) }, tt)) }
+l6_is = record { does = ((event (delete_call d1 1000) (happened true) (removed d1 ∷ []) 0 0), refl, refl, refl); legal = (record { begins = refl; counts = lit≤ tt; allowed = (refl, refl) }, tt); tends = (((event (flush_sealed_call) (counted 0) [] 0 0) ∷ (event (choose_call) (block_chosen None) [] 0 0) ∷ []), [], refl, ((event (flush_sealed_call) (counted 0) [] 0 0), ((event (choose_call) (block_chosen None) [] 0 0) ∷ []), refl, refl, ((did 0 0), ((event (choose_call) (block_chosen None) [] 0 0), [], refl, refl, inl (refl, refl, refl)))), refl); tending = (record { begins = refl; counts = lit≤ tt; allowed = inl (refl, refl) }, (record { begins = refl; counts = lit≤ tt; allowed = inl (refl, refl) }, tt)) }
 
 abbrev n6 : Node
 n6 = (record { setup = (small_device 16 0 16 true 0); state = record { log = ((d1, dropped) ∷ (d1, cleared) ∷ ((b_digest 2), write (a_put (stamp 1 1000) 0 false (187 ∷ [])) (3 ∷ [])) ∷ (d1, write (a_put (stamp 2 1000) 0 true (170 ∷ [])) []) ∷ (d1, write (a_tombstone (stamp 1 1000)) []) ∷ []); book = record { live = ((record { digest = (b_digest 2); block = 0; unit = 0; units = 4 }) ∷ []); buffers = []; holds = []; free = (2 ∷ 3 ∷ 4 ∷ 5 ∷ 6 ∷ 7 ∷ 8 ∷ 9 ∷ 10 ∷ 11 ∷ 12 ∷ 13 ∷ 14 ∷ 15 ∷ 1 ∷ []); queue = []; flushed_numbers = (3 ∷ []); next_number = 4 }; raid = record { number = 1; next = finished; scanned = 16; marked = []; found = [] } }; faults = 0 }) ∷ []
@@ -165,7 +165,7 @@ l7 = served (reply.Val (stamp 2 1000) 0 (170 ∷ [])) ((event (get_call d1 1000)
 
 l7_is : IsLine start2 (command.Get d1) 1000 l7
 unfolding refreshed dropped_live placed with_flushed cold_book after_step start_state
-l7_is = record { does = ((event (get_call d1 1000) (found_version (Some (a_put (stamp 2 1000) 0 true (170 ∷ [])))) [] 0 0), refl, refl, refl); legal = (record { begins = refl; counts = lit≤ tt; allowed = inl ((Some (a_put (stamp 2 1000) 0 true (170 ∷ []))), refl, refl, refl) }, tt); tends = (((event (flush_sealed_call) (counted 0) [] 0 0) ∷ (event (choose_call) (block_chosen None) [] 0 0) ∷ []), [], refl, ((event (flush_sealed_call) (counted 0) [] 0 0), ((event (choose_call) (block_chosen None) [] 0 0) ∷ []), refl, refl, (did 0 0), ((event (choose_call) (block_chosen None) [] 0 0), [], refl, refl, inl (refl, refl, refl))), refl); tending = (record { begins = refl; counts = lit≤ tt; allowed = inl (refl, refl) }, (record { begins = refl; counts = lit≤ tt; allowed = inl (refl, refl) }, tt)) }
+l7_is = record { does = ((event (get_call d1 1000) (found_version (Some (a_put (stamp 2 1000) 0 true (170 ∷ [])))) [] 0 0), refl, refl, refl); legal = (record { begins = refl; counts = lit≤ tt; allowed = inl ((Some (a_put (stamp 2 1000) 0 true (170 ∷ []))), refl, refl, refl) }, tt); tends = (((event (flush_sealed_call) (counted 0) [] 0 0) ∷ (event (choose_call) (block_chosen None) [] 0 0) ∷ []), [], refl, ((event (flush_sealed_call) (counted 0) [] 0 0), ((event (choose_call) (block_chosen None) [] 0 0) ∷ []), refl, refl, ((did 0 0), ((event (choose_call) (block_chosen None) [] 0 0), [], refl, refl, inl (refl, refl, refl)))), refl); tending = (record { begins = refl; counts = lit≤ tt; allowed = inl (refl, refl) }, (record { begins = refl; counts = lit≤ tt; allowed = inl (refl, refl) }, tt)) }
 
 abbrev n7 : Node
 n7 = (record { setup = (small_device 16 0 16 true 0); state = record { log = (((b_digest 2), write (a_put (stamp 1 1000) 0 false (187 ∷ [])) []) ∷ (d1, write (a_put (stamp 2 1000) 0 true (170 ∷ [])) []) ∷ (d1, write (a_tombstone (stamp 1 1000)) []) ∷ []); book = record { live = ((record { digest = d1; block = 1; unit = 0; units = 4 }) ∷ (record { digest = (b_digest 2); block = 0; unit = 0; units = 4 }) ∷ []); buffers = []; holds = []; free = (2 ∷ 3 ∷ 4 ∷ 5 ∷ 6 ∷ 7 ∷ 8 ∷ 9 ∷ 10 ∷ 11 ∷ 12 ∷ 13 ∷ 14 ∷ 15 ∷ []); queue = []; flushed_numbers = []; next_number = 4 }; raid = record { number = 0; next = finished; scanned = 0; marked = []; found = [] } }; faults = 0 }) ∷ []

@@ -27,7 +27,7 @@ l1 = served (reply.Done2 1 1000) ((event (put_call d1 0 None (170 ∷ []) 1000) 
 
 l1_is : IsLine start0 (command.Put d1 0 None (170 ∷ [])) 1000 l1
 unfolding refreshed dropped_live placed with_flushed cold_book after_step start_state
-l1_is = record { does = ((event (put_call d1 0 None (170 ∷ []) 1000) (stamp_given (stamp 1 1000)) (wrote d1 (a_put (stamp 1 1000) 0 false (170 ∷ [])) ∷ []) 0 0), refl, refl, refl); legal = (record { begins = refl; counts = lit≤ tt; allowed = inr (inl (refl, refl)) }, tt); tends = (((event (flush_sealed_call) (counted 0) [] 0 0) ∷ (event (choose_call) (block_chosen None) [] 0 0) ∷ []), [], refl, ((event (flush_sealed_call) (counted 0) [] 0 0), ((event (choose_call) (block_chosen None) [] 0 0) ∷ []), refl, refl, (did 0 0), ((event (choose_call) (block_chosen None) [] 0 0), [], refl, refl, inl (refl, refl, refl))), refl); tending = (record { begins = refl; counts = lit≤ tt; allowed = inl (refl, refl) }, (record { begins = refl; counts = lit≤ tt; allowed = inl (refl, refl) }, tt)) }
+l1_is = record { does = ((event (put_call d1 0 None (170 ∷ []) 1000) (stamp_given (stamp 1 1000)) (wrote d1 (a_put (stamp 1 1000) 0 false (170 ∷ [])) ∷ []) 0 0), refl, refl, refl); legal = (record { begins = refl; counts = lit≤ tt; allowed = inr (inl (refl, refl)) }, tt); tends = (((event (flush_sealed_call) (counted 0) [] 0 0) ∷ (event (choose_call) (block_chosen None) [] 0 0) ∷ []), [], refl, ((event (flush_sealed_call) (counted 0) [] 0 0), ((event (choose_call) (block_chosen None) [] 0 0) ∷ []), refl, refl, ((did 0 0), ((event (choose_call) (block_chosen None) [] 0 0), [], refl, refl, inl (refl, refl, refl)))), refl); tending = (record { begins = refl; counts = lit≤ tt; allowed = inl (refl, refl) }, (record { begins = refl; counts = lit≤ tt; allowed = inl (refl, refl) }, tt)) }
 
 abbrev n1 : Node
 n1 = (record { setup = (device 16 0 16 false 86400); state = record { log = ((d1, write (a_put (stamp 1 1000) 0 false (170 ∷ [])) (1 ∷ [])) ∷ []); book = record { live = ((record { digest = d1; block = 0; unit = 0; units = 4 }) ∷ []); buffers = ((record { number = 1; block = 0; stream = client; used = 4; phase = filling }) ∷ []); holds = []; free = (1 ∷ 2 ∷ 3 ∷ 4 ∷ 5 ∷ 6 ∷ 7 ∷ 8 ∷ 9 ∷ 10 ∷ 11 ∷ 12 ∷ 13 ∷ 14 ∷ 15 ∷ []); queue = []; flushed_numbers = []; next_number = 2 }; raid = record { number = 0; next = finished; scanned = 0; marked = []; found = [] } }; faults = 0 }) ∷ []
@@ -42,7 +42,7 @@ l2 = served (reply.Done2 2 1000) ((event (bury_call d1 1000) (stamp_given (stamp
 
 l2_is : IsLine n1 (command.Bury d1) 1000 l2
 unfolding refreshed dropped_live placed with_flushed cold_book after_step start_state
-l2_is = record { does = ((event (bury_call d1 1000) (stamp_given (stamp 2 1000)) (wrote d1 (a_tombstone (stamp 2 1000)) ∷ []) 0 0), refl, refl, refl); legal = (record { begins = refl; counts = lit≤ tt; allowed = inr (inl (refl, refl)) }, tt); tends = (((event (flush_sealed_call) (counted 0) [] 0 0) ∷ (event (choose_call) (block_chosen None) [] 0 0) ∷ []), [], refl, ((event (flush_sealed_call) (counted 0) [] 0 0), ((event (choose_call) (block_chosen None) [] 0 0) ∷ []), refl, refl, (did 0 0), ((event (choose_call) (block_chosen None) [] 0 0), [], refl, refl, inl (refl, refl, refl))), refl); tending = (record { begins = refl; counts = lit≤ tt; allowed = inl (refl, refl) }, (record { begins = refl; counts = lit≤ tt; allowed = inl (refl, refl) }, tt)) }
+l2_is = record { does = ((event (bury_call d1 1000) (stamp_given (stamp 2 1000)) (wrote d1 (a_tombstone (stamp 2 1000)) ∷ []) 0 0), refl, refl, refl); legal = (record { begins = refl; counts = lit≤ tt; allowed = inr (inl (refl, refl)) }, tt); tends = (((event (flush_sealed_call) (counted 0) [] 0 0) ∷ (event (choose_call) (block_chosen None) [] 0 0) ∷ []), [], refl, ((event (flush_sealed_call) (counted 0) [] 0 0), ((event (choose_call) (block_chosen None) [] 0 0) ∷ []), refl, refl, ((did 0 0), ((event (choose_call) (block_chosen None) [] 0 0), [], refl, refl, inl (refl, refl, refl)))), refl); tending = (record { begins = refl; counts = lit≤ tt; allowed = inl (refl, refl) }, (record { begins = refl; counts = lit≤ tt; allowed = inl (refl, refl) }, tt)) }
 
 abbrev n2 : Node
 n2 = (record { setup = (device 16 0 16 false 86400); state = record { log = ((d1, write (a_tombstone (stamp 2 1000)) (1 ∷ [])) ∷ (d1, write (a_put (stamp 1 1000) 0 false (170 ∷ [])) (1 ∷ [])) ∷ []); book = record { live = ((record { digest = d1; block = 0; unit = 4; units = 3 }) ∷ []); buffers = ((record { number = 1; block = 0; stream = client; used = 7; phase = filling }) ∷ []); holds = ((1, 0) ∷ []); free = (1 ∷ 2 ∷ 3 ∷ 4 ∷ 5 ∷ 6 ∷ 7 ∷ 8 ∷ 9 ∷ 10 ∷ 11 ∷ 12 ∷ 13 ∷ 14 ∷ 15 ∷ []); queue = []; flushed_numbers = []; next_number = 2 }; raid = record { number = 0; next = finished; scanned = 0; marked = []; found = [] } }; faults = 0 }) ∷ []
@@ -57,7 +57,7 @@ l3 = served (reply.Done2 3 1000) ((event (put_call d1 0 None (187 ∷ []) 1000) 
 
 l3_is : IsLine n2 (command.Put d1 0 None (187 ∷ [])) 1000 l3
 unfolding refreshed dropped_live placed with_flushed cold_book after_step start_state
-l3_is = record { does = ((event (put_call d1 0 None (187 ∷ []) 1000) (stamp_given (stamp 3 1000)) (wrote d1 (a_put (stamp 3 1000) 0 true (187 ∷ [])) ∷ []) 0 0), refl, refl, refl); legal = (record { begins = refl; counts = lit≤ tt; allowed = inr (inl (refl, refl)) }, tt); tends = (((event (flush_sealed_call) (counted 0) [] 0 0) ∷ (event (choose_call) (block_chosen None) [] 0 0) ∷ []), [], refl, ((event (flush_sealed_call) (counted 0) [] 0 0), ((event (choose_call) (block_chosen None) [] 0 0) ∷ []), refl, refl, (did 0 0), ((event (choose_call) (block_chosen None) [] 0 0), [], refl, refl, inl (refl, refl, refl))), refl); tending = (record { begins = refl; counts = lit≤ tt; allowed = inl (refl, refl) }, (record { begins = refl; counts = lit≤ tt; allowed = inl (refl, refl) }, tt)) }
+l3_is = record { does = ((event (put_call d1 0 None (187 ∷ []) 1000) (stamp_given (stamp 3 1000)) (wrote d1 (a_put (stamp 3 1000) 0 true (187 ∷ [])) ∷ []) 0 0), refl, refl, refl); legal = (record { begins = refl; counts = lit≤ tt; allowed = inr (inl (refl, refl)) }, tt); tends = (((event (flush_sealed_call) (counted 0) [] 0 0) ∷ (event (choose_call) (block_chosen None) [] 0 0) ∷ []), [], refl, ((event (flush_sealed_call) (counted 0) [] 0 0), ((event (choose_call) (block_chosen None) [] 0 0) ∷ []), refl, refl, ((did 0 0), ((event (choose_call) (block_chosen None) [] 0 0), [], refl, refl, inl (refl, refl, refl)))), refl); tending = (record { begins = refl; counts = lit≤ tt; allowed = inl (refl, refl) }, (record { begins = refl; counts = lit≤ tt; allowed = inl (refl, refl) }, tt)) }
 
 abbrev n3 : Node
 n3 = (record { setup = (device 16 0 16 false 86400); state = record { log = ((d1, write (a_put (stamp 3 1000) 0 true (187 ∷ [])) (1 ∷ [])) ∷ (d1, write (a_tombstone (stamp 2 1000)) (1 ∷ [])) ∷ (d1, write (a_put (stamp 1 1000) 0 false (170 ∷ [])) (1 ∷ [])) ∷ []); book = record { live = ((record { digest = d1; block = 0; unit = 7; units = 4 }) ∷ []); buffers = ((record { number = 1; block = 0; stream = client; used = 11; phase = filling }) ∷ []); holds = ((1, 0) ∷ (1, 0) ∷ []); free = (1 ∷ 2 ∷ 3 ∷ 4 ∷ 5 ∷ 6 ∷ 7 ∷ 8 ∷ 9 ∷ 10 ∷ 11 ∷ 12 ∷ 13 ∷ 14 ∷ 15 ∷ []); queue = []; flushed_numbers = []; next_number = 2 }; raid = record { number = 0; next = finished; scanned = 0; marked = []; found = [] } }; faults = 0 }) ∷ []
@@ -72,7 +72,7 @@ l4 = served (reply.StatOf (record { records = 1; tombstones = 0; covered = 1; fr
 
 l4_is : IsLine n3 command.Stat 1000 l4
 unfolding refreshed dropped_live placed with_flushed cold_book after_step start_state
-l4_is = record { does = (refl, refl); legal = tt; tends = (((event (flush_sealed_call) (counted 0) [] 0 0) ∷ (event (choose_call) (block_chosen None) [] 0 0) ∷ []), [], refl, ((event (flush_sealed_call) (counted 0) [] 0 0), ((event (choose_call) (block_chosen None) [] 0 0) ∷ []), refl, refl, (did 0 0), ((event (choose_call) (block_chosen None) [] 0 0), [], refl, refl, inl (refl, refl, refl))), refl); tending = (record { begins = refl; counts = lit≤ tt; allowed = inl (refl, refl) }, (record { begins = refl; counts = lit≤ tt; allowed = inl (refl, refl) }, tt)) }
+l4_is = record { does = (refl, refl); legal = tt; tends = (((event (flush_sealed_call) (counted 0) [] 0 0) ∷ (event (choose_call) (block_chosen None) [] 0 0) ∷ []), [], refl, ((event (flush_sealed_call) (counted 0) [] 0 0), ((event (choose_call) (block_chosen None) [] 0 0) ∷ []), refl, refl, ((did 0 0), ((event (choose_call) (block_chosen None) [] 0 0), [], refl, refl, inl (refl, refl, refl)))), refl); tending = (record { begins = refl; counts = lit≤ tt; allowed = inl (refl, refl) }, (record { begins = refl; counts = lit≤ tt; allowed = inl (refl, refl) }, tt)) }
 
 abbrev n4 : Node
 n4 = (record { setup = (device 16 0 16 false 86400); state = record { log = ((d1, write (a_put (stamp 3 1000) 0 true (187 ∷ [])) (1 ∷ [])) ∷ (d1, write (a_tombstone (stamp 2 1000)) (1 ∷ [])) ∷ (d1, write (a_put (stamp 1 1000) 0 false (170 ∷ [])) (1 ∷ [])) ∷ []); book = record { live = ((record { digest = d1; block = 0; unit = 7; units = 4 }) ∷ []); buffers = ((record { number = 1; block = 0; stream = client; used = 11; phase = filling }) ∷ []); holds = ((1, 0) ∷ (1, 0) ∷ []); free = (1 ∷ 2 ∷ 3 ∷ 4 ∷ 5 ∷ 6 ∷ 7 ∷ 8 ∷ 9 ∷ 10 ∷ 11 ∷ 12 ∷ 13 ∷ 14 ∷ 15 ∷ []); queue = []; flushed_numbers = []; next_number = 2 }; raid = record { number = 0; next = finished; scanned = 0; marked = []; found = [] } }; faults = 0 }) ∷ []
@@ -87,7 +87,7 @@ l5 = served reply.Gone ((event (delete_call d1 1000) (happened true) (wrote d1 (
 
 l5_is : IsLine n4 (command.Del d1) 1000 l5
 unfolding refreshed dropped_live placed with_flushed cold_book after_step start_state
-l5_is = record { does = ((event (delete_call d1 1000) (happened true) (wrote d1 (a_tombstone (stamp 4 1000)) ∷ []) 0 0), refl, refl, refl); legal = (record { begins = refl; counts = lit≤ tt; allowed = inr (inl (refl, refl)) }, tt); tends = (((event (flush_sealed_call) (counted 0) [] 0 0) ∷ (event (choose_call) (block_chosen None) [] 0 0) ∷ []), [], refl, ((event (flush_sealed_call) (counted 0) [] 0 0), ((event (choose_call) (block_chosen None) [] 0 0) ∷ []), refl, refl, (did 0 0), ((event (choose_call) (block_chosen None) [] 0 0), [], refl, refl, inl (refl, refl, refl))), refl); tending = (record { begins = refl; counts = lit≤ tt; allowed = inl (refl, refl) }, (record { begins = refl; counts = lit≤ tt; allowed = inl (refl, refl) }, tt)) }
+l5_is = record { does = ((event (delete_call d1 1000) (happened true) (wrote d1 (a_tombstone (stamp 4 1000)) ∷ []) 0 0), refl, refl, refl); legal = (record { begins = refl; counts = lit≤ tt; allowed = inr (inl (refl, refl)) }, tt); tends = (((event (flush_sealed_call) (counted 0) [] 0 0) ∷ (event (choose_call) (block_chosen None) [] 0 0) ∷ []), [], refl, ((event (flush_sealed_call) (counted 0) [] 0 0), ((event (choose_call) (block_chosen None) [] 0 0) ∷ []), refl, refl, ((did 0 0), ((event (choose_call) (block_chosen None) [] 0 0), [], refl, refl, inl (refl, refl, refl)))), refl); tending = (record { begins = refl; counts = lit≤ tt; allowed = inl (refl, refl) }, (record { begins = refl; counts = lit≤ tt; allowed = inl (refl, refl) }, tt)) }
 
 abbrev n5 : Node
 n5 = (record { setup = (device 16 0 16 false 86400); state = record { log = ((d1, write (a_tombstone (stamp 4 1000)) (1 ∷ [])) ∷ (d1, write (a_put (stamp 3 1000) 0 true (187 ∷ [])) (1 ∷ [])) ∷ (d1, write (a_tombstone (stamp 2 1000)) (1 ∷ [])) ∷ (d1, write (a_put (stamp 1 1000) 0 false (170 ∷ [])) (1 ∷ [])) ∷ []); book = record { live = ((record { digest = d1; block = 0; unit = 11; units = 3 }) ∷ []); buffers = ((record { number = 1; block = 0; stream = client; used = 14; phase = filling }) ∷ []); holds = ((1, 0) ∷ (1, 0) ∷ (1, 0) ∷ []); free = (1 ∷ 2 ∷ 3 ∷ 4 ∷ 5 ∷ 6 ∷ 7 ∷ 8 ∷ 9 ∷ 10 ∷ 11 ∷ 12 ∷ 13 ∷ 14 ∷ 15 ∷ []); queue = []; flushed_numbers = []; next_number = 2 }; raid = record { number = 0; next = finished; scanned = 0; marked = []; found = [] } }; faults = 0 }) ∷ []
@@ -102,7 +102,7 @@ l6 = served (reply.Done1 1) ((event (flush_call) (counted 1) (sealed_stream clie
 
 l6_is : IsLine n5 command.Flush 1000 l6
 unfolding refreshed dropped_live placed with_flushed cold_book after_step start_state
-l6_is = record { does = (did 1 0, (((event (flush_call) (counted 1) (sealed_stream client ∷ gate_begun 1 ∷ flushed_buffer 1 ∷ []) 0 0) ∷ []), [], refl, inl (1, 0, ((event (flush_call) (counted 1) (sealed_stream client ∷ gate_begun 1 ∷ flushed_buffer 1 ∷ []) 0 0), refl, refl, inl (1, refl, refl)), (refl, refl))), refl); legal = (record { begins = refl; counts = lit≤ tt; allowed = inl (refl, refl) }, tt); tends = (((event (flush_sealed_call) (counted 0) [] 0 0) ∷ (event (choose_call) (block_chosen None) [] 0 0) ∷ []), [], refl, ((event (flush_sealed_call) (counted 0) [] 0 0), ((event (choose_call) (block_chosen None) [] 0 0) ∷ []), refl, refl, (did 0 0), ((event (choose_call) (block_chosen None) [] 0 0), [], refl, refl, inl (refl, refl, refl))), refl); tending = (record { begins = refl; counts = lit≤ tt; allowed = inl (refl, refl) }, (record { begins = refl; counts = lit≤ tt; allowed = inl (refl, refl) }, tt)) }
+l6_is = record { does = (did 1 0, (((event (flush_call) (counted 1) (sealed_stream client ∷ gate_begun 1 ∷ flushed_buffer 1 ∷ []) 0 0) ∷ []), [], refl, inl (1, 0, ((event (flush_call) (counted 1) (sealed_stream client ∷ gate_begun 1 ∷ flushed_buffer 1 ∷ []) 0 0), refl, refl, inl (1, refl, refl)), (refl, refl))), refl); legal = (record { begins = refl; counts = lit≤ tt; allowed = inl (refl, refl) }, tt); tends = (((event (flush_sealed_call) (counted 0) [] 0 0) ∷ (event (choose_call) (block_chosen None) [] 0 0) ∷ []), [], refl, ((event (flush_sealed_call) (counted 0) [] 0 0), ((event (choose_call) (block_chosen None) [] 0 0) ∷ []), refl, refl, ((did 0 0), ((event (choose_call) (block_chosen None) [] 0 0), [], refl, refl, inl (refl, refl, refl)))), refl); tending = (record { begins = refl; counts = lit≤ tt; allowed = inl (refl, refl) }, (record { begins = refl; counts = lit≤ tt; allowed = inl (refl, refl) }, tt)) }
 
 abbrev n6 : Node
 n6 = (record { setup = (device 16 0 16 false 86400); state = record { log = ((d1, write (a_tombstone (stamp 4 1000)) (1 ∷ [])) ∷ (d1, write (a_put (stamp 3 1000) 0 true (187 ∷ [])) (1 ∷ [])) ∷ (d1, write (a_tombstone (stamp 2 1000)) (1 ∷ [])) ∷ (d1, write (a_put (stamp 1 1000) 0 false (170 ∷ [])) (1 ∷ [])) ∷ []); book = record { live = ((record { digest = d1; block = 0; unit = 11; units = 3 }) ∷ []); buffers = []; holds = []; free = (1 ∷ 2 ∷ 3 ∷ 4 ∷ 5 ∷ 6 ∷ 7 ∷ 8 ∷ 9 ∷ 10 ∷ 11 ∷ 12 ∷ 13 ∷ 14 ∷ 15 ∷ []); queue = []; flushed_numbers = (1 ∷ []); next_number = 2 }; raid = record { number = 0; next = finished; scanned = 0; marked = []; found = [] } }; faults = 0 }) ∷ []
@@ -138,7 +138,7 @@ l7 = served reply.Nothing ((event (get_call d1 1000) (found_version None) [] 0 0
 
 l7_is : IsLine start1 (command.Get d1) 1000 l7
 unfolding refreshed dropped_live placed with_flushed cold_book after_step start_state
-l7_is = record { does = ((event (get_call d1 1000) (found_version None) [] 0 0), refl, refl, refl); legal = (record { begins = refl; counts = lit≤ tt; allowed = inl (None, refl, refl, refl) }, tt); tends = (((event (flush_sealed_call) (counted 0) [] 0 0) ∷ (event (choose_call) (block_chosen None) [] 0 0) ∷ []), [], refl, ((event (flush_sealed_call) (counted 0) [] 0 0), ((event (choose_call) (block_chosen None) [] 0 0) ∷ []), refl, refl, (did 0 0), ((event (choose_call) (block_chosen None) [] 0 0), [], refl, refl, inl (refl, refl, refl))), refl); tending = (record { begins = refl; counts = lit≤ tt; allowed = inl (refl, refl) }, (record { begins = refl; counts = lit≤ tt; allowed = inl (refl, refl) }, tt)) }
+l7_is = record { does = ((event (get_call d1 1000) (found_version None) [] 0 0), refl, refl, refl); legal = (record { begins = refl; counts = lit≤ tt; allowed = inl (None, refl, refl, refl) }, tt); tends = (((event (flush_sealed_call) (counted 0) [] 0 0) ∷ (event (choose_call) (block_chosen None) [] 0 0) ∷ []), [], refl, ((event (flush_sealed_call) (counted 0) [] 0 0), ((event (choose_call) (block_chosen None) [] 0 0) ∷ []), refl, refl, ((did 0 0), ((event (choose_call) (block_chosen None) [] 0 0), [], refl, refl, inl (refl, refl, refl)))), refl); tending = (record { begins = refl; counts = lit≤ tt; allowed = inl (refl, refl) }, (record { begins = refl; counts = lit≤ tt; allowed = inl (refl, refl) }, tt)) }
 
 abbrev n7 : Node
 n7 = (record { setup = (device 16 0 16 false 86400); state = record { log = ((d1, write (a_tombstone (stamp 4 1000)) []) ∷ (d1, write (a_put (stamp 3 1000) 0 true (187 ∷ [])) []) ∷ (d1, write (a_tombstone (stamp 2 1000)) []) ∷ (d1, write (a_put (stamp 1 1000) 0 false (170 ∷ [])) []) ∷ []); book = record { live = ((record { digest = d1; block = 0; unit = 11; units = 3 }) ∷ []); buffers = []; holds = []; free = (1 ∷ 2 ∷ 3 ∷ 4 ∷ 5 ∷ 6 ∷ 7 ∷ 8 ∷ 9 ∷ 10 ∷ 11 ∷ 12 ∷ 13 ∷ 14 ∷ 15 ∷ []); queue = []; flushed_numbers = []; next_number = 2 }; raid = record { number = 0; next = finished; scanned = 0; marked = []; found = [] } }; faults = 0 }) ∷ []
@@ -153,7 +153,7 @@ l8 = served (reply.StatOf (record { records = 0; tombstones = 1; covered = 0; fr
 
 l8_is : IsLine n7 command.Stat 1000 l8
 unfolding refreshed dropped_live placed with_flushed cold_book after_step start_state
-l8_is = record { does = (refl, refl); legal = tt; tends = (((event (flush_sealed_call) (counted 0) [] 0 0) ∷ (event (choose_call) (block_chosen None) [] 0 0) ∷ []), [], refl, ((event (flush_sealed_call) (counted 0) [] 0 0), ((event (choose_call) (block_chosen None) [] 0 0) ∷ []), refl, refl, (did 0 0), ((event (choose_call) (block_chosen None) [] 0 0), [], refl, refl, inl (refl, refl, refl))), refl); tending = (record { begins = refl; counts = lit≤ tt; allowed = inl (refl, refl) }, (record { begins = refl; counts = lit≤ tt; allowed = inl (refl, refl) }, tt)) }
+l8_is = record { does = (refl, refl); legal = tt; tends = (((event (flush_sealed_call) (counted 0) [] 0 0) ∷ (event (choose_call) (block_chosen None) [] 0 0) ∷ []), [], refl, ((event (flush_sealed_call) (counted 0) [] 0 0), ((event (choose_call) (block_chosen None) [] 0 0) ∷ []), refl, refl, ((did 0 0), ((event (choose_call) (block_chosen None) [] 0 0), [], refl, refl, inl (refl, refl, refl)))), refl); tending = (record { begins = refl; counts = lit≤ tt; allowed = inl (refl, refl) }, (record { begins = refl; counts = lit≤ tt; allowed = inl (refl, refl) }, tt)) }
 
 abbrev n8 : Node
 n8 = (record { setup = (device 16 0 16 false 86400); state = record { log = ((d1, write (a_tombstone (stamp 4 1000)) []) ∷ (d1, write (a_put (stamp 3 1000) 0 true (187 ∷ [])) []) ∷ (d1, write (a_tombstone (stamp 2 1000)) []) ∷ (d1, write (a_put (stamp 1 1000) 0 false (170 ∷ [])) []) ∷ []); book = record { live = ((record { digest = d1; block = 0; unit = 11; units = 3 }) ∷ []); buffers = []; holds = []; free = (1 ∷ 2 ∷ 3 ∷ 4 ∷ 5 ∷ 6 ∷ 7 ∷ 8 ∷ 9 ∷ 10 ∷ 11 ∷ 12 ∷ 13 ∷ 14 ∷ 15 ∷ []); queue = []; flushed_numbers = []; next_number = 2 }; raid = record { number = 0; next = finished; scanned = 0; marked = []; found = [] } }; faults = 0 }) ∷ []

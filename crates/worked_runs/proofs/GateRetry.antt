@@ -28,7 +28,7 @@ l1 = served (reply.Done2 1 1000) ((event (put_call d1 0 None (170 ∷ []) 1000) 
 
 l1_is : IsLine start0 (command.Put d1 0 None (170 ∷ [])) 1000 l1
 unfolding refreshed dropped_live placed with_flushed cold_book after_step start_state
-l1_is = record { does = ((event (put_call d1 0 None (170 ∷ []) 1000) (stamp_given (stamp 1 1000)) (wrote d1 (a_put (stamp 1 1000) 0 false (170 ∷ [])) ∷ []) 0 0), refl, refl, refl); legal = (record { begins = refl; counts = lit≤ tt; allowed = inr (inl (refl, refl)) }, tt); tends = (((event (flush_sealed_call) (counted 0) [] 0 0) ∷ (event (choose_call) (block_chosen None) [] 0 0) ∷ []), [], refl, ((event (flush_sealed_call) (counted 0) [] 0 0), ((event (choose_call) (block_chosen None) [] 0 0) ∷ []), refl, refl, (did 0 0), ((event (choose_call) (block_chosen None) [] 0 0), [], refl, refl, inl (refl, refl, refl))), refl); tending = (record { begins = refl; counts = lit≤ tt; allowed = inl (refl, refl) }, (record { begins = refl; counts = lit≤ tt; allowed = inl (refl, refl) }, tt)) }
+l1_is = record { does = ((event (put_call d1 0 None (170 ∷ []) 1000) (stamp_given (stamp 1 1000)) (wrote d1 (a_put (stamp 1 1000) 0 false (170 ∷ [])) ∷ []) 0 0), refl, refl, refl); legal = (record { begins = refl; counts = lit≤ tt; allowed = inr (inl (refl, refl)) }, tt); tends = (((event (flush_sealed_call) (counted 0) [] 0 0) ∷ (event (choose_call) (block_chosen None) [] 0 0) ∷ []), [], refl, ((event (flush_sealed_call) (counted 0) [] 0 0), ((event (choose_call) (block_chosen None) [] 0 0) ∷ []), refl, refl, ((did 0 0), ((event (choose_call) (block_chosen None) [] 0 0), [], refl, refl, inl (refl, refl, refl)))), refl); tending = (record { begins = refl; counts = lit≤ tt; allowed = inl (refl, refl) }, (record { begins = refl; counts = lit≤ tt; allowed = inl (refl, refl) }, tt)) }
 
 abbrev n1 : Node
 n1 = (record { setup = (device 16 0 16 false 86400); state = record { log = ((d1, write (a_put (stamp 1 1000) 0 false (170 ∷ [])) (1 ∷ [])) ∷ []); book = record { live = ((record { digest = d1; block = 0; unit = 0; units = 4 }) ∷ []); buffers = ((record { number = 1; block = 0; stream = client; used = 4; phase = filling }) ∷ []); holds = []; free = (1 ∷ 2 ∷ 3 ∷ 4 ∷ 5 ∷ 6 ∷ 7 ∷ 8 ∷ 9 ∷ 10 ∷ 11 ∷ 12 ∷ 13 ∷ 14 ∷ 15 ∷ []); queue = []; flushed_numbers = []; next_number = 2 }; raid = record { number = 0; next = finished; scanned = 0; marked = []; found = [] } }; faults = 0 }) ∷ []
@@ -43,7 +43,7 @@ l2 = served (reply.Fail why.Fault) ((event (flush_call) (refused disk_fault) (se
 
 l2_is : IsLine n1 command.Flush 1000 l2
 unfolding refreshed dropped_live placed with_flushed cold_book after_step start_state
-l2_is = record { does = (stopped disk_fault, (((event (flush_call) (refused disk_fault) (sealed_stream client ∷ gate_begun 1 ∷ []) 0 1) ∷ []), [], refl, inr (disk_fault, ((event (flush_call) (refused disk_fault) (sealed_stream client ∷ gate_begun 1 ∷ []) 0 1), refl, refl, inr (disk_fault, refl, refl)), refl, refl)), refl); legal = (record { begins = refl; counts = lit≤ tt; allowed = inr (refl, (λ h. lit≤ tt), (gate_begun 1 ∷ []), refl, (flushed_buffer 1, [], refl)) }, tt); tends = (((event (flush_sealed_call) (counted 1) (flushed_buffer 1 ∷ []) 1 1) ∷ (event (choose_call) (block_chosen None) [] 1 1) ∷ []), [], refl, ((event (flush_sealed_call) (counted 1) (flushed_buffer 1 ∷ []) 1 1), ((event (choose_call) (block_chosen None) [] 1 1) ∷ []), refl, refl, (did 0 0), ((event (choose_call) (block_chosen None) [] 1 1), [], refl, refl, inl (refl, refl, refl))), refl); tending = (record { begins = refl; counts = lit≤ tt; allowed = inl (refl, refl) }, (record { begins = refl; counts = lit≤ tt; allowed = inl (refl, refl) }, tt)) }
+l2_is = record { does = (stopped disk_fault, (((event (flush_call) (refused disk_fault) (sealed_stream client ∷ gate_begun 1 ∷ []) 0 1) ∷ []), [], refl, inr (disk_fault, ((event (flush_call) (refused disk_fault) (sealed_stream client ∷ gate_begun 1 ∷ []) 0 1), refl, refl, inr (disk_fault, refl, refl)), refl, refl)), refl); legal = (record { begins = refl; counts = lit≤ tt; allowed = inr (refl, (λ h. lit≤ tt), (gate_begun 1 ∷ []), refl, (flushed_buffer 1, [], refl)) }, tt); tends = (((event (flush_sealed_call) (counted 1) (flushed_buffer 1 ∷ []) 1 1) ∷ (event (choose_call) (block_chosen None) [] 1 1) ∷ []), [], refl, ((event (flush_sealed_call) (counted 1) (flushed_buffer 1 ∷ []) 1 1), ((event (choose_call) (block_chosen None) [] 1 1) ∷ []), refl, refl, ((did 0 0), ((event (choose_call) (block_chosen None) [] 1 1), [], refl, refl, inl (refl, refl, refl)))), refl); tending = (record { begins = refl; counts = lit≤ tt; allowed = inl (refl, refl) }, (record { begins = refl; counts = lit≤ tt; allowed = inl (refl, refl) }, tt)) }
 
 abbrev n2 : Node
 n2 = (record { setup = (device 16 0 16 false 86400); state = record { log = ((d1, write (a_put (stamp 1 1000) 0 false (170 ∷ [])) (1 ∷ [])) ∷ []); book = record { live = ((record { digest = d1; block = 0; unit = 0; units = 4 }) ∷ []); buffers = []; holds = []; free = (1 ∷ 2 ∷ 3 ∷ 4 ∷ 5 ∷ 6 ∷ 7 ∷ 8 ∷ 9 ∷ 10 ∷ 11 ∷ 12 ∷ 13 ∷ 14 ∷ 15 ∷ []); queue = []; flushed_numbers = (1 ∷ []); next_number = 2 }; raid = record { number = 0; next = finished; scanned = 0; marked = []; found = [] } }; faults = 1 }) ∷ []
@@ -58,7 +58,7 @@ l3 = served (reply.Val (stamp 1 1000) 0 (170 ∷ [])) ((event (get_call d1 1000)
 
 l3_is : IsLine n2 (command.Get d1) 1000 l3
 unfolding refreshed dropped_live placed with_flushed cold_book after_step start_state
-l3_is = record { does = ((event (get_call d1 1000) (found_version (Some (a_put (stamp 1 1000) 0 false (170 ∷ [])))) [] 1 1), refl, refl, refl); legal = (record { begins = refl; counts = lit≤ tt; allowed = inl ((Some (a_put (stamp 1 1000) 0 false (170 ∷ []))), refl, refl, refl) }, tt); tends = (((event (flush_sealed_call) (counted 0) [] 1 1) ∷ (event (choose_call) (block_chosen None) [] 1 1) ∷ []), [], refl, ((event (flush_sealed_call) (counted 0) [] 1 1), ((event (choose_call) (block_chosen None) [] 1 1) ∷ []), refl, refl, (did 0 0), ((event (choose_call) (block_chosen None) [] 1 1), [], refl, refl, inl (refl, refl, refl))), refl); tending = (record { begins = refl; counts = lit≤ tt; allowed = inl (refl, refl) }, (record { begins = refl; counts = lit≤ tt; allowed = inl (refl, refl) }, tt)) }
+l3_is = record { does = ((event (get_call d1 1000) (found_version (Some (a_put (stamp 1 1000) 0 false (170 ∷ [])))) [] 1 1), refl, refl, refl); legal = (record { begins = refl; counts = lit≤ tt; allowed = inl ((Some (a_put (stamp 1 1000) 0 false (170 ∷ []))), refl, refl, refl) }, tt); tends = (((event (flush_sealed_call) (counted 0) [] 1 1) ∷ (event (choose_call) (block_chosen None) [] 1 1) ∷ []), [], refl, ((event (flush_sealed_call) (counted 0) [] 1 1), ((event (choose_call) (block_chosen None) [] 1 1) ∷ []), refl, refl, ((did 0 0), ((event (choose_call) (block_chosen None) [] 1 1), [], refl, refl, inl (refl, refl, refl)))), refl); tending = (record { begins = refl; counts = lit≤ tt; allowed = inl (refl, refl) }, (record { begins = refl; counts = lit≤ tt; allowed = inl (refl, refl) }, tt)) }
 
 abbrev n3 : Node
 n3 = (record { setup = (device 16 0 16 false 86400); state = record { log = ((d1, write (a_put (stamp 1 1000) 0 false (170 ∷ [])) (1 ∷ [])) ∷ []); book = record { live = ((record { digest = d1; block = 0; unit = 0; units = 4 }) ∷ []); buffers = []; holds = []; free = (1 ∷ 2 ∷ 3 ∷ 4 ∷ 5 ∷ 6 ∷ 7 ∷ 8 ∷ 9 ∷ 10 ∷ 11 ∷ 12 ∷ 13 ∷ 14 ∷ 15 ∷ []); queue = []; flushed_numbers = (1 ∷ []); next_number = 2 }; raid = record { number = 0; next = finished; scanned = 0; marked = []; found = [] } }; faults = 1 }) ∷ []
@@ -73,7 +73,7 @@ l4 = served (reply.Done1 0) ((event (flush_call) (counted 0) [] 1 1) ∷ []) ((e
 
 l4_is : IsLine n3 command.Flush 1000 l4
 unfolding refreshed dropped_live placed with_flushed cold_book after_step start_state
-l4_is = record { does = (did 0 0, (((event (flush_call) (counted 0) [] 1 1) ∷ []), [], refl, inl (0, 0, ((event (flush_call) (counted 0) [] 1 1), refl, refl, inl (0, refl, refl)), (refl, refl))), refl); legal = (record { begins = refl; counts = lit≤ tt; allowed = inl (refl, refl) }, tt); tends = (((event (flush_sealed_call) (counted 0) [] 1 1) ∷ (event (choose_call) (block_chosen None) [] 1 1) ∷ []), [], refl, ((event (flush_sealed_call) (counted 0) [] 1 1), ((event (choose_call) (block_chosen None) [] 1 1) ∷ []), refl, refl, (did 0 0), ((event (choose_call) (block_chosen None) [] 1 1), [], refl, refl, inl (refl, refl, refl))), refl); tending = (record { begins = refl; counts = lit≤ tt; allowed = inl (refl, refl) }, (record { begins = refl; counts = lit≤ tt; allowed = inl (refl, refl) }, tt)) }
+l4_is = record { does = (did 0 0, (((event (flush_call) (counted 0) [] 1 1) ∷ []), [], refl, inl (0, 0, ((event (flush_call) (counted 0) [] 1 1), refl, refl, inl (0, refl, refl)), (refl, refl))), refl); legal = (record { begins = refl; counts = lit≤ tt; allowed = inl (refl, refl) }, tt); tends = (((event (flush_sealed_call) (counted 0) [] 1 1) ∷ (event (choose_call) (block_chosen None) [] 1 1) ∷ []), [], refl, ((event (flush_sealed_call) (counted 0) [] 1 1), ((event (choose_call) (block_chosen None) [] 1 1) ∷ []), refl, refl, ((did 0 0), ((event (choose_call) (block_chosen None) [] 1 1), [], refl, refl, inl (refl, refl, refl)))), refl); tending = (record { begins = refl; counts = lit≤ tt; allowed = inl (refl, refl) }, (record { begins = refl; counts = lit≤ tt; allowed = inl (refl, refl) }, tt)) }
 
 abbrev n4 : Node
 n4 = (record { setup = (device 16 0 16 false 86400); state = record { log = ((d1, write (a_put (stamp 1 1000) 0 false (170 ∷ [])) (1 ∷ [])) ∷ []); book = record { live = ((record { digest = d1; block = 0; unit = 0; units = 4 }) ∷ []); buffers = []; holds = []; free = (1 ∷ 2 ∷ 3 ∷ 4 ∷ 5 ∷ 6 ∷ 7 ∷ 8 ∷ 9 ∷ 10 ∷ 11 ∷ 12 ∷ 13 ∷ 14 ∷ 15 ∷ []); queue = []; flushed_numbers = (1 ∷ []); next_number = 2 }; raid = record { number = 0; next = finished; scanned = 0; marked = []; found = [] } }; faults = 1 }) ∷ []

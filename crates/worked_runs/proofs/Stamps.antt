@@ -24,7 +24,7 @@ l1 = served (reply.Done2 1 1000) ((event (put_call d1 0 None (170 ∷ []) 1000) 
 
 l1_is : IsLine start0 (command.Put d1 0 None (170 ∷ [])) 1000 l1
 unfolding refreshed dropped_live placed with_flushed cold_book after_step start_state
-l1_is = record { does = ((event (put_call d1 0 None (170 ∷ []) 1000) (stamp_given (stamp 1 1000)) (wrote d1 (a_put (stamp 1 1000) 0 false (170 ∷ [])) ∷ []) 0 0), refl, refl, refl); legal = (record { begins = refl; counts = lit≤ tt; allowed = inr (inl (refl, refl)) }, tt); tends = (((event (flush_sealed_call) (counted 0) [] 0 0) ∷ (event (choose_call) (block_chosen None) [] 0 0) ∷ []), [], refl, ((event (flush_sealed_call) (counted 0) [] 0 0), ((event (choose_call) (block_chosen None) [] 0 0) ∷ []), refl, refl, (did 0 0), ((event (choose_call) (block_chosen None) [] 0 0), [], refl, refl, inl (refl, refl, refl))), refl); tending = (record { begins = refl; counts = lit≤ tt; allowed = inl (refl, refl) }, (record { begins = refl; counts = lit≤ tt; allowed = inl (refl, refl) }, tt)) }
+l1_is = record { does = ((event (put_call d1 0 None (170 ∷ []) 1000) (stamp_given (stamp 1 1000)) (wrote d1 (a_put (stamp 1 1000) 0 false (170 ∷ [])) ∷ []) 0 0), refl, refl, refl); legal = (record { begins = refl; counts = lit≤ tt; allowed = inr (inl (refl, refl)) }, tt); tends = (((event (flush_sealed_call) (counted 0) [] 0 0) ∷ (event (choose_call) (block_chosen None) [] 0 0) ∷ []), [], refl, ((event (flush_sealed_call) (counted 0) [] 0 0), ((event (choose_call) (block_chosen None) [] 0 0) ∷ []), refl, refl, ((did 0 0), ((event (choose_call) (block_chosen None) [] 0 0), [], refl, refl, inl (refl, refl, refl)))), refl); tending = (record { begins = refl; counts = lit≤ tt; allowed = inl (refl, refl) }, (record { begins = refl; counts = lit≤ tt; allowed = inl (refl, refl) }, tt)) }
 
 abbrev n1 : Node
 n1 = (record { setup = (device 16 0 16 false 86400); state = record { log = ((d1, write (a_put (stamp 1 1000) 0 false (170 ∷ [])) (1 ∷ [])) ∷ []); book = record { live = ((record { digest = d1; block = 0; unit = 0; units = 4 }) ∷ []); buffers = ((record { number = 1; block = 0; stream = client; used = 4; phase = filling }) ∷ []); holds = []; free = (1 ∷ 2 ∷ 3 ∷ 4 ∷ 5 ∷ 6 ∷ 7 ∷ 8 ∷ 9 ∷ 10 ∷ 11 ∷ 12 ∷ 13 ∷ 14 ∷ 15 ∷ []); queue = []; flushed_numbers = []; next_number = 2 }; raid = record { number = 0; next = finished; scanned = 0; marked = []; found = [] } }; faults = 0 }) ∷ []
@@ -39,7 +39,7 @@ l2 = served (reply.Done2 2 1000) ((event (bury_call d1 1000) (stamp_given (stamp
 
 l2_is : IsLine n1 (command.Bury d1) 1000 l2
 unfolding refreshed dropped_live placed with_flushed cold_book after_step start_state
-l2_is = record { does = ((event (bury_call d1 1000) (stamp_given (stamp 2 1000)) (wrote d1 (a_tombstone (stamp 2 1000)) ∷ []) 0 0), refl, refl, refl); legal = (record { begins = refl; counts = lit≤ tt; allowed = inr (inl (refl, refl)) }, tt); tends = (((event (flush_sealed_call) (counted 0) [] 0 0) ∷ (event (choose_call) (block_chosen None) [] 0 0) ∷ []), [], refl, ((event (flush_sealed_call) (counted 0) [] 0 0), ((event (choose_call) (block_chosen None) [] 0 0) ∷ []), refl, refl, (did 0 0), ((event (choose_call) (block_chosen None) [] 0 0), [], refl, refl, inl (refl, refl, refl))), refl); tending = (record { begins = refl; counts = lit≤ tt; allowed = inl (refl, refl) }, (record { begins = refl; counts = lit≤ tt; allowed = inl (refl, refl) }, tt)) }
+l2_is = record { does = ((event (bury_call d1 1000) (stamp_given (stamp 2 1000)) (wrote d1 (a_tombstone (stamp 2 1000)) ∷ []) 0 0), refl, refl, refl); legal = (record { begins = refl; counts = lit≤ tt; allowed = inr (inl (refl, refl)) }, tt); tends = (((event (flush_sealed_call) (counted 0) [] 0 0) ∷ (event (choose_call) (block_chosen None) [] 0 0) ∷ []), [], refl, ((event (flush_sealed_call) (counted 0) [] 0 0), ((event (choose_call) (block_chosen None) [] 0 0) ∷ []), refl, refl, ((did 0 0), ((event (choose_call) (block_chosen None) [] 0 0), [], refl, refl, inl (refl, refl, refl)))), refl); tending = (record { begins = refl; counts = lit≤ tt; allowed = inl (refl, refl) }, (record { begins = refl; counts = lit≤ tt; allowed = inl (refl, refl) }, tt)) }
 
 abbrev n2 : Node
 n2 = (record { setup = (device 16 0 16 false 86400); state = record { log = ((d1, write (a_tombstone (stamp 2 1000)) (1 ∷ [])) ∷ (d1, write (a_put (stamp 1 1000) 0 false (170 ∷ [])) (1 ∷ [])) ∷ []); book = record { live = ((record { digest = d1; block = 0; unit = 4; units = 3 }) ∷ []); buffers = ((record { number = 1; block = 0; stream = client; used = 7; phase = filling }) ∷ []); holds = ((1, 0) ∷ []); free = (1 ∷ 2 ∷ 3 ∷ 4 ∷ 5 ∷ 6 ∷ 7 ∷ 8 ∷ 9 ∷ 10 ∷ 11 ∷ 12 ∷ 13 ∷ 14 ∷ 15 ∷ []); queue = []; flushed_numbers = []; next_number = 2 }; raid = record { number = 0; next = finished; scanned = 0; marked = []; found = [] } }; faults = 0 }) ∷ []
@@ -54,7 +54,7 @@ l3 = served reply.Nothing ((event (get_call d1 1000) (found_version None) [] 0 0
 
 l3_is : IsLine n2 (command.Get d1) 1000 l3
 unfolding refreshed dropped_live placed with_flushed cold_book after_step start_state
-l3_is = record { does = ((event (get_call d1 1000) (found_version None) [] 0 0), refl, refl, refl); legal = (record { begins = refl; counts = lit≤ tt; allowed = inl (None, refl, refl, refl) }, tt); tends = (((event (flush_sealed_call) (counted 0) [] 0 0) ∷ (event (choose_call) (block_chosen None) [] 0 0) ∷ []), [], refl, ((event (flush_sealed_call) (counted 0) [] 0 0), ((event (choose_call) (block_chosen None) [] 0 0) ∷ []), refl, refl, (did 0 0), ((event (choose_call) (block_chosen None) [] 0 0), [], refl, refl, inl (refl, refl, refl))), refl); tending = (record { begins = refl; counts = lit≤ tt; allowed = inl (refl, refl) }, (record { begins = refl; counts = lit≤ tt; allowed = inl (refl, refl) }, tt)) }
+l3_is = record { does = ((event (get_call d1 1000) (found_version None) [] 0 0), refl, refl, refl); legal = (record { begins = refl; counts = lit≤ tt; allowed = inl (None, refl, refl, refl) }, tt); tends = (((event (flush_sealed_call) (counted 0) [] 0 0) ∷ (event (choose_call) (block_chosen None) [] 0 0) ∷ []), [], refl, ((event (flush_sealed_call) (counted 0) [] 0 0), ((event (choose_call) (block_chosen None) [] 0 0) ∷ []), refl, refl, ((did 0 0), ((event (choose_call) (block_chosen None) [] 0 0), [], refl, refl, inl (refl, refl, refl)))), refl); tending = (record { begins = refl; counts = lit≤ tt; allowed = inl (refl, refl) }, (record { begins = refl; counts = lit≤ tt; allowed = inl (refl, refl) }, tt)) }
 
 abbrev n3 : Node
 n3 = (record { setup = (device 16 0 16 false 86400); state = record { log = ((d1, write (a_tombstone (stamp 2 1000)) (1 ∷ [])) ∷ (d1, write (a_put (stamp 1 1000) 0 false (170 ∷ [])) (1 ∷ [])) ∷ []); book = record { live = ((record { digest = d1; block = 0; unit = 4; units = 3 }) ∷ []); buffers = ((record { number = 1; block = 0; stream = client; used = 7; phase = filling }) ∷ []); holds = ((1, 0) ∷ []); free = (1 ∷ 2 ∷ 3 ∷ 4 ∷ 5 ∷ 6 ∷ 7 ∷ 8 ∷ 9 ∷ 10 ∷ 11 ∷ 12 ∷ 13 ∷ 14 ∷ 15 ∷ []); queue = []; flushed_numbers = []; next_number = 2 }; raid = record { number = 0; next = finished; scanned = 0; marked = []; found = [] } }; faults = 0 }) ∷ []
@@ -69,7 +69,7 @@ l4 = served (reply.Done2 3 1000) ((event (put_call d1 0 None (187 ∷ []) 1000) 
 
 l4_is : IsLine n3 (command.Put d1 0 None (187 ∷ [])) 1000 l4
 unfolding refreshed dropped_live placed with_flushed cold_book after_step start_state
-l4_is = record { does = ((event (put_call d1 0 None (187 ∷ []) 1000) (stamp_given (stamp 3 1000)) (wrote d1 (a_put (stamp 3 1000) 0 true (187 ∷ [])) ∷ []) 0 0), refl, refl, refl); legal = (record { begins = refl; counts = lit≤ tt; allowed = inr (inl (refl, refl)) }, tt); tends = (((event (flush_sealed_call) (counted 0) [] 0 0) ∷ (event (choose_call) (block_chosen None) [] 0 0) ∷ []), [], refl, ((event (flush_sealed_call) (counted 0) [] 0 0), ((event (choose_call) (block_chosen None) [] 0 0) ∷ []), refl, refl, (did 0 0), ((event (choose_call) (block_chosen None) [] 0 0), [], refl, refl, inl (refl, refl, refl))), refl); tending = (record { begins = refl; counts = lit≤ tt; allowed = inl (refl, refl) }, (record { begins = refl; counts = lit≤ tt; allowed = inl (refl, refl) }, tt)) }
+l4_is = record { does = ((event (put_call d1 0 None (187 ∷ []) 1000) (stamp_given (stamp 3 1000)) (wrote d1 (a_put (stamp 3 1000) 0 true (187 ∷ [])) ∷ []) 0 0), refl, refl, refl); legal = (record { begins = refl; counts = lit≤ tt; allowed = inr (inl (refl, refl)) }, tt); tends = (((event (flush_sealed_call) (counted 0) [] 0 0) ∷ (event (choose_call) (block_chosen None) [] 0 0) ∷ []), [], refl, ((event (flush_sealed_call) (counted 0) [] 0 0), ((event (choose_call) (block_chosen None) [] 0 0) ∷ []), refl, refl, ((did 0 0), ((event (choose_call) (block_chosen None) [] 0 0), [], refl, refl, inl (refl, refl, refl)))), refl); tending = (record { begins = refl; counts = lit≤ tt; allowed = inl (refl, refl) }, (record { begins = refl; counts = lit≤ tt; allowed = inl (refl, refl) }, tt)) }
 
 abbrev n4 : Node
 n4 = (record { setup = (device 16 0 16 false 86400); state = record { log = ((d1, write (a_put (stamp 3 1000) 0 true (187 ∷ [])) (1 ∷ [])) ∷ (d1, write (a_tombstone (stamp 2 1000)) (1 ∷ [])) ∷ (d1, write (a_put (stamp 1 1000) 0 false (170 ∷ [])) (1 ∷ [])) ∷ []); book = record { live = ((record { digest = d1; block = 0; unit = 7; units = 4 }) ∷ []); buffers = ((record { number = 1; block = 0; stream = client; used = 11; phase = filling }) ∷ []); holds = ((1, 0) ∷ (1, 0) ∷ []); free = (1 ∷ 2 ∷ 3 ∷ 4 ∷ 5 ∷ 6 ∷ 7 ∷ 8 ∷ 9 ∷ 10 ∷ 11 ∷ 12 ∷ 13 ∷ 14 ∷ 15 ∷ []); queue = []; flushed_numbers = []; next_number = 2 }; raid = record { number = 0; next = finished; scanned = 0; marked = []; found = [] } }; faults = 0 }) ∷ []
@@ -84,7 +84,7 @@ l5 = served reply.Gone ((event (delete_call d1 1000) (happened true) (wrote d1 (
 
 l5_is : IsLine n4 (command.Del d1) 1000 l5
 unfolding refreshed dropped_live placed with_flushed cold_book after_step start_state
-l5_is = record { does = ((event (delete_call d1 1000) (happened true) (wrote d1 (a_tombstone (stamp 4 1000)) ∷ []) 0 0), refl, refl, refl); legal = (record { begins = refl; counts = lit≤ tt; allowed = inr (inl (refl, refl)) }, tt); tends = (((event (flush_sealed_call) (counted 0) [] 0 0) ∷ (event (choose_call) (block_chosen None) [] 0 0) ∷ []), [], refl, ((event (flush_sealed_call) (counted 0) [] 0 0), ((event (choose_call) (block_chosen None) [] 0 0) ∷ []), refl, refl, (did 0 0), ((event (choose_call) (block_chosen None) [] 0 0), [], refl, refl, inl (refl, refl, refl))), refl); tending = (record { begins = refl; counts = lit≤ tt; allowed = inl (refl, refl) }, (record { begins = refl; counts = lit≤ tt; allowed = inl (refl, refl) }, tt)) }
+l5_is = record { does = ((event (delete_call d1 1000) (happened true) (wrote d1 (a_tombstone (stamp 4 1000)) ∷ []) 0 0), refl, refl, refl); legal = (record { begins = refl; counts = lit≤ tt; allowed = inr (inl (refl, refl)) }, tt); tends = (((event (flush_sealed_call) (counted 0) [] 0 0) ∷ (event (choose_call) (block_chosen None) [] 0 0) ∷ []), [], refl, ((event (flush_sealed_call) (counted 0) [] 0 0), ((event (choose_call) (block_chosen None) [] 0 0) ∷ []), refl, refl, ((did 0 0), ((event (choose_call) (block_chosen None) [] 0 0), [], refl, refl, inl (refl, refl, refl)))), refl); tending = (record { begins = refl; counts = lit≤ tt; allowed = inl (refl, refl) }, (record { begins = refl; counts = lit≤ tt; allowed = inl (refl, refl) }, tt)) }
 
 abbrev n5 : Node
 n5 = (record { setup = (device 16 0 16 false 86400); state = record { log = ((d1, write (a_tombstone (stamp 4 1000)) (1 ∷ [])) ∷ (d1, write (a_put (stamp 3 1000) 0 true (187 ∷ [])) (1 ∷ [])) ∷ (d1, write (a_tombstone (stamp 2 1000)) (1 ∷ [])) ∷ (d1, write (a_put (stamp 1 1000) 0 false (170 ∷ [])) (1 ∷ [])) ∷ []); book = record { live = ((record { digest = d1; block = 0; unit = 11; units = 3 }) ∷ []); buffers = ((record { number = 1; block = 0; stream = client; used = 14; phase = filling }) ∷ []); holds = ((1, 0) ∷ (1, 0) ∷ (1, 0) ∷ []); free = (1 ∷ 2 ∷ 3 ∷ 4 ∷ 5 ∷ 6 ∷ 7 ∷ 8 ∷ 9 ∷ 10 ∷ 11 ∷ 12 ∷ 13 ∷ 14 ∷ 15 ∷ []); queue = []; flushed_numbers = []; next_number = 2 }; raid = record { number = 0; next = finished; scanned = 0; marked = []; found = [] } }; faults = 0 }) ∷ []
@@ -99,7 +99,7 @@ l6 = served reply.Nothing ((event (delete_call d1 1000) (happened false) [] 0 0)
 
 l6_is : IsLine n5 (command.Del d1) 1000 l6
 unfolding refreshed dropped_live placed with_flushed cold_book after_step start_state
-l6_is = record { does = ((event (delete_call d1 1000) (happened false) [] 0 0), refl, refl, refl); legal = (record { begins = refl; counts = lit≤ tt; allowed = (refl, refl) }, tt); tends = (((event (flush_sealed_call) (counted 0) [] 0 0) ∷ (event (choose_call) (block_chosen None) [] 0 0) ∷ []), [], refl, ((event (flush_sealed_call) (counted 0) [] 0 0), ((event (choose_call) (block_chosen None) [] 0 0) ∷ []), refl, refl, (did 0 0), ((event (choose_call) (block_chosen None) [] 0 0), [], refl, refl, inl (refl, refl, refl))), refl); tending = (record { begins = refl; counts = lit≤ tt; allowed = inl (refl, refl) }, (record { begins = refl; counts = lit≤ tt; allowed = inl (refl, refl) }, tt)) }
+l6_is = record { does = ((event (delete_call d1 1000) (happened false) [] 0 0), refl, refl, refl); legal = (record { begins = refl; counts = lit≤ tt; allowed = (refl, refl) }, tt); tends = (((event (flush_sealed_call) (counted 0) [] 0 0) ∷ (event (choose_call) (block_chosen None) [] 0 0) ∷ []), [], refl, ((event (flush_sealed_call) (counted 0) [] 0 0), ((event (choose_call) (block_chosen None) [] 0 0) ∷ []), refl, refl, ((did 0 0), ((event (choose_call) (block_chosen None) [] 0 0), [], refl, refl, inl (refl, refl, refl)))), refl); tending = (record { begins = refl; counts = lit≤ tt; allowed = inl (refl, refl) }, (record { begins = refl; counts = lit≤ tt; allowed = inl (refl, refl) }, tt)) }
 
 abbrev n6 : Node
 n6 = (record { setup = (device 16 0 16 false 86400); state = record { log = ((d1, write (a_tombstone (stamp 4 1000)) (1 ∷ [])) ∷ (d1, write (a_put (stamp 3 1000) 0 true (187 ∷ [])) (1 ∷ [])) ∷ (d1, write (a_tombstone (stamp 2 1000)) (1 ∷ [])) ∷ (d1, write (a_put (stamp 1 1000) 0 false (170 ∷ [])) (1 ∷ [])) ∷ []); book = record { live = ((record { digest = d1; block = 0; unit = 11; units = 3 }) ∷ []); buffers = ((record { number = 1; block = 0; stream = client; used = 14; phase = filling }) ∷ []); holds = ((1, 0) ∷ (1, 0) ∷ (1, 0) ∷ []); free = (1 ∷ 2 ∷ 3 ∷ 4 ∷ 5 ∷ 6 ∷ 7 ∷ 8 ∷ 9 ∷ 10 ∷ 11 ∷ 12 ∷ 13 ∷ 14 ∷ 15 ∷ []); queue = []; flushed_numbers = []; next_number = 2 }; raid = record { number = 0; next = finished; scanned = 0; marked = []; found = [] } }; faults = 0 }) ∷ []
@@ -114,7 +114,7 @@ l7 = served (reply.Done2 5 1000) ((event (put_call d1 0 (Some 0) (204 ∷ []) 10
 
 l7_is : IsLine n6 (command.Put d1 0 (Some 0) (204 ∷ [])) 1000 l7
 unfolding refreshed dropped_live placed with_flushed cold_book after_step start_state
-l7_is = record { does = ((event (put_call d1 0 (Some 0) (204 ∷ []) 1000) (stamp_given (stamp 5 1000)) (wrote d1 (a_put (stamp 5 1000) 0 true (204 ∷ [])) ∷ []) 0 0), refl, refl, refl); legal = (record { begins = refl; counts = lit≤ tt; allowed = inr (inl (refl, refl)) }, tt); tends = (((event (flush_sealed_call) (counted 0) [] 0 0) ∷ (event (choose_call) (block_chosen None) [] 0 0) ∷ []), [], refl, ((event (flush_sealed_call) (counted 0) [] 0 0), ((event (choose_call) (block_chosen None) [] 0 0) ∷ []), refl, refl, (did 0 0), ((event (choose_call) (block_chosen None) [] 0 0), [], refl, refl, inl (refl, refl, refl))), refl); tending = (record { begins = refl; counts = lit≤ tt; allowed = inl (refl, refl) }, (record { begins = refl; counts = lit≤ tt; allowed = inl (refl, refl) }, tt)) }
+l7_is = record { does = ((event (put_call d1 0 (Some 0) (204 ∷ []) 1000) (stamp_given (stamp 5 1000)) (wrote d1 (a_put (stamp 5 1000) 0 true (204 ∷ [])) ∷ []) 0 0), refl, refl, refl); legal = (record { begins = refl; counts = lit≤ tt; allowed = inr (inl (refl, refl)) }, tt); tends = (((event (flush_sealed_call) (counted 0) [] 0 0) ∷ (event (choose_call) (block_chosen None) [] 0 0) ∷ []), [], refl, ((event (flush_sealed_call) (counted 0) [] 0 0), ((event (choose_call) (block_chosen None) [] 0 0) ∷ []), refl, refl, ((did 0 0), ((event (choose_call) (block_chosen None) [] 0 0), [], refl, refl, inl (refl, refl, refl)))), refl); tending = (record { begins = refl; counts = lit≤ tt; allowed = inl (refl, refl) }, (record { begins = refl; counts = lit≤ tt; allowed = inl (refl, refl) }, tt)) }
 
 abbrev n7 : Node
 n7 = (record { setup = (device 16 0 16 false 86400); state = record { log = ((d1, write (a_put (stamp 5 1000) 0 true (204 ∷ [])) (1 ∷ [])) ∷ (d1, write (a_tombstone (stamp 4 1000)) (1 ∷ [])) ∷ (d1, write (a_put (stamp 3 1000) 0 true (187 ∷ [])) (1 ∷ [])) ∷ (d1, write (a_tombstone (stamp 2 1000)) (1 ∷ [])) ∷ (d1, write (a_put (stamp 1 1000) 0 false (170 ∷ [])) (1 ∷ [])) ∷ []); book = record { live = ((record { digest = d1; block = 0; unit = 14; units = 4 }) ∷ []); buffers = ((record { number = 1; block = 0; stream = client; used = 18; phase = filling }) ∷ []); holds = ((1, 0) ∷ (1, 0) ∷ (1, 0) ∷ (1, 0) ∷ []); free = (1 ∷ 2 ∷ 3 ∷ 4 ∷ 5 ∷ 6 ∷ 7 ∷ 8 ∷ 9 ∷ 10 ∷ 11 ∷ 12 ∷ 13 ∷ 14 ∷ 15 ∷ []); queue = []; flushed_numbers = []; next_number = 2 }; raid = record { number = 0; next = finished; scanned = 0; marked = []; found = [] } }; faults = 0 }) ∷ []
@@ -129,7 +129,7 @@ l8 = served (reply.Done2 1 1001) ((event (put_call d3 0 None (170 ∷ []) 1000) 
 
 l8_is : IsLine n7 (command.Put d3 0 None (170 ∷ [])) 1000 l8
 unfolding refreshed dropped_live placed with_flushed cold_book after_step start_state
-l8_is = record { does = ((event (put_call d3 0 None (170 ∷ []) 1000) (stamp_given (stamp 1 1001)) (wrote d3 (a_put (stamp 1 1001) 0 false (170 ∷ [])) ∷ []) 0 0), refl, refl, refl); legal = (record { begins = refl; counts = lit≤ tt; allowed = inr (inl (refl, refl)) }, tt); tends = (((event (flush_sealed_call) (counted 0) [] 0 0) ∷ (event (choose_call) (block_chosen None) [] 0 0) ∷ []), [], refl, ((event (flush_sealed_call) (counted 0) [] 0 0), ((event (choose_call) (block_chosen None) [] 0 0) ∷ []), refl, refl, (did 0 0), ((event (choose_call) (block_chosen None) [] 0 0), [], refl, refl, inl (refl, refl, refl))), refl); tending = (record { begins = refl; counts = lit≤ tt; allowed = inl (refl, refl) }, (record { begins = refl; counts = lit≤ tt; allowed = inl (refl, refl) }, tt)) }
+l8_is = record { does = ((event (put_call d3 0 None (170 ∷ []) 1000) (stamp_given (stamp 1 1001)) (wrote d3 (a_put (stamp 1 1001) 0 false (170 ∷ [])) ∷ []) 0 0), refl, refl, refl); legal = (record { begins = refl; counts = lit≤ tt; allowed = inr (inl (refl, refl)) }, tt); tends = (((event (flush_sealed_call) (counted 0) [] 0 0) ∷ (event (choose_call) (block_chosen None) [] 0 0) ∷ []), [], refl, ((event (flush_sealed_call) (counted 0) [] 0 0), ((event (choose_call) (block_chosen None) [] 0 0) ∷ []), refl, refl, ((did 0 0), ((event (choose_call) (block_chosen None) [] 0 0), [], refl, refl, inl (refl, refl, refl)))), refl); tending = (record { begins = refl; counts = lit≤ tt; allowed = inl (refl, refl) }, (record { begins = refl; counts = lit≤ tt; allowed = inl (refl, refl) }, tt)) }
 
 abbrev n8 : Node
 n8 = (record { setup = (device 16 0 16 false 86400); state = record { log = ((d3, write (a_put (stamp 1 1001) 0 false (170 ∷ [])) (1 ∷ [])) ∷ (d1, write (a_put (stamp 5 1000) 0 true (204 ∷ [])) (1 ∷ [])) ∷ (d1, write (a_tombstone (stamp 4 1000)) (1 ∷ [])) ∷ (d1, write (a_put (stamp 3 1000) 0 true (187 ∷ [])) (1 ∷ [])) ∷ (d1, write (a_tombstone (stamp 2 1000)) (1 ∷ [])) ∷ (d1, write (a_put (stamp 1 1000) 0 false (170 ∷ [])) (1 ∷ [])) ∷ []); book = record { live = ((record { digest = d3; block = 0; unit = 18; units = 4 }) ∷ (record { digest = d1; block = 0; unit = 14; units = 4 }) ∷ []); buffers = ((record { number = 1; block = 0; stream = client; used = 22; phase = filling }) ∷ []); holds = ((1, 0) ∷ (1, 0) ∷ (1, 0) ∷ (1, 0) ∷ []); free = (1 ∷ 2 ∷ 3 ∷ 4 ∷ 5 ∷ 6 ∷ 7 ∷ 8 ∷ 9 ∷ 10 ∷ 11 ∷ 12 ∷ 13 ∷ 14 ∷ 15 ∷ []); queue = []; flushed_numbers = []; next_number = 2 }; raid = record { number = 0; next = finished; scanned = 0; marked = []; found = [] } }; faults = 0 }) ∷ []
@@ -144,7 +144,7 @@ l9 = served reply.Gone ((event (delete_call d3 1000) (happened true) (removed d3
 
 l9_is : IsLine n8 (command.Del d3) 1000 l9
 unfolding refreshed dropped_live placed with_flushed cold_book after_step start_state
-l9_is = record { does = ((event (delete_call d3 1000) (happened true) (removed d3 ∷ []) 0 0), refl, refl, refl); legal = (record { begins = refl; counts = lit≤ tt; allowed = (refl, refl) }, tt); tends = (((event (flush_sealed_call) (counted 0) [] 0 0) ∷ (event (choose_call) (block_chosen None) [] 0 0) ∷ []), [], refl, ((event (flush_sealed_call) (counted 0) [] 0 0), ((event (choose_call) (block_chosen None) [] 0 0) ∷ []), refl, refl, (did 0 0), ((event (choose_call) (block_chosen None) [] 0 0), [], refl, refl, inl (refl, refl, refl))), refl); tending = (record { begins = refl; counts = lit≤ tt; allowed = inl (refl, refl) }, (record { begins = refl; counts = lit≤ tt; allowed = inl (refl, refl) }, tt)) }
+l9_is = record { does = ((event (delete_call d3 1000) (happened true) (removed d3 ∷ []) 0 0), refl, refl, refl); legal = (record { begins = refl; counts = lit≤ tt; allowed = (refl, refl) }, tt); tends = (((event (flush_sealed_call) (counted 0) [] 0 0) ∷ (event (choose_call) (block_chosen None) [] 0 0) ∷ []), [], refl, ((event (flush_sealed_call) (counted 0) [] 0 0), ((event (choose_call) (block_chosen None) [] 0 0) ∷ []), refl, refl, ((did 0 0), ((event (choose_call) (block_chosen None) [] 0 0), [], refl, refl, inl (refl, refl, refl)))), refl); tending = (record { begins = refl; counts = lit≤ tt; allowed = inl (refl, refl) }, (record { begins = refl; counts = lit≤ tt; allowed = inl (refl, refl) }, tt)) }
 
 abbrev n9 : Node
 n9 = (record { setup = (device 16 0 16 false 86400); state = record { log = ((d3, dropped) ∷ (d3, write (a_put (stamp 1 1001) 0 false (170 ∷ [])) (1 ∷ [])) ∷ (d1, write (a_put (stamp 5 1000) 0 true (204 ∷ [])) (1 ∷ [])) ∷ (d1, write (a_tombstone (stamp 4 1000)) (1 ∷ [])) ∷ (d1, write (a_put (stamp 3 1000) 0 true (187 ∷ [])) (1 ∷ [])) ∷ (d1, write (a_tombstone (stamp 2 1000)) (1 ∷ [])) ∷ (d1, write (a_put (stamp 1 1000) 0 false (170 ∷ [])) (1 ∷ [])) ∷ []); book = record { live = ((record { digest = d1; block = 0; unit = 14; units = 4 }) ∷ []); buffers = ((record { number = 1; block = 0; stream = client; used = 22; phase = filling }) ∷ []); holds = ((1, 0) ∷ (1, 0) ∷ (1, 0) ∷ (1, 0) ∷ []); free = (1 ∷ 2 ∷ 3 ∷ 4 ∷ 5 ∷ 6 ∷ 7 ∷ 8 ∷ 9 ∷ 10 ∷ 11 ∷ 12 ∷ 13 ∷ 14 ∷ 15 ∷ []); queue = []; flushed_numbers = []; next_number = 2 }; raid = record { number = 0; next = finished; scanned = 0; marked = []; found = [] } }; faults = 0 }) ∷ []
@@ -159,7 +159,7 @@ l10 = served (reply.Done2 1 1002) ((event (put_call d3 0 None (221 ∷ []) 1000)
 
 l10_is : IsLine n9 (command.Put d3 0 None (221 ∷ [])) 1000 l10
 unfolding refreshed dropped_live placed with_flushed cold_book after_step start_state
-l10_is = record { does = ((event (put_call d3 0 None (221 ∷ []) 1000) (stamp_given (stamp 1 1002)) (wrote d3 (a_put (stamp 1 1002) 0 false (221 ∷ [])) ∷ []) 0 0), refl, refl, refl); legal = (record { begins = refl; counts = lit≤ tt; allowed = inr (inl (refl, refl)) }, tt); tends = (((event (flush_sealed_call) (counted 0) [] 0 0) ∷ (event (choose_call) (block_chosen None) [] 0 0) ∷ []), [], refl, ((event (flush_sealed_call) (counted 0) [] 0 0), ((event (choose_call) (block_chosen None) [] 0 0) ∷ []), refl, refl, (did 0 0), ((event (choose_call) (block_chosen None) [] 0 0), [], refl, refl, inl (refl, refl, refl))), refl); tending = (record { begins = refl; counts = lit≤ tt; allowed = inl (refl, refl) }, (record { begins = refl; counts = lit≤ tt; allowed = inl (refl, refl) }, tt)) }
+l10_is = record { does = ((event (put_call d3 0 None (221 ∷ []) 1000) (stamp_given (stamp 1 1002)) (wrote d3 (a_put (stamp 1 1002) 0 false (221 ∷ [])) ∷ []) 0 0), refl, refl, refl); legal = (record { begins = refl; counts = lit≤ tt; allowed = inr (inl (refl, refl)) }, tt); tends = (((event (flush_sealed_call) (counted 0) [] 0 0) ∷ (event (choose_call) (block_chosen None) [] 0 0) ∷ []), [], refl, ((event (flush_sealed_call) (counted 0) [] 0 0), ((event (choose_call) (block_chosen None) [] 0 0) ∷ []), refl, refl, ((did 0 0), ((event (choose_call) (block_chosen None) [] 0 0), [], refl, refl, inl (refl, refl, refl)))), refl); tending = (record { begins = refl; counts = lit≤ tt; allowed = inl (refl, refl) }, (record { begins = refl; counts = lit≤ tt; allowed = inl (refl, refl) }, tt)) }
 
 abbrev n10 : Node
 n10 = (record { setup = (device 16 0 16 false 86400); state = record { log = ((d3, write (a_put (stamp 1 1002) 0 false (221 ∷ [])) (1 ∷ [])) ∷ (d3, dropped) ∷ (d3, write (a_put (stamp 1 1001) 0 false (170 ∷ [])) (1 ∷ [])) ∷ (d1, write (a_put (stamp 5 1000) 0 true (204 ∷ [])) (1 ∷ [])) ∷ (d1, write (a_tombstone (stamp 4 1000)) (1 ∷ [])) ∷ (d1, write (a_put (stamp 3 1000) 0 true (187 ∷ [])) (1 ∷ [])) ∷ (d1, write (a_tombstone (stamp 2 1000)) (1 ∷ [])) ∷ (d1, write (a_put (stamp 1 1000) 0 false (170 ∷ [])) (1 ∷ [])) ∷ []); book = record { live = ((record { digest = d3; block = 0; unit = 22; units = 4 }) ∷ (record { digest = d1; block = 0; unit = 14; units = 4 }) ∷ []); buffers = ((record { number = 1; block = 0; stream = client; used = 26; phase = filling }) ∷ []); holds = ((1, 0) ∷ (1, 0) ∷ (1, 0) ∷ (1, 0) ∷ []); free = (1 ∷ 2 ∷ 3 ∷ 4 ∷ 5 ∷ 6 ∷ 7 ∷ 8 ∷ 9 ∷ 10 ∷ 11 ∷ 12 ∷ 13 ∷ 14 ∷ 15 ∷ []); queue = []; flushed_numbers = []; next_number = 2 }; raid = record { number = 0; next = finished; scanned = 0; marked = []; found = [] } }; faults = 0 }) ∷ []

@@ -24,7 +24,7 @@ l1 = served (reply.Done2 1 1000) ((event (put_call (a_digest 1) 0 None (replicat
 
 l1_is : IsLine start0 (command.Put (a_digest 1) 0 None (replicate 4752 0)) 1000 l1
 unfolding refreshed dropped_live placed with_flushed cold_book after_step start_state
-l1_is = record { does = ((event (put_call (a_digest 1) 0 None (replicate 4752 0) 1000) (stamp_given (stamp 1 1000)) (wrote (a_digest 1) (a_put (stamp 1 1000) 0 false (replicate 4752 0)) ∷ []) 0 0), refl, refl, refl); legal = (record { begins = refl; counts = lit≤ tt; allowed = inr (inl (refl, refl)) }, tt); tends = (((event (flush_sealed_call) (counted 0) [] 0 0) ∷ (event (choose_call) (block_chosen None) [] 0 0) ∷ []), [], refl, ((event (flush_sealed_call) (counted 0) [] 0 0), ((event (choose_call) (block_chosen None) [] 0 0) ∷ []), refl, refl, (did 0 0), ((event (choose_call) (block_chosen None) [] 0 0), [], refl, refl, inl (refl, refl, refl))), refl); tending = (record { begins = refl; counts = lit≤ tt; allowed = inl (refl, refl) }, (record { begins = refl; counts = lit≤ tt; allowed = inl (refl, refl) }, tt)) }
+l1_is = record { does = ((event (put_call (a_digest 1) 0 None (replicate 4752 0) 1000) (stamp_given (stamp 1 1000)) (wrote (a_digest 1) (a_put (stamp 1 1000) 0 false (replicate 4752 0)) ∷ []) 0 0), refl, refl, refl); legal = (record { begins = refl; counts = lit≤ tt; allowed = inr (inl (refl, refl)) }, tt); tends = (((event (flush_sealed_call) (counted 0) [] 0 0) ∷ (event (choose_call) (block_chosen None) [] 0 0) ∷ []), [], refl, ((event (flush_sealed_call) (counted 0) [] 0 0), ((event (choose_call) (block_chosen None) [] 0 0) ∷ []), refl, refl, ((did 0 0), ((event (choose_call) (block_chosen None) [] 0 0), [], refl, refl, inl (refl, refl, refl)))), refl); tending = (record { begins = refl; counts = lit≤ tt; allowed = inl (refl, refl) }, (record { begins = refl; counts = lit≤ tt; allowed = inl (refl, refl) }, tt)) }
 
 abbrev n1 : Node
 n1 = (record { setup = (device 16 50 16 false 86400); state = record { log = (((a_digest 1), write (a_put (stamp 1 1000) 0 false (replicate 4752 0)) (1 ∷ [])) ∷ []); book = record { live = ((record { digest = (a_digest 1); block = 0; unit = 0; units = 300 }) ∷ []); buffers = ((record { number = 1; block = 0; stream = client; used = 300; phase = filling }) ∷ []); holds = []; free = (1 ∷ 2 ∷ 3 ∷ 4 ∷ 5 ∷ 6 ∷ 7 ∷ 8 ∷ 9 ∷ 10 ∷ 11 ∷ 12 ∷ 13 ∷ 14 ∷ 15 ∷ []); queue = []; flushed_numbers = []; next_number = 2 }; raid = record { number = 0; next = finished; scanned = 0; marked = []; found = [] } }; faults = 0 }) ∷ []
@@ -39,7 +39,7 @@ l2 = served (reply.Done2 1 1000) ((event (put_call (a_digest 2) 0 None (replicat
 
 l2_is : IsLine n1 (command.Put (a_digest 2) 0 None (replicate 6352 0)) 1000 l2
 unfolding refreshed dropped_live placed with_flushed cold_book after_step start_state
-l2_is = record { does = ((event (put_call (a_digest 2) 0 None (replicate 6352 0) 1000) (stamp_given (stamp 1 1000)) (wrote (a_digest 2) (a_put (stamp 1 1000) 0 false (replicate 6352 0)) ∷ []) 0 0), refl, refl, refl); legal = (record { begins = refl; counts = lit≤ tt; allowed = inr (inl (refl, refl)) }, tt); tends = (((event (flush_sealed_call) (counted 0) [] 0 0) ∷ (event (choose_call) (block_chosen None) [] 0 0) ∷ []), [], refl, ((event (flush_sealed_call) (counted 0) [] 0 0), ((event (choose_call) (block_chosen None) [] 0 0) ∷ []), refl, refl, (did 0 0), ((event (choose_call) (block_chosen None) [] 0 0), [], refl, refl, inl (refl, refl, refl))), refl); tending = (record { begins = refl; counts = lit≤ tt; allowed = inl (refl, refl) }, (record { begins = refl; counts = lit≤ tt; allowed = inl (refl, refl) }, tt)) }
+l2_is = record { does = ((event (put_call (a_digest 2) 0 None (replicate 6352 0) 1000) (stamp_given (stamp 1 1000)) (wrote (a_digest 2) (a_put (stamp 1 1000) 0 false (replicate 6352 0)) ∷ []) 0 0), refl, refl, refl); legal = (record { begins = refl; counts = lit≤ tt; allowed = inr (inl (refl, refl)) }, tt); tends = (((event (flush_sealed_call) (counted 0) [] 0 0) ∷ (event (choose_call) (block_chosen None) [] 0 0) ∷ []), [], refl, ((event (flush_sealed_call) (counted 0) [] 0 0), ((event (choose_call) (block_chosen None) [] 0 0) ∷ []), refl, refl, ((did 0 0), ((event (choose_call) (block_chosen None) [] 0 0), [], refl, refl, inl (refl, refl, refl)))), refl); tending = (record { begins = refl; counts = lit≤ tt; allowed = inl (refl, refl) }, (record { begins = refl; counts = lit≤ tt; allowed = inl (refl, refl) }, tt)) }
 
 abbrev n2 : Node
 n2 = (record { setup = (device 16 50 16 false 86400); state = record { log = (((a_digest 2), write (a_put (stamp 1 1000) 0 false (replicate 6352 0)) (1 ∷ [])) ∷ ((a_digest 1), write (a_put (stamp 1 1000) 0 false (replicate 4752 0)) (1 ∷ [])) ∷ []); book = record { live = ((record { digest = (a_digest 2); block = 0; unit = 300; units = 400 }) ∷ (record { digest = (a_digest 1); block = 0; unit = 0; units = 300 }) ∷ []); buffers = ((record { number = 1; block = 0; stream = client; used = 700; phase = filling }) ∷ []); holds = []; free = (1 ∷ 2 ∷ 3 ∷ 4 ∷ 5 ∷ 6 ∷ 7 ∷ 8 ∷ 9 ∷ 10 ∷ 11 ∷ 12 ∷ 13 ∷ 14 ∷ 15 ∷ []); queue = []; flushed_numbers = []; next_number = 2 }; raid = record { number = 0; next = finished; scanned = 0; marked = []; found = [] } }; faults = 0 }) ∷ []
@@ -54,7 +54,7 @@ l3 = served (reply.Done2 1 1000) ((event (put_call (a_digest 3) 0 None (replicat
 
 l3_is : IsLine n2 (command.Put (a_digest 3) 0 None (replicate 4752 0)) 1000 l3
 unfolding refreshed dropped_live placed with_flushed cold_book after_step start_state
-l3_is = record { does = ((event (put_call (a_digest 3) 0 None (replicate 4752 0) 1000) (stamp_given (stamp 1 1000)) (wrote (a_digest 3) (a_put (stamp 1 1000) 0 false (replicate 4752 0)) ∷ []) 0 0), refl, refl, refl); legal = (record { begins = refl; counts = lit≤ tt; allowed = inr (inl (refl, refl)) }, tt); tends = (((event (flush_sealed_call) (counted 1) (gate_begun 1 ∷ flushed_buffer 1 ∷ []) 0 0) ∷ (event (choose_call) (block_chosen None) [] 0 0) ∷ []), [], refl, ((event (flush_sealed_call) (counted 1) (gate_begun 1 ∷ flushed_buffer 1 ∷ []) 0 0), ((event (choose_call) (block_chosen None) [] 0 0) ∷ []), refl, refl, (did 0 0), ((event (choose_call) (block_chosen None) [] 0 0), [], refl, refl, inl (refl, refl, refl))), refl); tending = (record { begins = refl; counts = lit≤ tt; allowed = inl (refl, refl) }, (record { begins = refl; counts = lit≤ tt; allowed = inl (refl, refl) }, tt)) }
+l3_is = record { does = ((event (put_call (a_digest 3) 0 None (replicate 4752 0) 1000) (stamp_given (stamp 1 1000)) (wrote (a_digest 3) (a_put (stamp 1 1000) 0 false (replicate 4752 0)) ∷ []) 0 0), refl, refl, refl); legal = (record { begins = refl; counts = lit≤ tt; allowed = inr (inl (refl, refl)) }, tt); tends = (((event (flush_sealed_call) (counted 1) (gate_begun 1 ∷ flushed_buffer 1 ∷ []) 0 0) ∷ (event (choose_call) (block_chosen None) [] 0 0) ∷ []), [], refl, ((event (flush_sealed_call) (counted 1) (gate_begun 1 ∷ flushed_buffer 1 ∷ []) 0 0), ((event (choose_call) (block_chosen None) [] 0 0) ∷ []), refl, refl, ((did 0 0), ((event (choose_call) (block_chosen None) [] 0 0), [], refl, refl, inl (refl, refl, refl)))), refl); tending = (record { begins = refl; counts = lit≤ tt; allowed = inl (refl, refl) }, (record { begins = refl; counts = lit≤ tt; allowed = inl (refl, refl) }, tt)) }
 
 abbrev n3 : Node
 n3 = (record { setup = (device 16 50 16 false 86400); state = record { log = (((a_digest 3), write (a_put (stamp 1 1000) 0 false (replicate 4752 0)) (2 ∷ [])) ∷ ((a_digest 2), write (a_put (stamp 1 1000) 0 false (replicate 6352 0)) (1 ∷ [])) ∷ ((a_digest 1), write (a_put (stamp 1 1000) 0 false (replicate 4752 0)) (1 ∷ [])) ∷ []); book = record { live = ((record { digest = (a_digest 3); block = 1; unit = 0; units = 300 }) ∷ (record { digest = (a_digest 2); block = 0; unit = 300; units = 400 }) ∷ (record { digest = (a_digest 1); block = 0; unit = 0; units = 300 }) ∷ []); buffers = ((record { number = 2; block = 1; stream = client; used = 300; phase = filling }) ∷ []); holds = []; free = (2 ∷ 3 ∷ 4 ∷ 5 ∷ 6 ∷ 7 ∷ 8 ∷ 9 ∷ 10 ∷ 11 ∷ 12 ∷ 13 ∷ 14 ∷ 15 ∷ []); queue = []; flushed_numbers = (1 ∷ []); next_number = 3 }; raid = record { number = 0; next = finished; scanned = 0; marked = []; found = [] } }; faults = 0 }) ∷ []
@@ -69,7 +69,7 @@ l4 = served (reply.Done2 1 1000) ((event (put_call (a_digest 4) 0 None (replicat
 
 l4_is : IsLine n3 (command.Put (a_digest 4) 0 None (replicate 6352 0)) 1000 l4
 unfolding refreshed dropped_live placed with_flushed cold_book after_step start_state
-l4_is = record { does = ((event (put_call (a_digest 4) 0 None (replicate 6352 0) 1000) (stamp_given (stamp 1 1000)) (wrote (a_digest 4) (a_put (stamp 1 1000) 0 false (replicate 6352 0)) ∷ []) 0 0), refl, refl, refl); legal = (record { begins = refl; counts = lit≤ tt; allowed = inr (inl (refl, refl)) }, tt); tends = (((event (flush_sealed_call) (counted 0) [] 0 0) ∷ (event (choose_call) (block_chosen None) [] 0 0) ∷ []), [], refl, ((event (flush_sealed_call) (counted 0) [] 0 0), ((event (choose_call) (block_chosen None) [] 0 0) ∷ []), refl, refl, (did 0 0), ((event (choose_call) (block_chosen None) [] 0 0), [], refl, refl, inl (refl, refl, refl))), refl); tending = (record { begins = refl; counts = lit≤ tt; allowed = inl (refl, refl) }, (record { begins = refl; counts = lit≤ tt; allowed = inl (refl, refl) }, tt)) }
+l4_is = record { does = ((event (put_call (a_digest 4) 0 None (replicate 6352 0) 1000) (stamp_given (stamp 1 1000)) (wrote (a_digest 4) (a_put (stamp 1 1000) 0 false (replicate 6352 0)) ∷ []) 0 0), refl, refl, refl); legal = (record { begins = refl; counts = lit≤ tt; allowed = inr (inl (refl, refl)) }, tt); tends = (((event (flush_sealed_call) (counted 0) [] 0 0) ∷ (event (choose_call) (block_chosen None) [] 0 0) ∷ []), [], refl, ((event (flush_sealed_call) (counted 0) [] 0 0), ((event (choose_call) (block_chosen None) [] 0 0) ∷ []), refl, refl, ((did 0 0), ((event (choose_call) (block_chosen None) [] 0 0), [], refl, refl, inl (refl, refl, refl)))), refl); tending = (record { begins = refl; counts = lit≤ tt; allowed = inl (refl, refl) }, (record { begins = refl; counts = lit≤ tt; allowed = inl (refl, refl) }, tt)) }
 
 abbrev n4 : Node
 n4 = (record { setup = (device 16 50 16 false 86400); state = record { log = (((a_digest 4), write (a_put (stamp 1 1000) 0 false (replicate 6352 0)) (2 ∷ [])) ∷ ((a_digest 3), write (a_put (stamp 1 1000) 0 false (replicate 4752 0)) (2 ∷ [])) ∷ ((a_digest 2), write (a_put (stamp 1 1000) 0 false (replicate 6352 0)) (1 ∷ [])) ∷ ((a_digest 1), write (a_put (stamp 1 1000) 0 false (replicate 4752 0)) (1 ∷ [])) ∷ []); book = record { live = ((record { digest = (a_digest 4); block = 1; unit = 300; units = 400 }) ∷ (record { digest = (a_digest 3); block = 1; unit = 0; units = 300 }) ∷ (record { digest = (a_digest 2); block = 0; unit = 300; units = 400 }) ∷ (record { digest = (a_digest 1); block = 0; unit = 0; units = 300 }) ∷ []); buffers = ((record { number = 2; block = 1; stream = client; used = 700; phase = filling }) ∷ []); holds = []; free = (2 ∷ 3 ∷ 4 ∷ 5 ∷ 6 ∷ 7 ∷ 8 ∷ 9 ∷ 10 ∷ 11 ∷ 12 ∷ 13 ∷ 14 ∷ 15 ∷ []); queue = []; flushed_numbers = (1 ∷ []); next_number = 3 }; raid = record { number = 0; next = finished; scanned = 0; marked = []; found = [] } }; faults = 0 }) ∷ []
@@ -84,7 +84,7 @@ l5 = served (reply.Done1 1) ((event (flush_call) (counted 1) (sealed_stream clie
 
 l5_is : IsLine n4 command.Flush 1000 l5
 unfolding refreshed dropped_live placed with_flushed cold_book after_step start_state
-l5_is = record { does = (did 1 0, (((event (flush_call) (counted 1) (sealed_stream client ∷ gate_begun 2 ∷ flushed_buffer 2 ∷ []) 0 0) ∷ []), [], refl, inl (1, 0, ((event (flush_call) (counted 1) (sealed_stream client ∷ gate_begun 2 ∷ flushed_buffer 2 ∷ []) 0 0), refl, refl, inl (1, refl, refl)), (refl, refl))), refl); legal = (record { begins = refl; counts = lit≤ tt; allowed = inl (refl, refl) }, tt); tends = (((event (flush_sealed_call) (counted 0) [] 0 0) ∷ (event (choose_call) (block_chosen None) [] 0 0) ∷ []), [], refl, ((event (flush_sealed_call) (counted 0) [] 0 0), ((event (choose_call) (block_chosen None) [] 0 0) ∷ []), refl, refl, (did 0 0), ((event (choose_call) (block_chosen None) [] 0 0), [], refl, refl, inl (refl, refl, refl))), refl); tending = (record { begins = refl; counts = lit≤ tt; allowed = inl (refl, refl) }, (record { begins = refl; counts = lit≤ tt; allowed = inl (refl, refl) }, tt)) }
+l5_is = record { does = (did 1 0, (((event (flush_call) (counted 1) (sealed_stream client ∷ gate_begun 2 ∷ flushed_buffer 2 ∷ []) 0 0) ∷ []), [], refl, inl (1, 0, ((event (flush_call) (counted 1) (sealed_stream client ∷ gate_begun 2 ∷ flushed_buffer 2 ∷ []) 0 0), refl, refl, inl (1, refl, refl)), (refl, refl))), refl); legal = (record { begins = refl; counts = lit≤ tt; allowed = inl (refl, refl) }, tt); tends = (((event (flush_sealed_call) (counted 0) [] 0 0) ∷ (event (choose_call) (block_chosen None) [] 0 0) ∷ []), [], refl, ((event (flush_sealed_call) (counted 0) [] 0 0), ((event (choose_call) (block_chosen None) [] 0 0) ∷ []), refl, refl, ((did 0 0), ((event (choose_call) (block_chosen None) [] 0 0), [], refl, refl, inl (refl, refl, refl)))), refl); tending = (record { begins = refl; counts = lit≤ tt; allowed = inl (refl, refl) }, (record { begins = refl; counts = lit≤ tt; allowed = inl (refl, refl) }, tt)) }
 
 abbrev n5 : Node
 n5 = (record { setup = (device 16 50 16 false 86400); state = record { log = (((a_digest 4), write (a_put (stamp 1 1000) 0 false (replicate 6352 0)) (2 ∷ [])) ∷ ((a_digest 3), write (a_put (stamp 1 1000) 0 false (replicate 4752 0)) (2 ∷ [])) ∷ ((a_digest 2), write (a_put (stamp 1 1000) 0 false (replicate 6352 0)) (1 ∷ [])) ∷ ((a_digest 1), write (a_put (stamp 1 1000) 0 false (replicate 4752 0)) (1 ∷ [])) ∷ []); book = record { live = ((record { digest = (a_digest 4); block = 1; unit = 300; units = 400 }) ∷ (record { digest = (a_digest 3); block = 1; unit = 0; units = 300 }) ∷ (record { digest = (a_digest 2); block = 0; unit = 300; units = 400 }) ∷ (record { digest = (a_digest 1); block = 0; unit = 0; units = 300 }) ∷ []); buffers = []; holds = []; free = (2 ∷ 3 ∷ 4 ∷ 5 ∷ 6 ∷ 7 ∷ 8 ∷ 9 ∷ 10 ∷ 11 ∷ 12 ∷ 13 ∷ 14 ∷ 15 ∷ []); queue = []; flushed_numbers = (1 ∷ 2 ∷ []); next_number = 3 }; raid = record { number = 0; next = finished; scanned = 0; marked = []; found = [] } }; faults = 0 }) ∷ []
@@ -99,7 +99,7 @@ l6 = served reply.Gone ((event (delete_call (a_digest 2) 1000) (happened true) (
 
 l6_is : IsLine n5 (command.Del (a_digest 2)) 1000 l6
 unfolding refreshed dropped_live placed with_flushed cold_book after_step start_state
-l6_is = record { does = ((event (delete_call (a_digest 2) 1000) (happened true) (removed (a_digest 2) ∷ []) 0 0), refl, refl, refl); legal = (record { begins = refl; counts = lit≤ tt; allowed = (refl, refl) }, tt); tends = (((event (flush_sealed_call) (counted 0) [] 0 0) ∷ (event (choose_call) (block_chosen (Some 0)) [] 0 0) ∷ (event (move_call (a_digest 1) 0) (happened true) (moved (a_digest 1) ∷ []) 0 0) ∷ []), [], refl, ((event (flush_sealed_call) (counted 0) [] 0 0), ((event (choose_call) (block_chosen (Some 0)) [] 0 0) ∷ (event (move_call (a_digest 1) 0) (happened true) (moved (a_digest 1) ∷ []) 0 0) ∷ []), refl, refl, (did 1 1), ((event (choose_call) (block_chosen (Some 0)) [] 0 0), ((event (move_call (a_digest 1) 0) (happened true) (moved (a_digest 1) ∷ []) 0 0) ∷ []), refl, refl, inr (inl (0, refl, (((a_digest 1), refl), (refl, refl)))))), refl); tending = (record { begins = refl; counts = lit≤ tt; allowed = inl (refl, refl) }, (record { begins = refl; counts = lit≤ tt; allowed = inl (refl, refl) }, (record { begins = refl; counts = lit≤ tt; allowed = inr (inl (refl, refl)) }, tt))) }
+l6_is = record { does = ((event (delete_call (a_digest 2) 1000) (happened true) (removed (a_digest 2) ∷ []) 0 0), refl, refl, refl); legal = (record { begins = refl; counts = lit≤ tt; allowed = (refl, refl) }, tt); tends = (((event (flush_sealed_call) (counted 0) [] 0 0) ∷ (event (choose_call) (block_chosen (Some 0)) [] 0 0) ∷ (event (move_call (a_digest 1) 0) (happened true) (moved (a_digest 1) ∷ []) 0 0) ∷ []), [], refl, ((event (flush_sealed_call) (counted 0) [] 0 0), ((event (choose_call) (block_chosen (Some 0)) [] 0 0) ∷ (event (move_call (a_digest 1) 0) (happened true) (moved (a_digest 1) ∷ []) 0 0) ∷ []), refl, refl, ((did 1 1), ((event (choose_call) (block_chosen (Some 0)) [] 0 0), ((event (move_call (a_digest 1) 0) (happened true) (moved (a_digest 1) ∷ []) 0 0) ∷ []), refl, refl, inr (inl (0, refl, (((a_digest 1), refl), (refl, refl))))))), refl); tending = (record { begins = refl; counts = lit≤ tt; allowed = inl (refl, refl) }, (record { begins = refl; counts = lit≤ tt; allowed = inl (refl, refl) }, (record { begins = refl; counts = lit≤ tt; allowed = inr (inl (refl, refl)) }, tt))) }
 
 abbrev n6 : Node
 n6 = (record { setup = (device 16 50 16 false 86400); state = record { log = (((a_digest 2), dropped) ∷ ((a_digest 4), write (a_put (stamp 1 1000) 0 false (replicate 6352 0)) (2 ∷ [])) ∷ ((a_digest 3), write (a_put (stamp 1 1000) 0 false (replicate 4752 0)) (2 ∷ [])) ∷ ((a_digest 2), write (a_put (stamp 1 1000) 0 false (replicate 6352 0)) (1 ∷ [])) ∷ ((a_digest 1), write (a_put (stamp 1 1000) 0 false (replicate 4752 0)) (3 ∷ 1 ∷ [])) ∷ []); book = record { live = ((record { digest = (a_digest 1); block = 2; unit = 0; units = 300 }) ∷ (record { digest = (a_digest 4); block = 1; unit = 300; units = 400 }) ∷ (record { digest = (a_digest 3); block = 1; unit = 0; units = 300 }) ∷ []); buffers = ((record { number = 3; block = 2; stream = defrag; used = 300; phase = filling }) ∷ []); holds = ((3, 0) ∷ []); free = (3 ∷ 4 ∷ 5 ∷ 6 ∷ 7 ∷ 8 ∷ 9 ∷ 10 ∷ 11 ∷ 12 ∷ 13 ∷ 14 ∷ 15 ∷ []); queue = []; flushed_numbers = (1 ∷ 2 ∷ []); next_number = 4 }; raid = record { number = 0; next = finished; scanned = 0; marked = []; found = [] } }; faults = 0 }) ∷ []
@@ -114,7 +114,7 @@ l7 = served reply.Gone ((event (delete_call (a_digest 4) 1000) (happened true) (
 
 l7_is : IsLine n6 (command.Del (a_digest 4)) 1000 l7
 unfolding refreshed dropped_live placed with_flushed cold_book after_step start_state
-l7_is = record { does = ((event (delete_call (a_digest 4) 1000) (happened true) (removed (a_digest 4) ∷ []) 0 0), refl, refl, refl); legal = (record { begins = refl; counts = lit≤ tt; allowed = (refl, refl) }, tt); tends = (((event (flush_sealed_call) (counted 0) [] 0 0) ∷ (event (choose_call) (block_chosen (Some 1)) [] 0 0) ∷ (event (move_call (a_digest 3) 1) (happened true) (moved (a_digest 3) ∷ []) 0 0) ∷ []), [], refl, ((event (flush_sealed_call) (counted 0) [] 0 0), ((event (choose_call) (block_chosen (Some 1)) [] 0 0) ∷ (event (move_call (a_digest 3) 1) (happened true) (moved (a_digest 3) ∷ []) 0 0) ∷ []), refl, refl, (did 1 1), ((event (choose_call) (block_chosen (Some 1)) [] 0 0), ((event (move_call (a_digest 3) 1) (happened true) (moved (a_digest 3) ∷ []) 0 0) ∷ []), refl, refl, inr (inl (1, refl, (((a_digest 3), refl), (refl, refl)))))), refl); tending = (record { begins = refl; counts = lit≤ tt; allowed = inl (refl, refl) }, (record { begins = refl; counts = lit≤ tt; allowed = inl (refl, refl) }, (record { begins = refl; counts = lit≤ tt; allowed = inr (inl (refl, refl)) }, tt))) }
+l7_is = record { does = ((event (delete_call (a_digest 4) 1000) (happened true) (removed (a_digest 4) ∷ []) 0 0), refl, refl, refl); legal = (record { begins = refl; counts = lit≤ tt; allowed = (refl, refl) }, tt); tends = (((event (flush_sealed_call) (counted 0) [] 0 0) ∷ (event (choose_call) (block_chosen (Some 1)) [] 0 0) ∷ (event (move_call (a_digest 3) 1) (happened true) (moved (a_digest 3) ∷ []) 0 0) ∷ []), [], refl, ((event (flush_sealed_call) (counted 0) [] 0 0), ((event (choose_call) (block_chosen (Some 1)) [] 0 0) ∷ (event (move_call (a_digest 3) 1) (happened true) (moved (a_digest 3) ∷ []) 0 0) ∷ []), refl, refl, ((did 1 1), ((event (choose_call) (block_chosen (Some 1)) [] 0 0), ((event (move_call (a_digest 3) 1) (happened true) (moved (a_digest 3) ∷ []) 0 0) ∷ []), refl, refl, inr (inl (1, refl, (((a_digest 3), refl), (refl, refl))))))), refl); tending = (record { begins = refl; counts = lit≤ tt; allowed = inl (refl, refl) }, (record { begins = refl; counts = lit≤ tt; allowed = inl (refl, refl) }, (record { begins = refl; counts = lit≤ tt; allowed = inr (inl (refl, refl)) }, tt))) }
 
 abbrev n7 : Node
 n7 = (record { setup = (device 16 50 16 false 86400); state = record { log = (((a_digest 4), dropped) ∷ ((a_digest 2), dropped) ∷ ((a_digest 4), write (a_put (stamp 1 1000) 0 false (replicate 6352 0)) (2 ∷ [])) ∷ ((a_digest 3), write (a_put (stamp 1 1000) 0 false (replicate 4752 0)) (3 ∷ 2 ∷ [])) ∷ ((a_digest 2), write (a_put (stamp 1 1000) 0 false (replicate 6352 0)) (1 ∷ [])) ∷ ((a_digest 1), write (a_put (stamp 1 1000) 0 false (replicate 4752 0)) (3 ∷ 1 ∷ [])) ∷ []); book = record { live = ((record { digest = (a_digest 3); block = 2; unit = 300; units = 300 }) ∷ (record { digest = (a_digest 1); block = 2; unit = 0; units = 300 }) ∷ []); buffers = ((record { number = 3; block = 2; stream = defrag; used = 600; phase = filling }) ∷ []); holds = ((3, 1) ∷ (3, 0) ∷ []); free = (3 ∷ 4 ∷ 5 ∷ 6 ∷ 7 ∷ 8 ∷ 9 ∷ 10 ∷ 11 ∷ 12 ∷ 13 ∷ 14 ∷ 15 ∷ []); queue = []; flushed_numbers = (1 ∷ 2 ∷ []); next_number = 4 }; raid = record { number = 0; next = finished; scanned = 0; marked = []; found = [] } }; faults = 0 }) ∷ []
@@ -129,7 +129,7 @@ l8 = served (reply.Done2 0 0) [] ((event (flush_sealed_call) (counted 0) [] 0 0)
 
 l8_is : IsLine n7 command.Defrag 1000 l8
 unfolding refreshed dropped_live placed with_flushed cold_book after_step start_state
-l8_is = record { does = (did 0 0, ([], [], refl, inl (0, 0, (refl, refl), (refl, refl))), refl); legal = tt; tends = (((event (flush_sealed_call) (counted 0) [] 0 0) ∷ (event (choose_call) (block_chosen None) [] 0 0) ∷ []), [], refl, ((event (flush_sealed_call) (counted 0) [] 0 0), ((event (choose_call) (block_chosen None) [] 0 0) ∷ []), refl, refl, (did 0 0), ((event (choose_call) (block_chosen None) [] 0 0), [], refl, refl, inl (refl, refl, refl))), refl); tending = (record { begins = refl; counts = lit≤ tt; allowed = inl (refl, refl) }, (record { begins = refl; counts = lit≤ tt; allowed = inl (refl, refl) }, tt)) }
+l8_is = record { does = (did 0 0, ([], [], refl, inl (0, 0, (refl, refl), (refl, refl))), refl); legal = tt; tends = (((event (flush_sealed_call) (counted 0) [] 0 0) ∷ (event (choose_call) (block_chosen None) [] 0 0) ∷ []), [], refl, ((event (flush_sealed_call) (counted 0) [] 0 0), ((event (choose_call) (block_chosen None) [] 0 0) ∷ []), refl, refl, ((did 0 0), ((event (choose_call) (block_chosen None) [] 0 0), [], refl, refl, inl (refl, refl, refl)))), refl); tending = (record { begins = refl; counts = lit≤ tt; allowed = inl (refl, refl) }, (record { begins = refl; counts = lit≤ tt; allowed = inl (refl, refl) }, tt)) }
 
 abbrev n8 : Node
 n8 = (record { setup = (device 16 50 16 false 86400); state = record { log = (((a_digest 4), dropped) ∷ ((a_digest 2), dropped) ∷ ((a_digest 4), write (a_put (stamp 1 1000) 0 false (replicate 6352 0)) (2 ∷ [])) ∷ ((a_digest 3), write (a_put (stamp 1 1000) 0 false (replicate 4752 0)) (3 ∷ 2 ∷ [])) ∷ ((a_digest 2), write (a_put (stamp 1 1000) 0 false (replicate 6352 0)) (1 ∷ [])) ∷ ((a_digest 1), write (a_put (stamp 1 1000) 0 false (replicate 4752 0)) (3 ∷ 1 ∷ [])) ∷ []); book = record { live = ((record { digest = (a_digest 3); block = 2; unit = 300; units = 300 }) ∷ (record { digest = (a_digest 1); block = 2; unit = 0; units = 300 }) ∷ []); buffers = ((record { number = 3; block = 2; stream = defrag; used = 600; phase = filling }) ∷ []); holds = ((3, 1) ∷ (3, 0) ∷ []); free = (3 ∷ 4 ∷ 5 ∷ 6 ∷ 7 ∷ 8 ∷ 9 ∷ 10 ∷ 11 ∷ 12 ∷ 13 ∷ 14 ∷ 15 ∷ []); queue = []; flushed_numbers = (1 ∷ 2 ∷ []); next_number = 4 }; raid = record { number = 0; next = finished; scanned = 0; marked = []; found = [] } }; faults = 0 }) ∷ []
@@ -144,7 +144,7 @@ l9 = served (reply.StatOf (record { records = 2; tombstones = 0; covered = 0; fr
 
 l9_is : IsLine n8 command.Stat 1000 l9
 unfolding refreshed dropped_live placed with_flushed cold_book after_step start_state
-l9_is = record { does = (refl, refl); legal = tt; tends = (((event (flush_sealed_call) (counted 0) [] 0 0) ∷ (event (choose_call) (block_chosen None) [] 0 0) ∷ []), [], refl, ((event (flush_sealed_call) (counted 0) [] 0 0), ((event (choose_call) (block_chosen None) [] 0 0) ∷ []), refl, refl, (did 0 0), ((event (choose_call) (block_chosen None) [] 0 0), [], refl, refl, inl (refl, refl, refl))), refl); tending = (record { begins = refl; counts = lit≤ tt; allowed = inl (refl, refl) }, (record { begins = refl; counts = lit≤ tt; allowed = inl (refl, refl) }, tt)) }
+l9_is = record { does = (refl, refl); legal = tt; tends = (((event (flush_sealed_call) (counted 0) [] 0 0) ∷ (event (choose_call) (block_chosen None) [] 0 0) ∷ []), [], refl, ((event (flush_sealed_call) (counted 0) [] 0 0), ((event (choose_call) (block_chosen None) [] 0 0) ∷ []), refl, refl, ((did 0 0), ((event (choose_call) (block_chosen None) [] 0 0), [], refl, refl, inl (refl, refl, refl)))), refl); tending = (record { begins = refl; counts = lit≤ tt; allowed = inl (refl, refl) }, (record { begins = refl; counts = lit≤ tt; allowed = inl (refl, refl) }, tt)) }
 
 abbrev n9 : Node
 n9 = (record { setup = (device 16 50 16 false 86400); state = record { log = (((a_digest 4), dropped) ∷ ((a_digest 2), dropped) ∷ ((a_digest 4), write (a_put (stamp 1 1000) 0 false (replicate 6352 0)) (2 ∷ [])) ∷ ((a_digest 3), write (a_put (stamp 1 1000) 0 false (replicate 4752 0)) (3 ∷ 2 ∷ [])) ∷ ((a_digest 2), write (a_put (stamp 1 1000) 0 false (replicate 6352 0)) (1 ∷ [])) ∷ ((a_digest 1), write (a_put (stamp 1 1000) 0 false (replicate 4752 0)) (3 ∷ 1 ∷ [])) ∷ []); book = record { live = ((record { digest = (a_digest 3); block = 2; unit = 300; units = 300 }) ∷ (record { digest = (a_digest 1); block = 2; unit = 0; units = 300 }) ∷ []); buffers = ((record { number = 3; block = 2; stream = defrag; used = 600; phase = filling }) ∷ []); holds = ((3, 1) ∷ (3, 0) ∷ []); free = (3 ∷ 4 ∷ 5 ∷ 6 ∷ 7 ∷ 8 ∷ 9 ∷ 10 ∷ 11 ∷ 12 ∷ 13 ∷ 14 ∷ 15 ∷ []); queue = []; flushed_numbers = (1 ∷ 2 ∷ []); next_number = 4 }; raid = record { number = 0; next = finished; scanned = 0; marked = []; found = [] } }; faults = 0 }) ∷ []
@@ -159,7 +159,7 @@ l10 = served (reply.Done1 1) ((event (flush_call) (counted 1) (sealed_stream def
 
 l10_is : IsLine n9 command.Flush 1000 l10
 unfolding refreshed dropped_live placed with_flushed cold_book after_step start_state
-l10_is = record { does = (did 1 0, (((event (flush_call) (counted 1) (sealed_stream defrag ∷ gate_begun 3 ∷ flushed_buffer 3 ∷ []) 0 0) ∷ []), [], refl, inl (1, 0, ((event (flush_call) (counted 1) (sealed_stream defrag ∷ gate_begun 3 ∷ flushed_buffer 3 ∷ []) 0 0), refl, refl, inl (1, refl, refl)), (refl, refl))), refl); legal = (record { begins = refl; counts = lit≤ tt; allowed = inl (refl, refl) }, tt); tends = (((event (flush_sealed_call) (counted 0) [] 0 0) ∷ (event (choose_call) (block_chosen None) [] 0 0) ∷ []), [], refl, ((event (flush_sealed_call) (counted 0) [] 0 0), ((event (choose_call) (block_chosen None) [] 0 0) ∷ []), refl, refl, (did 0 0), ((event (choose_call) (block_chosen None) [] 0 0), [], refl, refl, inl (refl, refl, refl))), refl); tending = (record { begins = refl; counts = lit≤ tt; allowed = inl (refl, refl) }, (record { begins = refl; counts = lit≤ tt; allowed = inl (refl, refl) }, tt)) }
+l10_is = record { does = (did 1 0, (((event (flush_call) (counted 1) (sealed_stream defrag ∷ gate_begun 3 ∷ flushed_buffer 3 ∷ []) 0 0) ∷ []), [], refl, inl (1, 0, ((event (flush_call) (counted 1) (sealed_stream defrag ∷ gate_begun 3 ∷ flushed_buffer 3 ∷ []) 0 0), refl, refl, inl (1, refl, refl)), (refl, refl))), refl); legal = (record { begins = refl; counts = lit≤ tt; allowed = inl (refl, refl) }, tt); tends = (((event (flush_sealed_call) (counted 0) [] 0 0) ∷ (event (choose_call) (block_chosen None) [] 0 0) ∷ []), [], refl, ((event (flush_sealed_call) (counted 0) [] 0 0), ((event (choose_call) (block_chosen None) [] 0 0) ∷ []), refl, refl, ((did 0 0), ((event (choose_call) (block_chosen None) [] 0 0), [], refl, refl, inl (refl, refl, refl)))), refl); tending = (record { begins = refl; counts = lit≤ tt; allowed = inl (refl, refl) }, (record { begins = refl; counts = lit≤ tt; allowed = inl (refl, refl) }, tt)) }
 
 abbrev n10 : Node
 n10 = (record { setup = (device 16 50 16 false 86400); state = record { log = (((a_digest 4), dropped) ∷ ((a_digest 2), dropped) ∷ ((a_digest 4), write (a_put (stamp 1 1000) 0 false (replicate 6352 0)) (2 ∷ [])) ∷ ((a_digest 3), write (a_put (stamp 1 1000) 0 false (replicate 4752 0)) (3 ∷ 2 ∷ [])) ∷ ((a_digest 2), write (a_put (stamp 1 1000) 0 false (replicate 6352 0)) (1 ∷ [])) ∷ ((a_digest 1), write (a_put (stamp 1 1000) 0 false (replicate 4752 0)) (3 ∷ 1 ∷ [])) ∷ []); book = record { live = ((record { digest = (a_digest 3); block = 2; unit = 300; units = 300 }) ∷ (record { digest = (a_digest 1); block = 2; unit = 0; units = 300 }) ∷ []); buffers = []; holds = []; free = (3 ∷ 4 ∷ 5 ∷ 6 ∷ 7 ∷ 8 ∷ 9 ∷ 10 ∷ 11 ∷ 12 ∷ 13 ∷ 14 ∷ 15 ∷ 0 ∷ 1 ∷ []); queue = []; flushed_numbers = (1 ∷ 2 ∷ 3 ∷ []); next_number = 4 }; raid = record { number = 0; next = finished; scanned = 0; marked = []; found = [] } }; faults = 0 }) ∷ []
@@ -174,7 +174,7 @@ l11 = served (reply.StatOf (record { records = 2; tombstones = 0; covered = 0; f
 
 l11_is : IsLine n10 command.Stat 1000 l11
 unfolding refreshed dropped_live placed with_flushed cold_book after_step start_state
-l11_is = record { does = (refl, refl); legal = tt; tends = (((event (flush_sealed_call) (counted 0) [] 0 0) ∷ (event (choose_call) (block_chosen None) [] 0 0) ∷ []), [], refl, ((event (flush_sealed_call) (counted 0) [] 0 0), ((event (choose_call) (block_chosen None) [] 0 0) ∷ []), refl, refl, (did 0 0), ((event (choose_call) (block_chosen None) [] 0 0), [], refl, refl, inl (refl, refl, refl))), refl); tending = (record { begins = refl; counts = lit≤ tt; allowed = inl (refl, refl) }, (record { begins = refl; counts = lit≤ tt; allowed = inl (refl, refl) }, tt)) }
+l11_is = record { does = (refl, refl); legal = tt; tends = (((event (flush_sealed_call) (counted 0) [] 0 0) ∷ (event (choose_call) (block_chosen None) [] 0 0) ∷ []), [], refl, ((event (flush_sealed_call) (counted 0) [] 0 0), ((event (choose_call) (block_chosen None) [] 0 0) ∷ []), refl, refl, ((did 0 0), ((event (choose_call) (block_chosen None) [] 0 0), [], refl, refl, inl (refl, refl, refl)))), refl); tending = (record { begins = refl; counts = lit≤ tt; allowed = inl (refl, refl) }, (record { begins = refl; counts = lit≤ tt; allowed = inl (refl, refl) }, tt)) }
 
 abbrev n11 : Node
 n11 = (record { setup = (device 16 50 16 false 86400); state = record { log = (((a_digest 4), dropped) ∷ ((a_digest 2), dropped) ∷ ((a_digest 4), write (a_put (stamp 1 1000) 0 false (replicate 6352 0)) (2 ∷ [])) ∷ ((a_digest 3), write (a_put (stamp 1 1000) 0 false (replicate 4752 0)) (3 ∷ 2 ∷ [])) ∷ ((a_digest 2), write (a_put (stamp 1 1000) 0 false (replicate 6352 0)) (1 ∷ [])) ∷ ((a_digest 1), write (a_put (stamp 1 1000) 0 false (replicate 4752 0)) (3 ∷ 1 ∷ [])) ∷ []); book = record { live = ((record { digest = (a_digest 3); block = 2; unit = 300; units = 300 }) ∷ (record { digest = (a_digest 1); block = 2; unit = 0; units = 300 }) ∷ []); buffers = []; holds = []; free = (3 ∷ 4 ∷ 5 ∷ 6 ∷ 7 ∷ 8 ∷ 9 ∷ 10 ∷ 11 ∷ 12 ∷ 13 ∷ 14 ∷ 15 ∷ 0 ∷ 1 ∷ []); queue = []; flushed_numbers = (1 ∷ 2 ∷ 3 ∷ []); next_number = 4 }; raid = record { number = 0; next = finished; scanned = 0; marked = []; found = [] } }; faults = 0 }) ∷ []

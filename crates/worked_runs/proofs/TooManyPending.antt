@@ -25,7 +25,7 @@ l1 = served (reply.Done2 1 1000) ((event (put_call (a_digest 1) 0 None (replicat
 
 l1_is : IsLine start0 (command.Put (a_digest 1) 0 None (replicate 11152 0)) 1000 l1
 unfolding refreshed dropped_live placed with_flushed cold_book after_step start_state
-l1_is = record { does = ((event (put_call (a_digest 1) 0 None (replicate 11152 0) 1000) (stamp_given (stamp 1 1000)) (wrote (a_digest 1) (a_put (stamp 1 1000) 0 false (replicate 11152 0)) ∷ []) 0 0), refl, refl, refl); legal = (record { begins = refl; counts = lit≤ tt; allowed = inr (inl (refl, refl)) }, tt); tends = (((event (flush_sealed_call) (counted 0) [] 0 0) ∷ (event (choose_call) (block_chosen None) [] 0 0) ∷ []), [], refl, ((event (flush_sealed_call) (counted 0) [] 0 0), ((event (choose_call) (block_chosen None) [] 0 0) ∷ []), refl, refl, (did 0 0), ((event (choose_call) (block_chosen None) [] 0 0), [], refl, refl, inl (refl, refl, refl))), refl); tending = (record { begins = refl; counts = lit≤ tt; allowed = inl (refl, refl) }, (record { begins = refl; counts = lit≤ tt; allowed = inl (refl, refl) }, tt)) }
+l1_is = record { does = ((event (put_call (a_digest 1) 0 None (replicate 11152 0) 1000) (stamp_given (stamp 1 1000)) (wrote (a_digest 1) (a_put (stamp 1 1000) 0 false (replicate 11152 0)) ∷ []) 0 0), refl, refl, refl); legal = (record { begins = refl; counts = lit≤ tt; allowed = inr (inl (refl, refl)) }, tt); tends = (((event (flush_sealed_call) (counted 0) [] 0 0) ∷ (event (choose_call) (block_chosen None) [] 0 0) ∷ []), [], refl, ((event (flush_sealed_call) (counted 0) [] 0 0), ((event (choose_call) (block_chosen None) [] 0 0) ∷ []), refl, refl, ((did 0 0), ((event (choose_call) (block_chosen None) [] 0 0), [], refl, refl, inl (refl, refl, refl)))), refl); tending = (record { begins = refl; counts = lit≤ tt; allowed = inl (refl, refl) }, (record { begins = refl; counts = lit≤ tt; allowed = inl (refl, refl) }, tt)) }
 
 abbrev n1 : Node
 n1 = (record { setup = (device 16 0 4 false 86400); state = record { log = (((a_digest 1), write (a_put (stamp 1 1000) 0 false (replicate 11152 0)) (1 ∷ [])) ∷ []); book = record { live = ((record { digest = (a_digest 1); block = 0; unit = 0; units = 700 }) ∷ []); buffers = ((record { number = 1; block = 0; stream = client; used = 700; phase = filling }) ∷ []); holds = []; free = (1 ∷ 2 ∷ 3 ∷ 4 ∷ 5 ∷ 6 ∷ 7 ∷ 8 ∷ 9 ∷ 10 ∷ 11 ∷ 12 ∷ 13 ∷ 14 ∷ 15 ∷ []); queue = []; flushed_numbers = []; next_number = 2 }; raid = record { number = 0; next = finished; scanned = 0; marked = []; found = [] } }; faults = 0 }) ∷ []
@@ -40,7 +40,7 @@ l2 = served (reply.Done2 1 1000) ((event (put_call (a_digest 2) 0 None (replicat
 
 l2_is : IsLine n1 (command.Put (a_digest 2) 0 None (replicate 11152 0)) 1000 l2
 unfolding refreshed dropped_live placed with_flushed cold_book after_step start_state
-l2_is = record { does = ((event (put_call (a_digest 2) 0 None (replicate 11152 0) 1000) (stamp_given (stamp 1 1000)) (wrote (a_digest 2) (a_put (stamp 1 1000) 0 false (replicate 11152 0)) ∷ []) 0 0), refl, refl, refl); legal = (record { begins = refl; counts = lit≤ tt; allowed = inr (inl (refl, refl)) }, tt); tends = (((event (flush_sealed_call) (refused disk_fault) [] 0 1) ∷ (event (choose_call) (block_chosen None) [] 1 1) ∷ []), [], refl, ((event (flush_sealed_call) (refused disk_fault) [] 0 1), ((event (choose_call) (block_chosen None) [] 1 1) ∷ []), refl, refl, (did 0 0), ((event (choose_call) (block_chosen None) [] 1 1), [], refl, refl, inl (refl, refl, refl))), refl); tending = (record { begins = refl; counts = lit≤ tt; allowed = inr (refl, (λ h. lit≤ tt), [], refl, (gate_begun 1, (flushed_buffer 1 ∷ []), refl)) }, (record { begins = refl; counts = lit≤ tt; allowed = inl (refl, refl) }, tt)) }
+l2_is = record { does = ((event (put_call (a_digest 2) 0 None (replicate 11152 0) 1000) (stamp_given (stamp 1 1000)) (wrote (a_digest 2) (a_put (stamp 1 1000) 0 false (replicate 11152 0)) ∷ []) 0 0), refl, refl, refl); legal = (record { begins = refl; counts = lit≤ tt; allowed = inr (inl (refl, refl)) }, tt); tends = (((event (flush_sealed_call) (refused disk_fault) [] 0 1) ∷ (event (choose_call) (block_chosen None) [] 1 1) ∷ []), [], refl, ((event (flush_sealed_call) (refused disk_fault) [] 0 1), ((event (choose_call) (block_chosen None) [] 1 1) ∷ []), refl, refl, ((did 0 0), ((event (choose_call) (block_chosen None) [] 1 1), [], refl, refl, inl (refl, refl, refl)))), refl); tending = (record { begins = refl; counts = lit≤ tt; allowed = inr (refl, (λ h. lit≤ tt), [], refl, (gate_begun 1, (flushed_buffer 1 ∷ []), refl)) }, (record { begins = refl; counts = lit≤ tt; allowed = inl (refl, refl) }, tt)) }
 
 abbrev n2 : Node
 n2 = (record { setup = (device 16 0 4 false 86400); state = record { log = (((a_digest 2), write (a_put (stamp 1 1000) 0 false (replicate 11152 0)) (2 ∷ [])) ∷ ((a_digest 1), write (a_put (stamp 1 1000) 0 false (replicate 11152 0)) (1 ∷ [])) ∷ []); book = record { live = ((record { digest = (a_digest 2); block = 1; unit = 0; units = 700 }) ∷ (record { digest = (a_digest 1); block = 0; unit = 0; units = 700 }) ∷ []); buffers = ((record { number = 1; block = 0; stream = client; used = 700; phase = sealed }) ∷ (record { number = 2; block = 1; stream = client; used = 700; phase = filling }) ∷ []); holds = []; free = (2 ∷ 3 ∷ 4 ∷ 5 ∷ 6 ∷ 7 ∷ 8 ∷ 9 ∷ 10 ∷ 11 ∷ 12 ∷ 13 ∷ 14 ∷ 15 ∷ []); queue = []; flushed_numbers = []; next_number = 3 }; raid = record { number = 0; next = finished; scanned = 0; marked = []; found = [] } }; faults = 1 }) ∷ []
@@ -55,7 +55,7 @@ l3 = served (reply.Done2 1 1000) ((event (put_call (a_digest 3) 0 None (replicat
 
 l3_is : IsLine n2 (command.Put (a_digest 3) 0 None (replicate 11152 0)) 1000 l3
 unfolding refreshed dropped_live placed with_flushed cold_book after_step start_state
-l3_is = record { does = ((event (put_call (a_digest 3) 0 None (replicate 11152 0) 1000) (stamp_given (stamp 1 1000)) (wrote (a_digest 3) (a_put (stamp 1 1000) 0 false (replicate 11152 0)) ∷ []) 1 1), refl, refl, refl); legal = (record { begins = refl; counts = lit≤ tt; allowed = inr (inl (refl, refl)) }, tt); tends = (((event (flush_sealed_call) (refused disk_fault) [] 1 2) ∷ (event (choose_call) (block_chosen None) [] 2 2) ∷ []), [], refl, ((event (flush_sealed_call) (refused disk_fault) [] 1 2), ((event (choose_call) (block_chosen None) [] 2 2) ∷ []), refl, refl, (did 0 0), ((event (choose_call) (block_chosen None) [] 2 2), [], refl, refl, inl (refl, refl, refl))), refl); tending = (record { begins = refl; counts = lit≤ tt; allowed = inr (refl, (λ h. lit≤ tt), [], refl, (gate_begun 1, (flushed_buffer 1 ∷ gate_begun 2 ∷ flushed_buffer 2 ∷ []), refl)) }, (record { begins = refl; counts = lit≤ tt; allowed = inl (refl, refl) }, tt)) }
+l3_is = record { does = ((event (put_call (a_digest 3) 0 None (replicate 11152 0) 1000) (stamp_given (stamp 1 1000)) (wrote (a_digest 3) (a_put (stamp 1 1000) 0 false (replicate 11152 0)) ∷ []) 1 1), refl, refl, refl); legal = (record { begins = refl; counts = lit≤ tt; allowed = inr (inl (refl, refl)) }, tt); tends = (((event (flush_sealed_call) (refused disk_fault) [] 1 2) ∷ (event (choose_call) (block_chosen None) [] 2 2) ∷ []), [], refl, ((event (flush_sealed_call) (refused disk_fault) [] 1 2), ((event (choose_call) (block_chosen None) [] 2 2) ∷ []), refl, refl, ((did 0 0), ((event (choose_call) (block_chosen None) [] 2 2), [], refl, refl, inl (refl, refl, refl)))), refl); tending = (record { begins = refl; counts = lit≤ tt; allowed = inr (refl, (λ h. lit≤ tt), [], refl, (gate_begun 1, (flushed_buffer 1 ∷ gate_begun 2 ∷ flushed_buffer 2 ∷ []), refl)) }, (record { begins = refl; counts = lit≤ tt; allowed = inl (refl, refl) }, tt)) }
 
 abbrev n3 : Node
 n3 = (record { setup = (device 16 0 4 false 86400); state = record { log = (((a_digest 3), write (a_put (stamp 1 1000) 0 false (replicate 11152 0)) (3 ∷ [])) ∷ ((a_digest 2), write (a_put (stamp 1 1000) 0 false (replicate 11152 0)) (2 ∷ [])) ∷ ((a_digest 1), write (a_put (stamp 1 1000) 0 false (replicate 11152 0)) (1 ∷ [])) ∷ []); book = record { live = ((record { digest = (a_digest 3); block = 2; unit = 0; units = 700 }) ∷ (record { digest = (a_digest 2); block = 1; unit = 0; units = 700 }) ∷ (record { digest = (a_digest 1); block = 0; unit = 0; units = 700 }) ∷ []); buffers = ((record { number = 1; block = 0; stream = client; used = 700; phase = sealed }) ∷ (record { number = 2; block = 1; stream = client; used = 700; phase = sealed }) ∷ (record { number = 3; block = 2; stream = client; used = 700; phase = filling }) ∷ []); holds = []; free = (3 ∷ 4 ∷ 5 ∷ 6 ∷ 7 ∷ 8 ∷ 9 ∷ 10 ∷ 11 ∷ 12 ∷ 13 ∷ 14 ∷ 15 ∷ []); queue = []; flushed_numbers = []; next_number = 4 }; raid = record { number = 0; next = finished; scanned = 0; marked = []; found = [] } }; faults = 2 }) ∷ []
@@ -70,7 +70,7 @@ l4 = served (reply.Done2 1 1000) ((event (put_call (a_digest 4) 0 None (replicat
 
 l4_is : IsLine n3 (command.Put (a_digest 4) 0 None (replicate 11152 0)) 1000 l4
 unfolding refreshed dropped_live placed with_flushed cold_book after_step start_state
-l4_is = record { does = ((event (put_call (a_digest 4) 0 None (replicate 11152 0) 1000) (stamp_given (stamp 1 1000)) (wrote (a_digest 4) (a_put (stamp 1 1000) 0 false (replicate 11152 0)) ∷ []) 2 2), refl, refl, refl); legal = (record { begins = refl; counts = lit≤ tt; allowed = inr (inl (refl, refl)) }, tt); tends = (((event (flush_sealed_call) (refused disk_fault) [] 2 3) ∷ (event (choose_call) (block_chosen None) [] 3 3) ∷ []), [], refl, ((event (flush_sealed_call) (refused disk_fault) [] 2 3), ((event (choose_call) (block_chosen None) [] 3 3) ∷ []), refl, refl, (did 0 0), ((event (choose_call) (block_chosen None) [] 3 3), [], refl, refl, inl (refl, refl, refl))), refl); tending = (record { begins = refl; counts = lit≤ tt; allowed = inr (refl, (λ h. lit≤ tt), [], refl, (gate_begun 1, (flushed_buffer 1 ∷ gate_begun 2 ∷ flushed_buffer 2 ∷ gate_begun 3 ∷ flushed_buffer 3 ∷ []), refl)) }, (record { begins = refl; counts = lit≤ tt; allowed = inl (refl, refl) }, tt)) }
+l4_is = record { does = ((event (put_call (a_digest 4) 0 None (replicate 11152 0) 1000) (stamp_given (stamp 1 1000)) (wrote (a_digest 4) (a_put (stamp 1 1000) 0 false (replicate 11152 0)) ∷ []) 2 2), refl, refl, refl); legal = (record { begins = refl; counts = lit≤ tt; allowed = inr (inl (refl, refl)) }, tt); tends = (((event (flush_sealed_call) (refused disk_fault) [] 2 3) ∷ (event (choose_call) (block_chosen None) [] 3 3) ∷ []), [], refl, ((event (flush_sealed_call) (refused disk_fault) [] 2 3), ((event (choose_call) (block_chosen None) [] 3 3) ∷ []), refl, refl, ((did 0 0), ((event (choose_call) (block_chosen None) [] 3 3), [], refl, refl, inl (refl, refl, refl)))), refl); tending = (record { begins = refl; counts = lit≤ tt; allowed = inr (refl, (λ h. lit≤ tt), [], refl, (gate_begun 1, (flushed_buffer 1 ∷ gate_begun 2 ∷ flushed_buffer 2 ∷ gate_begun 3 ∷ flushed_buffer 3 ∷ []), refl)) }, (record { begins = refl; counts = lit≤ tt; allowed = inl (refl, refl) }, tt)) }
 
 abbrev n4 : Node
 n4 = (record { setup = (device 16 0 4 false 86400); state = record { log = (((a_digest 4), write (a_put (stamp 1 1000) 0 false (replicate 11152 0)) (4 ∷ [])) ∷ ((a_digest 3), write (a_put (stamp 1 1000) 0 false (replicate 11152 0)) (3 ∷ [])) ∷ ((a_digest 2), write (a_put (stamp 1 1000) 0 false (replicate 11152 0)) (2 ∷ [])) ∷ ((a_digest 1), write (a_put (stamp 1 1000) 0 false (replicate 11152 0)) (1 ∷ [])) ∷ []); book = record { live = ((record { digest = (a_digest 4); block = 3; unit = 0; units = 700 }) ∷ (record { digest = (a_digest 3); block = 2; unit = 0; units = 700 }) ∷ (record { digest = (a_digest 2); block = 1; unit = 0; units = 700 }) ∷ (record { digest = (a_digest 1); block = 0; unit = 0; units = 700 }) ∷ []); buffers = ((record { number = 1; block = 0; stream = client; used = 700; phase = sealed }) ∷ (record { number = 2; block = 1; stream = client; used = 700; phase = sealed }) ∷ (record { number = 3; block = 2; stream = client; used = 700; phase = sealed }) ∷ (record { number = 4; block = 3; stream = client; used = 700; phase = filling }) ∷ []); holds = []; free = (4 ∷ 5 ∷ 6 ∷ 7 ∷ 8 ∷ 9 ∷ 10 ∷ 11 ∷ 12 ∷ 13 ∷ 14 ∷ 15 ∷ []); queue = []; flushed_numbers = []; next_number = 5 }; raid = record { number = 0; next = finished; scanned = 0; marked = []; found = [] } }; faults = 3 }) ∷ []
@@ -85,7 +85,7 @@ l5 = served (reply.Fail why.Load) ((event (put_call (a_digest 5) 0 None (replica
 
 l5_is : IsLine n4 (command.Put (a_digest 5) 0 None (replicate 11152 0)) 1000 l5
 unfolding refreshed dropped_live placed with_flushed cold_book after_step start_state
-l5_is = record { does = ((event (put_call (a_digest 5) 0 None (replicate 11152 0) 1000) (refused (overload 4)) [] 3 3), refl, refl, refl); legal = (record { begins = refl; counts = lit≤ tt; allowed = inr (refl, refl) }, tt); tends = (((event (flush_sealed_call) (counted 3) (gate_begun 1 ∷ flushed_buffer 1 ∷ gate_begun 2 ∷ flushed_buffer 2 ∷ gate_begun 3 ∷ flushed_buffer 3 ∷ []) 3 3) ∷ (event (choose_call) (block_chosen None) [] 3 3) ∷ []), [], refl, ((event (flush_sealed_call) (counted 3) (gate_begun 1 ∷ flushed_buffer 1 ∷ gate_begun 2 ∷ flushed_buffer 2 ∷ gate_begun 3 ∷ flushed_buffer 3 ∷ []) 3 3), ((event (choose_call) (block_chosen None) [] 3 3) ∷ []), refl, refl, (did 0 0), ((event (choose_call) (block_chosen None) [] 3 3), [], refl, refl, inl (refl, refl, refl))), refl); tending = (record { begins = refl; counts = lit≤ tt; allowed = inl (refl, refl) }, (record { begins = refl; counts = lit≤ tt; allowed = inl (refl, refl) }, tt)) }
+l5_is = record { does = ((event (put_call (a_digest 5) 0 None (replicate 11152 0) 1000) (refused (overload 4)) [] 3 3), refl, refl, refl); legal = (record { begins = refl; counts = lit≤ tt; allowed = inr (refl, refl) }, tt); tends = (((event (flush_sealed_call) (counted 3) (gate_begun 1 ∷ flushed_buffer 1 ∷ gate_begun 2 ∷ flushed_buffer 2 ∷ gate_begun 3 ∷ flushed_buffer 3 ∷ []) 3 3) ∷ (event (choose_call) (block_chosen None) [] 3 3) ∷ []), [], refl, ((event (flush_sealed_call) (counted 3) (gate_begun 1 ∷ flushed_buffer 1 ∷ gate_begun 2 ∷ flushed_buffer 2 ∷ gate_begun 3 ∷ flushed_buffer 3 ∷ []) 3 3), ((event (choose_call) (block_chosen None) [] 3 3) ∷ []), refl, refl, ((did 0 0), ((event (choose_call) (block_chosen None) [] 3 3), [], refl, refl, inl (refl, refl, refl)))), refl); tending = (record { begins = refl; counts = lit≤ tt; allowed = inl (refl, refl) }, (record { begins = refl; counts = lit≤ tt; allowed = inl (refl, refl) }, tt)) }
 
 abbrev n5 : Node
 n5 = (record { setup = (device 16 0 4 false 86400); state = record { log = (((a_digest 4), write (a_put (stamp 1 1000) 0 false (replicate 11152 0)) (4 ∷ [])) ∷ ((a_digest 3), write (a_put (stamp 1 1000) 0 false (replicate 11152 0)) (3 ∷ [])) ∷ ((a_digest 2), write (a_put (stamp 1 1000) 0 false (replicate 11152 0)) (2 ∷ [])) ∷ ((a_digest 1), write (a_put (stamp 1 1000) 0 false (replicate 11152 0)) (1 ∷ [])) ∷ []); book = record { live = ((record { digest = (a_digest 4); block = 3; unit = 0; units = 700 }) ∷ (record { digest = (a_digest 3); block = 2; unit = 0; units = 700 }) ∷ (record { digest = (a_digest 2); block = 1; unit = 0; units = 700 }) ∷ (record { digest = (a_digest 1); block = 0; unit = 0; units = 700 }) ∷ []); buffers = ((record { number = 4; block = 3; stream = client; used = 700; phase = filling }) ∷ []); holds = []; free = (4 ∷ 5 ∷ 6 ∷ 7 ∷ 8 ∷ 9 ∷ 10 ∷ 11 ∷ 12 ∷ 13 ∷ 14 ∷ 15 ∷ []); queue = []; flushed_numbers = (1 ∷ 2 ∷ 3 ∷ []); next_number = 5 }; raid = record { number = 0; next = finished; scanned = 0; marked = []; found = [] } }; faults = 3 }) ∷ []
@@ -100,7 +100,7 @@ l6 = served (reply.Done2 1 1000) ((event (put_call (a_digest 5) 0 None (replicat
 
 l6_is : IsLine n5 (command.Put (a_digest 5) 0 None (replicate 11152 0)) 1000 l6
 unfolding refreshed dropped_live placed with_flushed cold_book after_step start_state
-l6_is = record { does = ((event (put_call (a_digest 5) 0 None (replicate 11152 0) 1000) (stamp_given (stamp 1 1000)) (wrote (a_digest 5) (a_put (stamp 1 1000) 0 false (replicate 11152 0)) ∷ []) 3 3), refl, refl, refl); legal = (record { begins = refl; counts = lit≤ tt; allowed = inr (inl (refl, refl)) }, tt); tends = (((event (flush_sealed_call) (counted 1) (gate_begun 4 ∷ flushed_buffer 4 ∷ []) 3 3) ∷ (event (choose_call) (block_chosen None) [] 3 3) ∷ []), [], refl, ((event (flush_sealed_call) (counted 1) (gate_begun 4 ∷ flushed_buffer 4 ∷ []) 3 3), ((event (choose_call) (block_chosen None) [] 3 3) ∷ []), refl, refl, (did 0 0), ((event (choose_call) (block_chosen None) [] 3 3), [], refl, refl, inl (refl, refl, refl))), refl); tending = (record { begins = refl; counts = lit≤ tt; allowed = inl (refl, refl) }, (record { begins = refl; counts = lit≤ tt; allowed = inl (refl, refl) }, tt)) }
+l6_is = record { does = ((event (put_call (a_digest 5) 0 None (replicate 11152 0) 1000) (stamp_given (stamp 1 1000)) (wrote (a_digest 5) (a_put (stamp 1 1000) 0 false (replicate 11152 0)) ∷ []) 3 3), refl, refl, refl); legal = (record { begins = refl; counts = lit≤ tt; allowed = inr (inl (refl, refl)) }, tt); tends = (((event (flush_sealed_call) (counted 1) (gate_begun 4 ∷ flushed_buffer 4 ∷ []) 3 3) ∷ (event (choose_call) (block_chosen None) [] 3 3) ∷ []), [], refl, ((event (flush_sealed_call) (counted 1) (gate_begun 4 ∷ flushed_buffer 4 ∷ []) 3 3), ((event (choose_call) (block_chosen None) [] 3 3) ∷ []), refl, refl, ((did 0 0), ((event (choose_call) (block_chosen None) [] 3 3), [], refl, refl, inl (refl, refl, refl)))), refl); tending = (record { begins = refl; counts = lit≤ tt; allowed = inl (refl, refl) }, (record { begins = refl; counts = lit≤ tt; allowed = inl (refl, refl) }, tt)) }
 
 abbrev n6 : Node
 n6 = (record { setup = (device 16 0 4 false 86400); state = record { log = (((a_digest 5), write (a_put (stamp 1 1000) 0 false (replicate 11152 0)) (5 ∷ [])) ∷ ((a_digest 4), write (a_put (stamp 1 1000) 0 false (replicate 11152 0)) (4 ∷ [])) ∷ ((a_digest 3), write (a_put (stamp 1 1000) 0 false (replicate 11152 0)) (3 ∷ [])) ∷ ((a_digest 2), write (a_put (stamp 1 1000) 0 false (replicate 11152 0)) (2 ∷ [])) ∷ ((a_digest 1), write (a_put (stamp 1 1000) 0 false (replicate 11152 0)) (1 ∷ [])) ∷ []); book = record { live = ((record { digest = (a_digest 5); block = 4; unit = 0; units = 700 }) ∷ (record { digest = (a_digest 4); block = 3; unit = 0; units = 700 }) ∷ (record { digest = (a_digest 3); block = 2; unit = 0; units = 700 }) ∷ (record { digest = (a_digest 2); block = 1; unit = 0; units = 700 }) ∷ (record { digest = (a_digest 1); block = 0; unit = 0; units = 700 }) ∷ []); buffers = ((record { number = 5; block = 4; stream = client; used = 700; phase = filling }) ∷ []); holds = []; free = (5 ∷ 6 ∷ 7 ∷ 8 ∷ 9 ∷ 10 ∷ 11 ∷ 12 ∷ 13 ∷ 14 ∷ 15 ∷ []); queue = []; flushed_numbers = (1 ∷ 2 ∷ 3 ∷ 4 ∷ []); next_number = 6 }; raid = record { number = 0; next = finished; scanned = 0; marked = []; found = [] } }; faults = 3 }) ∷ []

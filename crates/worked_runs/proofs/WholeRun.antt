@@ -73,7 +73,7 @@ first = record { line = Some put_bytes; time = Some 1000; reply = (reply.Done2 1
 
 first_is : Serves nothing_left true start0 first
 unfolding refreshed dropped_live placed with_flushed cold_book after_step start_state
-first_is = record { answers = inl ((command.Put d1 0 None (codes "hello")), 1000, put_line, refl, inl (refl, ((event (put_call d1 0 None (104 ∷ 101 ∷ 108 ∷ 108 ∷ 111 ∷ []) 1000) (stamp_given (stamp 1 1000)) (wrote d1 (a_put (stamp 1 1000) 0 false (104 ∷ 101 ∷ 108 ∷ 108 ∷ 111 ∷ [])) ∷ []) 0 0), refl, refl, refl))); work = (record { begins = refl; counts = lit≤ tt; allowed = inr (inl (refl, refl)) }, tt); tends = (((event (flush_sealed_call) (counted 0) [] 0 0) ∷ (event (choose_call) (block_chosen None) [] 0 0) ∷ []), [], refl, ((event (flush_sealed_call) (counted 0) [] 0 0), ((event (choose_call) (block_chosen None) [] 0 0) ∷ []), refl, refl, (did 0 0), ((event (choose_call) (block_chosen None) [] 0 0), [], refl, refl, inl (refl, refl, refl))), refl); tending = (record { begins = refl; counts = lit≤ tt; allowed = inl (refl, refl) }, (record { begins = refl; counts = lit≤ tt; allowed = inl (refl, refl) }, tt)) }
+first_is = record { answers = inl ((command.Put d1 0 None (codes "hello")), 1000, put_line, refl, inl (refl, ((event (put_call d1 0 None (104 ∷ 101 ∷ 108 ∷ 108 ∷ 111 ∷ []) 1000) (stamp_given (stamp 1 1000)) (wrote d1 (a_put (stamp 1 1000) 0 false (104 ∷ 101 ∷ 108 ∷ 108 ∷ 111 ∷ [])) ∷ []) 0 0), refl, refl, refl))); work = (record { begins = refl; counts = lit≤ tt; allowed = inr (inl (refl, refl)) }, tt); tends = (((event (flush_sealed_call) (counted 0) [] 0 0) ∷ (event (choose_call) (block_chosen None) [] 0 0) ∷ []), [], refl, ((event (flush_sealed_call) (counted 0) [] 0 0), ((event (choose_call) (block_chosen None) [] 0 0) ∷ []), refl, refl, ((did 0 0), ((event (choose_call) (block_chosen None) [] 0 0), [], refl, refl, inl (refl, refl, refl)))), refl); tending = (record { begins = refl; counts = lit≤ tt; allowed = inl (refl, refl) }, (record { begins = refl; counts = lit≤ tt; allowed = inl (refl, refl) }, tt)) }
 
 abbrev second_node : Node
 second_node = node_after_line first start0
@@ -83,7 +83,7 @@ second = record { line = Some get_bytes; time = Some 1000; reply = (reply.Val (s
 
 second_is : Serves nothing_left true second_node second
 unfolding refreshed dropped_live placed with_flushed cold_book after_step start_state
-second_is = record { answers = inl ((command.Get d1), 1000, get_line, refl, inl (refl, ((event (get_call d1 1000) (found_version (Some (a_put (stamp 1 1000) 0 false (104 ∷ 101 ∷ 108 ∷ 108 ∷ 111 ∷ [])))) [] 0 0), refl, refl, refl))); work = (record { begins = refl; counts = lit≤ tt; allowed = inl ((Some (a_put (stamp 1 1000) 0 false (104 ∷ 101 ∷ 108 ∷ 108 ∷ 111 ∷ []))), refl, refl, refl) }, tt); tends = (((event (flush_sealed_call) (counted 0) [] 0 0) ∷ (event (choose_call) (block_chosen None) [] 0 0) ∷ []), [], refl, ((event (flush_sealed_call) (counted 0) [] 0 0), ((event (choose_call) (block_chosen None) [] 0 0) ∷ []), refl, refl, (did 0 0), ((event (choose_call) (block_chosen None) [] 0 0), [], refl, refl, inl (refl, refl, refl))), refl); tending = (record { begins = refl; counts = lit≤ tt; allowed = inl (refl, refl) }, (record { begins = refl; counts = lit≤ tt; allowed = inl (refl, refl) }, tt)) }
+second_is = record { answers = inl ((command.Get d1), 1000, get_line, refl, inl (refl, ((event (get_call d1 1000) (found_version (Some (a_put (stamp 1 1000) 0 false (104 ∷ 101 ∷ 108 ∷ 108 ∷ 111 ∷ [])))) [] 0 0), refl, refl, refl))); work = (record { begins = refl; counts = lit≤ tt; allowed = inl ((Some (a_put (stamp 1 1000) 0 false (104 ∷ 101 ∷ 108 ∷ 108 ∷ 111 ∷ []))), refl, refl, refl) }, tt); tends = (((event (flush_sealed_call) (counted 0) [] 0 0) ∷ (event (choose_call) (block_chosen None) [] 0 0) ∷ []), [], refl, ((event (flush_sealed_call) (counted 0) [] 0 0), ((event (choose_call) (block_chosen None) [] 0 0) ∷ []), refl, refl, ((did 0 0), ((event (choose_call) (block_chosen None) [] 0 0), [], refl, refl, inl (refl, refl, refl)))), refl); tending = (record { begins = refl; counts = lit≤ tt; allowed = inl (refl, refl) }, (record { begins = refl; counts = lit≤ tt; allowed = inl (refl, refl) }, tt)) }
 
 abbrev third_node : Node
 third_node = node_after_line second second_node
