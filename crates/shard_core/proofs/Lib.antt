@@ -36,3 +36,4 @@ pub mod Choices
 pub mod Tending
 pub mod Expiring
 pub mod Raiding
+pub mod Tidy
