@@ -1,0 +1,57 @@
+-- How many of a list pass a test, and where no more than one does.
+use Rattle.std.proofs.Common.{◌≡◌, ◌≢◌, ◌⊎◌, inl, inr, ⊎_elim, ℕ, ◌+◌, ◌≤◌, ◌<◌, Bool, true, false, cond, List, [], ◌∷◌, ◌++◌, length, map, refl, sym, ◌∙◌, ap, subst, arith}
+use Rattle.std.specs.Prelude.{◌==◌, Option, Some, None, Contains, filter, find, sum_by, count_by}
+use Rattle.std.specs.List.{AllByRecursion, IsDistinct}
+use Rattle.std.proofs.lemmas.Bool.{false≢true}
+use Rattle.std.proofs.lemmas.List.Sums.{sum_by-cons, sum_by-append}
+use Rattle.recovery.proofs.Growing.{all_at, all_from, cons_cases}
+
+abbrev pub one_if : Bool → ℕ
+one_if b = cond b 1 0
+
+pub count_cons : {X : Type 0} (p : X → Bool) (x : X) (xs : List X) → count_by p (x ∷ xs) ≡ one_if (p x) + count_by p xs
+count_cons p x xs = sum_by-cons (λ y. one_if (p y)) x xs
+
+pub count_joined : {X : Type 0} (p : X → Bool) (xs ys : List X) → count_by p (xs ++ ys) ≡ count_by p xs + count_by p ys
+count_joined p xs ys = sum_by-append (λ y. one_if (p y)) xs ys
+
+one_if_le : (a b : Bool) → (a ≡ true → b ≡ true) → one_if a ≤ one_if b
+one_if_le true true to = omega arith
+one_if_le true false to = absurd (false≢true (to refl))
+one_if_le false b to = omega arith
+
+-- where each that passes behind a change passed before, no more pass
+pub count_changed : {X Y : Type 0} (p : Y → Bool) (q : X → Bool) (change : X → Y) (xs : List X) → AllByRecursion (λ x. p (change x) ≡ true → q x ≡ true) xs → count_by p (map change xs) ≤ count_by q xs
+count_changed p q change [] all = omega arith
+count_changed p q change (x ∷ xs) all =
+    omega (arith, count_cons p (change x) (map change xs), count_cons q x xs, one_if_le (p (change x)) (q x) all.0, count_changed p q change xs all.1)
+
+pub count_none : {X : Type 0} (p : X → Bool) (xs : List X) → AllByRecursion (λ x. p x ≡ false) xs → count_by p xs ≡ 0
+count_none p [] all = refl
+count_none p (x ∷ xs) all = count_cons p x xs ∙ (λ i. one_if (all.0 i) + count_none p xs all.1 i)
+
+-- one that passes is counted
+pub count_some : {X : Type 0} (p : X → Bool) (xs : List X) (x : X) → Contains xs x → p x ≡ true → 1 ≤ count_by p xs
+count_some p [] x there is = absurd (omega (arith, there.1))
+count_some {X} p (y ∷ xs) x there is =
+    ⊎_elim (λ (e : y ≡ x). let one : one_if (p y) ≡ 1 = ap one_if (ap p e ∙ is) in omega (arith, count_cons p y xs, one))
+    (λ (more : Contains xs x). omega (arith, count_cons p y xs, count_some p xs x more is)) (cons_cases y xs x there)
+
+-- where no more than one passes, each that does is the one that is found
+pub one_found : {X : Type 0} (p : X → Bool) (xs : List X) (x y : X) → count_by p xs ≤ 1 → find p xs ≡ Some x → Contains xs y → p y ≡ true → y ≡ x
+one_found p [] x y alone found there is = absurd (cc)
+one_found {X} p (z ∷ xs) x y alone found there is = by (p z) refl found (λ le more in_xs. one_found p xs x y le more in_xs is)
+  where
+    by : (b : Bool) → p z ≡ b → cond b (Some z) (find p xs) ≡ Some x → (count_by p xs ≤ 1 → find p xs ≡ Some x → Contains xs y → y ≡ x) → y ≡ x
+    by true one found rest =
+        let same : z ≡ x = cc in
+        ⊎_elim (λ (e : z ≡ y). sym e ∙ same)
+        (λ (more : Contains xs y).
+        let here : one_if (p z) ≡ 1 = ap one_if one in
+        absurd (omega (arith, count_cons p z xs, here, count_some p xs y more is, alone)))
+        (cons_cases z xs y there)
+    by false none found rest =
+        let here : one_if (p z) ≡ 0 = ap one_if none in
+        ⊎_elim (λ (e : z ≡ y). absurd (false≢true (sym none ∙ ap p e ∙ is)))
+        (λ (more : Contains xs y). rest (omega (arith, count_cons p z xs, here, alone)) found more)
+        (cons_cases z xs y there)
