@@ -37,21 +37,17 @@ count_some {X} p (y ∷ xs) x there is =
     ⊎_elim (λ (e : y ≡ x). let one : one_if (p y) ≡ 1 = ap one_if (ap p e ∙ is) in omega (arith, count_cons p y xs, one))
     (λ (more : Contains xs x). omega (arith, count_cons p y xs, count_some p xs x more is)) (cons_cases y xs x there)
 
--- where no more than one passes, each that does is the one that is found
-pub one_found : {X : Type 0} (p : X → Bool) (xs : List X) (x y : X) → count_by p xs ≤ 1 → find p xs ≡ Some x → Contains xs y → p y ≡ true → y ≡ x
-one_found p [] x y alone found there is = absurd (cc)
-one_found {X} p (z ∷ xs) x y alone found there is = by (p z) refl found (λ le more in_xs. one_found p xs x y le more in_xs is)
+-- where no more than one passes, it is the one that is found
+pub only_found : {X : Type 0} (p : X → Bool) (xs : List X) (x : X) → count_by p xs ≤ 1 → Contains xs x → p x ≡ true → find p xs ≡ Some x
+only_found p [] x alone there is = absurd (omega (arith, there.1))
+only_found {X} p (y ∷ xs) x alone there is = by (p y) refl (cons_cases y xs x there) (λ le more. only_found p xs x le more is)
   where
-    by : (b : Bool) → p z ≡ b → cond b (Some z) (find p xs) ≡ Some x → (count_by p xs ≤ 1 → find p xs ≡ Some x → Contains xs y → y ≡ x) → y ≡ x
-    by true one found rest =
-        let same : z ≡ x = cc in
-        ⊎_elim (λ (e : z ≡ y). sym e ∙ same)
-        (λ (more : Contains xs y).
-        let here : one_if (p z) ≡ 1 = ap one_if one in
-        absurd (omega (arith, count_cons p z xs, here, count_some p xs y more is, alone)))
-        (cons_cases z xs y there)
-    by false none found rest =
-        let here : one_if (p z) ≡ 0 = ap one_if none in
-        ⊎_elim (λ (e : z ≡ y). absurd (false≢true (sym none ∙ ap p e ∙ is)))
-        (λ (more : Contains xs y). rest (omega (arith, count_cons p z xs, here, alone)) found more)
-        (cons_cases z xs y there)
+    by : (b : Bool) → p y ≡ b → (y ≡ x) ⊎ Contains xs x → (count_by p xs ≤ 1 → Contains xs x → find p xs ≡ Some x) → cond b (Some y) (find p xs) ≡ Some x
+    by true one (inl e) rest = ap (λ (z : X). Some z) e
+    by true one (inr more) rest =
+        let here : one_if (p y) ≡ 1 = ap one_if one in
+        absurd (omega (arith, count_cons p y xs, here, count_some p xs x more is, alone))
+    by false none (inl e) rest = absurd (false≢true (sym none ∙ ap p e ∙ is))
+    by false none (inr more) rest =
+        let here : one_if (p y) ≡ 0 = ap one_if none in
+        rest (omega (arith, count_cons p y xs, here, alone)) more

@@ -1,3 +1,6 @@
-mod Uses
+mod Coming
 mod Counts
+mod Keeping
+mod Moving
 mod Readying
+mod Uses

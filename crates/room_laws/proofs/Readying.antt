@@ -16,7 +16,7 @@ use Rattle.kept_trail.proofs.Places.{any_there, none_at, buffer_place}
 use Rattle.kept_trail.proofs.Placing.{place, sealed_place, new_places, first_free, find_there}
 use Rattle.room_laws.specs.Tidy.{IsTidy, fills}
 use Rattle.room_laws.specs.Room.{may_come}
-use Rattle.room_laws.proofs.Counts.{count_changed, count_joined, count_none, one_found}
+use Rattle.room_laws.proofs.Counts.{count_changed, count_joined, count_none}
 
 -- ---- buffers
 
