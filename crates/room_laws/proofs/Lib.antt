@@ -1,6 +1,7 @@
 mod Coming
 mod Counts
 mod Keeping
+mod Moves
 mod Moving
 mod Readying
 mod Uses

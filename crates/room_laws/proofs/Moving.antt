@@ -3,7 +3,7 @@
 use Rattle.std.proofs.Common.{◌≡◌, ◌≢◌, ◌⊎◌, inl, inr, ⊎_elim, ℕ, zero, suc, ◌+◌, ◌*◌, ◌≤◌, ◌<◌, Bool, true, false, not, cond, ◌&&◌, ◌||◌, List, [], ◌∷◌, ◌++◌, length, length-append, map, refl, sym, ◌∙◌, ap, subst, arith}
 use Rattle.std.specs.Prelude.{◌==◌, nat_lt, Option, Some, None, Contains, filter, find, count_by}
 use Rattle.std.specs.List.{AllByRecursion, IsDistinct, list_any}
-use Rattle.std.proofs.lemmas.Bool.{false≢true, cases_eq, cond-true, cond-false, or_from, ne_eqb, eq-eqb, eqb-true, eqb-false, both_ways, and_parts, and_from, not-true}
+use Rattle.std.proofs.lemmas.Bool.{false≢true, cases_eq, cond-true, cond-false, or_from, ne_eqb, eq-eqb, eqb-true, eqb-false, both_ways, and_parts, and_from, not-true, ltb-true, ltb-false, lt-ltb}
 use Rattle.std.proofs.lemmas.List.Sums.{length-filter, count_by-le-length}
 use Rattle.std.proofs.lemmas.Map.Keys.{IsDistinct-head, IsDistinct-tail, IsDistinct-cons}
 use Rattle.rec_format.specs.declared.version.Digest.{Digest}
@@ -74,6 +74,28 @@ pub queued_alike : (setup : Setup) (old new : Book) (block : ℕ) → has_buffer
 queued_alike setup old new block buffer live =
     ap (λ (t : Bool). not t && nat_lt 0 (use_of new block) && nat_lt (use_of new block * 100) (setup.lwm * setup.capacity)) buffer
     ∙ ap (λ (n : ℕ). not (has_buffer old block) && nat_lt 0 n && nat_lt (n * 100) (setup.lwm * setup.capacity)) live
+
+-- a queued block is below the mark
+pub waits_below : (setup : Setup) (book : Book) (block : ℕ) → may_be_queued setup book block ≡ true → use_of book block * 100 < setup.lwm * setup.capacity
+waits_below setup book block may =
+    ltb-true (use_of book block * 100) (setup.lwm * setup.capacity)
+    (and_parts (not (has_buffer book block) && nat_lt 0 (use_of book block)) (nat_lt (use_of book block * 100) (setup.lwm * setup.capacity)) may).1
+
+pub waits_bare : (setup : Setup) (book : Book) (block : ℕ) → may_be_queued setup book block ≡ true → has_buffer book block ≡ false
+waits_bare setup book block may =
+    not-true (has_buffer book block)
+    (and_parts (not (has_buffer book block)) (nat_lt 0 (use_of book block)) (and_parts (not (has_buffer book block) && nat_lt 0 (use_of book block)) (nat_lt (use_of book block * 100) (setup.lwm * setup.capacity)) may).0).0
+
+-- one below the mark, without a buffer, that isn't queued has nothing live
+waits_not : (setup : Setup) (book : Book) (block : ℕ) → has_buffer book block ≡ false → use_of book block * 100 < setup.lwm * setup.capacity → may_be_queued setup book block ≡ false → use_of book block ≡ 0
+waits_not setup book block bare less may = by (nat_lt 0 (use_of book block)) refl
+  where
+    by : (t : Bool) → nat_lt 0 (use_of book block) ≡ t → use_of book block ≡ 0
+    by true some =
+        absurd (both_ways (may_be_queued setup book block) may
+        (and_from (not (has_buffer book block) && nat_lt 0 (use_of book block)) (nat_lt (use_of book block * 100) (setup.lwm * setup.capacity))
+        (and_from (not (has_buffer book block)) (nat_lt 0 (use_of book block)) (ap not bare) some) (lt-ltb (use_of book block * 100) (setup.lwm * setup.capacity) less)))
+    by false none = omega (arith, ltb-false 0 (use_of book block) none)
 
 -- ---- the move
 
@@ -154,14 +176,22 @@ module _ (setup : Setup) (book ready : Book) (x : Buffer) (is : IsReadied book r
       refreshed_one setup book mid copy.block (all_at (λ (l : Live). l.block < setup.blocks) book.live copy tidy.within.live (live_there digest book.live copy live)) is.queue
       tidy.queued queued_still tidy.below
 
-  -- the block at its front stays there, or leaves it
-  pub queue_after : (bs : List ℕ) → book.queue ≡ copy.block ∷ bs → (new.queue ≡ book.queue) ⊎ (length new.queue + 1 ≤ length book.queue)
+  -- the block at its front stays there, or leaves it with nothing live
+  pub queue_after : (bs : List ℕ) → book.queue ≡ copy.block ∷ bs → (new.queue ≡ book.queue) ⊎ ((length new.queue ≤ length bs) × (use_of mid copy.block ≡ 0))
   queue_after bs front = by (may_be_queued setup mid copy.block) refl
     where
       first_is : is_in book.queue copy.block ≡ true
       first_is = ap (λ (l : List ℕ). is_in l copy.block) front ∙ ap (λ (t : Bool). t || is_in bs copy.block) (eq-eqb copy.block copy.block refl)
 
-      by : (t : Bool) → may_be_queued setup mid copy.block ≡ t → (new.queue ≡ book.queue) ⊎ (length new.queue + 1 ≤ length book.queue)
+      was : may_be_queued setup book copy.block ≡ true
+      was = sym (tidy.queued copy.block (all_at (λ (l : Live). l.block < setup.blocks) book.live copy tidy.within.live (live_there digest book.live copy live))) ∙ first_is
+
+      emptied : may_be_queued setup mid copy.block ≡ false → use_of mid copy.block ≡ 0
+      emptied gone =
+          let lt = waits_below setup book copy.block was in
+          waits_not setup mid copy.block (has_still copy.block ∙ ready_bare) (omega (arith, use_left, lt)) gone
+
+      by : (t : Bool) → may_be_queued setup mid copy.block ≡ t → (new.queue ≡ book.queue) ⊎ ((length new.queue ≤ length bs) × (use_of mid copy.block ≡ 0))
       by true may =
           inl (queue_is ∙ ap (λ (t : Bool). requeued t copy.block book.queue) may ∙ cond-true (is_in book.queue copy.block) book.queue (book.queue ++ copy.block ∷ []) first_is)
       by false may =
@@ -169,7 +199,7 @@ module _ (setup : Setup) (book ready : Book) (x : Buffer) (is : IsReadied book r
           let left : new.queue ≡ filter stays bs =
               queue_is ∙ ap (λ (t : Bool). requeued t copy.block book.queue) may ∙ ap (filter stays) front
               ∙ cond-false (stays copy.block) (copy.block ∷ filter stays bs) (filter stays bs) (ap not (eq-eqb copy.block copy.block refl)) in
-          inr (omega (arith, ap length left, ap length front, length-filter stays bs, count_by-le-length stays bs))
+          inr (omega (arith, ap length left, length-filter stays bs, count_by-le-length stays bs), emptied may)
 
   -- ---- free blocks
 

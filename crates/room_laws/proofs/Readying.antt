@@ -4,7 +4,7 @@ use Rattle.std.specs.Prelude.{◌==◌, nat_lt, Option, Some, None, Contains, fi
 use Rattle.std.specs.List.{AllByRecursion, list_any}
 use Rattle.std.proofs.lemmas.Bool.{false≢true, or_from, or_left, or_right, ne_eqb, eq-eqb, eqb-true, eqb-false, both_ways, and_parts, and_from, ltb-true}
 use Rattle.std.proofs.lemmas.List.Folds.{list_any-append}
-use Rattle.std.proofs.lemmas.List.Elements.{Contains-append_cases}
+use Rattle.std.proofs.lemmas.List.Elements.{Contains-append_cases, Contains-append_right}
 use Rattle.device_model.specs.Book.{Setup, Buffer, Book, Stream, client, defrag, Phase, filling, sealed, opening, is_filling, same_stream, sealed_if, seal_stream, first_block, filling_buffer, has_buffer, use_of, may_be_queued, with_new_buffer}
 use Rattle.recovery.specs.Holding.{AreRising, HasRisingNumbers}
 use Rattle.recovery.proofs.Growing.{all_at, all_from, cons_cases}
@@ -16,7 +16,7 @@ use Rattle.kept_trail.proofs.Places.{any_there, none_at, buffer_place}
 use Rattle.kept_trail.proofs.Placing.{place, sealed_place, new_places, first_free, find_there}
 use Rattle.room_laws.specs.Tidy.{IsTidy, fills}
 use Rattle.room_laws.specs.Room.{may_come}
-use Rattle.room_laws.proofs.Counts.{count_changed, count_joined, count_none}
+use Rattle.room_laws.proofs.Counts.{count_changed, count_joined, count_none, only_found}
 
 -- ---- buffers
 
@@ -136,13 +136,18 @@ module _ (setup : Setup) (book : Book) (tidy : IsTidy setup book) where
         let one : count_by (fills defrag) (fresh ∷ []) ≡ 1 = refl in
         omega (arith, count_joined (fills defrag) (seal_stream defrag book.buffers) (fresh ∷ []), old, none, one)
 
-    pub new_readied : filling_buffer defrag (with_new_buffer defrag book).buffers ≡ Some fresh → IsReadied book (with_new_buffer defrag book) fresh
-    new_readied found = record {
+    new_found : filling_buffer defrag (with_new_buffer defrag book).buffers ≡ Some fresh
+    new_found =
+        only_found (fills defrag) (with_new_buffer defrag book).buffers fresh (new_alone defrag)
+        (Contains-append_right (seal_stream defrag book.buffers) (fresh ∷ []) fresh (first_there fresh [])) refl
+
+    pub new_readied : IsReadied book (with_new_buffer defrag book) fresh
+    new_readied = record {
       live = refl;
       free = refl;
       queue = refl;
       holds = refl;
-      found = found;
+      found = new_found;
       single = λ y there same.
           ⊎_elim (λ (old : (z : Buffer) × Contains book.buffers z × (place z ≡ place y)).
           let lt = all_at (λ (b : Buffer). b.number < book.next_number) book.buffers old.0 tidy.numbered.below old.1 in
