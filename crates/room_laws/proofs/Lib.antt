@@ -1,5 +1,6 @@
 mod Coming
 mod Counts
+mod Emptying
 mod Keeping
 mod Moves
 mod Moving

@@ -236,7 +236,7 @@ module _ (setup : Setup) (book ready : Book) (x : Buffer) (is : IsReadied book r
 
   -- ---- the book behind it
 
-  new_use : (k : ℕ) → use_of new k ≡ use_of mid k
+  pub new_use : (k : ℕ) → use_of new k ≡ use_of mid k
   unfolding refreshed
   new_use k = refl
 
