@@ -1,8 +1,9 @@
 mod Coming
 mod Counts
-mod Emptying
+mod Draining
 mod Keeping
 mod Moves
 mod Moving
 mod Readying
 mod Uses
+mod Vacated

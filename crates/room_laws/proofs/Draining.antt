@@ -57,7 +57,7 @@ spare_room setup block units book spare le =
     ap (fits_in setup.capacity units) spare.found ∙ le-leb (spare.buffer.used + units) setup.capacity (let room = spare.room in omega (arith, room, le))
 
 -- the units of a copy are among those of its block
-copy_used : (book : Book) (digest : Digest) (copy : Live) → IsDistinct (λ l m. same_digest l.digest m.digest) book.live → live_of digest book.live ≡ Some copy → copy.units ≤ use_of book copy.block
+pub copy_used : (book : Book) (digest : Digest) (copy : Live) → IsDistinct (λ l m. same_digest l.digest m.digest) book.live → live_of digest book.live ≡ Some copy → copy.units ≤ use_of book copy.block
 copy_used book digest copy own live = let rest = use_without digest book.live copy own live copy.block in omega (arith, rest, share_here copy)
 
 -- ---- one move
