@@ -59,7 +59,7 @@ found_changed p change keeps (y ∷ bs) x found = by (p y) refl found (found_cha
 
 -- ---- a block in which nothing is live
 
-unused_waits_not : (setup : Setup) (book : Book) (block : ℕ) → use_of book block ≡ 0 → may_be_queued setup book block ≡ false
+pub unused_waits_not : (setup : Setup) (book : Book) (block : ℕ) → use_of book block ≡ 0 → may_be_queued setup book block ≡ false
 unused_waits_not setup book block none =
     ap (λ (n : ℕ). not (has_buffer book block) && nat_lt 0 n && nat_lt (n * 100) (setup.lwm * setup.capacity)) none ∙ by (not (has_buffer book block))
   where

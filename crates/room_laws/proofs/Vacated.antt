@@ -17,7 +17,7 @@ use Rattle.room_laws.specs.Tidy.{IsTidy}
 use Rattle.room_laws.specs.Room.{NoneRefused, FindsRoom, left_to_vacate, may_come}
 use Rattle.room_laws.proofs.Draining.{HasSpare, IsEmptying, copy_used, spare_room, step_empties}
 use Rattle.room_laws.proofs.Moves.{HasCopy, MoveEnds, stays, goes, lacks, fails, FailsOtherwise, move_ends, choice_ends, went_on, not_refused, not_for_space, fails_not_for_space}
-use Rattle.room_laws.proofs.Moving.{waits_bare, waits_below}
+use Rattle.room_laws.proofs.Moving.{unused_waits_not, waits_bare, waits_below}
 
 -- ---- no place
 
@@ -112,3 +112,124 @@ module _ (setup : Setup) (told : Bool) (block : ℕ) (behind : List ℕ) (start 
       (λ (on : ((cause : Cause) → event.answer ≢ refused cause) × MovesOut setup block (after_event setup event s) (moved + moved_by event.answer) events outcome).
       moves_find events (after_event setup event s) event.faults_after (moved + moved_by event.answer) outcome low some (move_empties s event out.0.0 was ends on.0) legal.1 on.1)
       (when_refused event.answer (λ cause. (events ≡ []) × (outcome ≡ stopped cause)) (MovesOut setup block (after_event setup event s) (moved + moved_by event.answer) events outcome) out.1))
+
+-- ---- the front of the queue
+
+front_is : (queue : List ℕ) (block : ℕ) → queue_front queue ≡ Some block → (behind : List ℕ) × (queue ≡ block ∷ behind)
+front_is [] block is = absurd (cc)
+front_is (b ∷ bs) block is = let same : b ≡ block = cc in (bs, ap (λ (n : ℕ). n ∷ bs) same)
+
+none_queued : (queue : List ℕ) → queue_front queue ≡ None → queue ≡ []
+none_queued [] is = refl
+none_queued (b ∷ bs) is = absurd (cc)
+
+module _ (setup : Setup) (book : Book) (tidy : IsTidy setup book) (block : ℕ) (behind : List ℕ) (front : book.queue ≡ block ∷ behind) where
+  in_range : block < setup.blocks
+  in_range = (subst (AllByRecursion (λ b. b < setup.blocks)) front tidy.below).0
+
+  first_is : is_in book.queue block ≡ true
+  first_is = ap (λ (l : List ℕ). is_in l block) front ∙ ap (λ (t : Bool). t || is_in behind block) (eq-eqb block block refl)
+
+  pub front_waits : may_be_queued setup book block ≡ true
+  front_waits = sym (tidy.queued block in_range) ∙ first_is
+
+  pub front_empties : IsEmptying setup block behind book book
+  front_empties = record {
+    tidy = tidy;
+    bare = waits_bare setup book block front_waits;
+    less = waits_below setup book block front_waits;
+    front = inl front;
+    come = λ half. omega arith;
+    free = λ low none. inl (none, omega arith);
+    space = λ low some. inl some;
+  }
+
+-- ---- vacating
+
+-- what a block that was vacated leaves
+pub record HasVacated (setup : Setup) (old new : Book) : Type 0 where
+  pub tidy : IsTidy setup new
+  pub less : left_to_vacate setup new + 1 ≤ left_to_vacate setup old
+  pub free : filling_buffer defrag old.buffers ≡ None → length old.free ≤ length new.free + 1
+
+emptied_vacates : (setup : Setup) (block : ℕ) (behind : List ℕ) (old new : Book) → setup.lwm ≤ 50 → old.queue ≡ block ∷ behind → IsEmptying setup block behind old new → use_of new block ≡ 0 → HasVacated setup old new
+emptied_vacates setup block behind old new half front is empty = record {
+  tidy = is.tidy;
+  less =
+      let shorter = by is.front in
+      let come = is.come half in
+      omega (arith, shorter, ap length front, come);
+  free = λ none.
+      ⊎_elim (λ (same : (filling_buffer defrag new.buffers ≡ None) × (length old.free ≤ length new.free)). omega (arith, same.1))
+      (λ (begun : HasSpare setup block new × (length old.free ≤ length new.free + 1)). begun.1) (is.free (omega (arith, half)) none);
+}
+  where
+    by : (new.queue ≡ block ∷ behind) ⊎ ((length new.queue ≤ length behind) × (use_of new block ≡ 0)) → length new.queue ≤ length behind
+    by (inl still) = absurd (both_ways (may_be_queued setup new block) (unused_waits_not setup new block empty) (front_waits setup new is.tidy block behind still))
+    by (inr gone) = gone.0
+
+module _ (setup : Setup) (told : Bool) (t : State) (faults : ℕ) (tidy : IsTidy setup t.book) (first : Event) (moves : List Event) (call : first.call ≡ choose_call)
+    (legal : IsLegal setup told t faults (first ∷ moves)) where
+  choice : (first.steps ≡ []) × ((first.answer ≡ block_chosen (queue_front t.book.queue)) ⊎ FailsOtherwise first)
+  choice = choice_ends setup told t first (subst (λ c. Allowed setup told t first c) call legal.0.allowed)
+
+  still : t ≡ after_event setup first t
+  still = sym (ap (λ (l : List Step). after_steps setup l t) choice.0)
+
+  -- what was chosen is the front
+  chosen : (block : Option ℕ) → first.answer ≡ block_chosen block → queue_front t.book.queue ≡ block
+  chosen block answer =
+      ⊎_elim (λ (is : first.answer ≡ block_chosen (queue_front t.book.queue)).
+      let same : block_chosen (queue_front t.book.queue) ≡ block_chosen block = sym is ∙ answer in cc)
+      (λ (fails : FailsOtherwise first). let clash : refused fails.cause ≡ block_chosen block = sym fails.answers ∙ answer in absurd (cc)) choice.1
+
+  abbrev Ends : Outcome → Type 0
+  Ends outcome =
+      ((first.answer ≡ block_chosen None) × (moves ≡ []) × (outcome ≡ did 0 0))
+      ⊎ ((block : ℕ) × (first.answer ≡ block_chosen (Some block)) × MovesOut setup block (after_event setup first t) 0 moves outcome)
+      ⊎ ((cause : Cause) × (first.answer ≡ refused cause) × (moves ≡ []) × (outcome ≡ stopped cause))
+
+  vacates : (outcome : Outcome) → setup.lwm ≤ 50 → NoneRefused (first ∷ moves) → Ends outcome
+      → ((t.book.queue ≡ []) × (steps_of (first ∷ moves) ≡ [])) ⊎ HasVacated setup t.book (after_events setup (first ∷ moves) t).book
+  vacates outcome half none (inl ends) =
+      inl (none_queued t.book.queue (chosen None ends.0), (λ i. choice.0 i ++ steps_of (ends.1 i)))
+  vacates outcome half none (inr (inl ends)) =
+      let front = front_is t.book.queue ends.0 (chosen (Some ends.0) ends.1) in
+      let was = subst (λ (s : State). IsEmptying setup ends.0 front.0 t.book s.book) still (front_empties setup t.book tidy ends.0 front.0 front.1) in
+      let made = moves_empty setup told ends.0 front.0 t.book moves (after_event setup first t) first.faults_after 0 outcome was legal.1 ends.2 none.1 in
+      inr (emptied_vacates setup ends.0 front.0 t.book (after_events setup moves (after_event setup first t)).book half front.1 made.0 made.1)
+  vacates outcome half none (inr (inr ends)) = absurd (not_refused first.answer ends.0 none.0 ends.1)
+
+  finds : (outcome : Outcome) → setup.lwm ≤ 100 → 1 ≤ length t.book.free → Ends outcome → AllByRecursion (λ event. IfRefused event.answer (λ cause. (free : ℕ) → cause ≢ no_space free) (Unit {0})) (first ∷ moves)
+  finds outcome low some ends = (not_for_space first.answer first_finds, by ends)
+    where
+      first_finds : (free : ℕ) → first.answer ≢ refused (no_space free)
+      first_finds free same =
+          ⊎_elim (λ (is : first.answer ≡ block_chosen (queue_front t.book.queue)). let clash : block_chosen (queue_front t.book.queue) ≡ refused (no_space free) = sym is ∙ same in absurd (cc))
+          (λ (fails : FailsOtherwise first). fails_not_for_space first fails free same) choice.1
+
+      nothing : moves ≡ [] → AllByRecursion (λ event. IfRefused event.answer (λ cause. (free : ℕ) → cause ≢ no_space free) (Unit {0})) moves
+      nothing is = subst (AllByRecursion (λ event. IfRefused event.answer (λ cause. (free : ℕ) → cause ≢ no_space free) (Unit {0}))) (sym is) tt
+
+      by : Ends outcome → AllByRecursion (λ event. IfRefused event.answer (λ cause. (free : ℕ) → cause ≢ no_space free) (Unit {0})) moves
+      by (inl ends) = nothing ends.1
+      by (inr (inl ends)) =
+          let front = front_is t.book.queue ends.0 (chosen (Some ends.0) ends.1) in
+          let was = subst (λ (s : State). IsEmptying setup ends.0 front.0 t.book s.book) still (front_empties setup t.book tidy ends.0 front.0 front.1) in
+          moves_find setup told ends.0 front.0 t.book moves (after_event setup first t) first.faults_after 0 outcome low some was legal.1 ends.2
+      by (inr (inr ends)) = nothing ends.2
+
+-- Where no event was refused nothing was queued, or less is left to vacate; and one free block went at most, where no buffer gathered moved
+-- records.
+pub vacated : (setup : Setup) (told : Bool) (t : State) (faults : ℕ) (rest : List Event) (outcome : Outcome) → IsTidy setup t.book → setup.lwm ≤ 50 → Vacates setup t rest outcome
+    → IsLegal setup told t faults rest → NoneRefused rest → ((t.book.queue ≡ []) × (steps_of rest ≡ [])) ⊎ HasVacated setup t.book (after_events setup rest t).book
+vacated setup told t faults rest outcome tidy half (first, moves, is, call, ends) legal none =
+    subst (λ (l : List Event). ((t.book.queue ≡ []) × (steps_of l ≡ [])) ⊎ HasVacated setup t.book (after_events setup l t).book) (sym is)
+    (vacates setup told t faults tidy first moves call (subst (IsLegal setup told t faults) is legal) outcome half (subst NoneRefused is none) ends)
+
+-- Where a block is free, no event is refused for want of space.
+pub vacating_finds : (setup : Setup) (told : Bool) (t : State) (faults : ℕ) (rest : List Event) (outcome : Outcome) → IsTidy setup t.book → setup.lwm ≤ 100 → Vacates setup t rest outcome
+    → IsLegal setup told t faults rest → FindsRoom t rest
+vacating_finds setup told t faults rest outcome tidy low (first, moves, is, call, ends) legal some =
+    subst (AllByRecursion (λ event. IfRefused event.answer (λ cause. (free : ℕ) → cause ≢ no_space free) (Unit {0}))) (sym is)
+    (finds setup told t faults tidy first moves call (subst (IsLegal setup told t faults) is legal) outcome low some ends)
