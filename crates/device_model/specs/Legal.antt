@@ -1,5 +1,5 @@
 -- Crate device_model. Which events may follow a state, and which lists of events are legal.
-use Rattle.std.specs.Prelude.{ℕ, ◌+◌, ◌-◌, ◌≤◌, Bool, true, false, ◌&&◌, ◌==◌, nat_lt, nat_le, List, [], ◌∷◌, ◌++◌, length, map, filter, flat_map, count_by, Option, Some, None, ◌≡◌, ◌⊎◌, if◌then◌else◌, is_some, MatchBool, MatchOption}
+use Rattle.std.specs.Prelude.{ℕ, ◌+◌, ◌-◌, ◌*◌, ◌≤◌, Bool, true, false, ◌&&◌, ◌||◌, ◌==◌, nat_lt, nat_le, List, [], ◌∷◌, ◌++◌, length, map, filter, flat_map, count_by, Option, Some, None, ◌≡◌, ◌⊎◌, if◌then◌else◌, is_some, MatchBool, MatchOption}
 use Rattle.std.specs.List.{list_any}
 use Rattle.fault_count.specs.Counts.{Rose}
 use Rattle.rec_format.specs.declared.version.Digest.{Digest}
@@ -22,12 +22,28 @@ abbrev pub seal_all : Book → List Step
 seal_all book =
     seal_if (is_some (filling_buffer client book.buffers)) client ++ seal_if (is_some (filling_buffer defrag book.buffers)) defrag
 
--- where at most 6 blocks are free, seals each stream whose buffer holds a block without live units
+-- so little room is left in a buffer that a block below the low-water mark may not fit
+abbrev pub is_short : Setup → Option Buffer → Bool
+is_short setup None = false
+is_short setup (Some buffer) = nat_lt ((setup.capacity - buffer.used) * 100) (setup.lwm * setup.capacity)
+
+abbrev pub is_nothing : List ℕ → Bool
+is_nothing [] = true
+is_nothing (b ∷ bs) = false
+
+-- A buffer of moved records gathers blocks until nothing more can come: nothing is queued, or no block is free and it is short of room. One
+-- of clients doesn't wait for more.
+abbrev pub has_gathered : Setup → Book → Stream → Bool
+has_gathered setup book client = true
+has_gathered setup book defrag = is_nothing book.queue || (is_nothing book.free && is_short setup (filling_buffer defrag book.buffers))
+
+-- whether a stream is sealed where few blocks are free: at most 6 are, its buffer holds a block without live units, and it has gathered
+abbrev pub is_due : Setup → Book → Stream → Bool
+is_due setup book stream =
+    nat_le (length book.free) 6 && holds_dead book (filling_buffer stream book.buffers) && has_gathered setup book stream
+
 abbrev pub seal_low : Setup → Book → List Step
-seal_low setup book =
-    let low = nat_le (length book.free) 6 in
-    seal_if (low && holds_dead book (filling_buffer client book.buffers)) client
-    ++ seal_if (low && holds_dead book (filling_buffer defrag book.buffers)) defrag
+seal_low setup book = seal_if (is_due setup book client) client ++ seal_if (is_due setup book defrag) defrag
 
 -- a sealed buffer is flushed in two steps, or in one where the write of its gate has begun before
 abbrev pub flush_of : Buffer → List Step

@@ -1,7 +1,7 @@
 -- Crate device_model. What the vacating of a block makes, by its events: a choice of a block, and then moves out of it.
-use Rattle.std.specs.Prelude.{ℕ, zero, suc, ◌+◌, true, List, [], ◌∷◌, ◌++◌, sum_by, Some, None, ◌≡◌, ◌⊎◌}
+use Rattle.std.specs.Prelude.{ℕ, zero, suc, ◌+◌, Bool, true, ◌||◌, nat_lt, List, [], ◌∷◌, ◌++◌, length, sum_by, Some, None, is_some, MatchBool, ◌≡◌, ◌⊎◌}
 use Rattle.rec_format.specs.declared.version.Digest.{Digest}
-use Rattle.device_model.specs.Book.{Setup, use_of}
+use Rattle.device_model.specs.Book.{Setup, Book, defrag, filling_buffer, use_of}
 use Rattle.device_model.specs.Device.{State}
 use Rattle.device_model.specs.Events.{flush_sealed_call, choose_call, move_call, Cause, Answer, stamp_given, happened, found_version, counted, block_chosen, raid_numbered, marks_made, block_scanned, marks_undone, part_ended, raid_over, refused, Event, after_event, after_events}
 
@@ -52,12 +52,19 @@ Vacates setup s events outcome =
 abbrev pub moved_count : List Event → ℕ
 moved_count events = sum_by (λ event. moved_by event.answer) events
 
--- what holds dead blocks is sealed where few are free, all sealed buffers are flushed as far as the disk goes, and one queued block is
--- vacated, whatever comes of it
+-- Whether tending vacates a block. Where at most 7 are free and no buffer gathers moved records, a lone block would only change its place:
+-- what it frees its records take again.
+abbrev pub can_gain : Book → Bool
+can_gain book = nat_lt 7 (length book.free) || is_some (filling_buffer defrag book.buffers) || nat_lt 1 (length book.queue)
+
+-- what is due is sealed, all sealed buffers are flushed as far as the disk goes, and one queued block is vacated where that can gain room,
+-- whatever comes of it
 abbrev pub Tends : Setup → State → List Event → Type 0
 Tends setup s events =
     (first : Event) × (rest : List Event) × (events ≡ first ∷ rest) × (first.call ≡ flush_sealed_call)
-    × (outcome : Outcome) × Vacates setup (after_event setup first s) rest outcome
+    × MatchBool (can_gain (after_event setup first s).book)
+    ((outcome : Outcome) × Vacates setup (after_event setup first s) rest outcome)
+    (rest ≡ [])
 
 -- at most so many blocks, one after another, until nothing is queued
 abbrev pub VacatesUpTo : Setup → ℕ → State → (moved vacated : ℕ) → List Event → Outcome → Type 0

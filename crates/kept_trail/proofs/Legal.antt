@@ -7,11 +7,11 @@ use Rattle.rec_format.specs.declared.version.Digest.{Digest}
 use Rattle.rec_format.specs.declared.version.Stamp.{Stamp}
 use Rattle.rec_format.specs.declared.version.Version.{Version}
 use Rattle.rec_format.specs.Versions.{version_units, is_tombstone, is_expired_put, units_for, a_tombstone, top_number}
-use Rattle.device_model.specs.Book.{Setup, Buffer, Book, Live, Stream, client, defrag, Phase, filling, sealed, opening, is_filling, has_room, placing_number, live_of, filling_buffer, holds_dead}
+use Rattle.device_model.specs.Book.{Setup, Buffer, Book, Live, Stream, client, defrag, Phase, filling, sealed, opening, is_filling, has_room, placing_number, live_of, filling_buffer}
 use Rattle.device_model.specs.Device.{State, Turn, mark_turn, scan_turn, apply_turn, drop_turn, finished, entry, entry_passes, entry_is_covered, seen, next_stamp_of}
 use Rattle.device_model.specs.Steps.{Step, wrote, moved, removed, rid_of, uncovered, sealed_stream, gate_begun, flushed_buffer, closing_failed, raid_begun, raid_given_up, marked_part, scanned_block, compared_part, done_part, after_step, after_steps}
 use Rattle.device_model.specs.Events.{Call, put_call, bury_call, delete_call, expire_call, get_call, flush_call, flush_sealed_call, flush_next_call, choose_call, move_call, begin_call, turn_call, Cause, too_big, Answer, happened, stamp_given, raid_numbered, refused, no_memory, stale, Event, after_event, after_events}
-use Rattle.device_model.specs.Legal.{seal_if, seal_all, seal_low, flush_of, flush_between, flush_all, first_sealed, flush_first, StopsIn, FlushEnds, put_reserve, tombstone_reserve, move_reserve, no_place, no_write, commit_seal, commit_flush, WriteEnds, Only, NoMemory, Unless, the_stamp, Entombs, first_cause, not_expected, seen_generation, put_refusal, new_put, Removes, WhereReads, DamageFound, DiskFails, is_in_block, live_units, drop_step, marked_in, drop_steps, TurnEnds, same_turn, queue_front, Allowed, Follows, IsLegal}
+use Rattle.device_model.specs.Legal.{seal_if, seal_all, is_due, seal_low, flush_of, flush_between, flush_all, first_sealed, flush_first, StopsIn, FlushEnds, put_reserve, tombstone_reserve, move_reserve, no_place, no_write, commit_seal, commit_flush, WriteEnds, Only, NoMemory, Unless, the_stamp, Entombs, first_cause, not_expected, seen_generation, put_refusal, new_put, Removes, WhereReads, DamageFound, DiskFails, is_in_block, live_units, drop_step, marked_in, drop_steps, TurnEnds, same_turn, queue_front, Allowed, Follows, IsLegal}
 use Rattle.recovery.proofs.Opening.{all_joined, all_parted}
 use Rattle.kept_trail.specs.Trail.{IsBooked, CanPlace}
 use Rattle.kept_trail.specs.Needs.{HasRoomFor, HasRoomThrough}
@@ -74,9 +74,8 @@ first_none (b ∷ buffers) = cond_both (is_filling b.phase) (first_sealed buffer
 
 seal_low_none : (setup : Setup) (book : Book) → PlaceNone (seal_low setup book)
 seal_low_none setup book =
-    let low = nat_le (length book.free) 6 in
-    let one = low && holds_dead book (filling_buffer client book.buffers) in
-    let other = low && holds_dead book (filling_buffer defrag book.buffers) in
+    let one = is_due setup book client in
+    let other = is_due setup book defrag in
     both_none (seal_if one client) (seal_if other defrag) (seal_none one client) (seal_none other defrag)
 
 seal_all_none : (book : Book) → PlaceNone (seal_all book)

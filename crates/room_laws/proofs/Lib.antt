@@ -1,2 +1,4 @@
 mod Keeping
 mod Quiet
+mod Leaving
+mod Emptying

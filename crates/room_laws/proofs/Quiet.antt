@@ -135,7 +135,7 @@ module _ (setup : Setup) (s : State) (tidy : IsTidy setup s.book) where
 
   module _ (number : ℕ) where
     -- the book without the buffer and its holds
-    abbrev left : Book
+    abbrev pub left : Book
     left = record s.book {
       buffers = filter (λ b. not (b.number == number)) s.book.buffers;
       holds = filter (λ h. not (h.0 == number)) s.book.holds;

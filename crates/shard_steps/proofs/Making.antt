@@ -2,11 +2,11 @@
 use Rattle.std.proofs.Common.{◌≡◌, ℕ, ◌≤◌, Bool, true, false, ◌&&◌, List, [], ◌∷◌, ◌++◌, length, refl}
 use Rattle.std.specs.Prelude.{is_some, filter, flat_map, nat_le}
 use Rattle.std.specs.List.{AllByRecursion}
-use Rattle.device_model.specs.Book.{Setup, Book, Buffer, Phase, Stream, client, defrag, filling, sealed, opening, filling_buffer, holds_dead}
+use Rattle.device_model.specs.Book.{Setup, Book, Buffer, Phase, Stream, client, defrag, filling, sealed, opening, filling_buffer}
 use Rattle.device_model.specs.Device.{State}
 use Rattle.device_model.specs.Steps.{Step, sealed_stream, gate_begun, flushed_buffer, closing_failed, after_steps}
 use Rattle.device_model.specs.Events.{Event, Call, Answer}
-use Rattle.device_model.specs.Legal.{Allowed, flush_of, flush_between, flush_all, seal_if, seal_all, seal_low}
+use Rattle.device_model.specs.Legal.{Allowed, flush_of, flush_between, flush_all, seal_if, seal_all, is_due, seal_low}
 use Rattle.disk_model.specs.Disk.{DiskView, IsHonest}
 use Rattle.recovery.proofs.Opening.{all_joined}
 use Rattle.sprig_tree.specs.State.{SprigState}
@@ -48,9 +48,8 @@ seal_all_flushing book =
 
 pub seal_low_flushing : (setup : Setup) (book : Book) → AllByRecursion IsFlushing (seal_low setup book)
 seal_low_flushing setup book =
-    let low : Bool = nat_le (length book.free) 6 in
-    all_joined IsFlushing (seal_if (low && holds_dead book (filling_buffer client book.buffers)) client) (seal_if (low && holds_dead book (filling_buffer defrag book.buffers)) defrag)
-    (seal_is_flushing (low && holds_dead book (filling_buffer client book.buffers)) client) (seal_is_flushing (low && holds_dead book (filling_buffer defrag book.buffers)) defrag)
+    all_joined IsFlushing (seal_if (is_due setup book client) client) (seal_if (is_due setup book defrag) defrag)
+    (seal_is_flushing (is_due setup book client) client) (seal_is_flushing (is_due setup book defrag) defrag)
 
 one_flushing : (number block : ℕ) (stream : Stream) (used : ℕ) (phase : Phase) → AllByRecursion IsFlushing (flush_of (record { number = number; block = block; stream = stream; used = used; phase = phase }))
 one_flushing number block stream used filling = tt
