@@ -2,3 +2,5 @@ mod Keeping
 mod Quiet
 mod Leaving
 mod Emptying
+mod Sealed
+mod Flushed

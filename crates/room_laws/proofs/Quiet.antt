@@ -59,7 +59,7 @@ count_fewer test p (b ∷ bs) =
 
 -- ---- one step
 
-sealed_fills : (stream : Stream) (chosen : Bool) (b : Buffer) → fills stream (sealed_if chosen b) ≡ true → fills stream b ≡ true
+pub sealed_fills : (stream : Stream) (chosen : Bool) (b : Buffer) → fills stream (sealed_if chosen b) ≡ true → fills stream b ≡ true
 sealed_fills stream chosen b =
     cond_both (chosen && is_filling b.phase) (record b { phase = sealed }) b (λ (c : Buffer). fills stream c ≡ true → fills stream b ≡ true)
     (λ _ is. absurd (false≢true (and_parts (same_stream stream b.stream) false is).1)) (λ _ is. is)
