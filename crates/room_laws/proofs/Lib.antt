@@ -4,3 +4,4 @@ mod Leaving
 mod Emptying
 mod Sealed
 mod Flushed
+mod Resting
