@@ -1,8 +1,7 @@
 -- No move makes more buffers whose blocks may come into the queue.
-use Rattle.std.proofs.Common.{◌≡◌, ◌≢◌, ⊎_elim, ℕ, ◌+◌, ◌*◌, ◌≤◌, ◌<◌, Bool, true, false, not, cond, ◌&&◌, List, [], ◌∷◌, ◌++◌, length, map, refl, sym, ◌∙◌, ap, subst, arith}
-use Rattle.std.specs.Prelude.{◌==◌, nat_lt, nat_le, Option, Some, None, Contains, count_by}
-use Rattle.std.specs.List.{AllByRecursion}
-use Rattle.std.proofs.lemmas.Bool.{false≢true, eqb-true, eq-eqb, both_ways, and_parts, and_from, not-true, ltb-true, lt-ltb, leb-false}
+use Rattle.std.proofs.Common.{◌≡◌, ◌≢◌, ℕ, ◌+◌, ◌*◌, ◌≤◌, ◌<◌, Bool, true, false, not, cond, ◌&&◌, [], ◌∷◌, length, refl, sym, ◌∙◌, ap, subst, arith}
+use Rattle.std.specs.Prelude.{◌==◌, nat_lt, Some, Contains, count_by}
+use Rattle.std.proofs.lemmas.Bool.{eqb-true, eq-eqb, both_ways, and_parts, and_from, not-true, ltb-true, lt-ltb, leb-false}
 use Rattle.rec_format.specs.declared.version.Digest.{Digest}
 use Rattle.device_model.specs.Book.{Setup, Buffer, Book, Live, Stream, client, defrag, Phase, filling, sealed, opening, is_filling, same_stream, sealed_if, seal_stream, filling_buffer, has_buffer, has_room, fits_in, use_of, with_new_buffer, used_more, live_of}
 use Rattle.recovery.proofs.Growing.{all_from}
@@ -99,19 +98,19 @@ module _ (setup : Setup) (book ready : Book) (x : Buffer) (is : IsReadied book r
       by true same e =
           let block : y.block ≡ x.block = ap (λ (b : Buffer). b.block) (is.single y there (eqb-true y.number x.number same)) in
           let more : use_of new y.block ≡ copy.units + use_of ready y.block =
-              ap (use_of new) block ∙ moving.new_here setup book ready x is digest copy tidy live bare ∙ ap (λ (n : ℕ). copy.units + n) (ap (use_of book) (sym block) ∙ sym ready_use) in
+          ap (use_of new) block ∙ moving.new_here setup book ready x is digest copy tidy live bare ∙ ap (λ (n : ℕ). copy.units + n) (ap (use_of book) (sym block) ∙ sym ready_use) in
           comes_more (use_of ready y.block) (setup.lwm * setup.capacity) copy.units y.used y.stream y.phase
           (subst (λ (n : ℕ). comes n (setup.lwm * setup.capacity) y.stream y.phase (y.used + copy.units) ≡ true) more e)
       by false other e =
           let to : y.block ≢ x.block = λ block. both_ways (y.number == x.number) other (eq-eqb y.number x.number (ap (λ (b : Buffer). b.number) (is.lone y there block))) in
           let from : y.block ≢ copy.block = λ block.
-              both_ways (has_buffer ready copy.block) (moving.ready_bare setup book ready x is digest copy tidy live bare) (subst (λ (n : ℕ). has_buffer ready n ≡ true) block (has_own ready y there)) in
+          both_ways (has_buffer ready copy.block) (moving.ready_bare setup book ready x is digest copy tidy live bare) (subst (λ (n : ℕ). has_buffer ready n ≡ true) block (has_own ready y there)) in
           let still : use_of new y.block ≡ use_of ready y.block = moving.new_other setup book ready x is digest copy tidy live bare y.block from to ∙ sym ready_use in
           subst (λ (n : ℕ). comes n (setup.lwm * setup.capacity) y.stream y.phase y.used ≡ true) still e
 
   pub placed_come : count_by (may_come setup new) new.buffers ≤ count_by (may_come setup ready) ready.buffers
   placed_come =
       let all = count_changed (may_come setup new) (may_come setup ready) (used_more x.number copy.units) ready.buffers
-          (all_from (λ y. may_come setup new (used_more x.number copy.units y) ≡ true → may_come setup ready y ≡ true) ready.buffers placed_comes) in
+      (all_from (λ y. may_come setup new (used_more x.number copy.units y) ≡ true → may_come setup ready y ≡ true) ready.buffers placed_comes) in
       let same = ap (count_by (may_come setup new)) (moving.new_buffers setup book ready x is digest copy tidy live bare) in
       omega (arith, all, same)

@@ -1,19 +1,18 @@
 -- While a block is emptied: the book stays tidy, the block waits at the front of the queue until nothing is live in it, no more blocks may come,
 -- and no more than one new buffer begins.
-use Rattle.std.proofs.Common.{◌≡◌, ◌≢◌, ◌⊎◌, inl, inr, ⊎_elim, ℕ, ◌+◌, ◌*◌, ◌≤◌, ◌<◌, Bool, true, false, cond, List, [], ◌∷◌, length, refl, sym, ◌∙◌, ap, subst, arith}
-use Rattle.std.specs.Prelude.{nat_le, Option, Some, None, Contains, count_by, MatchOption}
+use Rattle.std.proofs.Common.{◌≡◌, ◌⊎◌, inl, inr, ⊎_elim, ℕ, ◌+◌, ◌*◌, ◌≤◌, ◌<◌, Bool, true, false, List, ◌∷◌, length, refl, sym, ◌∙◌, ap, subst, arith}
+use Rattle.std.specs.Prelude.{Option, Some, None, count_by, MatchOption}
 use Rattle.std.specs.List.{IsDistinct}
-use Rattle.std.proofs.lemmas.Bool.{false≢true, both_ways, cond-true, cond-false, leb-true, leb-false, le-leb}
+use Rattle.std.proofs.lemmas.Bool.{both_ways, cond-true, cond-false, leb-true, le-leb}
 use Rattle.std.proofs.Math.Nat.{mul-le-mul_right}
 use Rattle.rec_format.specs.declared.version.Digest.{Digest}
 use Rattle.rec_format.specs.Places.{same_digest}
-use Rattle.device_model.specs.Book.{Setup, Buffer, Book, Live, defrag, filling_buffer, fits_in, has_buffer, has_room, use_of, live_of, with_new_buffer, with_room, put_in, placed}
+use Rattle.device_model.specs.Book.{Setup, Buffer, Book, Live, defrag, filling_buffer, fits_in, has_buffer, has_room, use_of, live_of, with_new_buffer, put_in, placed}
 use Rattle.device_model.specs.Device.{State}
 use Rattle.device_model.specs.Steps.{moved, moved_state, after_step}
 use Rattle.recovery.specs.Holding.{HasRisingNumbers}
 use Rattle.recovery.proofs.Growing.{all_at}
 use Rattle.recovery.proofs.Placing.{some_room}
-use Rattle.kept_trail.specs.Needs.{HasRoomFor}
 use Rattle.kept_trail.specs.Trail.{IsBooked, CanPlace}
 use Rattle.kept_trail.specs.Within.{IsWithin}
 use Rattle.kept_trail.proofs.Books.{free_has_nothing, live_there}
@@ -23,7 +22,6 @@ use Rattle.kept_trail.proofs.Within.{step_within}
 use Rattle.room_laws.specs.Tidy.{IsTidy, fills}
 use Rattle.room_laws.specs.Room.{may_come}
 use Rattle.room_laws.proofs.Coming as coming
-use Rattle.room_laws.proofs.Moves.{HasCopy}
 use Rattle.room_laws.proofs.Moving as moving
 use Rattle.room_laws.proofs.Readying.{IsReadied, has_own, same_readied, fresh, new_readied}
 use Rattle.room_laws.proofs.Uses.{share_here, use_without}

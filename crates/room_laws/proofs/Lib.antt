@@ -1,9 +1,16 @@
-mod Coming
-mod Counts
-mod Draining
 mod Keeping
-mod Moves
-mod Moving
-mod Readying
+mod Quiet
+mod Leaving
+mod Emptying
+mod Sealed
+mod Flushed
+mod Resting
 mod Uses
+mod Counts
+mod Readying
+mod Moving
+mod Coming
+mod Moves
+mod Draining
 mod Vacated
+pub mod Finding

@@ -1,12 +1,12 @@
 -- How an event that moves a record, or chooses a block, may end.
-use Rattle.std.proofs.Common.{◌≡◌, ◌≢◌, ◌⊎◌, inl, inr, ⊎_elim, ℕ, ◌≤◌, Bool, true, false, cond, List, [], ◌∷◌, length, refl, sym, ◌∙◌, ap, subst}
+use Rattle.std.proofs.Common.{◌≡◌, ◌≢◌, ◌⊎◌, inl, inr, ℕ, Bool, true, false, List, [], ◌∷◌, refl, sym, ◌∙◌, ap, subst}
 use Rattle.std.specs.Prelude.{◌==◌, Option, Some, None, MatchBool}
 use Rattle.std.proofs.lemmas.Bool.{eqb-true}
 use Rattle.rec_format.specs.declared.version.Digest.{Digest}
 use Rattle.device_model.specs.Book.{Setup, Live, defrag, live_of, has_room}
 use Rattle.device_model.specs.Device.{State}
 use Rattle.device_model.specs.Steps.{Step, moved, closing_failed}
-use Rattle.device_model.specs.Events.{Call, choose_call, move_call, Cause, no_space, damaged, no_memory, disk_fault, Answer, stamp_given, happened, found_version, counted, block_chosen, raid_numbered, marks_made, block_scanned, marks_undone, part_ended, raid_over, refused, Event}
+use Rattle.device_model.specs.Events.{choose_call, move_call, Cause, no_space, damaged, no_memory, disk_fault, Answer, stamp_given, happened, found_version, counted, block_chosen, raid_numbered, marks_made, block_scanned, marks_undone, part_ended, raid_over, refused, Event}
 use Rattle.device_model.specs.Legal.{Allowed, Only, NoMemory, Unless, DamageFound, DiskFails, WhereReads, is_in_block, live_units, move_reserve, no_place, queue_front}
 use Rattle.device_model.specs.Vacating.{IfRefused}
 use Rattle.kept_trail.specs.Trail.{CanPlace}

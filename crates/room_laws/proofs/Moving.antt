@@ -1,23 +1,23 @@
 -- A copy is moved out of a block without a buffer: only the use of that block and of the buffer that takes the copy changes, no block comes
 -- into the queue, and no free block goes but that of a new buffer.
 use Rattle.std.proofs.Common.{◌≡◌, ◌≢◌, ◌⊎◌, inl, inr, ⊎_elim, ℕ, zero, suc, ◌+◌, ◌*◌, ◌≤◌, ◌<◌, Bool, true, false, not, cond, ◌&&◌, ◌||◌, List, [], ◌∷◌, ◌++◌, length, length-append, map, refl, sym, ◌∙◌, ap, subst, arith}
-use Rattle.std.specs.Prelude.{◌==◌, nat_lt, Option, Some, None, Contains, filter, find, count_by}
+use Rattle.std.specs.Prelude.{◌==◌, nat_lt, Option, Some, Contains, filter, find}
 use Rattle.std.specs.List.{AllByRecursion, IsDistinct, list_any}
-use Rattle.std.proofs.lemmas.Bool.{false≢true, cases_eq, cond-true, cond-false, or_from, ne_eqb, eq-eqb, eqb-true, eqb-false, both_ways, and_parts, and_from, not-true, ltb-true, ltb-false, lt-ltb}
+use Rattle.std.proofs.lemmas.Bool.{cases_eq, cond-true, cond-false, or_from, ne_eqb, eq-eqb, both_ways, and_parts, and_from, not-true, ltb-true, ltb-false, lt-ltb}
 use Rattle.std.proofs.lemmas.List.Sums.{length-filter, count_by-le-length}
 use Rattle.std.proofs.lemmas.Map.Keys.{IsDistinct-head, IsDistinct-tail, IsDistinct-cons}
 use Rattle.rec_format.specs.declared.version.Digest.{Digest}
 use Rattle.rec_format.specs.Places.{same_digest}
-use Rattle.device_model.specs.Book.{Setup, Buffer, Book, Live, Stream, defrag, is_filling, same_stream, filling_buffer, has_buffer, is_held, is_in, use_of, may_be_free, may_be_queued, all_blocks, updated, refreshed, used_more, with_hold, live_of, without_live}
+use Rattle.device_model.specs.Book.{Setup, Buffer, Book, Live, Stream, defrag, filling_buffer, has_buffer, is_held, is_in, use_of, may_be_free, may_be_queued, all_blocks, refreshed, used_more, with_hold, live_of, without_live}
 use Rattle.defrag_queue.specs.Queues.{requeued}
 use Rattle.defrag_queue.proofs.Refreshed.{refreshed_one}
 use Rattle.recovery.specs.Holding.{HasRisingNumbers}
-use Rattle.recovery.proofs.Growing.{all_at, all_from, cons_cases}
+use Rattle.recovery.proofs.Growing.{all_at, all_from}
 use Rattle.recovery.proofs.Members.{first_there, rest_there, filter_from}
-use Rattle.kept_trail.specs.Trail.{places_of, IsBooked}
+use Rattle.kept_trail.specs.Trail.{IsBooked}
 use Rattle.kept_trail.specs.Within.{IsWithin}
 use Rattle.kept_trail.proofs.Books.{HasNothing, free_has_nothing, live_there}
-use Rattle.kept_trail.proofs.Places.{any_there, buffer_place}
+use Rattle.kept_trail.proofs.Places.{buffer_place}
 use Rattle.kept_trail.proofs.Placing.{use_places, find_there}
 use Rattle.room_laws.specs.Tidy.{IsTidy, fills}
 use Rattle.room_laws.proofs.Counts.{count_changed}
@@ -197,8 +197,8 @@ module _ (setup : Setup) (book ready : Book) (x : Buffer) (is : IsReadied book r
       by false may =
           let stays : ℕ → Bool = λ b. not (b == copy.block) in
           let left : new.queue ≡ filter stays bs =
-              queue_is ∙ ap (λ (t : Bool). requeued t copy.block book.queue) may ∙ ap (filter stays) front
-              ∙ cond-false (stays copy.block) (copy.block ∷ filter stays bs) (filter stays bs) (ap not (eq-eqb copy.block copy.block refl)) in
+          queue_is ∙ ap (λ (t : Bool). requeued t copy.block book.queue) may ∙ ap (filter stays) front
+          ∙ cond-false (stays copy.block) (copy.block ∷ filter stays bs) (filter stays bs) (ap not (eq-eqb copy.block copy.block refl)) in
           inr (omega (arith, ap length left, length-filter stays bs, count_by-le-length stays bs), emptied may)
 
   -- ---- free blocks
@@ -293,7 +293,7 @@ module _ (setup : Setup) (book ready : Book) (x : Buffer) (is : IsReadied book r
     numbered = record { rising = numbered.rising; below = numbered.below };
     alone = λ stream.
         let old = count_changed (fills stream) (fills stream) (used_more x.number copy.units) ready.buffers
-            (all_from (λ y. fills stream (used_more x.number copy.units y) ≡ true → fills stream y ≡ true) ready.buffers (λ y there fills_still. sym (used_fills stream y) ∙ fills_still)) in
+        (all_from (λ y. fills stream (used_more x.number copy.units y) ≡ true → fills stream y ≡ true) ready.buffers (λ y there fills_still. sym (used_fills stream y) ∙ fills_still)) in
         omega (arith, old, is.alone stream);
     once = subst (IsDistinct (λ a b. a == b)) (sym is.free) tidy.once;
     own = once_placed;

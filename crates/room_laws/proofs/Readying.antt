@@ -1,21 +1,20 @@
 -- Before a copy is placed among moved records: the buffer that takes it stands as it was, or begins in the first free block.
-use Rattle.std.proofs.Common.{◌≡◌, ◌≢◌, ◌⊎◌, inl, inr, ⊎_elim, ℕ, ◌+◌, ◌*◌, ◌≤◌, ◌<◌, Bool, true, false, not, cond, ◌&&◌, ◌||◌, List, [], ◌∷◌, ◌++◌, length, map, refl, sym, ◌∙◌, ap, subst, arith}
-use Rattle.std.specs.Prelude.{◌==◌, nat_lt, Option, Some, None, Contains, filter, count_by}
-use Rattle.std.specs.List.{AllByRecursion, list_any}
-use Rattle.std.proofs.lemmas.Bool.{false≢true, or_from, or_left, or_right, ne_eqb, eq-eqb, eqb-true, eqb-false, both_ways, and_parts, and_from, ltb-true}
+use Rattle.std.proofs.Common.{◌≡◌, ◌≢◌, ◌⊎◌, inl, inr, ⊎_elim, ℕ, ◌≤◌, ◌<◌, Bool, true, false, ◌||◌, List, [], ◌∷◌, length, refl, sym, ◌∙◌, ap, subst, arith}
+use Rattle.std.specs.Prelude.{◌==◌, Some, Contains, count_by}
+use Rattle.std.specs.List.{list_any}
+use Rattle.std.proofs.lemmas.Bool.{or_from, ne_eqb, eq-eqb, both_ways}
 use Rattle.std.proofs.lemmas.List.Folds.{list_any-append}
 use Rattle.std.proofs.lemmas.List.Elements.{Contains-append_cases, Contains-append_right}
-use Rattle.device_model.specs.Book.{Setup, Buffer, Book, Stream, client, defrag, Phase, filling, sealed, opening, is_filling, same_stream, sealed_if, seal_stream, first_block, filling_buffer, has_buffer, use_of, may_be_queued, with_new_buffer}
-use Rattle.recovery.specs.Holding.{AreRising, HasRisingNumbers}
+use Rattle.device_model.specs.Book.{Setup, Buffer, Book, Stream, client, defrag, Phase, filling, sealed, opening, same_stream, sealed_if, seal_stream, first_block, filling_buffer, has_buffer, use_of, with_new_buffer}
+use Rattle.recovery.specs.Holding.{AreRising}
 use Rattle.recovery.proofs.Growing.{all_at, all_from, cons_cases}
 use Rattle.recovery.proofs.Members.{map_there, map_from, first_there}
-use Rattle.kept_trail.specs.Trail.{places_of, HaveOwnBlocks, IsBooked}
+use Rattle.kept_trail.specs.Trail.{places_of}
 use Rattle.kept_trail.proofs.Books.{free_has_nothing}
 use Rattle.kept_trail.proofs.Flushing.{one_place}
-use Rattle.kept_trail.proofs.Places.{any_there, none_at, buffer_place}
+use Rattle.kept_trail.proofs.Places.{any_there, buffer_place}
 use Rattle.kept_trail.proofs.Placing.{place, sealed_place, new_places, first_free, find_there}
 use Rattle.room_laws.specs.Tidy.{IsTidy, fills}
-use Rattle.room_laws.specs.Room.{may_come}
 use Rattle.room_laws.proofs.Counts.{count_changed, count_joined, count_none, only_found}
 
 -- ---- buffers

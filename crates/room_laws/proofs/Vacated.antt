@@ -1,22 +1,20 @@
 -- A block that was vacated has left the queue, and less is left to vacate. Where a block is free, none is refused for want of space.
-use Rattle.std.proofs.Common.{◌≡◌, ◌≢◌, ◌⊎◌, inl, inr, ⊎_elim, ℕ, ◌+◌, ◌*◌, ◌≤◌, ◌<◌, Bool, true, false, not, cond, ◌&&◌, ◌||◌, List, [], ◌∷◌, ◌++◌, length, refl, sym, ◌∙◌, ap, subst, arith}
-use Rattle.std.specs.Prelude.{nat_lt, nat_le, Option, Some, None, count_by}
+use Rattle.std.proofs.Common.{◌≡◌, ◌≢◌, ◌⊎◌, inl, inr, ⊎_elim, ℕ, ◌+◌, ◌≤◌, ◌<◌, Bool, true, false, cond, ◌||◌, List, [], ◌∷◌, ◌++◌, length, refl, sym, ◌∙◌, ap, subst, arith}
+use Rattle.std.specs.Prelude.{nat_lt, nat_le, Option, Some, None}
 use Rattle.std.specs.List.{AllByRecursion}
-use Rattle.std.proofs.lemmas.Bool.{both_ways, eq-eqb, leb-true, cond-true}
+use Rattle.std.proofs.lemmas.Bool.{both_ways, eq-eqb, leb-true}
 use Rattle.rec_format.specs.declared.version.Digest.{Digest}
 use Rattle.rec_format.specs.Versions.{top_number}
-use Rattle.device_model.specs.Book.{Setup, Book, defrag, filling_buffer, has_buffer, has_room, is_in, use_of, may_be_queued}
+use Rattle.device_model.specs.Book.{Setup, Book, defrag, filling_buffer, has_room, is_in, use_of, may_be_queued}
 use Rattle.device_model.specs.Device.{State}
 use Rattle.device_model.specs.Steps.{Step, moved as moved_step, after_steps}
 use Rattle.device_model.specs.Events.{choose_call, move_call, Cause, spent, overload, no_space, Answer, stamp_given, happened, found_version, counted, block_chosen, raid_numbered, marks_made, block_scanned, marks_undone, part_ended, raid_over, refused, Event, after_event, after_events, steps_of}
 use Rattle.device_model.specs.Legal.{Allowed, Follows, IsLegal, move_reserve, no_new_buffer, no_place, queue_front}
 use Rattle.device_model.specs.Vacating.{IfRefused, moved_by, MovesOut, Outcome, Vacates, did, stopped}
-use Rattle.kept_trail.proofs.Placing.{find_there}
-use Rattle.recovery.proofs.Growing.{all_at}
 use Rattle.room_laws.specs.Tidy.{IsTidy}
-use Rattle.room_laws.specs.Room.{NoneRefused, FindsRoom, left_to_vacate, may_come}
+use Rattle.room_laws.specs.Room.{NoneRefused, FindsRoom, left_to_vacate}
 use Rattle.room_laws.proofs.Draining.{HasSpare, IsEmptying, copy_used, spare_room, step_empties}
-use Rattle.room_laws.proofs.Moves.{HasCopy, MoveEnds, stays, goes, lacks, fails, FailsOtherwise, move_ends, choice_ends, went_on, not_refused, not_for_space, fails_not_for_space}
+use Rattle.room_laws.proofs.Moves.{MoveEnds, stays, goes, lacks, fails, FailsOtherwise, move_ends, choice_ends, went_on, not_refused, not_for_space, fails_not_for_space}
 use Rattle.room_laws.proofs.Moving.{unused_waits_not, waits_bare, waits_below}
 
 -- ---- no place
@@ -105,13 +103,14 @@ module _ (setup : Setup) (told : Bool) (block : ℕ) (behind : List ℕ) (start 
       → MovesOut setup block s moved events outcome → AllByRecursion (λ event. IfRefused event.answer (λ cause. (free : ℕ) → cause ≢ no_space free) (Unit {0})) events
   moves_find [] s faults moved outcome low some was legal out = tt
   moves_find (event ∷ events) s faults moved outcome low some was legal out =
-      let ends = ends_of s faults event out.0.0 out.0.1 legal.0 in
-      (move_finds s event out.0.0 low some was ends,
-      ⊎_elim (λ (stop : (cause : Cause) × (event.answer ≡ refused cause) × ((events ≡ []) × (outcome ≡ stopped cause))).
-      subst (AllByRecursion (λ e. IfRefused e.answer (λ cause. (free : ℕ) → cause ≢ no_space free) (Unit {0}))) (sym stop.2.0) tt)
-      (λ (on : ((cause : Cause) → event.answer ≢ refused cause) × MovesOut setup block (after_event setup event s) (moved + moved_by event.answer) events outcome).
-      moves_find events (after_event setup event s) event.faults_after (moved + moved_by event.answer) outcome low some (move_empties s event out.0.0 was ends on.0) legal.1 on.1)
-      (when_refused event.answer (λ cause. (events ≡ []) × (outcome ≡ stopped cause)) (MovesOut setup block (after_event setup event s) (moved + moved_by event.answer) events outcome) out.1))
+      let ends = ends_of s faults event out.0.0 out.0.1 legal.0 in (
+        move_finds s event out.0.0 low some was ends,
+        ⊎_elim (λ (stop : (cause : Cause) × (event.answer ≡ refused cause) × ((events ≡ []) × (outcome ≡ stopped cause))).
+            subst (AllByRecursion (λ e. IfRefused e.answer (λ cause. (free : ℕ) → cause ≢ no_space free) (Unit {0}))) (sym stop.2.0) tt)
+            (λ (on : ((cause : Cause) → event.answer ≢ refused cause) × MovesOut setup block (after_event setup event s) (moved + moved_by event.answer) events outcome).
+            moves_find events (after_event setup event s) event.faults_after (moved + moved_by event.answer) outcome low some (move_empties s event out.0.0 was ends on.0) legal.1 on.1)
+            (when_refused event.answer (λ cause. (events ≡ []) × (outcome ≡ stopped cause)) (MovesOut setup block (after_event setup event s) (moved + moved_by event.answer) events outcome) out.1),
+      )
 
 -- ---- the front of the queue
 

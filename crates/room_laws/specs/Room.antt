@@ -3,7 +3,7 @@ use Rattle.std.specs.Prelude.{ℕ, ◌+◌, ◌*◌, ◌<◌, ◌≤◌, ◌≡�
 use Rattle.std.specs.List.{AllByRecursion}
 use Rattle.device_model.specs.Book.{Setup, Book, Buffer, defrag, same_stream, is_filling, use_of}
 use Rattle.device_model.specs.Device.{State}
-use Rattle.device_model.specs.Events.{Event, Cause, no_space, after_events}
+use Rattle.device_model.specs.Events.{Event, no_space, after_events}
 use Rattle.device_model.specs.Legal.{seal_low, flush_all}
 use Rattle.device_model.specs.Vacating.{IfRefused, can_gain}
 
