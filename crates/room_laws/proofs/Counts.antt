@@ -9,7 +9,7 @@ use Rattle.recovery.proofs.Growing.{cons_cases}
 abbrev pub one_if : Bool → ℕ
 one_if b = cond b 1 0
 
-pub count_cons : {X : Type 0} (p : X → Bool) (x : X) (xs : List X) → count_by p (x ∷ xs) ≡ one_if (p x) + count_by p xs
+count_cons : {X : Type 0} (p : X → Bool) (x : X) (xs : List X) → count_by p (x ∷ xs) ≡ one_if (p x) + count_by p xs
 count_cons p x xs = sum_by-cons (λ y. one_if (p y)) x xs
 
 pub count_joined : {X : Type 0} (p : X → Bool) (xs ys : List X) → count_by p (xs ++ ys) ≡ count_by p xs + count_by p ys
@@ -31,7 +31,7 @@ count_none p [] all = refl
 count_none p (x ∷ xs) all = count_cons p x xs ∙ (λ i. one_if (all.0 i) + count_none p xs all.1 i)
 
 -- one that passes is counted
-pub count_some : {X : Type 0} (p : X → Bool) (xs : List X) (x : X) → Contains xs x → p x ≡ true → 1 ≤ count_by p xs
+count_some : {X : Type 0} (p : X → Bool) (xs : List X) (x : X) → Contains xs x → p x ≡ true → 1 ≤ count_by p xs
 count_some p [] x there is = absurd (omega (arith, there.1))
 count_some {X} p (y ∷ xs) x there is =
     ⊎_elim (λ (e : y ≡ x). let one : one_if (p y) ≡ 1 = ap one_if (ap p e ∙ is) in omega (arith, count_cons p y xs, one))

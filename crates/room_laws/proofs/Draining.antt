@@ -184,10 +184,8 @@ module _ (setup : Setup) (s : State) (digest : Digest) (copy : Live) (live : liv
       less : copy.units ≤ use_of s.book copy.block
       less = copy_used s.book digest copy was.tidy.own live
 
-      new_is : (ready : Book) (x : Buffer) → after ≡ put_in setup digest copy.units ready (Some x) → IsTidy setup s.book
-          → (IsBooked (put_in setup digest copy.units ready (Some x)) → IsWithin setup (put_in setup digest copy.units ready (Some x)) → HasRisingNumbers (put_in setup digest copy.units ready (Some x)) → IsTidy setup (put_in setup digest copy.units ready (Some x)))
-          → IsTidy setup (put_in setup digest copy.units ready (Some x))
-      new_is ready x same tidy made = made (subst IsBooked same kept.booked) (subst (IsWithin setup) same kept.within) (subst HasRisingNumbers same kept.numbered)
+      as_kept : (new : Book) → after ≡ new → (IsBooked new → IsWithin setup new → HasRisingNumbers new → IsTidy setup new) → IsTidy setup new
+      as_kept new same tidy = tidy (subst IsBooked same kept.booked) (subst (IsWithin setup) same kept.within) (subst HasRisingNumbers same kept.numbered)
 
       by : (room : Bool) → has_room setup defrag copy.units s.book ≡ room → (has_room setup defrag copy.units s.book ≡ true) ⊎ (1 ≤ length s.book.free) → IsEmptying setup copy.block behind start after
       by true room can =
@@ -199,7 +197,7 @@ module _ (setup : Setup) (s : State) (digest : Digest) (copy : Live) (live : liv
           (emptied setup s.book s.book x readied digest copy behind start was live
           (inl (one.1, leb-true (x.used + copy.units) setup.capacity (sym (ap (fits_in setup.capacity copy.units) one.1) ∙ room)))
           (λ half. omega arith)
-          (new_is s.book x same was.tidy (moving.moved_tidy setup s.book s.book x readied digest copy was.tidy live was.bare)))
+          (as_kept (put_in setup digest copy.units s.book (Some x)) same (moving.moved_tidy setup s.book s.book x readied digest copy was.tidy live was.bare)))
       by false none (inl room) = absurd (both_ways (has_room setup defrag copy.units s.book) none room)
       by false none (inr some) =
           let x = fresh setup s.book was.tidy some in
@@ -209,7 +207,7 @@ module _ (setup : Setup) (s : State) (digest : Digest) (copy : Live) (live : liv
           subst (IsEmptying setup copy.block behind start) (sym same)
           (emptied setup s.book ready x readied digest copy behind start was live (inr (refl, none))
           (λ half. coming.begun_come setup s.book was.tidy copy.units (mul-le-mul_right setup.capacity half) (let below = was.less in omega (arith, below, less)) none some)
-          (new_is ready x same was.tidy (moving.moved_tidy setup s.book ready x readied digest copy was.tidy live was.bare)))
+          (as_kept (put_in setup digest copy.units ready (Some x)) same (moving.moved_tidy setup s.book ready x readied digest copy was.tidy live was.bare)))
 
   pub step_empties : IsEmptying setup copy.block behind start (after_step setup (moved digest) s).book
   step_empties = subst (IsEmptying setup copy.block behind start) (sym (moved_book setup s digest copy live)) placed_empties

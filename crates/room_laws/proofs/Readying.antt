@@ -20,7 +20,7 @@ use Rattle.room_laws.proofs.Counts.{count_changed, count_joined, count_none, onl
 -- ---- buffers
 
 -- of one number there is one buffer
-pub one_number : (bs : List Buffer) (x y : Buffer) → AreRising bs → Contains bs x → Contains bs y → x.number ≡ y.number → x ≡ y
+one_number : (bs : List Buffer) (x y : Buffer) → AreRising bs → Contains bs x → Contains bs y → x.number ≡ y.number → x ≡ y
 one_number [] x y rising in_x in_y same = absurd (omega (arith, in_x.1))
 one_number (b ∷ bs) x y rising in_x in_y same = by (cons_cases b bs x in_x) (cons_cases b bs y in_y) (λ more_x more_y. one_number bs x y rising.1 more_x more_y same)
   where
@@ -90,7 +90,7 @@ module _ (setup : Setup) (book : Book) (tidy : IsTidy setup book) where
     abbrev seals : Buffer → Buffer
     seals b = sealed_if (same_stream defrag b.stream) b
 
-    pub is_free : Contains book.free (first_block book.free)
+    is_free : Contains book.free (first_block book.free)
     is_free = first_free book.free some
 
     pub fresh_unused : use_of book (first_block book.free) ≡ 0

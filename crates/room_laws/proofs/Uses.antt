@@ -10,11 +10,11 @@ use Rattle.rec_format.proofs.Laws.{same_digest_is}
 use Rattle.device_model.specs.Book.{Live, live_of, without_live}
 
 -- no digest is that of two of these
-abbrev pub HaveOwnDigests : List Live → Type 0
+abbrev HaveOwnDigests : List Live → Type 0
 HaveOwnDigests live = IsDistinct (λ l m. same_digest l.digest m.digest) live
 
 -- the units of these copies that are in a block
-abbrev pub use_in : ℕ → List Live → ℕ
+abbrev use_in : ℕ → List Live → ℕ
 use_in block live = sum_by (λ l. l.units) (filter (λ l. l.block == block) live)
 
 -- those of one copy

@@ -91,7 +91,7 @@ module _ (setup : Setup) (told : Bool) (block : ℕ) (behind : List ℕ) (start 
   ends_of s faults event digest call follows = move_ends setup told s event digest block (subst (λ c. Allowed setup told s event c) call follows.allowed)
 
   -- the moves were made: nothing is left in the block
-  pub moves_empty : (events : List Event) (s : State) (faults moved : ℕ) (outcome : Outcome) → Emptying s → IsLegal setup told s faults events → MovesOut setup block s moved events outcome
+  moves_empty : (events : List Event) (s : State) (faults moved : ℕ) (outcome : Outcome) → Emptying s → IsLegal setup told s faults events → MovesOut setup block s moved events outcome
       → NoneRefused events → Emptying (after_events setup events s) × (use_of (after_events setup events s).book block ≡ 0)
   moves_empty [] s faults moved outcome was legal out none = (was, out.0)
   moves_empty (event ∷ events) s faults moved outcome was legal out none =
@@ -99,7 +99,7 @@ module _ (setup : Setup) (told : Bool) (block : ℕ) (behind : List ℕ) (start 
       (move_empties s event out.0.0 was (ends_of s faults event out.0.0 out.0.1 legal.0) (λ cause. not_refused event.answer cause none.0)) legal.1
       (went_on event.answer (λ cause. (events ≡ []) × (outcome ≡ stopped cause)) (MovesOut setup block (after_event setup event s) (moved + moved_by event.answer) events outcome) none.0 out.1) none.1
 
-  pub moves_find : (events : List Event) (s : State) (faults moved : ℕ) (outcome : Outcome) → setup.lwm ≤ 100 → 1 ≤ length start.free → Emptying s → IsLegal setup told s faults events
+  moves_find : (events : List Event) (s : State) (faults moved : ℕ) (outcome : Outcome) → setup.lwm ≤ 100 → 1 ≤ length start.free → Emptying s → IsLegal setup told s faults events
       → MovesOut setup block s moved events outcome → AllByRecursion (λ event. IfRefused event.answer (λ cause. (free : ℕ) → cause ≢ no_space free) (Unit {0})) events
   moves_find [] s faults moved outcome low some was legal out = tt
   moves_find (event ∷ events) s faults moved outcome low some was legal out =
@@ -129,10 +129,10 @@ module _ (setup : Setup) (book : Book) (tidy : IsTidy setup book) (block : ℕ) 
   first_is : is_in book.queue block ≡ true
   first_is = ap (λ (l : List ℕ). is_in l block) front ∙ ap (λ (t : Bool). t || is_in behind block) (eq-eqb block block refl)
 
-  pub front_waits : may_be_queued setup book block ≡ true
+  front_waits : may_be_queued setup book block ≡ true
   front_waits = sym (tidy.queued block in_range) ∙ first_is
 
-  pub front_empties : IsEmptying setup block behind book book
+  front_empties : IsEmptying setup block behind book book
   front_empties = record {
     tidy = tidy;
     bare = waits_bare setup book block front_waits;
