@@ -1,12 +1,12 @@
 -- The flush of all sealed buffers leaves those that are filling, and vacates nothing.
-use Rattle.std.proofs.Common.{◌≡◌, ℕ, ◌+◌, ◌*◌, ◌≤◌, Bool, true, false, not, cond, ◌&&◌, List, [], ◌∷◌, ◌++◌, append_assoc, refl, ap, sym, subst, ◌∙◌, arith}
+use Rattle.std.proofs.Common.{◌≡◌, ◌+◌, Bool, true, false, not, cond, ◌&&◌, List, [], ◌∷◌, ◌++◌, append_assoc, refl, ap, sym, ◌∙◌, arith}
 use Rattle.std.proofs.lemmas.Bool.{and_left, and_right}
 use Rattle.std.specs.Prelude.{filter, count_by, flat_map}
 use Rattle.device_model.specs.Book.{Setup, Book, Buffer, Phase, filling, sealed, opening, is_filling}
 use Rattle.device_model.specs.Device.{State}
 use Rattle.device_model.specs.Steps.{Step, gate_begun, flushed_buffer, after_step, after_steps}
 use Rattle.device_model.specs.Legal.{flush_of}
-use Rattle.room_laws.specs.Room.{is_below, gathers_live, may_come}
+use Rattle.room_laws.specs.Room.{is_below, may_come}
 use Rattle.room_laws.specs.Tidy.{IsTidy}
 use Rattle.room_laws.proofs.Quiet.{step_keeps}
 use Rattle.room_laws.proofs.Leaving.{VacatesNone, nothing_new, one_more, count_at, opened_buffers, flushed_buffers, flushed_vacates}

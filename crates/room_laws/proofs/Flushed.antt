@@ -1,7 +1,7 @@
 -- What the first call of a tending leaves, which seals what is due and flushes all sealed buffers: a tidy book, also where a fault came between; and,
 -- where none did, buffers that are all filling and no more to vacate, but for a buffer of moved records that was sealed while nothing was queued.
-use Rattle.std.proofs.Common.{◌≡◌, ◌⊎◌, inl, inr, ℕ, ◌+◌, ◌*◌, ◌≤◌, Bool, true, false, List, [], ◌∷◌, ◌++◌, length, Some, None, refl, ap, sym, subst, ◌∙◌, arith}
-use Rattle.std.specs.Prelude.{count_by, flat_map}
+use Rattle.std.proofs.Common.{◌≡◌, ◌⊎◌, inl, inr, ◌+◌, ◌≤◌, Bool, true, false, List, [], ◌∷◌, ◌++◌, length, None, refl, ap, sym, subst, ◌∙◌, arith}
+use Rattle.std.specs.Prelude.{flat_map}
 use Rattle.std.specs.List.{AllByRecursion}
 use Rattle.device_model.specs.Book.{Setup, Book, Buffer, Phase, client, defrag, filling, sealed, opening, is_filling, filling_buffer}
 use Rattle.device_model.specs.Device.{State}
@@ -12,10 +12,9 @@ use Rattle.device_model.specs.Vacating.{IfRefused}
 use Rattle.recovery.proofs.Growing.{all_from}
 use Rattle.recovery.proofs.Members.{filter_from}
 use Rattle.recovery.proofs.Opening.{all_joined, all_parted}
-use Rattle.room_laws.specs.Room.{may_come, left_to_vacate}
+use Rattle.room_laws.specs.Room.{left_to_vacate}
 use Rattle.room_laws.specs.Tidy.{IsTidy}
 use Rattle.room_laws.proofs.Quiet.{IsQuiet, Keeps, steps_keep}
-use Rattle.room_laws.proofs.Leaving.{VacatesNone}
 use Rattle.room_laws.proofs.Emptying.{IsEmptied, filling_of, after_joined, all_flushed}
 use Rattle.room_laws.proofs.Sealed.{sealed_low, after_seals, filling_found, CountsOver, seals_count, due_gathered}
 
@@ -57,7 +56,7 @@ module _ (setup : Setup) (told : Bool) (s : State) (event : Event) (tidy : IsTid
   steps_quiet = elim allowed [
     | inl made ↦ subst (AllByRecursion IsQuiet) (sym made.0) (all_joined IsQuiet sealing (flush_all mid.book) (low_quiet setup s.book) (flush_quiet mid.book.buffers))
     | inr failed ↦ subst (AllByRecursion IsQuiet) (sym failed.3) (all_joined IsQuiet sealing failed.2 (low_quiet setup s.book)
-      (all_parted IsQuiet failed.2 (failed.4.0 ∷ failed.4.1) (subst (AllByRecursion IsQuiet) failed.4.2 (flush_quiet mid.book.buffers))).0)
+        (all_parted IsQuiet failed.2 (failed.4.0 ∷ failed.4.1) (subst (AllByRecursion IsQuiet) failed.4.2 (flush_quiet mid.book.buffers))).0)
   ]
 
   -- whatever was answered

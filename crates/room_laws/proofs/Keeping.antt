@@ -1,14 +1,13 @@
 -- What is brought up to date behind a change keeps a book tidy, and those that still qualify are no fewer.
-use Rattle.std.proofs.Common.{◌≡◌, ℕ, zero, suc, ◌+◌, ◌<◌, ◌≤◌, Bool, true, false, not, ◌&&◌, List, [], ◌∷◌, ◌++◌, length, length-append, refl, ap, sym, subst, ◌∙◌, arith}
+use Rattle.std.proofs.Common.{◌≡◌, ℕ, zero, suc, ◌+◌, ◌<◌, ◌≤◌, Bool, true, false, not, ◌&&◌, List, [], ◌∷◌, ◌++◌, length, length-append, refl, ap, ◌∙◌, arith}
 use Rattle.std.proofs.lemmas.Bool.{and_parts, not-true, cond-true, cond_both, ne_eqb}
 use Rattle.std.proofs.lemmas.Map.Keys.{IsDistinct-head, IsDistinct-tail, IsDistinct-cons}
 use Rattle.std.specs.Prelude.{◌==◌, filter, count_by}
 use Rattle.std.specs.List.{AllByRecursion, IsDistinct, range_with_len}
 use Rattle.rec_format.specs.Places.{same_digest}
-use Rattle.device_model.specs.Book.{Setup, Book, Live, Stream, is_in, all_blocks, may_be_free, may_be_queued, updated, refreshed}
+use Rattle.device_model.specs.Book.{Setup, Book, Stream, is_in, all_blocks, may_be_free, may_be_queued, updated, refreshed}
 use Rattle.defrag_queue.proofs.Refreshed.{refreshed_all}
 use Rattle.recovery.specs.Holding.{HasRisingNumbers}
-use Rattle.recovery.proofs.Each.{all_map}
 use Rattle.recovery.proofs.Growing.{all_from}
 use Rattle.recovery.proofs.Members.{filter_from}
 use Rattle.recovery.proofs.Opening.{all_joined}

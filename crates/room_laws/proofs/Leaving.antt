@@ -1,22 +1,20 @@
 -- Flushing empties the list of sealed buffers and vacates nothing: a block that a flush brings into the queue counted before as that of a buffer.
-use Rattle.std.proofs.Common.{◌≡◌, ◌≢◌, ℕ, ◌+◌, ◌*◌, ◌<◌, ◌≤◌, Bool, true, false, not, cond, ◌&&◌, ◌||◌, List, [], ◌∷◌, ◌++◌, map, length, length-append, append_assoc, refl, ap, sym, subst, ◌∙◌, arith}
-use Rattle.std.proofs.lemmas.Bool.{and_parts, eq-eqb, ne_eqb, cond-true, cond-false, cond_both, false≢true, and_left, and_right}
-use Rattle.std.proofs.lemmas.List.{append-nil}
+use Rattle.std.proofs.Common.{◌≡◌, ◌≢◌, ℕ, ◌+◌, ◌*◌, ◌<◌, ◌≤◌, Bool, true, false, not, cond, ◌&&◌, ◌||◌, List, [], ◌∷◌, ◌++◌, map, length, length-append, refl, ap, sym, subst, ◌∙◌, arith}
+use Rattle.std.proofs.lemmas.Bool.{eq-eqb, ne_eqb, cond-true, cond-false, cond_both, false≢true, and_left, and_right}
 use Rattle.std.proofs.lemmas.List.Folds.{list_any-append}
 use Rattle.std.proofs.lemmas.List.Sums.{sum_by-cons, sum_by-append, length-filter, count_by-le-length}
-use Rattle.std.specs.Prelude.{◌==◌, nat_lt, filter, count_by, flat_map}
+use Rattle.std.specs.Prelude.{◌==◌, nat_lt, filter, count_by}
 use Rattle.std.specs.List.{AllByRecursion, list_any}
-use Rattle.device_model.specs.Book.{Setup, Book, Buffer, Phase, filling, sealed, opening, is_filling, opened_if, has_buffer, is_in, may_be_queued, use_of, with_gate_begun, with_flushed, refreshed}
+use Rattle.device_model.specs.Book.{Setup, Book, Buffer, opening, is_filling, opened_if, has_buffer, is_in, may_be_queued, use_of, with_flushed, refreshed}
 use Rattle.device_model.specs.Device.{State}
-use Rattle.device_model.specs.Steps.{Step, gate_begun, flushed_buffer, after_step, after_steps}
-use Rattle.device_model.specs.Legal.{flush_of}
+use Rattle.device_model.specs.Steps.{gate_begun, flushed_buffer, after_step}
 use Rattle.defrag_queue.specs.Queues.{requeued}
 use Rattle.defrag_queue.proofs.Refreshed.{refreshed_one}
 use Rattle.recovery.specs.Holding.{AreRising}
 use Rattle.recovery.proofs.Opening.{all_parted}
 use Rattle.room_laws.specs.Room.{is_below, gathers_live, may_come, left_to_vacate}
 use Rattle.room_laws.specs.Tidy.{IsTidy}
-use Rattle.room_laws.proofs.Quiet.{IsQuiet, Keeps, step_keeps, left}
+use Rattle.room_laws.proofs.Quiet.{left}
 
 -- ---- a list with one element of its number
 

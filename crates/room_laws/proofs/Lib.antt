@@ -5,3 +5,4 @@ mod Emptying
 mod Sealed
 mod Flushed
 mod Resting
+mod Gaining

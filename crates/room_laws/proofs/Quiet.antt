@@ -1,10 +1,10 @@
 -- Sealing and flushing keep a book tidy: no block that is free or queued leaves, nothing live changes, and no hold comes.
-use Rattle.std.proofs.Common.{◌≡◌, ℕ, ◌+◌, ◌*◌, ◌<◌, ◌≤◌, Bool, true, false, not, cond, ◌&&◌, List, [], ◌∷◌, ◌++◌, map, length, refl, ap, sym, subst, ◌∙◌, arith}
+use Rattle.std.proofs.Common.{◌≡◌, ℕ, ◌*◌, ◌≤◌, Bool, true, false, not, cond, ◌&&◌, List, [], ◌∷◌, ◌++◌, map, length, refl, ap, sym, ◌∙◌, arith}
 use Rattle.std.proofs.lemmas.Bool.{and_parts, and_from, not-true, cond_both, false≢true}
 use Rattle.std.proofs.lemmas.List.Sums.{sum_by-cons}
 use Rattle.std.specs.Prelude.{◌==◌, nat_lt, filter, count_by}
 use Rattle.std.specs.List.{AllByRecursion, list_any}
-use Rattle.device_model.specs.Book.{Setup, Book, Buffer, Live, Stream, sealed, opening, is_filling, same_stream, sealed_if, opened_if, has_buffer, is_held, use_of, may_be_free, may_be_queued, with_seal, with_gate_begun, with_flushed, refreshed, is_in}
+use Rattle.device_model.specs.Book.{Setup, Book, Buffer, Live, Stream, sealed, opening, is_filling, same_stream, sealed_if, opened_if, has_buffer, is_held, use_of, may_be_free, may_be_queued, with_seal, with_gate_begun, with_flushed, refreshed}
 use Rattle.device_model.specs.Device.{State}
 use Rattle.device_model.specs.Steps.{Step, wrote, moved, removed, rid_of, uncovered, sealed_stream, gate_begun, flushed_buffer, closing_failed, raid_begun, raid_given_up, marked_part, scanned_block, compared_part, done_part, after_step, after_steps}
 use Rattle.defrag_queue.proofs.Refreshed.{each_of}

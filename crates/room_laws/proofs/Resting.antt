@@ -1,13 +1,13 @@
 -- A tending that vacates nothing leaves a device at rest, and a tending of a device at rest makes no step.
-use Rattle.std.proofs.Common.{◌≡◌, ◌⊎◌, inl, inr, ℕ, ◌+◌, ◌≤◌, Bool, true, false, cond, ◌&&◌, ◌||◌, List, [], ◌∷◌, ◌++◌, length, length-append, Option, Some, None, refl, ap, sym, subst, ◌∙◌, arith}
+use Rattle.std.proofs.Common.{◌≡◌, ◌⊎◌, inl, inr, ℕ, ◌≤◌, Bool, true, false, cond, ◌&&◌, List, [], ◌∷◌, ◌++◌, length, length-append, Option, Some, None, refl, ap, sym, subst, ◌∙◌, arith}
 use Rattle.std.proofs.lemmas.Bool.{and_parts, and_from, or_cases, or_left, or_right, false≢true, false_from_ne_true, leb-true, le-leb}
 use Rattle.std.specs.Prelude.{◌==◌, nat_le, flat_map, MatchBool}
 use Rattle.std.specs.List.{AllByRecursion, list_any}
 use Rattle.device_model.specs.Book.{Setup, Book, Buffer, Live, Stream, client, defrag, Phase, filling, sealed, opening, is_filling, filling_buffer, use_of, holds_dead}
 use Rattle.device_model.specs.Device.{State}
 use Rattle.device_model.specs.Steps.{Step, after_steps}
-use Rattle.device_model.specs.Events.{Call, Answer, Cause, choose_call, flush_sealed_call, block_chosen, refused, Event, after_event, steps_of}
-use Rattle.device_model.specs.Legal.{Allowed, Only, NoMemory, WhereReads, seal_if, seal_low, is_due, is_short, is_nothing, has_gathered, flush_of, flush_all, queue_front, Follows, IsLegal}
+use Rattle.device_model.specs.Events.{choose_call, flush_sealed_call, block_chosen, Event, after_event, steps_of}
+use Rattle.device_model.specs.Legal.{Allowed, Only, NoMemory, WhereReads, seal_if, seal_low, is_due, is_short, is_nothing, has_gathered, flush_of, flush_all, queue_front, IsLegal}
 use Rattle.device_model.specs.Vacating.{Outcome, can_gain, Vacates, Tends}
 use Rattle.room_laws.specs.Room.{IsAtRest}
 use Rattle.room_laws.proofs.Sealed.{sealed_low, client_found, defrag_found, filling_found}
@@ -95,7 +95,7 @@ module _ (setup : Setup) (told : Bool) (s : State) (rest : IsAtRest setup s.book
   flush_rests event allowed = elim allowed [
     | inl made ↦ made.0 ∙ whole
     | inr failed ↦ absurd (let long = ap length (sym whole ∙ ap (λ (l : List Step). seal_low setup s.book ++ l) failed.4.2) in
-      omega (arith, long, length-append (seal_low setup s.book) (failed.2 ++ failed.4.0 ∷ failed.4.1), length-append failed.2 (failed.4.0 ∷ failed.4.1)))
+        omega (arith, long, length-append (seal_low setup s.book) (failed.2 ++ failed.4.0 ∷ failed.4.1), length-append failed.2 (failed.4.0 ∷ failed.4.1)))
   ]
     where
       whole : seal_low setup s.book ++ flush_all (after_steps setup (seal_low setup s.book) s).book ≡ []

@@ -1,15 +1,15 @@
 -- What a seal of what is due leaves: which buffers take records, and how many blocks may come into the queue.
-use Rattle.std.proofs.Common.{◌≡◌, ◌⊎◌, inl, inr, ℕ, ◌+◌, ◌-◌, ◌*◌, ◌<◌, ◌≤◌, Bool, true, false, not, cond, ◌&&◌, ◌||◌, List, [], ◌∷◌, ◌++◌, map, length, Option, Some, None, refl, ap, sym, subst, ◌∙◌, arith}
+use Rattle.std.proofs.Common.{◌≡◌, ◌⊎◌, inl, inr, ℕ, ◌+◌, ◌-◌, ◌*◌, ◌<◌, ◌≤◌, Bool, true, false, not, cond, ◌&&◌, List, [], ◌∷◌, ◌++◌, map, Option, Some, None, refl, ap, sym, subst, ◌∙◌, arith}
 use Rattle.std.proofs.Math.Nat.{mul-le-mul_right}
-use Rattle.std.proofs.lemmas.Bool.{and_parts, or_cases, not-true, cond-true, cond-false, cond_both, false≢true, ltb-true, eqb-true, not-false, and_right, and_cases}
+use Rattle.std.proofs.lemmas.Bool.{and_parts, or_cases, cond-false, cond_both, false≢true, ltb-true, eqb-true, not-false, and_right, and_cases}
 use Rattle.std.proofs.lemmas.List.Sums.{sum_by-cons}
-use Rattle.std.specs.Prelude.{◌==◌, nat_lt, nat_le, filter, find, count_by, MatchOption}
-use Rattle.device_model.specs.Book.{Setup, Book, Buffer, Stream, client, defrag, Phase, filling, sealed, opening, is_filling, same_stream, sealed_if, seal_stream, filling_buffer, use_of, holds_dead}
+use Rattle.std.specs.Prelude.{find, count_by}
+use Rattle.device_model.specs.Book.{Setup, Book, Buffer, Stream, client, defrag, Phase, filling, sealed, opening, is_filling, same_stream, sealed_if, seal_stream, filling_buffer, use_of}
 use Rattle.device_model.specs.Device.{State}
 use Rattle.device_model.specs.Steps.{after_step, after_steps}
-use Rattle.device_model.specs.Legal.{seal_if, seal_low, is_due, is_short, is_nothing, has_gathered}
-use Rattle.room_laws.specs.Room.{is_below, gathers_live, may_come, left_to_vacate}
-use Rattle.room_laws.specs.Tidy.{fills, IsTidy}
+use Rattle.device_model.specs.Legal.{seal_if, is_due, is_short, is_nothing, has_gathered}
+use Rattle.room_laws.specs.Room.{is_below, gathers_live, may_come}
+use Rattle.room_laws.specs.Tidy.{fills}
 use Rattle.room_laws.proofs.Quiet.{count_changed, sealed_fills}
 use Rattle.room_laws.proofs.Emptying.{filling_of}
 
