@@ -14,11 +14,7 @@ use Rattle.room_laws.specs.Tidy.{IsTidy}
 use Rattle.room_laws.proofs.Emptying.{after_joined}
 use Rattle.room_laws.proofs.Flushed.{IsFlushed, flushed}
 use Rattle.room_laws.proofs.Resting.{at_rest}
-
-pub record HasVacated (setup : Setup) (old new : Book) : Type 0 where
-  pub tidy : IsTidy setup new
-  pub less : left_to_vacate setup new + 1 ≤ left_to_vacate setup old
-  pub free : filling_buffer defrag old.buffers ≡ None → length old.free ≤ length new.free + 1
+use Rattle.room_laws.proofs.Vacated.{HasVacated, vacated}
 
 -- the state after a list of events is the one after all their steps
 after_all : (setup : Setup) (events : List Event) (s : State) → after_events setup events s ≡ after_steps setup (steps_of events) s
@@ -30,9 +26,7 @@ pub record HasTended (setup : Setup) (old new : Book) : Type 0 where
   pub tidy : IsTidy setup new
   pub gains : IsAtRest setup new ⊎ (6 < length new.free) ⊎ (left_to_vacate setup new < left_to_vacate setup old)
 
-module _ (setup : Setup) (told : Bool)
-    (vacated : (t : State) (faults : ℕ) (rest : List Event) (outcome : Outcome) → IsTidy setup t.book → setup.lwm ≤ 50 → Vacates setup t rest outcome
-    → IsLegal setup told t faults rest → NoneRefused rest → ((t.book.queue ≡ []) × (steps_of rest ≡ [])) ⊎ HasVacated setup t.book (after_events setup rest t).book) where
+module _ (setup : Setup) (told : Bool) where
   -- Where the buffer of moved records was sealed and a block is vacated for all that, two were queued, or more than 7 are free.
   gained : (old mid new : Book) → IsFlushed setup old mid → can_gain mid ≡ true → HasVacated setup mid new → (6 < length new.free) ⊎ (left_to_vacate setup new < left_to_vacate setup old)
   gained old mid new is gain has = by is.left
@@ -82,7 +76,7 @@ module _ (setup : Setup) (told : Bool)
 
       by : (gain : Bool) → can_gain mid.book ≡ gain → MatchBool gain ((outcome : Outcome) × Vacates setup mid more outcome) (more ≡ []) → HasTended setup s.book (after_events setup more mid).book
       by false no_gain nothing = rested (inl no_gain) (after_events setup more mid) (ap (λ (l : List Event). after_events setup l mid) nothing)
-      by true gain vacates = elim (vacated mid first.faults_after more vacates.0 is.keeps.tidy half vacates.1 parts.1 each.1) [
+      by true gain vacates = elim (vacated setup told mid first.faults_after more vacates.0 is.keeps.tidy half vacates.1 parts.1 each.1) [
         | inl still ↦ rested (inr still.0) (after_events setup more mid) (after_all setup more mid ∙ ap (λ (l : List Step). after_steps setup l mid) still.1)
         | inr has ↦ record { tidy = has.tidy; gains = inr (gained s.book mid.book (after_events setup more mid).book is gain has) }
       ]

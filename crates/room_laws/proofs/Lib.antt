@@ -4,5 +4,14 @@ mod Leaving
 mod Emptying
 mod Sealed
 mod Flushed
-mod Resting
-mod Gaining
+pub mod Resting
+mod Uses
+mod Counts
+mod Readying
+mod Moving
+mod Coming
+mod Moves
+mod Draining
+mod Vacated
+pub mod Finding
+pub mod Gaining
