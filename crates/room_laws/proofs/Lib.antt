@@ -4,7 +4,7 @@ mod Leaving
 mod Emptying
 mod Sealed
 mod Flushed
-mod Resting
+pub mod Resting
 mod Uses
 mod Counts
 mod Readying
@@ -14,3 +14,4 @@ mod Moves
 mod Draining
 mod Vacated
 pub mod Finding
+pub mod Gaining
