@@ -1,0 +1,17 @@
+mod Keeping
+mod Quiet
+mod Leaving
+mod Emptying
+mod Sealed
+mod Flushed
+pub mod Resting
+mod Uses
+mod Counts
+mod Readying
+mod Moving
+mod Coming
+mod Moves
+mod Draining
+mod Vacated
+pub mod Finding
+pub mod Gaining

@@ -1,11 +1,11 @@
 -- Crate room_laws. What tending gains: how much is left to vacate grows less, until more than 6 blocks are free or nothing is left to gain.
-use Rattle.std.specs.Prelude.{ℕ, ◌+◌, ◌*◌, ◌<◌, ◌≤◌, ◌≡◌, ◌≢◌, ◌⊎◌, Bool, false, not, ◌&&◌, ◌==◌, nat_lt, List, [], length, count_by}
+use Rattle.std.specs.Prelude.{ℕ, ◌+◌, ◌*◌, ◌<◌, ◌≤◌, ◌≡◌, ◌≢◌, ◌⊎◌, Bool, false, not, ◌&&◌, ◌==◌, nat_lt, List, [], ◌∷◌, length, count_by}
 use Rattle.std.specs.List.{AllByRecursion}
 use Rattle.device_model.specs.Book.{Setup, Book, Buffer, defrag, same_stream, is_filling, use_of}
 use Rattle.device_model.specs.Device.{State}
-use Rattle.device_model.specs.Events.{Event, Cause, no_space, after_events}
-use Rattle.device_model.specs.Legal.{seal_low, flush_all}
-use Rattle.device_model.specs.Vacating.{IfRefused, can_gain}
+use Rattle.device_model.specs.Events.{Event, no_space, after_events}
+use Rattle.device_model.specs.Legal.{seal_low, flush_all, IsLegal, last_faults}
+use Rattle.device_model.specs.Vacating.{IfRefused, can_gain, Tends}
 
 -- less is live in a block than the low-water mark
 abbrev pub is_below : Setup → Book → ℕ → Bool
@@ -48,3 +48,19 @@ GainsRoom setup s events =
 abbrev pub FindsRoom : State → List Event → Type 0
 FindsRoom s events =
     1 ≤ length s.book.free → AllByRecursion (λ event. IfRefused event.answer (λ cause. (free : ℕ) → cause ≢ no_space free) (Unit {0})) events
+
+-- ---- tendings in a row
+
+-- a tending in which nothing was refused, behind which at most 6 blocks are free and the device isn't at rest
+pub record LacksRoom (setup : Setup) (told : Bool) (s : State) (faults : ℕ) (events : List Event) : Type 0 where
+  pub tends : Tends setup s events
+  pub legal : IsLegal setup told s faults events
+  pub none_refused : NoneRefused events
+  pub few : length (after_events setup events s).book.free ≤ 6
+  pub restless : IsAtRest setup (after_events setup events s).book → ⊥
+
+-- one such tending after another
+abbrev pub TendInRow : Setup → (told : Bool) → State → (faults : ℕ) → List (List Event) → Type 0
+TendInRow setup told s faults [] = Unit {0}
+TendInRow setup told s faults (events ∷ more) =
+    LacksRoom setup told s faults events × TendInRow setup told (after_events setup events s) (last_faults faults events) more
