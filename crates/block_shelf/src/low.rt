@@ -31,6 +31,7 @@ impl<D: Disk> Shelf<D> {
         ensures low { (b : BufferState) → Contains self.old.buffers b → IsLow b.stream self.old → Contains self.new.buffers (sealed_buffer b) }
         ensures enough { (b : BufferState) → Contains self.old.buffers b → (IsLow b.stream self.old → ⊥) → Contains self.new.buffers b }
         ensures rest { self.new ≡ record self.old { buffers = self.new.buffers } }
+        ensures whole { IsShelf D.view self.old }
         ensures disk { self.new.disk ≡ self.old.disk }
         ensures shape { SameShape self.old self.new }
     {

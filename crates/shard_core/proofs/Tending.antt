@@ -1,5 +1,5 @@
--- What is sealed is flushed, and then a block is vacated.
-use Rattle.std.proofs.Common.{◌≡◌, Bool, true, false, List, [], ◌∷◌, refl, sym, subst}
+-- What is sealed is flushed, and then a block is vacated where that gains room.
+use Rattle.std.proofs.Common.{◌≡◌, ◌≤◌, Bool, true, false, List, [], ◌∷◌, refl, sym, subst, arith}
 use Rattle.std.specs.Prelude.{MatchBool, Option, Some, None, Result, Ok, Err}
 use Rattle.disk_model.specs.Disk.{DiskView, IsHonest}
 use Rattle.device_model.specs.Book.{Setup}
@@ -9,10 +9,14 @@ use Rattle.device_model.specs.Vacating.{Outcome, did, stopped, Vacates, can_gain
 use Rattle.shard_core.specs.declared.refusals.DefragRefusal.{DefragRefusal}
 use Rattle.shard_core.specs.declared.defrag.Vacated.{Vacated}
 use Rattle.shard_core.specs.View.{ShardView, SameSetup, setup_of}
-use Rattle.shard_core.specs.Stands.{Agrees}
+use Rattle.shard_core.specs.Stands.{Agrees, IsWhole}
 use Rattle.shard_core.specs.Calls.{MakesAny}
-use Rattle.shard_core.specs.Vacating.{MakesEvents, IsVacating}
-use Rattle.shard_core.proofs.Making.{setup_same}
+use Rattle.shard_core.specs.Vacating.{MakesEvents, TendsWell, IsVacating}
+use Rattle.shard_core.proofs.Making.{setup_is, setup_same}
+use Rattle.block_shelf.specs.View.{IsShelf}
+use Rattle.room_laws.proofs.Gaining.{gains}
+use Rattle.room_laws.proofs.Finding.{finds}
+use Rattle.shard_core.proofs.Tidy.{tidy_for}
 use Rattle.shard_core.proofs.Events.{RunsBy, runs_one, runs_then, makes_events, runs_made}
 
 -- however a vacating is answered, it comes to something
@@ -49,3 +53,17 @@ module _ {D : Type 0} (view : D → DiskView) (old mid new : ShardView D) (same 
       makes_events view old mid s (Tends setup s) (first ∷ [])
       (first, [], refl, flushed.1.is_call, subst (λ (x : Bool). MatchBool x ((o : Outcome) × Vacates setup (after_event setup first s) [] o) (nothing ≡ [])) (sym none) refl)
       (runs_one view setup flush_sealed_call flushed.0 old.shelf mid.shelf s (Agrees mid) flushed.1)
+
+-- a tending gains room, where it can
+pub tends_well : {D : Type 0} (view : D → DiskView) (old new : ShardView D) (s : State) → IsShelf view old.shelf → IsWhole old → Agrees old s → MakesEvents view (Tends (setup_of old) s) old s new → MakesEvents view (TendsWell (setup_of old) s) old s new
+tends_well view old new s is whole agrees made =
+    let setup : Setup = setup_of old in
+    let tidy = tidy_for view old.shelf is setup (setup_is old whole) s agrees.shelf.stands agrees.shelf.queue in
+    let lwm = whole.settings.lwm in
+    makes_events view old new s (TendsWell setup s) made.events
+    (made.works, gains setup false s (view old.shelf.disk).faults made.events tidy made.legal made.works, finds setup false s (view old.shelf.disk).faults made.events tidy (omega (arith, lwm)) made.legal made.works)
+    (runs_made view old new s (Tends setup s) made)
+
+-- what it gains aside
+pub only_tends : {D : Type 0} (view : D → DiskView) (old new : ShardView D) (s : State) → MakesEvents view (TendsWell (setup_of old) s) old s new → MakesEvents view (Tends (setup_of old) s) old s new
+only_tends view old new s made = makes_events view old new s (Tends (setup_of old) s) made.events made.works.0 (runs_made view old new s (TendsWell (setup_of old) s) made)

@@ -26,7 +26,10 @@ counted stream b bs =
 
 none_fills : (stream : Stream) (bs : List BufferState) → AllByRecursion (λ c. shelf_view.fills stream c ≡ false) bs → count stream bs ≡ 0
 none_fills stream [] all = refl
-none_fills stream (b ∷ bs) all = counted stream b bs ∙ ap (λ (t : Bool). cond t 1 0 + count stream bs) all.0 ∙ none_fills stream bs all.1
+none_fills stream (b ∷ bs) all =
+    let same = counted stream b bs ∙ ap (λ (t : Bool). cond t 1 0 + count stream bs) all.0 in
+    let rest = none_fills stream bs all.1 in
+    omega (arith, same, rest)
 
 -- of each stream at most one buffer takes records
 one_fills : (stream : Stream) (bs : List BufferState) → StandInOrder bs → count stream bs ≤ 1

@@ -6,7 +6,8 @@ use Rattle.device_model.specs.Book.{Setup, Book, has_buffer, live_of}
 use Rattle.device_model.specs.Device.{State}
 use Rattle.device_model.specs.Events.{Event, Answer, move_call, happened, refused, Cause, spent, overload, no_space, damaged, no_memory, disk_fault, after_events, states_of}
 use Rattle.device_model.specs.Legal.{IsLegal, last_faults, queue_front, is_in_block}
-use Rattle.device_model.specs.Vacating.{IfRefused, MovesOut, Vacates, did, stopped, moved_count}
+use Rattle.device_model.specs.Vacating.{IfRefused, MovesOut, Vacates, Tends, did, stopped, moved_count}
+use Rattle.room_laws.specs.Room.{GainsRoom, FindsRoom}
 use Rattle.disk_model.specs.Disk.{DiskView, IsHonest}
 use Rattle.disk_model.specs.Runs.{OneOf, Leaves}
 use Rattle.recovery.specs.Surviving.{Survives}
@@ -38,6 +39,11 @@ pub record MakesEvents {D : Type 0} (view : D → DiskView) (Work : List Event �
   pub safe : IsHonest (view old.shelf.disk) → ShelfIsSafe view (setup_of old) old.shelf s → ShelfIsSafe view (setup_of old) new.shelf (after_events (setup_of old) events s)
   pub leaves : IsHonest (view old.shelf.disk) → ShelfIsSafe view (setup_of old) old.shelf s
       → Leaves (OneOf (Survives (setup_of old)) (states_of (setup_of old) events s)) (view old.shelf.disk) (view new.shelf.disk)
+
+-- The events of a tending, which gains room as the law of tending says: where nothing was refused it leaves the device at rest, or more than 6
+-- blocks free, or less to vacate; and where a block was free no move is refused for want of space.
+abbrev pub TendsWell : Setup → State → List Event → Type 0
+TendsWell setup s events = Tends setup s events × GainsRoom setup s events × FindsRoom s events
 
 -- ---- moves out of a block
 

@@ -13,12 +13,12 @@ ghost use Rattle.block_shelf.specs.View.{IsShelf, IsSetupOf, is_unsealed};
 ghost use Rattle.block_shelf.specs.View as shelf_view;
 ghost use Rattle.block_shelf.specs.Standing.{StandsFor};
 ghost use Rattle.block_shelf.specs.Calls.{Goes};
-ghost use Rattle.device_model.specs.Vacating.{can_gain, Tends};
+ghost use Rattle.device_model.specs.Vacating.{can_gain};
 ghost use Rattle.shard_core.specs.View.{SameSetup, setup_of};
-ghost use Rattle.shard_core.specs.Stands.{Agrees};
+ghost use Rattle.shard_core.specs.Stands.{Agrees, IsWhole};
 ghost use Rattle.shard_core.specs.Calls.{Makes, MakesAny, flush_answer, FlushesAll};
 ghost use Rattle.shard_core.specs.Writing.{EndsRight};
-ghost use Rattle.shard_core.specs.Vacating.{MakesEvents};
+ghost use Rattle.shard_core.specs.Vacating.{MakesEvents, TendsWell};
 
 use crate::Shard;
 use block_shelf::Shelf;
@@ -84,9 +84,10 @@ impl<D: Disk> Shard<D> {
     }
 
     /// Makes room: seals what is due where at most 6 blocks are free, flushes what is sealed, as far as the disk goes, and vacates the block that
-    /// has waited longest, if one waits and that can gain room. It answers nothing.
+    /// has waited longest, if one waits and that can gain room. It answers nothing. With a low-water mark of at most 50, tendings in which nothing
+    /// is refused leave more than 6 blocks free, or at rest a device at which nothing is left to gain.
     pub fn tend(&mut self, alloc: Global)
-        ensures makes { (s : State) → Agrees self.old s → MakesEvents D.view (Tends (setup_of self.old) s) self.old s self.new }
+        ensures makes { (s : State) → Agrees self.old s → MakesEvents D.view (TendsWell (setup_of self.old) s) self.old s self.new }
         ensures later { IsLater (D.view self.old.shelf.disk) (D.view self.new.shelf.disk) }
         ensures honest { IsHonest (D.view self.old.shelf.disk) → IsHonest (D.view self.new.shelf.disk) }
         ensures shape { SameSetup self.old self.new }
@@ -101,6 +102,7 @@ impl<D: Disk> Shard<D> {
 impl<D: Disk> Shard<D> {
     // The first two parts of that, which take no memory.
     fn flush_low(&mut self)
+        ensures whole { IsShelf D.view self.old.shelf × IsWhole self.old }
         ensures makes { (s : State) → Agrees self.old s → MakesAny D.view flush_sealed_call self.old s self.new }
         ensures later { IsLater (D.view self.old.shelf.disk) (D.view self.new.shelf.disk) }
         ensures honest { IsHonest (D.view self.old.shelf.disk) → IsHonest (D.view self.new.shelf.disk) }

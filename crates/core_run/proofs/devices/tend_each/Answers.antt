@@ -1,4 +1,5 @@
 use Rattle.std.proofs.Common.{ℕ, sym, subst, arith, refl, ◌<◌, get_or}
+use Rattle.shard_core.proofs.Tending.{only_tends}
 use Rattle.core_run.specs.Turns.{TendTurn, TendsOn}
 use Rattle.core_run.proofs.Looping.{through_next, through_all}
 use Rattle.core_run.proofs.devices.tend_each.Goals as goal
@@ -9,8 +10,9 @@ loop-shard-init g c = (refl, refl)
 pub loop-shard-preserved : goal.loop-shard-preserved
 loop-shard-preserved g c =
     let e = c.tend.ensures in
-    let turn : TendsOn g.D.Disk.view (get_or c.loop-shard.shards c.loop-shard.shard-index c.shard-item.result) c.tend.new.self =
-    record { goes = record { shape = e.shape; later = e.later; honest = e.honest }; makes = e.makes } in
+    let old = get_or c.loop-shard.shards c.loop-shard.shard-index c.shard-item.result in
+    let turn : TendsOn g.D.Disk.view old c.tend.new.self =
+    record { goes = record { shape = e.shape; later = e.later; honest = e.honest }; makes = λ s agrees. only_tends g.D.Disk.view old c.tend.new.self s (e.makes s agrees) } in
     through_next (TendTurn {A = ℕ} g.D.Disk.view) c.loop-shard.shard-index 0 c.args.shards.now c.loop-shard.shards 0 c.shard-item.result c.tend.new.self 0 c.loop-shard.invariant
     (subst (λ (n : ℕ). c.loop-shard.shard-index < n) (sym c.loop-shard.auto.shards) c.loop-shard-test.true) turn
 
