@@ -1,16 +1,17 @@
 mod Keeping
+mod Counts
+mod Waiting
 mod Quiet
 mod Leaving
 mod Emptying
 mod Sealed
 mod Flushed
-pub mod Resting
 mod Uses
-mod Counts
 mod Readying
 mod Moving
 mod Coming
 mod Moves
+pub mod Resting
 mod Draining
 mod Vacated
 pub mod Finding

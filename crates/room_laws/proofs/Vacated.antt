@@ -15,7 +15,7 @@ use Rattle.room_laws.specs.Tidy.{IsTidy}
 use Rattle.room_laws.specs.Room.{NoneRefused, FindsRoom, left_to_vacate}
 use Rattle.room_laws.proofs.Draining.{HasSpare, IsEmptying, copy_used, spare_room, step_empties}
 use Rattle.room_laws.proofs.Moves.{MoveEnds, stays, goes, lacks, fails, FailsOtherwise, move_ends, choice_ends, went_on, not_refused, not_for_space, fails_not_for_space}
-use Rattle.room_laws.proofs.Moving.{unused_waits_not, waits_bare, waits_below}
+use Rattle.room_laws.proofs.Waiting.{unused_waits_not, waits_bare, waits_below}
 
 -- ---- no place
 
