@@ -1,4 +1,5 @@
 mod Keeping
+mod Counts
 mod Quiet
 mod Leaving
 mod Emptying
@@ -6,7 +7,6 @@ mod Sealed
 mod Flushed
 pub mod Resting
 mod Uses
-mod Counts
 mod Readying
 mod Moving
 mod Coming

@@ -1,5 +1,5 @@
 -- Sealing and flushing keep a book tidy: no block that is free or queued leaves, nothing live changes, and no hold comes.
-use Rattle.std.proofs.Common.{◌≡◌, ℕ, ◌*◌, ◌≤◌, Bool, true, false, not, cond, ◌&&◌, List, [], ◌∷◌, ◌++◌, map, length, refl, ap, sym, ◌∙◌, arith}
+use Rattle.std.proofs.Common.{◌≡◌, ℕ, ◌*◌, ◌≤◌, Bool, true, false, not, cond, ◌&&◌, List, [], ◌∷◌, ◌++◌, length, refl, ap, sym, ◌∙◌, arith}
 use Rattle.std.proofs.lemmas.Bool.{and_parts, and_from, not-true, cond_both, false≢true}
 use Rattle.std.proofs.lemmas.List.Sums.{sum_by-cons}
 use Rattle.std.specs.Prelude.{◌==◌, nat_lt, filter, count_by}
@@ -20,6 +20,7 @@ use Rattle.kept_trail.proofs.Places.{none_at, none_from, buffer_place}
 use Rattle.kept_trail.proofs.Placing.{seal_places}
 use Rattle.kept_trail.proofs.Within.{step_within}
 use Rattle.room_laws.specs.Tidy.{fills, IsTidy}
+use Rattle.room_laws.proofs.Counts.{count_changed}
 use Rattle.room_laws.proofs.Keeping.{IsSound, refreshed_tidy, free_grows, queue_grows}
 
 -- a step of sealing or of flushing
@@ -38,16 +39,6 @@ pub record Keeps (setup : Setup) (old new : Book) : Type 0 where
   pub holds : (test : ℕ × ℕ → Bool) → list_any test new.holds ≡ true → list_any test old.holds ≡ true
 
 -- ---- counts
-
-pub count_changed : (test : Buffer → Bool) (change : Buffer → Buffer) → ((b : Buffer) → test (change b) ≡ true → test b ≡ true) → (bs : List Buffer) → count_by test (map change bs) ≤ count_by test bs
-count_changed test change less [] = omega arith
-count_changed test change less (b ∷ bs) =
-    omega (arith, sum_by-cons (λ (c : Buffer). cond (test c) 1 0) (change b) (map change bs), sum_by-cons (λ (c : Buffer). cond (test c) 1 0) b bs, count_changed test change less bs, by (test (change b)) (test b) (less b))
-  where
-    by : (x y : Bool) → (x ≡ true → y ≡ true) → cond x 1 0 ≤ cond y 1 0
-    by true true h = omega arith
-    by true false h = absurd (false≢true (h refl))
-    by false y h = omega arith
 
 pub count_fewer : (test p : Buffer → Bool) (bs : List Buffer) → count_by test (filter p bs) ≤ count_by test bs
 count_fewer test p [] = omega arith
@@ -101,7 +92,7 @@ module _ (setup : Setup) (s : State) (tidy : IsTidy setup s.book) where
       within = step_within setup s tidy.within (sealed_stream stream) tt;
       numbered = counted (sealed_stream stream);
       alone = λ other. let before = tidy.alone other in
-          omega (arith, before, count_changed (fills other) (λ b. sealed_if (same_stream stream b.stream) b) (λ b. sealed_fills other (same_stream stream b.stream) b) s.book.buffers);
+          omega (arith, before, count_changed (fills other) (fills other) (λ b. sealed_if (same_stream stream b.stream) b) s.book.buffers (λ b there. sealed_fills other (same_stream stream b.stream) b));
       once = tidy.once;
       own = tidy.own;
       below = tidy.below;
@@ -121,7 +112,7 @@ module _ (setup : Setup) (s : State) (tidy : IsTidy setup s.book) where
       within = step_within setup s tidy.within (gate_begun number) tt;
       numbered = counted (gate_begun number);
       alone = λ other. let before = tidy.alone other in
-          omega (arith, before, count_changed (fills other) (λ b. opened_if (b.number == number) b) (λ b. opened_fills other (b.number == number) b) s.book.buffers);
+          omega (arith, before, count_changed (fills other) (fills other) (λ b. opened_if (b.number == number) b) s.book.buffers (λ b there. opened_fills other (b.number == number) b));
       once = tidy.once;
       own = tidy.own;
       below = tidy.below;

@@ -10,7 +10,8 @@ use Rattle.device_model.specs.Steps.{after_step, after_steps}
 use Rattle.device_model.specs.Legal.{seal_if, is_due, is_short, is_nothing, has_gathered}
 use Rattle.room_laws.specs.Room.{is_below, gathers_live, may_come}
 use Rattle.room_laws.specs.Tidy.{fills}
-use Rattle.room_laws.proofs.Quiet.{count_changed, sealed_fills}
+use Rattle.room_laws.proofs.Counts.{one_if, count_changed}
+use Rattle.room_laws.proofs.Quiet.{sealed_fills}
 use Rattle.room_laws.proofs.Emptying.{filling_of}
 
 -- ---- which buffers take records
@@ -99,9 +100,6 @@ filling_found stream (b ∷ bs) = by (is_filling b.phase) refl (filling_found st
     by false is rest = rest ∙ sym (cond-false (same_stream stream b.stream && false) (Some b) (filling_buffer stream bs) (and_right _ _ refl))
 
 -- ---- how many count
-
-abbrev one_if : Bool → ℕ
-one_if x = cond x 1 0
 
 count_same : (test : Buffer → Bool) (change : Buffer → Buffer) → ((b : Buffer) → test (change b) ≡ test b) → (bs : List Buffer) → count_by test (map change bs) ≡ count_by test bs
 count_same test change same [] = refl
@@ -218,7 +216,7 @@ module _ (setup : Setup) (book : Book) (half : setup.lwm ≤ 50) where
   client_counts false = refl
 
   client_few : (first : Bool) (stream : Stream) → count_by (fills stream) book.buffers ≤ 1 → count_by (fills stream) (sealed_where first client book.buffers) ≤ 1
-  client_few true stream few = omega (arith, few, count_changed (fills stream) (λ b. sealed_if (same_stream client b.stream) b) (λ b. sealed_fills stream (same_stream client b.stream) b) book.buffers)
+  client_few true stream few = omega (arith, few, count_changed (fills stream) (fills stream) (λ b. sealed_if (same_stream client b.stream) b) book.buffers (λ b there. sealed_fills stream (same_stream client b.stream) b))
   client_few false stream few = few
 
   module _ (first : Bool) where
