@@ -4,6 +4,7 @@ use Rattle.std.specs.Prelude.{Some, Contains, filter, find, count_by}
 use Rattle.std.specs.List.{AllByRecursion}
 use Rattle.std.proofs.lemmas.Bool.{false≢true, cond_both}
 use Rattle.std.proofs.lemmas.List.Sums.{sum_by-cons, sum_by-append}
+use Rattle.recovery.proofs.Members.{first_there, rest_there}
 use Rattle.recovery.proofs.Growing.{cons_cases}
 
 abbrev pub one_if : Bool → ℕ
@@ -21,10 +22,11 @@ one_if_le true false to = absurd (false≢true (to refl))
 one_if_le false b to = omega arith
 
 -- where each that passes behind a change passed before, no more pass
-pub count_changed : {X Y : Type 0} (p : Y → Bool) (q : X → Bool) (change : X → Y) (xs : List X) → AllByRecursion (λ x. p (change x) ≡ true → q x ≡ true) xs → count_by p (map change xs) ≤ count_by q xs
-count_changed p q change [] all = omega arith
-count_changed p q change (x ∷ xs) all =
-    omega (arith, count_cons p (change x) (map change xs), count_cons q x xs, one_if_le (p (change x)) (q x) all.0, count_changed p q change xs all.1)
+pub count_changed : {X Y : Type 0} (p : Y → Bool) (q : X → Bool) (change : X → Y) (xs : List X) → ((x : X) → Contains xs x → p (change x) ≡ true → q x ≡ true) → count_by p (map change xs) ≤ count_by q xs
+count_changed p q change [] each = omega arith
+count_changed p q change (x ∷ xs) each =
+    let rest = count_changed p q change xs (λ y there. each y (rest_there x xs y there)) in
+    omega (arith, count_cons p (change x) (map change xs), count_cons q x xs, one_if_le (p (change x)) (q x) (each x (first_there x xs)), rest)
 
 -- nor do of fewer
 pub count_fewer : {X : Type 0} (p kept : X → Bool) (xs : List X) → count_by p (filter kept xs) ≤ count_by p xs

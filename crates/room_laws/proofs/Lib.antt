@@ -16,3 +16,4 @@ mod Draining
 mod Vacated
 pub mod Finding
 pub mod Gaining
+mod Worked

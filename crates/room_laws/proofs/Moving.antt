@@ -253,8 +253,7 @@ module _ (setup : Setup) (book ready : Book) (x : Buffer) (is : IsReadied book r
     within = record { free = subst (AllByRecursion (λ b. b < setup.blocks)) (sym is.free) tidy.within.free; places = within.places; live = within.live };
     numbered = record { rising = numbered.rising; below = numbered.below };
     alone = λ stream.
-        let old = count_changed (fills stream) (fills stream) (used_more x.number copy.units) ready.buffers
-        (all_from (λ y. fills stream (used_more x.number copy.units y) ≡ true → fills stream y ≡ true) ready.buffers (λ y there fills_still. sym (used_fills stream y) ∙ fills_still)) in
+        let old = count_changed (fills stream) (fills stream) (used_more x.number copy.units) ready.buffers (λ y there still. sym (used_fills stream y) ∙ still) in
         omega (arith, old, is.alone stream);
     once = subst (IsDistinct (λ a b. a == b)) (sym is.free) tidy.once;
     own = once_placed;

@@ -40,7 +40,7 @@ pub record Keeps (setup : Setup) (old new : Book) : Type 0 where
 
 -- ---- one step
 
-sealed_fills : (stream : Stream) (chosen : Bool) (b : Buffer) → fills stream (sealed_if chosen b) ≡ true → fills stream b ≡ true
+pub sealed_fills : (stream : Stream) (chosen : Bool) (b : Buffer) → fills stream (sealed_if chosen b) ≡ true → fills stream b ≡ true
 sealed_fills stream chosen b =
     cond_both (chosen && is_filling b.phase) (record b { phase = sealed }) b (λ (c : Buffer). fills stream c ≡ true → fills stream b ≡ true)
     (λ _ is. absurd (false≢true (and_parts (same_stream stream b.stream) false is).1)) (λ _ is. is)
@@ -49,14 +49,6 @@ opened_fills : (stream : Stream) (chosen : Bool) (b : Buffer) → fills stream (
 opened_fills stream chosen b =
     cond_both chosen (record b { phase = opening }) b (λ (c : Buffer). fills stream c ≡ true → fills stream b ≡ true)
     (λ _ is. absurd (false≢true (and_parts (same_stream stream b.stream) false is).1)) (λ _ is. is)
-
-pub sealing_fills : (stream other : Stream) (bs : List Buffer) → AllByRecursion (λ b. fills stream (sealed_if (same_stream other b.stream) b) ≡ true → fills stream b ≡ true) bs
-sealing_fills stream other [] = tt
-sealing_fills stream other (b ∷ bs) = (sealed_fills stream (same_stream other b.stream) b, sealing_fills stream other bs)
-
-opening_fills : (stream : Stream) (number : ℕ) (bs : List Buffer) → AllByRecursion (λ b. fills stream (opened_if (b.number == number) b) ≡ true → fills stream b ≡ true) bs
-opening_fills stream number [] = tt
-opening_fills stream number (b ∷ bs) = (opened_fills stream (b.number == number) b, opening_fills stream number bs)
 
 -- where neither places nor live copies change, the same blocks may be queued
 queued_same : (setup : Setup) (old new : Book) → places_of new ≡ places_of old → new.live ≡ old.live → (block : ℕ) → may_be_queued setup old block ≡ may_be_queued setup new block
@@ -88,7 +80,7 @@ module _ (setup : Setup) (s : State) (tidy : IsTidy setup s.book) where
       within = step_within setup s tidy.within (sealed_stream stream) tt;
       numbered = counted (sealed_stream stream);
       alone = λ other. let before = tidy.alone other in
-          omega (arith, before, count_changed (fills other) (fills other) (λ b. sealed_if (same_stream stream b.stream) b) s.book.buffers (sealing_fills other stream s.book.buffers));
+          omega (arith, before, count_changed (fills other) (fills other) (λ b. sealed_if (same_stream stream b.stream) b) s.book.buffers (λ b there. sealed_fills other (same_stream stream b.stream) b));
       once = tidy.once;
       own = tidy.own;
       below = tidy.below;
@@ -108,7 +100,7 @@ module _ (setup : Setup) (s : State) (tidy : IsTidy setup s.book) where
       within = step_within setup s tidy.within (gate_begun number) tt;
       numbered = counted (gate_begun number);
       alone = λ other. let before = tidy.alone other in
-          omega (arith, before, count_changed (fills other) (fills other) (λ b. opened_if (b.number == number) b) s.book.buffers (opening_fills other number s.book.buffers));
+          omega (arith, before, count_changed (fills other) (fills other) (λ b. opened_if (b.number == number) b) s.book.buffers (λ b there. opened_fills other (b.number == number) b));
       once = tidy.once;
       own = tidy.own;
       below = tidy.below;

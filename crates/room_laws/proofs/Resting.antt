@@ -97,11 +97,13 @@ module _ (setup : Setup) (told : Bool) (s : State) (rest : IsAtRest setup s.book
 
   choice_rests : s.book.queue ≡ [] → (event : Event) → Allowed setup told s event choose_call → (event.steps ≡ []) × ((block : ℕ) → event.answer ≡ block_chosen (Some block) → ⊥)
   choice_rests empty event allowed =
-      let ends = choice_ends setup told s event allowed in
-      (ends.0, λ block chosen. elim ends.1 [
-        | inl is ↦ (let none : queue_front s.book.queue ≡ None = ap queue_front empty in cc)
-        | inr fails ↦ (let clash : refused fails.cause ≡ block_chosen (Some block) = sym fails.answers ∙ chosen in cc)
-      ])
+      let ends = choice_ends setup told s event allowed in (
+        ends.0,
+        λ block chosen. elim ends.1 [
+          | inl is ↦ (let none : queue_front s.book.queue ≡ None = ap queue_front empty in cc)
+          | inr fails ↦ (let clash : refused fails.cause ≡ block_chosen (Some block) = sym fails.answers ∙ chosen in cc)
+        ],
+      )
 
   vacating_rests : s.book.queue ≡ [] → (faults : ℕ) (events : List Event) (outcome : Outcome) → Vacates setup s events outcome → IsLegal setup told s faults events → steps_of events ≡ []
   vacating_rests empty faults events outcome vacates legal =

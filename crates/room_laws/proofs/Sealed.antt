@@ -10,7 +10,7 @@ use Rattle.device_model.specs.Legal.{seal_if, is_due, is_short, is_nothing, has_
 use Rattle.room_laws.specs.Room.{is_below, gathers_live, may_come}
 use Rattle.room_laws.specs.Tidy.{fills}
 use Rattle.room_laws.proofs.Counts.{one_if, count_cons, count_changed}
-use Rattle.room_laws.proofs.Quiet.{sealing_fills}
+use Rattle.room_laws.proofs.Quiet.{sealed_fills}
 use Rattle.room_laws.proofs.Emptying.{filling_of}
 
 -- ---- which buffers take records
@@ -215,7 +215,7 @@ module _ (setup : Setup) (book : Book) (half : setup.lwm ≤ 50) where
   client_counts false = refl
 
   client_few : (first : Bool) (stream : Stream) → count_by (fills stream) book.buffers ≤ 1 → count_by (fills stream) (sealed_where first client book.buffers) ≤ 1
-  client_few true stream few = omega (arith, few, count_changed (fills stream) (fills stream) (λ b. sealed_if (same_stream client b.stream) b) book.buffers (sealing_fills stream client book.buffers))
+  client_few true stream few = omega (arith, few, count_changed (fills stream) (fills stream) (λ b. sealed_if (same_stream client b.stream) b) book.buffers (λ b there. sealed_fills stream (same_stream client b.stream) b))
   client_few false stream few = few
 
   module _ (first : Bool) where
