@@ -17,3 +17,4 @@ mod Vacated
 pub mod Finding
 pub mod Gaining
 mod Worked
+mod InRow

@@ -15,24 +15,24 @@ use Rattle.room_laws.proofs.Finding.{finds}
 use Rattle.room_laws.proofs.Gaining.{gains}
 use Rattle.room_laws.proofs.Keeping.{refreshed_tidy}
 
-abbrev setup : Setup
+abbrev pub setup : Setup
 setup = record { capacity = 10; blocks = 4; device = 0; devices = 1; sprigs = 1; lwm = 50; pending_limit = 4; commit = false; raid_age = 0 }
 
-abbrev digest : ℕ → Digest
+abbrev pub digest : ℕ → Digest
 digest number = record { 0 = number ∷ [] }
 
 -- two records of 2 and 3 units, each in a block of its own
-abbrev two_live : State
+abbrev pub two_live : State
 two_live = record {
   log = [];
   book = cold_book setup ((record { digest = digest 1; block = 0; unit = 0; units = 2 }) ∷ (record { digest = digest 2; block = 1; unit = 0; units = 3 }) ∷ []) 1;
   raid = no_raid;
 }
 
-abbrev event : Call → Answer → List Step → Event
+abbrev pub event : Call → Answer → List Step → Event
 event call answer steps = record { call = call; answer = answer; steps = steps; faults_before = 0; faults_after = 0 }
 
-abbrev tending : List Event
+abbrev pub tending : List Event
 tending =
     event flush_sealed_call (counted 0) [] ∷ event choose_call (block_chosen (Some 0)) [] ∷ event (move_call (digest 1) 0) (happened true) (moved (digest 1) ∷ []) ∷ []
 
@@ -53,7 +53,7 @@ free : (after_events setup tending two_live).book.free ≡ 3 ∷ []
 unfolding refreshed cold_book placed after_step
 free = refl
 
-tends : Tends setup two_live tending
+pub tends : Tends setup two_live tending
 unfolding refreshed cold_book placed after_step
 tends = (
   event flush_sealed_call (counted 0) [],
@@ -63,7 +63,7 @@ tends = (
   (did 1 1, (event choose_call (block_chosen (Some 0)) [], event (move_call (digest 1) 0) (happened true) (moved (digest 1) ∷ []) ∷ [], refl, refl, inr (inl (0, refl, ((digest 1, refl), (refl, refl)))))),
 )
 
-legal : IsLegal setup true two_live 0 tending
+pub legal : IsLegal setup true two_live 0 tending
 unfolding refreshed cold_book placed after_step
 legal = (
   record { begins = refl; counts = omega arith; allowed = inl (refl, refl) },
@@ -73,10 +73,10 @@ legal = (
   ),
 )
 
-none_refused : NoneRefused tending
+pub none_refused : NoneRefused tending
 none_refused = (tt, (tt, (tt, tt)))
 
-tidy : IsTidy setup two_live.book
+pub tidy : IsTidy setup two_live.book
 unfolding cold_book IsDistinct
 tidy =
     refreshed_tidy setup (record {
