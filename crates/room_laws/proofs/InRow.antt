@@ -1,5 +1,4 @@
--- The worked tendings go on: a second one empties the queue, and a third leaves the device at rest. The bound on those that leave few blocks free and
--- something to gain is met.
+-- The worked tendings go on: a second one empties the queue, and a third leaves the device at rest. The bound on those that don't is met.
 use Rattle.std.proofs.Common.{◌≡◌, inl, inr, ◌≤◌, true, List, [], ◌∷◌, length, refl, ap, sym, arith}
 use Rattle.std.proofs.lemmas.Bool.{false≢true}
 use Rattle.std.specs.Prelude.{Some}
@@ -9,7 +8,7 @@ use Rattle.device_model.specs.Steps.{moved, sealed_stream, gate_begun, flushed_b
 use Rattle.device_model.specs.Events.{Event, flush_sealed_call, choose_call, move_call, counted, block_chosen, happened, after_events}
 use Rattle.device_model.specs.Legal.{IsLegal}
 use Rattle.device_model.specs.Vacating.{Tends, did}
-use Rattle.room_laws.specs.Room.{IsAtRest, left_to_vacate, LacksRoom, TendInRow}
+use Rattle.room_laws.specs.Room.{IsAtRest, left_to_vacate, GoesOn, TendInRow}
 use Rattle.room_laws.proofs.Gaining.{few_in_row}
 use Rattle.room_laws.proofs.Worked.{setup, digest, two_live, event, tending, tends, legal, none_refused, tidy}
 
@@ -48,25 +47,24 @@ second_legal = (
 )
 
 -- neither leaves the device at rest: the second block waits, and then the buffer that took both is due
-first_lacks : LacksRoom setup true two_live 0 tending
+first_goes : GoesOn setup true two_live 0 tending
 unfolding refreshed cold_book placed after_step
-first_lacks = record {
+first_goes = record {
   tends = tends;
   legal = legal;
   none_refused = none_refused;
-  few = omega arith;
   restless = λ rest. elim rest.vacated [
     | inl none ↦ false≢true (sym none)
     | inr empty ↦ omega (arith, ap length empty)
   ];
 }
 
-second_lacks : LacksRoom setup true one_queued 0 second
+second_goes : GoesOn setup true one_queued 0 second
 unfolding refreshed cold_book placed after_step
-second_lacks = record { tends = second_tends; legal = second_legal; none_refused = (tt, (tt, (tt, tt))); few = omega arith; restless = λ rest. omega (arith, ap length rest.sealed) }
+second_goes = record { tends = second_tends; legal = second_legal; none_refused = (tt, (tt, (tt, tt))); restless = λ rest. omega (arith, ap length rest.sealed) }
 
 in_row : TendInRow setup true two_live 0 (tending ∷ second ∷ [])
-in_row = (first_lacks, (second_lacks, tt))
+in_row = (first_goes, (second_goes, tt))
 
 most : left_to_vacate setup two_live.book ≡ 2
 unfolding refreshed cold_book

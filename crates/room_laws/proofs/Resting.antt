@@ -16,9 +16,19 @@ use Rattle.room_laws.proofs.Flushed.{IsFlushed, flushed_filling}
 
 -- ---- what a flush leaves
 
-few_nothing : (blocks : List ℕ) → length blocks ≤ 0 → is_nothing blocks ≡ true
+pub few_nothing : (blocks : List ℕ) → length blocks ≤ 0 → is_nothing blocks ≡ true
 few_nothing [] few = refl
 few_nothing (b ∷ bs) few = absurd (omega (arith, few))
+
+-- where each buffer takes records none is flushed
+pub none_sealed : (bs : List Buffer) → AllByRecursion (λ b. is_filling b.phase ≡ true) bs → flat_map flush_of bs ≡ []
+none_sealed [] all = refl
+none_sealed (b ∷ bs) all = by b.phase all.0 (none_sealed bs all.1)
+  where
+    by : (phase : Phase) → is_filling phase ≡ true → flat_map flush_of bs ≡ [] → flat_map flush_of (record b { phase = phase } ∷ bs) ≡ []
+    by filling told rest = rest
+    by sealed told rest = absurd (false≢true told)
+    by opening told rest = absurd (false≢true told)
 
 module _ (setup : Setup) (old new : Book) (is : IsFlushed setup old new) where
   -- where nothing was, nothing is now fewer
@@ -64,15 +74,6 @@ module _ (setup : Setup) (old new : Book) (is : IsFlushed setup old new) where
           false≢true (sym is_was ∙ and_from _ _
           (and_from _ _ (le-leb (length old.free) 6 (let less = is.keeps.free in omega (arith, most, less))) (ap (holds_dead old) (sym same) ∙ dead_before b dead))
           (gathered_before stream b now (sym same) gathered))
-
-  none_sealed : (bs : List Buffer) → AllByRecursion (λ b. is_filling b.phase ≡ true) bs → flat_map flush_of bs ≡ []
-  none_sealed [] all = refl
-  none_sealed (b ∷ bs) all = by b.phase all.0 (none_sealed bs all.1)
-    where
-      by : (phase : Phase) → is_filling phase ≡ true → flat_map flush_of bs ≡ [] → flat_map flush_of (record b { phase = phase } ∷ bs) ≡ []
-      by filling told rest = rest
-      by sealed told rest = absurd (false≢true told)
-      by opening told rest = absurd (false≢true told)
 
   -- where nothing can be vacated the device is at rest
   pub at_rest : (can_gain new ≡ false) ⊎ (new.queue ≡ []) → IsAtRest setup new

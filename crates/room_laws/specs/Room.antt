@@ -51,16 +51,15 @@ FindsRoom s events =
 
 -- ---- tendings in a row
 
--- a tending in which nothing was refused, behind which at most 6 blocks are free and the device isn't at rest
-pub record LacksRoom (setup : Setup) (told : Bool) (s : State) (faults : ℕ) (events : List Event) : Type 0 where
+-- a tending in which nothing was refused, and which doesn't leave the device at rest
+pub record GoesOn (setup : Setup) (told : Bool) (s : State) (faults : ℕ) (events : List Event) : Type 0 where
   pub tends : Tends setup s events
   pub legal : IsLegal setup told s faults events
   pub none_refused : NoneRefused events
-  pub few : length (after_events setup events s).book.free ≤ 6
   pub restless : IsAtRest setup (after_events setup events s).book → ⊥
 
 -- one such tending after another
 abbrev pub TendInRow : Setup → (told : Bool) → State → (faults : ℕ) → List (List Event) → Type 0
 TendInRow setup told s faults [] = Unit {0}
 TendInRow setup told s faults (events ∷ more) =
-    LacksRoom setup told s faults events × TendInRow setup told (after_events setup events s) (last_faults faults events) more
+    GoesOn setup told s faults events × TendInRow setup told (after_events setup events s) (last_faults faults events) more
