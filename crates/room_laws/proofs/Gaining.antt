@@ -98,10 +98,7 @@ module _ (setup : Setup) (told : Bool) where
 
   -- A tending in which nothing was refused gains room.
   pub gains : (s : State) (faults : ℕ) (events : List Event) → IsTidy setup s.book → IsLegal setup told s faults events → Tends setup s events → GainsRoom setup s events
-  gains s faults events tidy legal tends half none = elim (tended s faults events tidy legal tends half none).gains [
-    | inl quiet ↦ inl quiet
-    | inr less ↦ inr (inr less)
-  ]
+  gains s faults events tidy legal tends half none = (tended s faults events tidy legal tends half none).gains
 
   -- Tendings in a row come to rest.
   pub few_in_row : (tendings : List (List Event)) (s : State) (faults : ℕ) → setup.lwm ≤ 50 → IsTidy setup s.book → TendInRow setup told s faults tendings → length tendings ≤ left_to_vacate setup s.book

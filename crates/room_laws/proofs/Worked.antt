@@ -1,5 +1,5 @@
 -- A worked tending: two blocks are queued, and the front one's record is moved to a new buffer. Less is left to vacate, as the law says.
-use Rattle.std.proofs.Common.{◌≡◌, ◌⊎◌, inl, inr, ℕ, ◌<◌, true, false, List, [], ◌∷◌, length, refl, arith}
+use Rattle.std.proofs.Common.{◌≡◌, ◌⊎◌, inl, inr, ℕ, ◌<◌, true, false, List, [], ◌∷◌, refl, arith}
 use Rattle.std.specs.Prelude.{Some}
 use Rattle.std.specs.List.{IsDistinct}
 use Rattle.rec_format.specs.declared.version.Digest.{Digest}
@@ -99,7 +99,7 @@ tidy =
     })
 
 -- so the law says it, and no event was refused for want of space
-gained : IsAtRest setup (after_events setup tending two_live).book ⊎ (6 < length (after_events setup tending two_live).book.free)
+gained : IsAtRest setup (after_events setup tending two_live).book
     ⊎ (left_to_vacate setup (after_events setup tending two_live).book < left_to_vacate setup two_live.book)
 gained = gains setup true two_live 0 tending tidy legal tends (omega arith) none_refused
 
