@@ -4,7 +4,6 @@ use Rattle.std.specs.Prelude.{◌==◌, nat_lt, Some, Contains, count_by}
 use Rattle.std.proofs.lemmas.Bool.{eqb-true, eq-eqb, both_ways, and_parts, and_from, not-true, ltb-true, lt-ltb, leb-false}
 use Rattle.rec_format.specs.declared.version.Digest.{Digest}
 use Rattle.device_model.specs.Book.{Setup, Buffer, Book, Live, Stream, client, defrag, Phase, filling, sealed, opening, is_filling, same_stream, sealed_if, seal_stream, filling_buffer, has_buffer, has_room, fits_in, use_of, with_new_buffer, used_more, live_of}
-use Rattle.recovery.proofs.Growing.{all_from}
 use Rattle.room_laws.specs.Tidy.{IsTidy, fills}
 use Rattle.room_laws.specs.Room.{may_come}
 use Rattle.room_laws.proofs.Counts.{count_changed, count_joined, count_none, only_found}
@@ -77,7 +76,7 @@ module _ (setup : Setup) (book : Book) (tidy : IsTidy setup book) (units : ℕ) 
       let seals : Buffer → Buffer = λ y. sealed_if (same_stream defrag y.stream) y in
       let begun : Buffer → Bool = may_come setup (with_new_buffer defrag book) in
       let new = fresh setup book tidy some in
-      let old = count_changed begun (may_come setup book) seals book.buffers (all_from (λ y. begun (seals y) ≡ true → may_come setup book y ≡ true) book.buffers seals_come) in
+      let old = count_changed begun (may_come setup book) seals book.buffers seals_come in
       let one = count_none begun (new ∷ []) (new_buffer_gathers, tt) in
       omega (arith, count_joined begun (seal_stream defrag book.buffers) (new ∷ []), old, one)
 
@@ -110,7 +109,6 @@ module _ (setup : Setup) (book ready : Book) (x : Buffer) (is : IsReadied book r
 
   pub placed_come : count_by (may_come setup new) new.buffers ≤ count_by (may_come setup ready) ready.buffers
   placed_come =
-      let all = count_changed (may_come setup new) (may_come setup ready) (used_more x.number copy.units) ready.buffers
-      (all_from (λ y. may_come setup new (used_more x.number copy.units y) ≡ true → may_come setup ready y ≡ true) ready.buffers placed_comes) in
+      let all = count_changed (may_come setup new) (may_come setup ready) (used_more x.number copy.units) ready.buffers placed_comes in
       let same = ap (count_by (may_come setup new)) (moving.new_buffers setup book ready x is digest copy tidy live bare) in
       omega (arith, all, same)

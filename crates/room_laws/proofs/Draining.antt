@@ -1,17 +1,18 @@
 -- While a block is emptied: the book stays tidy, the block waits at the front of the queue until nothing is live in it, no more blocks may come,
 -- and no more than one new buffer begins.
-use Rattle.std.proofs.Common.{◌≡◌, ◌⊎◌, inl, inr, ⊎_elim, ℕ, ◌+◌, ◌*◌, ◌≤◌, ◌<◌, Bool, true, false, List, ◌∷◌, length, refl, sym, ◌∙◌, ap, subst, arith}
-use Rattle.std.specs.Prelude.{Option, Some, None, count_by, MatchOption}
-use Rattle.std.specs.List.{IsDistinct}
-use Rattle.std.proofs.lemmas.Bool.{both_ways, cond-true, cond-false, leb-true, le-leb}
+use Rattle.std.proofs.Common.{◌≡◌, ◌⊎◌, inl, inr, ⊎_elim, ℕ, ◌+◌, ◌*◌, ◌≤◌, ◌<◌, Bool, true, false, ◌&&◌, cond, List, [], ◌∷◌, map, length, refl, sym, ◌∙◌, ap, subst, arith}
+use Rattle.std.specs.Prelude.{◌==◌, Option, Some, None, count_by, MatchOption}
+use Rattle.std.specs.List.{AllByRecursion, IsDistinct}
+use Rattle.std.proofs.lemmas.Bool.{both_ways, cond-true, cond-false, cond_both, leb-true, le-leb}
 use Rattle.std.proofs.Math.Nat.{mul-le-mul_right}
 use Rattle.rec_format.specs.declared.version.Digest.{Digest}
 use Rattle.rec_format.specs.Places.{same_digest}
-use Rattle.device_model.specs.Book.{Setup, Buffer, Book, Live, defrag, filling_buffer, fits_in, has_buffer, has_room, use_of, live_of, with_new_buffer, put_in, placed}
+use Rattle.device_model.specs.Book.{Setup, Buffer, Book, Live, defrag, filling, sealed, is_filling, same_stream, sealed_if, seal_stream, used_more, first_block, filling_buffer, fits_in, has_buffer, has_room, use_of, live_of, with_new_buffer, put_in, placed}
 use Rattle.device_model.specs.Device.{State}
 use Rattle.device_model.specs.Steps.{moved, moved_state, after_step}
 use Rattle.recovery.specs.Holding.{HasRisingNumbers}
 use Rattle.recovery.proofs.Growing.{all_at}
+use Rattle.recovery.proofs.Opening.{all_joined}
 use Rattle.recovery.proofs.Placing.{some_room}
 use Rattle.kept_trail.specs.Trail.{IsBooked, CanPlace}
 use Rattle.kept_trail.specs.Within.{IsWithin}
@@ -32,6 +33,10 @@ pub record HasSpare (setup : Setup) (block : ℕ) (book : Book) : Type 0 where
   pub found : filling_buffer defrag book.buffers ≡ Some buffer
   pub room : buffer.used + use_of book block ≤ setup.capacity
 
+-- each buffer takes records
+abbrev pub AllFill : Book → Type 0
+AllFill book = AllByRecursion (λ b. is_filling b.phase ≡ true) book.buffers
+
 -- What holds of a book since another. The block was at the front of the queue before these.
 pub record IsEmptying (setup : Setup) (block : ℕ) (behind : List ℕ) (start book : Book) : Type 0 where
   pub tidy : IsTidy setup book
@@ -41,6 +46,7 @@ pub record IsEmptying (setup : Setup) (block : ℕ) (behind : List ℕ) (start b
   pub come : setup.lwm ≤ 50 → count_by (may_come setup book) book.buffers ≤ count_by (may_come setup start) start.buffers
   pub free : setup.lwm ≤ 100 → filling_buffer defrag start.buffers ≡ None
       → ((filling_buffer defrag book.buffers ≡ None) × (length start.free ≤ length book.free)) ⊎ (HasSpare setup block book × (length start.free ≤ length book.free + 1))
+  pub filled : setup.lwm ≤ 100 → filling_buffer defrag start.buffers ≡ None → AllFill start → AllFill book
   pub space : setup.lwm ≤ 100 → 1 ≤ length start.free → (1 ≤ length book.free) ⊎ HasSpare setup block book
 
 some_same : (a b : Buffer) → Some a ≡ Some b → a ≡ b
@@ -57,6 +63,27 @@ spare_room setup block units book spare le =
 -- the units of a copy are among those of its block
 pub copy_used : (book : Book) (digest : Digest) (copy : Live) → IsDistinct (λ l m. same_digest l.digest m.digest) book.live → live_of digest book.live ≡ Some copy → copy.units ≤ use_of book copy.block
 copy_used book digest copy own live = let rest = use_without digest book.live copy own live copy.block in omega (arith, rest, share_here copy)
+
+-- where no buffer of moved records is sealed by it, a new one leaves each that takes records
+begun_fill : (book : Book) → filling_buffer defrag book.buffers ≡ None → AllFill book → AllFill (with_new_buffer defrag book)
+begun_fill book none all =
+    all_joined (λ b. is_filling b.phase ≡ true) (seal_stream defrag book.buffers) (record { number = book.next_number; block = first_block book.free; stream = defrag; used = 0; phase = filling } ∷ [])
+    (over book.buffers none all) (refl, tt)
+  where
+    one : (b : Buffer) → fills defrag b ≡ false → is_filling b.phase ≡ true → is_filling (sealed_if (same_stream defrag b.stream) b).phase ≡ true
+    one b other fill =
+        cond_both (same_stream defrag b.stream && is_filling b.phase) (record b { phase = sealed }) b (λ (c : Buffer). is_filling c.phase ≡ true)
+        (λ own. absurd (both_ways (fills defrag b) other own)) (λ _. fill)
+
+    over : (bs : List Buffer) → filling_buffer defrag bs ≡ None → AllByRecursion (λ b. is_filling b.phase ≡ true) bs → AllByRecursion (λ b. is_filling b.phase ≡ true) (seal_stream defrag bs)
+    over [] none all = tt
+    over (b ∷ bs) none all = by (fills defrag b) refl none (over bs)
+      where
+        by : (own : Bool) → fills defrag b ≡ own → cond own (Some b) (filling_buffer defrag bs) ≡ None
+            → (filling_buffer defrag bs ≡ None → AllByRecursion (λ b. is_filling b.phase ≡ true) bs → AllByRecursion (λ b. is_filling b.phase ≡ true) (seal_stream defrag bs))
+            → AllByRecursion (λ b. is_filling b.phase ≡ true) (seal_stream defrag (b ∷ bs))
+        by true own none rest = absurd (cc)
+        by false other none rest = (one b other all.0, rest none all.1)
 
 -- ---- one move
 
@@ -127,14 +154,27 @@ module _ (setup : Setup) (book ready : Book) (x : Buffer) (is : IsReadied book r
   space_after (inl here) low (inr spare) = inr (spare_old here.0 spare)
   space_after (inr begun) low either = inr (spare_begun begun.0 low)
 
-  pub emptied : IsWhich → (setup.lwm ≤ 50 → count_by (may_come setup ready) ready.buffers ≤ count_by (may_come setup book) book.buffers) → IsTidy setup new → IsEmptying setup copy.block behind start new
-  emptied which ready_come tidy = record {
+  used_fill : AllFill ready → AllFill new
+  used_fill all =
+      subst (AllByRecursion (λ b. is_filling b.phase ≡ true)) (sym (moving.new_buffers setup book ready x is digest copy was.tidy live was.bare)) (over ready.buffers all)
+    where
+      over : (bs : List Buffer) → AllByRecursion (λ b. is_filling b.phase ≡ true) bs → AllByRecursion (λ b. is_filling b.phase ≡ true) (map (used_more x.number copy.units) bs)
+      over [] all = tt
+      over (b ∷ bs) all = (
+        cond_both (b.number == x.number) (record b { used = b.used + copy.units }) b (λ (c : Buffer). is_filling c.phase ≡ true) (λ _. all.0) (λ _. all.0),
+        over bs all.1,
+      )
+
+  pub emptied : IsWhich → (setup.lwm ≤ 50 → count_by (may_come setup ready) ready.buffers ≤ count_by (may_come setup book) book.buffers) → (FreeAs book → AllFill book → AllFill ready) → IsTidy setup new
+      → IsEmptying setup copy.block behind start new
+  emptied which ready_come ready_filled tidy = record {
     tidy = tidy;
     bare = moving.new_bare setup book ready x is digest copy was.tidy live was.bare;
     less = let less = was.less in omega (arith, less, left);
     front = front_after was.front;
     come = λ half. let placed = coming.placed_come setup book ready x is digest copy was.tidy live was.bare in omega (arith, placed, ready_come half, was.come half);
     free = λ low none. free_after which low (was.free low none);
+    filled = λ low none all. used_fill (ready_filled (was.free low none) (was.filled low none all));
     space = λ low some. space_after which low (was.space low some);
   }
 
@@ -196,7 +236,7 @@ module _ (setup : Setup) (s : State) (digest : Digest) (copy : Live) (live : liv
           subst (IsEmptying setup copy.block behind start) (sym same)
           (emptied setup s.book s.book x readied digest copy behind start was live
           (inl (one.1, leb-true (x.used + copy.units) setup.capacity (sym (ap (fits_in setup.capacity copy.units) one.1) ∙ room)))
-          (λ half. omega arith)
+          (λ half. omega arith) (λ free all. all)
           (as_kept (put_in setup digest copy.units s.book (Some x)) same (moving.moved_tidy setup s.book s.book x readied digest copy was.tidy live was.bare)))
       by false none (inl room) = absurd (both_ways (has_room setup defrag copy.units s.book) none room)
       by false none (inr some) =
@@ -207,6 +247,9 @@ module _ (setup : Setup) (s : State) (digest : Digest) (copy : Live) (live : liv
           subst (IsEmptying setup copy.block behind start) (sym same)
           (emptied setup s.book ready x readied digest copy behind start was live (inr (refl, none))
           (λ half. coming.begun_come setup s.book was.tidy copy.units (mul-le-mul_right setup.capacity half) (let below = was.less in omega (arith, below, less)) none some)
+          (λ free all. ⊎_elim (λ (own : (filling_buffer defrag s.book.buffers ≡ None) × (length start.free ≤ length s.book.free)). begun_fill s.book own.0 all)
+          (λ (spare : HasSpare setup copy.block s.book × (length start.free ≤ length s.book.free + 1)).
+          absurd (both_ways (has_room setup defrag copy.units s.book) none (spare_room setup copy.block copy.units s.book spare.0 less))) free)
           (as_kept (put_in setup digest copy.units ready (Some x)) same (moving.moved_tidy setup s.book ready x readied digest copy was.tidy live was.bare)))
 
   pub step_empties : IsEmptying setup copy.block behind start (after_step setup (moved digest) s).book

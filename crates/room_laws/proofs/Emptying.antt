@@ -8,15 +8,16 @@ use Rattle.device_model.specs.Steps.{Step, gate_begun, flushed_buffer, after_ste
 use Rattle.device_model.specs.Legal.{flush_of}
 use Rattle.room_laws.specs.Room.{is_below, may_come}
 use Rattle.room_laws.specs.Tidy.{IsTidy}
+use Rattle.room_laws.proofs.Counts.{count_at}
 use Rattle.room_laws.proofs.Quiet.{step_keeps}
-use Rattle.room_laws.proofs.Leaving.{VacatesNone, nothing_new, one_more, count_at, opened_buffers, flushed_buffers, flushed_vacates}
+use Rattle.room_laws.proofs.Leaving.{VacatesNone, nothing_new, one_more, opened_buffers, flushed_buffers, flushed_vacates}
 
 pub after_joined : (setup : Setup) (xs ys : List Step) (s : State) → after_steps setup (xs ++ ys) s ≡ after_steps setup ys (after_steps setup xs s)
 after_joined setup [] ys s = refl
 after_joined setup (x ∷ xs) ys s = after_joined setup xs ys (after_step setup x s)
 
 -- the block of a buffer that takes no records counts where it is below the mark
-pub unfilled_comes : (setup : Setup) (book : Book) (b : Buffer) → is_filling b.phase ≡ false → may_come setup book b ≡ is_below setup book b.block
+unfilled_comes : (setup : Setup) (book : Book) (b : Buffer) → is_filling b.phase ≡ false → may_come setup book b ≡ is_below setup book b.block
 unfilled_comes setup book b unfilled =
     ap (λ (x : Bool). is_below setup book b.block && not x) (and_left _ _ (and_right _ _ unfilled)) ∙ with_true (is_below setup book b.block)
   where

@@ -63,9 +63,6 @@ module _ (setup : Setup) (told : Bool) (s : State) (event : Event) (tidy : IsTid
   pub flush_keeps : Keeps setup s.book (after_event setup event s).book
   flush_keeps = steps_keep setup event.steps s tidy steps_quiet
 
-  pub flush_grows : length s.book.free ≤ length (after_event setup event s).book.free
-  flush_grows = flush_keeps.free
-
   module _ (half : setup.lwm ≤ 50) (done : IfRefused event.answer (λ cause. ⊥) (Unit {0})) where
     steps_are : event.steps ≡ sealing ++ flush_all mid.book
     steps_are = elim allowed [

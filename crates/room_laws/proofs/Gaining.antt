@@ -1,19 +1,20 @@
--- A tending in which nothing was refused leaves a device at rest, or more than 6 blocks free, or less to vacate. So there are only so many in a row
--- that leave few blocks free and something to gain.
-use Rattle.std.proofs.Common.{◌≡◌, ◌⊎◌, inl, inr, ⊎_elim, ℕ, ◌+◌, ◌<◌, ◌≤◌, Bool, true, false, ◌||◌, List, [], ◌∷◌, length, None, is_some, refl, ap, sym, subst, ◌∙◌, arith}
-use Rattle.std.proofs.lemmas.Bool.{or_cases, false≢true, ltb-true, cases_lt}
-use Rattle.std.specs.Prelude.{nat_lt, MatchBool}
-use Rattle.device_model.specs.Book.{Setup, Book, defrag, filling_buffer}
+-- A tending in which nothing was refused leaves a device at rest, or less to vacate. So tendings in a row come to rest, after no more of them than
+-- there is left to vacate.
+use Rattle.std.proofs.Common.{◌≡◌, ◌⊎◌, inl, inr, ⊎_elim, ℕ, ◌+◌, ◌<◌, ◌≤◌, Bool, true, false, ◌||◌, List, [], ◌∷◌, ◌++◌, length, None, is_some, refl, ap, sym, subst, ◌∙◌, arith}
+use Rattle.std.proofs.lemmas.Bool.{or_cases, and_left, false≢true, false_from_ne_true, ltb-true, leb-true, cases_lt}
+use Rattle.std.specs.Prelude.{nat_lt, nat_le, MatchBool}
+use Rattle.device_model.specs.Book.{Setup, Book, Stream, client, defrag, filling_buffer}
 use Rattle.device_model.specs.Device.{State}
 use Rattle.device_model.specs.Steps.{Step, after_steps}
 use Rattle.device_model.specs.Events.{Event, after_event, after_events, steps_of}
-use Rattle.device_model.specs.Legal.{Allowed, IsLegal, last_faults}
+use Rattle.device_model.specs.Legal.{Allowed, IsLegal, last_faults, seal_if, is_due}
 use Rattle.device_model.specs.Vacating.{Outcome, can_gain, Vacates, Tends}
 use Rattle.room_laws.specs.Room.{left_to_vacate, IsAtRest, NoneRefused, GainsRoom, TendInRow}
 use Rattle.room_laws.specs.Tidy.{IsTidy}
 use Rattle.room_laws.proofs.Emptying.{after_joined}
-use Rattle.room_laws.proofs.Flushed.{IsFlushed, flushed}
-use Rattle.room_laws.proofs.Resting.{at_rest}
+use Rattle.room_laws.proofs.Flushed.{IsFlushed, flushed, flushed_filling}
+use Rattle.room_laws.proofs.Resting.{at_rest, few_nothing, none_sealed}
+use Rattle.room_laws.proofs.Sealed.{nothing_is}
 use Rattle.room_laws.proofs.Vacated.{HasVacated, vacated}
 
 -- the state after a list of events is the one after all their steps
@@ -24,29 +25,43 @@ after_all setup (event ∷ events) s = after_all setup events (after_event setup
 -- what a tending leaves
 pub record HasTended (setup : Setup) (old new : Book) : Type 0 where
   pub tidy : IsTidy setup new
-  pub gains : IsAtRest setup new ⊎ (6 < length new.free) ⊎ (left_to_vacate setup new < left_to_vacate setup old)
+  pub gains : IsAtRest setup new ⊎ (left_to_vacate setup new < left_to_vacate setup old)
 
 module _ (setup : Setup) (told : Bool) where
-  -- Where the buffer of moved records was sealed and a block is vacated for all that, two were queued, or more than 7 are free.
-  gained : (old mid new : Book) → IsFlushed setup old mid → can_gain mid ≡ true → HasVacated setup mid new → (6 < length new.free) ⊎ (left_to_vacate setup new < left_to_vacate setup old)
+  -- what can be gained where no buffer gathers moved records and one block at most is queued
+  many_free : (book : Book) → can_gain book ≡ true → filling_buffer defrag book.buffers ≡ None → length book.queue ≤ 1 → 7 < length book.free
+  many_free book gain none few = elim (or_cases (nat_lt 7 (length book.free) || is_some (filling_buffer defrag book.buffers)) (nat_lt 1 (length book.queue)) gain) [
+    | inl first ↦ elim (or_cases (nat_lt 7 (length book.free)) (is_some (filling_buffer defrag book.buffers)) first) [
+      | inl many ↦ ltb-true 7 (length book.free) many
+      | inr some ↦ absurd (false≢true (sym (ap is_some none) ∙ some))
+    ]
+    | inr two ↦ absurd (let more = ltb-true 1 (length book.queue) two in omega (arith, more, few))
+  ]
+
+  -- where more than 6 blocks are free nothing is due
+  none_due : (book : Book) (stream : Stream) → 6 < length book.free → is_due setup book stream ≡ false
+  none_due book stream many = and_left _ _ (and_left _ _ (false_from_ne_true (nat_le (length book.free) 6) (λ few. let most = leb-true (length book.free) 6 few in omega (arith, many, most))))
+
+  -- Where the buffer of moved records was sealed and a block is vacated for all that, two were queued, or so many are free that nothing is due behind it.
+  gained : (old mid new : Book) → IsFlushed setup old mid → can_gain mid ≡ true → HasVacated setup mid new → IsAtRest setup new ⊎ (left_to_vacate setup new < left_to_vacate setup old)
   gained old mid new is gain has = by is.left
     where
-      least : nat_lt 7 (length mid.free) || is_some (filling_buffer defrag mid.buffers) || nat_lt 1 (length mid.queue) ≡ true → filling_buffer defrag mid.buffers ≡ None
-          → length mid.queue ≤ 1 → 7 < length mid.free
-      least e none few = elim (or_cases (nat_lt 7 (length mid.free) || is_some (filling_buffer defrag mid.buffers)) (nat_lt 1 (length mid.queue)) e) [
-        | inl first ↦ elim (or_cases (nat_lt 7 (length mid.free)) (is_some (filling_buffer defrag mid.buffers)) first) [
-          | inl many ↦ ltb-true 7 (length mid.free) many
-          | inr some ↦ absurd (false≢true (sym (ap is_some none) ∙ some))
-        ]
-        | inr two ↦ absurd (let more = ltb-true 1 (length mid.queue) two in omega (arith, more, few))
-      ]
+      rested : filling_buffer defrag mid.buffers ≡ None → length mid.queue ≤ 1 → IsAtRest setup new
+      rested none few =
+          let free = many_free mid gain none few in
+          let many : 6 < length new.free = omega (arith, free, has.free none) in
+          let shorter = has.shorter in
+          record {
+            sealed = λ i. seal_if (none_due new client many i) client ++ seal_if (none_due new defrag many i) defrag;
+            flushed = none_sealed new.buffers (has.filled none (flushed_filling setup old mid is));
+            vacated = inr (nothing_is new.queue (few_nothing new.queue (omega (arith, shorter, few))));
+          }
 
       by : (left_to_vacate setup mid ≤ left_to_vacate setup old) ⊎ ((filling_buffer defrag mid.buffers ≡ None) × (left_to_vacate setup mid + length mid.queue ≤ left_to_vacate setup old + 2))
-          → (6 < length new.free) ⊎ (left_to_vacate setup new < left_to_vacate setup old)
+          → IsAtRest setup new ⊎ (left_to_vacate setup new < left_to_vacate setup old)
       by (inl same) = inr (omega (arith, same, has.less))
       by (inr sealed_one) =
-          ⊎_elim (λ (two : 1 < length mid.queue). inr (omega (arith, two, sealed_one.1, has.less)))
-          (λ (few : length mid.queue ≤ 1). inl (let many = least gain sealed_one.0 few in omega (arith, many, has.free sealed_one.0))) (cases_lt 1 (length mid.queue))
+          ⊎_elim (λ (two : 1 < length mid.queue). inr (omega (arith, two, sealed_one.1, has.less))) (λ (few : length mid.queue ≤ 1). inl (rested sealed_one.0 few)) (cases_lt 1 (length mid.queue))
 
   pub tended : (s : State) (faults : ℕ) (events : List Event) → IsTidy setup s.book → IsLegal setup told s faults events → Tends setup s events → setup.lwm ≤ 50 → NoneRefused events
       → HasTended setup s.book (after_events setup events s).book
@@ -78,14 +93,14 @@ module _ (setup : Setup) (told : Bool) where
       by false no_gain nothing = rested (inl no_gain) (after_events setup more mid) (ap (λ (l : List Event). after_events setup l mid) nothing)
       by true gain vacates = elim (vacated setup told mid first.faults_after more vacates.0 is.keeps.tidy half vacates.1 parts.1 each.1) [
         | inl still ↦ rested (inr still.0) (after_events setup more mid) (after_all setup more mid ∙ ap (λ (l : List Step). after_steps setup l mid) still.1)
-        | inr has ↦ record { tidy = has.tidy; gains = inr (gained s.book mid.book (after_events setup more mid).book is gain has) }
+        | inr has ↦ record { tidy = has.tidy; gains = gained s.book mid.book (after_events setup more mid).book is gain has }
       ]
 
   -- A tending in which nothing was refused gains room.
   pub gains : (s : State) (faults : ℕ) (events : List Event) → IsTidy setup s.book → IsLegal setup told s faults events → Tends setup s events → GainsRoom setup s events
   gains s faults events tidy legal tends half none = (tended s faults events tidy legal tends half none).gains
 
-  -- There are at most so many in a row that leave few blocks free and something to gain.
+  -- Tendings in a row come to rest.
   pub few_in_row : (tendings : List (List Event)) (s : State) (faults : ℕ) → setup.lwm ≤ 50 → IsTidy setup s.book → TendInRow setup told s faults tendings → length tendings ≤ left_to_vacate setup s.book
   few_in_row [] s faults half tidy row = omega arith
   few_in_row (events ∷ more) s faults half tidy row =
@@ -93,8 +108,5 @@ module _ (setup : Setup) (told : Bool) where
       let rest = few_in_row more (after_events setup events s) (last_faults faults events) half one.tidy row.1 in
       elim one.gains [
         | inl quiet ↦ absurd (row.0.restless quiet)
-        | inr gained ↦ elim gained [
-          | inl many ↦ absurd (let few = row.0.few in omega (arith, many, few))
-          | inr less ↦ omega (arith, less, rest)
-        ]
+        | inr less ↦ omega (arith, less, rest)
       ]

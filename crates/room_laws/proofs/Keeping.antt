@@ -19,8 +19,13 @@ use Rattle.kept_trail.proofs.Places.{none_at}
 use Rattle.kept_trail.proofs.Within.{range_below, refreshed_within}
 use Rattle.room_laws.specs.Tidy.{fills, IsTidy}
 
--- ---- lists whose elements differ
+-- ---- lists
 
+pub filter_all : {X : Type 0} (p : X → Bool) (xs : List X) → AllByRecursion (λ x. p x ≡ true) xs → filter p xs ≡ xs
+filter_all p [] all = refl
+filter_all {X} p (x ∷ xs) all = cond-true (p x) (x ∷ filter p xs) (filter p xs) all.0 ∙ ap (λ (l : List X). x ∷ l) (filter_all p xs all.1)
+
+-- where no two elements are the same, none of fewer are
 module _ {X : Type 0} (e : X → X → Bool) where
   pub distinct_fewer : (p : X → Bool) (xs : List X) → IsDistinct e xs → IsDistinct e (filter p xs)
   distinct_fewer p [] once = once
@@ -50,7 +55,7 @@ module _ (p : ℕ → Bool) (old all : List ℕ) where
   abbrev comes : ℕ → Bool
   comes b = p b && not (is_in old b)
 
-  pub updated_once : IsDistinct (λ a b. a == b) old → IsDistinct (λ a b. a == b) all → IsDistinct (λ a b. a == b) (updated p old all)
+  updated_once : IsDistinct (λ a b. a == b) old → IsDistinct (λ a b. a == b) all → IsDistinct (λ a b. a == b) (updated p old all)
   updated_once once ranged =
       distinct_joined (λ a b. a == b) (filter p old) (filter comes all) (distinct_fewer (λ a b. a == b) p old once) (distinct_fewer (λ a b. a == b) comes all ranged)
       (all_from (λ x. AllByRecursion (λ y. (x == y) ≡ false) (filter comes all)) (filter p old)
@@ -58,14 +63,10 @@ module _ (p : ℕ → Bool) (old all : List ℕ) where
       (λ y come. none_at (λ b. b == y) old x (not-true (is_in old y) (and_parts (p y) (not (is_in old y)) (filter_from comes all y come).1).1) (filter_from p old x there).0)))
 
   -- where all of them still do, they are no fewer
-  pub updated_grows : AllByRecursion (λ b. p b ≡ true) old → length old ≤ length (updated p old all)
-  updated_grows still = omega (arith, length-append (filter p old) (filter comes all), ap length (kept old still))
-    where
-      kept : (bs : List ℕ) → AllByRecursion (λ b. p b ≡ true) bs → filter p bs ≡ bs
-      kept [] still = refl
-      kept (b ∷ bs) still = cond-true (p b) (b ∷ filter p bs) (filter p bs) still.0 ∙ ap (λ l. b ∷ l) (kept bs still.1)
+  updated_grows : AllByRecursion (λ b. p b ≡ true) old → length old ≤ length (updated p old all)
+  updated_grows still = omega (arith, length-append (filter p old) (filter comes all), ap length (filter_all p old still))
 
-  pub updated_below : (n : ℕ) → AllByRecursion (λ b. b < n) old → AllByRecursion (λ b. b < n) all → AllByRecursion (λ b. b < n) (updated p old all)
+  updated_below : (n : ℕ) → AllByRecursion (λ b. b < n) old → AllByRecursion (λ b. b < n) all → AllByRecursion (λ b. b < n) (updated p old all)
   updated_below n below ranged = all_joined (λ b. b < n) (filter p old) (filter comes all) (all_fewer (λ b. b < n) p old below) (all_fewer (λ b. b < n) comes all ranged)
 
 -- ---- a book behind a change
@@ -92,18 +93,6 @@ refreshed_tidy setup book sound = record {
   own = sound.own;
   below = updated_below (may_be_queued setup book) book.queue (all_blocks setup) setup.blocks sound.below (range_below 0 setup.blocks setup.blocks (omega arith));
   queued = refreshed_all setup book book refl sound.below;
-}
-
-pub tidy_sound : (setup : Setup) (book : Book) → IsTidy setup book → IsSound setup book
-tidy_sound setup book tidy = record {
-  apart = tidy.booked.apart;
-  units = tidy.booked.units;
-  within = tidy.within;
-  numbered = tidy.numbered;
-  alone = tidy.alone;
-  once = tidy.once;
-  own = tidy.own;
-  below = tidy.below;
 }
 
 -- where all that are free still may be, no fewer are free

@@ -1,20 +1,24 @@
 -- Flushing empties the list of sealed buffers and vacates nothing: a block that a flush brings into the queue counted before as that of a buffer.
-use Rattle.std.proofs.Common.{◌≡◌, ◌≢◌, ℕ, ◌+◌, ◌*◌, ◌<◌, ◌≤◌, Bool, true, false, not, cond, ◌&&◌, ◌||◌, List, [], ◌∷◌, ◌++◌, map, length, length-append, refl, ap, sym, subst, ◌∙◌, arith}
+use Rattle.std.proofs.Common.{◌≡◌, ◌≢◌, ℕ, ◌+◌, ◌<◌, ◌≤◌, Bool, true, false, not, cond, ◌&&◌, ◌||◌, List, [], ◌∷◌, ◌++◌, map, length, length-append, refl, ap, sym, subst, ◌∙◌, arith}
 use Rattle.std.proofs.lemmas.Bool.{eq-eqb, ne_eqb, cond-true, cond-false, cond_both, false≢true, and_left, and_right}
 use Rattle.std.proofs.lemmas.List.Folds.{list_any-append}
-use Rattle.std.proofs.lemmas.List.Sums.{sum_by-cons, sum_by-append, length-filter, count_by-le-length}
-use Rattle.std.specs.Prelude.{◌==◌, nat_lt, filter, count_by}
+use Rattle.std.proofs.lemmas.List.Sums.{length-filter, count_by-le-length}
+use Rattle.std.specs.Prelude.{◌==◌, filter, count_by}
 use Rattle.std.specs.List.{AllByRecursion, list_any}
-use Rattle.device_model.specs.Book.{Setup, Book, Buffer, opening, is_filling, opened_if, has_buffer, is_in, may_be_queued, use_of, with_flushed, refreshed}
+use Rattle.device_model.specs.Book.{Setup, Book, Buffer, opening, is_filling, opened_if, has_buffer, is_in, may_be_queued, with_flushed, refreshed}
 use Rattle.device_model.specs.Device.{State}
 use Rattle.device_model.specs.Steps.{gate_begun, flushed_buffer, after_step}
 use Rattle.defrag_queue.specs.Queues.{requeued}
 use Rattle.defrag_queue.proofs.Refreshed.{refreshed_one}
 use Rattle.recovery.specs.Holding.{AreRising}
+use Rattle.recovery.proofs.Each.{all_map}
 use Rattle.recovery.proofs.Opening.{all_parted}
 use Rattle.room_laws.specs.Room.{is_below, gathers_live, may_come, left_to_vacate}
 use Rattle.room_laws.specs.Tidy.{IsTidy}
+use Rattle.room_laws.proofs.Counts.{count_at}
+use Rattle.room_laws.proofs.Keeping.{filter_all}
 use Rattle.room_laws.proofs.Quiet.{left}
+use Rattle.room_laws.proofs.Waiting.{queued_alike}
 
 -- ---- a list with one element of its number
 
@@ -41,10 +45,7 @@ module _ (n : ℕ) where
   none_opened (c ∷ cs) apart = λ i. cond-false (c.number == n) (record c { phase = opening }) c apart.0 i ∷ none_opened cs apart.1 i
 
   none_gone : (cs : List Buffer) → AllByRecursion (λ c. (c.number == n) ≡ false) cs → filter (λ c. not (c.number == n)) cs ≡ cs
-  none_gone [] apart = refl
-  none_gone (c ∷ cs) apart =
-      cond-true (not (c.number == n)) (c ∷ filter (λ d. not (d.number == n)) cs) (filter (λ d. not (d.number == n)) cs) (ap not apart.0)
-      ∙ ap (λ (l : List Buffer). c ∷ l) (none_gone cs apart.1)
+  none_gone cs apart = filter_all (λ (c : Buffer). not (c.number == n)) cs (all_map (λ (c : Buffer). (c.number == n) ≡ false) (λ c. not (c.number == n) ≡ true) cs (λ c is. ap not is) apart)
 
   one_opened : (front : List Buffer) (b : Buffer) (bs : List Buffer) → AllByRecursion (λ c. (c.number == n) ≡ false) front → AllByRecursion (λ c. (c.number == n) ≡ false) bs → b.number ≡ n
       → map opens (front ++ b ∷ bs) ≡ front ++ (record b { phase = opening }) ∷ bs
@@ -72,10 +73,6 @@ nothing_new setup book = record { left = omega arith; sum = omega arith }
 
 pub one_more : (setup : Setup) (old mid new : Book) → VacatesNone setup old mid → VacatesNone setup mid new → VacatesNone setup old new
 one_more setup old mid new first then = record { left = omega (arith, first.left, then.left); sum = omega (arith, first.sum, then.sum) }
-
-pub count_at : (test : Buffer → Bool) (front : List Buffer) (b : Buffer) (bs : List Buffer) → count_by test (front ++ b ∷ bs) ≡ count_by test (front ++ bs) + cond (test b) 1 0
-count_at test front b bs =
-    omega (arith, sum_by-append (λ (c : Buffer). cond (test c) 1 0) front (b ∷ bs), sum_by-cons (λ (c : Buffer). cond (test c) 1 0) b bs, sum_by-append (λ (c : Buffer). cond (test c) 1 0) front bs)
 
 -- a block that is considered makes a queue longer by one at most, and only where it qualifies
 requeued_length : (t : Bool) (k : ℕ) (queue : List ℕ) → length (requeued t k queue) ≤ length queue + cond t 1 0
@@ -124,8 +121,7 @@ module _ (setup : Setup) (s : State) (tidy : IsTidy setup s.book) (front : List 
       ∙ sym (ap (list_any (λ (c : Buffer). c.block == block)) at)
 
   queued_as : (block : ℕ) → block < setup.blocks → block ≢ b.block → may_be_queued setup (left setup s tidy b.number) block ≡ may_be_queued setup s.book block
-  queued_as block lt other =
-      ap (λ (x : Bool). not x && nat_lt 0 (use_of s.book block) && nat_lt (use_of s.book block * 100) (setup.lwm * setup.capacity)) (buffered_as block other)
+  queued_as block lt other = queued_alike setup s.book (left setup s tidy b.number) block (buffered_as block other) refl
 
   flushed_queue : (refreshed setup (left setup s tidy b.number)).queue ≡ requeued (may_be_queued setup (left setup s tidy b.number) b.block) b.block s.book.queue
   flushed_queue = refreshed_one setup s.book (left setup s tidy b.number) b.block block_within refl tidy.queued queued_as tidy.below

@@ -1,17 +1,20 @@
 mod Keeping
+mod Counts
+mod Waiting
 mod Quiet
 mod Leaving
 mod Emptying
 mod Sealed
 mod Flushed
-pub mod Resting
 mod Uses
-mod Counts
 mod Readying
 mod Moving
 mod Coming
 mod Moves
+pub mod Resting
 mod Draining
 mod Vacated
 pub mod Finding
 pub mod Gaining
+mod Worked
+mod InRow

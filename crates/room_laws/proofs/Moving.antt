@@ -1,9 +1,9 @@
 -- A copy is moved out of a block without a buffer: only the use of that block and of the buffer that takes the copy changes, no block comes
 -- into the queue, and no free block goes but that of a new buffer.
-use Rattle.std.proofs.Common.{◌≡◌, ◌≢◌, ◌⊎◌, inl, inr, ⊎_elim, ℕ, zero, suc, ◌+◌, ◌*◌, ◌≤◌, ◌<◌, Bool, true, false, not, cond, ◌&&◌, ◌||◌, List, [], ◌∷◌, ◌++◌, length, length-append, map, refl, sym, ◌∙◌, ap, subst, arith}
-use Rattle.std.specs.Prelude.{◌==◌, nat_lt, Option, Some, Contains, filter, find}
+use Rattle.std.proofs.Common.{◌≡◌, ◌≢◌, ◌⊎◌, inl, inr, ⊎_elim, ℕ, zero, suc, ◌+◌, ◌≤◌, ◌<◌, Bool, true, false, not, cond, ◌&&◌, ◌||◌, List, [], ◌∷◌, ◌++◌, length, length-append, map, refl, sym, ◌∙◌, ap, subst, arith}
+use Rattle.std.specs.Prelude.{◌==◌, Option, Some, Contains, filter, find}
 use Rattle.std.specs.List.{AllByRecursion, IsDistinct, list_any}
-use Rattle.std.proofs.lemmas.Bool.{cases_eq, cond-true, cond-false, or_from, ne_eqb, eq-eqb, both_ways, and_parts, and_from, not-true, ltb-true, ltb-false, lt-ltb}
+use Rattle.std.proofs.lemmas.Bool.{cases_eq, cond-true, cond-false, or_from, ne_eqb, eq-eqb, both_ways, and_from, not-true}
 use Rattle.std.proofs.lemmas.List.Sums.{length-filter, count_by-le-length}
 use Rattle.std.proofs.lemmas.Map.Keys.{IsDistinct-head, IsDistinct-tail, IsDistinct-cons}
 use Rattle.rec_format.specs.declared.version.Digest.{Digest}
@@ -23,6 +23,7 @@ use Rattle.room_laws.specs.Tidy.{IsTidy, fills}
 use Rattle.room_laws.proofs.Counts.{count_changed}
 use Rattle.room_laws.proofs.Keeping.{IsSound, distinct_fewer, refreshed_tidy}
 use Rattle.room_laws.proofs.Readying.{IsReadied, has_own}
+use Rattle.room_laws.proofs.Waiting.{queued_alike, unused_waits_not, buffered_waits_not, waits_below, waits_not}
 use Rattle.room_laws.proofs.Uses.{share, share_here, share_apart, use_cons, use_without}
 
 -- ---- lists
@@ -56,46 +57,6 @@ found_changed p change keeps (y ∷ bs) x found = by (p y) refl found (found_cha
         let same : y ≡ x = cc in
         cond-true (p (change y)) (Some (change y)) (find p (map change bs)) (keeps y ∙ is) ∙ ap (λ (z : Buffer). Some (change z)) same
     by false is found rest = cond-false (p (change y)) (Some (change y)) (find p (map change bs)) (keeps y ∙ is) ∙ rest found
-
--- ---- a block in which nothing is live
-
-pub unused_waits_not : (setup : Setup) (book : Book) (block : ℕ) → use_of book block ≡ 0 → may_be_queued setup book block ≡ false
-unused_waits_not setup book block none =
-    ap (λ (n : ℕ). not (has_buffer book block) && nat_lt 0 n && nat_lt (n * 100) (setup.lwm * setup.capacity)) none ∙ by (not (has_buffer book block))
-  where
-    by : (t : Bool) → (t && false && nat_lt (0 * 100) (setup.lwm * setup.capacity)) ≡ false
-    by true = refl
-    by false = refl
-
-buffered_waits_not : (setup : Setup) (book : Book) (block : ℕ) → has_buffer book block ≡ true → may_be_queued setup book block ≡ false
-buffered_waits_not setup book block has = ap (λ (t : Bool). not t && nat_lt 0 (use_of book block) && nat_lt (use_of book block * 100) (setup.lwm * setup.capacity)) has
-
-queued_alike : (setup : Setup) (old new : Book) (block : ℕ) → has_buffer new block ≡ has_buffer old block → use_of new block ≡ use_of old block → may_be_queued setup new block ≡ may_be_queued setup old block
-queued_alike setup old new block buffer live =
-    ap (λ (t : Bool). not t && nat_lt 0 (use_of new block) && nat_lt (use_of new block * 100) (setup.lwm * setup.capacity)) buffer
-    ∙ ap (λ (n : ℕ). not (has_buffer old block) && nat_lt 0 n && nat_lt (n * 100) (setup.lwm * setup.capacity)) live
-
--- a queued block is below the mark
-pub waits_below : (setup : Setup) (book : Book) (block : ℕ) → may_be_queued setup book block ≡ true → use_of book block * 100 < setup.lwm * setup.capacity
-waits_below setup book block may =
-    ltb-true (use_of book block * 100) (setup.lwm * setup.capacity)
-    (and_parts (not (has_buffer book block) && nat_lt 0 (use_of book block)) (nat_lt (use_of book block * 100) (setup.lwm * setup.capacity)) may).1
-
-pub waits_bare : (setup : Setup) (book : Book) (block : ℕ) → may_be_queued setup book block ≡ true → has_buffer book block ≡ false
-waits_bare setup book block may =
-    not-true (has_buffer book block)
-    (and_parts (not (has_buffer book block)) (nat_lt 0 (use_of book block)) (and_parts (not (has_buffer book block) && nat_lt 0 (use_of book block)) (nat_lt (use_of book block * 100) (setup.lwm * setup.capacity)) may).0).0
-
--- one below the mark, without a buffer, that isn't queued has nothing live
-waits_not : (setup : Setup) (book : Book) (block : ℕ) → has_buffer book block ≡ false → use_of book block * 100 < setup.lwm * setup.capacity → may_be_queued setup book block ≡ false → use_of book block ≡ 0
-waits_not setup book block bare less may = by (nat_lt 0 (use_of book block)) refl
-  where
-    by : (t : Bool) → nat_lt 0 (use_of book block) ≡ t → use_of book block ≡ 0
-    by true some =
-        absurd (both_ways (may_be_queued setup book block) may
-        (and_from (not (has_buffer book block) && nat_lt 0 (use_of book block)) (nat_lt (use_of book block * 100) (setup.lwm * setup.capacity))
-        (and_from (not (has_buffer book block)) (nat_lt 0 (use_of book block)) (ap not bare) some) (lt-ltb (use_of book block * 100) (setup.lwm * setup.capacity) less)))
-    by false none = omega (arith, ltb-false 0 (use_of book block) none)
 
 -- ---- the move
 
@@ -292,8 +253,7 @@ module _ (setup : Setup) (book ready : Book) (x : Buffer) (is : IsReadied book r
     within = record { free = subst (AllByRecursion (λ b. b < setup.blocks)) (sym is.free) tidy.within.free; places = within.places; live = within.live };
     numbered = record { rising = numbered.rising; below = numbered.below };
     alone = λ stream.
-        let old = count_changed (fills stream) (fills stream) (used_more x.number copy.units) ready.buffers
-        (all_from (λ y. fills stream (used_more x.number copy.units y) ≡ true → fills stream y ≡ true) ready.buffers (λ y there fills_still. sym (used_fills stream y) ∙ fills_still)) in
+        let old = count_changed (fills stream) (fills stream) (used_more x.number copy.units) ready.buffers (λ y there still. sym (used_fills stream y) ∙ still) in
         omega (arith, old, is.alone stream);
     once = subst (IsDistinct (λ a b. a == b)) (sym is.free) tidy.once;
     own = once_placed;

@@ -1,8 +1,7 @@
 -- Sealing and flushing keep a book tidy: no block that is free or queued leaves, nothing live changes, and no hold comes.
-use Rattle.std.proofs.Common.{◌≡◌, ℕ, ◌*◌, ◌≤◌, Bool, true, false, not, cond, ◌&&◌, List, [], ◌∷◌, ◌++◌, map, length, refl, ap, sym, ◌∙◌, arith}
-use Rattle.std.proofs.lemmas.Bool.{and_parts, and_from, not-true, cond_both, false≢true}
-use Rattle.std.proofs.lemmas.List.Sums.{sum_by-cons}
-use Rattle.std.specs.Prelude.{◌==◌, nat_lt, filter, count_by}
+use Rattle.std.proofs.Common.{◌≡◌, ℕ, ◌≤◌, Bool, true, false, not, ◌&&◌, List, [], ◌∷◌, ◌++◌, length, refl, ap, sym, ◌∙◌, arith}
+use Rattle.std.proofs.lemmas.Bool.{and_parts, and_from, cond_both, false≢true}
+use Rattle.std.specs.Prelude.{◌==◌, filter}
 use Rattle.std.specs.List.{AllByRecursion, list_any}
 use Rattle.device_model.specs.Book.{Setup, Book, Buffer, Live, Stream, sealed, opening, is_filling, same_stream, sealed_if, opened_if, has_buffer, is_held, use_of, may_be_free, may_be_queued, with_seal, with_gate_begun, with_flushed, refreshed}
 use Rattle.device_model.specs.Device.{State}
@@ -20,7 +19,9 @@ use Rattle.kept_trail.proofs.Places.{none_at, none_from, buffer_place}
 use Rattle.kept_trail.proofs.Placing.{seal_places}
 use Rattle.kept_trail.proofs.Within.{step_within}
 use Rattle.room_laws.specs.Tidy.{fills, IsTidy}
+use Rattle.room_laws.proofs.Counts.{count_changed, count_fewer}
 use Rattle.room_laws.proofs.Keeping.{IsSound, refreshed_tidy, free_grows, queue_grows}
+use Rattle.room_laws.proofs.Waiting.{queued_alike, waits_bare}
 
 -- a step of sealing or of flushing
 abbrev pub IsQuiet : Step → Type 0
@@ -37,26 +38,6 @@ pub record Keeps (setup : Setup) (old new : Book) : Type 0 where
   pub live : new.live ≡ old.live
   pub holds : (test : ℕ × ℕ → Bool) → list_any test new.holds ≡ true → list_any test old.holds ≡ true
 
--- ---- counts
-
-pub count_changed : (test : Buffer → Bool) (change : Buffer → Buffer) → ((b : Buffer) → test (change b) ≡ true → test b ≡ true) → (bs : List Buffer) → count_by test (map change bs) ≤ count_by test bs
-count_changed test change less [] = omega arith
-count_changed test change less (b ∷ bs) =
-    omega (arith, sum_by-cons (λ (c : Buffer). cond (test c) 1 0) (change b) (map change bs), sum_by-cons (λ (c : Buffer). cond (test c) 1 0) b bs, count_changed test change less bs, by (test (change b)) (test b) (less b))
-  where
-    by : (x y : Bool) → (x ≡ true → y ≡ true) → cond x 1 0 ≤ cond y 1 0
-    by true true h = omega arith
-    by true false h = absurd (false≢true (h refl))
-    by false y h = omega arith
-
-pub count_fewer : (test p : Buffer → Bool) (bs : List Buffer) → count_by test (filter p bs) ≤ count_by test bs
-count_fewer test p [] = omega arith
-count_fewer test p (b ∷ bs) =
-    let rest = count_fewer test p bs in
-    cond_both (p b) (b ∷ filter p bs) (filter p bs) (λ (l : List Buffer). count_by test l ≤ count_by test (b ∷ bs))
-    (λ _. omega (arith, sum_by-cons (λ (c : Buffer). cond (test c) 1 0) b (filter p bs), sum_by-cons (λ (c : Buffer). cond (test c) 1 0) b bs, rest))
-    (λ _. omega (arith, sum_by-cons (λ (c : Buffer). cond (test c) 1 0) b bs, rest))
-
 -- ---- one step
 
 pub sealed_fills : (stream : Stream) (chosen : Bool) (b : Buffer) → fills stream (sealed_if chosen b) ≡ true → fills stream b ≡ true
@@ -72,10 +53,8 @@ opened_fills stream chosen b =
 -- where neither places nor live copies change, the same blocks may be queued
 queued_same : (setup : Setup) (old new : Book) → places_of new ≡ places_of old → new.live ≡ old.live → (block : ℕ) → may_be_queued setup old block ≡ may_be_queued setup new block
 queued_same setup old new places live block =
-    let buffered : has_buffer old block ≡ has_buffer new block = buffer_place old block ∙ ap (list_any (λ (p : ℕ × ℕ). p.1 == block)) (sym places) ∙ sym (buffer_place new block) in
-    let used : use_of old block ≡ use_of new block = ap (λ (l : List Live). use_of (record old { live = l }) block) (sym live) in
-    ap (λ (x : Bool). not x && nat_lt 0 (use_of old block) && nat_lt (use_of old block * 100) (setup.lwm * setup.capacity)) buffered
-    ∙ ap (λ (n : ℕ). not (has_buffer new block) && nat_lt 0 n && nat_lt (n * 100) (setup.lwm * setup.capacity)) used
+    sym (queued_alike setup old new block (buffer_place new block ∙ ap (list_any (λ (p : ℕ × ℕ). p.1 == block)) places ∙ sym (buffer_place old block))
+    (ap (λ (l : List Live). use_of (record old { live = l }) block) live))
 
 -- what none of a list passes none of a part of it does
 none_fewer : {X : Type 0} (test p : X → Bool) (xs : List X) → list_any test xs ≡ false → list_any test (filter p xs) ≡ false
@@ -101,7 +80,7 @@ module _ (setup : Setup) (s : State) (tidy : IsTidy setup s.book) where
       within = step_within setup s tidy.within (sealed_stream stream) tt;
       numbered = counted (sealed_stream stream);
       alone = λ other. let before = tidy.alone other in
-          omega (arith, before, count_changed (fills other) (λ b. sealed_if (same_stream stream b.stream) b) (λ b. sealed_fills other (same_stream stream b.stream) b) s.book.buffers);
+          omega (arith, before, count_changed (fills other) (fills other) (λ b. sealed_if (same_stream stream b.stream) b) s.book.buffers (λ b there. sealed_fills other (same_stream stream b.stream) b));
       once = tidy.once;
       own = tidy.own;
       below = tidy.below;
@@ -121,7 +100,7 @@ module _ (setup : Setup) (s : State) (tidy : IsTidy setup s.book) where
       within = step_within setup s tidy.within (gate_begun number) tt;
       numbered = counted (gate_begun number);
       alone = λ other. let before = tidy.alone other in
-          omega (arith, before, count_changed (fills other) (λ b. opened_if (b.number == number) b) (λ b. opened_fills other (b.number == number) b) s.book.buffers);
+          omega (arith, before, count_changed (fills other) (fills other) (λ b. opened_if (b.number == number) b) s.book.buffers (λ b there. opened_fills other (b.number == number) b));
       once = tidy.once;
       own = tidy.own;
       below = tidy.below;
@@ -155,11 +134,10 @@ module _ (setup : Setup) (s : State) (tidy : IsTidy setup s.book) where
         (ap not (none_fewer (λ (h : ℕ × ℕ). h.1 == block) (λ h. not (h.0 == number)) s.book.holds nothing.hold))
 
     still_queued : (block : ℕ) → may_be_queued setup s.book block ≡ true → may_be_queued setup left block ≡ true
-    still_queued block may =
-        let two = and_parts (not (has_buffer s.book block) && nat_lt 0 (use_of s.book block)) (nat_lt (use_of s.book block * 100) (setup.lwm * setup.capacity)) may in
-        let one = and_parts (not (has_buffer s.book block)) (nat_lt 0 (use_of s.book block)) two.0 in
-        and_from (not (has_buffer left block) && nat_lt 0 (use_of left block)) (nat_lt (use_of left block * 100) (setup.lwm * setup.capacity))
-        (and_from (not (has_buffer left block)) (nat_lt 0 (use_of left block)) (ap not (unbuffered block (not-true (has_buffer s.book block) one.0))) one.1) two.1
+    still_queued block may = queued_alike setup s.book left block (unbuffered block bare ∙ sym bare) refl ∙ may
+      where
+        bare : has_buffer s.book block ≡ false
+        bare = waits_bare setup s.book block may
 
     left_sound : IsSound setup left
     unfolding after_step with_flushed refreshed

@@ -16,6 +16,7 @@ use Rattle.kept_trail.proofs.Places.{any_there, buffer_place}
 use Rattle.kept_trail.proofs.Placing.{place, sealed_place, new_places, first_free, find_there}
 use Rattle.room_laws.specs.Tidy.{IsTidy, fills}
 use Rattle.room_laws.proofs.Counts.{count_changed, count_joined, count_none, only_found}
+use Rattle.room_laws.proofs.Quiet.{sealed_fills}
 
 -- ---- buffers
 
@@ -115,22 +116,13 @@ module _ (setup : Setup) (book : Book) (tidy : IsTidy setup book) where
         by defrag sealed = refl
         by defrag opening = refl
 
-    client_still : (y : Buffer) → fills client (seals y) ≡ true → fills client y ≡ true
-    client_still y = by y.stream y.phase
-      where
-        by : (stream : Stream) (phase : Phase) → fills client (seals (record y { stream = stream; phase = phase })) ≡ true → fills client (record y { stream = stream; phase = phase }) ≡ true
-        by client phase e = e
-        by defrag filling e = e
-        by defrag sealed e = e
-        by defrag opening e = e
-
     new_alone : (stream : Stream) → count_by (fills stream) (with_new_buffer defrag book).buffers ≤ 1
     new_alone client =
-        let old = count_changed (fills client) (fills client) seals book.buffers (all_from (λ y. fills client (seals y) ≡ true → fills client y ≡ true) book.buffers (λ y there. client_still y)) in
+        let old = count_changed (fills client) (fills client) seals book.buffers (λ y there. sealed_fills client (same_stream defrag y.stream) y) in
         let one : count_by (fills client) (fresh ∷ []) ≡ 0 = refl in
         omega (arith, count_joined (fills client) (seal_stream defrag book.buffers) (fresh ∷ []), old, one, tidy.alone client)
     new_alone defrag =
-        let old = count_changed (fills defrag) (λ y. false) seals book.buffers (all_from (λ y. fills defrag (seals y) ≡ true → false ≡ true) book.buffers (λ y there is. sym (sealed_none y) ∙ is)) in
+        let old = count_changed (fills defrag) (λ y. false) seals book.buffers (λ y there is. sym (sealed_none y) ∙ is) in
         let none = count_none (λ (y : Buffer). false) book.buffers (all_from (λ y. false ≡ false) book.buffers (λ y there. refl)) in
         let one : count_by (fills defrag) (fresh ∷ []) ≡ 1 = refl in
         omega (arith, count_joined (fills defrag) (seal_stream defrag book.buffers) (fresh ∷ []), old, none, one)

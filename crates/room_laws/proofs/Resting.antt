@@ -6,30 +6,34 @@ use Rattle.std.specs.List.{AllByRecursion, list_any}
 use Rattle.device_model.specs.Book.{Setup, Book, Buffer, Live, Stream, client, defrag, Phase, filling, sealed, opening, is_filling, filling_buffer, use_of, holds_dead}
 use Rattle.device_model.specs.Device.{State}
 use Rattle.device_model.specs.Steps.{Step, after_steps}
-use Rattle.device_model.specs.Events.{choose_call, flush_sealed_call, block_chosen, Event, after_event, steps_of}
-use Rattle.device_model.specs.Legal.{Allowed, Only, NoMemory, WhereReads, seal_if, seal_low, is_due, is_short, is_nothing, has_gathered, flush_of, flush_all, queue_front, IsLegal}
+use Rattle.device_model.specs.Events.{choose_call, flush_sealed_call, block_chosen, refused, Event, after_event, steps_of}
+use Rattle.device_model.specs.Legal.{Allowed, seal_if, seal_low, is_due, is_short, is_nothing, has_gathered, flush_of, flush_all, queue_front, IsLegal}
 use Rattle.device_model.specs.Vacating.{Outcome, can_gain, Vacates, Tends}
 use Rattle.room_laws.specs.Room.{IsAtRest}
-use Rattle.room_laws.proofs.Sealed.{sealed_low, client_found, defrag_found, filling_found}
+use Rattle.room_laws.proofs.Moves.{choice_ends}
+use Rattle.room_laws.proofs.Sealed.{nothing_is, sealed_low, client_found, defrag_found, filling_found}
 use Rattle.room_laws.proofs.Flushed.{IsFlushed, flushed_filling}
 
 -- ---- what a flush leaves
 
-no_length : {X : Type 0} (xs : List X) → length xs ≤ 0 → xs ≡ []
-no_length [] few = refl
-no_length (x ∷ xs) few = absurd (omega (arith, few))
+pub few_nothing : (blocks : List ℕ) → length blocks ≤ 0 → is_nothing blocks ≡ true
+few_nothing [] few = refl
+few_nothing (b ∷ bs) few = absurd (omega (arith, few))
 
-nothing_few : (blocks : List ℕ) → is_nothing blocks ≡ true → length blocks ≤ 0
-nothing_few [] is = omega arith
-nothing_few (b ∷ bs) is = absurd (false≢true is)
-
-few_nothing : (blocks : List ℕ) → length blocks ≤ 0 → is_nothing blocks ≡ true
-few_nothing blocks few = ap is_nothing (no_length blocks few)
+-- where each buffer takes records none is flushed
+pub none_sealed : (bs : List Buffer) → AllByRecursion (λ b. is_filling b.phase ≡ true) bs → flat_map flush_of bs ≡ []
+none_sealed [] all = refl
+none_sealed (b ∷ bs) all = by b.phase all.0 (none_sealed bs all.1)
+  where
+    by : (phase : Phase) → is_filling phase ≡ true → flat_map flush_of bs ≡ [] → flat_map flush_of (record b { phase = phase } ∷ bs) ≡ []
+    by filling told rest = rest
+    by sealed told rest = absurd (false≢true told)
+    by opening told rest = absurd (false≢true told)
 
 module _ (setup : Setup) (old new : Book) (is : IsFlushed setup old new) where
   -- where nothing was, nothing is now fewer
   nothing_before : (was now : List ℕ) → length was ≤ length now → is_nothing now ≡ true → is_nothing was ≡ true
-  nothing_before was now less none = few_nothing was (let no = nothing_few now none in omega (arith, less, no))
+  nothing_before was now less none = few_nothing was (let no = ap length (nothing_is now none) in omega (arith, less, no))
 
   found : (stream : Stream) → filling_buffer stream new.buffers ≡ cond (is_due setup old stream) None (filling_buffer stream old.buffers)
   found client =
@@ -71,15 +75,6 @@ module _ (setup : Setup) (old new : Book) (is : IsFlushed setup old new) where
           (and_from _ _ (le-leb (length old.free) 6 (let less = is.keeps.free in omega (arith, most, less))) (ap (holds_dead old) (sym same) ∙ dead_before b dead))
           (gathered_before stream b now (sym same) gathered))
 
-  none_sealed : (bs : List Buffer) → AllByRecursion (λ b. is_filling b.phase ≡ true) bs → flat_map flush_of bs ≡ []
-  none_sealed [] all = refl
-  none_sealed (b ∷ bs) all = by b.phase all.0 (none_sealed bs all.1)
-    where
-      by : (phase : Phase) → is_filling phase ≡ true → flat_map flush_of bs ≡ [] → flat_map flush_of (record b { phase = phase } ∷ bs) ≡ []
-      by filling told rest = rest
-      by sealed told rest = absurd (false≢true told)
-      by opening told rest = absurd (false≢true told)
-
   -- where nothing can be vacated the device is at rest
   pub at_rest : (can_gain new ≡ false) ⊎ (new.queue ≡ []) → IsAtRest setup new
   at_rest none = record {
@@ -102,16 +97,14 @@ module _ (setup : Setup) (told : Bool) (s : State) (rest : IsAtRest setup s.book
       whole = ap (λ (l : List Step). l ++ flush_all (after_steps setup l s).book) rest.sealed ∙ rest.flushed
 
   choice_rests : s.book.queue ≡ [] → (event : Event) → Allowed setup told s event choose_call → (event.steps ≡ []) × ((block : ℕ) → event.answer ≡ block_chosen (Some block) → ⊥)
-  choice_rests empty event allowed = by allowed
-    where
-      front : queue_front s.book.queue ≡ None
-      front = ap queue_front empty
-
-      by : Only event (block_chosen (queue_front s.book.queue)) ⊎ NoMemory event ⊎ WhereReads told event (queue_front s.book.queue)
-          → (event.steps ≡ []) × ((block : ℕ) → event.answer ≡ block_chosen (Some block) → ⊥)
-      by (inl only) = (only.1, λ block chosen. let none = front in let was = only.0 in cc)
-      by (inr (inl memory)) = (memory.1, λ block chosen. let was = memory.0 in cc)
-      by (inr (inr reads)) = absurd (subst (WhereReads told event) front reads)
+  choice_rests empty event allowed =
+      let ends = choice_ends setup told s event allowed in (
+        ends.0,
+        λ block chosen. elim ends.1 [
+          | inl is ↦ (let none : queue_front s.book.queue ≡ None = ap queue_front empty in cc)
+          | inr fails ↦ (let clash : refused fails.cause ≡ block_chosen (Some block) = sym fails.answers ∙ chosen in cc)
+        ],
+      )
 
   vacating_rests : s.book.queue ≡ [] → (faults : ℕ) (events : List Event) (outcome : Outcome) → Vacates setup s events outcome → IsLegal setup told s faults events → steps_of events ≡ []
   vacating_rests empty faults events outcome vacates legal =

@@ -2,7 +2,6 @@
 use Rattle.std.proofs.Common.{◌≡◌, ◌⊎◌, inl, inr, ℕ, ◌+◌, ◌-◌, ◌*◌, ◌<◌, ◌≤◌, Bool, true, false, not, cond, ◌&&◌, List, [], ◌∷◌, ◌++◌, map, Option, Some, None, refl, ap, sym, subst, ◌∙◌, arith}
 use Rattle.std.proofs.Math.Nat.{mul-le-mul_right}
 use Rattle.std.proofs.lemmas.Bool.{and_parts, or_cases, cond-false, cond_both, false≢true, ltb-true, eqb-true, not-false, and_right, and_cases}
-use Rattle.std.proofs.lemmas.List.Sums.{sum_by-cons}
 use Rattle.std.specs.Prelude.{find, count_by}
 use Rattle.device_model.specs.Book.{Setup, Book, Buffer, Stream, client, defrag, Phase, filling, sealed, opening, is_filling, same_stream, sealed_if, seal_stream, filling_buffer, use_of}
 use Rattle.device_model.specs.Device.{State}
@@ -10,7 +9,8 @@ use Rattle.device_model.specs.Steps.{after_step, after_steps}
 use Rattle.device_model.specs.Legal.{seal_if, is_due, is_short, is_nothing, has_gathered}
 use Rattle.room_laws.specs.Room.{is_below, gathers_live, may_come}
 use Rattle.room_laws.specs.Tidy.{fills}
-use Rattle.room_laws.proofs.Quiet.{count_changed, sealed_fills}
+use Rattle.room_laws.proofs.Counts.{one_if, count_cons, count_changed}
+use Rattle.room_laws.proofs.Quiet.{sealed_fills}
 use Rattle.room_laws.proofs.Emptying.{filling_of}
 
 -- ---- which buffers take records
@@ -100,13 +100,10 @@ filling_found stream (b ∷ bs) = by (is_filling b.phase) refl (filling_found st
 
 -- ---- how many count
 
-abbrev one_if : Bool → ℕ
-one_if x = cond x 1 0
-
 count_same : (test : Buffer → Bool) (change : Buffer → Buffer) → ((b : Buffer) → test (change b) ≡ test b) → (bs : List Buffer) → count_by test (map change bs) ≡ count_by test bs
 count_same test change same [] = refl
 count_same test change same (b ∷ bs) =
-    sum_by-cons (λ (c : Buffer). cond (test c) 1 0) (change b) (map change bs) ∙ (λ i. one_if (same b i) + count_same test change same bs i) ∙ sym (sum_by-cons (λ (c : Buffer). cond (test c) 1 0) b bs)
+    count_cons test (change b) (map change bs) ∙ (λ i. one_if (same b i) + count_same test change same bs i) ∙ sym (count_cons test b bs)
 
 -- where one element alone changes
 module _ (own test : Buffer → Bool) (change : Buffer → Buffer) (others : (b : Buffer) → own b ≡ false → test (change b) ≡ test b) where
@@ -115,10 +112,10 @@ module _ (own test : Buffer → Bool) (change : Buffer → Buffer) (others : (b 
   none_changed (b ∷ bs) few = by (own b) refl (none_changed bs)
     where
       by : (o : Bool) → own b ≡ o → (count_by own bs ≤ 0 → count_by test (map change bs) ≡ count_by test bs) → count_by test (map change (b ∷ bs)) ≡ count_by test (b ∷ bs)
-      by true is rest = let one : one_if (own b) ≡ 1 = ap one_if is in absurd (omega (arith, few, sum_by-cons (λ (c : Buffer). cond (own c) 1 0) b bs, one))
+      by true is rest = let one : one_if (own b) ≡ 1 = ap one_if is in absurd (omega (arith, few, count_cons own b bs, one))
       by false is rest =
-          sum_by-cons (λ (c : Buffer). cond (test c) 1 0) (change b) (map change bs)
-          ∙ (λ i. one_if (others b is i) + rest (omega (arith, few, sum_by-cons (λ (c : Buffer). cond (own c) 1 0) b bs)) i) ∙ sym (sum_by-cons (λ (c : Buffer). cond (test c) 1 0) b bs)
+          count_cons test (change b) (map change bs)
+          ∙ (λ i. one_if (others b is i) + rest (omega (arith, few, count_cons own b bs)) i) ∙ sym (count_cons test b bs)
 
   -- the counts differ as it does
   abbrev Changed : List Buffer → Option Buffer → Type 0
@@ -130,10 +127,10 @@ module _ (own test : Buffer → Bool) (change : Buffer → Buffer) (others : (b 
   one_changed (b ∷ bs) few = by (own b) refl (one_changed bs) (none_changed bs)
     where
       first : count_by test (map change (b ∷ bs)) ≡ cond (test (change b)) 1 0 + count_by test (map change bs)
-      first = sum_by-cons (λ (c : Buffer). cond (test c) 1 0) (change b) (map change bs)
+      first = count_cons test (change b) (map change bs)
 
       second : count_by test (b ∷ bs) ≡ cond (test b) 1 0 + count_by test bs
-      second = sum_by-cons (λ (c : Buffer). cond (test c) 1 0) b bs
+      second = count_cons test b bs
 
       further : (o : Option Buffer) → own b ≡ false → Changed bs o → Changed (b ∷ bs) o
       further None is rest = let same : cond (test (change b)) 1 0 ≡ cond (test b) 1 0 = ap one_if (others b is) in omega (arith, first, second, same, rest)
@@ -143,8 +140,8 @@ module _ (own test : Buffer → Bool) (change : Buffer → Buffer) (others : (b 
           → Changed (b ∷ bs) (cond o (Some b) (find own bs))
       by true is rest none =
           let one : one_if (own b) ≡ 1 = ap one_if is in
-          let same = none (omega (arith, few, sum_by-cons (λ (c : Buffer). cond (own c) 1 0) b bs, one)) in omega (arith, first, second, same)
-      by false is rest none = further (find own bs) is (rest (omega (arith, few, sum_by-cons (λ (c : Buffer). cond (own c) 1 0) b bs)))
+          let same = none (omega (arith, few, count_cons own b bs, one)) in omega (arith, first, second, same)
+      by false is rest none = further (find own bs) is (rest (omega (arith, few, count_cons own b bs)))
 
 -- a client's buffer counts as before
 client_same : (setup : Setup) (book : Book) (b : Buffer) → may_come setup book (sealed_if (same_stream client b.stream) b) ≡ may_come setup book b
@@ -169,7 +166,7 @@ CountsOver setup old new =
     (count_by (may_come setup new) new.buffers ≤ count_by (may_come setup old) old.buffers)
     ⊎ ((old.queue ≡ []) × (filling_buffer defrag new.buffers ≡ None) × (count_by (may_come setup new) new.buffers ≤ count_by (may_come setup old) old.buffers + 1))
 
-nothing_is : (blocks : List ℕ) → is_nothing blocks ≡ true → blocks ≡ []
+pub nothing_is : (blocks : List ℕ) → is_nothing blocks ≡ true → blocks ≡ []
 nothing_is [] is = refl
 nothing_is (b ∷ bs) is = absurd (false≢true is)
 
@@ -218,7 +215,7 @@ module _ (setup : Setup) (book : Book) (half : setup.lwm ≤ 50) where
   client_counts false = refl
 
   client_few : (first : Bool) (stream : Stream) → count_by (fills stream) book.buffers ≤ 1 → count_by (fills stream) (sealed_where first client book.buffers) ≤ 1
-  client_few true stream few = omega (arith, few, count_changed (fills stream) (λ b. sealed_if (same_stream client b.stream) b) (λ b. sealed_fills stream (same_stream client b.stream) b) book.buffers)
+  client_few true stream few = omega (arith, few, count_changed (fills stream) (fills stream) (λ b. sealed_if (same_stream client b.stream) b) book.buffers (λ b there. sealed_fills stream (same_stream client b.stream) b))
   client_few false stream few = few
 
   module _ (first : Bool) where

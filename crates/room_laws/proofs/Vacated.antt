@@ -13,9 +13,9 @@ use Rattle.device_model.specs.Legal.{Allowed, Follows, IsLegal, move_reserve, no
 use Rattle.device_model.specs.Vacating.{IfRefused, moved_by, MovesOut, Outcome, Vacates, did, stopped}
 use Rattle.room_laws.specs.Tidy.{IsTidy}
 use Rattle.room_laws.specs.Room.{NoneRefused, FindsRoom, left_to_vacate}
-use Rattle.room_laws.proofs.Draining.{HasSpare, IsEmptying, copy_used, spare_room, step_empties}
+use Rattle.room_laws.proofs.Draining.{AllFill, HasSpare, IsEmptying, copy_used, spare_room, step_empties}
 use Rattle.room_laws.proofs.Moves.{MoveEnds, stays, goes, lacks, fails, FailsOtherwise, move_ends, choice_ends, went_on, not_refused, not_for_space, fails_not_for_space}
-use Rattle.room_laws.proofs.Moving.{unused_waits_not, waits_bare, waits_below}
+use Rattle.room_laws.proofs.Waiting.{unused_waits_not, waits_bare, waits_below}
 
 -- ---- no place
 
@@ -140,6 +140,7 @@ module _ (setup : Setup) (book : Book) (tidy : IsTidy setup book) (block : ℕ) 
     front = inl front;
     come = λ half. omega arith;
     free = λ low none. inl (none, omega arith);
+    filled = λ low none all. all;
     space = λ low some. inl some;
   }
 
@@ -149,7 +150,9 @@ module _ (setup : Setup) (book : Book) (tidy : IsTidy setup book) (block : ℕ) 
 pub record HasVacated (setup : Setup) (old new : Book) : Type 0 where
   pub tidy : IsTidy setup new
   pub less : left_to_vacate setup new + 1 ≤ left_to_vacate setup old
+  pub shorter : length new.queue + 1 ≤ length old.queue
   pub free : filling_buffer defrag old.buffers ≡ None → length old.free ≤ length new.free + 1
+  pub filled : filling_buffer defrag old.buffers ≡ None → AllFill old → AllFill new
 
 emptied_vacates : (setup : Setup) (block : ℕ) (behind : List ℕ) (old new : Book) → setup.lwm ≤ 50 → old.queue ≡ block ∷ behind → IsEmptying setup block behind old new → use_of new block ≡ 0 → HasVacated setup old new
 emptied_vacates setup block behind old new half front is empty = record {
@@ -158,6 +161,8 @@ emptied_vacates setup block behind old new half front is empty = record {
       let shorter = by is.front in
       let come = is.come half in
       omega (arith, shorter, ap length front, come);
+  shorter = let shorter = by is.front in omega (arith, shorter, ap length front);
+  filled = λ none all. is.filled (omega (arith, half)) none all;
   free = λ none.
       ⊎_elim (λ (same : (filling_buffer defrag new.buffers ≡ None) × (length old.free ≤ length new.free)). omega (arith, same.1))
       (λ (begun : HasSpare setup block new × (length old.free ≤ length new.free + 1)). begun.1) (is.free (omega (arith, half)) none);

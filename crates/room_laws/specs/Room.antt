@@ -1,4 +1,4 @@
--- Crate room_laws. What tending gains: how much is left to vacate grows less, until more than 6 blocks are free or nothing is left to gain.
+-- Crate room_laws. What tending gains: how much is left to vacate grows less, until nothing is left to gain.
 use Rattle.std.specs.Prelude.{ℕ, ◌+◌, ◌*◌, ◌<◌, ◌≤◌, ◌≡◌, ◌≢◌, ◌⊎◌, Bool, false, not, ◌&&◌, ◌==◌, nat_lt, List, [], ◌∷◌, length, count_by}
 use Rattle.std.specs.List.{AllByRecursion}
 use Rattle.device_model.specs.Book.{Setup, Book, Buffer, defrag, same_stream, is_filling, use_of}
@@ -35,13 +35,11 @@ pub record IsAtRest (setup : Setup) (book : Book) : Type 0 where
 abbrev pub NoneRefused : List Event → Type 0
 NoneRefused events = AllByRecursion (λ event. IfRefused event.answer (λ cause. ⊥) (Unit {0})) events
 
--- With a low-water mark of at most 50: a tending in which nothing was refused leaves the device at rest, or more than 6 blocks free, or less to
--- vacate than there was.
+-- With a low-water mark of at most 50: a tending in which nothing was refused leaves the device at rest, or less to vacate than there was.
 abbrev pub GainsRoom : Setup → State → List Event → Type 0
 GainsRoom setup s events =
     setup.lwm ≤ 50 → NoneRefused events
     → IsAtRest setup (after_events setup events s).book
-    ⊎ (6 < length (after_events setup events s).book.free)
     ⊎ (left_to_vacate setup (after_events setup events s).book < left_to_vacate setup s.book)
 
 -- where a block is free, no move is refused for want of space
@@ -51,16 +49,15 @@ FindsRoom s events =
 
 -- ---- tendings in a row
 
--- a tending in which nothing was refused, behind which at most 6 blocks are free and the device isn't at rest
-pub record LacksRoom (setup : Setup) (told : Bool) (s : State) (faults : ℕ) (events : List Event) : Type 0 where
+-- a tending in which nothing was refused, and which doesn't leave the device at rest
+pub record GoesOn (setup : Setup) (told : Bool) (s : State) (faults : ℕ) (events : List Event) : Type 0 where
   pub tends : Tends setup s events
   pub legal : IsLegal setup told s faults events
   pub none_refused : NoneRefused events
-  pub few : length (after_events setup events s).book.free ≤ 6
   pub restless : IsAtRest setup (after_events setup events s).book → ⊥
 
 -- one such tending after another
 abbrev pub TendInRow : Setup → (told : Bool) → State → (faults : ℕ) → List (List Event) → Type 0
 TendInRow setup told s faults [] = Unit {0}
 TendInRow setup told s faults (events ∷ more) =
-    LacksRoom setup told s faults events × TendInRow setup told (after_events setup events s) (last_faults faults events) more
+    GoesOn setup told s faults events × TendInRow setup told (after_events setup events s) (last_faults faults events) more
