@@ -6,11 +6,12 @@ use Rattle.std.proofs.lemmas.Bool.{false≢true, eq-eqb, eqb-true, ne_eqb, leb-t
 use Rattle.std.proofs.lemmas.List.Sums.{sum_by-cons}
 use Rattle.disk_model.specs.Disk.{DiskView, IsDisk, IsHonest}
 use Rattle.rec_format.specs.Versions.{block_capacity}
+use Rattle.device_model.proofs.Blocks.{empty_is}
 use Rattle.device_model.specs.Book.{Setup, Buffer, Live, client, defrag, filling_buffer, holds_dead, use_of}
 use Rattle.device_model.specs.Device.{State}
 use Rattle.device_model.specs.Steps.{after_step, after_steps}
 use Rattle.device_model.specs.Vacating.{can_gain}
-use Rattle.device_model.specs.Legal.{seal_if, is_short, is_nothing, has_gathered, is_due, seal_low}
+use Rattle.device_model.specs.Legal.{seal_if, is_short, is_empty, has_gathered, is_due, seal_low}
 use Rattle.recovery.proofs.Growing.{all_at, all_from}
 use Rattle.recovery.proofs.Members.{filter_there, first_there, rest_there, map_there, map_from}
 use Rattle.kept_trail.proofs.Places.{any_there, some_at}
@@ -63,12 +64,6 @@ pub over_filling : {D : Type 0} (stream : Stream) (shelf : ShelfView D) (b : Buf
 over_filling stream shelf b order there is n number true told = record { buffer = b; there = there; fills = is; holds = subst (HoldsDead shelf) number told }
 over_filling stream shelf b order there is n number false told = λ over.
     told (subst (HoldsDead shelf) (sym (number ∙ same_filling stream shelf.buffers b over.buffer order there over.there is over.fills)) over.holds)
-
--- ---- lists without anything
-
-nothing_is : (l : List ℕ) → is_nothing l ≡ true → l ≡ []
-nothing_is [] is = refl
-nothing_is (x ∷ l) is = absurd (false≢true is)
 
 -- ---- the book
 
@@ -154,19 +149,19 @@ module _ {D : Type 0} (view : D → DiskView) (shelf : ShelfView D) (is : IsShel
 
     gathered_is : (st : Stream) → HasGathered st shelf → has_gathered setup s.book (book_stream st) ≡ true
     gathered_is Client has = refl
-    gathered_is Defrag (inl none) = ap (λ (l : List ℕ). is_nothing l || (is_nothing s.book.free && is_short setup (filling_buffer defrag s.book.buffers))) (books.same ∙ none)
+    gathered_is Defrag (inl none) = ap (λ (l : List ℕ). is_empty l || (is_empty s.book.free && is_short setup (filling_buffer defrag s.book.buffers))) (books.same ∙ none)
     gathered_is Defrag (inr (none, short)) =
-        or_right (is_nothing s.book.queue) (is_nothing s.book.free && is_short setup (filling_buffer defrag s.book.buffers))
-        (and_from (is_nothing s.book.free) (is_short setup (filling_buffer defrag s.book.buffers)) (ap is_nothing (stands.free ∙ none)) (short_is short))
+        or_right (is_empty s.book.queue) (is_empty s.book.free && is_short setup (filling_buffer defrag s.book.buffers))
+        (and_from (is_empty s.book.free) (is_short setup (filling_buffer defrag s.book.buffers)) (ap is_empty (stands.free ∙ none)) (short_is short))
 
     has_gathered_too : (st : Stream) → has_gathered setup s.book (book_stream st) ≡ true → HasGathered st shelf
     has_gathered_too Client told = tt
     has_gathered_too Defrag told =
-        ⊎_elim (λ (none : is_nothing s.book.queue ≡ true). inl (sym books.same ∙ nothing_is s.book.queue none))
-        (λ (rest : (is_nothing s.book.free && is_short setup (filling_buffer defrag s.book.buffers)) ≡ true).
-        let two = and_parts (is_nothing s.book.free) (is_short setup (filling_buffer defrag s.book.buffers)) rest in
-        inr (sym stands.free ∙ nothing_is s.book.free two.0, is_short_too two.1))
-        (or_cases (is_nothing s.book.queue) (is_nothing s.book.free && is_short setup (filling_buffer defrag s.book.buffers)) told)
+        ⊎_elim (λ (none : is_empty s.book.queue ≡ true). inl (sym books.same ∙ empty_is s.book.queue none))
+        (λ (rest : (is_empty s.book.free && is_short setup (filling_buffer defrag s.book.buffers)) ≡ true).
+        let two = and_parts (is_empty s.book.free) (is_short setup (filling_buffer defrag s.book.buffers)) rest in
+        inr (sym stands.free ∙ empty_is s.book.free two.0, is_short_too two.1))
+        (or_cases (is_empty s.book.queue) (is_empty s.book.free && is_short setup (filling_buffer defrag s.book.buffers)) told)
 
     abbrev low : Bool
     low = is_due setup s.book (book_stream stream)
@@ -239,7 +234,7 @@ gains_several setup shelf s stands books none free queued free_is few queued_is 
 still_due : (setup : Setup) (c : Bool) (s : State) → is_due setup (after_steps setup (seal_if c client) s).book defrag ≡ is_due setup s.book defrag
 unfolding after_step
 still_due setup true s =
-    ap (λ (o : Option Buffer). nat_le (length s.book.free) 6 && holds_dead s.book o && (is_nothing s.book.queue || (is_nothing s.book.free && is_short setup o))) (other_after setup true s)
+    ap (λ (o : Option Buffer). nat_le (length s.book.free) 6 && holds_dead s.book o && (is_empty s.book.queue || (is_empty s.book.free && is_short setup o))) (other_after setup true s)
 still_due setup false s = refl
 
 pub goes_low : {D : Type 0} (view : D → DiskView) (old mid new : ShelfView D) → IsShelf view old → IsShelf view mid → (setup : Setup) (s : State) → IsSetupOf setup old → StandsFor setup old s → BooksStand setup old s

@@ -27,15 +27,15 @@ abbrev pub is_short : Setup → Option Buffer → Bool
 is_short setup None = false
 is_short setup (Some buffer) = nat_lt ((setup.capacity - buffer.used) * 100) (setup.lwm * setup.capacity)
 
-abbrev pub is_nothing : List ℕ → Bool
-is_nothing [] = true
-is_nothing (b ∷ bs) = false
+abbrev pub is_empty : List ℕ → Bool
+is_empty [] = true
+is_empty (b ∷ bs) = false
 
 -- A buffer of moved records gathers blocks until nothing more can come: nothing is queued, or no block is free and it is short of room. One
 -- of clients doesn't wait for more.
 abbrev pub has_gathered : Setup → Book → Stream → Bool
 has_gathered setup book client = true
-has_gathered setup book defrag = is_nothing book.queue || (is_nothing book.free && is_short setup (filling_buffer defrag book.buffers))
+has_gathered setup book defrag = is_empty book.queue || (is_empty book.free && is_short setup (filling_buffer defrag book.buffers))
 
 -- whether a stream is sealed where few blocks are free: at most 6 are, its buffer holds a block without live units, and it has gathered
 abbrev pub is_due : Setup → Book → Stream → Bool

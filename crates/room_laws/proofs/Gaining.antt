@@ -3,6 +3,7 @@
 use Rattle.std.proofs.Common.{◌≡◌, ◌⊎◌, inl, inr, ⊎_elim, ℕ, ◌+◌, ◌<◌, ◌≤◌, Bool, true, false, ◌||◌, List, [], ◌∷◌, ◌++◌, length, None, is_some, refl, ap, sym, subst, ◌∙◌, arith}
 use Rattle.std.proofs.lemmas.Bool.{or_cases, and_left, false≢true, false_from_ne_true, ltb-true, leb-true, cases_lt}
 use Rattle.std.specs.Prelude.{nat_lt, nat_le, MatchBool}
+use Rattle.device_model.proofs.Blocks.{empty_is}
 use Rattle.device_model.specs.Book.{Setup, Book, Stream, client, defrag, filling_buffer}
 use Rattle.device_model.specs.Device.{State}
 use Rattle.device_model.specs.Steps.{Step, after_steps}
@@ -14,7 +15,6 @@ use Rattle.room_laws.specs.Tidy.{IsTidy}
 use Rattle.room_laws.proofs.Emptying.{after_joined}
 use Rattle.room_laws.proofs.Flushed.{IsFlushed, flushed, flushed_filling}
 use Rattle.room_laws.proofs.Resting.{at_rest, few_nothing, none_sealed}
-use Rattle.room_laws.proofs.Sealed.{nothing_is}
 use Rattle.room_laws.proofs.Vacated.{HasVacated, vacated}
 
 -- the state after a list of events is the one after all their steps
@@ -54,7 +54,7 @@ module _ (setup : Setup) (told : Bool) where
           record {
             sealed = λ i. seal_if (none_due new client many i) client ++ seal_if (none_due new defrag many i) defrag;
             flushed = none_sealed new.buffers (has.filled none (flushed_filling setup old mid is));
-            vacated = inr (nothing_is new.queue (few_nothing new.queue (omega (arith, shorter, few))));
+            vacated = inr (empty_is new.queue (few_nothing new.queue (omega (arith, shorter, few))));
           }
 
       by : (left_to_vacate setup mid ≤ left_to_vacate setup old) ⊎ ((filling_buffer defrag mid.buffers ≡ None) × (left_to_vacate setup mid + length mid.queue ≤ left_to_vacate setup old + 2))

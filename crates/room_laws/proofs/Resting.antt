@@ -3,20 +3,21 @@ use Rattle.std.proofs.Common.{◌≡◌, ◌⊎◌, inl, inr, ℕ, ◌≤◌, Bo
 use Rattle.std.proofs.lemmas.Bool.{and_parts, and_from, or_cases, or_left, or_right, false≢true, false_from_ne_true, leb-true, le-leb}
 use Rattle.std.specs.Prelude.{◌==◌, nat_le, flat_map, MatchBool}
 use Rattle.std.specs.List.{AllByRecursion, list_any}
+use Rattle.device_model.proofs.Blocks.{empty_is}
 use Rattle.device_model.specs.Book.{Setup, Book, Buffer, Live, Stream, client, defrag, Phase, filling, sealed, opening, is_filling, filling_buffer, use_of, holds_dead}
 use Rattle.device_model.specs.Device.{State}
 use Rattle.device_model.specs.Steps.{Step, after_steps}
 use Rattle.device_model.specs.Events.{choose_call, flush_sealed_call, block_chosen, refused, Event, after_event, steps_of}
-use Rattle.device_model.specs.Legal.{Allowed, seal_if, seal_low, is_due, is_short, is_nothing, has_gathered, flush_of, flush_all, queue_front, IsLegal}
+use Rattle.device_model.specs.Legal.{Allowed, seal_if, seal_low, is_due, is_short, is_empty, has_gathered, flush_of, flush_all, queue_front, IsLegal}
 use Rattle.device_model.specs.Vacating.{Outcome, can_gain, Vacates, Tends}
 use Rattle.room_laws.specs.Room.{IsAtRest}
 use Rattle.room_laws.proofs.Moves.{choice_ends}
-use Rattle.room_laws.proofs.Sealed.{nothing_is, sealed_low, client_found, defrag_found, filling_found}
+use Rattle.room_laws.proofs.Sealed.{sealed_low, client_found, defrag_found, filling_found}
 use Rattle.room_laws.proofs.Flushed.{IsFlushed, flushed_filling}
 
 -- ---- what a flush leaves
 
-pub few_nothing : (blocks : List ℕ) → length blocks ≤ 0 → is_nothing blocks ≡ true
+pub few_nothing : (blocks : List ℕ) → length blocks ≤ 0 → is_empty blocks ≡ true
 few_nothing [] few = refl
 few_nothing (b ∷ bs) few = absurd (omega (arith, few))
 
@@ -32,8 +33,8 @@ none_sealed (b ∷ bs) all = by b.phase all.0 (none_sealed bs all.1)
 
 module _ (setup : Setup) (old new : Book) (is : IsFlushed setup old new) where
   -- where nothing was, nothing is now fewer
-  nothing_before : (was now : List ℕ) → length was ≤ length now → is_nothing now ≡ true → is_nothing was ≡ true
-  nothing_before was now less none = few_nothing was (let no = ap length (nothing_is now none) in omega (arith, less, no))
+  nothing_before : (was now : List ℕ) → length was ≤ length now → is_empty now ≡ true → is_empty was ≡ true
+  nothing_before was now less none = few_nothing was (let no = ap length (empty_is now none) in omega (arith, less, no))
 
   found : (stream : Stream) → filling_buffer stream new.buffers ≡ cond (is_due setup old stream) None (filling_buffer stream old.buffers)
   found client =
@@ -50,12 +51,12 @@ module _ (setup : Setup) (old new : Book) (is : IsFlushed setup old new) where
 
   gathered_before : (stream : Stream) (b : Buffer) → filling_buffer stream new.buffers ≡ Some b → filling_buffer stream old.buffers ≡ Some b → has_gathered setup new stream ≡ true → has_gathered setup old stream ≡ true
   gathered_before client b now was gathered = refl
-  gathered_before defrag b now was gathered = by (or_cases (is_nothing new.queue) (is_nothing new.free && is_short setup (filling_buffer defrag new.buffers)) gathered)
+  gathered_before defrag b now was gathered = by (or_cases (is_empty new.queue) (is_empty new.free && is_short setup (filling_buffer defrag new.buffers)) gathered)
     where
-      by : (is_nothing new.queue ≡ true) ⊎ ((is_nothing new.free && is_short setup (filling_buffer defrag new.buffers)) ≡ true) → has_gathered setup old defrag ≡ true
+      by : (is_empty new.queue ≡ true) ⊎ ((is_empty new.free && is_short setup (filling_buffer defrag new.buffers)) ≡ true) → has_gathered setup old defrag ≡ true
       by (inl none) = or_left _ _ (nothing_before old.queue new.queue is.keeps.queue none)
       by (inr both) =
-          let two = and_parts (is_nothing new.free) (is_short setup (filling_buffer defrag new.buffers)) both in
+          let two = and_parts (is_empty new.free) (is_short setup (filling_buffer defrag new.buffers)) both in
           or_right _ _ (and_from _ _ (nothing_before old.free new.free is.keeps.free two.0) (ap (is_short setup) (was ∙ sym now) ∙ two.1))
 
   -- nothing is due that wasn't sealed

@@ -6,7 +6,8 @@ use Rattle.std.specs.Prelude.{find, count_by}
 use Rattle.device_model.specs.Book.{Setup, Book, Buffer, Stream, client, defrag, Phase, filling, sealed, opening, is_filling, same_stream, sealed_if, seal_stream, filling_buffer, use_of}
 use Rattle.device_model.specs.Device.{State}
 use Rattle.device_model.specs.Steps.{after_step, after_steps}
-use Rattle.device_model.specs.Legal.{seal_if, is_due, is_short, is_nothing, has_gathered}
+use Rattle.device_model.proofs.Blocks.{empty_is}
+use Rattle.device_model.specs.Legal.{seal_if, is_due, is_short, is_empty, has_gathered}
 use Rattle.room_laws.specs.Room.{is_below, gathers_live, may_come}
 use Rattle.room_laws.specs.Tidy.{fills}
 use Rattle.room_laws.proofs.Counts.{one_if, count_cons, count_changed}
@@ -166,10 +167,6 @@ CountsOver setup old new =
     (count_by (may_come setup new) new.buffers ≤ count_by (may_come setup old) old.buffers)
     ⊎ ((old.queue ≡ []) × (filling_buffer defrag new.buffers ≡ None) × (count_by (may_come setup new) new.buffers ≤ count_by (may_come setup old) old.buffers + 1))
 
-pub nothing_is : (blocks : List ℕ) → is_nothing blocks ≡ true → blocks ≡ []
-nothing_is [] is = refl
-nothing_is (b ∷ bs) is = absurd (false≢true is)
-
 module _ (setup : Setup) (book : Book) (half : setup.lwm ≤ 50) where
   abbrev counts : Buffer → Bool
   counts = may_come setup book
@@ -228,9 +225,9 @@ module _ (setup : Setup) (book : Book) (half : setup.lwm ≤ 50) where
     second_counts None found gathered same = inl (omega (arith, same, client_counts first))
     second_counts (Some b) found gathered changed = by (counts b) (counts (seal b)) refl refl changed
       where
-        new : (or : (is_nothing book.queue ≡ true) ⊎ ((is_nothing book.free && is_short setup (filling_buffer defrag book.buffers)) ≡ true)) → Comes b
+        new : (or : (is_empty book.queue ≡ true) ⊎ ((is_empty book.free && is_short setup (filling_buffer defrag book.buffers)) ≡ true)) → Comes b
             → count_by counts (seal_stream defrag mid) ≡ count_by counts mid + 1 → CountsOver setup book (with_these (seal_stream defrag mid))
-        new (inl nothing) comes more = inr (nothing_is book.queue nothing, own_gone defrag mid, omega (arith, more, client_counts first))
+        new (inl nothing) comes more = inr (empty_is book.queue nothing, own_gone defrag mid, omega (arith, more, client_counts first))
         new (inr both) comes more = absurd (not_short b comes (sym (ap (is_short setup) found) ∙ (and_parts _ _ both).1))
 
         by : (x y : Bool) → counts b ≡ x → counts (seal b) ≡ y → count_by counts (seal_stream defrag mid) + cond x 1 0 ≡ count_by counts mid + cond y 1 0
@@ -238,7 +235,7 @@ module _ (setup : Setup) (book : Book) (half : setup.lwm ≤ 50) where
         by x false is_x is_y changed = inl (omega (arith, changed, client_counts first))
         by true true is_x is_y changed = inl (omega (arith, changed, client_counts first))
         by false true is_x is_y changed =
-            new (or_cases (is_nothing book.queue) (is_nothing book.free && is_short setup (filling_buffer defrag book.buffers)) gathered) (comes_new b is_x is_y) (omega (arith, changed))
+            new (or_cases (is_empty book.queue) (is_empty book.free && is_short setup (filling_buffer defrag book.buffers)) gathered) (comes_new b is_x is_y) (omega (arith, changed))
 
     pub seals_count : (second : Bool) → (second ≡ true → has_gathered setup book defrag ≡ true) → ((stream : Stream) → count_by (fills stream) book.buffers ≤ 1)
         → CountsOver setup book (with_these (sealed_low first second book.buffers))

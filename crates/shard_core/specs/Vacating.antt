@@ -40,8 +40,8 @@ pub record MakesEvents {D : Type 0} (view : D → DiskView) (Work : List Event �
   pub leaves : IsHonest (view old.shelf.disk) → ShelfIsSafe view (setup_of old) old.shelf s
       → Leaves (OneOf (Survives (setup_of old)) (states_of (setup_of old) events s)) (view old.shelf.disk) (view new.shelf.disk)
 
--- The events of a tending, which gains room as the law of tending says: where nothing was refused it leaves the device at rest, or more than 6
--- blocks free, or less to vacate; and where a block was free no move is refused for want of space.
+-- The events of a tending, which gains room as the law of tending says: where nothing was refused it leaves the device at rest, or less to
+-- vacate; and where a block was free no move is refused for want of space.
 abbrev pub TendsWell : Setup → State → List Event → Type 0
 TendsWell setup s events = Tends setup s events × GainsRoom setup s events × FindsRoom s events
 

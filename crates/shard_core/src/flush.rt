@@ -84,8 +84,8 @@ impl<D: Disk> Shard<D> {
     }
 
     /// Makes room: seals what is due where at most 6 blocks are free, flushes what is sealed, as far as the disk goes, and vacates the block that
-    /// has waited longest, if one waits and that can gain room. It answers nothing. With a low-water mark of at most 50, tendings in which nothing
-    /// is refused leave more than 6 blocks free, or at rest a device at which nothing is left to gain.
+    /// has waited longest, if one waits and that can gain room. It answers nothing. With a low-water mark of at most 50, a tending in which nothing
+    /// is refused leaves less to vacate than there was, or the device at rest: then a tending does nothing.
     pub fn tend(&mut self, alloc: Global)
         ensures makes { (s : State) → Agrees self.old s → MakesEvents D.view (TendsWell (setup_of self.old) s) self.old s self.new }
         ensures later { IsLater (D.view self.old.shelf.disk) (D.view self.new.shelf.disk) }
