@@ -1,5 +1,5 @@
 -- What is sealed is flushed, and then a block is vacated where that gains room.
-use Rattle.std.proofs.Common.{◌≡◌, ◌≤◌, Bool, true, false, List, [], ◌∷◌, refl, sym, subst, arith}
+use Rattle.std.proofs.Common.{◌≡◌, Bool, true, false, List, [], ◌∷◌, refl, sym, subst, arith}
 use Rattle.std.specs.Prelude.{MatchBool, Option, Some, None, Result, Ok, Err}
 use Rattle.disk_model.specs.Disk.{DiskView, IsHonest}
 use Rattle.device_model.specs.Book.{Setup}
@@ -38,9 +38,14 @@ module _ {D : Type 0} (view : D → DiskView) (old mid new : ShardView D) (same 
       let t : State = after_event setup first s in
       let rest = vacates t flushed.1.stands in
       let outcome = some_outcome mid t result rest.events rest.works in
-      makes_events view old new s (Tends setup s) (first ∷ rest.events)
-      (first, rest.events, refl, flushed.1.is_call, subst (λ (x : Bool). MatchBool x ((o : Outcome) × Vacates setup t rest.events o) (rest.events ≡ [])) (sym gains)
-      (outcome.0, subst (λ (x : Setup). Vacates x t rest.events outcome.0) (sym (setup_same old mid same)) outcome.1))
+      makes_events view old new s (Tends setup s) (first ∷ rest.events) (
+        first,
+        rest.events,
+        refl,
+        flushed.1.is_call,
+        subst (λ (x : Bool). MatchBool x ((o : Outcome) × Vacates setup t rest.events o) (rest.events ≡ [])) (sym gains)
+            (outcome.0, subst (λ (x : Setup). Vacates x t rest.events outcome.0) (sym (setup_same old mid same)) outcome.1),
+      )
       (runs_then view setup old.shelf mid.shelf new.shelf s (Agrees mid) (Agrees new) (first ∷ []) rest.events honest_on
       (runs_one view setup flush_sealed_call flushed.0 old.shelf mid.shelf s (Agrees mid) flushed.1)
       (subst (λ (x : Setup). RunsBy view x mid.shelf t new.shelf (Agrees new) rest.events) (sym (setup_same old mid same)) (runs_made view mid new t (IsVacating mid t result) rest)))

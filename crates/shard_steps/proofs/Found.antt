@@ -1,20 +1,13 @@
 -- Where the copy of the entry lies that a look-up in the sprig of its part finds.
-use Rattle.std.proofs.Common.{◌≡◌, ℕ, ◌≤◌, Bool, true, false, not, ◌&&◌, cond, List, [], ◌∷◌, refl, sym, ◌∙◌, ap, subst}
+use Rattle.std.proofs.Common.{◌≡◌, ℕ, ◌≤◌, Bool, true, false, cond, List, [], ◌∷◌, refl, sym, ◌∙◌, ap, subst}
 use Rattle.std.specs.Prelude.{Option, Some, None, option_map, IsSomeAnd}
 use Rattle.rec_format.specs.declared.version.Digest.{Digest}
-use Rattle.rec_format.specs.declared.version.Kind.{Kind}
-use Rattle.rec_format.specs.declared.version.Version.{Version}
 use Rattle.rec_format.specs.declared.entry.Entry.{Entry}
-use Rattle.rec_format.specs.Entries.{Names}
 use Rattle.rec_format.specs.Places.{same_digest}
-use Rattle.rec_format.specs.Versions.{is_tomb_kind, is_expired, is_live_put}
 use Rattle.rec_format.proofs.Laws.{same_digest_is}
-use Rattle.device_model.specs.Histories.{if_live}
 use Rattle.device_model.specs.Book.{Setup, live_of, live_of_entry}
-use Rattle.device_model.specs.Device as device
 use Rattle.device_model.specs.Device.{State, part_of}
 use Rattle.disk_model.specs.Disk.{DiskView}
-use Rattle.expiry_rule.specs.Seen.{seen_entry, is_live_entry}
 use Rattle.kept_trail.proofs.Books.{live_there}
 use Rattle.unit_ledger.specs.declared.roll.LiveCopy.{LiveCopy}
 use Rattle.unit_ledger.specs.Rolls.{copies_in}

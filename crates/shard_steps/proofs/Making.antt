@@ -1,12 +1,12 @@
 -- A shelf that goes by an event's steps makes the event.
-use Rattle.std.proofs.Common.{◌≡◌, ℕ, ◌≤◌, Bool, true, false, ◌&&◌, List, [], ◌∷◌, ◌++◌, length, refl}
+use Rattle.std.proofs.Common.{◌≡◌, ℕ, ◌≤◌, Bool, true, false, ◌&&◌, List, [], ◌∷◌, refl}
 use Rattle.std.specs.Prelude.{is_some, filter, flat_map, nat_le}
 use Rattle.std.specs.List.{AllByRecursion}
 use Rattle.device_model.specs.Book.{Setup, Book, Buffer, Phase, Stream, client, defrag, filling, sealed, opening, filling_buffer}
 use Rattle.device_model.specs.Device.{State}
 use Rattle.device_model.specs.Steps.{Step, sealed_stream, gate_begun, flushed_buffer, closing_failed, after_steps}
 use Rattle.device_model.specs.Events.{Event, Call, Answer}
-use Rattle.device_model.specs.Legal.{Allowed, flush_of, flush_between, flush_all, seal_if, seal_all, is_due, seal_low}
+use Rattle.device_model.specs.Legal.{Allowed, flush_of, flush_between, seal_if, seal_all, is_due, seal_low}
 use Rattle.disk_model.specs.Disk.{DiskView, IsHonest}
 use Rattle.recovery.proofs.Opening.{all_joined}
 use Rattle.sprig_tree.specs.State.{SprigState}
