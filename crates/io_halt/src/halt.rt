@@ -1,6 +1,9 @@
 // What ends a source from outside. No clause tells when it comes: what the system answers of a descriptor is outside of all proofs.
+ghost use Rattle.std.specs.Prelude.{◌≡◌, None, IfSome, IsFalse};
+
 use libc::net::{POLLIN, POLLNVAL, poll};
 use libc::types::pollfd;
+use std::marker::Model;
 use std::os::fd::RawFd;
 
 // Waits without a limit.
@@ -19,14 +22,28 @@ pub struct Halt {
     descriptor: Option<RawFd>,
 }
 
+impl Model for Halt {
+    ghost use Rattle.std.specs.Prelude.{ℤ, Option};
+
+    ghost Value = { Option ℤ };
+
+    ghost view = { λ h. h.descriptor };
+
+    ghost inverse = { λ d. record { descriptor = d } };
+}
+
 impl Halt {
     /// A halt that never comes.
-    pub fn never() -> Halt {
+    pub fn never() -> Halt
+        ensures { result ≡ None }
+    {
         Halt { descriptor: None }
     }
 
     /// A halt that comes through this descriptor. Where it isn't open the halt never comes.
-    pub fn by(descriptor: RawFd) -> Halt {
+    pub fn by(descriptor: RawFd) -> Halt
+        ensures { IfSome result (λ d. d ≡ descriptor) }
+    {
         if is_open(descriptor) {
             Halt {
                 descriptor: Some(descriptor),
@@ -38,7 +55,9 @@ impl Halt {
 
     /// Whether the halt is there once there is something to be had from this descriptor, or before: it waits for the first of the two. A halt that never
     /// comes isn't waited for, and neither is one that can't be waited for.
-    pub fn comes_first(&self, input: RawFd) -> bool {
+    pub fn comes_first(&self, input: RawFd) -> bool
+        ensures { self.now ≡ None → IsFalse result }
+    {
         let Some(descriptor) = self.descriptor else {
             return false;
         };

@@ -8,8 +8,8 @@ use io_traits::{Ends, Source, SourceFault};
 use std::marker::Model;
 use std::os::fd::RawFd;
 
-/// A source that is at its end where the one below is, or from where its halt comes on. Before each read it waits for the halt and for something to be
-/// had from the descriptor of the source below, whichever comes first. It doesn't tell what is left.
+/// A source that is at its end where the one below is, or once its halt has come. Before each read it waits until the halt comes or something is to be had
+/// from the descriptor of the source below. It doesn't tell what is left.
 #[derive(Drop)]
 pub struct HaltingSource<S: Source> {
     source: S,
@@ -23,13 +23,13 @@ impl<S: Source> Model for HaltingSource<S> {
 
     ghost Value = { HaltingState S };
 
-    ghost view = { λ h. record { source = h.source; is_halted = h.is_halted } };
+    ghost view = { λ h. record { source = h.source; descriptor = h.descriptor; halt = h.halt; is_halted = h.is_halted } };
 }
 
 impl<S: Source> HaltingSource<S> {
     /// The source, whose bytes come through this descriptor, until the halt comes.
     pub fn new(source: S, descriptor: RawFd, halt: Halt) -> HaltingSource<S>
-        ensures { result ≡ record { source = source; is_halted = false } }
+        ensures { result ≡ record { source = source; descriptor = descriptor; halt = halt; is_halted = false } }
     {
         HaltingSource {
             source,
@@ -66,6 +66,10 @@ impl<S: Source> Source for HaltingSource<S> {
         ensures quiet { OnOk result (S.source_faults self.new.source ≡ S.source_faults self.old.source) }
         ensures sink { S.written self.new.source ≡ S.written self.old.source }
         ensures sink_faults { S.sink_faults self.new.source ≡ S.sink_faults self.old.source }
+
+        // It is halted only by a halt that may come.
+        ensures never { self.old.halt ≡ None → self.new.is_halted ≡ self.old.is_halted }
+        ensures same { (self.new.descriptor ≡ self.old.descriptor) × (self.new.halt ≡ self.old.halt) }
     {
         self.is_halted = self.is_halted || self.halt.comes_first(self.descriptor);
         if self.is_halted {
