@@ -4,7 +4,11 @@ use Rattle.std.specs.Prelude.{codes}
 use Rattle.std.specs.Fmt.{digits}
 use Rattle.hex.proofs.OnLiterals.{hex_on_literals}
 use Rattle.block_format.specs.Refusals.{not_formatted, other_shape, damaged_block}
-use Rattle.node_model.specs.Notes.{short_note, refusal_note, formatted_text, check_text}
+use Rattle.node_model.specs.Notes.{fault_note, short_note, refusal_note, formatted_text, check_text}
+
+fault : fault_note 0 ≡ codes "device 0 fault"
+unfolding digits
+fault = refl
 
 zeros : refusal_note 0 (not_formatted (replicate 64 0))
     ≡ codes "device 0 not formatted: 00000000000000000000000000000000000000000000000000000000000000000000000000000000000000000000000000000000000000000000000000000000"
