@@ -18,7 +18,7 @@ use Rattle.line_proto.specs.declared.reply.Reply.{Reply}
 use Rattle.line_proto.specs.declared.reply.Reply.TheVariants as reply
 use Rattle.cold_scan.specs.declared.header.StartCause.{StartCause}
 use Rattle.device_model.specs.Vacating.{Outcome, did, stopped}
-use Rattle.node_model.specs.Commands.{Slot, Node, NodeEvent, Does, on_device, answer_reply, meta_reply, seen_on, one_sum, two_sums, node_counts}
+use Rattle.node_model.specs.Commands.{Slot, Node, NodeEvent, Does, on_device, answer_reply, meta_reply, seen_on, flushed_reply, defragged_reply, expired_reply, raided_reply, node_counts}
 use Rattle.node_model.specs.Meaning.{ActsFrom}
 use Rattle.shard_core.specs.View.{ShardView, setup_of}
 use Rattle.shard_core.specs.Stands.{Agrees}
@@ -32,7 +32,7 @@ use Rattle.core_run.specs.Turns.{GoesOn, RepliesTo, RepliesOn, TendTurn, Through
 use Rattle.core_run.proofs.Places.{events_of, nones, no_events}
 use Rattle.core_run.proofs.Making.{Made, slot_at, each_length, each_more, along_none}
 use Rattle.core_run.proofs.Acting.{Safely, over_any, over_safe, event_turn, flush_turns, defrag_turns, expire_turns, raid_turns, tend_turns}
-use Rattle.core_run.proofs.Replying.{known_goes_on, stat_goes_on, one_sum_goes_on, two_sums_goes_on, one_digest}
+use Rattle.core_run.proofs.Replying.{known_goes_on, stat_goes_on, flushed_goes_on, defragged_goes_on, expired_goes_on, raided_goes_on, one_digest}
 use Rattle.core_run.proofs.Nodes.{one_shards, serves_or_halts, later_same, later_at, later_through, acts_any, acts_safe, tends_any, tends_safe}
 
 -- a device that stays as it is leaves the list
@@ -51,7 +51,7 @@ module _ {D : Type 0} (view : D → DiskView) (is_disk : (disk : D) → IsDisk (
   -- ---- a command, whatever it is, by what it comes to from each state
 
   module _ (olds news : List (ShardView D)) (c : Command) (now : ℕ) (r : Reply) (later : AreLater view (disks_served olds) (disks_served news)) (other : c ≢ command.Restart) (stored : RepliesStored view olds c now r)
-      (exact : c ≡ command.Raid → (removed cleared : ℕ) → r ≡ reply.Done2 removed cleared → (node : Node) → Each (StandsSafelyOn view) olds node → RaidedExactly view now olds node news removed cleared)
+      (exact : c ≡ command.Raid → (removed cleared : ℕ) → r ≡ reply.Raided removed cleared → (node : Node) → Each (StandsSafelyOn view) olds node → RaidedExactly view now olds node news removed cleared)
       (any : (node : Node) → Each (StandsOn view) olds node → ActsFrom (StandsFor view) unknown (Halts view) false (serving olds) node c now r (serving news))
       (safe : (node : Node) → Each (StandsSafelyOn view) olds node → ActsFrom (StandsSafely view) (views_of view) (HaltsSafely view) true (serving olds) node c now r (serving news)) where
     pub acts_serving : Acts view (serving olds) c now r (serving news)
@@ -190,37 +190,37 @@ module _ {D : Type 0} (view : D → DiskView) (is_disk : (disk : D) → IsDisk (
   work_later Does plus goes (Err why) a (old ∷ olds) (new ∷ news) (inr (x, does, more)) = ((goes (Ok x) old new does).later, work_later Does plus goes (Err why) (plus a x) olds news more)
 
   pub flush_acts : {E : Type 0} (flushed : Result ℕ E) (olds news : List (ShardView D)) (now : ℕ) (r : Reply) → FlushesEach view flushed olds news
-      → ((outcome : Outcome) → IsFlushed flushed outcome → r ≡ one_sum outcome) → Acts view (serving olds) command.Flush now r (serving news)
+      → ((outcome : Outcome) → IsFlushed flushed outcome → r ≡ flushed_reply outcome) → Acts view (serving olds) command.Flush now r (serving news)
   flush_acts {E} flushed olds news now r each is =
       acts_serving olds news command.Flush now r (work_later (FlushesOn {E = E} view) plus_one (λ result old new does. does.goes) flushed 0 olds news each) (λ e. cc) tt (λ e. absurd cc)
       (λ node stands.
       let t = flush_turns view (StandsOn view) (Made false (StandsOn view)) (over_any view) flushed olds news node each stands in
-      acts_any view olds news node t.0 t.1 command.Flush now r (t.2.0, t.2.2, is t.2.0 t.2.1) (λ h. one_sum_goes_on t.2.0 (sym (is t.2.0 t.2.1) ∙ h)))
+      acts_any view olds news node t.0 t.1 command.Flush now r (t.2.0, t.2.2, is t.2.0 t.2.1) (λ h. flushed_goes_on t.2.0 (sym (is t.2.0 t.2.1) ∙ h)))
       (λ node stands.
       let t = flush_turns view (StandsSafelyOn view) (Safely view) (over_safe view is_disk) flushed olds news node each stands in
-      acts_safe view olds news node t.0 t.1 command.Flush now r (t.2.0, t.2.2, is t.2.0 t.2.1) (λ h. one_sum_goes_on t.2.0 (sym (is t.2.0 t.2.1) ∙ h)))
+      acts_safe view olds news node t.0 t.1 command.Flush now r (t.2.0, t.2.2, is t.2.0 t.2.1) (λ h. flushed_goes_on t.2.0 (sym (is t.2.0 t.2.1) ∙ h)))
 
   pub defrag_acts : (result : Result (ℕ × ℕ) DefragCause) (olds news : List (ShardView D)) (now : ℕ) (r : Reply) → DefragsEach view result olds news
-      → ((outcome : Outcome) → IsDefragged result outcome → r ≡ two_sums outcome) → Acts view (serving olds) command.Defrag now r (serving news)
+      → ((outcome : Outcome) → IsDefragged result outcome → r ≡ defragged_reply outcome) → Acts view (serving olds) command.Defrag now r (serving news)
   defrag_acts result olds news now r each is =
       acts_serving olds news command.Defrag now r (work_later (DefragsOn view) plus_both (λ done old new does. does.goes) result (0, 0) olds news each) (λ e. cc) tt (λ e. absurd cc)
       (λ node stands.
       let t = defrag_turns view (StandsOn view) (Made false (StandsOn view)) (over_any view) result olds news node each stands in
-      acts_any view olds news node t.0 t.1 command.Defrag now r (t.2.0, t.2.2, is t.2.0 t.2.1) (λ h. two_sums_goes_on t.2.0 (sym (is t.2.0 t.2.1) ∙ h)))
+      acts_any view olds news node t.0 t.1 command.Defrag now r (t.2.0, t.2.2, is t.2.0 t.2.1) (λ h. defragged_goes_on t.2.0 (sym (is t.2.0 t.2.1) ∙ h)))
       (λ node stands.
       let t = defrag_turns view (StandsSafelyOn view) (Safely view) (over_safe view is_disk) result olds news node each stands in
-      acts_safe view olds news node t.0 t.1 command.Defrag now r (t.2.0, t.2.2, is t.2.0 t.2.1) (λ h. two_sums_goes_on t.2.0 (sym (is t.2.0 t.2.1) ∙ h)))
+      acts_safe view olds news node t.0 t.1 command.Defrag now r (t.2.0, t.2.2, is t.2.0 t.2.1) (λ h. defragged_goes_on t.2.0 (sym (is t.2.0 t.2.1) ∙ h)))
 
   pub expire_acts : (result : Result ℕ WriteRefusal) (olds news : List (ShardView D)) (now : ℕ) (r : Reply) → ExpiresAll view now result olds news
-      → ((outcome : Outcome) → IsExpired result outcome → r ≡ one_sum outcome) → Acts view (serving olds) command.Expire now r (serving news)
+      → ((outcome : Outcome) → IsExpired result outcome → r ≡ expired_reply outcome) → Acts view (serving olds) command.Expire now r (serving news)
   expire_acts result olds news now r each is =
       acts_serving olds news command.Expire now r (work_later (ExpiresOn view now) plus_one (λ done old new does. does.goes) result 0 olds news each) (λ e. cc) tt (λ e. absurd cc)
       (λ node stands.
       let t = expire_turns view (StandsOn view) (Made false (StandsOn view)) (over_any view) now result olds news node each stands in
-      acts_any view olds news node t.0 t.1 command.Expire now r (t.2.0, t.2.2, is t.2.0 t.2.1) (λ h. one_sum_goes_on t.2.0 (sym (is t.2.0 t.2.1) ∙ h)))
+      acts_any view olds news node t.0 t.1 command.Expire now r (t.2.0, t.2.2, is t.2.0 t.2.1) (λ h. expired_goes_on t.2.0 (sym (is t.2.0 t.2.1) ∙ h)))
       (λ node stands.
       let t = expire_turns view (StandsSafelyOn view) (Safely view) (over_safe view is_disk) now result olds news node each stands in
-      acts_safe view olds news node t.0 t.1 command.Expire now r (t.2.0, t.2.2, is t.2.0 t.2.1) (λ h. one_sum_goes_on t.2.0 (sym (is t.2.0 t.2.1) ∙ h)))
+      acts_safe view olds news node t.0 t.1 command.Expire now r (t.2.0, t.2.2, is t.2.0 t.2.1) (λ h. expired_goes_on t.2.0 (sym (is t.2.0 t.2.1) ∙ h)))
 
   -- ---- a raid
 
@@ -242,11 +242,11 @@ module _ {D : Type 0} (view : D → DiskView) (is_disk : (disk : D) → IsDisk (
         (one.0, one.1, rest.0, refl, refl, (after_events (setup_of old) m.events slot.state, m.stands, here), rest.3),
       )
 
-  raid_exact_each : (result : Result (ℕ × ℕ) LineFault) (olds news : List (ShardView D)) (now : ℕ) (r : Reply) → RaidsEach view now result olds news → ((outcome : Outcome) → IsRaided result outcome → r ≡ two_sums outcome)
-      → (removed cleared : ℕ) → r ≡ reply.Done2 removed cleared → (node : Node) → Each (StandsSafelyOn view) olds node → RaidedExactly view now olds node news removed cleared
+  raid_exact_each : (result : Result (ℕ × ℕ) LineFault) (olds news : List (ShardView D)) (now : ℕ) (r : Reply) → RaidsEach view now result olds news → ((outcome : Outcome) → IsRaided result outcome → r ≡ raided_reply outcome)
+      → (removed cleared : ℕ) → r ≡ reply.Raided removed cleared → (node : Node) → Each (StandsSafelyOn view) olds node → RaidedExactly view now olds node news removed cleared
   raid_exact_each (Ok sums) olds news now r each is removed cleared told node stands =
       let all = each_exact now sums (0, 0) olds news node each stands in
-      let both : reply.Done2 sums.0 sums.1 ≡ reply.Done2 removed cleared = sym (is (did sums.0 sums.1) refl) ∙ told in
+      let both : reply.Raided sums.0 sums.1 ≡ reply.Raided removed cleared = sym (is (did sums.0 sums.1) refl) ∙ told in
       let one : sums.0 ≡ removed = cc in
       let two : sums.1 ≡ cleared = cc in
       let gone : all.0.0 ≡ removed = omega (arith, all.1, one) in
@@ -254,19 +254,19 @@ module _ {D : Type 0} (view : D → DiskView) (is_disk : (disk : D) → IsDisk (
       subst (λ (n : ℕ). RaidedExactly view now olds node news n cleared) gone (subst (λ (n : ℕ). RaidedExactly view now olds node news all.0.0 n) bare all.3)
   raid_exact_each (Err fault) olds news now r each is removed cleared told node stands =
       let t = raid_turns view (StandsSafelyOn view) (Safely view) (over_safe view is_disk) now (Err fault) olds news node each stands in
-      let both : two_sums (stopped t.2.1.0) ≡ reply.Done2 removed cleared = ap two_sums (sym t.2.1.2) ∙ sym (is t.2.0 t.2.1) ∙ told in
+      let both : raided_reply (stopped t.2.1.0) ≡ reply.Raided removed cleared = ap raided_reply (sym t.2.1.2) ∙ sym (is t.2.0 t.2.1) ∙ told in
       absurd cc
 
   pub raid_acts : (result : Result (ℕ × ℕ) LineFault) (olds news : List (ShardView D)) (now : ℕ) (r : Reply) → RaidsEach view now result olds news
-      → ((outcome : Outcome) → IsRaided result outcome → r ≡ two_sums outcome) → Acts view (serving olds) command.Raid now r (serving news)
+      → ((outcome : Outcome) → IsRaided result outcome → r ≡ raided_reply outcome) → Acts view (serving olds) command.Raid now r (serving news)
   raid_acts result olds news now r each is =
       acts_serving olds news command.Raid now r (work_later (RaidsOn view now) plus_both (λ done old new does. does.goes) result (0, 0) olds news each) (λ e. cc) tt (λ e. raid_exact_each result olds news now r each is)
       (λ node stands.
       let t = raid_turns view (StandsOn view) (Made false (StandsOn view)) (over_any view) now result olds news node each stands in
-      acts_any view olds news node t.0 t.1 command.Raid now r (t.2.0, t.2.2, is t.2.0 t.2.1) (λ h. two_sums_goes_on t.2.0 (sym (is t.2.0 t.2.1) ∙ h)))
+      acts_any view olds news node t.0 t.1 command.Raid now r (t.2.0, t.2.2, is t.2.0 t.2.1) (λ h. raided_goes_on t.2.0 (sym (is t.2.0 t.2.1) ∙ h)))
       (λ node stands.
       let t = raid_turns view (StandsSafelyOn view) (Safely view) (over_safe view is_disk) now result olds news node each stands in
-      acts_safe view olds news node t.0 t.1 command.Raid now r (t.2.0, t.2.2, is t.2.0 t.2.1) (λ h. two_sums_goes_on t.2.0 (sym (is t.2.0 t.2.1) ∙ h)))
+      acts_safe view olds news node t.0 t.1 command.Raid now r (t.2.0, t.2.2, is t.2.0 t.2.1) (λ h. raided_goes_on t.2.0 (sym (is t.2.0 t.2.1) ∙ h)))
 
   -- ---- the numbers
 

@@ -12,7 +12,7 @@ use Rattle.shard_core.specs.declared.refusals.WriteRefusal.TheVariants as write
 use Rattle.shard_core.specs.Calls.{write_answer, delete_answer, read_answer}
 use Rattle.line_proto.specs.declared.reply.Reply.TheVariants as reply
 use Rattle.device_model.specs.Vacating.{Outcome, did, stopped}
-use Rattle.node_model.specs.Commands.{answer_reply, meta_reply, one_sum, two_sums}
+use Rattle.node_model.specs.Commands.{answer_reply, meta_reply, flushed_reply, defragged_reply, expired_reply, raided_reply}
 
 -- ---- no reply halts
 
@@ -51,16 +51,24 @@ known_goes_on (Some v) e = cc
 pub stat_goes_on : (counts : Counts) → reply.StatOf counts ≡ reply.Halted → ⊥
 stat_goes_on counts e = cc
 
-pub restart_goes_on : (a b : ℕ) → reply.Done2 a b ≡ reply.Halted → ⊥
+pub restart_goes_on : (a b : ℕ) → reply.Restarted a b ≡ reply.Halted → ⊥
 restart_goes_on a b e = cc
 
-pub one_sum_goes_on : (outcome : Outcome) → one_sum outcome ≡ reply.Halted → ⊥
-one_sum_goes_on (did a b) e = cc
-one_sum_goes_on (stopped cause) e = cc
+pub flushed_goes_on : (outcome : Outcome) → flushed_reply outcome ≡ reply.Halted → ⊥
+flushed_goes_on (did a b) e = cc
+flushed_goes_on (stopped cause) e = cc
 
-pub two_sums_goes_on : (outcome : Outcome) → two_sums outcome ≡ reply.Halted → ⊥
-two_sums_goes_on (did a b) e = cc
-two_sums_goes_on (stopped cause) e = cc
+pub defragged_goes_on : (outcome : Outcome) → defragged_reply outcome ≡ reply.Halted → ⊥
+defragged_goes_on (did a b) e = cc
+defragged_goes_on (stopped cause) e = cc
+
+pub expired_goes_on : (outcome : Outcome) → expired_reply outcome ≡ reply.Halted → ⊥
+expired_goes_on (did a b) e = cc
+expired_goes_on (stopped cause) e = cc
+
+pub raided_goes_on : (outcome : Outcome) → raided_reply outcome ≡ reply.Halted → ⊥
+raided_goes_on (did a b) e = cc
+raided_goes_on (stopped cause) e = cc
 
 pub one_digest : (a b : Digest) → ◌≡◌ {A = Option Digest} (Some a) (Some b) → a ≡ b
 one_digest a b is = cc

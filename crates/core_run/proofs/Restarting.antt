@@ -129,11 +129,11 @@ module _ {D : Type 0} (view : D → DiskView) (set : Settings) where
       read : ReadEach view (disks_served olds) (disks_served fresh)
       read = starts_read view set 0 (length olds) (disks_served olds) fresh starts
 
-      reply_is : (after : Node) → Each (StandsOn view) fresh after → reply.Done2 counts.records counts.tombstones ≡ reply.Done2 (total put_count after) (total tombstone_count after)
-      reply_is after stands = ap (λ (c : Counts). reply.Done2 c.records c.tombstones) (told after stands)
+      reply_is : (after : Node) → Each (StandsOn view) fresh after → reply.Restarted counts.records counts.tombstones ≡ reply.Restarted (total put_count after) (total tombstone_count after)
+      reply_is after stands = ap (λ (c : Counts). reply.Restarted c.records c.tombstones) (told after stands)
 
       any : (node : Node) → Each (StandsOn view) olds node
-          → ActsFrom (StandsFor view) unknown (Halts view) false (serving olds) node command.Restart now (reply.Done2 counts.records counts.tombstones) (serving fresh)
+          → ActsFrom (StandsFor view) unknown (Halts view) false (serving olds) node command.Restart now (reply.Restarted counts.records counts.tombstones) (serving fresh)
       any node stands =
           let made = again_any (left_between (unknown {T = NodeView D}) (serving olds) (serving fresh)) 0 (length olds) olds fresh node are starts stands in
           record {
@@ -147,7 +147,7 @@ module _ {D : Type 0} (view : D → DiskView) (set : Settings) where
           }
 
       safe : (node : Node) → Each (StandsSafelyOn view) olds node
-          → ActsFrom (StandsSafely view) (views_of view) (HaltsSafely view) true (serving olds) node command.Restart now (reply.Done2 counts.records counts.tombstones) (serving fresh)
+          → ActsFrom (StandsSafely view) (views_of view) (HaltsSafely view) true (serving olds) node command.Restart now (reply.Restarted counts.records counts.tombstones) (serving fresh)
       safe node stands =
           let made = again_safe Left 0 (length olds) olds fresh node are starts stands (λ place image since. let same : place ≡ 0 + place = omega arith in subst (λ (n : ℕ). Left n image) same since) in
           let plain = each_more (StandsSafelyOn view) (StandsOn view) (λ shard slot s. s.stands) fresh made.after made.stands in
@@ -161,7 +161,7 @@ module _ {D : Type 0} (view : D → DiskView) (set : Settings) where
             halt = λ is. absurd (restart_goes_on counts.records counts.tombstones is);
           }
 
-      pub restart_done : Acts view (serving olds) command.Restart now (reply.Done2 counts.records counts.tombstones) (serving fresh)
+      pub restart_done : Acts view (serving olds) command.Restart now (reply.Restarted counts.records counts.tombstones) (serving fresh)
       restart_done = record {
         later = read_later view (disks_served olds) (disks_served fresh) read;
         any = λ node stands. any node (subst (λ (s : List (ShardView D)). Each (StandsOn view) s node) (sym (one_shards olds stands.0 stands.1)) stands.2);

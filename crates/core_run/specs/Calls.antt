@@ -70,7 +70,7 @@ pub record Acts {D : Type 0} (view : D → DiskView) (old : NodeView D) (c : Com
   pub safe : ActsBy (StandsSafely view) (views_of view) (HaltsSafely view) true old c now r new
   pub stored : (shards : List (ShardView D)) → old ≡ serving shards → RepliesStored view shards c now r
   pub again : (shards : List (ShardView D)) → old ≡ serving shards → c ≡ command.Restart → (set : Settings) × Restarted view set shards new
-  pub exact : (olds news : List (ShardView D)) → old ≡ serving olds → new ≡ serving news → c ≡ command.Raid → (removed cleared : ℕ) → r ≡ reply.Done2 removed cleared → (node : Node) → Each (StandsSafelyOn view) olds node
+  pub exact : (olds news : List (ShardView D)) → old ≡ serving olds → new ≡ serving news → c ≡ command.Raid → (removed cleared : ℕ) → r ≡ reply.Raided removed cleared → (node : Node) → Each (StandsSafelyOn view) olds node
       → RaidedExactly view now olds node news removed cleared
   pub stays : (why : ℕ × StartCause) (disks : List D) → old ≡ halted why disks → (r ≡ reply.Halted) × (new ≡ old)
 

@@ -101,9 +101,9 @@ impl<D: Disk> Node<D> {
         match start_all(alloc, &mut self.disks, &mut self.shards, self.set) {
             Ok(()) => {
                 let counts = counts_of(&self.shards);
-                Reply::Done2 {
-                    a: counts.records,
-                    b: counts.tombstones,
+                Reply::Restarted {
+                    records: counts.records,
+                    tombstones: counts.tombstones,
                 }
             }
             Err(why) => {

@@ -3,7 +3,7 @@ ghost use Rattle.std.specs.Prelude.{◌≡◌, Option};
 ghost use Rattle.rec_format.specs.declared.version.Version.{Version};
 ghost use Rattle.device_model.specs.Events.{Cause};
 ghost use Rattle.device_model.specs.Vacating.{Outcome};
-ghost use Rattle.node_model.specs.Commands.{answer_reply, fault_of, meta_reply, one_sum, two_sums};
+ghost use Rattle.node_model.specs.Commands.{answer_reply, defragged_reply, expired_reply, fault_of, flushed_reply, meta_reply, raided_reply};
 ghost use Rattle.shard_core.specs.Vacating.{IsCauseOf};
 ghost use Rattle.shard_core.specs.Calls.{cause_of_write, delete_answer, meta_of, read_answer, write_answer};
 ghost use Rattle.core_run.specs.Turns.{IsDefragged, IsExpired, IsFlushed, IsRaided};
@@ -32,10 +32,7 @@ pub fn write_reply(written: Result<Stamp, WriteRefusal>) -> Reply
     ensures { result ≡ answer_reply (write_answer written) }
 {
     match written {
-        Ok(stamp) => Reply::Done2 {
-            a: u64::from(stamp.gen_),
-            b: stamp.lut,
-        },
+        Ok(stamp) => Reply::Written { stamp },
         Err(refusal) => Reply::Fail(write_fault(refusal)),
     }
 }
@@ -95,43 +92,37 @@ fn defrag_fault(cause: DefragCause) -> LineFault
 }
 
 pub fn defrag_reply(done: Result<(u64, u64), DefragCause>) -> Reply
-    ensures { (outcome : Outcome) → IsDefragged done outcome → result ≡ two_sums outcome }
+    ensures { (outcome : Outcome) → IsDefragged done outcome → result ≡ defragged_reply outcome }
 {
     match done {
-        Ok((moved, vacated)) => Reply::Done2 {
-            a: moved,
-            b: vacated,
-        },
+        Ok((moved, vacated)) => Reply::Defragged { moved, vacated },
         Err(cause) => Reply::Fail(defrag_fault(cause)),
     }
 }
 
 pub fn expire_reply(expired: Result<u64, WriteRefusal>) -> Reply
-    ensures { (outcome : Outcome) → IsExpired expired outcome → result ≡ one_sum outcome }
+    ensures { (outcome : Outcome) → IsExpired expired outcome → result ≡ expired_reply outcome }
 {
     match expired {
-        Ok(n) => Reply::Done1 { n },
+        Ok(removed) => Reply::Expired { removed },
         Err(refusal) => Reply::Fail(write_fault(refusal)),
     }
 }
 
 pub fn raid_reply(raided: Result<(u64, u64), LineFault>) -> Reply
-    ensures { (outcome : Outcome) → IsRaided raided outcome → result ≡ two_sums outcome }
+    ensures { (outcome : Outcome) → IsRaided raided outcome → result ≡ raided_reply outcome }
 {
     match raided {
-        Ok((removed, cleared)) => Reply::Done2 {
-            a: removed,
-            b: cleared,
-        },
+        Ok((removed, cleared)) => Reply::Raided { removed, cleared },
         Err(fault) => Reply::Fail(fault),
     }
 }
 
 pub fn flush_reply(flushed: Result<u64, DiskFault>) -> Reply
-    ensures { (outcome : Outcome) → IsFlushed flushed outcome → result ≡ one_sum outcome }
+    ensures { (outcome : Outcome) → IsFlushed flushed outcome → result ≡ flushed_reply outcome }
 {
     match flushed {
-        Ok(n) => Reply::Done1 { n },
+        Ok(buffers) => Reply::Flushed { buffers },
         Err(_) => Reply::Fail(LineFault::Fault),
     }
 }

@@ -4,7 +4,7 @@ use Rattle.rec_format.specs.Versions.{a_put}
 use Rattle.std.proofs.Common.{⊎_elim}
 use Rattle.rec_format.specs.declared.version.Version.{Version}
 use Rattle.rec_format.specs.Versions.{a_tombstone}
-use Rattle.device_model.specs.Histories.{write, dropped, rid, Keeps, choices, is_flushed}
+use Rattle.device_model.specs.Histories.{write, dropped, rid, cleared, Keeps, choices, is_flushed}
 use Rattle.device_model.proofs.Laws.{durable_kept, Keeps-from_test, Keeps-choices}
 
 abbrev v1 : Version
@@ -12,6 +12,15 @@ v1 = a_put (record { lut = 1000; gen_ = 1 }) 0 false (170 ∷ [])
 
 abbrev t2 : Version
 t2 = a_tombstone (record { lut = 1000; gen_ = 2 })
+
+abbrev t1 : Version
+t1 = a_tombstone (record { lut = 1000; gen_ = 1 })
+
+abbrev expired2 : Version
+expired2 = a_put (record { lut = 1000; gen_ = 2 }) 2 false (187 ∷ [])
+
+abbrev covered2 : Version
+covered2 = a_put (record { lut = 1000; gen_ = 2 }) 0 true (170 ∷ [])
 
 -- a flushed put isn't lost
 not_lost : Keeps [] (write v1 (1 ∷ []) ∷ []) [] → ⊥
@@ -32,6 +41,18 @@ not_waiting = refl
 
 either_begun : choices ((2, true) ∷ []) (write t2 (2 ∷ []) ∷ write v1 (1 ∷ []) ∷ []) ≡ (write t2 (2 ∷ []) ∷ write v1 (1 ∷ []) ∷ []) ∷ (write v1 (1 ∷ []) ∷ []) ∷ []
 either_begun = refl
+
+-- a flushed tombstone is all that is shown
+buried : choices [] (write t2 (2 ∷ []) ∷ write v1 (1 ∷ []) ∷ []) ≡ (write t2 (2 ∷ []) ∷ write v1 (1 ∷ []) ∷ []) ∷ []
+buried = refl
+
+-- so is a flushed put that is expired: the one before it doesn't come back
+expired_shadows : choices [] (write expired2 (2 ∷ []) ∷ write v1 (1 ∷ []) ∷ []) ≡ (write expired2 (2 ∷ []) ∷ write v1 (1 ∷ []) ∷ []) ∷ []
+expired_shadows = refl
+
+-- behind an ordinary delete of a put whose cover was cleared there may be the put, its tombstone or nothing
+after_cleared : choices [] (dropped ∷ cleared ∷ write covered2 [] ∷ write t1 [] ∷ []) ≡ (write covered2 [] ∷ write t1 [] ∷ []) ∷ (write t1 [] ∷ []) ∷ [] ∷ []
+after_cleared = refl
 
 -- a flushed tombstone that a raid removed may be shown as nothing, and what stood before it never is
 after_rid : choices [] (rid ∷ write t2 (2 ∷ []) ∷ write v1 (1 ∷ []) ∷ []) ≡ (write t2 (2 ∷ []) ∷ write v1 (1 ∷ []) ∷ []) ∷ [] ∷ []

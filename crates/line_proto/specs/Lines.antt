@@ -144,8 +144,12 @@ counts_words c =
     decimal c.records ∷ decimal c.tombstones ∷ decimal c.covered ∷ decimal c.free ∷ decimal c.pending ∷ decimal c.queued ∷ decimal c.held ∷ []
 
 abbrev pub reply_words : Reply → List (List ℕ)
-reply_words (reply.Done2 a b) = codes "ok" ∷ decimal a ∷ decimal b ∷ []
-reply_words (reply.Done1 n) = codes "ok" ∷ decimal n ∷ []
+reply_words (reply.Written stamp) = codes "ok" ∷ decimal stamp.gen_ ∷ decimal stamp.lut ∷ []
+reply_words (reply.Flushed buffers) = codes "ok" ∷ decimal buffers ∷ []
+reply_words (reply.Defragged moved vacated) = codes "ok" ∷ decimal moved ∷ decimal vacated ∷ []
+reply_words (reply.Expired removed) = codes "ok" ∷ decimal removed ∷ []
+reply_words (reply.Raided removed cleared) = codes "ok" ∷ decimal removed ∷ decimal cleared ∷ []
+reply_words (reply.Restarted records tombstones) = codes "ok" ∷ decimal records ∷ decimal tombstones ∷ []
 reply_words (reply.Val stamp void payload) =
     codes "val" ∷ decimal stamp.gen_ ∷ decimal stamp.lut ∷ decimal void ∷ data_text payload ∷ []
 reply_words (reply.MetaOf stamp void units) =

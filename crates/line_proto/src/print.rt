@@ -1,5 +1,5 @@
 // A reply to a line.
-ghost use Rattle.std.specs.Prelude.{◌≡◌, ◌≢◌, ◌++◌, ◌∷◌, [], OnOk, OnErr, IfOk};
+ghost use Rattle.std.specs.Prelude.{◌≡◌, ◌≢◌, ◌++◌, ◌∷◌, [], OnOk, OnErr, IfOk, codes, decimal};
 ghost use Rattle.std.specs.String.{string_bytes};
 ghost use Rattle.line_proto.specs.Lines.{reply_text, fault_words, data_text, words_line};
 
@@ -16,6 +16,26 @@ pub fn data_of_bytes(alloc: Global, bytes: &[u8]) -> Result<String, NoMemory>
     } else {
         hex::encode(alloc, bytes)
     }
+}
+
+fn written_text(alloc: Global, stamp: Stamp) -> Result<String, NoMemory>
+    ensures { IfOk result (λ text. string_bytes text ≡ reply_text (Reply.Written stamp)) }
+{
+    let generation = stamp.gen_;
+    let lut = stamp.lut;
+    Ok(format!(in alloc; "ok {generation} {lut}\n")?)
+}
+
+fn number_text(alloc: Global, n: u64) -> Result<String, NoMemory>
+    ensures { IfOk result (λ text. string_bytes text ≡ words_line (codes "ok" ∷ decimal n ∷ []) ++ 10 ∷ []) }
+{
+    Ok(format!(in alloc; "ok {n}\n")?)
+}
+
+fn numbers_text(alloc: Global, first: u64, second: u64) -> Result<String, NoMemory>
+    ensures { IfOk result (λ text. string_bytes text ≡ words_line (codes "ok" ∷ decimal first ∷ decimal second ∷ []) ++ 10 ∷ []) }
+{
+    Ok(format!(in alloc; "ok {first} {second}\n")?)
 }
 
 fn value_text(alloc: Global, stamp: Stamp, void: u64, payload: &Bytes) -> Result<String, NoMemory>
@@ -74,8 +94,15 @@ fn text_of(alloc: Global, reply: &Reply) -> Result<String, NoMemory>
     ensures { IfOk result (λ text. string_bytes text ≡ reply_text reply.now) }
 {
     match reply {
-        Reply::Done2 { a, b } => Ok(format!(in alloc; "ok {a} {b}\n")?),
-        Reply::Done1 { n } => Ok(format!(in alloc; "ok {n}\n")?),
+        Reply::Written { stamp } => written_text(alloc, *stamp),
+        Reply::Flushed { buffers } => number_text(alloc, *buffers),
+        Reply::Defragged { moved, vacated } => numbers_text(alloc, *moved, *vacated),
+        Reply::Expired { removed } => number_text(alloc, *removed),
+        Reply::Raided { removed, cleared } => numbers_text(alloc, *removed, *cleared),
+        Reply::Restarted {
+            records,
+            tombstones,
+        } => numbers_text(alloc, *records, *tombstones),
         Reply::Val {
             stamp,
             void,

@@ -19,7 +19,7 @@ use Rattle.kept_trail.specs.Numbers.{HasNumbers}
 use Rattle.line_proto.specs.declared.command.Command.{Command}
 use Rattle.line_proto.specs.declared.command.Command.TheVariants as command
 use Rattle.line_proto.specs.declared.reply.Reply.{Reply}
-use Rattle.node_model.specs.Commands.{Slot, Node, NodeEvent, at_place, slot_after, node_after, IsLegalOn, on_device, answer_reply, EachDevice, expired_entries, Expires, one_sum, Does}
+use Rattle.node_model.specs.Commands.{Slot, Node, NodeEvent, at_place, slot_after, node_after, IsLegalOn, on_device, answer_reply, EachDevice, expired_entries, Expires, expired_reply, Does}
 use Rattle.node_model.specs.Run.{ImagesLeft, Served, ServesAll, AnswersLine, node_or, node_at_reply, node_after_line, steps_on, WritesFlushed, top_is_flushed, flushed_if_wrote}
 use Rattle.node_model.specs.Headline.{On, is_failed, CommitsAt, CommitsAll}
 use Rattle.node_model.proofs.Flushing.{write_commits}
@@ -230,7 +230,7 @@ expires_commit : (told : Bool) (node : Node) (now : ℕ) (work : List NodeEvent)
     → Waited (is_failed r) node (node_after work node) (steps_on device work) device
 expires_commit told node now work r numbers (outcome, each, reply_is) legal device = of outcome each reply_is (slice_get node device) refl
   where
-    of : (end : Outcome) → EachDevice (Expires now) 0 node 0 0 work end → r ≡ one_sum end → (o : Option Slot) → slice_get node device ≡ o
+    of : (end : Outcome) → EachDevice (Expires now) 0 node 0 0 work end → r ≡ expired_reply end → (o : Option Slot) → slice_get node device ≡ o
         → MatchOption o (Unit {0}) (λ slot. IsTrue slot.setup.commit → is_failed r ≡ false → WritesFlushed (slice_get (node_after work node) device) (steps_on device work))
     of end does is None at = tt
     of (stopped cause) does is (Some slot) at = λ commit none. let failed : true ≡ false = sym (ap is_failed is) ∙ none in absurd cc

@@ -3,8 +3,13 @@ use Rattle.std.proofs.Common.{◌≡◌, refl, replicate}
 use Rattle.std.specs.Prelude.{codes}
 use Rattle.std.specs.Fmt.{digits}
 use Rattle.hex.proofs.OnLiterals.{hex_on_literals}
+use Rattle.recovery.specs.Audit.{all_sound, stray}
 use Rattle.block_format.specs.Refusals.{not_formatted, other_shape, damaged_block}
-use Rattle.node_model.specs.Notes.{short_note, refusal_note, formatted_text, check_text}
+use Rattle.node_model.specs.Notes.{fault_note, short_note, refusal_note, formatted_text, check_text, audit_text}
+
+fault : fault_note 0 ≡ codes "device 0 fault"
+unfolding digits
+fault = refl
 
 zeros : refusal_note 0 (not_formatted (replicate 64 0))
     ≡ codes "device 0 not formatted: 00000000000000000000000000000000000000000000000000000000000000000000000000000000000000000000000000000000000000000000000000000000"
@@ -65,3 +70,13 @@ greatest_checked : check_text 65535 4294967295 18446744073709551615 184467440737
     ≡ codes "device 65535 open 4294967295 copies 18446744073709551615 records 18446744073709551615 tombstones 18446744073709551615"
 unfolding digits
 greatest_checked = refl
+
+sound : audit_text 1 all_sound
+    ≡ codes "device 1 sound"
+unfolding digits
+sound = refl
+
+strayed : audit_text 0 (stray (record { 0 = replicate 20 255 }))
+    ≡ codes "device 0 stray ffffffffffffffffffffffffffffffffffffffff"
+unfolding digits hex_on_literals
+strayed = refl

@@ -21,7 +21,7 @@ use Rattle.line_proto.specs.Lines.{IsCommandLine}
 use Rattle.line_proto.specs.Stream.{ended}
 use Rattle.node_model.specs.declared.run_end.RunEnd.{RunEnd}
 use Rattle.node_model.specs.declared.run_end.RunEnd.TheVariants as end
-use Rattle.node_model.specs.Commands.{Slot, Node, NodeEvent, IsLegalOn, node_after, on_device, found_reply, meta_reply, seen_on, answer_reply, one_sum, two_sums, Does}
+use Rattle.node_model.specs.Commands.{Slot, Node, NodeEvent, IsLegalOn, node_after, on_device, found_reply, meta_reply, seen_on, answer_reply, flushed_reply, defragged_reply, expired_reply, raided_reply, Does}
 use Rattle.device_model.specs.Vacating.{Outcome, did, stopped}
 use Rattle.node_model.specs.Run.{ImagesLeft, Served, AnswersLine, ServesAll, IsRun, ClosesEach, halts, is_halted, node_after_line, last_node}
 use Rattle.node_model.specs.Outside.{Outside, TakesLines, rest_line}
@@ -102,13 +102,21 @@ one_goes told node n event call work r is call_is reply_is goes legal =
     (λ slot follows. goes slot (subst (λ (c : Call). Allowed slot.setup told slot.state event c) call_is follows.allowed))
     (subst (λ (events : List NodeEvent). IsLegalOn told node events) is legal).0
 
-sum_goes : (outcome : Outcome) → halts (one_sum outcome) ≡ false
-sum_goes (did a b) = refl
-sum_goes (stopped cause) = refl
+flushed_goes : (outcome : Outcome) → halts (flushed_reply outcome) ≡ false
+flushed_goes (did a b) = refl
+flushed_goes (stopped cause) = refl
 
-sums_go : (outcome : Outcome) → halts (two_sums outcome) ≡ false
-sums_go (did a b) = refl
-sums_go (stopped cause) = refl
+defragged_goes : (outcome : Outcome) → halts (defragged_reply outcome) ≡ false
+defragged_goes (did a b) = refl
+defragged_goes (stopped cause) = refl
+
+expired_goes : (outcome : Outcome) → halts (expired_reply outcome) ≡ false
+expired_goes (did a b) = refl
+expired_goes (stopped cause) = refl
+
+raided_goes : (outcome : Outcome) → halts (raided_reply outcome) ≡ false
+raided_goes (did a b) = refl
+raided_goes (stopped cause) = refl
 
 does_goes : (told : Bool) (node : Node) (c : Command) (now : ℕ) (work : List NodeEvent) (r : Reply) → Does node c now work r → IsLegalOn told node work → halts r ≡ false
 does_goes told node (command.Put digest ttl expect payload) now work r does legal =
@@ -116,7 +124,7 @@ does_goes told node (command.Put digest ttl expect payload) now work r does lega
     (λ slot allowed. put_goes slot.setup told slot.state does.0 digest ttl expect payload now allowed) legal
 does_goes told node (command.Get digest) now work r does legal =
     one_goes told node _ does.0 (get_call digest now) work r does.1 does.2 does.3 (λ slot allowed. get_goes slot.setup told slot.state does.0 digest now allowed) legal
-does_goes told node command.Flush now work r does legal = ap halts does.2 ∙ sum_goes does.0
+does_goes told node command.Flush now work r does legal = ap halts does.2 ∙ flushed_goes does.0
 does_goes told node command.Quit now work r does legal = ap halts does.1
 does_goes told node (command.Meta digest) now work r does legal = ap halts does.1 ∙ meta_goes (seen_on (slice_get node (device_number (length node) digest)) now digest)
 does_goes told node (command.Del digest) now work r does legal =
@@ -124,9 +132,9 @@ does_goes told node (command.Del digest) now work r does legal =
 does_goes told node (command.Bury digest) now work r does legal =
     one_goes told node _ does.0 (bury_call digest now) work r does.1 does.2 does.3
     (λ slot allowed. entombs_goes slot.setup slot.state does.0 digest now stamp_given (λ stamp. refl) allowed) legal
-does_goes told node command.Defrag now work r does legal = ap halts does.2 ∙ sums_go does.0
-does_goes told node command.Expire now work r does legal = ap halts does.2 ∙ sum_goes does.0
-does_goes told node command.Raid now work r does legal = ap halts does.2 ∙ sums_go does.0
+does_goes told node command.Defrag now work r does legal = ap halts does.2 ∙ defragged_goes does.0
+does_goes told node command.Expire now work r does legal = ap halts does.2 ∙ expired_goes does.0
+does_goes told node command.Raid now work r does legal = ap halts does.2 ∙ raided_goes does.0
 does_goes told node command.Stat now work r does legal = ap halts does.1
 does_goes told node command.Restart now work r does legal = absurd does
 

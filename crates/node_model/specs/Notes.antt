@@ -1,9 +1,9 @@
 -- Crate node_model. The texts of a command besides replies: the note on how it ended, and what is written of each device.
 -- What is written stands as a line, with an LF behind it; a note has none.
-use Rattle.std.specs.Prelude.{ℕ, List, [], ◌∷◌, ◌++◌, codes, decimal, ◌≡◌}
+use Rattle.std.specs.Prelude.{ℕ, List, [], ◌∷◌, ◌++◌, codes, decimal}
 use Rattle.hex.specs.Hex.{encode_lower}
 use Rattle.recovery.specs.Audit.{Verdict, all_sound, stray, twins, bare}
-use Rattle.block_format.specs.Refusals.{Refusal, not_formatted, other_shape, damaged_block, IsRefusedFor}
+use Rattle.block_format.specs.Refusals.{Refusal, not_formatted, other_shape, damaged_block}
 use Rattle.line_proto.specs.Lines.{words_line}
 
 -- ---- notes
@@ -22,12 +22,6 @@ refusal_note device (other_shape kept asked asked_devices size) =
     ∷ codes "asked" ∷ decimal asked ∷ codes "of" ∷ (decimal asked_devices ++ codes ",") ∷ codes "length" ∷ decimal size ∷ [])
 refusal_note device (damaged_block block place) =
     words_line (codes "device" ∷ decimal device ∷ codes "block" ∷ decimal block ∷ codes "damaged" ∷ codes "at" ∷ decimal place ∷ [])
-
--- The device was refused for what its disk reads, and the note says why.
-pub record IsRefusalNote (device devices : ℕ) (reads note : List ℕ) : Type 0 where
-  pub why : Refusal
-  pub is_refused : IsRefusedFor device devices reads why
-  pub text : note ≡ refusal_note device why
 
 -- ---- what is written of devices
 

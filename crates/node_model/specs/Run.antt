@@ -82,7 +82,7 @@ SameStates (slot ∷ slots) (after ∷ new) =
 abbrev pub RestartEnds : ImagesLeft → (told : Bool) → Node → List NodeEvent → Option Node → Reply → Type 0
 RestartEnds left told node work restarted r =
     (work ≡ []) × (new : Node) × (restarted ≡ Some new)
-    × ((RestartsEach left told 0 node new × (r ≡ reply.Done2 (total put_count new) (total tombstone_count new)))
+    × ((RestartsEach left told 0 node new × (r ≡ reply.Restarted (total put_count new) (total tombstone_count new)))
     ⊎ (SameStates node new × (r ≡ reply.Halted)))
 
 -- a command that is carried out at this time: by its events, or by a restart

@@ -59,8 +59,12 @@ text_of (served ∷ lines) = ap (λ (l : List ℕ). reply_text served.reply ++ l
 -- ---- where the run went on, and where it ended with the last
 
 go_not_halts : (r : Reply) → goes_on r ≡ true → halts r ≡ false
-go_not_halts (reply.Done2 a b) goes = refl
-go_not_halts (reply.Done1 n) goes = refl
+go_not_halts (reply.Written stamp) goes = refl
+go_not_halts (reply.Flushed buffers) goes = refl
+go_not_halts (reply.Defragged moved vacated) goes = refl
+go_not_halts (reply.Expired removed) goes = refl
+go_not_halts (reply.Raided removed cleared) goes = refl
+go_not_halts (reply.Restarted records tombstones) goes = refl
 go_not_halts (reply.Val stamp void payload) goes = refl
 go_not_halts (reply.MetaOf stamp void units) goes = refl
 go_not_halts reply.Nothing goes = refl
@@ -71,8 +75,12 @@ go_not_halts (reply.Fail cause) goes = refl
 go_not_halts reply.Halted goes = cc
 
 go_not_bye : (r : Reply) → goes_on r ≡ true → is_bye r ≡ false
-go_not_bye (reply.Done2 a b) goes = refl
-go_not_bye (reply.Done1 n) goes = refl
+go_not_bye (reply.Written stamp) goes = refl
+go_not_bye (reply.Flushed buffers) goes = refl
+go_not_bye (reply.Defragged moved vacated) goes = refl
+go_not_bye (reply.Expired removed) goes = refl
+go_not_bye (reply.Raided removed cleared) goes = refl
+go_not_bye (reply.Restarted records tombstones) goes = refl
 go_not_bye (reply.Val stamp void payload) goes = refl
 go_not_bye (reply.MetaOf stamp void units) goes = refl
 go_not_bye reply.Nothing goes = refl
@@ -115,8 +123,12 @@ last_bye [] r go = or_false (is_bye r)
 last_bye (s ∷ rs) r go = rw (go_not_bye s go.0) (last_bye rs r go.1)
 
 pub halts_not : (r : Reply) → (r ≡ reply.Halted → ⊥) → halts r ≡ false
-halts_not (reply.Done2 a b) not_halted = refl
-halts_not (reply.Done1 n) not_halted = refl
+halts_not (reply.Written stamp) not_halted = refl
+halts_not (reply.Flushed buffers) not_halted = refl
+halts_not (reply.Defragged moved vacated) not_halted = refl
+halts_not (reply.Expired removed) not_halted = refl
+halts_not (reply.Raided removed cleared) not_halted = refl
+halts_not (reply.Restarted records tombstones) not_halted = refl
 halts_not (reply.Val stamp void payload) not_halted = refl
 halts_not (reply.MetaOf stamp void units) not_halted = refl
 halts_not reply.Nothing not_halted = refl

@@ -16,7 +16,7 @@ use Rattle.line_proto.specs.declared.command.Command.TheVariants as command
 use Rattle.line_proto.specs.declared.reply.Reply.{Reply}
 use Rattle.line_proto.specs.declared.reply.Reply.TheVariants as reply
 use Rattle.line_proto.specs.declared.reply.LineFault.TheVariants as why
-use Rattle.node_model.specs.Commands.{Node, NodeEvent, node_after, Does, IsLegalOn, TendsEach, answer_reply, found_reply, meta_reply, one_sum, two_sums}
+use Rattle.node_model.specs.Commands.{Node, NodeEvent, node_after, Does, IsLegalOn, TendsEach, answer_reply, found_reply, meta_reply, flushed_reply, defragged_reply, expired_reply, raided_reply}
 use Rattle.device_model.specs.Vacating.{Outcome, did, stopped}
 use Rattle.node_session.specs.Turns.{Times, WholeTurn, Turns, Answers, Quits, IsCommand, NamesNoCommand}
 use Rattle.node_model.specs.Run.{ImagesLeft, Served, Serves, ServesAll, AnswersLine, Carries, goes_on, halts, is_halted, node_or, node_at_reply, node_after_line, node_after_lines, states_while, states_of_lines, times_of, replies_of}
@@ -32,8 +32,12 @@ use Rattle.node_run.proofs.Lines.{no_command_of, command_of}
 -- ---- `bye` is the reply to `quit` alone
 
 goes_of : (r : Reply) → r ≢ reply.Halted → r ≢ reply.Bye → goes_on r ≡ true
-goes_of (reply.Done2 a b) not_halted not_bye = refl
-goes_of (reply.Done1 n) not_halted not_bye = refl
+goes_of (reply.Written stamp) not_halted not_bye = refl
+goes_of (reply.Flushed buffers) not_halted not_bye = refl
+goes_of (reply.Defragged moved vacated) not_halted not_bye = refl
+goes_of (reply.Expired removed) not_halted not_bye = refl
+goes_of (reply.Raided removed cleared) not_halted not_bye = refl
+goes_of (reply.Restarted records tombstones) not_halted not_bye = refl
 goes_of (reply.Val stamp void payload) not_halted not_bye = refl
 goes_of (reply.MetaOf stamp void units) not_halted not_bye = refl
 goes_of reply.Nothing not_halted not_bye = refl
@@ -66,13 +70,21 @@ answer_is_no_bye (marks_undone n) is = cc
 answer_is_no_bye (part_ended r c) is = cc
 answer_is_no_bye raid_over is = cc
 
-one_is_no_bye : (outcome : Outcome) → one_sum outcome ≢ reply.Bye
-one_is_no_bye (did a b) is = cc
-one_is_no_bye (stopped cause) is = cc
+flushed_is_no_bye : (outcome : Outcome) → flushed_reply outcome ≢ reply.Bye
+flushed_is_no_bye (did a b) is = cc
+flushed_is_no_bye (stopped cause) is = cc
 
-two_is_no_bye : (outcome : Outcome) → two_sums outcome ≢ reply.Bye
-two_is_no_bye (did a b) is = cc
-two_is_no_bye (stopped cause) is = cc
+defragged_is_no_bye : (outcome : Outcome) → defragged_reply outcome ≢ reply.Bye
+defragged_is_no_bye (did a b) is = cc
+defragged_is_no_bye (stopped cause) is = cc
+
+expired_is_no_bye : (outcome : Outcome) → expired_reply outcome ≢ reply.Bye
+expired_is_no_bye (did a b) is = cc
+expired_is_no_bye (stopped cause) is = cc
+
+raided_is_no_bye : (outcome : Outcome) → raided_reply outcome ≢ reply.Bye
+raided_is_no_bye (did a b) is = cc
+raided_is_no_bye (stopped cause) is = cc
 
 does_no_bye : (node : Node) (c : Command) (now : ℕ) (work : List NodeEvent) (r : Reply) → c ≢ command.Quit → Does node c now work r → r ≢ reply.Bye
 does_no_bye node (command.Put digest ttl expect payload) now work r other does is = answer_is_no_bye does.0.answer (sym does.3 ∙ is)
@@ -80,10 +92,10 @@ does_no_bye node (command.Get digest) now work r other does is = answer_is_no_by
 does_no_bye node (command.Meta digest) now work r other does is = meta_is_no_bye _ (sym does.1 ∙ is)
 does_no_bye node (command.Del digest) now work r other does is = answer_is_no_bye does.0.answer (sym does.3 ∙ is)
 does_no_bye node (command.Bury digest) now work r other does is = answer_is_no_bye does.0.answer (sym does.3 ∙ is)
-does_no_bye node command.Flush now work r other does is = one_is_no_bye does.0 (sym does.2 ∙ is)
-does_no_bye node command.Defrag now work r other does is = two_is_no_bye does.0 (sym does.2 ∙ is)
-does_no_bye node command.Expire now work r other does is = one_is_no_bye does.0 (sym does.2 ∙ is)
-does_no_bye node command.Raid now work r other does is = two_is_no_bye does.0 (sym does.2 ∙ is)
+does_no_bye node command.Flush now work r other does is = flushed_is_no_bye does.0 (sym does.2 ∙ is)
+does_no_bye node command.Defrag now work r other does is = defragged_is_no_bye does.0 (sym does.2 ∙ is)
+does_no_bye node command.Expire now work r other does is = expired_is_no_bye does.0 (sym does.2 ∙ is)
+does_no_bye node command.Raid now work r other does is = raided_is_no_bye does.0 (sym does.2 ∙ is)
 does_no_bye node command.Stat now work r other does is = let e : r ≡ reply.StatOf _ = does.1 in cc
 does_no_bye node command.Restart now work r other does is = absurd does
 does_no_bye node command.Quit now work r other does is = absurd (other refl)
@@ -92,7 +104,7 @@ carried_no_bye : (left : ImagesLeft) (told : Bool) (node : Node) (c : Command) (
     → Carries left told node c now work restarted r ⊎ WantsMemory work restarted r → r ≢ reply.Bye
 carried_no_bye left told node c now work restarted r other (inl (inl made)) is = does_no_bye node c now work r other made.1 is
 carried_no_bye left told node c now work restarted r other (inl (inr ends)) is = elim ends.1.3 [
-  | inl again ↦ two_is_no_bye (did _ _) (sym again.1 ∙ is)
+  | inl again ↦ let e : r ≡ reply.Restarted _ _ = again.1 in cc
   | inr halted ↦ let e : r ≡ reply.Halted = halted.1 in cc
 ]
 carried_no_bye left told node c now work restarted r other (inr lacks) is = let e : r ≡ reply.Fail why.Memory = lacks.2 in cc

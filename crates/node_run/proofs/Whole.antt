@@ -37,8 +37,12 @@ true_of false P Q is h = let e : false ≡ true = is in cc
 -- ---- causes
 
 pub halt_of : (r : Reply) → halts r ≡ true → r ≡ reply.Halted
-halt_of (reply.Done2 a b) is = cc
-halt_of (reply.Done1 n) is = cc
+halt_of (reply.Written stamp) is = cc
+halt_of (reply.Flushed buffers) is = cc
+halt_of (reply.Defragged moved vacated) is = cc
+halt_of (reply.Expired removed) is = cc
+halt_of (reply.Raided removed cleared) is = cc
+halt_of (reply.Restarted records tombstones) is = cc
 halt_of (reply.Val stamp void payload) is = cc
 halt_of (reply.MetaOf stamp void units) is = cc
 halt_of reply.Nothing is = cc
@@ -58,8 +62,12 @@ or_goes false b none is = is
 
 -- a line with others behind it went on
 pub goes_more : (r : Reply) (P : Type 0) (lines : List Served) (next : Served) (rest : List Served) → MatchBool (goes_on r) P (lines ≡ []) → lines ≡ next ∷ rest → P × (halts r ≡ false)
-goes_more (reply.Done2 a b) P lines next rest h is = (h, refl)
-goes_more (reply.Done1 n) P lines next rest h is = (h, refl)
+goes_more (reply.Written stamp) P lines next rest h is = (h, refl)
+goes_more (reply.Flushed buffers) P lines next rest h is = (h, refl)
+goes_more (reply.Defragged moved vacated) P lines next rest h is = (h, refl)
+goes_more (reply.Expired removed) P lines next rest h is = (h, refl)
+goes_more (reply.Raided removed cleared) P lines next rest h is = (h, refl)
+goes_more (reply.Restarted records tombstones) P lines next rest h is = (h, refl)
 goes_more (reply.Val stamp void payload) P lines next rest h is = (h, refl)
 goes_more (reply.MetaOf stamp void units) P lines next rest h is = (h, refl)
 goes_more reply.Nothing P lines next rest h is = (h, refl)
