@@ -32,7 +32,10 @@ use rec_format::{Digest, Stamp, Version};
 use std::alloc::Global;
 
 impl<D: Disk> Shard<D> {
-    /// Writes a version of a record: `put_step` over the digest's sprig.
+    /// At `Ok` this version is the record's, and its stamp is answered; a crash may lose it until its write buffer is flushed, and from
+    /// then on, until the record is removed, each crash leaves it or a later one. With commit on it is flushed at `Ok`. `ttl` is in
+    /// seconds from `now`, 0 for never; `now` is in milliseconds; `expect` is the generation that has to be seen, 0 for no record. After
+    /// a `Fault` with commit on the version may stand, pending; any other refusal writes nothing. `put_step` over the digest's sprig.
     pub fn put(
         &mut self,
         alloc: Global,
@@ -75,7 +78,9 @@ impl<D: Disk> Shard<D> {
         answer
     }
 
-    /// The record that is seen of a digest: `get_step` over the digest's sprig.
+    /// At `Ok` the version that is seen of the digest, none where there is no put or it is expired at `now`, in milliseconds; nothing is
+    /// written, and a crash leaves what it left before. A version is answered as it was put, on a sound device; where its block has a
+    /// write buffer, or its flushed buffer is kept, on any. `Damaged` never comes on a sound device. `get_step` over the digest's sprig.
     pub fn get(
         &mut self,
         alloc: Global,
@@ -109,7 +114,8 @@ impl<D: Disk> Shard<D> {
         )
     }
 
-    /// What is known of the record that is seen of a digest: `meta_step` over the digest's sprig.
+    /// The stamp, the void time and the units of the record that is seen at `now`, in milliseconds, by the index alone; none where none
+    /// is seen. No disk is called. `meta_step` over the digest's sprig.
     pub fn meta(&self, digest: &Digest, now: u64) -> Option<Meta>
         requires named { device_number self.now.shelf.geometry.devices digest.now ≡ self.now.shelf.geometry.device }
         ensures { (s : State) → Agrees self.now s → result ≡ meta_of (seen_version s now digest.now) }
@@ -117,7 +123,10 @@ impl<D: Disk> Shard<D> {
         meta_step(&self.sprigs[self.part_of(digest)], digest, now)
     }
 
-    /// Deletes a record: `delete_step` over the digest's sprig.
+    /// At `Ok(true)` the record that was seen at `now` is gone, at `Ok(false)` there was none. An uncovered one is removed from the index
+    /// alone, without a refusal, and a crash may bring it or an older version back. For a covered one a tombstone is written, with the
+    /// refusals of `bury`: once that is flushed, which with commit on it is at `Ok`, no crash brings back what was there before it. `now`
+    /// is in milliseconds. `delete_step` over the digest's sprig.
     pub fn delete(&mut self, alloc: Global, digest: &Digest, now: u64) -> Result<bool, WriteRefusal>
         requires named { device_number self.old.shelf.geometry.devices digest.now ≡ self.old.shelf.geometry.device }
         requires now { now ≤ 2 ^ 61 }
@@ -144,7 +153,10 @@ impl<D: Disk> Shard<D> {
         answer
     }
 
-    /// Deletes a digest durably: `bury_step` over its sprig.
+    /// At `Ok` a tombstone stands for the digest, also where there was no record, and its stamp is answered; a crash may lose it until
+    /// its write buffer is flushed, and from then on no crash brings back what was there before it. With commit on it is flushed at `Ok`.
+    /// `now` is in milliseconds. The refusals are those of `put`, but for size and generation. Aerospike's durable delete; `bury_step`
+    /// over the digest's sprig.
     pub fn bury(&mut self, alloc: Global, digest: &Digest, now: u64) -> Result<Stamp, WriteRefusal>
         requires named { device_number self.old.shelf.geometry.devices digest.now ≡ self.old.shelf.geometry.device }
         requires now { now ≤ 2 ^ 61 }

@@ -26,7 +26,8 @@ use rec_format::{Digest, Stamp, Version};
 use sprig_tree::Sprig;
 use std::alloc::Global;
 
-/// What is known of a record without reading it: its stamp, the second from which it is expired, 0 for never, and its units of 16 bytes.
+/// What is known of a record without reading it: its stamp (last update time and generation), its void time, the second from which it is
+/// expired, 0 for never, and its units of 16 bytes.
 #[derive(Clone, Copy, PartialEq, Eq)]
 pub struct Meta {
     pub stamp: Stamp,
@@ -34,10 +35,10 @@ pub struct Meta {
     pub units: u32,
 }
 
-/// The record that is seen of a digest, over the digest's sprig and the shelf: its version, if it is a put that isn't expired. It is read
-/// from its write buffer, or from its flushed buffer while that is kept, without a call of the disk, or else from its block with one; it is
-/// damaged where the head of the entry's record
-/// doesn't stand there.
+/// At `Ok` the version that is seen of the digest, none where there is no put or it is expired at `now`, in milliseconds; nothing is
+/// written, and a crash leaves what it left before. It is read from its write buffer, or from its flushed buffer while the post-write
+/// queue keeps that, without a call of the disk, or else from its block with one. On a disk that tells its bytes it is `Damaged` exactly
+/// where the head of the entry's record doesn't stand there, and on a sound device never.
 pub fn get_step<D: Disk>(
     alloc: Global,
     sprig: &mut Sprig,
@@ -79,7 +80,8 @@ pub fn get_step<D: Disk>(
     }
 }
 
-/// What is known of the record that is seen of a digest, by its sprig alone. It takes no memory, and isn't refused.
+/// The stamp, the void time and the units of the record that is seen at `now`, in milliseconds, by its sprig alone; none where none is
+/// seen. It takes no memory, calls no disk, and isn't refused.
 pub fn meta_step(sprig: &Sprig, digest: &Digest, now: u64) -> Option<Meta>
     ensures { (setup : Setup) (s : State) → SprigStands setup (part_of setup digest.now) sprig.now s → result ≡ meta_of (seen_version s now digest.now) }
 {

@@ -34,8 +34,9 @@ pub enum RaidDid {
 }
 
 impl<D: Disk> Shard<D> {
-    /// Begins a raid, also over a running one, whose marks are void then. Its number is one more than the last; where that was 2^62 none
-    /// begins, and nothing changes. It takes no memory.
+    /// At `Some` a raid has begun, also over a running one, whose marks are void then; it stands in memory alone, and a start finds none.
+    /// Its number is one more than the last; where that was 2^62 none begins, and nothing changes. It calls no disk, and takes no memory.
+    /// Aerospike's tomb raider.
     pub fn raid_begin(&mut self) -> Option<Raid>
         ensures makes { (s : State) → Agrees self.old s → Makes D.view begin_call (raid_numbered (number_of result)) self.old s self.new }
         ensures raid { result ≡ (if self.old.shelf.raid.number == top_number then None else Some (begun_raid (self.old.shelf.raid.number + 1))) }
@@ -45,9 +46,11 @@ impl<D: Disk> Shard<D> {
         raid_begin(&mut self.shelf)
     }
 
-    /// Takes the next turn of a raid, and answers by its kind; `Done` where none is left. It is refused as stale exactly where another raid has
-    /// begun since, or it was given up, or somebody else took its turn: then nothing changes. After any other refusal the raid is given up, and
-    /// none of its marks counts. Only the scan of a block takes memory or calls the disk.
+    /// At `Ok` the next turn of the raid was taken, and it answers by its kind, `Done` where none is left; nothing is written but where a
+    /// gate is unsure, and what a turn removes or clears it does in memory alone. On a sound device without an unsure gate a scan finds
+    /// each copy that a crash may bring back and that is older than a marked entry, so that the mark goes. It is `Stale` exactly where it
+    /// isn't the next turn of the raid that runs: then nothing changes. After any other refusal the raid is given up, and none of its
+    /// marks counts. `now` is in milliseconds. Only the scan of a block takes memory or calls the disk.
     pub fn raid_step(
         &mut self,
         alloc: Global,
