@@ -77,7 +77,7 @@ fn begun<D: Disk>(
 
 impl<D: Disk> Shard<D> {
     /// At `Ok` the device is served from what its disk holds, of each digest of the device the latest copy; nothing was written, and a
-    /// crash leaves just what was read, on a disk that tells its bytes. From a sound image of an honest disk the device is sound. It
+    /// crash leaves just what a read gives, on a disk that tells its bytes. From a sound image of an honest disk the device is sound. It
     /// syncs, and reads the header, then each gate, then the bodies behind the open ones. A refusal tells why, and hands the disk back.
     pub fn start(
         alloc: Global,
