@@ -13,6 +13,7 @@ use crate::tally::Tally;
 use crate::{Disk, DiskCall, DiskFault, NoMemory};
 use std::alloc::{AllocError, Global};
 
+/// A disk in memory, which keeps a record of its moments, and fails where it is asked to. It is honest until a read is asked to lie.
 #[derive(Drop)]
 pub struct MemDisk {
     alloc: Global,
