@@ -23,7 +23,7 @@ impl Model for ListClock {
 }
 
 impl ListClock {
-    /// A clock that gives these times, of which there must be one.
+    /// A clock that gives these times, of which there must be at least one.
     pub fn new(times: Vec<u64>) -> Self
         requires { 0 < length times.items }
         ensures { result ≡ times.items }

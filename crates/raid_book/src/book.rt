@@ -112,9 +112,9 @@ impl RaidBook {
     }
 
     /// At `Ok` what was read in a block is in the book, each record with the part of its digest, and
-    /// the next turn is that of the first part that has some of it. An `Err` is want of memory, and
-    /// leaves everything as it was. A time of `n * log(n)` for `n` records, whatever the number of
-    /// parts.
+    /// the next turn is that of the first part that has some of it, or else the one behind the scan.
+    /// An `Err` is want of memory, and leaves everything as it was. A time of `n * log(n)` for `n`
+    /// records, whatever the number of parts.
     pub fn scanned(
         &mut self,
         alloc: Global,

@@ -35,7 +35,8 @@ impl<D: Disk> Shard<D> {
     /// At `Ok` this version is the record's, and its stamp is answered; a crash may lose it until its write buffer is flushed, and from
     /// then on, until the record is removed, each crash leaves it or a later one. With commit on it is flushed at `Ok`. `ttl` is in
     /// seconds from `now`, 0 for never; `now` is in milliseconds; `expect` is the generation that has to be seen, 0 for no record. After
-    /// a `Fault` with commit on the version may stand, pending; any other refusal writes nothing. `put_step` over the digest's sprig.
+    /// a `Fault` with commit on the version may stand, pending; any other refusal leaves the record as it was. `put_step` over the
+    /// digest's sprig.
     pub fn put(
         &mut self,
         alloc: Global,
@@ -79,8 +80,9 @@ impl<D: Disk> Shard<D> {
     }
 
     /// At `Ok` the version that is seen of the digest, none where there is no put or it is expired at `now`, in milliseconds; nothing is
-    /// written, and a crash leaves what it left before. A version is answered as it was put, on a sound device; where its block has a
-    /// write buffer, or its flushed buffer is kept, on any. `Damaged` never comes on a sound device. `get_step` over the digest's sprig.
+    /// written, and a crash leaves what it left before. On a sound device it is as it was put, and never `Damaged`; so it is on any
+    /// device where the block has a write buffer of the clients' stream, or such a flushed buffer is kept. `get_step` over the digest's
+    /// sprig.
     pub fn get(
         &mut self,
         alloc: Global,
@@ -95,7 +97,7 @@ impl<D: Disk> Shard<D> {
         ensures in_memory { (e : Entry) (b : BufferState) → held (setup_of self.old) digest.now self.old.sprigs ≡ Some e → Contains (in_memory self.old.shelf) b → b.block ≡ e.block
             → (self.new ≡ self.old) × IfErr result (λ refusal. refusal ≡ ReadRefusal.Memory) }
 
-        // It is what was put there; another is what stands at its place, on a disk that tells its bytes.
+        // From a buffer of the clients' stream it is what was put; from no buffer it is what stands at its place, on a disk that tells its bytes.
         ensures stored { GetsStored D.view self.old digest.now now result }
 
         // Over an honest disk nothing is damaged.

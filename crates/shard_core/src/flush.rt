@@ -88,8 +88,8 @@ impl<D: Disk> Shard<D> {
 
     /// Makes room, and answers nothing; of what was flushed no crash loses anything by it. It seals what is due where at most 6 blocks
     /// are free, flushes what is sealed, as far as the disk goes, and vacates the block that has waited longest, if one waits and that
-    /// can gain room. With a low-water mark of at most 50, a tending in which nothing is refused leaves less to vacate than there was, or
-    /// the device at rest: then a tending does nothing.
+    /// can gain room. Where a block is free, no move is refused for want of space. With a low-water mark of at most 50, a tending in
+    /// which nothing is refused leaves less to vacate than there was, or the device at rest: then a tending does nothing.
     pub fn tend(&mut self, alloc: Global)
         ensures makes { (s : State) → Agrees self.old s → MakesEvents D.view (TendsWell (setup_of self.old) s) self.old s self.new }
         ensures later { IsLater (D.view self.old.shelf.disk) (D.view self.new.shelf.disk) }

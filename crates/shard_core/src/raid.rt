@@ -47,10 +47,10 @@ impl<D: Disk> Shard<D> {
     }
 
     /// At `Ok` the next turn of the raid was taken, and it answers by its kind, `Done` where none is left. On a sound device without an
-    /// unsure gate a scan finds each copy that a crash may bring back and that is older than a marked entry, and no other copy: those
-    /// marks go in the turns after it. It is refused as stale exactly where another raid has begun since, or it was given up, or somebody
-    /// else took its turn: then nothing changes. After any other refusal the raid is given up, and none of its marks counts. `now` is in
-    /// milliseconds. Only the scan of a block takes memory or calls the disk.
+    /// unsure gate the scan of a block finds each copy in it that a start may find and that is older than a marked entry, and only copies
+    /// that a start may find: the marks of such entries go in the turns after it. It is refused as stale exactly where another raid has
+    /// begun since, or it was given up, or somebody else took its turn: then nothing changes. After any other refusal the raid is given
+    /// up, and none of its marks counts. `now` is in milliseconds. Only the scan of a block takes memory or calls the disk.
     pub fn raid_step(
         &mut self,
         alloc: Global,
