@@ -45,9 +45,9 @@ pub fn open_device<R: Files<File = File>>(rt: &R, name: &str) -> Result<FileDisk
     Ok(FileDisk::new(found.file, found.len))
 }
 
-/// At `Ok` a locked file of `len` bytes, where nothing has had this name: each byte was written once, and they and its folder were
-/// synced. Where that fails the file is removed again. What is there already is opened as by `open_device`: of a block device it is the
-/// first `len` bytes, a longer file is refused, and what is shorter is handed on as it is.
+/// At `Ok` a locked file of `len` bytes, where nothing had this name: each byte was written once, and they and its folder were synced.
+/// Where that fails the file is removed again. What is there already is opened as by `open_device`: of a block device it is the first
+/// `len` bytes, a longer file is refused, and what is shorter is handed on as it is.
 pub fn make_device<R: Files<File = File>, W: Watch>(
     rt: &R,
     alloc: Global,

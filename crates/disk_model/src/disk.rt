@@ -25,8 +25,8 @@ pub trait Disk: Drop {
         ensures images { Within (view self.old).may_leave (meanwhile (view self.old) (view self.new)) }
         ensures call { IsCall (view self.old) (view self.new) result };
 
-    /// At `Ok` a read gives these bytes at the place, and all others as before; until a sync has gone well a crash may leave anything
-    /// there, even where this call failed, and elsewhere what it left before.
+    /// At `Ok` a read gives these bytes at the place, and all others as before, on a disk that tells its bytes; until a sync has gone
+    /// well a crash may leave anything there, even where this call failed, and elsewhere what it left before.
     fn write_at(&mut self, place: u64, bytes: &[u8]) -> Result<(), DiskFault>
         requires { place + length bytes.now ≤ (view self.old).extent }
         ensures written { (view self.old).tells → OnOk result (Written place bytes.now (view self.old).seen (view self.new).seen) }

@@ -14,8 +14,8 @@ use line_proto::{Lines, Store};
 use std::alloc::Global;
 
 /// At `Ok(None)` each line that was ready has had its turn, in order, and no reply waits; at `Ok(Some)` the session stops at
-/// the last that had one, which is answered, and it tells why. An `Err` is a fault of the sink: a front of the replies may be
-/// written. The replies are handed on together.
+/// the last that had one, and it tells why. An `Err` is a fault of the sink: a front of the replies may be written. The
+/// replies are handed on together.
 pub fn serve_ready<T: Store, L: Sink, C: Clock>(
     alloc: Global,
     store: &mut T,
