@@ -8,8 +8,9 @@ use crate::place::write_part;
 use block_format::{Geometry, SECTOR_BYTES};
 use disk_model::{Disk, DiskFault};
 
-/// Writes the body of a block whose gate is closed in every image, and syncs. After `Ok` each image has this body. At no moment
-/// does an image have the gate open, or any other byte changed. After a fault some of the body may be there.
+/// At `Ok` the block has this body, and from then on each crash leaves it, until the next write there. The gate of the block must be
+/// closed in every image, and at no moment does a crash leave it open, or any byte outside the block changed. After a fault some of the
+/// body may be there. One write and one sync.
 pub fn write_body<D: Disk>(
     disk: &mut D,
     geometry: &Geometry,

@@ -8,8 +8,9 @@ use crate::place::{start_of_block, write_part};
 use block_format::{Geometry, SECTOR_BYTES, write_closed, write_open};
 use disk_model::{Disk, DiskFault};
 
-/// Closes the gate of a block, and syncs. The block has one body in every image, in the body grammar, and keeps it at each
-/// moment. After `Ok` the gate is closed in every image; after a fault it may be open in some, and closed in others.
+/// At `Ok` the gate of the block is closed, and from then on each crash leaves it closed, until it is opened. The block must have one
+/// body in every image, in the body grammar, and keeps it at each moment. After a fault the gate may be open in some images, and closed
+/// in others. One write and one sync.
 pub fn close_gate<D: Disk>(disk: &mut D, geometry: &Geometry, block: u32) -> Result<(), DiskFault>
     requires geometry { IsGeometry geometry.now }
     requires block { block < geometry.now.blocks }
@@ -32,8 +33,9 @@ pub fn close_gate<D: Disk>(disk: &mut D, geometry: &Geometry, block: u32) -> Res
     write_part(disk, geometry, block, 0, &closed)
 }
 
-/// Opens the gate of a block that has one body in every image, and syncs. The body stays that at each moment. After `Ok` the
-/// gate is open in every image; after a fault it may be open in some, and closed in others.
+/// At `Ok` the gate of the block is open, and from then on each crash leaves it open, with the block's body behind it, until it is
+/// closed. The block must have one body in every image, and keeps it at each moment. After a fault the gate may be open in some images,
+/// and closed in others. One write and one sync.
 pub fn open_gate<D: Disk>(disk: &mut D, geometry: &Geometry, block: u32) -> Result<(), DiskFault>
     requires geometry { IsGeometry geometry.now }
     requires block { block < geometry.now.blocks }

@@ -1,4 +1,5 @@
 //! The three writes that a block takes: its gate is closed, its body is written, and its gate is opened. Each is one write and one sync.
+//! What a comment tells of a crash, or of images, is told of an honest disk.
 #![tactic(auto)]
 
 mod body;

@@ -7,7 +7,7 @@ ghost use Rattle.block_flusher.specs.Images.{ChangesNoOther};
 use block_format::{Geometry, SECTOR_BYTES};
 use disk_model::{Disk, DiskFault, write_synced};
 
-/// Where a block begins on its device.
+/// Where a block begins on its device, in bytes.
 pub fn start_of_block(geometry: &Geometry, block: u32) -> u64
     requires geometry { IsGeometry geometry.now }
     requires block { block < geometry.now.blocks }
@@ -17,7 +17,8 @@ pub fn start_of_block(geometry: &Geometry, block: u32) -> u64
     SECTOR_BYTES as u64 + u64::from(block) * u64::from(geometry.block_size)
 }
 
-/// Writes bytes within a block, from an offset on, and syncs. At no moment does an image have a byte outside the block changed.
+/// At `Ok` the bytes stand within the block, from an offset on, and a crash leaves just what is read, until the next write. At no moment
+/// does a crash leave a byte outside the block changed. After a fault some of them may be there.
 pub fn write_part<D: Disk>(
     disk: &mut D,
     geometry: &Geometry,

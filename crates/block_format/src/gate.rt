@@ -19,7 +19,7 @@ pub fn is_open(gate: &[u8]) -> bool
     gate[..GATE_BYTES] == OPEN[..]
 }
 
-/// Fills a sector as an open gate: the words that open it, and zeros.
+/// The sector is an open gate then: the words that open it, and zeros. No disk is called.
 pub fn write_open(sector: &mut [u8; SECTOR_BYTES])
     ensures { sector.new ≡ open_sector }
 {
@@ -27,7 +27,7 @@ pub fn write_open(sector: &mut [u8; SECTOR_BYTES])
     sector[GATE_BYTES..].fill(0);
 }
 
-/// Fills a sector as a closed gate: zeros.
+/// The sector is a closed gate then: zeros. No disk is called.
 pub fn write_closed(sector: &mut [u8; SECTOR_BYTES])
     ensures { sector.new ≡ closed_sector }
 {

@@ -20,7 +20,8 @@ pub(crate) fn head_of(number: u64, records: u32, units: u32, block: u32) -> [u8;
     head
 }
 
-/// Fills the head of a body: its buffer number, the number of its records, their units, and its block.
+/// The bytes are the head of a body then: its buffer number, the number of its records, their units of 16 bytes, and
+/// its block.
 pub fn write_head(
     number: u64,
     records: u32,

@@ -11,7 +11,7 @@ use rec_format::{u16_at, u32_at};
 /// The bytes of a header before its zeros.
 const FRONT_BYTES: usize = 32;
 
-/// The units of a block of this size behind its gate sector and the head of its body.
+/// How many units of 16 bytes a block of this size, in bytes, has behind its gate sector and the head of its body.
 pub fn capacity(block_size: u32) -> u32
     ensures { result ≡ block_capacity block_size }
 {
@@ -32,7 +32,7 @@ fn front_of(geometry: &Geometry) -> [u8; FRONT_BYTES]
     front
 }
 
-/// Fills the first sector of a device with its header.
+/// The bytes are the first sector of a device of this shape then, its header. No disk is called.
 pub fn write_header(geometry: &Geometry, out: &mut [u8; SECTOR_BYTES])
     requires { IsGeometry geometry.now }
     ensures { out.new ≡ header_text geometry.now }

@@ -1,4 +1,5 @@
-//! The layout of a device: its header, its blocks and their gates and bodies.
+//! The layout of a device: its header, its blocks and their gates and bodies. A write block is Aerospike's, by its
+//! documentation; the bytes are this project's own.
 #![tactic(auto)]
 
 mod body;

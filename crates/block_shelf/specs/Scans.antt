@@ -65,7 +65,8 @@ pub record ReadsAll {D : Type 0} (view : D → DiskView) (shelf : ShelfView D) (
   pub only : (r : Digest × Version) → Contains records r → possible_copies view shelf s block r.0 r.1
 
 -- A block is scanned from a state for which the shelf stood, by one step. Over an honest disk whose image was sound each copy in the block that
--- may be older than a marked entry is found: one that waits, and one that a crash may leave. Nothing else is found than such copies.
+-- is older than a marked entry is found: one that waits, and one that a crash may leave. Nothing is found but copies that wait there or that a
+-- crash may leave.
 pub record Scans {D : Type 0} (view : D → DiskView) (setup : Setup) (block : ℕ) (old : ShelfView D) (s : State) (new : ShelfView D) : Type 0 where
   pub copies : List (Digest × Stamp)
   pub goes : Goes view setup (scanned_block copies ∷ []) old s new

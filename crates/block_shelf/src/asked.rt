@@ -14,7 +14,7 @@ use block_format::capacity;
 use disk_model::Disk;
 
 impl<D: Disk> Shelf<D> {
-    /// Whether a copy of so many units can be appended, or why not, but for want of memory and faults. Nothing changes.
+    /// Whether a copy of so many units of 16 bytes can be appended, or why not, but for want of memory and faults. Nothing changes.
     pub fn may_append(&self, units: u32, class: Class) -> Result<(), PutRefusal>
         ensures causes { (setup : Setup) (s : State) → IsSetupOf setup self.now → StandsFor setup self.now s → MatchResult result
             (λ done. append_refusal setup class units s.book ≡ None) (IsAppendRefusal (append_refusal setup class units s.book)) }
@@ -30,7 +30,7 @@ impl<D: Disk> Shelf<D> {
         }
     }
 
-    /// The number of the buffer that a block has, if it has one.
+    /// The number of the buffer that a block has; none where it has none.
     pub fn number_at(&self, block: u32) -> Option<u64>
         ensures { MatchOption result (AllByRecursion (λ b. b.block ≢ block) self.now.buffers) (λ n. (b : BufferState) × Contains self.now.buffers b × (b.block ≡ block) × (b.number ≡ n)) }
     {

@@ -19,8 +19,9 @@ use crate::{Place, Shelf};
 use disk_model::Disk;
 
 impl<D: Disk> Shelf<D> {
-    /// The copy at a place is no longer live, and its block is queued as its use says. Where nothing else in its block is live, no buffer
-    /// has the block, and none holds it, the block comes to the back of the free ones. It takes no memory.
+    /// The copy at a place is no longer live then, and its block is queued as its use says; nothing is written, and a start may find the
+    /// copy. Where nothing else in its block is live, no buffer has the block, and none holds it, the block comes to the back of the free
+    /// ones. It takes no memory.
     pub fn drop_live(&mut self, place: Place)
         requires block { place.block < self.old.geometry.blocks }
         requires live { IsSomeAnd (copy_at place.unit (copies_in place.block self.old.rolls)) (λ c. c.units ≡ place.units) }

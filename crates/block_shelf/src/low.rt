@@ -23,9 +23,10 @@ const FEW_FREE: usize = 6;
 const FREE_FOR_ONE: usize = FEW_FREE + 1;
 
 impl<D: Disk> Shelf<D> {
-    /// Where at most 6 blocks are free, seals the buffer of each stream that is being filled and holds a block in which nothing is live.
-    /// Each block that it holds counts, also one that a buffer has. The buffer of moved records is sealed only when nothing more can come to
-    /// it: nothing is queued, or no block is free and it has less room than the low-water mark's share of a block.
+    /// Where at most 6 blocks are free, the buffer of each stream is sealed that is being filled and holds a block in which nothing is
+    /// live; no disk is called. Each block that it holds counts, also one that a buffer has. The buffer of moved records is sealed only
+    /// when nothing more can come to it: nothing is queued, or no block is free and it has less room than the low-water mark's share of a
+    /// block.
     pub fn seal_low(&mut self)
         ensures sealed { (setup : Setup) (s : State) → IsSetupOf setup self.old → StandsFor setup self.old s → BooksStand setup self.old s → Goes D.view setup (seal_low setup s.book) self.old s self.new }
         ensures low { (b : BufferState) → Contains self.old.buffers b → IsLow b.stream self.old → Contains self.new.buffers (sealed_buffer b) }

@@ -22,8 +22,8 @@ impl<D: Disk> Shelf<D> {
         &self.raid
     }
 
-    /// Begins a raid, also over a running one, whose marks are void then. The number is one more than the last; where that was 2^62 nothing
-    /// begins, and nothing changes. It takes no memory.
+    /// At `Some` a raid has begun, also over a running one, whose marks are void then, and it answers its number, which is one more than
+    /// the last. Where that was 2^62 none begins, and nothing changes. It takes no memory, and calls no disk.
     pub fn begin_raid(&mut self) -> Option<u64>
         ensures answer { result ≡ (if self.old.raid.number == top_number then None else Some (self.old.raid.number + 1)) }
         ensures book { self.new ≡ record self.old { raid = (if self.old.raid.number == top_number then self.old.raid else begun self.old.raid) } }

@@ -30,10 +30,11 @@ use raid_book::RaidNext;
 use std::alloc::Global;
 
 impl<D: Disk> Shelf<D> {
-    /// Scans the block whose turn it is, and answers it: each record of the device that may be in it goes to the raid's book. What is in a
-    /// pending buffer is taken from memory, also where the write of its gate has begun. Of the other blocks, free ones too, one with an
-    /// unsure gate is closed and synced first, a closed one has no records, and any other is read from the disk, also where its flushed buffer
-    /// is kept. Nothing else goes to the book than what may be in the block. After a refusal the raid is given up.
+    /// At `Ok` the block whose turn it is was scanned, and is answered: over an honest disk whose image was sound each copy in it that is
+    /// older than a marked entry is in the raid's book, and nothing but copies that a start may find. What is in a pending buffer is
+    /// taken from memory, also where the write of its gate has begun. Of the other blocks, free ones too, one with an unsure gate is
+    /// closed and synced first, a closed one has no records, and any other is read from the disk, also where its flushed buffer is kept.
+    /// After a refusal the raid is given up.
     pub fn scan_step(&mut self, alloc: Global) -> Result<u32, VacateRefusal>
         requires turn { (block : ℕ) × (self.old.raid.next ≡ turn.Scan block) }
         ensures scanned { (setup : Setup) (s : State) → IsSetupOf setup self.old → StandsFor setup self.old s → BooksStand setup self.old s

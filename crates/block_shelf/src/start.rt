@@ -122,9 +122,10 @@ fn kept_of(
 }
 
 impl<D: Disk> Shelf<D> {
-    /// The shelf of a device behind a start: these copies are live, no block has a buffer and none is held, no flushed buffer is kept, no
-    /// raid runs, and the blocks without a live copy are free, the lowest first; those of little use wait to be vacated, the lowest first. There is one gate for each block.
-    /// All memory is taken that a later call may not ask for. No call of the disk is made, and for want of memory it comes back as it was.
+    /// At `Ok` the shelf of a device behind a start: these copies are live, no block has a buffer and none is held, no flushed buffer is
+    /// kept, no raid runs, the blocks without a live copy are free, the lowest first, and those of little use wait to be vacated, the
+    /// lowest first. No disk is called. There is one gate for each block. All memory is taken that a later call may not ask for; where it
+    /// is wanting the disk comes back as it was.
     pub fn new(
         alloc: Global,
         disk: D,

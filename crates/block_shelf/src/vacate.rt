@@ -19,8 +19,8 @@ pub struct Vacancy {
 }
 
 impl<D: Disk> Shelf<D> {
-    /// The block that has waited longest to be vacated, and what is live in it; none where none waits. It waits on, at the front, until
-    /// nothing is live in it. Nothing is read, and only memory can be wanting.
+    /// At `Ok` the block that has waited longest to be vacated, with what is live in it; none where none waits. It waits on, at the
+    /// front, until nothing is live in it. Nothing is read or changed, and only memory can be wanting.
     pub fn vacate_next(&mut self, alloc: Global) -> Result<Option<Vacancy>, VacateRefusal>
         ensures chosen { (setup : Setup) (s : State) → BooksStand setup self.old s → StandsFor setup self.old s → IfOk result (VacatesFrom s.book) }
         ensures refused { IfErr result (λ refusal. refusal ≡ VacateRefusal.Memory) }

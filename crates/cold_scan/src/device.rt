@@ -63,8 +63,10 @@ fn examine<D: Disk>(
     }
 }
 
-/// Syncs, and reads the header, then each gate, then the bodies behind the open ones, all in rising order. Of each digest that belongs
-/// to the device its latest copy is kept, of equal ones the first. A fault ends it where it occurs. A refusal hands the disk back.
+/// At `Ok` what a cold start finds on the device: its shape, its gates, and of each digest that belongs to it the latest copy, of equal
+/// ones the first; nothing was written, and a crash leaves just what a read gives, of a disk that tells its bytes. It syncs, and reads
+/// the header, then each gate, then the bodies behind the open ones, all in rising order. A fault ends it where it occurs. A refusal
+/// tells why, and hands the disk back.
 pub fn scan<D: Disk>(
     alloc: Global,
     mut disk: D,

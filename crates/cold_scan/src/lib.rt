@@ -1,4 +1,5 @@
-//! What a cold start reads of a device: its header, its gates, and of each digest the latest copy in the bodies behind the open ones. Nothing is written.
+//! What a cold start reads of a device: its header, its gates, and of each digest the latest copy in the bodies behind the open ones.
+//! Nothing is written.
 #![tactic(auto)]
 
 mod bodies;

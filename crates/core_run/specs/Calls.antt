@@ -35,8 +35,9 @@ digest_of (command.Del digest) = Some digest
 digest_of (command.Bury digest) = Some digest
 digest_of _ = None
 
--- A get is replied as its record is stored on its device: as it was put, where its block has a write buffer or its flushed buffer is kept, and
--- else as it stands at its place, on a disk that tells its bytes; `err damaged` comes then exactly where no head of the record stands there.
+-- A get is replied as its record is stored on its device: as it was put, where its block has a write buffer to which clients write, or such a
+-- flushed buffer of it is kept; and where neither is there, as it stands at its place, on a disk that tells its bytes: `err damaged` comes then
+-- exactly where no head of the record stands there.
 abbrev pub RepliesStored : {D : Type 0} → (view : D → DiskView) → List (ShardView D) → Command → ℕ → Reply → Type 0
 RepliesStored view shards (command.Get digest) now r =
     (got : Result (Option Version) ReadRefusal) × (r ≡ answer_reply (read_answer got))

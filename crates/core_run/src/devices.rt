@@ -10,7 +10,8 @@ use rec_format::Counts;
 use shard_core::{DefragCause, Shard, WriteRefusal};
 use std::alloc::Global;
 
-/// Flushes each device, up to the first that fails; answers how many buffers they flushed.
+/// At `Ok` nothing is pending on any device, and it answers how many buffers were flushed; what a crash leaves from then on is as with
+/// `Shard::flush`. It stops at the first device that fails, and those behind that are as before.
 pub fn flush_each<D: Disk>(shards: &mut [Shard<D>]) -> Result<u64, DiskFault>
     requires few { length shards.old ≤ 16 }
     ensures { FlushesEach D.view result shards.old shards.new }
@@ -44,7 +45,9 @@ fn defrag<D: Disk>(alloc: Global, shard: &mut Shard<D>) -> Result<(u64, u64), De
     Ok((moved, vacated))
 }
 
-/// Defragments each device, up to the first that is refused; answers how many records they moved, and out of how many blocks.
+/// At `Ok` each device has vacated blocks until none waited, or as many as waited at first, and it answers how many records they moved,
+/// and out of how many blocks; what a crash leaves is as with `Shard::defrag_one`. It stops at the first device that is refused, and
+/// those behind that are as before.
 pub fn defrag_each<D: Disk>(
     alloc: Global,
     shards: &mut [Shard<D>],
@@ -78,7 +81,8 @@ fn expire<D: Disk>(alloc: Global, shard: &mut Shard<D>, now: u64) -> Result<u64,
     Ok(removed)
 }
 
-/// Removes the expired entries of each device, up to the first that is refused; answers how many.
+/// At `Ok` the entries that were expired at `now`, in milliseconds, are removed on each device, and it answers how many; what a crash
+/// leaves is as with `Shard::expire_part`. It stops at the first device that is refused, and those behind that are as before.
 pub fn expire_each<D: Disk>(
     alloc: Global,
     shards: &mut [Shard<D>],
@@ -95,7 +99,7 @@ pub fn expire_each<D: Disk>(
     Ok(removed)
 }
 
-/// Tends each device.
+/// Makes room on each device, in order, as `Shard::tend` does, and answers nothing.
 pub fn tend_each<D: Disk>(alloc: Global, shards: &mut [Shard<D>])
     ensures { Through {A = ℕ} (TendTurn D.view) (length shards.old) 0 shards.old shards.new 0 }
 {
@@ -104,7 +108,8 @@ pub fn tend_each<D: Disk>(alloc: Global, shards: &mut [Shard<D>])
     }
 }
 
-// Flushes each device, also behind one that fails; answers the first that failed.
+/// At `None` nothing is pending on any device; else it answers the first whose disk failed. Each device is flushed, also behind one that
+/// fails.
 pub fn close_each<D: Disk>(shards: &mut [Shard<D>]) -> Option<u16>
     requires few { length shards.old ≤ 16 }
     ensures { Through (CloseTurn DiskFault D.view) (length shards.old) (0, None) shards.old shards.new (length shards.old, result) }
@@ -144,7 +149,7 @@ fn plus(sum: Counts, more: Counts) -> Counts
     }
 }
 
-/// The numbers of all devices together.
+/// The numbers of all devices together. A sum of at most 16 devices doesn't go around.
 pub fn counts_of<D: Disk>(shards: &[Shard<D>]) -> Counts
     requires few { length shards.now ≤ 16 }
     ensures { (node : Node) → Each (StandsOn D.view) shards.now node → result ≡ node_counts node }

@@ -65,9 +65,9 @@ fn format_each<D: Disk>(disks: &mut [D], block_size: u32, blocks: u32) -> Result
     Ok(())
 }
 
-/// Formats disks as the devices of one node, in order: 1 to 16 of them, each with this many blocks of this many bytes. The lengths
-/// of all are compared before anything is written. It stops at the first disk that fails; format them all again then. It takes no
-/// memory.
+/// At `Ok` each of the 1 to 16 disks is a device of one node, in order, without a record, and from then on a crash leaves just that, of a
+/// disk that tells its bytes. Each has this many blocks of this many bytes. The lengths of all are compared before anything is written.
+/// It stops at the first disk that fails, which may hold some of it; format them all again then. It takes no memory.
 pub fn format_devices<D: Disk>(
     disks: &mut [D],
     block_size: u32,

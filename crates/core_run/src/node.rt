@@ -62,8 +62,9 @@ impl<D: Disk> Model for Node<D> {
 }
 
 impl<D: Disk> Node<D> {
-    /// Starts each device from its disk, 1 to 16 of them. A refusal tells the first device that isn't taken into use and why, and hands the
-    /// disks back.
+    /// At `Ok` each device is served from what its disk holds, 1 to 16 of them, in order; nothing was written, and of a disk that tells
+    /// its bytes a crash leaves just what a read gives. A device is sound then where its disk is honest and its image is sound. A refusal
+    /// tells the first device that isn't taken into use and why, and hands all disks back, in order, with nothing written to any.
     pub fn start(alloc: Global, mut disks: Vec<D>, set: Settings) -> Result<Node<D>, NodeRefusal<D>>
         requires disks { (1 ≤ vec_len disks) × (vec_len disks ≤ 16) }
         requires set { IsSettings set }
@@ -113,15 +114,17 @@ impl<D: Disk> Node<D> {
         }
     }
 
-    /// The device whose restart was refused, and why, where one was. Such a node answers every command by `Halted`, and does nothing.
+    /// The device whose restart was refused, and why; none where none was. A node with such a device answers every command by `Halted`,
+    /// and does nothing.
     pub fn halted(&self) -> Option<(u16, StartCause)>
         ensures { MatchOption result ((shards : List (ShardView D)) × (self.now ≡ serving shards)) (λ why. (disks : List D) × (self.now ≡ halted why disks)) }
     {
         self.refused
     }
 
-    /// Flushes all that each device has pending, for the end of a run, also behind a device that fails; answers the first that failed.
-    /// No restart may have been refused.
+    /// At `None` nothing is pending on any device, and from then on each crash leaves of each record its version of now or a later one,
+    /// until it is removed. Else it answers the first device whose disk failed, which has a buffer left; those behind that one are
+    /// flushed too, as far as their disks go. It is for the end of a run, and no restart may have been refused.
     pub fn close(&mut self) -> Option<u16>
         requires served { (shards : List (ShardView D)) × (self.old ≡ serving shards) }
         ensures { Closes D.view result self.old self.new }
@@ -129,14 +132,15 @@ impl<D: Disk> Node<D> {
         close_each(&mut self.shards)
     }
 
-    /// The numbers of all devices together.
+    /// The numbers of all devices together: records, tombstones and covered records, expired ones too; free blocks, pending buffers,
+    /// queued and held blocks.
     pub fn counts(&self) -> Counts
         ensures { (node : List Slot) → StandsFor D.view self.now node → result ≡ node_counts node }
     {
         counts_of(&self.shards)
     }
 
-    /// Gives the disks back, in order.
+    /// Gives the disks back, in order, as they are. What the write buffers have is lost, as by a crash.
     pub fn stop(self) -> Vec<D>
         ensures { result.items ≡ disks_of self }
     {

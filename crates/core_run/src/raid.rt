@@ -58,7 +58,9 @@ fn raid<D: Disk>(alloc: Global, shard: &mut Shard<D>, now: u64) -> Result<(u64, 
     }
 }
 
-/// A raid of each device, up to the first that is refused; answers how many tombstones they removed, and how many covers they cleared.
+/// At `Ok` each device has had a whole raid, and it answers how many tombstones they removed, and how many covers they cleared; on a
+/// sound device without an unsure gate these are just the ones that may go. `now` is in milliseconds. It stops at the first device that
+/// is refused, and those behind that are as before.
 pub fn raid_each<D: Disk>(
     alloc: Global,
     shards: &mut [Shard<D>],

@@ -28,6 +28,7 @@ fn write_fault(refusal: WriteRefusal) -> LineFault
     }
 }
 
+/// The reply to a put or a durable delete: its stamp, or why it is refused.
 pub fn write_reply(written: Result<Stamp, WriteRefusal>) -> Reply
     ensures { result ≡ answer_reply (write_answer written) }
 {
@@ -37,6 +38,7 @@ pub fn write_reply(written: Result<Stamp, WriteRefusal>) -> Reply
     }
 }
 
+/// The reply to a delete: whether there was a record, or why it is refused.
 pub fn delete_reply(deleted: Result<bool, WriteRefusal>) -> Reply
     ensures { result ≡ answer_reply (delete_answer deleted) }
 {
@@ -47,6 +49,7 @@ pub fn delete_reply(deleted: Result<bool, WriteRefusal>) -> Reply
     }
 }
 
+/// The reply to a get: the version that is seen, that there is none, or why it can't be read.
 pub fn read_reply(found: Result<Option<Version>, ReadRefusal>) -> Reply
     ensures { result ≡ answer_reply (read_answer found) }
 {
@@ -91,6 +94,7 @@ fn defrag_fault(cause: DefragCause) -> LineFault
     }
 }
 
+/// The reply to `defrag`: how many records were moved, out of how many blocks, or why one wasn't.
 pub fn defrag_reply(done: Result<(u64, u64), DefragCause>) -> Reply
     ensures { (outcome : Outcome) → IsDefragged done outcome → result ≡ defragged_reply outcome }
 {
@@ -100,6 +104,7 @@ pub fn defrag_reply(done: Result<(u64, u64), DefragCause>) -> Reply
     }
 }
 
+/// The reply to `expire`: how many expired entries were removed, or why one wasn't.
 pub fn expire_reply(expired: Result<u64, WriteRefusal>) -> Reply
     ensures { (outcome : Outcome) → IsExpired expired outcome → result ≡ expired_reply outcome }
 {
@@ -109,6 +114,7 @@ pub fn expire_reply(expired: Result<u64, WriteRefusal>) -> Reply
     }
 }
 
+/// The reply to `raid`: how many tombstones were removed and how many covers cleared, or why a turn was refused.
 pub fn raid_reply(raided: Result<(u64, u64), LineFault>) -> Reply
     ensures { (outcome : Outcome) → IsRaided raided outcome → result ≡ raided_reply outcome }
 {
@@ -118,6 +124,7 @@ pub fn raid_reply(raided: Result<(u64, u64), LineFault>) -> Reply
     }
 }
 
+/// The reply to `flush`: how many buffers were flushed, or that a disk failed.
 pub fn flush_reply(flushed: Result<u64, DiskFault>) -> Reply
     ensures { (outcome : Outcome) → IsFlushed flushed outcome → result ≡ flushed_reply outcome }
 {

@@ -20,7 +20,8 @@ fn stop_each<D: Disk>(shards: &mut Vec<Shard<D>>, disks: &mut Vec<D>)
     }
 }
 
-/// Stops each device, and puts its disk in front of those that are there, which are turned around.
+/// Stops each device, and puts its disk in front of those that are there, which are turned around. What the write buffers have is lost,
+/// as by a crash.
 pub fn stop_all<D: Disk>(shards: &mut Vec<Shard<D>>, disks: &mut Vec<D>)
     requires room { vec_len disks.old + vec_len shards.old ≤ vec_capacity disks.old }
     ensures disks { disks.new.items ≡ disks_served shards.old.items ++ reverse disks.old.items }
@@ -61,7 +62,8 @@ fn start_each<D: Disk>(
     Ok(())
 }
 
-/// Starts a device from each disk, in order. Where one is refused it tells which and why, and gives the disks back.
+/// At `Ok` each disk is that of a device in use, in order, and nothing was written. Where one is refused it tells which and why, and
+/// gives the disks back.
 pub fn start_all<D: Disk>(
     alloc: Global,
     disks: &mut Vec<D>,

@@ -1,5 +1,6 @@
 //! Defragmentation moves the record of one entry out of its block: the record is read, its copy goes unchanged to the buffers of moved
-//! records, and the entry has the new place.
+//! records, and the entry has the new place. Blocks are vacated for it as the Aerospike documentation has it of write blocks below the
+//! low-water mark.
 #![tactic(auto)]
 
 mod moving;

@@ -33,10 +33,12 @@ use rec_format::{Digest, Entry, Version};
 use sprig_tree::Sprig;
 use std::alloc::Global;
 
-/// Moves the record of a digest out of a block, byte for byte, over the digest's sprig and the shelf: its copy goes to the buffer of moved
-/// records, and holds the block until that buffer is flushed. The entry has the new place, and keeps its mark and its cover flag. False
-/// exactly where the digest's entry isn't in the block. Whether there is room is asked before the record is read, which takes no call of the
-/// disk where the block's flushed buffer is kept. After a refusal the entry is as before, and so is the shelf, but for memory that was taken, and for a first free block whose gate couldn't be closed.
+/// At `Ok(true)` the entry of the digest is no longer in the block: its record's copy, byte for byte as it was read, waits in the buffer
+/// of moved records, and until that is flushed the block is held, so that no crash loses the record by it, over an honest disk whose
+/// image was sound. The entry keeps its mark and its cover flag. `Ok(false)` comes exactly where the entry wasn't in the block, and
+/// nothing changed. Whether there is room is asked before the record is read, which takes no call of the disk where it is in memory.
+/// After a refusal the entry is as before, and so is the shelf, but for memory that was taken, and for a first free block whose gate
+/// couldn't be closed.
 pub fn move_one<D: Disk>(
     alloc: Global,
     sprig: &mut Sprig,

@@ -1,5 +1,6 @@
 //! The queue of a device's blocks that wait to be vacated: those of which so little is live that
-//! their records are written again elsewhere. Calls but `new` take no memory.
+//! their records are written again elsewhere. Calls but `new` take no memory. The low-water mark is
+//! that of Aerospike's defragmentation, by its documentation.
 #![tactic(auto)]
 
 mod links;

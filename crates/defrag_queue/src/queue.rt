@@ -42,7 +42,8 @@ impl Model for Queue {
 }
 
 impl Queue {
-    /// An empty queue for so many blocks of so many units, with the low-water mark in percent.
+    /// At `Ok` an empty queue for so many blocks of so many units of 16 bytes, with the low-water
+    /// mark in percent. An `Err` is want of memory.
     pub fn new(alloc: Global, blocks: u32, capacity: u32, lwm: u32) -> Result<Queue, NoMemory>
         ensures { IfOk result (λ queue. queue ≡ record { queue = []; blocks = blocks; capacity = capacity; lwm = lwm }) }
     {
@@ -58,8 +59,8 @@ impl Queue {
         })
     }
 
-    /// Puts a block where its use says: one that is to be vacated keeps its place in the queue or
-    /// enters at the back, and another one leaves.
+    /// The block is where its use, in units, says then: one that is to be vacated keeps its place
+    /// in the queue or enters at the back, and another one leaves.
     pub fn consider(&mut self, block: u32, used: u32, flushed: bool)
         requires { block < self.old.blocks }
         ensures { self.new ≡ considered self.old block used flushed }
@@ -78,7 +79,7 @@ impl Queue {
         }
     }
 
-    /// The block that has waited longest.
+    /// The block that has waited longest; none where none waits.
     pub fn front(&self) -> Option<u32>
         ensures { result ≡ queue_front self.now.queue }
     {

@@ -10,8 +10,9 @@ use cold_scan::{Asked, Finding, StartRefusal, scan};
 use disk_model::Disk;
 use std::alloc::Global;
 
-/// Reads a device as a cold start does, and counts what is there. A device that a start refuses is refused for the same cause. The disk is
-/// handed back.
+/// At `Ok` what is on the device, counted, with its disk; nothing was written, and of an honest disk a crash leaves nothing that it might
+/// not have left before. It reads the device as a cold start does, and one that a start refuses is refused for the same cause, with its
+/// disk.
 pub fn check_device<D: Disk>(
     alloc: Global,
     disk: D,

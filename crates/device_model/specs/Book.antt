@@ -233,7 +233,8 @@ abbrev pub holds_dead : Book → Option Buffer → Bool
 holds_dead book None = false
 holds_dead book (Some buffer) = list_any (λ h. h.0 == buffer.number && (use_of book h.1 == 0)) book.holds
 
--- the book after a start: these copies are live, each block in which none is live is free, and nothing else is known
+-- the book after a start: these copies are live, each block in which none is live is free, those of little use are queued, and there is no
+-- buffer and no hold
 unfoldable pub cold_book : Setup → List Live → ℕ → Book
 cold_book setup live next_number = refreshed setup (record {
   live = live;

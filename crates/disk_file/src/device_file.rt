@@ -38,15 +38,16 @@ struct Found {
     len: u64,
 }
 
-/// The whole file or block device of this name. It is locked, so that no other process opens it like this meanwhile.
+/// At `Ok` the whole file or block device of this name, open to read and write and locked, so that no other process opens it like this
+/// meanwhile; nothing was written. A refusal tells why it isn't opened.
 pub fn open_device<R: Files<File = File>>(rt: &R, name: &str) -> Result<FileDisk<File>, OpenFault> {
     let found = find(rt, name)?;
     Ok(FileDisk::new(found.file, found.len))
 }
 
-/// Where nothing has this name, a new file of `len` bytes, each of which was written once and synced, as its folder was. Where that
-/// fails the file is removed again. What is there already is opened as by `open_device`: of a block device it is the first `len`
-/// bytes, a longer file is refused, and what is shorter is handed on as it is.
+/// At `Ok` a locked file of `len` bytes, where nothing had this name: each byte was written once, and they and its folder were synced.
+/// Where that fails the file is removed again. What is there already is opened as by `open_device`: of a block device it is the first
+/// `len` bytes, a longer file is refused, and what is shorter is handed on as it is.
 pub fn make_device<R: Files<File = File>, W: Watch>(
     rt: &R,
     alloc: Global,

@@ -12,8 +12,9 @@ use std::marker::Model;
 use std::os::fd::AsRawFd;
 use std::os::unix::fs::FileExt;
 
-/// An open file as a disk of a fixed size. Where the file ends before that, reads behind its end fail, and so do writes, which never
-/// make it longer. Behind a sync that failed, each further sync fails until all that was written before it was written again.
+/// An open file as a disk of a fixed size; what a crash leaves of it no clause tells. Where the file ends before that, reads behind its
+/// end fail, and so do writes, which never make it longer. Behind a sync that failed, each further sync fails until all that was written
+/// before it was written again.
 #[derive(Drop)]
 pub struct FileDisk<F: FileExt + OpenFile + AsRawFd + Seek + Drop> {
     file: F,
@@ -38,8 +39,9 @@ fn forget_pages<F: AsRawFd>(file: &F) {
 }
 
 impl<F: FileExt + OpenFile + AsRawFd + Seek + Drop> FileDisk<F> {
-    /// The first `len` bytes of a file that is open to read and write. What the system keeps of it in memory is let go, as far as it was
-    /// written, since after a sync that failed in an earlier process it isn't what the drive has.
+    /// The first `len` bytes of a file that is open to read and write, as a disk, of which nothing waits for a sync. What the system
+    /// keeps of it in memory is let go, as far as it was written, since after a sync that failed in an earlier process it isn't what the
+    /// drive has.
     pub fn new(file: F, len: u64) -> FileDisk<F>
         ensures { result ≡ record { waiting = record { len = len; written = []; lost = [] }; faults = 0; calls = 0 } }
     {

@@ -1,5 +1,5 @@
-//! A disk over a file or a block device of the system, and how one is opened or made. No clause tells what the file holds, nor what
-//! a crash leaves of it.
+//! A disk over a file or a block device of the system, and how one is opened or made. No clause tells what the file holds, nor what a
+//! crash leaves of it: that it is honest is assumed of the system and the drive, and not proved.
 #![tactic(auto)]
 
 mod device_file;

@@ -13,6 +13,7 @@ use crate::tally::Tally;
 use crate::{Disk, DiskCall, DiskFault, NoMemory};
 use std::alloc::{AllocError, Global};
 
+/// A disk in memory, which keeps a record of its moments, and fails where it is asked to. It is honest until a read is asked to lie.
 #[derive(Drop)]
 pub struct MemDisk {
     alloc: Global,
@@ -72,7 +73,8 @@ impl MemDisk {
         })
     }
 
-    /// Asks that the call of this kind which comes after `skip` others fails. More than one may be asked for.
+    /// Asks that the call of this kind which comes after `skip` others fails. More than one may be asked for. For want of memory nothing
+    /// is asked.
     pub fn fail_after(&mut self, kind: DiskCall, skip: u64) -> Result<(), NoMemory>
         ensures ok { OnOk result (IsAskedOf kind skip self.old.reads self.old.writes self.old.syncs self.new.reads self.new.writes self.new.syncs) }
         ensures err { OnErr result (IsSame self.old.reads self.new.reads × IsSame self.old.writes self.new.writes × IsSame self.old.syncs self.new.syncs) }
@@ -85,7 +87,8 @@ impl MemDisk {
         }
     }
 
-    /// Asks that the read which comes after `skip` others has its first byte wrong. From this call on the disk isn't honest, and no longer tells its bytes.
+    /// Asks that the read which comes after `skip` others has its first byte wrong. From this call on the disk isn't honest, and no
+    /// longer tells its bytes.
     pub fn lie_after(&mut self, skip: u64)
         ensures dishonest { ¬ IsHonest (view_of self.new) }
         ensures others { self.new ≡ record self.old { lie = Some (min (self.old.reads.done + skip) (2 ^ 64 - 1)) } }
@@ -107,7 +110,8 @@ impl MemDisk {
         self.changes.len() as u64 + 1
     }
 
-    /// A new disk with what a crash at a moment might have left: of the writes that no sync followed by then, number k, from 0 on, is there where bit k of `pick` is set.
+    /// A new disk with what a crash at a moment might have left: of the writes that no sync followed by then, number k, from 0 on, is
+    /// there where bit k of `pick` is set. It is honest, with nothing left to sync.
     pub fn image(&self, moment: u64, pick: u64) -> Result<MemDisk, NoMemory>
         requires { moment < (view_of self.now).moment + 1 }
         ensures holds { IfOk result (λ disk. (view_of disk).seen ≡ picked_of pick (state_of self.now moment)) }

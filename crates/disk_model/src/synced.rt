@@ -4,7 +4,8 @@ ghost use Rattle.disk_model.specs.Disk.{Written, TornFrom, TellsTorn, IsSettled,
 
 use crate::{Disk, DiskFault};
 
-/// Writes bytes at a place and syncs. Over an honest disk all other bytes are as they were, whatever the moment of a crash.
+/// At `Ok` these bytes stand at the place, and a crash leaves just what is read, of a disk that tells its bytes. Over an honest disk all
+/// other bytes are as they were, whatever the moment of a crash.
 pub fn write_synced<D: Disk>(disk: &mut D, place: u64, bytes: &[u8]) -> Result<(), DiskFault>
     requires { place + length bytes.now ≤ (D.view disk.old).extent }
     ensures written { (D.view disk.old).tells → OnOk result (Written place bytes.now (D.view disk.old).seen (D.view disk.new).seen) }

@@ -4,6 +4,7 @@ ghost use Rattle.std.specs.Prelude.{◌≡◌, ◌++◌, [], ◌∷◌, OnOk, On
 use crate::NoMemory;
 use std::alloc::{AllocError, Global};
 
+/// The calls of one kind, counted from 0 on, and which of them are to fail.
 #[derive(Drop)]
 pub struct Tally {
     pub done: u64,
@@ -14,6 +15,7 @@ pub struct Tally {
 impl Tally {
     ghost use Rattle.disk_model.specs.Faults.{is_asked, IsCounted, IsAskedAfter, IsSame, IsNew};
 
+    /// No call yet, and none that is to fail.
     pub fn new(alloc: Global) -> Self
         ensures { IsNew result }
     {
@@ -33,7 +35,8 @@ impl Tally {
         fails
     }
 
-    /// Asks that the call which comes after `skip` others fails. A number that no count reaches is left off.
+    /// At `Ok` the call which comes after `skip` others is to fail. A number that no count reaches is left off. An `Err` is want of
+    /// memory, and changes nothing.
     pub fn fail_after(&mut self, skip: u64) -> Result<(), NoMemory>
         ensures ok { OnOk result (IsAskedAfter skip self.old self.new) }
         ensures err { OnErr result (IsSame self.old self.new) }

@@ -1,6 +1,7 @@
-//! Void times: from which second on a put is expired, and what of an entry a reader sees.
-//! An expired entry is invisible before it is removed. Times are in milliseconds, void times in
-//! seconds, 0 for never. No call takes memory.
+//! Void times: from which second on a put is expired, and what of an entry a reader sees. An
+//! expired entry is invisible before it is removed. Times are in milliseconds, void times in
+//! seconds, 0 for never. No call takes memory. Void time and time to live are Aerospike's, by its
+//! documentation.
 #![tactic(auto)]
 
 ghost use Rattle.std.specs.Prelude.{◌≡◌};
@@ -29,7 +30,8 @@ pub fn expired(void: u64, now: u64) -> bool
     void != 0 && void <= now / 1000
 }
 
-/// The entry, where it is a put that isn't expired at the time `now`.
+/// The entry, where it is a put that isn't expired at the time `now`; else none, also for a
+/// tombstone.
 pub fn seen(entry: Option<&Entry>, now: u64) -> Option<&Entry>
     ensures { option_copied result ≡ seen_entry now (option_copied entry.entry) }
 {

@@ -46,7 +46,8 @@ impl HoldBook {
         }
     }
 
-    /// Makes room for one hold more, or answers want of memory. The holds stay as they are.
+    /// At `Ok` there is room for one hold more. An `Err` is want of memory. The holds stay as they
+    /// are.
     pub fn reserve(&mut self) -> Result<(), NoMemory>
         ensures room { OnOk result (1 ≤ self.new.spare) }
         ensures holds { self.new.holds ≡ self.old.holds }
@@ -59,7 +60,8 @@ impl HoldBook {
         self.counts.reserve(1)
     }
 
-    /// Lets a buffer hold a block, in room that was reserved.
+    /// The buffer holds the block then, in room that was reserved. A hold that is there already
+    /// stays.
     pub fn hold(&mut self, buffer: u64, block: u32)
         requires { 1 ≤ self.old.spare }
         ensures { self.new.holds ≡ with_pair self.old.holds buffer block }
@@ -103,14 +105,15 @@ impl HoldBook {
         find(&self.pairs, buffer, block).is_ok()
     }
 
-    /// The first block from this number on that the buffer holds.
+    /// The first block from this number on that the buffer holds; none where it holds none from
+    /// there on.
     pub fn first_from(&self, buffer: u64, from: u32) -> Option<u32>
         ensures { MatchOption result (HoldsNoneFrom self.now.holds buffer from) (IsFirstHeld self.now.holds buffer from) }
     {
         first_from(&self.pairs, buffer, from)
     }
 
-    /// Ends all holds of a buffer.
+    /// The buffer holds nothing then. The holds of others stay.
     pub fn release(&mut self, buffer: u64)
         ensures { self.new.holds ≡ without_buffer self.old.holds buffer }
     {

@@ -5,7 +5,7 @@ ghost use Rattle.std.specs.declared.cmp.Ordering.TheVariants.{Less, Greater};
 ghost use Rattle.hold_book.specs.Holds.{pair_cmp};
 ghost use Rattle.hold_book.specs.Pairs.{HasNoneFrom, IsFirstFrom};
 
-// Where a pair is, or where it would go.
+/// Where a pair is, or where it would go.
 pub fn find(pairs: &[(u64, u32)], buffer: u64, block: u32) -> Result<usize, usize>
     requires { IsStrictlySortedBy pair_cmp pairs.now }
     ensures { MatchResult result (λ at. slice_get pairs.now at ≡ Some (buffer, block))
@@ -14,7 +14,7 @@ pub fn find(pairs: &[(u64, u32)], buffer: u64, block: u32) -> Result<usize, usiz
     pairs.binary_search(&(buffer, block))
 }
 
-// The first block from this number on that is paired with a buffer.
+/// The first block from this number on that is paired with a buffer; none where there is none.
 pub fn first_from(pairs: &[(u64, u32)], buffer: u64, from: u32) -> Option<u32>
     requires { IsStrictlySortedBy pair_cmp pairs.now }
     ensures { MatchOption result (HasNoneFrom buffer from pairs.now) (IsFirstFrom buffer from pairs.now) }

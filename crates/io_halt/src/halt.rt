@@ -15,8 +15,8 @@ const AT_ONCE: i32 = 0;
 // How often a wait begins again where it fails, as where a signal interrupts it.
 const TRIES: u32 = 1_000;
 
-/// What ends a source from outside: a descriptor that comes to its end, as a pipe does whose other end is closed, or that has something to be
-/// read. Nothing is ever read from it. There may be none, and then nothing ends the source so.
+/// What ends a source from outside: a descriptor that comes to its end, as a pipe does whose other end is closed, or that has something
+/// to be read. Nothing is ever read from it. There may be none, and then nothing ends the source so.
 #[derive(Clone, Copy, Drop)]
 pub struct Halt {
     descriptor: Option<RawFd>,
@@ -53,8 +53,8 @@ impl Halt {
         }
     }
 
-    /// Whether the halt is there once there is something to be had from this descriptor, or before: it waits for the first of the two. A halt that never
-    /// comes isn't waited for, and neither is one that can't be waited for.
+    /// Whether the halt is there once there is something to be had from this descriptor, or before: it waits for the first of the two. A
+    /// halt that never comes isn't waited for, and neither is one that can't be waited for.
     pub fn comes_first(&self, input: RawFd) -> bool
         ensures { self.now ≡ None → IsFalse result }
     {

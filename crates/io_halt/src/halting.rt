@@ -8,8 +8,8 @@ use io_traits::{Ends, Source, SourceFault};
 use std::marker::Model;
 use std::os::fd::RawFd;
 
-/// A source that is at its end where the one below is, or once its halt has come. Before each read it waits until the halt comes or something is to be had
-/// from the descriptor of the source below. It doesn't tell what is left.
+/// A source that is at its end where the one below is, or once its halt has come. Before each read it waits until the halt comes or
+/// something is to be had from the descriptor of the source below. It doesn't tell what is left.
 #[derive(Drop)]
 pub struct HaltingSource<S: Source> {
     source: S,

@@ -5,6 +5,7 @@ use crate::{Clock, NoMemory};
 use std::alloc::Global;
 use std::marker::Model;
 
+/// A clock that gives the times of a list, in milliseconds, in order. The last is repeated.
 #[derive(Drop)]
 pub struct ListClock {
     times: Vec<u64>,
@@ -22,6 +23,7 @@ impl Model for ListClock {
 }
 
 impl ListClock {
+    /// A clock that gives these times, of which there must be at least one.
     pub fn new(times: Vec<u64>) -> Self
         requires { 0 < length times.items }
         ensures { result ≡ times.items }

@@ -6,7 +6,7 @@ use crate::{Ends, Sink, SinkFault};
 use std::alloc::Global;
 use std::marker::Model;
 
-/// The bytes written, and the numbers of the calls that are to fail, counted from 0 over all calls.
+/// A sink in memory: the bytes written, and the numbers of the calls that are to fail, counted from 0 over all calls.
 #[derive(Drop)]
 pub struct TextSink {
     bytes: Vec<u8>,
@@ -25,6 +25,7 @@ impl Model for TextSink {
 }
 
 impl TextSink {
+    /// A sink to which nothing was written, whose calls of these numbers are to fail.
     pub fn new(alloc: Global, fails: Vec<u64>) -> Self
         ensures { result ≡ record { written = []; fails = fails.items; calls = 0; faults = 0; starved = 0 } }
     {
@@ -37,6 +38,7 @@ impl TextSink {
         }
     }
 
+    /// The bytes that were written, in order.
     pub fn written(&self) -> &[u8]
         ensures { result.now ≡ self.now.written }
     {

@@ -9,7 +9,7 @@ use std::io::{Print, Read};
 use std::marker::Model;
 use std::rt::{Stdin, Stdout};
 
-/// The standard input, with the history of the bytes taken.
+/// The standard input as a source, with the history of the bytes taken. It doesn't tell what is left.
 #[derive(Drop)]
 pub struct StandardInput {
     stream: Stdin,
@@ -26,6 +26,7 @@ impl Model for StandardInput {
 }
 
 impl StandardInput {
+    /// The source over the standard input, of which nothing was taken.
     pub fn new(stream: Stdin) -> Self
         ensures { result ≡ record { gone = []; faults = 0 } }
     {
@@ -69,7 +70,7 @@ impl Source for StandardInput {
     }
 }
 
-/// The standard output, with the history of the bytes that the system took. It keeps nothing back.
+/// The standard output as a sink, with the history of the bytes that the system took. It keeps nothing back.
 #[derive(Drop)]
 pub struct StandardOutput {
     stream: Stdout,
@@ -86,6 +87,7 @@ impl Model for StandardOutput {
 }
 
 impl StandardOutput {
+    /// The sink over the standard output, to which nothing was written.
     pub fn new(stream: Stdout) -> Self
         ensures { result ≡ record { written = []; faults = 0 } }
     {

@@ -33,8 +33,10 @@ pub trait Ends: Drop {
     ghost sink_faults: { Self → ℕ };
 }
 
+/// What bytes are taken from, in order.
 pub trait Source: Ends {
-    /// Takes some bytes. None is the end of the input. The count of faults rises where the read failed, and else it stays.
+    /// At `Ok` how many bytes were taken into the front of `out`; 0 is the end of the input. An `Err` took none, and
+    /// comes only where the count of faults rose.
     fn read_some(&mut self, out: &mut [u8]) -> Result<usize, SourceFault>
         requires { 0 < length out.old }
         ensures bytes { ReadGives (Self.taken self.old) (Self.taken self.new) (Self.left self.old) (Self.left self.new) out.new result }
@@ -44,8 +46,9 @@ pub trait Source: Ends {
         ensures sink_faults { Self.sink_faults self.new ≡ Self.sink_faults self.old };
 }
 
+/// What bytes are written to, in order.
 pub trait Sink: Ends {
-    /// Writes some of the bytes.
+    /// At `Ok` how many of the bytes were written, from the front on.
     fn write_some(&mut self, bytes: &[u8]) -> Result<usize, SinkFault>
         ensures bytes { WriteGives (Self.written self.old) (Self.written self.new) (Self.sink_faults self.old) (Self.sink_faults self.new) bytes.now result }
         ensures cause { IsCaused (Self.sink_faults self.old) (Self.sink_faults self.new) result }
@@ -53,7 +56,7 @@ pub trait Sink: Ends {
         ensures taken { Self.taken self.new ≡ Self.taken self.old }
         ensures source_faults { Self.source_faults self.new ≡ Self.source_faults self.old };
 
-    /// Hands on what was written.
+    /// At `Ok` what was written is handed on. An `Err` comes only where the count of faults rose.
     fn flush(&mut self) -> Result<(), SinkFault>
         ensures written { Self.written self.new ≡ Self.written self.old }
         ensures cause { IsCaused (Self.sink_faults self.old) (Self.sink_faults self.new) result }
@@ -62,15 +65,16 @@ pub trait Sink: Ends {
         ensures source_faults { Self.source_faults self.new ≡ Self.source_faults self.old };
 }
 
+/// What tells the time.
 pub trait Clock: Drop {
     /// The times that it gives next, where it tells them. The last is repeated.
     ghost times: { Self → Option (List ℕ) };
 
-    /// Milliseconds.
+    /// The time now, in milliseconds.
     fn now_ms(&mut self) -> u64
         ensures { Ticks (times self.old) result (times self.new) };
 
-    /// A clock that gives the same times.
+    /// At `Ok` a clock that gives the same times. An `Err` is want of memory.
     fn fork(&self, alloc: Global) -> Result<Self, NoMemory>
     where
         Self: Sized,

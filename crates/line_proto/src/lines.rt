@@ -13,7 +13,8 @@ use std::collections::VecDeque;
 use std::marker::Model;
 use std::mem;
 
-/// The lines of a stream, however it is cut into pieces. A line ends with LF.
+/// The lines of a stream, however it is cut into pieces. A line ends with LF, and has at most 2,200,000 bytes before
+/// it.
 #[derive(Drop)]
 pub struct Lines {
     alloc: Global,
@@ -30,6 +31,7 @@ impl Model for Lines {
 }
 
 impl Lines {
+    /// The lines of a stream of which nothing has come.
     pub fn new(alloc: Global) -> Self
         ensures empty { result ≡ nothing_kept }
         ensures stands { KeepsBytes result [] }
@@ -41,7 +43,8 @@ impl Lines {
         }
     }
 
-    /// Takes the next piece of the stream, in a time linear in its bytes. An `Err` changes nothing.
+    /// At `Ok` the lines are those of the stream with this piece more. It takes a time linear in the bytes of the
+    /// piece. An `Err` is want of memory, and changes nothing.
     pub fn feed(&mut self, piece: &[u8]) -> Result<(), NoMemory>
         ensures ok { OnOk result ((bytes : List ℕ) → KeepsBytes self.old bytes → KeepsBytes self.new (bytes ++ piece.now)) }
         ensures err { OnErr result (self.new ≡ self.old) }
@@ -59,7 +62,7 @@ impl Lines {
         Ok(())
     }
 
-    /// Hands on the next line. There is none exactly where no LF is left.
+    /// Hands on the next line, which is taken out then. There is none exactly where no LF is left.
     pub fn next_line(&mut self) -> Option<LineEnd>
         ensures ready { self.old.ready ≡ option_to_list result ++ self.new.ready }
         ensures none { IfNone result (self.new.ready ≡ []) }

@@ -30,6 +30,7 @@ impl Model for OpenLine {
 }
 
 impl OpenLine {
+    /// An open line of no bytes.
     pub fn new(alloc: Global) -> Self
         ensures { result ≡ nothing_kept }
     {
@@ -40,13 +41,15 @@ impl OpenLine {
         }
     }
 
+    /// How many bytes have come, also where they are too many for a line.
     pub fn size(&self) -> u64
         ensures { result ≡ self.now.size }
     {
         self.size
     }
 
-    /// The line goes on with these bytes, which have no LF. An `Err` changes nothing.
+    /// At `Ok` the line has gone on with these bytes, which have no LF. An `Err` is want of memory, and changes
+    /// nothing.
     pub fn go_on(&mut self, bytes: &[u8]) -> Result<(), NoMemory>
         ensures ok { OnOk result (self.new ≡ with_bytes self.old bytes.now) }
         ensures err { OnErr result (self.new ≡ self.old) }
@@ -59,7 +62,7 @@ impl OpenLine {
         Ok(())
     }
 
-    /// Takes the line, which an LF ends.
+    /// Hands on the line, which an LF ends, or tells that it was too long. The next line has no bytes then.
     pub fn end(&mut self) -> LineEnd
         ensures end { result ≡ open_end self.old }
         ensures rest { self.new ≡ nothing_kept }

@@ -8,7 +8,7 @@ use crate::NoMemory;
 use rec_format::{Bytes, Digest};
 use std::alloc::{AllocError, Global};
 
-/// What stands before the first such byte, and behind it.
+/// What stands before the first such byte, and behind it; none where there is none.
 pub fn cut(text: &[u8], separator: u8) -> Option<(&[u8], &[u8])>
     ensures { IsCut separator text.now (option_map (λ parts. (parts.0.now, parts.1.now)) result) }
 {
@@ -20,7 +20,7 @@ pub fn cut(text: &[u8], separator: u8) -> Option<(&[u8], &[u8])>
     None
 }
 
-/// The digest that 40 hex digits of either case spell.
+/// The digest that 40 hex digits of either case spell; none exactly where the text is no such digits.
 pub fn digest_of(text: &[u8]) -> Option<Digest>
     ensures { (digest : Digest) → (result ≡ Some digest) ↔ IsDigestText text.now digest }
 {
@@ -41,7 +41,8 @@ fn parsed(text: &[u8]) -> Option<u64>
     digits.parse::<u64>().ok()
 }
 
-/// The number that decimal digits without a leading zero spell, where it isn't above the greatest.
+/// The number that decimal digits without a leading zero spell, where it isn't above the greatest; none exactly where
+/// the text spells none.
 pub fn number_of(text: &[u8], greatest: u64) -> Option<u64>
     ensures { (number : ℕ) → (result ≡ Some number) ↔ ((number ≤ greatest) × (text.now ≡ decimal number)) }
 {
@@ -53,7 +54,7 @@ pub fn number_of(text: &[u8], greatest: u64) -> Option<u64>
     Some(number)
 }
 
-/// The generation that a put expects, and none where it is a star.
+/// The generation that a put expects, where the text spells one or is a star, which expects none; else nothing.
 pub fn expect_of(text: &[u8]) -> Option<Option<u16>>
     ensures { (expect : Option ℕ) → (result ≡ Some expect) ↔ IsExpectText text.now expect }
 {
@@ -66,7 +67,8 @@ pub fn expect_of(text: &[u8]) -> Option<Option<u16>>
     }
 }
 
-/// The bytes that hex digits of either case spell, and none for a dash.
+/// At `Ok` the bytes that hex digits of either case spell, no bytes for a dash, and nothing for any other text. An
+/// `Err` is want of memory.
 pub fn data_of(alloc: Global, text: &[u8]) -> Result<Option<Bytes>, NoMemory>
     ensures { IfOk result (λ read. (bytes : List ℕ) → (read ≡ Some bytes) ↔ IsDataText text.now bytes) }
 {

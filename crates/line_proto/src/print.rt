@@ -7,7 +7,8 @@ use crate::{LineFault, NoMemory, Reply};
 use rec_format::{Bytes, Counts, Stamp};
 use std::alloc::Global;
 
-/// The hex digits of bytes in lower case, and a dash for none.
+/// At `Ok` the hex digits of the bytes in lower case, and a dash where there are no bytes. An `Err` is want of
+/// memory.
 pub fn data_of_bytes(alloc: Global, bytes: &[u8]) -> Result<String, NoMemory>
     ensures { IfOk result (λ text. string_bytes text ≡ data_text bytes.now) }
 {
@@ -118,7 +119,8 @@ fn text_of(alloc: Global, reply: &Reply) -> Result<String, NoMemory>
     }
 }
 
-/// Appends the reply's line, with its LF. An `Err` changes nothing; it is want of memory.
+/// At `Ok` the reply's line, with its LF, stands behind what was in `out`. An `Err` is want of memory, and changes
+/// nothing. `Halted` has no line.
 pub fn print_reply(alloc: Global, reply: &Reply, out: &mut Vec<u8>) -> Result<(), NoMemory>
     requires { reply.now ≢ Reply.Halted }
     ensures ok { OnOk result (out.new.items ≡ out.old.items ++ reply_text reply.now) }

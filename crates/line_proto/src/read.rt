@@ -99,8 +99,8 @@ fn put_of(alloc: Global, text: &[u8]) -> Result<Option<Command>, NoMemory>
     }))
 }
 
-/// The command that a line asks for, its LF not counted. It is none exactly where the line asks for no command: it is
-/// outside the grammar or too long. The only error is want of memory.
+/// At `Ok` the command that a line asks for, its LF not counted; none exactly where the line asks for no command: it
+/// is outside the grammar or too long. An `Err` is want of memory.
 pub fn read_command(alloc: Global, line: &[u8]) -> Result<Option<Command>, NoMemory>
     ensures exact { IfOk result (λ read. (command : Command) → (read ≡ Some command) ↔ IsCommandLine line.now command) }
     ensures in_range { IfOk result (λ read. IfSome read IsInRange) }

@@ -65,8 +65,8 @@ fn text_of_command(alloc: Global, command: &Command) -> Result<String, NoMemory>
     }
 }
 
-/// Appends the command's line, with its LF. The line spells the command, so it is read back as it. An `Err` changes
-/// nothing; it is want of memory.
+/// At `Ok` the command's line, with its LF, stands behind what was in `out`. The line spells the command, so it is
+/// read back as it. An `Err` is want of memory, and changes nothing.
 pub fn print_command(alloc: Global, command: &Command, out: &mut Vec<u8>) -> Result<(), NoMemory>
     requires { HasLine command.now }
     ensures ok { OnOk result (out.new.items ≡ out.old.items ++ command_text command.now) }

@@ -7,7 +7,8 @@ ghost use Rattle.line_proto.specs.declared.reply.Reply.{Reply};
 use crate::{Command, Reply};
 use std::alloc::Global;
 
-/// What carries out commands, and is tended after each line.
+/// What carries out commands, and is tended after each line. What a command and a tending do, also to what a crash
+/// leaves, each store says.
 pub trait Store: Drop {
     /// The store before a command, the command, its time in milliseconds, the reply, and the store after it.
     ghost acts: { Self → Command → ℕ → Reply → Self → Type 0 };
@@ -15,7 +16,8 @@ pub trait Store: Drop {
     /// The store before and after a tending.
     ghost tends: { Self → Self → Type 0 };
 
-    /// Carries out a command at a time in milliseconds. Want of memory is a reply too.
+    /// Answers a command that was carried out at a time in milliseconds. `quit` isn't asked of it. Want of memory is
+    /// a reply too.
     fn act(&mut self, alloc: Global, command: &Command, now: u64) -> Reply
         requires now { now ≤ 2 ^ 61 }
         requires command { IsInRange command.now }

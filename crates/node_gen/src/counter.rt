@@ -45,6 +45,7 @@ impl Model for ReplyCounter {
 }
 
 impl ReplyCounter {
+    /// A counter to which no line was written. It takes no memory.
     pub fn new() -> Self
         ensures { result ≡ record { written = []; counts = counts_of [] } }
     {
@@ -55,6 +56,7 @@ impl ReplyCounter {
         }
     }
 
+    /// The numbers of the lines that were written so far. What stands behind the last LF isn't counted.
     pub fn counts(&self) -> ReplyCounts
         ensures counts { result ≡ self.now.counts }
         ensures lines { CountsLines self.now.written result }

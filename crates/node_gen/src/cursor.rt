@@ -16,7 +16,7 @@ pub struct Cursor {
 }
 
 impl Cursor {
-    /// Takes the next line into the hand, where all of the last one is taken.
+    /// The next line is in the hand then, where all of the last one was taken.
     pub fn open_line(&mut self)
         requires { self.old.at ≤ length self.old.line.bytes }
         ensures { OpensLine self.old self.new }

@@ -28,6 +28,7 @@ impl Model for Script {
 }
 
 impl Script {
+    /// The script of so many records, of which nothing was taken.
     pub fn new(count: u32) -> Self
         ensures { result ≡ record { taken = []; left = script_text count } }
     {

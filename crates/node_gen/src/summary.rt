@@ -59,12 +59,14 @@ impl Summary {
         Summary { text }
     }
 
+    /// The bytes of the line, with its LF.
     pub fn as_slice(&self) -> &[u8]
         ensures { result.now ≡ self.now }
     {
         self.text.as_str().as_bytes()
     }
 
+    /// The line as text, with its LF.
     pub fn as_str(&self) -> &str
         ensures { result.now ≡ self.now }
     {

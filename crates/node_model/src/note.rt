@@ -135,12 +135,14 @@ impl Note {
         Note { text }
     }
 
+    /// The bytes of the note, without LF.
     pub fn as_slice(&self) -> &[u8]
         ensures { result.now ≡ self.now }
     {
         self.text.as_str().as_bytes()
     }
 
+    /// The note as text, without LF.
     pub fn as_str(&self) -> &str
         ensures { result.now ≡ self.now }
     {

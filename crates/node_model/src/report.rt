@@ -25,7 +25,7 @@ impl Model for Report {
 }
 
 impl Report {
-    /// That so many devices were formatted.
+    /// The line that tells that so many devices were formatted.
     pub fn formatted(devices: u16) -> Self
         ensures { result ≡ formatted_text devices ++ 10 ∷ [] }
     {
@@ -37,7 +37,7 @@ impl Report {
         Report { text }
     }
 
-    /// What is on a device.
+    /// The line that tells what is on a device.
     pub fn checked(device: u16, check: &DeviceCheck) -> Self
         ensures { result ≡ check_text device check.now.opened check.now.copies check.now.records check.now.tombstones ++ 10 ∷ [] }
     {
@@ -57,12 +57,14 @@ impl Report {
         Report { text }
     }
 
+    /// The bytes of the line, with its LF.
     pub fn as_slice(&self) -> &[u8]
         ensures { result.now ≡ self.now }
     {
         self.text.as_str().as_bytes()
     }
 
+    /// The line as text, with its LF.
     pub fn as_str(&self) -> &str
         ensures { result.now ≡ self.now }
     {

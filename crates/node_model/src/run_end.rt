@@ -51,11 +51,11 @@ impl DeviceRefusal {
 /// How a run ended. What has to hold where it ended so, its cause, stands with its status and its note in `specs/RunEnd.antt`.
 #[derive(Clone, Copy, PartialEq, Eq)]
 pub enum RunEnd {
-    /// The input was served to its end or to `quit`, and nothing is pending.
+    /// All went well: of a run the input was served to its end or to `quit`, and nothing is pending.
     Served,
     /// The words weren't accepted.
     WordsRefused,
-    /// The disk of this device failed at a start or in the closing flush.
+    /// The disk of this device failed, at a start, in the closing flush, or as it was formatted.
     DeviceFault { device: u16 },
     /// Reading the input failed.
     SourceFault,
@@ -72,7 +72,7 @@ pub enum RunEnd {
 }
 
 impl RunEnd {
-    /// The status that a program ends with.
+    /// The status that a program ends with, 0 where all went well.
     pub fn status(&self) -> u8
         ensures { result ≡ status_of self.now }
     {
@@ -88,7 +88,7 @@ impl RunEnd {
         }
     }
 
-    /// The note that goes with it.
+    /// The note that goes with the status; it has no bytes at 0.
     pub fn note(&self) -> Note
         ensures { result ≡ note_of self.now }
     {

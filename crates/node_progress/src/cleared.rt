@@ -21,6 +21,7 @@ impl<'a, L: Ends, E: Eprint + IsTerminal + Drop> Model for Cleared<'a, L, E> {
 }
 
 impl<'a, L: Ends, E: Eprint + IsTerminal + Drop> Cleared<'a, L, E> {
+    /// The link over this one, which clears the progress's line before each read and each write.
     pub fn new(link: L, progress: &'a Progress<E>) -> Cleared<'a, L, E>
         ensures { result ≡ link }
     {

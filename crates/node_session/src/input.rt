@@ -142,10 +142,11 @@ fn serve<T: Store, L: Source + Sink, C: Clock>(
     Ended::Long { taken }
 }
 
-/// Carries out the lines of the link's source until it ends, `quit` comes, the store halts, a fault or want of memory stops
-/// it, or `limit` bytes were taken. Each line is answered in order, and the store is tended after each line but `quit` and one
-/// that it halted at, also where the reply could not be printed. The replies are handed on together, which is that they are
-/// written and the link is flushed: before more is read, at the end, and as soon as they have 65,536 bytes.
+/// Answers how the session ended: the lines of the link's source were carried out until it ended, `quit` came, the store
+/// halted, a fault or want of memory stopped it, or `limit` bytes were taken. Each line is answered in order, and the store
+/// is tended after each line but `quit` and one that it halted at, also where the reply could not be printed. The replies are
+/// handed on together, which is that they are written and the link is flushed: before more is read, at the end, and as soon
+/// as they have 65,536 bytes.
 pub fn session<T: Store, L: Source + Sink, C: Clock>(
     alloc: Global,
     store: &mut T,

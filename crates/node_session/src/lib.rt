@@ -1,4 +1,5 @@
-//! A session: the lines of a source are carried out by a store, each is answered into a sink, and the store is tended.
+//! A session: the lines of a source are carried out by a store, each is answered into a sink, and the store is tended. A
+//! session has no disk: what a crash leaves is the store's to say.
 #![tactic(auto)]
 
 mod ended;

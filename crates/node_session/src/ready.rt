@@ -13,8 +13,9 @@ use io_traits::{Clock, Sink, SinkFault};
 use line_proto::{Lines, Store};
 use std::alloc::Global;
 
-/// Each line that is ready has its turn, in order, up to one at which the session stops; that is answered. The replies are handed
-/// on together, and none waits then.
+/// At `Ok(None)` each line that was ready has had its turn, in order, and no reply waits; at `Ok(Some)` the session stops at
+/// the last that had one, and it tells why. An `Err` is a fault of the sink: a front of the replies may be written. The
+/// replies are handed on together.
 pub fn serve_ready<T: Store, L: Sink, C: Clock>(
     alloc: Global,
     store: &mut T,

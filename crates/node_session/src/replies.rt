@@ -28,6 +28,7 @@ impl Model for Replies {
 }
 
 impl Replies {
+    /// No text yet, and no memory taken.
     pub fn new(alloc: Global) -> Self
         ensures { result ≡ [] }
     {
@@ -36,7 +37,7 @@ impl Replies {
         }
     }
 
-    /// Adds the text of a reply. An `Err` changes nothing.
+    /// At `Ok` the text of the reply stands behind the others. An `Err` is want of memory, and changes nothing.
     pub fn add(&mut self, alloc: Global, reply: &Reply) -> Result<(), NoMemory>
         requires { reply.now ≢ Reply.Halted }
         ensures ok { OnOk result (self.new ≡ self.old ++ reply_text reply.now) }
@@ -45,7 +46,8 @@ impl Replies {
         print_reply(alloc, reply, &mut self.text)
     }
 
-    /// Writes all of the text, and flushes the link; where there is none, nothing is done. At `Ok` collecting begins anew.
+    /// At `Ok` all of the text is written and the link flushed, and collecting begins anew; where there was no text, nothing
+    /// is done. After an `Err` a front of the text may be written, and the text stays.
     pub fn hand_on<K: Sink>(&mut self, link: &mut K) -> Result<(), SinkFault>
         ensures bytes { Sends self.old self.new (K.written link.old) (K.written link.new) result }
         ensures ok { OnOk result (self.new ≡ []) }
@@ -64,7 +66,7 @@ impl Replies {
         Ok(())
     }
 
-    /// Hands on all of the text where that is 65,536 bytes or more, so that there is room.
+    /// At `Ok` fewer than 65,536 bytes wait: where they were as many or more, all of the text was handed on, as by `hand_on`.
     pub fn make_room<K: Sink>(&mut self, link: &mut K) -> Result<(), SinkFault>
         ensures bytes { Sends self.old self.new (K.written link.old) (K.written link.new) result }
         ensures ok { OnOk result (length self.new < reply_room) }
@@ -83,7 +85,8 @@ impl Replies {
     }
 }
 
-/// Writes all of the text, in as many calls as the sink wants, and flushes it.
+/// At `Ok` all of the text is written, in as many calls as the sink wanted, and the sink is flushed. After an `Err` a front
+/// of it may be written.
 pub fn send<K: Sink>(link: &mut K, text: &[u8]) -> Result<(), SinkFault>
     ensures bytes { Sends text.now [] (K.written link.old) (K.written link.new) result }
     ensures cause { IsCaused (K.sink_faults link.old) (K.sink_faults link.new) result }

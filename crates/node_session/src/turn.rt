@@ -48,8 +48,8 @@ fn tend_unless<T: Store>(alloc: Global, store: &mut T, quits: bool)
     }
 }
 
-/// One line's turn: it is answered, the reply is added to those that wait, and the store is tended. The session stops at it, or
-/// goes on.
+/// At `None` the line was answered, the reply waits with the others, the store was tended, and the session goes on; else it
+/// stops at this line, and why it does is answered.
 pub fn turn<T: Store, C: Clock>(
     alloc: Global,
     store: &mut T,

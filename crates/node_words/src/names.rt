@@ -41,7 +41,8 @@ fn are_different_names(words: &[String]) -> bool
     true
 }
 
-/// Whether these words are the device names of a list.
+/// Whether these words are the device names of a list: 1 to 16 that differ, none of them empty or with a dash in
+/// front.
 pub fn are_names(words: &[String]) -> bool
     ensures { IsTrue result ↔ AreNames (map string_bytes words.now) }
 {

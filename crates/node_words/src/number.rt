@@ -10,7 +10,7 @@ fn parsed(text: &str) -> Option<u32>
     text.parse::<u32>().ok()
 }
 
-/// The number that decimal digits without a leading zero spell, where it is in the range.
+/// The number that decimal digits without a leading zero spell, where it is in the range; else none.
 pub fn number_of(text: &str, least: u32, greatest: u32) -> Option<u32>
     ensures { MatchOption result ((n : ℕ) → IsNumber least greatest text.now n → ⊥) (IsNumber least greatest text.now) }
 {
@@ -22,7 +22,8 @@ pub fn number_of(text: &str, least: u32, greatest: u32) -> Option<u32>
     Some(number)
 }
 
-/// The same, where it is a power of two.
+/// The number that decimal digits without a leading zero spell, where it is in the range and a power of two; else
+/// none.
 pub fn power_of(text: &str, least: u32, greatest: u32) -> Option<u32>
     ensures { MatchOption result ((n : ℕ) → IsNumber least greatest text.now n → IsPowerOfTwo n → ⊥) (λ n. IsNumber least greatest text.now n × IsPowerOfTwo n) }
 {

@@ -13,7 +13,7 @@ use std::alloc::Global;
 const HEADER_BYTES: u64 = 4_096;
 
 impl Shape {
-    /// The bytes of a device: its header and its blocks.
+    /// How many bytes a device of this shape has: its header and its blocks.
     pub fn file_length(&self) -> u64
         ensures { result ≡ file_length self.now }
     {
@@ -22,7 +22,7 @@ impl Shape {
 }
 
 impl Job {
-    /// The bytes of each device, where the job makes them.
+    /// How many bytes each device has, where the job makes them; else none.
     pub fn made_length(&self) -> Option<u64>
         ensures { result ≡ made_length self.now }
     {
@@ -42,8 +42,8 @@ pub struct Plan {
     pub make_len: Option<u64>,
 }
 
-/// What has to be made before these words are carried out. It is none exactly where they aren't accepted. The only error
-/// is want of memory.
+/// At `Ok` what has to be made before these words are carried out; none exactly where they aren't accepted. Nothing
+/// is opened or made. An `Err` is want of memory.
 pub fn names_of(alloc: Global, words: &[String]) -> Result<Option<Plan>, NoMemory>
     ensures { IfOk result (λ read. (plan : Plan) → (read ≡ Some plan) ↔ IsPlanned (map string_bytes words.now) plan) }
 {

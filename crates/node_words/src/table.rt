@@ -46,7 +46,8 @@ pub fn job_of(word: &str, options: &mut Options<'_>) -> Option<Job>
     }
 }
 
-/// The job of `gen` and its number, likewise.
+/// The job of `gen` and its number, with its options; each option of the job has then been asked for. It is none
+/// where an option says what its row doesn't allow.
 pub fn generate_of(count: u32, options: &mut Options<'_>) -> Option<Job>
     requires { (1 ≤ count) × (count ≤ 1000000) }
     ensures counted { IfSome result IsCounted }

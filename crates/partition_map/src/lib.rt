@@ -1,6 +1,7 @@
 //! Places by digest: the partition of a namespace, the sprig of a partition, the device of a node,
-//! and the part, which is one sprig counted over all partitions of its device.
-//! Each follows from the digest and the settings alone, so no call takes memory.
+//! and the part, which is one sprig counted over all partitions of its device. Each follows from
+//! the digest and the settings alone, so no call takes memory. Partitions and sprigs are
+//! Aerospike's, by its documentation.
 #![tactic(auto)]
 
 ghost use Rattle.std.specs.Prelude.{◌≡◌, ◌<◌, ◌≤◌};

@@ -33,7 +33,7 @@ impl<B> Model for Cache<B> {
 }
 
 impl<B: Drop> Cache<B> {
-    /// An empty cache with places for so many bodies, 0 for a cache that keeps none.
+    /// At `Ok` an empty cache with places for so many bodies, 0 for a cache that keeps none. An `Err` is want of memory.
     pub fn new(alloc: Global, blocks: u32) -> Result<Cache<B>, NoMemory>
         ensures { IfOk result (λ cache. cache ≡ record { kept = []; limit = blocks }) }
     {
@@ -45,8 +45,8 @@ impl<B: Drop> Cache<B> {
         })
     }
 
-    /// Keeps the body of a block in place of an older one of that block. Where there is then one too
-    /// many, the oldest goes.
+    /// The body of the block is kept then, in place of an older one of that block, where the cache has places. Where there is then one
+    /// too many, the oldest goes.
     pub fn keep(&mut self, block: u32, body: B)
         ensures kept { self.new ≡ record { kept = with_kept_body self.old.limit block body self.old.kept; limit = self.old.limit } }
         ensures bounds { IsCache self.new }
@@ -58,7 +58,7 @@ impl<B: Drop> Cache<B> {
         }
     }
 
-    /// The body of a block, where it is kept.
+    /// The body of a block, where it is kept. Its place in the order stays.
     pub fn peek(&self, block: u32) -> Option<&B>
         ensures { option_map (λ body. body.now) result ≡ body_of block self.now.kept }
     {
@@ -66,7 +66,7 @@ impl<B: Drop> Cache<B> {
         Some(&slot.body)
     }
 
-    /// Takes a block and its body out, where it is kept.
+    /// No body of the block is kept then. The others stay, in their order.
     pub fn forget(&mut self, block: u32)
         ensures kept { self.new ≡ record { kept = without_block block self.old.kept; limit = self.old.limit } }
         ensures bounds { IsCache self.new }

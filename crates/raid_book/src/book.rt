@@ -63,8 +63,8 @@ impl RaidBook {
         })
     }
 
-    /// Begins a raid, also over a running one, and answers its number, which is one more than the
-    /// last. Where that was 2^62 it answers none and changes nothing. A constant time.
+    /// Answers the number of a raid that begins, also over a running one: one more than the last.
+    /// Where that was 2^62 it answers none and changes nothing. A constant time.
     #[tactic(auto, unfolding(device_model::specs::Steps::after_step))]
     pub fn begin(&mut self) -> Option<u64>
         ensures answer { result ≡ (if self.old.number == top_number then None else Some (self.old.number + 1)) }
@@ -81,7 +81,7 @@ impl RaidBook {
         Some(self.number)
     }
 
-    /// Gives a raid up. The number rises by one, up to 2^62, also where no raid runs. A constant time.
+    /// No raid runs then. The number rises by one, up to 2^62, also where none ran. A constant time.
     #[tactic(auto, unfolding(device_model::specs::Steps::after_step))]
     pub fn give_up(&mut self)
         ensures book { self.new ≡ given_up self.old }
@@ -111,9 +111,10 @@ impl RaidBook {
         self.number
     }
 
-    /// Takes what was read in a block, each record with the part of its digest, and goes on to the
-    /// first part that has some of it. Want of memory leaves everything as it was. A time of
-    /// `n * log(n)` for `n` records, whatever the number of parts.
+    /// At `Ok` what was read in a block is in the book, each record with the part of its digest, and
+    /// the next turn is that of the first part that has some of it, or else the one behind the scan.
+    /// An `Err` is want of memory, and leaves everything as it was. A time of `n * log(n)` for `n`
+    /// records, whatever the number of parts.
     pub fn scanned(
         &mut self,
         alloc: Global,
@@ -151,8 +152,8 @@ impl RaidBook {
         Some((copy.digest, copy.stamp))
     }
 
-    /// Goes on after a turn of this part, to the next turn. After a comparison the part has no found
-    /// copies. A time of `log(n)` for `n` found copies, whatever the number of parts.
+    /// The turn of this part is done then, and the next one is the next. After a comparison the part
+    /// has no found copies. A time of `log(n)` for `n` found copies, whatever the number of parts.
     pub fn done_part(&mut self, part: u32)
         requires { turn_part (turn_of self.old.next) ≡ Some part }
         ensures book { self.new ≡ after_turn self.old.next part self.old }

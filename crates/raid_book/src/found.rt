@@ -17,7 +17,8 @@ pub struct FoundCopy {
     pub stamp: Stamp,
 }
 
-/// Found copies with their parts, in a row whose parts fall. Those of a part keep their order.
+/// At `Ok` found copies with their parts, in a row whose parts fall. Those of a part keep their order.
+/// An `Err` is want of memory.
 pub fn by_part(alloc: Global, found: &[Found], parts: &[u32]) -> Result<Vec<FoundCopy>, NoMemory>
     requires { length parts.now ≡ length found.now }
     ensures falls { IfOk result (λ row. Falls row.items) }
@@ -44,7 +45,7 @@ fn end_of(row: &[FoundCopy], part: u32) -> usize
     row.partition_point(|copy| part <= copy.part)
 }
 
-/// Takes out the last copy of a part, where it has one.
+/// The last copy of a part, which is taken out; none where the part has none.
 pub fn take_copy(row: &mut Vec<FoundCopy>, part: u32) -> Option<FoundCopy>
     requires { Falls row.old.items }
     ensures falls { Falls row.new.items }
@@ -62,7 +63,7 @@ pub fn take_copy(row: &mut Vec<FoundCopy>, part: u32) -> Option<FoundCopy>
     Some(row.remove(at))
 }
 
-/// Takes out all copies of a part that no other is before.
+/// The row has no copies of the part then, which no other part is before.
 pub fn drop_first(row: &mut Vec<FoundCopy>, part: u32)
     requires falls { Falls row.old.items }
     requires first { All (λ c. part ≤ c.part) row.old.items }
@@ -72,7 +73,7 @@ pub fn drop_first(row: &mut Vec<FoundCopy>, part: u32)
     row.truncate(kept);
 }
 
-/// The first part with copies.
+/// The first part with copies; none where there are none.
 pub fn first_of(row: &[FoundCopy]) -> Option<u32>
     requires { Falls row.now }
     ensures { result ≡ least_part row.now }

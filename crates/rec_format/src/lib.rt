@@ -1,4 +1,5 @@
-//! Records of a device: digests, stamps, versions, entries, and the bytes of a record.
+//! Records of a device: digests, stamps, versions, entries, and the bytes of a record. Digest, generation, last
+//! update time, void time and tombstone are Aerospike's, by its documentation; the bytes are this project's own.
 #![tactic(auto)]
 
 use std::alloc::AllocError;

@@ -77,8 +77,8 @@ fn read_head(bytes: &[u8]) -> Head
     }
 }
 
-/// The fields of 48 bytes as the head of a record, whatever stands behind them. A refusal is `Magic`, `Flags` or
-/// `Stamp`, the first that applies.
+/// At `Ok` the fields of 48 bytes as the head of a record, whatever stands behind them. An `Err` is `Magic`, `Flags`
+/// or `Stamp`, the first that applies, exactly where they are no head.
 pub fn parse_head(bytes: &[u8; HEAD_BYTES]) -> Result<Head, BadRec>
     ensures head { (h : Head) → (result ≡ Ok h) ↔ (CanBeHead h × (bytes.now ≡ head_text h)) }
     ensures bad { IfErr result (λ b. head_flaw bytes.now ≡ Some (flaw_of b)) }
@@ -120,8 +120,9 @@ fn flaw_in(bytes: &[u8]) -> Option<BadRec>
     None
 }
 
-/// The head and the units of the record at the front of some bytes, without its payload and without taking memory.
-/// What stands behind the record is free. A refusal names the first flaw, exactly where no record stands at the front.
+/// At `Ok` the head and the units of the record at the front of some bytes, without its payload and without taking
+/// memory. What stands behind the record is free. An `Err` names the first flaw, exactly where no record stands at
+/// the front.
 pub fn check_record(bytes: &[u8]) -> Result<(Head, u32), BadRec>
     ensures found { IfOk result (λ r. BeginsWithHead bytes.now r.0 r.1) }
     ensures bad { IfErr result (λ b. (record_flaw bytes.now ≡ Some (flaw_of b)) × BeginsWithNone bytes.now) }

@@ -12,15 +12,16 @@ pub struct Stamp {
     pub gen_: u16,
 }
 
-/// What a version is: a put of a payload, or the tombstone of a durable delete.
+/// What a version is: a put of a payload, or the tombstone of a durable delete, as the Aerospike documentation has
+/// it.
 #[derive(Clone, Copy, PartialEq, Eq)]
 pub enum Kind {
     Put,
     Tomb,
 }
 
-/// What a record holds at one time. `void` is the second from which it is expired, 0 for never. `cover` tells that a
-/// removal has to leave a tombstone, since older copies may stand on the device.
+/// What a record holds at one time. `void` is Aerospike's void time, the second from which it is expired, 0 for
+/// never. `cover` tells that a removal has to leave a tombstone, since older copies may stand on the device.
 #[derive(Drop)]
 pub struct Version {
     pub kind: Kind,

@@ -52,8 +52,8 @@ fn head_of(version: &Version, digest: &Digest, size: u32) -> [u8; HEAD_BYTES]
     head
 }
 
-/// Writes the text of a record over the front of `out`, without taking memory: the head, the payload, and zeros up to
-/// a whole unit. What stands behind it stays.
+/// The text of a record stands at the front of `out` then: the head, the payload, and zeros up to a whole unit of 16
+/// bytes. What stands behind it stays. It takes no memory, and isn't refused.
 pub fn pack_into(version: &Version, digest: &Digest, out: &mut [u8])
     requires version { IsVersion version.now }
     requires size { length version.now.payload ≤ 2 ^ 31 }
@@ -71,7 +71,8 @@ pub fn pack_into(version: &Version, digest: &Digest, out: &mut [u8])
     out[end..whole].fill(0);
 }
 
-/// Appends the text of a record to `out`. Without memory `out` keeps its bytes.
+/// At `Ok` the text of a record stands behind what was in `out`. An `Err` is want of memory, and `out` keeps its
+/// bytes.
 pub fn pack(
     _alloc: Global,
     version: &Version,

@@ -1,5 +1,5 @@
--- Crate recovery. What an image may have of the histories of a device: each version that is flushed, and none whose flush
--- hasn't begun. So it is behind a start, and where buffers are flushed to blocks whose gates were closed.
+-- Crate recovery. What an image has of the histories of a device where no block was used again: each version that is flushed,
+-- and none whose flush hasn't begun. So it is behind a start.
 use Rattle.std.specs.Prelude.{ℕ, ◌<◌, ◌==◌, List, [], ◌∷◌, map, if◌then◌else◌, Contains}
 use Rattle.std.specs.List.{AllByRecursion, list_any}
 use Rattle.rec_format.specs.declared.version.Digest.{Digest}
@@ -28,7 +28,7 @@ begun_versions pending (dropped ∷ older) = begun_versions pending older
 begun_versions pending (rid ∷ older) = begun_versions pending older
 begun_versions pending (cleared ∷ older) = begun_versions pending older
 
--- those that are flushed, which a crash must leave
+-- those that are flushed
 abbrev pub flushed_versions : Pending → List Item → List Version
 flushed_versions pending [] = []
 flushed_versions pending (write v numbers ∷ older) = if is_flushed pending numbers then v ∷ flushed_versions pending older else flushed_versions pending older

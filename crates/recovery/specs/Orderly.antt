@@ -1,4 +1,4 @@
--- Crate recovery. What the histories of a device keep as long as nothing but puts is carried out.
+-- Crate recovery. What the histories of a device keep as long as nothing is removed from them.
 use Rattle.std.specs.Prelude.{ℕ, ◌<◌, true, ◌&&◌, List, [], ◌∷◌, ◌≡◌, IsTrue}
 use Rattle.std.specs.List.{AllByRecursion}
 use Rattle.rec_format.specs.declared.version.Digest.{Digest}

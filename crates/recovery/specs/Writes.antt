@@ -1,4 +1,4 @@
--- Crate recovery. The version that a put may add, and images that differ in one block.
+-- Crate recovery. Images that differ in one block.
 use Rattle.std.specs.Prelude.{ℕ, ◌<◌, List, length, take, ◌≡◌, ◌≢◌}
 use Rattle.block_format.specs.declared.geometry.Geometry.{Geometry}
 use Rattle.block_format.specs.Layout.{gate_sector, body_bytes}

@@ -21,7 +21,7 @@ held setup digest sprigs = entry_in digest (slice_get sprigs (part_of setup dige
 abbrev pub all_entries : List SprigState → List Entry
 all_entries sprigs = flat_map (λ s. s.entries) sprigs
 
--- so all of them do
+-- all sprigs have the entries and the high times that they had; memory may have been taken
 abbrev pub AreSame : (old new : List SprigState) → Type 0
 AreSame [] [] = Unit {0}
 AreSame [] (y ∷ ys) = ⊥

@@ -32,7 +32,11 @@ use rec_format::{Digest, Stamp, Version};
 use std::alloc::Global;
 
 impl<D: Disk> Shard<D> {
-    /// Writes a version of a record: `put_step` over the digest's sprig.
+    /// At `Ok` this version is the record's, and its stamp is answered; a crash may lose it until its write buffer is flushed, and from
+    /// then on, until the record is removed, each crash leaves it or a later one. With commit on it is flushed at `Ok`. `ttl` is in
+    /// seconds from `now`, 0 for never; `now` is in milliseconds; `expect` is the generation that has to be seen, 0 for no record. After
+    /// a `Fault` with commit on the version may stand, pending; any other refusal leaves the record as it was. `put_step` over the
+    /// digest's sprig.
     pub fn put(
         &mut self,
         alloc: Global,
@@ -75,7 +79,10 @@ impl<D: Disk> Shard<D> {
         answer
     }
 
-    /// The record that is seen of a digest: `get_step` over the digest's sprig.
+    /// At `Ok` the version that is seen of the digest, none where there is no put or it is expired at `now`, in milliseconds; nothing is
+    /// written, and a crash leaves what it left before. On a sound device it is as it was put, and never `Damaged`; so it is on any
+    /// device where the block has a write buffer of the clients' stream, or such a flushed buffer is kept. `get_step` over the digest's
+    /// sprig.
     pub fn get(
         &mut self,
         alloc: Global,
@@ -90,7 +97,7 @@ impl<D: Disk> Shard<D> {
         ensures in_memory { (e : Entry) (b : BufferState) → held (setup_of self.old) digest.now self.old.sprigs ≡ Some e → Contains (in_memory self.old.shelf) b → b.block ≡ e.block
             → (self.new ≡ self.old) × IfErr result (λ refusal. refusal ≡ ReadRefusal.Memory) }
 
-        // It is what was put there; another is what stands at its place, on a disk that tells its bytes.
+        // From a buffer of the clients' stream it is what was put; from no buffer it is what stands at its place, on a disk that tells its bytes.
         ensures stored { GetsStored D.view self.old digest.now now result }
 
         // Over an honest disk nothing is damaged.
@@ -109,7 +116,8 @@ impl<D: Disk> Shard<D> {
         )
     }
 
-    /// What is known of the record that is seen of a digest: `meta_step` over the digest's sprig.
+    /// The stamp, the void time and the units of the record that is seen at `now`, in milliseconds, by the index alone; none where none
+    /// is seen. No disk is called. `meta_step` over the digest's sprig.
     pub fn meta(&self, digest: &Digest, now: u64) -> Option<Meta>
         requires named { device_number self.now.shelf.geometry.devices digest.now ≡ self.now.shelf.geometry.device }
         ensures { (s : State) → Agrees self.now s → result ≡ meta_of (seen_version s now digest.now) }
@@ -117,7 +125,10 @@ impl<D: Disk> Shard<D> {
         meta_step(&self.sprigs[self.part_of(digest)], digest, now)
     }
 
-    /// Deletes a record: `delete_step` over the digest's sprig.
+    /// At `Ok(true)` the record that was seen at `now` is gone, at `Ok(false)` there was none. An uncovered one is removed from the index
+    /// alone, without a refusal, and a crash may bring it or an older version back. For a covered one a tombstone is written, with the
+    /// refusals of `bury`: once that is flushed, which with commit on it is at `Ok`, no crash brings back what was there before it. `now`
+    /// is in milliseconds. `delete_step` over the digest's sprig.
     pub fn delete(&mut self, alloc: Global, digest: &Digest, now: u64) -> Result<bool, WriteRefusal>
         requires named { device_number self.old.shelf.geometry.devices digest.now ≡ self.old.shelf.geometry.device }
         requires now { now ≤ 2 ^ 61 }
@@ -144,7 +155,10 @@ impl<D: Disk> Shard<D> {
         answer
     }
 
-    /// Deletes a digest durably: `bury_step` over its sprig.
+    /// At `Ok` a tombstone stands for the digest, also where there was no record, and its stamp is answered; a crash may lose it until
+    /// its write buffer is flushed, and from then on no crash brings back what was there before it. With commit on it is flushed at `Ok`.
+    /// `now` is in milliseconds. The refusals are those of `put`, but for size and generation. Aerospike's durable delete; `bury_step`
+    /// over the digest's sprig.
     pub fn bury(&mut self, alloc: Global, digest: &Digest, now: u64) -> Result<Stamp, WriteRefusal>
         requires named { device_number self.old.shelf.geometry.devices digest.now ≡ self.old.shelf.geometry.device }
         requires now { now ≤ 2 ^ 61 }

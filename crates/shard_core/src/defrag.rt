@@ -20,7 +20,7 @@ use disk_model::Disk;
 use rec_format::Digest;
 use std::alloc::Global;
 
-/// A block that was vacated, and how many records were moved out of it.
+/// A write block that was vacated, by its number, and how many records were moved out of it.
 #[derive(Clone, Copy, Debug, PartialEq, Eq)]
 pub struct Vacated {
     pub block: u32,
@@ -28,8 +28,10 @@ pub struct Vacated {
 }
 
 impl<D: Disk> Shard<D> {
-    /// Vacates the block that has waited longest: each record that is live in it is moved, in the order in which they stand there. None
-    /// exactly where no block waits. After a refusal the records that were moved before stay moved.
+    /// At `Ok` nothing is live in the block that had waited longest, and it answers the block and how many records were moved, none
+    /// exactly where no block waited; of what was flushed no crash loses anything by it. A moved record goes to a write buffer; the block
+    /// is held until that is flushed. A refusal tells how many records were moved before, and these stay moved. Aerospike's
+    /// defragmentation.
     pub fn defrag_one(&mut self, alloc: Global) -> Result<Option<Vacated>, DefragRefusal>
         ensures makes { (s : State) → Agrees self.old s → MakesEvents D.view (IsVacating self.old s result) self.old s self.new }
         ensures few { IfOk result (λ done. IfSome done (λ vacated. vacated.moved < 2 ^ 16)) }

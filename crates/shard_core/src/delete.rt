@@ -28,9 +28,11 @@ use sprig_tree::Sprig;
 use std::alloc::Global;
 use tomb_rules::delete_writes;
 
-/// Deletes the record that is seen of a digest, over the digest's sprig and the shelf, and answers whether there was one. Where no older
-/// copy may be behind its entry, the entry is removed in memory alone, and a start may find the record again; this is never refused. A
-/// covered entry is replaced by a tombstone instead, with the refusals of `bury_step`.
+/// At `Ok(true)` the record that was seen at `now`, in milliseconds, is gone, at `Ok(false)` there was none, and nothing changed. Where
+/// no older copy may be behind its entry, the entry is removed in memory alone: no disk is called, it is never refused, and a crash may
+/// bring the record or an older version back, as the Aerospike documentation has it of deletes. A covered entry is replaced by a
+/// tombstone instead, with the refusals of `bury_step`: once that is flushed, which with commit on it is at `Ok`, no crash brings back
+/// what was there before it.
 pub fn delete_step<D: Disk>(
     alloc: Global,
     sprig: &mut Sprig,
@@ -62,9 +64,10 @@ pub fn delete_step<D: Disk>(
     Ok(true)
 }
 
-/// Deletes a digest durably, over the digest's sprig and the shelf: a tombstone is written, also where there is no record, and its stamp
-/// is answered. Once it is flushed, nothing from before it comes back. It goes to a write buffer as a put does; where a buffer has to
-/// begin, fewer blocks have to stay free. What stands after a refusal is as with a put.
+/// At `Ok` a tombstone stands for the digest, also where there was no record, and its stamp is answered; a crash may lose it until its
+/// write buffer is flushed, and from then on no crash brings back what was there before it. With commit on it is flushed at `Ok`. `now`
+/// is in milliseconds. It goes to a write buffer as a put does; where a buffer has to begin, 2 blocks have to stay free, and not 4. What
+/// stands after a refusal is as with `put_step`. Aerospike's durable delete.
 pub fn bury_step<D: Disk>(
     alloc: Global,
     sprig: &mut Sprig,
@@ -89,8 +92,8 @@ pub fn bury_step<D: Disk>(
     entomb(alloc, sprig, shelf, set, digest, prior, now)
 }
 
-/// Removes the entry of a digest: in memory alone where no older copy may be behind it, which is never refused. A covered one is replaced by
-/// a tombstone.
+/// At `Ok` the digest has no record: its entry is removed in memory alone where no older copy may be behind it, which is never refused,
+/// and a covered one is replaced by a tombstone. What a crash leaves is as with `delete_step`.
 pub(crate) fn remove_entry<D: Disk>(
     alloc: Global,
     sprig: &mut Sprig,

@@ -28,9 +28,10 @@ use rec_format::Digest;
 use sprig_tree::Sprig;
 use std::alloc::Global;
 
-/// Removes the entry of a digest, over the digest's sprig and the shelf, where it is a put that is expired, and answers whether it is. Where
-/// no older copy may be behind it, it is removed in memory alone, and a start may find it again; this is never refused. A covered entry is
-/// replaced by a tombstone instead, with the refusals of `bury_step`.
+/// At `Ok(true)` the entry of the digest, a put that was expired at `now`, in milliseconds, is removed; at `Ok(false)` it was no such
+/// put, and nothing changed. Where no older copy may be behind it, it is removed in memory alone: no disk is called, it is never refused,
+/// and a crash may bring it or an older version back. A covered entry is replaced by a tombstone instead, with the refusals of
+/// `bury_step`: once that is flushed, no crash brings back what was there before it.
 pub fn expire_step<D: Disk>(
     alloc: Global,
     sprig: &mut Sprig,
@@ -63,8 +64,9 @@ pub fn expire_step<D: Disk>(
 }
 
 impl<D: Disk> Shard<D> {
-    /// Removes the entries of a part that are expired, in digest order, and answers how many. One without older copies behind it is removed
-    /// in memory alone; a covered one is replaced by a tombstone. After a refusal what was removed before stays removed.
+    /// At `Ok` the entries of the part that were expired at `now`, in milliseconds, are removed, in digest order, and it answers how
+    /// many; what a crash leaves of each is as with `expire_step`. One without older copies behind it is removed in memory alone; a
+    /// covered one is replaced by a tombstone. A refusal tells how many were removed before, and these stay removed.
     pub fn expire_part(&mut self, alloc: Global, part: u32, now: u64) -> Result<u64, ExpireRefusal>
         requires part { part < part_total (setup_of self.old) }
         requires now { now ≤ 2 ^ 61 }

@@ -28,7 +28,8 @@ use std::alloc::Global;
 // No buffer has a greater number.
 const LAST_NUMBER: u64 = 1 << 62;
 
-/// Flushes the sealed buffers in rising number, up to the buffer of this number or to the first fault, and answers how many it flushed.
+/// At `Ok` the sealed buffers up to the one of this number are flushed, in rising number, and it answers how many. After the first fault
+/// those before it stay flushed.
 pub(crate) fn flush_up_to<D: Disk>(shelf: &mut Shelf<D>, last: u64) -> Result<u64, DiskFault>
     ensures flushed { (setup : Setup) (s : State) → IsSetupOf setup shelf.old → StandsFor setup shelf.old s → EndsRight last shelf.old.buffers
         → (steps : List Step) × FlushesAll result (flush_between 0 last s.book) steps × Goes D.view setup steps shelf.old s shelf.new }
@@ -52,7 +53,7 @@ pub(crate) fn flush_up_to<D: Disk>(shelf: &mut Shelf<D>, last: u64) -> Result<u6
     Ok(count)
 }
 
-/// Flushes all sealed buffers in rising number, up to the first fault, and answers how many it flushed.
+/// At `Ok` all sealed buffers are flushed, in rising number, and it answers how many. After the first fault those before it stay flushed.
 pub(crate) fn flush_sealed<D: Disk>(shelf: &mut Shelf<D>) -> Result<u64, DiskFault>
     ensures flushed { (setup : Setup) (s : State) → IsSetupOf setup shelf.old → StandsFor setup shelf.old s
         → (steps : List Step) × FlushesAll result (flush_all s.book) steps × Goes D.view setup steps shelf.old s shelf.new }
@@ -68,8 +69,10 @@ pub(crate) fn flush_sealed<D: Disk>(shelf: &mut Shelf<D>) -> Result<u64, DiskFau
 }
 
 impl<D: Disk> Shard<D> {
-    /// Seals the buffers that are being filled, and flushes all that is sealed in rising number; answers how many buffers it flushed.
-    /// After a fault those that were flushed stay so. It takes no memory. After `Ok` nothing is pending.
+    /// At `Ok` nothing is pending, and it answers how many buffers it flushed; from then on, until a record is removed, each crash leaves
+    /// its version of now or a later one, and nothing from before a tombstone comes back. The buffers that are being filled are sealed,
+    /// and all are flushed in rising number. After a fault those that were flushed stay so, and at least one is pending. It takes no
+    /// memory.
     pub fn flush(&mut self) -> Result<u64, DiskFault>
         ensures makes { (s : State) → Agrees self.old s → Makes D.view flush_call (flush_answer result) self.old s self.new }
         ensures few { IfOk result (λ n. n < 2 ^ 60) }
@@ -83,9 +86,10 @@ impl<D: Disk> Shard<D> {
         flush_sealed(&mut self.shelf)
     }
 
-    /// Makes room: seals what is due where at most 6 blocks are free, flushes what is sealed, as far as the disk goes, and vacates the block that
-    /// has waited longest, if one waits and that can gain room. It answers nothing. With a low-water mark of at most 50, a tending in which nothing
-    /// is refused leaves less to vacate than there was, or the device at rest: then a tending does nothing.
+    /// Makes room, and answers nothing; of what was flushed no crash loses anything by it. It seals what is due where at most 6 blocks
+    /// are free, flushes what is sealed, as far as the disk goes, and vacates the block that has waited longest, if one waits and that
+    /// can gain room. Where a block is free, no move is refused for want of space. With a low-water mark of at most 50, a tending in
+    /// which nothing is refused leaves less to vacate than there was, or the device at rest: then a tending does nothing.
     pub fn tend(&mut self, alloc: Global)
         ensures makes { (s : State) → Agrees self.old s → MakesEvents D.view (TendsWell (setup_of self.old) s) self.old s self.new }
         ensures later { IsLater (D.view self.old.shelf.disk) (D.view self.new.shelf.disk) }

@@ -31,9 +31,10 @@ fn close_gates<D: Disk>(disk: &mut D, geometry: &Geometry) -> Result<(), DiskFau
     Ok(())
 }
 
-/// Makes a disk a device of this shape: it closes the gate of each block, syncs, writes the header, and syncs. After `Ok` a
-/// crash leaves just that. At no moment does a crash leave a header that wasn't there before together with an open gate. After a
-/// fault the disk may hold some of it; format it again. It takes no memory.
+/// At `Ok` the disk is a device of this shape without a record, and from then on a crash leaves just that, on a disk that tells its
+/// bytes. It closes the gate of each block, syncs, writes the header, and syncs: at no moment does a crash of an honest disk leave a
+/// header that wasn't there before together with an open gate. After a fault the disk may hold some of it; format it again. It takes no
+/// memory.
 pub fn format_disk<D: Disk>(disk: &mut D, geometry: &Geometry) -> Result<(), DiskFault>
     requires geometry { IsGeometry geometry.now }
     requires room { device_end geometry.now ≤ (D.view disk.old).extent }

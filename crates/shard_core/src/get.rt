@@ -26,7 +26,8 @@ use rec_format::{Digest, Stamp, Version};
 use sprig_tree::Sprig;
 use std::alloc::Global;
 
-/// What is known of a record without reading it: its stamp, the second from which it is expired, 0 for never, and its units of 16 bytes.
+/// What is known of a record without reading it: its stamp (last update time and generation), its void time, the second from which it is
+/// expired, 0 for never, and its units of 16 bytes.
 #[derive(Clone, Copy, PartialEq, Eq)]
 pub struct Meta {
     pub stamp: Stamp,
@@ -34,10 +35,11 @@ pub struct Meta {
     pub units: u32,
 }
 
-/// The record that is seen of a digest, over the digest's sprig and the shelf: its version, if it is a put that isn't expired. It is read
-/// from its write buffer, or from its flushed buffer while that is kept, without a call of the disk, or else from its block with one; it is
-/// damaged where the head of the entry's record
-/// doesn't stand there.
+/// At `Ok` the version that is seen of the digest, none where there is no put or it is expired at `now`, in milliseconds; nothing is
+/// written, and a crash leaves what it left before. It is read from its write buffer, or from its flushed buffer while the post-write
+/// queue keeps that, without a call of the disk, or else from its block with one. What is read from a disk that tells its bytes is
+/// `Damaged` exactly where it hasn't the head of the entry's record; on a sound device nothing is damaged, and a version is as it was
+/// put.
 pub fn get_step<D: Disk>(
     alloc: Global,
     sprig: &mut Sprig,
@@ -58,7 +60,7 @@ pub fn get_step<D: Disk>(
     ensures in_memory { (e : Entry) (b : BufferState) → entry_of digest.now sprig.old.entries ≡ Some e → Contains (in_memory shelf.old) b → b.block ≡ e.block
         → (shelf.new ≡ shelf.old) × IfErr result (λ refusal. refusal ≡ ReadRefusal.Memory) }
 
-    // It is what was put there; another is what stands at its place, on a disk that tells its bytes.
+    // From a buffer of the clients' stream it is what was put; from no buffer it is what stands at its place, on a disk that tells its bytes.
     ensures stored { let setup = setup_for shelf.old.geometry set.now in
         ReadsStored D.view (StandTogether setup (part_of setup digest.now) sprig.old shelf.old) (entry_of digest.now sprig.old.entries) shelf.old digest.now now result }
 
@@ -79,7 +81,8 @@ pub fn get_step<D: Disk>(
     }
 }
 
-/// What is known of the record that is seen of a digest, by its sprig alone. It takes no memory, and isn't refused.
+/// The stamp, the void time and the units of the record that is seen at `now`, in milliseconds, by its sprig alone; none where none is
+/// seen. It takes no memory, calls no disk, and isn't refused.
 pub fn meta_step(sprig: &Sprig, digest: &Digest, now: u64) -> Option<Meta>
     ensures { (setup : Setup) (s : State) → SprigStands setup (part_of setup digest.now) sprig.now s → result ≡ meta_of (seen_version s now digest.now) }
 {

@@ -1,4 +1,8 @@
-//! One device of a node: its shelf of write blocks, the primary index over it, one sprig for each part, and the calls that read and write records.
+//! One device of a node: its shelf of write blocks, the primary index over it, one sprig for each part, and the calls that read and write
+//! records. A device is sound where its disk is honest, and was started from a sound image: what a comment tells of crashes is told of
+//! sound devices. Digest, sprig, write block, defragmentation, low-water mark, post-write queue, tombstone, generation, last update time
+//! and void time are Aerospike's, by its documentation or the paper "Aerospike: Architecture of a Real-Time Operational DBMS" (PVLDB,
+//! 2016).
 #![tactic(auto)]
 
 mod calls;

@@ -30,12 +30,12 @@ use sprig_tree::Sprig;
 use std::alloc::Global;
 use tomb_rules::cover_after;
 
-/// Writes a record's version over the sprig of its digest and the shelf, and answers its stamp. It expires `ttl` seconds after `now`, or
-/// never where `ttl` is 0. The digest is looked up once. Where a generation is expected, it is that of the record that is seen, 0 for none.
-/// The version goes to a write buffer, and doesn't wait for the disk, but where a buffer begins in a block whose gate isn't known to be
-/// shut: that gate is closed first. With commit on it is flushed before the answer, with all that was sealed before it. After a fault of
-/// that flush it stands all the same, pending. After a fault in closing a gate the block goes to the back of the free ones, and nothing is
-/// written; after any other refusal all is as before, but for memory that was taken.
+/// At `Ok` this version is the record's, and its stamp is answered; a crash may lose it until its write buffer is flushed, and from then
+/// on, until the record is removed, each crash leaves it or a later one. With commit on it is flushed at `Ok`, with all that was sealed
+/// before it. `ttl` is in seconds from `now`, 0 for never; `now` is in milliseconds; `expect` is the generation that has to be seen, 0
+/// for no record. Without commit the disk is called only to close the gate of a block in which a buffer begins, if that isn't known to be
+/// shut. After a `Fault` there the block goes to the back of the free ones, and nothing is written; after a `Fault` of the flush the
+/// version stands, pending; after any other refusal all is as before, but for memory that was taken.
 pub fn put_step<D: Disk>(
     alloc: Global,
     sprig: &mut Sprig,

@@ -23,7 +23,7 @@ use std::alloc::Global;
 pub enum RaidDid {
     /// So many entries of a part are marked.
     Marked { marks: u64 },
-    /// What may be in a block was found.
+    /// This block was scanned for copies that are older than marked entries.
     Scanned { block: u32 },
     /// Of so many marked entries of a part an older copy was found, so they have to stay.
     Applied { unmarked: u64 },
@@ -34,8 +34,9 @@ pub enum RaidDid {
 }
 
 impl<D: Disk> Shard<D> {
-    /// Begins a raid, also over a running one, whose marks are void then. Its number is one more than the last; where that was 2^62 none
-    /// begins, and nothing changes. It takes no memory.
+    /// At `Some` a raid has begun, also over a running one, whose marks are void then; it stands in memory alone, and a start finds none.
+    /// Its number is one more than the last; where that was 2^62 none begins, and nothing changes. It calls no disk, and takes no memory.
+    /// Aerospike's tomb raider.
     pub fn raid_begin(&mut self) -> Option<Raid>
         ensures makes { (s : State) → Agrees self.old s → Makes D.view begin_call (raid_numbered (number_of result)) self.old s self.new }
         ensures raid { result ≡ (if self.old.shelf.raid.number == top_number then None else Some (begun_raid (self.old.shelf.raid.number + 1))) }
@@ -45,9 +46,11 @@ impl<D: Disk> Shard<D> {
         raid_begin(&mut self.shelf)
     }
 
-    /// Takes the next turn of a raid, and answers by its kind; `Done` where none is left. It is refused as stale exactly where another raid has
-    /// begun since, or it was given up, or somebody else took its turn: then nothing changes. After any other refusal the raid is given up, and
-    /// none of its marks counts. Only the scan of a block takes memory or calls the disk.
+    /// At `Ok` the next turn of the raid was taken, and it answers by its kind, `Done` where none is left. On a sound device without an
+    /// unsure gate the scan of a block finds each copy in it that a start may find and that is older than a marked entry, and only copies
+    /// that a start may find: the marks of such entries go in the turns after it. It is refused as stale exactly where another raid has
+    /// begun since, or it was given up, or somebody else took its turn: then nothing changes. After any other refusal the raid is given
+    /// up, and none of its marks counts. `now` is in milliseconds. Only the scan of a block takes memory or calls the disk.
     pub fn raid_step(
         &mut self,
         alloc: Global,

@@ -31,7 +31,7 @@ impl<D: Disk> Model for Shard<D> {
 }
 
 impl<D: Disk> Shard<D> {
-    /// Gives the disk back. What its write buffers have is lost.
+    /// Gives the disk back as it is. What its write buffers have is lost, as by a crash.
     pub fn stop(self) -> D
         ensures { result ≡ self.shelf.disk }
     {

@@ -76,8 +76,9 @@ fn begun<D: Disk>(
 }
 
 impl<D: Disk> Shard<D> {
-    /// Takes a device into use. It syncs first, and reads the header, then each gate, then the bodies behind the open ones; nothing
-    /// is written. Of each digest that belongs to the device its latest copy is kept. A refusal hands the disk back.
+    /// At `Ok` the device is served from what its disk holds, of each digest of the device the latest copy; nothing was written, and a
+    /// crash leaves just what a read gives, on a disk that tells its bytes. From a sound image of an honest disk the device is sound. It
+    /// syncs, and reads the header, then each gate, then the bodies behind the open ones. A refusal tells why, and hands the disk back.
     pub fn start(
         alloc: Global,
         disk: D,

@@ -51,7 +51,8 @@ IsDamageOf g bytes block Memory = Unit {0}
 IsDamageOf g bytes block Fault = Unit {0}
 
 -- From a state for which the shelf stood, the scan of a block makes one event. Over an honest disk whose image was sound that event finds
--- each copy in the block that may be older than a marked entry: one that waits, and one that a crash may leave. It finds nothing but such copies.
+-- each copy in the block that is older than a marked entry: one that waits, and one that a crash may leave. It finds nothing but copies that wait
+-- there or that a crash may leave.
 pub record ScanMakes {D : Type 0} (view : D → DiskView) (setup : Setup) (block now : ℕ) (result : Result ℕ RaidRefusal) (old : ShelfView D) (s : State) (new : ShelfView D) : Type 0 where
   pub makes : MakesEvent view setup (turn_call old.raid.number (scan_turn block) now) (scan_answer result) old s new (StandOn setup new s)
   pub finds : IsHonest (view old.disk) → ImagesHold setup view old s → ScansAll s (possible_copies view new s) makes.event

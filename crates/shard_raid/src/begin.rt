@@ -63,8 +63,9 @@ impl Raid {
     }
 }
 
-/// Begins a raid, also over a running one, whose marks are void then. Its number is one more than the last; where that was 2^62 none begins,
-/// and nothing changes. Its first turn is that of the first part.
+/// At `Some` a raid has begun, also over a running one, whose marks are void then, and its first turn is that of the first part. Its
+/// number is one more than the last; where that was 2^62 none begins, and nothing changes. It stands in memory alone, and no disk is
+/// called.
 pub fn raid_begin<D: Disk>(shelf: &mut Shelf<D>) -> Option<Raid>
     ensures makes { (setup : Setup) (s : State) → IsSetupOf setup shelf.old → ShelfStands setup shelf.old s
         → MakesEvent D.view setup begin_call (raid_numbered (number_of result)) shelf.old s shelf.new (StandOn setup shelf.new s) }

@@ -21,8 +21,9 @@ use rec_format::{Digest, Entry, Stamp};
 use sprig_tree::Sprig;
 use tomb_rules::older;
 
-/// Takes the found copies of a part, and takes the mark from each entry that one of them is earlier than: such an entry has to stay as it
-/// is, since the copy would come back without it. Answers how many of them had the raid's mark, and goes on to the next turn.
+/// Each entry of which a copy was found that is earlier has no mark then: it has to stay as it is, since the copy would come back without
+/// it. It answers how many of them had the raid's mark. The found copies of the part are taken out, and the raid goes on to its next
+/// turn. No disk is called.
 pub fn raid_apply<D: Disk>(sprig: &mut Sprig, shelf: &mut Shelf<D>, part: u32) -> u64
     requires turn { shelf.old.raid.next ≡ RaidNext.Apply part }
     ensures makes { (setup : Setup) (s : State) (now : ℕ) → IsSetupOf setup shelf.old → StandTogether setup part sprig.old shelf.old s

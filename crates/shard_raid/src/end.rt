@@ -26,8 +26,9 @@ use raid_book::RaidNext;
 use rec_format::{Entry, Kind};
 use sprig_tree::Sprig;
 
-/// Ends the raid for a part: each marked tombstone loses its entry, and each marked put its cover flag. Answers how many of either, and goes
-/// on to the next turn. It takes no memory, and calls no disk.
+/// Each marked tombstone of the part has lost its entry then, and each marked put its cover flag, and it answers how many of either; over
+/// an honest disk whose image was sound none of them has an older copy in a pending buffer or in an image that a crash may leave. The
+/// raid goes on to its next turn. It takes no memory, and calls no disk.
 pub fn raid_end<D: Disk>(sprig: &mut Sprig, shelf: &mut Shelf<D>, part: u32) -> (u64, u64)
     requires turn { shelf.old.raid.next ≡ RaidNext.Drop part }
     requires stand { (setup : Setup) × (s : State) × IsSetupOf setup shelf.old × StandTogether setup part sprig.old shelf.old s }

@@ -18,8 +18,8 @@ use rec_format::Entry;
 use sprig_tree::Sprig;
 use tomb_rules::eligible;
 
-/// Marks each entry of the part that may go with the raid's number: a tombstone of at least `age` seconds, and a covered put. Answers how
-/// many, and goes on to the next turn.
+/// Each entry of the part that may go has the raid's number as its mark then, a tombstone of at least `age` seconds or a covered put, and
+/// it answers how many; the raid goes on to its next turn. `now` is in milliseconds. Marks stand in memory alone, and no disk is called.
 pub fn raid_mark<D: Disk>(
     sprig: &mut Sprig,
     shelf: &mut Shelf<D>,

@@ -32,8 +32,9 @@ pub enum RaidRefusal {
     Fault,
 }
 
-/// Scans the block whose turn it is, and answers it: the copies that may be in it, also those that only a crash would bring back, are found,
-/// and the raid goes on to its next turn. After a refusal the raid is given up, and its marks are void.
+/// At `Ok` the block whose turn it is was scanned, and is answered; over an honest disk whose image was sound each copy in it that is
+/// older than a marked entry was found, in a pending buffer or in an image that a crash may leave, and nothing but copies that a start
+/// may find. The raid goes on to its next turn. After a refusal it is given up, and its marks are void.
 pub fn raid_scan<D: Disk>(alloc: Global, shelf: &mut Shelf<D>) -> Result<u32, RaidRefusal>
     requires turn { (block : ℕ) × (shelf.old.raid.next ≡ RaidNext.Scan block) }
     ensures makes { (setup : Setup) (s : State) (now block : ℕ) → shelf.old.raid.next ≡ RaidNext.Scan block → IsSetupOf setup shelf.old → ShelfStands setup shelf.old s

@@ -42,7 +42,8 @@ impl Sprig {
         }
     }
 
-    /// Makes room for `n` entries more, or answers want of memory and leaves everything as it was.
+    /// At `Ok` there is room for `n` entries more. An `Err` is want of memory, and leaves everything as it
+    /// was.
     pub fn reserve(&mut self, n: u32) -> Result<(), NoMemory>
         ensures room { OnOk result (n ≤ self.new.spare) }
         ensures grows { self.old.spare ≤ self.new.spare }
@@ -61,7 +62,8 @@ impl Sprig {
         self.row.reserve_exact(count.max(self.row.len() / 8))
     }
 
-    /// Puts an entry of a digest that has none into its place, in room that was reserved.
+    /// The entry is in its place then, in room that was reserved; its digest must have had none. The high
+    /// time rises to its time, if it was below.
     pub fn insert(&mut self, entry: Entry)
         requires room { 1 ≤ self.old.spare }
         requires absent { entry_of entry.digest self.old.entries ≡ None }
@@ -79,7 +81,7 @@ impl Sprig {
         self.high = self.high.max(entry.stamp.lut);
     }
 
-    /// The entry of a digest.
+    /// The entry of a digest; none where it has none.
     pub fn find(&self, digest: &Digest) -> Option<Entry>
         ensures value { result ≡ entry_of digest.now self.now.entries }
         ensures sorted { IsInDigestOrder self.now.entries }
@@ -90,7 +92,8 @@ impl Sprig {
         }
     }
 
-    /// Puts an entry in place of the one of its digest, which there must be.
+    /// The entry stands in place of the one of its digest then, which there must be. The high time rises to
+    /// its time, if it was below.
     pub fn replace(&mut self, entry: Entry)
         requires { IsSome (entry_of entry.digest self.old.entries) }
         ensures { self.new ≡ record self.old {
@@ -109,8 +112,8 @@ impl Sprig {
         self.high = self.high.max(entry.stamp.lut);
     }
 
-    /// Takes the entry of a digest out, where there is one. Its room is spare from then on, and the
-    /// high time stays.
+    /// The entry of a digest, which is taken out, where there was one. Its room is spare from then on, and
+    /// the high time stays.
     pub fn remove(&mut self, digest: &Digest) -> Option<Entry>
         ensures value { result ≡ entry_of digest.now self.old.entries }
         ensures rest { self.new ≡ record self.old {
@@ -128,7 +131,8 @@ impl Sprig {
         }
     }
 
-    /// The first entry after a digest, which need not have one itself; of no digest, the first of all.
+    /// The first entry after a digest, which need not have one itself; of no digest, the first of all. None
+    /// where there is none.
     pub fn next_after(&self, digest: Option<&Digest>) -> Option<Entry>
         ensures value { result ≡ entry_after (option_copied digest.entry) self.now.entries }
         ensures sorted { IsInDigestOrder self.now.entries }
@@ -155,14 +159,14 @@ impl Sprig {
         self.tally
     }
 
-    /// The high time.
+    /// The high time, in milliseconds.
     pub fn hw(&self) -> u64
         ensures { result ≡ self.now.hw }
     {
         self.high
     }
 
-    /// Raises the high time to this one, if it is below it.
+    /// The high time is this one then, in milliseconds, if it was below it.
     pub fn raise_hw(&mut self, time: u64)
         ensures { self.new ≡ record self.old { hw = max self.old.hw time } }
     {

@@ -1,6 +1,7 @@
-//! Decisions on covers and tombstones, each from one entry of the index.
-//! A covered entry may have an older copy behind it on the device, which a removal from the index
-//! alone would bring back at a cold start. No call takes memory.
+//! Decisions on covers and tombstones, each from one entry of the index. A covered entry may have
+//! an older copy behind it on the device, which a removal from the index alone would bring back at
+//! a cold start. No call takes memory. Tombstones of durable deletes, and a tomb raider that takes
+//! them away after an age, are Aerospike's, by its documentation.
 #![tactic(auto)]
 
 ghost use Rattle.std.specs.Prelude.{◌≡◌};

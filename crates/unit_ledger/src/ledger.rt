@@ -25,7 +25,7 @@ impl Model for Ledger {
 }
 
 impl Ledger {
-    /// A ledger of so many blocks, in which nothing is live.
+    /// At `Ok` a ledger of so many blocks, in which nothing is live. An `Err` is want of memory.
     pub fn new(alloc: Global, blocks: u32) -> Result<Ledger, NoMemory>
         ensures { IfOk result (λ ledger. ledger ≡ replicate blocks empty_roll) }
     {
@@ -36,7 +36,7 @@ impl Ledger {
         Ok(Ledger { rolls })
     }
 
-    /// Makes room for one more copy in a block, or answers want of memory and leaves everything as
+    /// At `Ok` there is room for one more copy in a block. An `Err` is want of memory, and leaves everything as
     /// it was.
     pub fn reserve(&mut self, _alloc: Global, block: u32) -> Result<(), NoMemory>
         requires { block < length self.old }
@@ -49,8 +49,8 @@ impl Ledger {
         self.rolls[block as usize].reserve()
     }
 
-    /// Adds a live copy to a block, in room that was reserved: no other may begin at its unit, and
-    /// the block's use may come to 65,278 units, the capacity of the greatest block.
+    /// A copy of the digest is live at the unit of the block then, in room that was reserved: no other may
+    /// begin at its unit, and the block's use may come to 65,278 units, the capacity of the greatest block.
     pub fn add(&mut self, block: u32, unit: u32, units: u32, digest: &Digest)
         requires in_range { block < length self.old }
         requires room { 1 ≤ spare_of block self.old }
@@ -68,7 +68,8 @@ impl Ledger {
         });
     }
 
-    /// Takes the live copy at a unit out of its block, and answers the use that is left of it.
+    /// The copy at a unit of a block is no longer live then, and the use that is left of the block is answered,
+    /// in units. Its room is spare.
     pub fn drop_live(&mut self, block: u32, unit: u32, units: u32) -> u32
         requires in_range { block < length self.old }
         requires live { IsSomeAnd (copy_at unit (copies_in block self.old)) (λ c. c.units ≡ units) }
@@ -92,7 +93,8 @@ impl Ledger {
         self.rolls[block as usize].used()
     }
 
-    /// The digests of the live copies of a block, in the order in which these stand there.
+    /// At `Ok` the digests of the live copies of a block, in the order in which these stand there. An `Err` is
+    /// want of memory.
     pub fn digests(&self, alloc: Global, block: u32) -> Result<Vec<Digest>, NoMemory>
         requires { block < length self.now }
         ensures value { IfOk result (λ digests. digests.items ≡ digests_by_unit (copies_in block self.now)) }

@@ -1,5 +1,5 @@
-//! Which copies of records are live in each block of a device, and how many units they take.
-//! Calls but `new`, `reserve` and `digests` take no memory, and none but `new` is linear in the number of blocks.
+//! Which copies of records are live in each block of a device, and how many units of 16 bytes they take. Calls
+//! but `new`, `reserve` and `digests` take no memory, and none but `new` is linear in the number of blocks.
 #![tactic(auto)]
 
 mod ledger;

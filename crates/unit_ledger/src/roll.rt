@@ -36,6 +36,7 @@ impl Model for Roll {
 }
 
 impl Roll {
+    /// A roll of no copies, without room. It keeps the allocator.
     pub fn new(alloc: Global) -> Roll
         ensures { result ≡ empty_roll }
     {
@@ -45,6 +46,7 @@ impl Roll {
         }
     }
 
+    /// At `Ok` there is room for one copy more. An `Err` is want of memory, and changes nothing.
     pub fn reserve(&mut self) -> Result<(), NoMemory>
         ensures room { OnOk result (1 ≤ self.new.spare) }
         ensures more { self.old.spare ≤ self.new.spare }
@@ -55,6 +57,7 @@ impl Roll {
         self.row.reserve(1)
     }
 
+    /// The copy is the last one then, in room that was reserved. No other may begin at its unit.
     pub fn add(&mut self, copy: LiveCopy)
         requires room { 1 ≤ self.old.spare }
         requires absent { copy_at copy.unit self.old.copies ≡ None }
@@ -65,6 +68,7 @@ impl Roll {
         self.row.push_reserved(copy);
     }
 
+    /// The copy at a unit is gone then, and the sum of the units that are left is answered. Its room is spare.
     pub fn drop_live(&mut self, unit: u32, units: u32) -> u32
         requires { IsSomeAnd (copy_at unit self.old.copies) (λ c. c.units ≡ units) }
         ensures left { result ≡ sum_by (λ c. c.units) self.new.copies }
@@ -75,12 +79,14 @@ impl Roll {
         self.sum
     }
 
+    /// The sum of the units of all copies.
     pub fn used(&self) -> u32
         ensures { result ≡ sum_by (λ c. c.units) self.now.copies }
     {
         self.sum
     }
 
+    /// At `Ok` the digests of the copies, in rising unit. An `Err` is want of memory.
     pub fn digests(&self, alloc: Global) -> Result<Vec<Digest>, NoMemory>
         ensures value { IfOk result (λ digests. digests.items ≡ digests_by_unit self.now.copies) }
         ensures order { AreByUnit self.now.copies (by_unit self.now.copies) }

@@ -40,7 +40,8 @@ impl Model for Buffer {
 }
 
 impl Buffer {
-    /// An empty buffer of a block, which is being filled with the records of clients. All its memory is taken here; `block_size` is in bytes.
+    /// At `Ok` an empty buffer of a block, which is being filled with the records of clients. All its memory is taken here; `block_size`
+    /// is in bytes. An `Err` is want of memory.
     pub fn new(alloc: Global, number: u64, block: u32, block_size: u32) -> Result<Buffer, NoMemory>
         requires number { number ≤ top_number }
         requires size { IsBlockSize block_size }
@@ -72,15 +73,15 @@ impl Buffer {
         self
     }
 
-    /// The units that are left.
+    /// The units of 16 bytes that are left.
     pub fn room(&self) -> u32
         ensures { used_units self.now + result ≡ self.now.capacity }
     {
         self.capacity - self.used
     }
 
-    /// Appends the record of a version, for which there is room, and answers the unit at which it begins: the units of
-    /// the records before it. It takes no memory.
+    /// The record of a version, for which there is room, stands behind the others then, and the unit at which it begins is answered: the
+    /// units of the records before it. It takes no memory.
     pub fn append(&mut self, digest: &Digest, version: &Version) -> u32
         requires filling { self.old.phase ≡ Filling }
         requires version { IsVersion version.now }
@@ -103,7 +104,7 @@ impl Buffer {
         unit
     }
 
-    /// Ends the filling. A buffer that is past it stays as it is.
+    /// The buffer takes no more records then. One that is past that stays as it is.
     pub fn seal(&mut self)
         ensures sealed { self.new ≡ with_phase (later_phase self.old.phase Sealed) self.old }
         ensures rises { phase_rank self.old.phase ≤ phase_rank self.new.phase }
@@ -111,7 +112,7 @@ impl Buffer {
         self.set_phase(Phase::Sealed);
     }
 
-    /// Brings the buffer to a phase. A buffer that is past it stays as it is.
+    /// The buffer is at the phase then. One that is past it stays as it is.
     pub fn set_phase(&mut self, phase: Phase)
         ensures set { self.new ≡ with_phase (later_phase self.old.phase phase) self.old }
         ensures rises { phase_rank self.old.phase ≤ phase_rank self.new.phase }
