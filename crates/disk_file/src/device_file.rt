@@ -4,7 +4,7 @@ use std::alloc::Global;
 use std::fs::{File, FileType, Metadata, OpenOptions, TryLockError, metadata, remove_file};
 use std::io;
 use std::io::{ErrorKind, Seek, SeekFrom};
-use std::os::unix::fs::{FileExt, FileTypeExt};
+use std::os::unix::fs::{FileExt, FileTypeExt, MetadataExt};
 use std::path::Path;
 use std::rt::Files;
 use thiserror::Error;
@@ -51,6 +51,17 @@ pub fn open_to_read<R: Files<File = File>>(
 ) -> Result<FileDisk<File>, OpenFault> {
     let found = find(rt, name, false)?;
     Ok(FileDisk::new(found.file, found.len))
+}
+
+/// Whether two names are of one file, or of one block device. It isn't where nothing is there.
+pub fn are_one<R: Files<File = File>>(rt: &R, name: &str, other: &str) -> bool {
+    let (Ok(one), Ok(two)) = (metadata(rt, name), metadata(rt, other)) else {
+        return false;
+    };
+    if one.file_type().is_block_device() && two.file_type().is_block_device() {
+        return one.rdev() == two.rdev();
+    }
+    one.dev() == two.dev() && one.ino() == two.ino()
 }
 
 /// Where nothing has this name, a new file of `len` bytes, each of which was written once and synced, as its folder was. Where that

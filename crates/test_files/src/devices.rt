@@ -1,5 +1,5 @@
 // Devices that are opened and made, and what can't be one.
-use disk_file::{OpenFault, Watch, fill_standard, make_device, open_device, open_to_read};
+use disk_file::{OpenFault, Watch, are_one, fill_standard, make_device, open_device, open_to_read};
 use disk_model::{Disk, DiskFault};
 use std::fs;
 use std::process::Abort;
@@ -99,6 +99,25 @@ fn what_is_opened_to_read_is_not_written(rt: HostRuntime) -> Result<(), Fail> {
     let bytes = fs::read(&rt, name)?;
     assert_eq!(rt; bytes.as_slice(), b"something".as_slice());
     fs::remove_file(&rt, name)?;
+    Ok(())
+}
+
+#[test]
+fn two_names_may_be_of_one_file(rt: HostRuntime) -> Result<(), Fail> {
+    let (one, other) = ("disk_file_one", "disk_file_other");
+    let _ = fs::remove_file(&rt, other);
+    fs::write(&rt, one, b"something")?;
+    assert!(rt; are_one(&rt, one, one));
+    assert!(rt; are_one(&rt, one, "./disk_file_one"));
+    assert!(rt; !are_one(&rt, one, other));
+    assert!(rt; !are_one(&rt, other, other));
+    fs::write(&rt, other, b"something")?;
+    assert!(rt; !are_one(&rt, one, other));
+    fs::remove_file(&rt, other)?;
+    fs::hard_link(&rt, one, other)?;
+    assert!(rt; are_one(&rt, one, other));
+    fs::remove_file(&rt, one)?;
+    fs::remove_file(&rt, other)?;
     Ok(())
 }
 
