@@ -1,10 +1,10 @@
 // Devices by their names: what is there is opened, and where nothing is there a new file is made.
 use crate::{FileDisk, Watch};
 use std::alloc::Global;
-use std::fs::{File, OpenOptions, TryLockError, remove_file};
+use std::fs::{File, FileType, Metadata, OpenOptions, TryLockError, metadata, remove_file};
 use std::io;
 use std::io::{ErrorKind, Seek, SeekFrom};
-use std::os::unix::fs::{FileExt, FileTypeExt};
+use std::os::unix::fs::{FileExt, FileTypeExt, MetadataExt};
 use std::path::Path;
 use std::rt::Files;
 use thiserror::Error;
@@ -30,7 +30,7 @@ pub enum OpenFault {
     Unmade(io::Error),
 }
 
-// What was found under a name, open to read and write, and locked; its length in bytes.
+// What was found under a name, open and locked; its length in bytes.
 #[derive(Drop)]
 struct Found {
     file: File,
@@ -41,8 +41,28 @@ struct Found {
 /// At `Ok` the whole file or block device of this name, open to read and write and locked, so that no other process opens it like this
 /// meanwhile; nothing was written. A refusal tells why it isn't opened.
 pub fn open_device<R: Files<File = File>>(rt: &R, name: &str) -> Result<FileDisk<File>, OpenFault> {
-    let found = find(rt, name)?;
+    let found = find(rt, name, true)?;
     Ok(FileDisk::new(found.file, found.len))
+}
+
+/// The same, open for reading alone, so it may be one that the user may not write: each write to it is a fault. It is locked likewise.
+pub fn open_to_read<R: Files<File = File>>(
+    rt: &R,
+    name: &str,
+) -> Result<FileDisk<File>, OpenFault> {
+    let found = find(rt, name, false)?;
+    Ok(FileDisk::new(found.file, found.len))
+}
+
+/// Whether two names are of one file, or of one block device. It isn't where nothing is there.
+pub fn are_one<R: Files<File = File>>(rt: &R, name: &str, other: &str) -> bool {
+    let (Ok(one), Ok(two)) = (metadata(rt, name), metadata(rt, other)) else {
+        return false;
+    };
+    if one.file_type().is_block_device() && two.file_type().is_block_device() {
+        return one.rdev() == two.rdev();
+    }
+    one.dev() == two.dev() && one.ino() == two.ino()
 }
 
 /// At `Ok` a locked file of `len` bytes, where nothing had this name: each byte was written once, and they and its folder were synced.
@@ -75,21 +95,20 @@ fn open_up_to<R: Files<File = File>>(
     name: &str,
     asked: u64,
 ) -> Result<FileDisk<File>, OpenFault> {
-    let Found { file, is_file, len } = find(rt, name)?;
+    let Found { file, is_file, len } = find(rt, name, true)?;
     if is_file && len > asked {
         return Err(OpenFault::Longer { len, asked });
     }
     Ok(FileDisk::new(file, len.min(asked)))
 }
 
-// Opens what is there.
-fn find<R: Files<File = File>>(rt: &R, name: &str) -> Result<Found, OpenFault> {
-    let opened = OpenOptions::new().read(true).write(true).open(rt, name);
+// Opens what is there, to read and, where that is asked for, to write. The kind is looked at before too: a pipe that is opened to read
+// alone would wait for its writer.
+fn find<R: Files<File = File>>(rt: &R, name: &str, writes: bool) -> Result<Found, OpenFault> {
+    storage_kind(metadata(rt, name))?;
+    let opened = OpenOptions::new().read(true).write(writes).open(rt, name);
     let mut file = opened.map_err(refusal)?;
-    let kind = file.metadata().map_err(OpenFault::Refused)?.file_type();
-    if !kind.is_file() && !kind.is_block_device() {
-        return Err(OpenFault::NoStorage);
-    }
+    let kind = storage_kind(file.metadata())?;
     lock(&file)?;
     let len = file.seek(SeekFrom::End(0)).map_err(OpenFault::Refused)?;
     Ok(Found {
@@ -97,6 +116,15 @@ fn find<R: Files<File = File>>(rt: &R, name: &str) -> Result<Found, OpenFault> {
         is_file: kind.is_file(),
         len,
     })
+}
+
+// The kind of what was found: a file or a block device, as nothing else can be a device.
+fn storage_kind(found: io::Result<Metadata>) -> Result<FileType, OpenFault> {
+    let kind = found.map_err(refusal)?.file_type();
+    if !kind.is_file() && !kind.is_block_device() {
+        return Err(OpenFault::NoStorage);
+    }
+    Ok(kind)
 }
 
 // Why something can't be opened.

@@ -39,9 +39,9 @@ fn forget_pages<F: AsRawFd>(file: &F) {
 }
 
 impl<F: FileExt + OpenFile + AsRawFd + Seek + Drop> FileDisk<F> {
-    /// The first `len` bytes of a file that is open to read and write, as a disk, of which nothing waits for a sync. What the system
-    /// keeps of it in memory is let go, as far as it was written, since after a sync that failed in an earlier process it isn't what the
-    /// drive has.
+    /// The first `len` bytes of a file, as a disk, of which nothing waits for a sync. The file is open to read and write; where it is open to
+    /// read alone, each write is a fault. What the system keeps of it in memory is let go, as far as it was written, since after a sync that
+    /// failed in an earlier process it isn't what the drive has.
     pub fn new(file: F, len: u64) -> FileDisk<F>
         ensures { result ≡ record { waiting = record { len = len; written = []; lost = [] }; faults = 0; calls = 0 } }
     {

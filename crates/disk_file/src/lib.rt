@@ -8,7 +8,7 @@ mod standard;
 mod unsynced;
 mod watch;
 
-pub use device_file::{OpenFault, make_device, open_device};
+pub use device_file::{OpenFault, are_one, make_device, open_device, open_to_read};
 pub use file_disk::FileDisk;
 pub use standard::fill_standard;
 pub use watch::Watch;

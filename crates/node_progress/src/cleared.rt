@@ -7,7 +7,7 @@ use std::io::IsTerminal;
 use std::marker::Model;
 
 /// A link that clears the line of the progress before each read and each write, so that the line stands neither beside what is typed nor
-/// beside the output. In clauses it is the link below.
+/// beside the output; the first read tells that lines are served. In clauses it is the link below.
 #[derive(Drop)]
 pub struct Cleared<'a, L: Ends, E: Eprint + IsTerminal + Drop> {
     link: L,
@@ -52,6 +52,7 @@ impl<'a, L: Ends, E: Eprint + IsTerminal + Drop> Ends for Cleared<'a, L, E> {
 impl<'a, L: Source, E: Eprint + IsTerminal + Drop> Source for Cleared<'a, L, E> {
     fn read_some(&mut self, out: &mut [u8]) -> Result<usize, SourceFault> {
         self.progress.end();
+        self.progress.ready();
         self.link.read_some(out)
     }
 }

@@ -7,6 +7,9 @@ use std::sync::atomic::{AtomicBool, Ordering};
 // Writes spaces over what a line shows, and goes back to its start.
 const CLEARED: &str = "\r                    \r";
 
+// What is told once lines are served.
+const READY: &str = "ready: one command a line; quit or Ctrl-D ends the run\n";
+
 // What the line shows.
 #[derive(Clone, Copy, PartialEq, Eq, Drop)]
 struct Shown {
@@ -22,6 +25,7 @@ pub struct Progress<E: Eprint + IsTerminal + Drop> {
     is_terminal: bool,
     shown: Mutex<Option<Shown>>,
     begun: AtomicBool,
+    greets: AtomicBool,
 }
 
 // How many of a hundred parts are done; 0 where there is nothing to do.
@@ -38,6 +42,7 @@ impl<E: Eprint + IsTerminal + Drop> Progress<E> {
             is_terminal,
             shown: Mutex::new(None),
             begun: AtomicBool::new(false),
+            greets: AtomicBool::new(false),
         }
     }
 
@@ -76,6 +81,19 @@ impl<E: Eprint + IsTerminal + Drop> Progress<E> {
     /// Whether it has begun.
     pub fn has_begun(&self) -> bool {
         self.begun.load(Ordering::SeqCst)
+    }
+
+    /// A person types the lines: `ready` is to tell when they are served.
+    pub fn greet(&self) {
+        self.greets.store(self.is_terminal, Ordering::SeqCst);
+    }
+
+    /// The devices are started, and lines are waited for. The first time that is told, where it was asked for.
+    pub fn ready(&self) {
+        if self.greets.load(Ordering::SeqCst) {
+            self.greets.store(false, Ordering::SeqCst);
+            let _ = self.to.eprint(READY);
+        }
     }
 
     /// What tells how far a new file is.

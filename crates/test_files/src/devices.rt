@@ -1,7 +1,8 @@
 // Devices that are opened and made, and what can't be one.
-use disk_file::{OpenFault, Watch, fill_standard, make_device, open_device};
-use disk_model::Disk;
+use disk_file::{OpenFault, Watch, are_one, fill_standard, make_device, open_device, open_to_read};
+use disk_model::{Disk, DiskFault};
 use std::fs;
+use std::process::Abort;
 use std::test::Fail;
 
 const MIB: u64 = 1 << 20;
@@ -76,6 +77,50 @@ fn a_file_that_is_there_is_never_made_anew(rt: HostRuntime) -> Result<(), Fail> 
     Ok(())
 }
 
+// Reads and syncs a disk of 9 bytes, and can't write to it.
+fn is_only_read<D: Disk>(rt: &impl Abort, disk: &mut D) {
+    assert!(rt; disk.len() == 9);
+    let mut out = [0; 9];
+    assert_eq!(rt; disk.read_at(0, &mut out), Ok(()));
+    assert_eq!(rt; out, *b"something");
+    assert_eq!(rt; disk.sync(), Ok(()));
+    assert!(rt; disk.len() == 9);
+    assert_eq!(rt; disk.write_at(0, b"any"), Err(DiskFault));
+}
+
+#[test]
+fn what_is_opened_to_read_is_not_written(rt: HostRuntime) -> Result<(), Fail> {
+    let name = "disk_file_read";
+    fs::write(&rt, name, b"something")?;
+    let mut disk = open_to_read(&rt, name)?;
+    is_only_read(&rt, &mut disk);
+    assert!(rt; matches!(refusal_of(&rt, name), Some(OpenFault::InUse)));
+    drop(disk);
+    let bytes = fs::read(&rt, name)?;
+    assert_eq!(rt; bytes.as_slice(), b"something".as_slice());
+    fs::remove_file(&rt, name)?;
+    Ok(())
+}
+
+#[test]
+fn two_names_may_be_of_one_file(rt: HostRuntime) -> Result<(), Fail> {
+    let (one, other) = ("disk_file_one", "disk_file_other");
+    let _ = fs::remove_file(&rt, other);
+    fs::write(&rt, one, b"something")?;
+    assert!(rt; are_one(&rt, one, one));
+    assert!(rt; are_one(&rt, one, "./disk_file_one"));
+    assert!(rt; !are_one(&rt, one, other));
+    assert!(rt; !are_one(&rt, other, other));
+    fs::write(&rt, other, b"something")?;
+    assert!(rt; !are_one(&rt, one, other));
+    fs::remove_file(&rt, other)?;
+    fs::hard_link(&rt, one, other)?;
+    assert!(rt; are_one(&rt, one, other));
+    fs::remove_file(&rt, one)?;
+    fs::remove_file(&rt, other)?;
+    Ok(())
+}
+
 #[test]
 fn what_cannot_be_a_device_is_refused(rt: HostRuntime) -> Result<(), Fail> {
     let missing = "disk_file_missing";
@@ -84,6 +129,10 @@ fn what_cannot_be_a_device_is_refused(rt: HostRuntime) -> Result<(), Fail> {
     for name in [".", "/dev/null"] {
         assert!(rt;
             matches!(refusal_of(&rt, name), Some(OpenFault::NoStorage)),
+            "{name}"
+        );
+        assert!(rt;
+            matches!(open_to_read(&rt, name).err(), Some(OpenFault::NoStorage)),
             "{name}"
         );
     }

@@ -1,5 +1,5 @@
 // The line that tells how far work is, where no scenario comes: while a file is made, to what is no terminal, of no work or more than all of
-// it, and beside a clock's fork.
+// it, and beside a clock's fork; and that lines are served.
 use disk_file::make_device;
 use disk_model::Disk;
 use io_traits::{Clock, ListClock};
@@ -85,6 +85,33 @@ fn no_more_than_all_is_told(rt: HostRuntime) -> Result<(), Fail> {
         &sent,
         "\rreading    0 %\rwriting    0 %\rwriting  100 %",
     )
+}
+
+// What is sent where a run is ready twice, of which a greeting was asked or not.
+fn check_ready(
+    rt: &impl Abort,
+    alloc: Global,
+    is_terminal: bool,
+    greets: bool,
+    wanted: &str,
+) -> Result<(), Fail> {
+    let sent = RefCell::new(String::new(alloc));
+    let progress = Progress::new(stream_of(alloc, is_terminal, &sent));
+    if greets {
+        progress.greet();
+    }
+    progress.ready();
+    progress.ready();
+    check_sent(rt, &sent, wanted)
+}
+
+#[test]
+fn ready_is_told_once_where_it_is_asked_for(rt: HostRuntime) -> Result<(), Fail> {
+    let alloc = rt.alloc();
+    let told = "ready: one command a line; quit or Ctrl-D ends the run\n";
+    check_ready(&rt, alloc, true, true, told)?;
+    check_ready(&rt, alloc, true, false, "")?;
+    check_ready(&rt, alloc, false, true, "")
 }
 
 #[test]
