@@ -1,8 +1,10 @@
-//! Tests of the machine's clock, of the standard output, of the line that tells how far work is, and of what threads may share.
+//! Tests of the machine's clock, of the standard output, of the line that tells how far work is, of what ends a source from outside, and of what threads may share.
 #![tactic(auto)]
 
 #[cfg(test)]
 mod clocks;
+#[cfg(test)]
+mod halts;
 #[cfg(test)]
 mod line;
 #[cfg(test)]
