@@ -1,4 +1,5 @@
 //! The three writes that a block takes: its gate is closed, its body is written, and its gate is opened. Each is one write and one sync.
+//! What is said of images holds over honest disks.
 #![tactic(auto)]
 
 mod body;

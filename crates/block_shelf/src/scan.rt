@@ -30,10 +30,11 @@ use raid_book::RaidNext;
 use std::alloc::Global;
 
 impl<D: Disk> Shelf<D> {
-    /// Scans the block whose turn it is, and answers it: each record of the device that may be in it goes to the raid's book. What is in a
+    /// Scans the block whose turn it is, and answers it: each record of the device that is found in it goes to the raid's book. What is in a
     /// pending buffer is taken from memory, also where the write of its gate has begun. Of the other blocks, free ones too, one with an
     /// unsure gate is closed and synced first, a closed one has no records, and any other is read from the disk, also where its flushed buffer
-    /// is kept. Nothing else goes to the book than what may be in the block. After a refusal the raid is given up.
+    /// is kept. Over an honest disk whose image was sound these are each record that may be in the block and is older than a marked entry, and nothing
+    /// but what may be there. After a refusal the raid is given up.
     pub fn scan_step(&mut self, alloc: Global) -> Result<u32, VacateRefusal>
         requires turn { (block : ℕ) × (self.old.raid.next ≡ turn.Scan block) }
         ensures scanned { (setup : Setup) (s : State) → IsSetupOf setup self.old → StandsFor setup self.old s → BooksStand setup self.old s

@@ -34,7 +34,7 @@ pub trait Disk: Drop {
         ensures loose { OnOk result (Loosens place (length bytes.now) (view self.old).may_leave (view self.new).may_leave) }
         ensures call { IsCall (view self.old) (view self.new) result };
 
-    /// Where it goes well, a crash leaves just what is read. Where it fails, no new image comes up.
+    /// Where it goes well, and the disk tells its bytes, a crash leaves just what is read. Where it fails over an honest disk, no new image comes up.
     fn sync(&mut self) -> Result<(), DiskFault>
         ensures durable { (view self.old).tells → OnOk result (IsOnly (view self.old).seen (view self.new).may_leave) }
         ensures bytes { TellsSame (view self.old) (view self.new) }

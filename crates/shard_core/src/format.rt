@@ -32,8 +32,8 @@ fn close_gates<D: Disk>(disk: &mut D, geometry: &Geometry) -> Result<(), DiskFau
 }
 
 /// Makes a disk a device of this shape: it closes the gate of each block, syncs, writes the header, and syncs. After `Ok` a
-/// crash leaves just that. At no moment does a crash leave a header that wasn't there before together with an open gate. After a
-/// fault the disk may hold some of it; format it again. It takes no memory.
+/// crash leaves just that, where the disk tells its bytes. Over an honest disk at no moment does a crash leave a header that wasn't there
+/// before together with an open gate. After a fault the disk may hold some of it; format it again. It takes no memory.
 pub fn format_disk<D: Disk>(disk: &mut D, geometry: &Geometry) -> Result<(), DiskFault>
     requires geometry { IsGeometry geometry.now }
     requires room { device_end geometry.now ≤ (D.view disk.old).extent }

@@ -32,8 +32,8 @@ pub enum RaidRefusal {
     Fault,
 }
 
-/// Scans the block whose turn it is, and answers it: the copies that may be in it, also those that only a crash would bring back, are found,
-/// and the raid goes on to its next turn. After a refusal the raid is given up, and its marks are void.
+/// Scans the block whose turn it is, and answers it; the raid goes on to its next turn. Over an honest disk whose image was sound each copy in the
+/// block that may be older than a marked entry is found, also one that only a crash would bring back, and nothing but such copies as may be there. After a refusal the raid is given up, and its marks are void.
 pub fn raid_scan<D: Disk>(alloc: Global, shelf: &mut Shelf<D>) -> Result<u32, RaidRefusal>
     requires turn { (block : ℕ) × (shelf.old.raid.next ≡ RaidNext.Scan block) }
     ensures makes { (setup : Setup) (s : State) (now block : ℕ) → shelf.old.raid.next ≡ RaidNext.Scan block → IsSetupOf setup shelf.old → ShelfStands setup shelf.old s
