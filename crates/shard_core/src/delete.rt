@@ -63,8 +63,8 @@ pub fn delete_step<D: Disk>(
 }
 
 /// Deletes a digest durably, over the digest's sprig and the shelf: a tombstone is written, also where there is no record, and its stamp
-/// is answered. Once it is flushed, nothing from before it comes back. It goes to a write buffer as a put does; where a buffer has to
-/// begin, fewer blocks have to stay free. What stands after a refusal is as with a put.
+/// is answered. Once it is flushed, over an honest disk whose image was sound, nothing from before it comes back. It goes to a write buffer
+/// as a put does; where a buffer has to begin, fewer blocks have to stay free. What stands after a refusal is as with a put.
 pub fn bury_step<D: Disk>(
     alloc: Global,
     sprig: &mut Sprig,

@@ -23,7 +23,7 @@ use std::alloc::Global;
 pub enum RaidDid {
     /// So many entries of a part are marked.
     Marked { marks: u64 },
-    /// What may be in a block was found.
+    /// A block was scanned, and what was found in it is kept.
     Scanned { block: u32 },
     /// Of so many marked entries of a part an older copy was found, so they have to stay.
     Applied { unmarked: u64 },
