@@ -42,7 +42,7 @@ put() {
 
 # Proves the scratch crate and what it stands on, builds it, runs it, and writes what it prints.
 run() {
-    echo "proving and building; the first time takes some minutes" >&2
+    echo "proving and building; the first time may take a quarter of an hour" >&2
     if ! (cd "$scratch" && rt run 2>"$room/log" </dev/null); then
         tail -n 20 "$room/log" >&2
         return 1

@@ -36,8 +36,8 @@ pub trait Disk: Drop {
         ensures loose { OnOk result (Loosens place (length bytes.now) (view self.old).may_leave (view self.new).may_leave) }
         ensures call { IsCall (view self.old) (view self.new) result };
 
-    /// At `Ok` a crash leaves just what is read, of a disk that tells its bytes, until the next write. After a fault no new image has
-    /// come up.
+    /// At `Ok` a crash leaves just what is read, of a disk that tells its bytes, until the next write. After a fault over an honest disk no new
+    /// image has come up.
     fn sync(&mut self) -> Result<(), DiskFault>
         ensures durable { (view self.old).tells → OnOk result (IsOnly (view self.old).seen (view self.new).may_leave) }
         ensures bytes { TellsSame (view self.old) (view self.new) }
