@@ -7,9 +7,9 @@ use Rattle.disk_model.specs.Disk.{DiskView, IsDisk, IsHonest, TellsTorn}
 use Rattle.rec_format.specs.declared.version.Digest.{Digest}
 use Rattle.rec_format.specs.declared.version.Version.{Version}
 use Rattle.rec_format.specs.Versions.{block_capacity, version_units}
-use Rattle.device_model.specs.Book.{Setup, first_block, has_room}
-use Rattle.device_model.specs.Device.{State}
-use Rattle.device_model.specs.Events.{Cause, too_big}
+use Rattle.model_device.specs.Book.{Setup, first_block, has_room}
+use Rattle.model_device.specs.Device.{State}
+use Rattle.model_device.specs.Events.{Cause, too_big}
 use Rattle.block_format.specs.declared.geometry.Geometry.{Geometry}
 use Rattle.block_format.specs.Layout.{block_place}
 use Rattle.write_buffer.specs.declared.stream.Stream.{Stream}

@@ -2,16 +2,16 @@
 -- where it is shut.
 use Rattle.std.proofs.Common.{◌≡◌, ◌≢◌, ℕ, ◌<◌, ◌≤◌, List, [], ◌∷◌, get_or, None, Result, Ok, Err, length, refl, sym, ◌∙◌, ap, subst, arith}
 use Rattle.std.specs.Prelude.{MatchResult, OnOk, IfErr, Option, slice_set}
-use Rattle.fault_count.specs.Counts.{Rose}
+use Rattle.model_faults.specs.Counts.{Rose}
 use Rattle.disk_model.specs.Bytes.{torn_refl}
 use Rattle.disk_model.specs.Disk.{DiskView, IsDisk, IsHonest, TellsTorn, TornFrom, meanwhile}
-use Rattle.device_model.specs.Book.{first_block}
-use Rattle.device_model.specs.Events.{Cause}
-use Rattle.device_model.specs.Steps.{Step}
+use Rattle.model_device.specs.Book.{first_block}
+use Rattle.model_device.specs.Events.{Cause}
+use Rattle.model_device.specs.Steps.{Step}
 use Rattle.block_format.specs.declared.geometry.Gate.{Gate}
 use Rattle.block_format.specs.declared.geometry.Gate.TheVariants.{Shut, Unsure}
 use Rattle.block_format.specs.Layout.{block_place}
-use Rattle.kept_images.specs.Gates.{GateStands}
+use Rattle.law_images.specs.Gates.{GateStands}
 use Rattle.write_buffer.specs.declared.stream.Stream.{Stream}
 use Rattle.unit_ledger.specs.Rolls.{BlockRoll, copies_in, spare_of}
 use Rattle.hold_book.specs.Holds.{HoldState}

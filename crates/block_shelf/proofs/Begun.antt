@@ -3,12 +3,12 @@ use Rattle.std.proofs.Common.{◌≡◌, ◌≢◌, List, [], None, Some, Result
 use Rattle.std.specs.Prelude.{MatchResult, OnOk, OnErr, IfErr, IsErrAnd}
 use Rattle.disk_model.specs.Disk.{DiskView, IsHonest}
 use Rattle.disk_model.specs.Runs.{OneOf, Leaves}
-use Rattle.device_model.specs.Book.{Setup, first_block}
-use Rattle.device_model.specs.Events.{Cause, too_big, spent, overload, no_space}
+use Rattle.model_device.specs.Book.{Setup, first_block}
+use Rattle.model_device.specs.Events.{Cause, too_big, spent, overload, no_space}
 use Rattle.block_format.specs.declared.geometry.Gate.TheVariants.{Shut}
-use Rattle.device_model.specs.Device.{State}
-use Rattle.device_model.specs.Steps.{Step, states_through}
-use Rattle.recovery.specs.Surviving.{Survives}
+use Rattle.model_device.specs.Device.{State}
+use Rattle.model_device.specs.Steps.{Step, states_through}
+use Rattle.law_start.specs.Surviving.{Survives}
 use Rattle.write_buffer.specs.declared.stream.Stream.{Stream}
 use Rattle.unit_ledger.specs.Rolls.{BlockRoll}
 use Rattle.hold_book.specs.Holds.{HoldState}

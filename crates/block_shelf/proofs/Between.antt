@@ -7,19 +7,19 @@ use Rattle.std.proofs.lemmas.List.{map-append}
 use Rattle.std.proofs.lemmas.List.Elements.{Contains-append_left, Contains-append_right, Contains-append_cases}
 use Rattle.rec_format.specs.declared.version.Digest.{Digest}
 use Rattle.rec_format.specs.declared.version.Version.{Version}
-use Rattle.device_model.specs.Book.{Book, Buffer, opened_if}
+use Rattle.model_device.specs.Book.{Book, Buffer, opened_if}
 use Rattle.write_buffer.specs.declared.phase.Phase.{Phase}
 use Rattle.write_buffer.specs.declared.phase.Phase.TheVariants.{GateBegun}
 use Rattle.write_buffer.specs.Buffers.{BufferState, with_phase}
-use Rattle.recovery.proofs.Each.{all_map}
-use Rattle.recovery.proofs.Growing.{cons_cases}
-use Rattle.recovery.proofs.Members.{first_there}
-use Rattle.recovery.proofs.Opening.{all_parted, all_joined}
-use Rattle.recovery.proofs.Placing.{any_none}
-use Rattle.kept_trail.specs.Trail.{Records, KeepsRecords, places_of}
-use Rattle.kept_trail.specs.Numbers.{AddsNone}
-use Rattle.kept_images.specs.Changes.{records_by}
-use Rattle.kept_images.proofs.Buffers.{records_found, left_keeps, left_adds_none}
+use Rattle.law_start.proofs.Each.{all_map}
+use Rattle.law_start.proofs.Growing.{cons_cases}
+use Rattle.law_start.proofs.Members.{first_there}
+use Rattle.law_start.proofs.Opening.{all_parted, all_joined}
+use Rattle.law_start.proofs.Placing.{any_none}
+use Rattle.law_trail.specs.Trail.{Records, KeepsRecords, places_of}
+use Rattle.law_trail.specs.Numbers.{AddsNone}
+use Rattle.law_images.specs.Changes.{records_by}
+use Rattle.law_images.proofs.Buffers.{records_found, left_keeps, left_adds_none}
 use Rattle.block_shelf.specs.View.{StandsBefore, StandInOrder, AreApart, is_stream, is_unsealed, records_of}
 use Rattle.block_shelf.specs.Standing.{book_buffer}
 use Rattle.block_shelf.specs.Changes.{has_buffer_in}

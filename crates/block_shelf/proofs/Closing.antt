@@ -8,29 +8,29 @@ use Rattle.std.proofs.lemmas.List.Elements.{Contains-push, Contains-append_left}
 use Rattle.disk_model.specs.Disk.{Images, DiskView, IsDisk, IsHonest, Within, TornFrom, Advances, meanwhile}
 use Rattle.disk_model.specs.Runs.{Leaves, leaves_more}
 use Rattle.rec_format.specs.declared.version.Digest.{Digest}
-use Rattle.device_model.specs.Book.{Setup, Live, first_to_back, live_of}
-use Rattle.device_model.specs.Device.{State}
-use Rattle.device_model.specs.Steps.{closing_failed, after_step}
+use Rattle.model_device.specs.Book.{Setup, Live, first_to_back, live_of}
+use Rattle.model_device.specs.Device.{State}
+use Rattle.model_device.specs.Steps.{closing_failed, after_step}
 use Rattle.block_format.specs.declared.geometry.Geometry.{Geometry}
 use Rattle.block_format.specs.declared.geometry.Gate.{Gate}
 use Rattle.block_format.specs.declared.geometry.Gate.TheVariants.{Shut, Set, Unsure}
 use Rattle.block_format.specs.Layout.{IsRecordAt, body_bytes, block_place, device_end}
 use Rattle.block_flusher.specs.Images.{IsShut, HasOneBody, IsBodyOf}
-use Rattle.recovery.specs.Surviving.{Survives}
-use Rattle.recovery.proofs.Growing.{cons_cases}
+use Rattle.law_start.specs.Surviving.{Survives}
+use Rattle.law_start.proofs.Growing.{cons_cases}
 use Rattle.write_buffer.specs.Buffers.{BufferState}
-use Rattle.kept_trail.specs.Trail.{Records}
-use Rattle.kept_trail.proofs.Books.{live_there}
-use Rattle.kept_images.specs.Changes.{ChangesIn}
-use Rattle.kept_images.specs.Gates.{GateStands, with_gate}
-use Rattle.kept_images.specs.Held.{HoldsGates}
-use Rattle.kept_images.proofs.Parts.{gate_changes, body_stays}
-use Rattle.kept_images.proofs.Gates.{gates_elsewhere, over_seen}
-use Rattle.kept_images.proofs.Loosening.{gate_own, gate_other}
-use Rattle.kept_images.proofs.Held.{knows_same, held_fewer}
-use Rattle.kept_images.proofs.Holding.{plain_holds}
-use Rattle.kept_images.proofs.Stepping.{plain_book}
-use Rattle.kept_images.proofs.Worked.{HasClosed, close_call}
+use Rattle.law_trail.specs.Trail.{Records}
+use Rattle.law_trail.proofs.Books.{live_there}
+use Rattle.law_images.specs.Changes.{ChangesIn}
+use Rattle.law_images.specs.Gates.{GateStands, with_gate}
+use Rattle.law_images.specs.Held.{HoldsGates}
+use Rattle.law_images.proofs.Parts.{gate_changes, body_stays}
+use Rattle.law_images.proofs.Gates.{gates_elsewhere, over_seen}
+use Rattle.law_images.proofs.Loosening.{gate_own, gate_other}
+use Rattle.law_images.proofs.Held.{knows_same, held_fewer}
+use Rattle.law_images.proofs.Holding.{plain_holds}
+use Rattle.law_images.proofs.Stepping.{plain_book}
+use Rattle.law_images.proofs.Worked.{HasClosed, close_call}
 use Rattle.block_shelf.specs.View.{ShelfView, IsShelf, IsBufferOf, HasItsBody, WaitsShut, gate_at, records_of}
 use Rattle.block_shelf.specs.Standing.{StandsFor, BooksStand, IsPlaced, ImagesHold}
 use Rattle.block_shelf.specs.Calls.{Goes}

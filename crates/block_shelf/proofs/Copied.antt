@@ -8,22 +8,22 @@ use Rattle.rec_format.specs.declared.version.Version.{Version}
 use Rattle.rec_format.specs.Places.{same_digest}
 use Rattle.rec_format.specs.Versions.{version_units}
 use Rattle.rec_format.proofs.Laws.{same_digest_refl, same_digest_is}
-use Rattle.device_model.specs.Histories.{top_of}
-use Rattle.device_model.specs.Book.{Setup, Book, defrag, placed, placing_number, has_room, first_block}
-use Rattle.device_model.specs.Device.{State, entry, history}
-use Rattle.device_model.specs.Steps.{wrote, moved, after_step}
+use Rattle.model_device.specs.Histories.{top_of}
+use Rattle.model_device.specs.Book.{Setup, Book, defrag, placed, placing_number, has_room, first_block}
+use Rattle.model_device.specs.Device.{State, entry, history}
+use Rattle.model_device.specs.Steps.{wrote, moved, after_step}
 use Rattle.block_format.specs.declared.geometry.Geometry.{Geometry}
 use Rattle.block_format.specs.declared.geometry.Gate.{Gate}
 use Rattle.block_format.specs.declared.geometry.Gate.TheVariants.{Shut}
-use Rattle.recovery.proofs.HeldWrites.{written_item, wrote_history}
-use Rattle.kept_trail.specs.Trail.{Records}
-use Rattle.kept_trail.proofs.Books.{live_there}
-use Rattle.kept_trail.proofs.Moving.{other_history}
-use Rattle.kept_images.specs.Kept.{BookInOrder}
-use Rattle.kept_images.specs.Changes.{Appends}
-use Rattle.kept_images.specs.Held.{HoldsGates}
-use Rattle.kept_images.proofs.Appending.{wrote_book, wrote_booked, moved_is, moved_book, moved_booked, moved_entry}
-use Rattle.kept_images.proofs.Holding.{wrote_holds, moved_holds}
+use Rattle.law_start.proofs.HeldWrites.{written_item, wrote_history}
+use Rattle.law_trail.specs.Trail.{Records}
+use Rattle.law_trail.proofs.Books.{live_there}
+use Rattle.law_trail.proofs.Moving.{other_history}
+use Rattle.law_images.specs.Kept.{BookInOrder}
+use Rattle.law_images.specs.Changes.{Appends}
+use Rattle.law_images.specs.Held.{HoldsGates}
+use Rattle.law_images.proofs.Appending.{wrote_book, wrote_booked, moved_is, moved_book, moved_booked, moved_entry}
+use Rattle.law_images.proofs.Holding.{wrote_holds, moved_holds}
 use Rattle.raid_book.specs.Raids.{SameButMarks}
 use Rattle.block_shelf.specs.declared.place.Class.{Class}
 use Rattle.block_shelf.specs.declared.place.Class.TheVariants.{Put, Tomb, Move}

@@ -5,10 +5,10 @@ use Rattle.std.specs.Cmp.{nat_eq_equiv}
 use Rattle.std.specs.List.{IsDistinct, list_any}
 use Rattle.std.proofs.lemmas.Bool.{eq-eqb, eqb-true, ne_eqb, false≢true}
 use Rattle.std.proofs.lemmas.Map.Made.{length-from_same_keys}
-use Rattle.device_model.specs.Book.{Book, is_in, held_blocks}
-use Rattle.recovery.proofs.Growing.{all_from, cons_cases}
-use Rattle.recovery.proofs.Members.{first_there, rest_there}
-use Rattle.kept_trail.proofs.Places.{any_there, some_at, none_at}
+use Rattle.model_device.specs.Book.{Book, is_in, held_blocks}
+use Rattle.law_start.proofs.Growing.{all_from, cons_cases}
+use Rattle.law_start.proofs.Members.{first_there, rest_there}
+use Rattle.law_trail.proofs.Places.{any_there, some_at, none_at}
 use Rattle.hold_book.specs.Holds.{Holds, CountsHeld}
 use Rattle.block_shelf.specs.Standing.{HoldsSame}
 use Rattle.block_shelf.proofs.StartStates.{same_when}

@@ -10,28 +10,28 @@ use Rattle.rec_format.specs.declared.version.Digest.{Digest}
 use Rattle.rec_format.specs.declared.version.Version.{Version}
 use Rattle.rec_format.specs.Places.{same_digest}
 use Rattle.rec_format.proofs.Laws.{same_digest_refl, same_digest_is}
-use Rattle.device_model.specs.Histories.{Item, top_of}
-use Rattle.device_model.specs.Book.{Setup, Buffer, Live, live_of, may_be_free, use_of, dropped_live}
-use Rattle.device_model.specs.Device.{State, entry, history}
-use Rattle.device_model.specs.Steps.{Step, with_item, after_step, states_through}
-use Rattle.recovery.specs.Surviving.{Survives}
-use Rattle.recovery.proofs.Growing.{all_from, all_at}
-use Rattle.recovery.proofs.Members.{map_there, map_from}
-use Rattle.recovery.proofs.Opening.{all_joined}
-use Rattle.recovery.proofs.Each.{all_map}
+use Rattle.model_device.specs.Histories.{Item, top_of}
+use Rattle.model_device.specs.Book.{Setup, Buffer, Live, live_of, may_be_free, use_of, dropped_live}
+use Rattle.model_device.specs.Device.{State, entry, history}
+use Rattle.model_device.specs.Steps.{Step, with_item, after_step, states_through}
+use Rattle.law_start.specs.Surviving.{Survives}
+use Rattle.law_start.proofs.Growing.{all_from, all_at}
+use Rattle.law_start.proofs.Members.{map_there, map_from}
+use Rattle.law_start.proofs.Opening.{all_joined}
+use Rattle.law_start.proofs.Each.{all_map}
 use Rattle.write_buffer.specs.Buffers.{BufferState, used_units}
 use Rattle.unit_ledger.specs.declared.roll.LiveCopy.{LiveCopy}
 use Rattle.unit_ledger.specs.Rolls.{BlockRoll, copies_in, copy_at, live_in_block, rolled_use}
 use Rattle.defrag_queue.specs.Queues.{QueueState, requeued}
 use Rattle.hold_book.specs.Holds.{Holds, IsHeld, has_hold, with_pair, HoldState, HoldsBelow}
 use Rattle.hold_book.proofs.Laws.{has_hold-with_hold}
-use Rattle.kept_trail.specs.Trail.{places_of, IsBooked}
-use Rattle.kept_trail.proofs.Books.{live_there, others_live}
-use Rattle.kept_facts.specs.Asking.{MayTake}
-use Rattle.kept_images.specs.Changes.{is_plain}
-use Rattle.kept_images.specs.Kept.{BookInOrder}
-use Rattle.kept_images.proofs.Holding.{plain_holds}
-use Rattle.kept_images.proofs.Stepping.{plain_book}
+use Rattle.law_trail.specs.Trail.{places_of, IsBooked}
+use Rattle.law_trail.proofs.Books.{live_there, others_live}
+use Rattle.law_facts.specs.Asking.{MayTake}
+use Rattle.law_images.specs.Changes.{is_plain}
+use Rattle.law_images.specs.Kept.{BookInOrder}
+use Rattle.law_images.proofs.Holding.{plain_holds}
+use Rattle.law_images.proofs.Stepping.{plain_book}
 use Rattle.raid_book.specs.Raids.{SameButMarks}
 use Rattle.block_shelf.specs.declared.place.Place.{Place}
 use Rattle.block_shelf.specs.View.{ShelfView, IsShelf, IsRoll, IsSetupOf, ArePacked, IsUnused, AreApart, records_of, gate_at}

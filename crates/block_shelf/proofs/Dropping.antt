@@ -6,12 +6,12 @@ use Rattle.std.proofs.lemmas.Bool.{cases_Bool, cond-false, ne_eqb, not-true}
 use Rattle.rec_format.specs.declared.version.Digest.{Digest}
 use Rattle.rec_format.specs.Places.{same_digest}
 use Rattle.rec_format.proofs.Laws.{same_digest_is}
-use Rattle.device_model.specs.Book.{Setup, Book, Live, without_live, may_be_free, is_in, all_blocks, refreshed, dropped_live}
-use Rattle.device_model.specs.Device.{State}
-use Rattle.recovery.proofs.Growing.{all_from, all_at}
-use Rattle.recovery.proofs.Members.{filter_there, filter_from, first_there, rest_there}
-use Rattle.kept_trail.specs.Trail.{IsBooked}
-use Rattle.kept_trail.proofs.Books.{used_not_free}
+use Rattle.model_device.specs.Book.{Setup, Book, Live, without_live, may_be_free, is_in, all_blocks, refreshed, dropped_live}
+use Rattle.model_device.specs.Device.{State}
+use Rattle.law_start.proofs.Growing.{all_from, all_at}
+use Rattle.law_start.proofs.Members.{filter_there, filter_from, first_there, rest_there}
+use Rattle.law_trail.specs.Trail.{IsBooked}
+use Rattle.law_trail.proofs.Books.{used_not_free}
 use Rattle.block_shelf.specs.Standing.{HaveOwnDigests, IsListed}
 use Rattle.block_shelf.proofs.Frees.{IsVacant, vacant_from, vacant_is, filter_one, refreshed_free, refreshed_all, updated_more, not_in, is_in_there}
 use Rattle.block_shelf.proofs.QueueSteps.{own_digests_kept}

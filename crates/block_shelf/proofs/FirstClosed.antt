@@ -5,21 +5,21 @@ use Rattle.std.specs.List.{AllByRecursion}
 use Rattle.std.proofs.lemmas.List.{get_or-set_same, set-get_or}
 use Rattle.disk_model.specs.Disk.{DiskView, IsDisk, IsHonest, TornFrom, meanwhile}
 use Rattle.disk_model.specs.Runs.{leaves_more, one_of_front}
-use Rattle.device_model.specs.Book.{Setup, first_block, first_to_back}
-use Rattle.device_model.specs.Device.{State}
-use Rattle.device_model.specs.Steps.{closing_failed, after_step}
+use Rattle.model_device.specs.Book.{Setup, first_block, first_to_back}
+use Rattle.model_device.specs.Device.{State}
+use Rattle.model_device.specs.Steps.{closing_failed, after_step}
 use Rattle.block_format.specs.declared.geometry.Gate.{Gate}
 use Rattle.block_format.specs.declared.geometry.Gate.TheVariants.{Shut, Set, Unsure}
 use Rattle.block_format.specs.Layout.{block_place}
-use Rattle.recovery.specs.Surviving.{Survives}
-use Rattle.recovery.proofs.Each.{all_map}
-use Rattle.recovery.proofs.Members.{first_there}
-use Rattle.recovery.proofs.Opening.{all_joined, all_parted}
+use Rattle.law_start.specs.Surviving.{Survives}
+use Rattle.law_start.proofs.Each.{all_map}
+use Rattle.law_start.proofs.Members.{first_there}
+use Rattle.law_start.proofs.Opening.{all_joined, all_parted}
 use Rattle.write_buffer.specs.Buffers.{BufferState}
 use Rattle.post_cache.specs.Bodies.{CacheState}
 use Rattle.hold_book.specs.Holds.{IsHeld}
 use Rattle.unit_ledger.specs.Rolls.{copies_in}
-use Rattle.kept_images.specs.Gates.{GateStands}
+use Rattle.law_images.specs.Gates.{GateStands}
 use Rattle.block_shelf.specs.View.{ShelfView, IsShelf, AreApart, gate_at}
 use Rattle.block_shelf.specs.Disks.{IsLater}
 use Rattle.block_shelf.specs.Standing.{StandsFor}

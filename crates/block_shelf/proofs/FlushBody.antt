@@ -3,8 +3,8 @@ use Rattle.std.proofs.Common.{◌≡◌, inl, ℕ, ◌+◌, ◌-◌, ◌<◌, tr
 use Rattle.std.specs.List.{AllByRecursion}
 use Rattle.std.proofs.lemmas.Bool.{false≢true}
 use Rattle.disk_model.specs.Disk.{Images, DiskView, IsHonest, Within, TornFrom, meanwhile}
-use Rattle.device_model.specs.Book.{Setup}
-use Rattle.device_model.specs.Device.{State}
+use Rattle.model_device.specs.Book.{Setup}
+use Rattle.model_device.specs.Device.{State}
 use Rattle.block_format.specs.declared.geometry.Gate.TheVariants.{Shut}
 use Rattle.block_format.specs.Layout.{block_place}
 use Rattle.block_flusher.specs.Images.{IsShut, HasOneBody}
@@ -12,13 +12,13 @@ use Rattle.write_buffer.specs.declared.phase.Phase.{Phase}
 use Rattle.write_buffer.specs.declared.phase.Phase.TheVariants.{Sealed, BodyDone}
 use Rattle.write_buffer.specs.Phases.{later_phase}
 use Rattle.write_buffer.specs.Buffers.{BufferState, bytes_of, with_phase}
-use Rattle.kept_trail.specs.Trail.{Records}
-use Rattle.kept_images.specs.Changes.{ChangesIn}
-use Rattle.kept_images.specs.Gates.{GateStands}
-use Rattle.kept_images.specs.Held.{HoldsGates, IsKeptLoosened}
-use Rattle.kept_images.proofs.Held.{held_survives, held_fewer, body_held, body_knows}
-use Rattle.kept_images.proofs.Knowing.{knows_fewer}
-use Rattle.kept_images.proofs.Parts.{body_changes}
+use Rattle.law_trail.specs.Trail.{Records}
+use Rattle.law_images.specs.Changes.{ChangesIn}
+use Rattle.law_images.specs.Gates.{GateStands}
+use Rattle.law_images.specs.Held.{HoldsGates, IsKeptLoosened}
+use Rattle.law_images.proofs.Held.{held_survives, held_fewer, body_held, body_knows}
+use Rattle.law_images.proofs.Knowing.{knows_fewer}
+use Rattle.law_images.proofs.Parts.{body_changes}
 use Rattle.block_shelf.specs.View.{ShelfView, IsShelf, IsBufferOf, WaitsShut, is_unsealed, is_written, has_begun, records_of, gate_at}
 use Rattle.block_shelf.specs.Standing.{StandsFor, ImagesHold, book_phase}
 use Rattle.block_shelf.specs.Calls.{Goes}

@@ -2,14 +2,14 @@
 use Rattle.std.proofs.Common.{◌≡◌, ◌≢◌, ℕ, Bool, true, not, ◌&&◌, List, [], ◌∷◌, ◌++◌, refl, sym, ◌∙◌, ap, subst}
 use Rattle.std.specs.Prelude.{filter, Contains, ◌==◌}
 use Rattle.std.proofs.lemmas.Bool.{eq-eqb, ne_eqb, both_ways, not-true}
-use Rattle.device_model.specs.Book.{Setup, Book, Live, may_be_free, is_in, all_blocks, refreshed, with_flushed}
-use Rattle.device_model.specs.Device.{State}
-use Rattle.device_model.specs.Steps.{flushed_buffer, after_step}
-use Rattle.recovery.proofs.Growing.{all_from, all_at}
-use Rattle.recovery.proofs.Members.{filter_there, filter_from}
-use Rattle.kept_trail.specs.Trail.{places_of, IsBooked}
-use Rattle.kept_trail.proofs.Flushing.{map_kept}
-use Rattle.kept_trail.proofs.Placing.{place}
+use Rattle.model_device.specs.Book.{Setup, Book, Live, may_be_free, is_in, all_blocks, refreshed, with_flushed}
+use Rattle.model_device.specs.Device.{State}
+use Rattle.model_device.specs.Steps.{flushed_buffer, after_step}
+use Rattle.law_start.proofs.Growing.{all_from, all_at}
+use Rattle.law_start.proofs.Members.{filter_there, filter_from}
+use Rattle.law_trail.specs.Trail.{places_of, IsBooked}
+use Rattle.law_trail.proofs.Flushing.{map_kept}
+use Rattle.law_trail.proofs.Placing.{place}
 use Rattle.block_shelf.specs.Standing.{IsListed, HaveOwnDigests}
 use Rattle.block_shelf.proofs.Frees.{IsVacant, vacant_from, vacant_is, refreshed_free, refreshed_all, updated_more}
 

@@ -5,10 +5,10 @@ use Rattle.std.proofs.lemmas.Bool.{false≢true, and_from, eq-eqb}
 use Rattle.std.proofs.lemmas.List.{length-set, get_or-set_same, get_or-set_other, set-set}
 use Rattle.disk_model.specs.Disk.{Images, DiskView, IsHonest, Within, TornFrom, meanwhile}
 use Rattle.rec_format.specs.Versions.{block_capacity}
-use Rattle.device_model.specs.Histories.{is_begun}
-use Rattle.device_model.specs.Book.{Setup, Buffer, is_opening, pending_of}
-use Rattle.device_model.specs.Device.{State}
-use Rattle.device_model.specs.Steps.{gate_begun, after_step}
+use Rattle.model_device.specs.Histories.{is_begun}
+use Rattle.model_device.specs.Book.{Setup, Buffer, is_opening, pending_of}
+use Rattle.model_device.specs.Device.{State}
+use Rattle.model_device.specs.Steps.{gate_begun, after_step}
 use Rattle.block_format.specs.declared.geometry.Gate.{Gate}
 use Rattle.block_format.specs.declared.geometry.Gate.TheVariants.{Shut, Set, Unsure}
 use Rattle.block_format.specs.Layout.{IsBody, block_place}
@@ -17,16 +17,16 @@ use Rattle.write_buffer.specs.declared.phase.Phase.{Phase}
 use Rattle.write_buffer.specs.declared.phase.Phase.TheVariants.{Filling, Sealed, BodyDone, GateBegun}
 use Rattle.write_buffer.specs.Phases.{later_phase}
 use Rattle.write_buffer.specs.Buffers.{BufferState, bytes_of, body_in, with_phase}
-use Rattle.recovery.proofs.Members.{map_there}
-use Rattle.kept_trail.specs.Trail.{Records, places_of}
-use Rattle.kept_trail.proofs.Places.{any_there}
-use Rattle.kept_images.specs.Changes.{ChangesIn, IsOpening}
-use Rattle.kept_images.specs.Gates.{GateStands, StandsOver, IsBodyWith, with_gate}
-use Rattle.kept_images.specs.Held.{HoldsGates}
-use Rattle.kept_images.proofs.Held.{held_known, knows_known}
-use Rattle.kept_images.proofs.Holding.{plain_holds}
-use Rattle.kept_images.proofs.Parts.{gate_changes, body_stays}
-use Rattle.kept_images.proofs.Worked.{HasOpened, open_call, opening_begun}
+use Rattle.law_start.proofs.Members.{map_there}
+use Rattle.law_trail.specs.Trail.{Records, places_of}
+use Rattle.law_trail.proofs.Places.{any_there}
+use Rattle.law_images.specs.Changes.{ChangesIn, IsOpening}
+use Rattle.law_images.specs.Gates.{GateStands, StandsOver, IsBodyWith, with_gate}
+use Rattle.law_images.specs.Held.{HoldsGates}
+use Rattle.law_images.proofs.Held.{held_known, knows_known}
+use Rattle.law_images.proofs.Holding.{plain_holds}
+use Rattle.law_images.proofs.Parts.{gate_changes, body_stays}
+use Rattle.law_images.proofs.Worked.{HasOpened, open_call, opening_begun}
 use Rattle.block_shelf.specs.View.{ShelfView, IsShelf, IsBufferOf, HasItsBody, is_written, records_of, gate_at}
 use Rattle.block_shelf.specs.Standing.{StandsFor, ImagesHold, book_buffer, book_phase}
 use Rattle.block_shelf.specs.Calls.{Goes}

@@ -6,10 +6,10 @@ use Rattle.std.proofs.lemmas.List.{get_or-set_same}
 use Rattle.std.proofs.Math.Seq.{get_or-append_seam}
 use Rattle.disk_model.specs.Disk.{DiskView}
 use Rattle.disk_model.specs.Runs.{advances_on}
-use Rattle.device_model.specs.Book.{Setup}
+use Rattle.model_device.specs.Book.{Setup}
 use Rattle.block_format.specs.declared.geometry.Gate.{Gate}
 use Rattle.block_format.specs.declared.geometry.Gate.TheVariants.{Shut, Set, Unsure}
-use Rattle.recovery.specs.Sound.{IsShapeOf}
+use Rattle.law_start.specs.Sound.{IsShapeOf}
 use Rattle.write_buffer.specs.declared.phase.Phase.{Phase}
 use Rattle.write_buffer.specs.declared.phase.Phase.TheVariants.{BodyDone, GateBegun}
 use Rattle.write_buffer.specs.Buffers.{BufferState, with_phase}

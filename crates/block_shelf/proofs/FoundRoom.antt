@@ -5,7 +5,7 @@ use Rattle.std.proofs.lemmas.List.{length_push, length-append}
 use Rattle.rec_format.specs.declared.version.Digest.{Digest}
 use Rattle.rec_format.specs.declared.version.Version.{Version}
 use Rattle.rec_format.specs.Versions.{block_capacity}
-use Rattle.device_model.specs.Book.{first_block}
+use Rattle.model_device.specs.Book.{first_block}
 use Rattle.write_buffer.specs.declared.stream.Stream.{Stream}
 use Rattle.write_buffer.specs.Buffers.{BufferState}
 use Rattle.unit_ledger.specs.Rolls.{spare_of}

@@ -10,10 +10,10 @@ use Rattle.std.proofs.Math.Seq.{take-length}
 use Rattle.unit_ledger.specs.declared.roll.LiveCopy.{LiveCopy}
 use Rattle.write_buffer.specs.Buffers.{BufferState}
 use Rattle.unit_ledger.specs.Rolls.{BlockRoll, copies_in, rolled_use}
-use Rattle.recovery.proofs.Each.{all_map}
-use Rattle.recovery.proofs.Growing.{all_from}
-use Rattle.recovery.proofs.Opening.{all_joined}
-use Rattle.recovery.proofs.Placing.{any_none}
+use Rattle.law_start.proofs.Each.{all_map}
+use Rattle.law_start.proofs.Growing.{all_from}
+use Rattle.law_start.proofs.Opening.{all_joined}
+use Rattle.law_start.proofs.Placing.{any_none}
 use Rattle.block_shelf.specs.View.{AreApart, IsRoll}
 use Rattle.block_shelf.specs.Changes.{has_buffer_in}
 use Rattle.block_shelf.specs.LetGo.{IsBare, IsFreeOrLetGo}

@@ -6,12 +6,12 @@ use Rattle.std.proofs.lemmas.Bool.{cond-true, cond-false, cases_eq, eq-eqb, eqb-
 use Rattle.std.proofs.lemmas.List.{append-nil}
 use Rattle.std.proofs.lemmas.List.Sums.{sum_by-cons}
 use Rattle.std.proofs.lemmas.List.Elements.{Contains-append_left, Contains-append_right}
-use Rattle.device_model.specs.Book.{Setup, Book, Live, may_be_free, updated, is_in, all_blocks, refreshed, has_buffer, use_of, is_held}
-use Rattle.recovery.proofs.Growing.{all_from, all_at, cons_cases}
-use Rattle.recovery.proofs.Members.{first_there, rest_there, filter_there}
-use Rattle.kept_trail.specs.Trail.{places_of}
-use Rattle.kept_trail.proofs.Places.{any_there, some_at, none_at, none_from, buffer_place}
-use Rattle.kept_trail.proofs.Books.{HasNothing, nothing_in}
+use Rattle.model_device.specs.Book.{Setup, Book, Live, may_be_free, updated, is_in, all_blocks, refreshed, has_buffer, use_of, is_held}
+use Rattle.law_start.proofs.Growing.{all_from, all_at, cons_cases}
+use Rattle.law_start.proofs.Members.{first_there, rest_there, filter_there}
+use Rattle.law_trail.specs.Trail.{places_of}
+use Rattle.law_trail.proofs.Places.{any_there, some_at, none_at, none_from, buffer_place}
+use Rattle.law_trail.proofs.Books.{HasNothing, nothing_in}
 
 -- ---- lists
 

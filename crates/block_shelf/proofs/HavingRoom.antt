@@ -2,9 +2,9 @@
 use Rattle.std.proofs.Common.{◌≡◌, ℕ, ◌+◌, ◌≤◌, true, false, length, map, refl, sym, ◌∙◌, ap, subst}
 use Rattle.std.proofs.lemmas.Bool.{false_from_ne_true, le-leb, leb-true}
 use Rattle.disk_model.specs.Disk.{DiskView}
-use Rattle.device_model.specs.Book.{Setup, Buffer, filling_buffer, fits_in, has_room}
-use Rattle.device_model.specs.Device.{State}
-use Rattle.recovery.proofs.Placing.{some_room}
+use Rattle.model_device.specs.Book.{Setup, Buffer, filling_buffer, fits_in, has_room}
+use Rattle.model_device.specs.Device.{State}
+use Rattle.law_start.proofs.Placing.{some_room}
 use Rattle.write_buffer.specs.declared.stream.Stream.{Stream}
 use Rattle.write_buffer.specs.Buffers.{used_units}
 use Rattle.block_shelf.specs.View.{ShelfView, IsShelf, IsSetupOf, StandInOrder}

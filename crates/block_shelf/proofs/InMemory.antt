@@ -6,9 +6,9 @@ use Rattle.std.proofs.lemmas.Bool.{eqb-true}
 use Rattle.std.proofs.lemmas.List.Elements.{Contains-append_cases, Contains-append_right}
 use Rattle.rec_format.specs.Versions.{block_capacity}
 use Rattle.block_format.specs.declared.geometry.Geometry.{Geometry}
-use Rattle.recovery.proofs.Growing.{all_at, cons_cases}
-use Rattle.recovery.proofs.Members.{first_there, rest_there}
-use Rattle.recovery.proofs.Opening.{all_joined}
+use Rattle.law_start.proofs.Growing.{all_at, cons_cases}
+use Rattle.law_start.proofs.Members.{first_there, rest_there}
+use Rattle.law_start.proofs.Opening.{all_joined}
 use Rattle.write_buffer.specs.Buffers.{BufferState}
 use Rattle.post_cache.specs.Bodies.{KeptBody, KeepOwnBlocks, kept_at, body_of}
 use Rattle.post_cache.proofs.Laws.{absent-all}

@@ -7,11 +7,11 @@ use Rattle.rec_format.specs.declared.version.Version.{Version}
 use Rattle.rec_format.specs.Places.{same_digest}
 use Rattle.rec_format.specs.Versions.{block_capacity}
 use Rattle.rec_format.proofs.Laws.{same_digest_is}
-use Rattle.device_model.specs.Book.{Live, live_of}
-use Rattle.device_model.specs.Device.{State, entry}
+use Rattle.model_device.specs.Book.{Live, live_of}
+use Rattle.model_device.specs.Device.{State, entry}
 use Rattle.block_format.specs.declared.geometry.Geometry.{Geometry}
-use Rattle.recovery.proofs.Each.{all_map}
-use Rattle.recovery.proofs.Opening.{all_joined}
+use Rattle.law_start.proofs.Each.{all_map}
+use Rattle.law_start.proofs.Opening.{all_joined}
 use Rattle.write_buffer.specs.Buffers.{BufferState}
 use Rattle.post_cache.specs.Bodies.{KeptBody, CacheState, kept_at, without_block, with_kept_body}
 use Rattle.post_cache.proofs.Kept.{absent-without, kept_at-without_same, IsCache-without_block, IsCache-with_body}

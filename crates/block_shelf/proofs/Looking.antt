@@ -1,10 +1,10 @@
 -- A shelf whose disk was only read goes on to stand for the state.
 use Rattle.std.proofs.Common.{◌≡◌, inl, List, [], ℕ, sym, subst}
 use Rattle.disk_model.specs.Disk.{DiskView, IsDisk, IsHonest}
-use Rattle.device_model.specs.Book.{Setup}
-use Rattle.device_model.specs.Device.{State}
-use Rattle.kept_images.proofs.Held.{held_survives}
-use Rattle.kept_images.proofs.Holding.{fewer_holds}
+use Rattle.model_device.specs.Book.{Setup}
+use Rattle.model_device.specs.Device.{State}
+use Rattle.law_images.proofs.Held.{held_survives}
+use Rattle.law_images.proofs.Holding.{fewer_holds}
 use Rattle.block_shelf.specs.View.{ShelfView, records_of, gate_at}
 use Rattle.block_shelf.specs.Disks.{OnlyRead}
 use Rattle.block_shelf.specs.Standing.{StandsFor}

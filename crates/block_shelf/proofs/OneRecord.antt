@@ -10,8 +10,8 @@ use Rattle.rec_format.specs.declared.version.Digest.{Digest}
 use Rattle.rec_format.specs.declared.version.Version.{Version}
 use Rattle.rec_format.specs.Places.{device_number}
 use Rattle.rec_format.specs.Versions.{version_units}
-use Rattle.recovery.proofs.Each.{all_map}
-use Rattle.recovery.proofs.Opening.{all_joined, all_parted}
+use Rattle.law_start.proofs.Each.{all_map}
+use Rattle.law_start.proofs.Opening.{all_joined, all_parted}
 use Rattle.unit_ledger.specs.declared.roll.LiveCopy.{LiveCopy}
 use Rattle.unit_ledger.specs.Rolls.{BlockRoll, copies_in, copy_at}
 use Rattle.unit_ledger.proofs.Copies.{own_units-push}

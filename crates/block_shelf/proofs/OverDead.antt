@@ -6,15 +6,15 @@ use Rattle.std.proofs.lemmas.Bool.{false≢true, eq-eqb, eqb-true, ne_eqb, leb-t
 use Rattle.std.proofs.lemmas.List.Sums.{sum_by-cons}
 use Rattle.disk_model.specs.Disk.{DiskView, IsDisk, IsHonest}
 use Rattle.rec_format.specs.Versions.{block_capacity}
-use Rattle.device_model.proofs.Blocks.{empty_is}
-use Rattle.device_model.specs.Book.{Setup, Buffer, Live, client, defrag, filling_buffer, holds_dead, use_of}
-use Rattle.device_model.specs.Device.{State}
-use Rattle.device_model.specs.Steps.{after_step, after_steps}
-use Rattle.device_model.specs.Vacating.{can_gain}
-use Rattle.device_model.specs.Legal.{seal_if, is_short, is_empty, has_gathered, is_due, seal_low}
-use Rattle.recovery.proofs.Growing.{all_at, all_from}
-use Rattle.recovery.proofs.Members.{filter_there, first_there, rest_there, map_there, map_from}
-use Rattle.kept_trail.proofs.Places.{any_there, some_at}
+use Rattle.model_device.proofs.Blocks.{empty_is}
+use Rattle.model_device.specs.Book.{Setup, Buffer, Live, client, defrag, filling_buffer, holds_dead, use_of}
+use Rattle.model_device.specs.Device.{State}
+use Rattle.model_device.specs.Steps.{after_step, after_steps}
+use Rattle.model_device.specs.Vacating.{can_gain}
+use Rattle.model_device.specs.Legal.{seal_if, is_short, is_empty, has_gathered, is_due, seal_low}
+use Rattle.law_start.proofs.Growing.{all_at, all_from}
+use Rattle.law_start.proofs.Members.{filter_there, first_there, rest_there, map_there, map_from}
+use Rattle.law_trail.proofs.Places.{any_there, some_at}
 use Rattle.write_buffer.specs.declared.stream.Stream.{Stream}
 use Rattle.write_buffer.specs.declared.stream.Stream.TheVariants.{Client, Defrag}
 use Rattle.write_buffer.specs.Buffers.{BufferState, used_units}

@@ -7,13 +7,13 @@ use Rattle.std.proofs.lemmas.List.Elements.{Contains-append_left, Contains-push,
 use Rattle.rec_format.specs.declared.version.Digest.{Digest}
 use Rattle.rec_format.specs.Places.{same_digest}
 use Rattle.rec_format.proofs.Laws.{same_digest_refl}
-use Rattle.device_model.specs.Book.{Setup, Live, live_of}
-use Rattle.device_model.specs.Device.{State}
+use Rattle.model_device.specs.Book.{Setup, Live, live_of}
+use Rattle.model_device.specs.Device.{State}
 use Rattle.unit_ledger.specs.declared.roll.LiveCopy.{LiveCopy}
 use Rattle.unit_ledger.specs.Rolls.{BlockRoll, copies_in, live_in_block}
 use Rattle.hold_book.specs.Holds.{Holds, has_hold, with_pair}
 use Rattle.hold_book.proofs.Laws.{has_hold-with_hold}
-use Rattle.kept_trail.proofs.Books.{live_there}
+use Rattle.law_trail.proofs.Books.{live_there}
 use Rattle.block_shelf.specs.declared.place.Place.{Place}
 use Rattle.block_shelf.specs.View.{IsRoll}
 use Rattle.block_shelf.specs.Standing.{IsListed, LivesSame}

@@ -10,18 +10,18 @@ use Rattle.rec_format.specs.declared.version.Version.{Version}
 use Rattle.rec_format.specs.Versions.{version_units}
 use Rattle.rec_format.specs.Places.{same_digest}
 use Rattle.rec_format.proofs.Laws.{same_digest_refl, same_digest_is}
-use Rattle.device_model.specs.Book.{Setup, Book, Live, live_of, without_live}
-use Rattle.device_model.specs.Device.{State, entry}
+use Rattle.model_device.specs.Book.{Setup, Book, Live, live_of, without_live}
+use Rattle.model_device.specs.Device.{State, entry}
 use Rattle.block_format.specs.Layout.{IsRecordAt, body_bytes}
-use Rattle.recovery.proofs.Each.{all_map}
-use Rattle.recovery.proofs.Opening.{all_joined, all_parted}
+use Rattle.law_start.proofs.Each.{all_map}
+use Rattle.law_start.proofs.Opening.{all_joined, all_parted}
 use Rattle.write_buffer.specs.Buffers.{BufferState, used_units, with_record}
 use Rattle.unit_ledger.specs.Rolls.{BlockRoll, copies_in}
 use Rattle.hold_book.specs.Holds.{HoldState}
 use Rattle.defrag_queue.specs.Queues.{QueueState}
 use Rattle.post_cache.specs.Bodies.{CacheState, kept_at}
 use Rattle.post_cache.proofs.Laws.{absent-all}
-use Rattle.kept_trail.proofs.Books.{others_live}
+use Rattle.law_trail.proofs.Books.{others_live}
 use Rattle.block_shelf.specs.declared.place.Class.{Class}
 use Rattle.block_shelf.specs.declared.place.Place.{Place}
 use Rattle.block_shelf.specs.View.{ShelfView, IsShelf, IsRoll, IsSetupOf, records_of, gate_at}

@@ -7,15 +7,15 @@ use Rattle.std.proofs.lemmas.List.Sums.{sum_by-cons, sum_by-append}
 use Rattle.disk_model.specs.Disk.{DiskView}
 use Rattle.rec_format.specs.Places.{same_digest}
 use Rattle.rec_format.proofs.Laws.{same_digest_refl}
-use Rattle.device_model.specs.Book.{Setup, Book, Buffer, Live, use_of, has_buffer, is_in, without_live, may_be_queued, refreshed}
-use Rattle.device_model.specs.Device.{State}
+use Rattle.model_device.specs.Book.{Setup, Book, Buffer, Live, use_of, has_buffer, is_in, without_live, may_be_queued, refreshed}
+use Rattle.model_device.specs.Device.{State}
 use Rattle.block_format.specs.declared.geometry.Geometry.{Geometry}
-use Rattle.recovery.proofs.Each.{all_map}
-use Rattle.recovery.proofs.Growing.{all_from, all_at, cons_cases}
-use Rattle.recovery.proofs.Members.{first_there, rest_there, map_there, map_from, filter_there, filter_from}
-use Rattle.recovery.proofs.Pending.{any_map}
-use Rattle.kept_trail.specs.Trail.{places_of}
-use Rattle.kept_trail.proofs.Places.{buffer_place}
+use Rattle.law_start.proofs.Each.{all_map}
+use Rattle.law_start.proofs.Growing.{all_from, all_at, cons_cases}
+use Rattle.law_start.proofs.Members.{first_there, rest_there, map_there, map_from, filter_there, filter_from}
+use Rattle.law_start.proofs.Pending.{any_map}
+use Rattle.law_trail.specs.Trail.{places_of}
+use Rattle.law_trail.proofs.Places.{buffer_place}
 use Rattle.write_buffer.specs.Buffers.{BufferState}
 use Rattle.unit_ledger.specs.declared.roll.LiveCopy.{LiveCopy}
 use Rattle.unit_ledger.specs.Rolls.{BlockRoll, HaveOwnUnits, copies_in, copy_at, rolled_use, live_in_block}

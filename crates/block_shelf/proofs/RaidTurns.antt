@@ -4,16 +4,16 @@ use Rattle.disk_model.specs.Disk.{DiskView, IsDisk, IsHonest}
 use Rattle.rec_format.specs.declared.version.Digest.{Digest}
 use Rattle.rec_format.specs.declared.version.Stamp.{Stamp}
 use Rattle.disk_model.specs.Runs.{OneOf, leaves_more}
-use Rattle.device_model.specs.Book.{Setup}
-use Rattle.device_model.specs.Device.{State, RaidState, scan_turn}
-use Rattle.device_model.specs.Steps.{Step, raid_begun, raid_given_up, scanned_block, raised, raid_at_begin, raid_at_end, after_step, states_through}
-use Rattle.recovery.specs.Surviving.{Survives}
-use Rattle.kept_facts.specs.Asking.{MayTake, FindsOlder}
-use Rattle.kept_images.specs.Changes.{is_plain}
-use Rattle.kept_images.specs.Held.{loosened}
-use Rattle.kept_images.specs.Kept.{BookInOrder, possible_in}
-use Rattle.kept_images.proofs.Holding.{plain_holds}
-use Rattle.kept_images.proofs.Stepping.{plain_book}
+use Rattle.model_device.specs.Book.{Setup}
+use Rattle.model_device.specs.Device.{State, RaidState, scan_turn}
+use Rattle.model_device.specs.Steps.{Step, raid_begun, raid_given_up, scanned_block, raised, raid_at_begin, raid_at_end, after_step, states_through}
+use Rattle.law_start.specs.Surviving.{Survives}
+use Rattle.law_facts.specs.Asking.{MayTake, FindsOlder}
+use Rattle.law_images.specs.Changes.{is_plain}
+use Rattle.law_images.specs.Held.{loosened}
+use Rattle.law_images.specs.Kept.{BookInOrder, possible_in}
+use Rattle.law_images.proofs.Holding.{plain_holds}
+use Rattle.law_images.proofs.Stepping.{plain_book}
 use Rattle.raid_book.specs.Books.{BookState, begun, given_up}
 use Rattle.raid_book.specs.Raids.{RaidStands}
 use Rattle.block_shelf.specs.View.{ShelfView, IsShelf, IsRaidOf, records_of, gate_at}

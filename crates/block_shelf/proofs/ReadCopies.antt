@@ -1,7 +1,7 @@
 -- A read of a copy from the disk does what it promises: where memory is wanting, where the disk fails, and where it reads.
 use Rattle.std.proofs.Common.{◌≡◌, ◌≢◌, List, ℕ, Result, Ok, Err, refl}
 use Rattle.std.specs.Prelude.{IfOk, IfErr}
-use Rattle.fault_count.specs.Counts.{Rose}
+use Rattle.model_faults.specs.Counts.{Rose}
 use Rattle.rec_format.specs.declared.version.Version.{Version}
 use Rattle.rec_format.specs.declared.entry.Entry.{Entry}
 use Rattle.rec_format.specs.Entries.{Names}

@@ -9,17 +9,17 @@ use Rattle.rec_format.specs.declared.version.Version.{Version}
 use Rattle.rec_format.specs.Places.{same_digest}
 use Rattle.rec_format.specs.Versions.{version_units}
 use Rattle.rec_format.proofs.Laws.{same_digest_is}
-use Rattle.device_model.specs.Book.{Setup, Book, Live, has_buffer, use_of, may_be_queued, live_of, without_live, refreshed}
-use Rattle.device_model.specs.Device.{State}
-use Rattle.recovery.proofs.Growing.{all_from, all_at}
-use Rattle.recovery.proofs.Members.{first_there}
+use Rattle.model_device.specs.Book.{Setup, Book, Live, has_buffer, use_of, may_be_queued, live_of, without_live, refreshed}
+use Rattle.model_device.specs.Device.{State}
+use Rattle.law_start.proofs.Growing.{all_from, all_at}
+use Rattle.law_start.proofs.Members.{first_there}
 use Rattle.write_buffer.specs.declared.stream.Stream.{Stream}
 use Rattle.write_buffer.specs.Buffers.{BufferState}
 use Rattle.unit_ledger.specs.Rolls.{copies_in, rolled_use}
 use Rattle.defrag_queue.specs.Queues.{QueueState, considered, is_below_mark, requeued}
-use Rattle.kept_trail.specs.Trail.{places_of, IsBooked}
-use Rattle.kept_trail.proofs.Books.{HasNothing, live_there, free_has_nothing}
-use Rattle.kept_trail.proofs.Places.{any_there, some_at, none_from, buffer_place}
+use Rattle.law_trail.specs.Trail.{places_of, IsBooked}
+use Rattle.law_trail.proofs.Books.{HasNothing, live_there, free_has_nothing}
+use Rattle.law_trail.proofs.Places.{any_there, some_at, none_from, buffer_place}
 use Rattle.raid_book.specs.Raids.{SameButMarks}
 use Rattle.block_shelf.specs.declared.place.Place.{Place}
 use Rattle.block_shelf.specs.View.{ShelfView, IsShelf, IsRoll, IsSetupOf}

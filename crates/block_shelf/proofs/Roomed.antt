@@ -3,13 +3,13 @@ use Rattle.std.proofs.Common.{◌≡◌, inl, List, [], ◌∷◌, refl, sym, �
 use Rattle.std.specs.Prelude.{Option, Some, None, IsTrue, IsSomeAnd, Contains}
 use Rattle.disk_model.specs.Disk.{DiskView, IsDisk}
 use Rattle.disk_model.specs.Runs.{OneOf, Leaves, leaves_none}
-use Rattle.device_model.specs.Book.{Setup}
-use Rattle.device_model.specs.Device.{State}
-use Rattle.recovery.specs.Surviving.{Survives}
+use Rattle.model_device.specs.Book.{Setup}
+use Rattle.model_device.specs.Device.{State}
+use Rattle.law_start.specs.Surviving.{Survives}
 use Rattle.unit_ledger.specs.declared.roll.LiveCopy.{LiveCopy}
 use Rattle.unit_ledger.specs.Rolls.{copy_at}
 use Rattle.hold_book.specs.Holds.{Holds, has_hold}
-use Rattle.kept_images.proofs.Held.{held_survives}
+use Rattle.law_images.proofs.Held.{held_survives}
 use Rattle.block_shelf.specs.declared.place.Place.{Place}
 use Rattle.block_shelf.specs.View.{ShelfView, IsShelf, gate_at, records_of}
 use Rattle.block_shelf.specs.Disks.{IsLater}

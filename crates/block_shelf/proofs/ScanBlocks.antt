@@ -6,8 +6,8 @@ use Rattle.disk_model.specs.Disk.{Images, DiskView, IsHonest}
 use Rattle.rec_format.specs.declared.version.Digest.{Digest}
 use Rattle.rec_format.specs.declared.version.Version.{Version}
 use Rattle.rec_format.specs.Versions.{block_capacity}
-use Rattle.device_model.specs.Book.{Setup, Buffer, has_buffer}
-use Rattle.device_model.specs.Device.{State}
+use Rattle.model_device.specs.Book.{Setup, Buffer, has_buffer}
+use Rattle.model_device.specs.Device.{State}
 use Rattle.block_format.specs.declared.geometry.Geometry.{Geometry}
 use Rattle.block_format.specs.declared.geometry.Gate.{Gate}
 use Rattle.block_format.specs.declared.geometry.Gate.TheVariants.{Shut, Set, Unsure}
@@ -15,17 +15,17 @@ use Rattle.block_format.specs.declared.geometry.Found.{Found}
 use Rattle.block_format.specs.Layout.{Body, IsBody, IsOpen, gate_sector, body_bytes}
 use Rattle.block_format.specs.Readings.{AtMostOneBody, found_from}
 use Rattle.block_flusher.specs.Images.{HasOneBody, IsBodyOf}
-use Rattle.recovery.proofs.Growing.{all_at}
-use Rattle.recovery.proofs.Each.{all_map}
-use Rattle.recovery.proofs.Members.{map_there}
-use Rattle.kept_trail.specs.Trail.{Records, places_of}
-use Rattle.kept_images.specs.Kept.{Shows}
-use Rattle.kept_images.specs.Gates.{GateStands}
-use Rattle.kept_images.specs.Held.{loosened}
-use Rattle.kept_images.specs.Scans.{IsScanOf}
-use Rattle.kept_images.proofs.Scanning.{read_waiting}
-use Rattle.kept_images.proofs.HeldCourses.{begun_read, shut_read, set_read}
-use Rattle.kept_images.proofs.Loosening.{shut_still, loosened_has}
+use Rattle.law_start.proofs.Growing.{all_at}
+use Rattle.law_start.proofs.Each.{all_map}
+use Rattle.law_start.proofs.Members.{map_there}
+use Rattle.law_trail.specs.Trail.{Records, places_of}
+use Rattle.law_images.specs.Kept.{Shows}
+use Rattle.law_images.specs.Gates.{GateStands}
+use Rattle.law_images.specs.Held.{loosened}
+use Rattle.law_images.specs.Scans.{IsScanOf}
+use Rattle.law_images.proofs.Scanning.{read_waiting}
+use Rattle.law_images.proofs.HeldCourses.{begun_read, shut_read, set_read}
+use Rattle.law_images.proofs.Loosening.{shut_still, loosened_has}
 use Rattle.write_buffer.specs.declared.phase.Phase.{Phase}
 use Rattle.write_buffer.specs.declared.phase.Phase.TheVariants as phase
 use Rattle.write_buffer.specs.Buffers.{BufferState, bytes_of, body_in}
@@ -37,7 +37,7 @@ use Rattle.block_shelf.specs.Changes.{has_buffer_in}
 use Rattle.block_shelf.specs.Scans.{ReadsAll, ReadsBody, IsDamageOf, IsSound}
 use Rattle.block_shelf.proofs.Between.{records_at}
 use Rattle.block_shelf.proofs.QueueSteps.{Parted, parted, has_buffer_is}
-use Rattle.recovery.proofs.Placing.{any_none}
+use Rattle.law_start.proofs.Placing.{any_none}
 
 -- the gates differ
 sure_gates : Set ≢ Unsure

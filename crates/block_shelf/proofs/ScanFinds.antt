@@ -11,19 +11,19 @@ use Rattle.rec_format.specs.declared.version.Version.{Version}
 use Rattle.rec_format.specs.Places.{device_number, partition_number, sprig_number, part_number_of, part_count}
 use Rattle.rec_format.specs.RecordText.{head_of}
 use Rattle.rec_format.specs.Versions.{version_units}
-use Rattle.device_model.specs.Book.{Setup}
-use Rattle.device_model.specs.Device.{State, entry, history, stamp_of}
-use Rattle.device_model.specs.Steps.{is_older_than}
+use Rattle.model_device.specs.Book.{Setup}
+use Rattle.model_device.specs.Device.{State, entry, history, stamp_of}
+use Rattle.model_device.specs.Steps.{is_older_than}
 use Rattle.block_format.specs.declared.geometry.Geometry.{Geometry}
 use Rattle.block_format.specs.declared.geometry.Found.{Found}
 use Rattle.block_format.specs.Readings.{found_from}
-use Rattle.recovery.specs.Sound.{IsShapeOf}
-use Rattle.recovery.proofs.Growing.{cons_cases}
-use Rattle.recovery.proofs.Members.{first_there, rest_there, map_there, map_from, filter_there, filter_from}
-use Rattle.kept_facts.specs.Facts.{Possible, HasFacts}
-use Rattle.kept_facts.specs.Asking.{FindsPossible}
-use Rattle.kept_facts.proofs.Guarded.{top_is}
-use Rattle.kept_images.specs.Scans.{FindsAmong}
+use Rattle.law_start.specs.Sound.{IsShapeOf}
+use Rattle.law_start.proofs.Growing.{cons_cases}
+use Rattle.law_start.proofs.Members.{first_there, rest_there, map_there, map_from, filter_there, filter_from}
+use Rattle.law_facts.specs.Facts.{Possible, HasFacts}
+use Rattle.law_facts.specs.Asking.{FindsPossible}
+use Rattle.law_facts.proofs.Guarded.{top_is}
+use Rattle.law_images.specs.Scans.{FindsAmong}
 use Rattle.partition_map.proofs.PartLaws.{part_below}
 use Rattle.raid_book.specs.Raids.{found_copies}
 use Rattle.block_shelf.specs.Scans.{own_found}

@@ -8,33 +8,33 @@ use Rattle.rec_format.specs.declared.version.Version.{Version}
 use Rattle.rec_format.specs.Places.{same_digest, part_count}
 use Rattle.rec_format.specs.Versions.{version_units}
 use Rattle.rec_format.proofs.Laws.{same_digest_is, same_digest_refl}
-use Rattle.device_model.specs.Histories.{write, top_of}
-use Rattle.device_model.specs.Book.{Setup, Live, live_of, cold_book, refreshed}
-use Rattle.device_model.specs.Device.{State, Log, entry, history_of, no_raid}
+use Rattle.model_device.specs.Histories.{write, top_of}
+use Rattle.model_device.specs.Book.{Setup, Live, live_of, cold_book, refreshed}
+use Rattle.model_device.specs.Device.{State, Log, entry, history_of, no_raid}
 use Rattle.block_format.specs.declared.geometry.Geometry.{Geometry}
 use Rattle.block_format.specs.declared.geometry.Gate.{Gate}
 use Rattle.block_format.specs.declared.geometry.Gate.TheVariants.{Shut, Set, Unsure}
 use Rattle.block_format.specs.Layout.{IsGeometry, IsRecordAt, body_bytes, Body}
 use Rattle.block_format.specs.Copies.{Copy, IsReadable, copies_of, copies_named, version_of, cold_copy}
 use Rattle.block_flusher.specs.Images.{IsBodyOf}
-use Rattle.recovery.specs.Sound.{IsShapeOf, IsSound}
-use Rattle.recovery.specs.Start.{live_copy, cold_copies, greatest_number, start_state, entries_state}
-use Rattle.recovery.proofs.ColdStart.{start_entry}
-use Rattle.recovery.proofs.StartLive.{start_live, entries_live}
-use Rattle.recovery.proofs.Held.{IsNewest, latest_is}
-use Rattle.recovery.proofs.Images.{one_shape}
-use Rattle.recovery.proofs.Growing.{all_from, all_at, cons_cases}
-use Rattle.recovery.proofs.Members.{first_there, rest_there, filter_from}
-use Rattle.recovery.proofs.Places.{copy_stands}
-use Rattle.kept_images.specs.Gates.{GateStands}
-use Rattle.kept_images.specs.Held.{AreSure}
-use Rattle.kept_images.proofs.Knowing.{IsSeen}
-use Rattle.kept_images.proofs.Starting.{start_in_order, entries_in_order}
-use Rattle.kept_images.proofs.Holding.{start_holds}
-use Rattle.kept_images.proofs.Stepping.{book_in_order}
+use Rattle.law_start.specs.Sound.{IsShapeOf, IsSound}
+use Rattle.law_start.specs.Start.{live_copy, cold_copies, greatest_number, start_state, entries_state}
+use Rattle.law_start.proofs.ColdStart.{start_entry}
+use Rattle.law_start.proofs.StartLive.{start_live, entries_live}
+use Rattle.law_start.proofs.Held.{IsNewest, latest_is}
+use Rattle.law_start.proofs.Images.{one_shape}
+use Rattle.law_start.proofs.Growing.{all_from, all_at, cons_cases}
+use Rattle.law_start.proofs.Members.{first_there, rest_there, filter_from}
+use Rattle.law_start.proofs.Places.{copy_stands}
+use Rattle.law_images.specs.Gates.{GateStands}
+use Rattle.law_images.specs.Held.{AreSure}
+use Rattle.law_images.proofs.Knowing.{IsSeen}
+use Rattle.law_images.proofs.Starting.{start_in_order, entries_in_order}
+use Rattle.law_images.proofs.Holding.{start_holds}
+use Rattle.law_images.proofs.Stepping.{book_in_order}
 use Rattle.raid_book.specs.Books.{BookState}
 use Rattle.raid_book.specs.Raids.{RaidStands}
-use Rattle.device_model.specs.Steps.{part_total}
+use Rattle.model_device.specs.Steps.{part_total}
 use Rattle.block_shelf.specs.declared.place.Place.{Place}
 use Rattle.block_shelf.specs.declared.place.ShelfLimits.{ShelfLimits}
 use Rattle.block_shelf.specs.View.{ShelfView, IsSetupOf, GatesStand, gate_at}

@@ -11,12 +11,12 @@ use Rattle.rec_format.specs.Versions.{block_capacity}
 use Rattle.disk_model.specs.Bytes.{Apart}
 use Rattle.block_format.specs.declared.geometry.Geometry.{Geometry}
 use Rattle.block_format.specs.Layout.{IsGeometry}
-use Rattle.device_model.specs.Book.{is_in}
-use Rattle.recovery.proofs.Growing.{all_at}
-use Rattle.recovery.proofs.Members.{filter_from}
-use Rattle.recovery.proofs.Opening.{all_parted}
-use Rattle.kept_trail.proofs.Places.{none_from}
-use Rattle.kept_trail.proofs.Within.{range_below}
+use Rattle.model_device.specs.Book.{is_in}
+use Rattle.law_start.proofs.Growing.{all_at}
+use Rattle.law_start.proofs.Members.{filter_from}
+use Rattle.law_start.proofs.Opening.{all_parted}
+use Rattle.law_trail.proofs.Places.{none_from}
+use Rattle.law_trail.proofs.Within.{range_below}
 use Rattle.defrag_queue.specs.Queues.{requeued}
 use Rattle.defrag_queue.proofs.Marks as queue
 use Rattle.write_buffer.proofs.Sizes.{sized, body_size}

@@ -12,11 +12,11 @@ use Rattle.rec_format.specs.Versions.{block_capacity, top_number}
 use Rattle.block_format.specs.declared.geometry.Geometry.{Geometry}
 use Rattle.block_format.specs.declared.geometry.Gate.{Gate}
 use Rattle.block_format.specs.Layout.{IsGeometry, device_end}
-use Rattle.recovery.proofs.Each.{all_map}
-use Rattle.recovery.proofs.Growing.{all_from, all_at}
-use Rattle.recovery.proofs.Members.{filter_from}
-use Rattle.kept_trail.proofs.Places.{none_at}
-use Rattle.kept_trail.proofs.Within.{range_below}
+use Rattle.law_start.proofs.Each.{all_map}
+use Rattle.law_start.proofs.Growing.{all_from, all_at}
+use Rattle.law_start.proofs.Members.{filter_from}
+use Rattle.law_trail.proofs.Places.{none_at}
+use Rattle.law_trail.proofs.Within.{range_below}
 use Rattle.unit_ledger.specs.declared.roll.LiveCopy.{LiveCopy}
 use Rattle.unit_ledger.specs.Rolls.{BlockRoll, copy_at, copies_in, rolled_use, HaveOwnUnits}
 use Rattle.defrag_queue.specs.Queues.{QueueState, is_below_mark}

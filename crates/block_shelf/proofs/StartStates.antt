@@ -8,17 +8,17 @@ use Rattle.rec_format.specs.declared.version.Version.{Version}
 use Rattle.rec_format.specs.Places.{same_digest}
 use Rattle.rec_format.specs.Versions.{version_units, block_capacity}
 use Rattle.rec_format.proofs.Laws.{same_digest_is, same_digest_refl}
-use Rattle.device_model.specs.Book.{Setup, Book, Live, may_be_free, may_be_queued, is_in, updated, use_of, all_blocks, refreshed, cold_book}
-use Rattle.device_model.specs.Device.{State, entry}
+use Rattle.model_device.specs.Book.{Setup, Book, Live, may_be_free, may_be_queued, is_in, updated, use_of, all_blocks, refreshed, cold_book}
+use Rattle.model_device.specs.Device.{State, entry}
 use Rattle.block_format.specs.declared.geometry.Geometry.{Geometry}
 use Rattle.block_format.specs.declared.geometry.Gate.{Gate}
 use Rattle.block_format.specs.Copies.{Copy}
-use Rattle.recovery.specs.Start.{live_copy}
-use Rattle.recovery.proofs.Growing.{all_from, all_at, cons_cases}
-use Rattle.recovery.proofs.Members.{map_there, map_from, filter_there, filter_from}
-use Rattle.kept_trail.proofs.Places.{none_from, none_at}
-use Rattle.kept_images.specs.Kept.{BookInOrder}
-use Rattle.kept_images.specs.Changes.{records_by}
+use Rattle.law_start.specs.Start.{live_copy}
+use Rattle.law_start.proofs.Growing.{all_from, all_at, cons_cases}
+use Rattle.law_start.proofs.Members.{map_there, map_from, filter_there, filter_from}
+use Rattle.law_trail.proofs.Places.{none_from, none_at}
+use Rattle.law_images.specs.Kept.{BookInOrder}
+use Rattle.law_images.specs.Changes.{records_by}
 use Rattle.unit_ledger.specs.declared.roll.LiveCopy.{LiveCopy}
 use Rattle.unit_ledger.specs.Rolls.{live_in_block}
 use Rattle.defrag_queue.specs.Queues.{is_below_mark}

@@ -5,8 +5,8 @@ use Rattle.disk_model.specs.Disk.{DiskView}
 use Rattle.rec_format.specs.declared.version.Digest.{Digest}
 use Rattle.rec_format.specs.declared.version.Version.{Version}
 use Rattle.rec_format.specs.Versions.{version_units, block_capacity}
-use Rattle.device_model.specs.Book.{Setup, Book, Live, first_block}
-use Rattle.device_model.specs.Device.{State}
+use Rattle.model_device.specs.Book.{Setup, Book, Live, first_block}
+use Rattle.model_device.specs.Device.{State}
 use Rattle.block_format.specs.declared.geometry.Gate.TheVariants.{Shut}
 use Rattle.write_buffer.specs.Buffers.{BufferState, used_units, with_record}
 use Rattle.post_cache.specs.Bodies.{CacheState}

@@ -4,15 +4,15 @@ use Rattle.disk_model.specs.Disk.{DiskView, IsDisk, IsHonest}
 use Rattle.disk_model.specs.Runs.{OneOf}
 use Rattle.rec_format.specs.declared.version.Digest.{Digest}
 use Rattle.rec_format.specs.Places.{same_digest}
-use Rattle.device_model.specs.Histories.{cleared, top_of}
-use Rattle.device_model.specs.Book.{Setup}
-use Rattle.device_model.specs.Device.{State, entry, history}
-use Rattle.device_model.specs.Steps.{uncovered, with_item, after_step, states_through}
-use Rattle.recovery.specs.Surviving.{Survives}
-use Rattle.kept_facts.specs.Facts.{NoneOlder}
-use Rattle.kept_images.specs.Kept.{BookInOrder}
-use Rattle.kept_images.proofs.Holding.{plain_holds}
-use Rattle.kept_images.proofs.Stepping.{plain_book}
+use Rattle.model_device.specs.Histories.{cleared, top_of}
+use Rattle.model_device.specs.Book.{Setup}
+use Rattle.model_device.specs.Device.{State, entry, history}
+use Rattle.model_device.specs.Steps.{uncovered, with_item, after_step, states_through}
+use Rattle.law_start.specs.Surviving.{Survives}
+use Rattle.law_facts.specs.Facts.{NoneOlder}
+use Rattle.law_images.specs.Kept.{BookInOrder}
+use Rattle.law_images.proofs.Holding.{plain_holds}
+use Rattle.law_images.proofs.Stepping.{plain_book}
 use Rattle.raid_book.proofs.Marks.{marks_aside}
 use Rattle.block_shelf.specs.View.{ShelfView, records_of, gate_at}
 use Rattle.block_shelf.specs.Standing.{StandsFor, BooksStand, IsPlaced, ImagesHold}

@@ -5,16 +5,16 @@ use Rattle.std.specs.List.{AllByRecursion}
 use Rattle.std.proofs.lemmas.Bool.{cases_lt}
 use Rattle.std.proofs.lemmas.List.{get_or-set_same, get_or_past}
 use Rattle.std.proofs.lemmas.List.Elements.{Contains-get_or}
-use Rattle.recovery.proofs.Growing.{all_at}
+use Rattle.law_start.proofs.Growing.{all_at}
 use Rattle.disk_model.specs.Disk.{DiskView, IsDisk, IsHonest, TornFrom, Within, meanwhile}
-use Rattle.device_model.specs.Book.{Setup}
-use Rattle.device_model.specs.Device.{State}
+use Rattle.model_device.specs.Book.{Setup}
+use Rattle.model_device.specs.Device.{State}
 use Rattle.block_format.specs.declared.geometry.Gate.{Gate}
 use Rattle.block_format.specs.declared.geometry.Gate.TheVariants.{Shut, Set, Unsure}
 use Rattle.block_format.specs.Layout.{block_place}
-use Rattle.kept_facts.specs.Facts.{SamePossible}
-use Rattle.kept_images.specs.Gates.{GateStands}
-use Rattle.kept_images.proofs.Behind.{possible_stays}
+use Rattle.law_facts.specs.Facts.{SamePossible}
+use Rattle.law_images.specs.Gates.{GateStands}
+use Rattle.law_images.proofs.Behind.{possible_stays}
 use Rattle.block_shelf.specs.Disks.{IsLater}
 use Rattle.block_shelf.specs.View.{ShelfView, IsShelf, AreSure, records_of, gate_at}
 use Rattle.block_shelf.specs.Standing.{StandsFor, ImagesHold}

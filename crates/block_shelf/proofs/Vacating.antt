@@ -7,12 +7,12 @@ use Rattle.std.proofs.lemmas.List.Sorted.{IsPermutation-sym, Contains-permutatio
 use Rattle.rec_format.specs.declared.version.Digest.{Digest}
 use Rattle.rec_format.specs.Places.{same_digest}
 use Rattle.rec_format.proofs.Laws.{same_digest_is, same_digest_refl}
-use Rattle.device_model.specs.Book.{Setup, Live, live_of}
-use Rattle.device_model.specs.Device.{State}
-use Rattle.device_model.specs.Legal.{is_in_block}
-use Rattle.recovery.proofs.Growing.{all_from, cons_cases}
-use Rattle.recovery.proofs.Members.{map_there, map_from}
-use Rattle.recovery.proofs.Placing.{found_is}
+use Rattle.model_device.specs.Book.{Setup, Live, live_of}
+use Rattle.model_device.specs.Device.{State}
+use Rattle.model_device.specs.Legal.{is_in_block}
+use Rattle.law_start.proofs.Growing.{all_from, cons_cases}
+use Rattle.law_start.proofs.Members.{map_there, map_from}
+use Rattle.law_start.proofs.Placing.{found_is}
 use Rattle.unit_ledger.specs.declared.roll.LiveCopy.{LiveCopy}
 use Rattle.unit_ledger.specs.Rolls.{copies_in, live_in_block}
 use Rattle.unit_ledger.specs.Order.{by_unit, digests_by_unit, AreByUnit}

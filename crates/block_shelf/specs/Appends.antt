@@ -3,24 +3,24 @@ use Rattle.std.specs.Prelude.{◌≡◌, ◌≢◌, ℕ, ◌+◌, ◌<◌, ◌�
 use Rattle.rec_format.specs.declared.version.Digest.{Digest}
 use Rattle.rec_format.specs.declared.version.Version.{Version}
 use Rattle.rec_format.specs.Versions.{block_capacity, version_units}
-use Rattle.fault_count.specs.Counts.{Rose}
-use Rattle.device_model.specs.Book.{Setup, Book, Live, first_block, first_to_back, has_room, live_of}
-use Rattle.device_model.specs.Device.{State, entry}
-use Rattle.device_model.specs.Steps.{Step, wrote, moved, closing_failed, after_step, states_through}
-use Rattle.device_model.specs.Events.{Cause, too_big, spent, overload, no_space}
-use Rattle.device_model.specs.Legal.{first_cause, no_place, ReadInstead}
+use Rattle.model_faults.specs.Counts.{Rose}
+use Rattle.model_device.specs.Book.{Setup, Book, Live, first_block, first_to_back, has_room, live_of}
+use Rattle.model_device.specs.Device.{State, entry}
+use Rattle.model_device.specs.Steps.{Step, wrote, moved, closing_failed, after_step, states_through}
+use Rattle.model_device.specs.Events.{Cause, too_big, spent, overload, no_space}
+use Rattle.model_device.specs.Legal.{first_cause, no_place, ReadInstead}
 use Rattle.disk_model.specs.Disk.{DiskView, IsHonest, TellsTorn}
 use Rattle.disk_model.specs.Runs.{OneOf, Leaves}
 use Rattle.block_format.specs.declared.geometry.Geometry.{Geometry}
 use Rattle.block_format.specs.declared.geometry.Gate.TheVariants.{Shut, Unsure}
 use Rattle.block_format.specs.Layout.{block_place}
-use Rattle.recovery.specs.Surviving.{Survives}
+use Rattle.law_start.specs.Surviving.{Survives}
 use Rattle.write_buffer.specs.declared.stream.Stream.{Stream}
 use Rattle.write_buffer.specs.declared.stream.Stream.TheVariants.{Client, Defrag}
 use Rattle.write_buffer.specs.Buffers.{BufferState, used_units}
 use Rattle.hold_book.specs.Holds.{with_pair}
 use Rattle.unit_ledger.specs.Rolls.{copies_in}
-use Rattle.kept_facts.specs.Asking.{MayBeWritten}
+use Rattle.law_facts.specs.Asking.{MayBeWritten}
 use Rattle.block_shelf.specs.declared.place.Place.{Place}
 use Rattle.block_shelf.specs.declared.place.Class.{Class}
 use Rattle.block_shelf.specs.declared.place.Class.TheVariants as class

@@ -1,9 +1,9 @@
 -- Crate block_shelf. What a call promises that begins a buffer.
 use Rattle.std.specs.Prelude.{◌≡◌, ◌≤◌, [], Result, Err, None, IfErr, MatchResult, OnOk}
-use Rattle.fault_count.specs.Counts.{Rose}
+use Rattle.model_faults.specs.Counts.{Rose}
 use Rattle.disk_model.specs.Disk.{DiskView, IsHonest, TellsTorn}
-use Rattle.device_model.specs.Book.{Setup, first_block}
-use Rattle.device_model.specs.Device.{State}
+use Rattle.model_device.specs.Book.{Setup, first_block}
+use Rattle.model_device.specs.Device.{State}
 use Rattle.block_format.specs.declared.geometry.Gate.TheVariants.{Shut}
 use Rattle.block_format.specs.Layout.{block_place}
 use Rattle.write_buffer.specs.declared.stream.Stream.{Stream}

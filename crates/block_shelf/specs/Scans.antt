@@ -1,26 +1,26 @@
 -- Crate block_shelf. What a raid's scan of a block finds, and what it makes.
 use Rattle.std.specs.Prelude.{◌≡◌, ◌≢◌, ℕ, ◌==◌, List, [], ◌∷◌, filter, Contains, Result, Ok, Err, IfErr, MatchResult, OnOk, OnErr}
-use Rattle.fault_count.specs.Counts.{Rose}
+use Rattle.model_faults.specs.Counts.{Rose}
 use Rattle.disk_model.specs.Disk.{DiskView, IsHonest, Within}
 use Rattle.rec_format.specs.declared.version.Digest.{Digest}
 use Rattle.rec_format.specs.declared.version.Stamp.{Stamp}
 use Rattle.rec_format.specs.declared.version.Version.{Version}
 use Rattle.rec_format.specs.Places.{device_number}
 use Rattle.rec_format.specs.Versions.{block_capacity}
-use Rattle.device_model.specs.Book.{Setup}
-use Rattle.device_model.specs.Device.{State}
-use Rattle.device_model.specs.Steps.{scanned_block}
+use Rattle.model_device.specs.Book.{Setup}
+use Rattle.model_device.specs.Device.{State}
+use Rattle.model_device.specs.Steps.{scanned_block}
 use Rattle.block_format.specs.declared.geometry.Geometry.{Geometry}
 use Rattle.block_format.specs.declared.geometry.Found.{Found}
 use Rattle.block_format.specs.declared.geometry.Gate.TheVariants.{Shut, Unsure}
 use Rattle.block_format.specs.Layout.{Body, IsBody, IsFaultAt, body_bytes}
 use Rattle.block_format.specs.Readings.{found_from}
 use Rattle.block_flusher.specs.Images.{IsBodyOf}
-use Rattle.kept_facts.specs.Facts.{Possible}
-use Rattle.kept_facts.specs.Asking.{FindsOlder, FindsPossible}
-use Rattle.kept_images.specs.Kept.{possible_in}
-use Rattle.kept_images.specs.Held.{loosened}
-use Rattle.kept_images.specs.Scans.{IsScanOf}
+use Rattle.law_facts.specs.Facts.{Possible}
+use Rattle.law_facts.specs.Asking.{FindsOlder, FindsPossible}
+use Rattle.law_images.specs.Kept.{possible_in}
+use Rattle.law_images.specs.Held.{loosened}
+use Rattle.law_images.specs.Scans.{IsScanOf}
 use Rattle.write_buffer.specs.Buffers.{BufferState}
 use Rattle.raid_book.specs.Books.{with_scan}
 use Rattle.block_shelf.specs.declared.refusals.VacateRefusal.{VacateRefusal}

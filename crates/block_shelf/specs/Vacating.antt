@@ -1,8 +1,8 @@
 -- Crate block_shelf. Which block is vacated next, and which records are told to be in it.
 use Rattle.std.specs.Prelude.{◌≡◌, ℕ, Option, Some, None, IfSome, IsTrue, Contains, ◌↔◌}
 use Rattle.rec_format.specs.declared.version.Digest.{Digest}
-use Rattle.device_model.specs.Book.{Book, live_of}
-use Rattle.device_model.specs.Legal.{queue_front, is_in_block}
+use Rattle.model_device.specs.Book.{Book, live_of}
+use Rattle.model_device.specs.Legal.{queue_front, is_in_block}
 use Rattle.unit_ledger.specs.Rolls.{copies_in}
 use Rattle.unit_ledger.specs.Order.{digests_by_unit}
 use Rattle.block_shelf.specs.declared.vacate.Vacancy.{Vacancy}

@@ -1,8 +1,8 @@
 // What is asked of a shelf before a call: whether a copy can be appended, and which buffer has a block.
 ghost use Rattle.std.specs.Prelude.{◌≡◌, ◌≢◌, None, Contains, IfErr, MatchOption, MatchResult};
 ghost use Rattle.std.specs.List.{AllByRecursion};
-ghost use Rattle.device_model.specs.Book.{Setup};
-ghost use Rattle.device_model.specs.Device.{State};
+ghost use Rattle.model_device.specs.Book.{Setup};
+ghost use Rattle.model_device.specs.Device.{State};
 ghost use Rattle.write_buffer.specs.Buffers.{BufferState};
 ghost use Rattle.block_shelf.specs.View.{IsSetupOf};
 ghost use Rattle.block_shelf.specs.Standing.{StandsFor};

@@ -1,10 +1,10 @@
 // How the gate of a block is closed before the block is used again.
 ghost use Rattle.std.specs.Prelude.{◌≡◌, ◌≢◌, ◌<◌, ◌≤◌, length, slice_set, MatchResult, OnErr};
-ghost use Rattle.fault_count.specs.Counts.{Rose};
+ghost use Rattle.model_faults.specs.Counts.{Rose};
 ghost use Rattle.disk_model.specs.Disk.{IsHonest, TellsTorn, TornFrom, meanwhile};
 ghost use Rattle.block_format.specs.declared.geometry.Gate.TheVariants.{Shut, Unsure};
 ghost use Rattle.block_format.specs.Layout.{IsGeometry, block_place, device_end};
-ghost use Rattle.kept_images.specs.Gates.{GateStands};
+ghost use Rattle.law_images.specs.Gates.{GateStands};
 ghost use Rattle.block_shelf.specs.Disks.{IsLater};
 ghost use Rattle.block_shelf.specs.View.{gate_at};
 

@@ -3,10 +3,10 @@ ghost use Rattle.std.specs.Prelude.{◌≡◌, ◌≢◌, ◌<◌, [], ◌∷◌
 ghost use Rattle.std.specs.List.{AllByRecursion};
 ghost use Rattle.disk_model.specs.Disk.{IsHonest};
 ghost use Rattle.rec_format.specs.declared.version.Digest.{Digest as DigestValue};
-ghost use Rattle.device_model.specs.Book.{Setup};
-ghost use Rattle.device_model.specs.Device.{State, entry_is_covered};
-ghost use Rattle.device_model.specs.Steps.{removed, rid_of};
-ghost use Rattle.kept_facts.specs.Facts.{NoneOlder};
+ghost use Rattle.model_device.specs.Book.{Setup};
+ghost use Rattle.model_device.specs.Device.{State, entry_is_covered};
+ghost use Rattle.model_device.specs.Steps.{removed, rid_of};
+ghost use Rattle.law_facts.specs.Facts.{NoneOlder};
 ghost use Rattle.unit_ledger.specs.Rolls.{copies_in, copy_at};
 ghost use Rattle.block_shelf.specs.View.{IsShelf, SameShape, IsSetupOf, IsUnused};
 ghost use Rattle.block_shelf.specs.Standing.{StandsFor, ImagesHold};

@@ -1,9 +1,9 @@
 // How a buffer is sealed where few blocks are free, so that its flush frees those that it holds.
 ghost use Rattle.std.specs.Prelude.{◌≡◌, ◌*◌, Contains, MatchBool, nat_lt};
-ghost use Rattle.device_model.specs.Book.{Setup};
-ghost use Rattle.device_model.specs.Device.{State};
-ghost use Rattle.device_model.specs.Legal.{seal_low};
-ghost use Rattle.device_model.specs.Vacating.{can_gain};
+ghost use Rattle.model_device.specs.Book.{Setup};
+ghost use Rattle.model_device.specs.Device.{State};
+ghost use Rattle.model_device.specs.Legal.{seal_low};
+ghost use Rattle.model_device.specs.Vacating.{can_gain};
 ghost use Rattle.write_buffer.specs.Buffers.{BufferState};
 ghost use Rattle.block_shelf.specs.View.{IsShelf, SameShape, IsSetupOf};
 ghost use Rattle.block_shelf.specs.Standing.{StandsFor, BooksStand};

@@ -2,7 +2,7 @@
 ghost use Rattle.std.specs.Prelude.{◌≡◌, ◌≢◌, ◌+◌, ◌++◌, ◌==◌, ℕ, [], ◌↔◌, None, Some, IsNone, if◌then◌else◌};
 ghost use Rattle.std.specs.Option.{option_to_list};
 ghost use Rattle.rec_format.specs.Versions.{top_number};
-ghost use Rattle.device_model.specs.Passes.{turn_part};
+ghost use Rattle.model_device.specs.Passes.{turn_part};
 ghost use Rattle.raid_book.specs.Books.{begun, given_up, after_turn};
 ghost use Rattle.raid_book.specs.Found.{copies_for};
 ghost use Rattle.raid_book.specs.Turns.{turn_of};

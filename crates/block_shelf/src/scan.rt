@@ -1,17 +1,17 @@
 // What a raid comes upon in a block.
 ghost use Rattle.std.specs.Prelude.{◌≡◌, ◌≢◌, ◌<◌, ◌≤◌, ◌-◌, ◌==◌, ℕ, List, [], ◌∷◌, Contains, length, map, filter, Ok, IfOk, IfErr, OnOk, OnErr, MatchResult};
 ghost use Rattle.std.specs.List.{All, AllByRecursion};
-ghost use Rattle.fault_count.specs.Counts.{Rose};
+ghost use Rattle.model_faults.specs.Counts.{Rose};
 ghost use Rattle.disk_model.specs.Disk.{IsHonest};
 ghost use Rattle.rec_format.specs.Places.{device_number, part_number_of, part_count};
-ghost use Rattle.device_model.specs.Book.{Setup};
-ghost use Rattle.device_model.specs.Device.{State};
-ghost use Rattle.device_model.specs.Steps.{raid_given_up};
+ghost use Rattle.model_device.specs.Book.{Setup};
+ghost use Rattle.model_device.specs.Device.{State};
+ghost use Rattle.model_device.specs.Steps.{raid_given_up};
 ghost use Rattle.block_format.specs.Layout.{IsGeometry, body_bytes};
 ghost use Rattle.block_format.specs.Readings.{AtMostOneBody};
 ghost use Rattle.block_format.specs.declared.geometry.Geometry.{Geometry};
 ghost use Rattle.write_buffer.specs.Buffers.{BufferState};
-ghost use Rattle.kept_facts.specs.Facts.{SamePossible};
+ghost use Rattle.law_facts.specs.Facts.{SamePossible};
 ghost use Rattle.raid_book.specs.declared.turn.RaidNext.TheVariants as turn;
 ghost use Rattle.raid_book.specs.Books.{given_up, with_scan};
 ghost use Rattle.block_shelf.specs.Disks.{IsLater};

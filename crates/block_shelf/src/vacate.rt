@@ -1,8 +1,8 @@
 // Which block is vacated next.
 ghost use Rattle.std.specs.Prelude.{◌≡◌, ◌<◌, None, IsOk, IfOk, IfErr, IfSome};
-ghost use Rattle.device_model.specs.Book.{Setup};
-ghost use Rattle.device_model.specs.Device.{State};
-ghost use Rattle.device_model.specs.Legal.{queue_front};
+ghost use Rattle.model_device.specs.Book.{Setup};
+ghost use Rattle.model_device.specs.Device.{State};
+ghost use Rattle.model_device.specs.Legal.{queue_front};
 ghost use Rattle.block_shelf.specs.Standing.{StandsFor, BooksStand};
 ghost use Rattle.block_shelf.specs.Vacating.{IsNextOf, VacatesFrom};
 

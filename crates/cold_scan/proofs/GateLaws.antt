@@ -8,7 +8,7 @@ use Rattle.block_format.specs.declared.geometry.Geometry.{Geometry}
 use Rattle.block_format.specs.declared.geometry.Gate.{Gate}
 use Rattle.block_format.specs.declared.geometry.Gate.TheVariants.{Shut, Set, Unsure}
 use Rattle.block_format.specs.Layout.{gate_sector, block_place}
-use Rattle.recovery.proofs.Opening.{all_joined}
+use Rattle.law_start.proofs.Opening.{all_joined}
 use Rattle.cold_scan.specs.Found.{is_set, IsSure, TellsSector, AreGates, set_blocks}
 
 -- ---- read one after another

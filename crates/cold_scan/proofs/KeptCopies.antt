@@ -15,8 +15,8 @@ use Rattle.block_format.specs.declared.geometry.Geometry.{Geometry}
 use Rattle.block_format.specs.Layout.{Body}
 use Rattle.block_format.specs.Readings.{found_from}
 use Rattle.block_format.specs.Copies.{Copy, copies_from, copies_of, cold_copy}
-use Rattle.recovery.specs.Cold.{later_one}
-use Rattle.recovery.proofs.Cold.{cold_copy_more}
+use Rattle.law_start.specs.Cold.{later_one}
+use Rattle.law_start.proofs.Cold.{cold_copy_more}
 use Rattle.cold_scan.specs.declared.bodies.Kept.{Kept}
 use Rattle.cold_scan.specs.Starting.{own_copies}
 use Rattle.cold_scan.specs.Found.{kept_of, kept_found, later_kept, KeepsLater, KeepsOne, KeepsAll, HasKept}

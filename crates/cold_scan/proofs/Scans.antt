@@ -16,10 +16,10 @@ use Rattle.block_format.specs.declared.geometry.Found.{Found}
 use Rattle.block_format.specs.Layout.{IsOpen, IsClosed, gate_sector, block_place, body_bytes, Body, IsBody, IsFaultAt, units_of_records}
 use Rattle.block_format.specs.Readings.{IsReading, body_capacity, found_from}
 use Rattle.block_format.specs.Copies.{Copy, HasBodies, copies_from, copies_of}
-use Rattle.recovery.specs.Start.{greatest_number}
+use Rattle.law_start.specs.Start.{greatest_number}
 use Rattle.block_format.specs.Refusals.{IsBlock, IsDamagedAt}
 use Rattle.block_format.proofs.BodyRecords.{units-cons}
-use Rattle.recovery.proofs.Opening.{all_joined}
+use Rattle.law_start.proofs.Opening.{all_joined}
 use Rattle.cold_scan.specs.declared.bodies.Taken.{Taken}
 use Rattle.cold_scan.specs.declared.header.StartCause.{StartCause}
 use Rattle.cold_scan.specs.declared.header.StartCause.TheVariants as why

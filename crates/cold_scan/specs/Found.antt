@@ -14,9 +14,9 @@ use Rattle.block_format.specs.declared.geometry.Found.{Found}
 use Rattle.block_format.specs.Layout.{IsGeometry, IsOpen, IsClosed, gate_sector, body_bytes, device_end, Body, IsBody, IsFaultAt}
 use Rattle.block_format.specs.Copies.{Copy, copies_from, copies_of, cold_copy}
 use Rattle.block_format.specs.Refusals.{IsDamagedAt}
-use Rattle.device_model.specs.Book.{Setup}
-use Rattle.device_model.specs.Device.{State}
-use Rattle.recovery.specs.Start.{greatest_number, entries_state, cold_copies}
+use Rattle.model_device.specs.Book.{Setup}
+use Rattle.model_device.specs.Device.{State}
+use Rattle.law_start.specs.Start.{greatest_number, entries_state, cold_copies}
 use Rattle.cold_scan.specs.declared.header.Asked.{Asked}
 use Rattle.cold_scan.specs.declared.header.StartCause.{StartCause}
 use Rattle.cold_scan.specs.declared.header.StartCause.TheVariants.{NotFormatted, OtherGeometry, DamagedBlock, Memory, Fault}

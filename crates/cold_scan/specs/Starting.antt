@@ -1,7 +1,7 @@
 -- Crate cold_scan. What a cold start reads and refuses, by the bytes that the device reads.
 use Rattle.std.specs.Prelude.{◌≡◌, ℕ, ◌==◌, List, filter}
 use Rattle.std.specs.List.{range_with_len}
-use Rattle.fault_count.specs.Counts.{Rose}
+use Rattle.model_faults.specs.Counts.{Rose}
 use Rattle.rec_format.specs.Places.{device_number}
 use Rattle.block_format.specs.declared.geometry.Geometry.{Geometry}
 use Rattle.block_format.specs.Layout.{Body}

@@ -1,6 +1,6 @@
 // The header of a device: which device it is, of which shape, and whether all of it is there.
 ghost use Rattle.std.specs.Prelude.{◌≡◌, ◌≤◌, ◌++◌, take, replicate, nat_le, IfOk, IfErr, OnErr, IsTrue, ◌↔◌, MatchResult};
-ghost use Rattle.fault_count.specs.Counts.{Rose};
+ghost use Rattle.model_faults.specs.Counts.{Rose};
 ghost use Rattle.block_format.specs.Layout.{device_end};
 ghost use Rattle.block_format.specs.Refusals.{IsAsked};
 ghost use Rattle.block_shelf.specs.Disks.{OnlyRead};

@@ -3,13 +3,13 @@ use Rattle.std.proofs.Common.{◌≡◌, inl, inr, ℕ, suc, ◌+◌, ◌<◌, t
 use Rattle.std.specs.Prelude.{Option, Some, Result, Ok, Err, slice_get}
 use Rattle.std.proofs.lemmas.List.{map-append}
 use Rattle.disk_model.specs.Disk.{DiskView, IsDisk}
-use Rattle.device_model.specs.Book.{Setup}
-use Rattle.device_model.specs.Device.{State}
-use Rattle.device_model.specs.Events.{Event, Call, Cause, Answer, flush_call, disk_fault, counted, refused}
-use Rattle.device_model.specs.Vacating.{Outcome, VacatesUpTo, Tends, did, stopped}
-use Rattle.node_model.specs.Commands.{Slot, Node, NodeEvent, EachDevice, Flushes, Defragments, expired_entries, Expires, Raids, fault_of, TendsEach, on_device}
-use Rattle.device_model.specs.Expiring.{ExpiresEach}
-use Rattle.node_model.specs.Run.{ClosesEach}
+use Rattle.model_device.specs.Book.{Setup}
+use Rattle.model_device.specs.Device.{State}
+use Rattle.model_device.specs.Events.{Event, Call, Cause, Answer, flush_call, disk_fault, counted, refused}
+use Rattle.model_device.specs.Vacating.{Outcome, VacatesUpTo, Tends, did, stopped}
+use Rattle.model_node.specs.Commands.{Slot, Node, NodeEvent, EachDevice, Flushes, Defragments, expired_entries, Expires, Raids, fault_of, TendsEach, on_device}
+use Rattle.model_device.specs.Expiring.{ExpiresEach}
+use Rattle.model_node.specs.Run.{ClosesEach}
 use Rattle.shard_core.specs.View.{ShardView, setup_of}
 use Rattle.shard_core.specs.Stands.{Agrees}
 use Rattle.shard_core.specs.Calls.{Makes, cause_of_write, flush_answer}

@@ -1,19 +1,19 @@
 -- What holds of all devices behind their closing.
 use Rattle.std.proofs.Common.{◌≡◌, ◌≢◌, inl, inr, ℕ, true, false, zero, suc, ◌+◌, ◌<◌, List, [], ◌∷◌, length, map, refl, sym, ◌∙◌, ap, subst, arith}
 use Rattle.std.specs.Prelude.{Option, Some, None, Result, Ok, Err, slice_get}
-use Rattle.fault_count.specs.Counts.{Rose}
+use Rattle.model_faults.specs.Counts.{Rose}
 use Rattle.disk_model.specs.Disk.{DiskView, IsDisk}
-use Rattle.device_model.specs.Device.{State}
-use Rattle.device_model.specs.Steps.{Step, after_steps}
-use Rattle.device_model.specs.Events.{Event, Call, refused, disk_fault}
-use Rattle.device_model.specs.Legal.{Allowed, FlushEnds, seal_all, flush_all}
+use Rattle.model_device.specs.Device.{State}
+use Rattle.model_device.specs.Steps.{Step, after_steps}
+use Rattle.model_device.specs.Events.{Event, Call, refused, disk_fault}
+use Rattle.model_device.specs.Legal.{Allowed, FlushEnds, seal_all, flush_all}
 use Rattle.block_shelf.specs.Standing.{book_buffer}
 use Rattle.write_buffer.specs.Buffers.{BufferState}
 use Rattle.shard_core.specs.View.{ShardView, setup_of}
 use Rattle.shard_core.specs.Stands.{Agrees}
-use Rattle.node_model.specs.Commands.{Slot, Node, node_after}
-use Rattle.node_model.specs.Outside.{RoseOn}
-use Rattle.node_model.specs.RunEnd.{IsQuiet, AllQuiet}
+use Rattle.model_node.specs.Commands.{Slot, Node, node_after}
+use Rattle.model_node.specs.Outside.{RoseOn}
+use Rattle.model_node.specs.RunEnd.{IsQuiet, AllQuiet}
 use Rattle.core_run.specs.Views.{serving, disks_served, faults_of}
 use Rattle.core_run.specs.Standing.{Each, StandsOn, StandsSafelyOn}
 use Rattle.core_run.specs.Calls.{ClosedSo, Closes}

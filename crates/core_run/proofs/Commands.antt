@@ -5,21 +5,21 @@ use Rattle.disk_model.specs.Disk.{DiskView, IsDisk}
 use Rattle.rec_format.specs.declared.version.Digest.{Digest}
 use Rattle.rec_format.specs.declared.entry.Counts.{Counts}
 use Rattle.rec_format.specs.Places.{device_number}
-use Rattle.device_model.specs.Device.{State, seen}
-use Rattle.device_model.specs.Book.{Setup}
-use Rattle.device_model.specs.Events.{Event, Call, put_call, get_call, delete_call, bury_call, after_events}
+use Rattle.model_device.specs.Device.{State, seen}
+use Rattle.model_device.specs.Book.{Setup}
+use Rattle.model_device.specs.Events.{Event, Call, put_call, get_call, delete_call, bury_call, after_events}
 use Rattle.block_shelf.specs.View.{AreSure}
 use Rattle.block_shelf.specs.Scans.{possible_copies}
-use Rattle.raid_laws.specs.Exact.{RaidsExactly}
+use Rattle.law_raid.specs.Exact.{RaidsExactly}
 use Rattle.line_proto.specs.declared.reply.LineFault.{LineFault}
 use Rattle.line_proto.specs.declared.command.Command.{Command}
 use Rattle.line_proto.specs.declared.command.Command.TheVariants as command
 use Rattle.line_proto.specs.declared.reply.Reply.{Reply}
 use Rattle.line_proto.specs.declared.reply.Reply.TheVariants as reply
 use Rattle.cold_scan.specs.declared.header.StartCause.{StartCause}
-use Rattle.device_model.specs.Vacating.{Outcome, did, stopped}
-use Rattle.node_model.specs.Commands.{Slot, Node, NodeEvent, Does, on_device, answer_reply, meta_reply, seen_on, flushed_reply, defragged_reply, expired_reply, raided_reply, node_counts}
-use Rattle.node_model.specs.Meaning.{ActsFrom}
+use Rattle.model_device.specs.Vacating.{Outcome, did, stopped}
+use Rattle.model_node.specs.Commands.{Slot, Node, NodeEvent, Does, on_device, answer_reply, meta_reply, seen_on, flushed_reply, defragged_reply, expired_reply, raided_reply, node_counts}
+use Rattle.model_node.specs.Meaning.{ActsFrom}
 use Rattle.shard_core.specs.View.{ShardView, setup_of}
 use Rattle.shard_core.specs.Stands.{Agrees}
 use Rattle.shard_core.specs.Calls.{GetsStored}

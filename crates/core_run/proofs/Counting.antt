@@ -3,10 +3,10 @@ use Rattle.std.proofs.Common.{◌≡◌, ℕ, zero, suc, ◌+◌, ◌*◌, ◌-�
 use Rattle.std.specs.Prelude.{Some, slice_get}
 use Rattle.std.proofs.lemmas.List.Sums.{sum_by-cons}
 use Rattle.rec_format.specs.declared.entry.Counts.{Counts}
-use Rattle.device_model.specs.Book.{held_blocks}
-use Rattle.device_model.specs.Device.{State, put_count, tombstone_count, covered_count}
+use Rattle.model_device.specs.Book.{held_blocks}
+use Rattle.model_device.specs.Device.{State, put_count, tombstone_count, covered_count}
 use Rattle.shard_core.specs.Numbers.{AreFew, counts_of}
-use Rattle.node_model.specs.Commands.{Slot, Node, total, node_counts}
+use Rattle.model_node.specs.Commands.{Slot, Node, total, node_counts}
 use Rattle.core_run.specs.Turns.{wrapped, wrapped_sum}
 
 -- the numbers of some devices, where a sum goes around at 2^64

@@ -3,10 +3,10 @@ use Rattle.std.proofs.Common.{◌≡◌, inl, inr, ℕ, suc, ◌+◌, ◌-◌, �
 use Rattle.std.specs.Prelude.{Some, None, Ok, Err}
 use Rattle.std.proofs.lemmas.List.{append-nil, append_assoc}
 use Rattle.disk_model.specs.Disk.{DiskView, IsDisk}
-use Rattle.device_model.specs.Book.{Setup}
-use Rattle.device_model.specs.Device.{State}
-use Rattle.device_model.specs.Events.{Event, Cause, after_events}
-use Rattle.device_model.specs.Vacating.{Outcome, Vacates, VacatesUpTo, did, stopped}
+use Rattle.model_device.specs.Book.{Setup}
+use Rattle.model_device.specs.Device.{State}
+use Rattle.model_device.specs.Events.{Event, Cause, after_events}
+use Rattle.model_device.specs.Vacating.{Outcome, Vacates, VacatesUpTo, did, stopped}
 use Rattle.shard_core.specs.View.{ShardView, setup_of}
 use Rattle.shard_core.specs.Stands.{Agrees}
 use Rattle.shard_core.specs.Vacating.{MakesEvents, IsVacating}

@@ -6,18 +6,18 @@ use Rattle.disk_model.specs.Disk.{DiskView, IsDisk}
 use Rattle.rec_format.specs.declared.version.Digest.{Digest}
 use Rattle.rec_format.specs.Places.{device_number}
 use Rattle.rec_format.specs.Versions.{is_expired_put}
-use Rattle.device_model.specs.Book.{Setup}
-use Rattle.device_model.specs.Device.{State, entry, entry_passes, part_of, expired_in, digests_of}
-use Rattle.device_model.specs.Steps.{part_total}
-use Rattle.device_model.specs.Events.{Event, Cause, expire_call, after_events}
-use Rattle.device_model.specs.Passes.{part_named}
-use Rattle.device_model.specs.Vacating.{Outcome, did, stopped}
-use Rattle.device_model.specs.Expiring.{ExpiresEach}
-use Rattle.recovery.proofs.Each.{all_map}
-use Rattle.part_laws.proofs.OtherParts.{expired_stay}
-use Rattle.node_model.specs.Commands.{expired_entries}
-use Rattle.node_model.proofs.ByParts.{of_one_part, first_parts, expired_below, expired_in_turn}
-use Rattle.node_model.proofs.Expiries.{then_others, not_come_to, behind, calls_are}
+use Rattle.model_device.specs.Book.{Setup}
+use Rattle.model_device.specs.Device.{State, entry, entry_passes, part_of, expired_in, digests_of}
+use Rattle.model_device.specs.Steps.{part_total}
+use Rattle.model_device.specs.Events.{Event, Cause, expire_call, after_events}
+use Rattle.model_device.specs.Passes.{part_named}
+use Rattle.model_device.specs.Vacating.{Outcome, did, stopped}
+use Rattle.model_device.specs.Expiring.{ExpiresEach}
+use Rattle.law_start.proofs.Each.{all_map}
+use Rattle.law_sprig.proofs.OtherParts.{expired_stay}
+use Rattle.model_node.specs.Commands.{expired_entries}
+use Rattle.model_node.proofs.ByParts.{of_one_part, first_parts, expired_below, expired_in_turn}
+use Rattle.model_node.proofs.Expiries.{then_others, not_come_to, behind, calls_are}
 use Rattle.shard_core.specs.View.{ShardView, setup_of}
 use Rattle.shard_core.specs.Stands.{Agrees}
 use Rattle.shard_core.specs.Calls.{cause_of_write}

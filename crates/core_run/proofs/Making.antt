@@ -3,16 +3,16 @@ use Rattle.std.proofs.Common.{◌≡◌, ℕ, zero, suc, ◌<◌, Bool, List, []
 use Rattle.std.specs.Prelude.{Some, slice_get}
 use Rattle.disk_model.specs.Disk.{DiskView, IsDisk}
 use Rattle.disk_model.specs.Runs.{OneOf, Leaves, leaves_none}
-use Rattle.device_model.specs.Device.{State}
-use Rattle.device_model.specs.Events.{Event, states_of}
-use Rattle.recovery.specs.Surviving.{Survives}
-use Rattle.kept_images.proofs.Held.{held_survives}
+use Rattle.model_device.specs.Device.{State}
+use Rattle.model_device.specs.Events.{Event, states_of}
+use Rattle.law_start.specs.Surviving.{Survives}
+use Rattle.law_images.proofs.Held.{held_survives}
 use Rattle.block_shelf.specs.View.{records_of, gate_at}
 use Rattle.shard_core.specs.View.{ShardView, setup_of}
 use Rattle.shard_core.specs.Stands.{IsSafe}
-use Rattle.node_model.specs.Commands.{Slot, Node, slot_after_all, node_after, IsLegalOn}
-use Rattle.node_model.specs.Run.{states_while}
-use Rattle.node_model.specs.Meaning.{LeavesEach, SurvivesOne}
+use Rattle.model_node.specs.Commands.{Slot, Node, slot_after_all, node_after, IsLegalOn}
+use Rattle.model_node.specs.Run.{states_while}
+use Rattle.model_node.specs.Meaning.{LeavesEach, SurvivesOne}
 use Rattle.core_run.specs.Views.{disks_served, view_at, nowhere, unknown}
 use Rattle.core_run.specs.Standing.{Each}
 use Rattle.core_run.proofs.Places.{events_of, slots_after, IsLegalFrom, node_after_of, legal_of, states_here, states_there, nones, only_at}

@@ -3,14 +3,14 @@ use Rattle.std.proofs.Common.{◌≡◌, inl, ℕ, zero, suc, true, false, List,
 use Rattle.std.specs.Prelude.{◌≢◌, Some, None, slice_get}
 use Rattle.disk_model.specs.Disk.{DiskView, IsDisk}
 use Rattle.block_shelf.specs.Disks.{IsLater}
-use Rattle.device_model.specs.Events.{Event}
+use Rattle.model_device.specs.Events.{Event}
 use Rattle.line_proto.specs.declared.command.Command.{Command}
 use Rattle.line_proto.specs.declared.reply.Reply.{Reply}
 use Rattle.line_proto.specs.declared.reply.Reply.TheVariants as reply
 use Rattle.cold_scan.specs.declared.header.StartCause.{StartCause}
-use Rattle.node_model.specs.Commands.{Node, NodeEvent, node_after, Does, TendsEach}
-use Rattle.node_model.specs.Run.{ClosesEach, states_while}
-use Rattle.node_model.specs.Meaning.{ActsFrom, TendsFrom, ClosesFrom, LeavesEach}
+use Rattle.model_node.specs.Commands.{Node, NodeEvent, node_after, Does, TendsEach}
+use Rattle.model_node.specs.Run.{ClosesEach, states_while}
+use Rattle.model_node.specs.Meaning.{ActsFrom, TendsFrom, ClosesFrom, LeavesEach}
 use Rattle.shard_core.specs.View.{ShardView}
 use Rattle.shard_core.proofs.Later.{later_none}
 use Rattle.core_run.specs.Views.{NodeView, serving, halted, disks_served, views_of, unknown, AreLater}

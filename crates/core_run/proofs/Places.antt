@@ -3,11 +3,11 @@ use Rattle.std.proofs.Common.{◌≡◌, ℕ, zero, suc, ◌<◌, Bool, List, []
 use Rattle.std.specs.Prelude.{Option, Some, None, slice_get, if◌then◌else◌, ◌==◌}
 use Rattle.std.proofs.Math.Dec.{eqb-suc-suc, eqb-suc-zero, eqb-zero-suc}
 use Rattle.std.proofs.lemmas.List.{append-nil, append_assoc}
-use Rattle.device_model.specs.Steps.{Step, states_through}
-use Rattle.device_model.specs.Events.{Event, after_events, steps_of}
-use Rattle.device_model.specs.Legal.{IsLegal, last_faults}
-use Rattle.node_model.specs.Commands.{Slot, Node, NodeEvent, slot_after, slot_after_all, at_place, node_after, IsLegalOn, on_device}
-use Rattle.node_model.specs.Run.{steps_on, states_from, states_while}
+use Rattle.model_device.specs.Steps.{Step, states_through}
+use Rattle.model_device.specs.Events.{Event, after_events, steps_of}
+use Rattle.model_device.specs.Legal.{IsLegal, last_faults}
+use Rattle.model_node.specs.Commands.{Slot, Node, NodeEvent, slot_after, slot_after_all, at_place, node_after, IsLegalOn, on_device}
+use Rattle.model_node.specs.Run.{steps_on, states_from, states_while}
 
 -- ---- events of the devices behind the first
 

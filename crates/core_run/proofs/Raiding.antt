@@ -8,24 +8,24 @@ use Rattle.rec_format.specs.declared.version.Digest.{Digest}
 use Rattle.rec_format.specs.declared.version.Stamp.{Stamp}
 use Rattle.rec_format.specs.Versions.{top_number}
 use Rattle.rec_format.specs.Places.{device_number}
-use Rattle.device_model.specs.Book.{Setup}
-use Rattle.device_model.specs.Device.{State, Turn, mark_turn, scan_turn, apply_turn, drop_turn, finished, part_of, digests_of}
-use Rattle.device_model.specs.Steps.{part_total, after_steps, after_drop, raid_begun, scanned_block, done_part, Step, after_step}
-use Rattle.device_model.specs.Events.{Event, Call, Answer, Cause, begin_call, turn_call, raid_numbered, raid_over, spent, refused, stale, after_event, after_events}
-use Rattle.device_model.specs.Legal.{Allowed, Only, TurnEnds, same_turn, drop_step, drop_steps, marked_in}
-use Rattle.device_model.specs.Vacating.{Outcome, IfRefused, did, stopped}
-use Rattle.kept_facts.specs.Facts.{Possible, SamePossible}
-use Rattle.kept_facts.specs.Asking.{ScansAll, ScansOnly}
+use Rattle.model_device.specs.Book.{Setup}
+use Rattle.model_device.specs.Device.{State, Turn, mark_turn, scan_turn, apply_turn, drop_turn, finished, part_of, digests_of}
+use Rattle.model_device.specs.Steps.{part_total, after_steps, after_drop, raid_begun, scanned_block, done_part, Step, after_step}
+use Rattle.model_device.specs.Events.{Event, Call, Answer, Cause, begin_call, turn_call, raid_numbered, raid_over, spent, refused, stale, after_event, after_events}
+use Rattle.model_device.specs.Legal.{Allowed, Only, TurnEnds, same_turn, drop_step, drop_steps, marked_in}
+use Rattle.model_device.specs.Vacating.{Outcome, IfRefused, did, stopped}
+use Rattle.law_facts.specs.Facts.{Possible, SamePossible}
+use Rattle.law_facts.specs.Asking.{ScansAll, ScansOnly}
 use Rattle.raid_book.specs.declared.turn.RaidNext.{RaidNext}
 use Rattle.raid_book.specs.declared.turn.RaidNext.TheVariants.{Mark, Scan, Apply, Drop, Finished}
 use Rattle.raid_book.specs.Turns.{turn_of}
 use Rattle.raid_book.specs.Books.{BookState}
-use Rattle.recovery.proofs.Each.{all_map}
+use Rattle.law_start.proofs.Each.{all_map}
 use Rattle.block_shelf.specs.View.{ShelfView, AreSure}
 use Rattle.block_shelf.specs.Scans.{possible_copies}
-use Rattle.node_model.specs.Commands.{Slot, slot_after, slot_after_all, Raids, TakesTurns, removed_by, cleared_by, fault_of}
-use Rattle.raid_laws.specs.Exact.{FindsAlong}
-use Rattle.raid_laws.proofs.Exact.{raid_exact}
+use Rattle.model_node.specs.Commands.{Slot, slot_after, slot_after_all, Raids, TakesTurns, removed_by, cleared_by, fault_of}
+use Rattle.law_raid.specs.Exact.{FindsAlong}
+use Rattle.law_raid.proofs.Exact.{raid_exact}
 use Rattle.line_proto.specs.declared.reply.LineFault.TheVariants as why
 use Rattle.shard_raid.specs.Raids.{RaidView, IsNext}
 use Rattle.shard_raid.specs.Scans.{cause_of}
@@ -33,7 +33,7 @@ use Rattle.shard_raid.specs.declared.scan.RaidRefusal.{RaidRefusal}
 use Rattle.shard_core.specs.View.{ShardView, setup_of}
 use Rattle.shard_core.specs.Stands.{Agrees, IsSafe}
 use Rattle.shard_core.specs.Calls.{Makes}
-use Rattle.shard_steps.specs.Standing.{ShelfIsSafe}
+use Rattle.law_steps.specs.Standing.{ShelfIsSafe}
 use Rattle.shard_core.specs.Vacating.{MakesEvents}
 use Rattle.shard_core.specs.declared.raid.RaidDid.{RaidDid}
 use Rattle.shard_core.specs.declared.raid.RaidDid.TheVariants.{Marked, Scanned, Applied, Dropped, Done}

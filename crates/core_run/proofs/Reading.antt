@@ -3,9 +3,9 @@ use Rattle.std.proofs.Common.{◌≡◌, inl, ℕ, zero, suc, ◌+◌, ◌<◌, 
 use Rattle.std.proofs.Math.Nat.{le_refl}
 use Rattle.disk_model.specs.Disk.{DiskView, IsDisk}
 use Rattle.disk_model.specs.Runs.{OneOf, Leaves, leaves_none}
-use Rattle.device_model.specs.Book.{Setup}
-use Rattle.device_model.specs.Device.{State}
-use Rattle.recovery.specs.Surviving.{Survives}
+use Rattle.model_device.specs.Book.{Setup}
+use Rattle.model_device.specs.Device.{State}
+use Rattle.law_start.specs.Surviving.{Survives}
 use Rattle.block_shelf.specs.Disks.{IsLater, OnlyRead}
 use Rattle.cold_scan.specs.declared.header.StartCause.{StartCause}
 use Rattle.cold_scan.specs.declared.header.StartCause.TheVariants as why
@@ -13,11 +13,11 @@ use Rattle.cold_scan.specs.Starting.{FaultRose}
 use Rattle.shard_core.specs.declared.settings.Settings.{Settings}
 use Rattle.shard_core.specs.View.{ShardView}
 use Rattle.shard_core.specs.Again.{IsNoRefusal}
-use Rattle.node_model.specs.Commands.{Slot, Node}
-use Rattle.node_model.specs.Run.{SameStates, states_while}
-use Rattle.node_model.specs.Outside.{counts_of, RoseOn}
-use Rattle.node_model.specs.Headline.{On}
-use Rattle.node_model.specs.Meaning.{SurvivesOne}
+use Rattle.model_node.specs.Commands.{Slot, Node}
+use Rattle.model_node.specs.Run.{SameStates, states_while}
+use Rattle.model_node.specs.Outside.{counts_of, RoseOn}
+use Rattle.model_node.specs.Headline.{On}
+use Rattle.model_node.specs.Meaning.{SurvivesOne}
 use Rattle.core_run.specs.Views.{AreDevices, AreLater, disks_served, view_at, nowhere, faults_of}
 use Rattle.core_run.specs.Starts.{StartsEach, RefusesAt}
 use Rattle.core_run.specs.Standing.{Each, StandsOn, StandsSafelyOn}

@@ -11,8 +11,8 @@ use Rattle.shard_core.specs.declared.refusals.WriteRefusal.{WriteRefusal}
 use Rattle.shard_core.specs.declared.refusals.WriteRefusal.TheVariants as write
 use Rattle.shard_core.specs.Calls.{write_answer, delete_answer, read_answer}
 use Rattle.line_proto.specs.declared.reply.Reply.TheVariants as reply
-use Rattle.device_model.specs.Vacating.{Outcome, did, stopped}
-use Rattle.node_model.specs.Commands.{answer_reply, meta_reply, flushed_reply, defragged_reply, expired_reply, raided_reply}
+use Rattle.model_device.specs.Vacating.{Outcome, did, stopped}
+use Rattle.model_node.specs.Commands.{answer_reply, meta_reply, flushed_reply, defragged_reply, expired_reply, raided_reply}
 
 -- ---- no reply halts
 

@@ -2,8 +2,8 @@
 use Rattle.std.proofs.Common.{◌≡◌, inl, inr, ℕ, suc, ◌+◌, ◌≤◌, true, false, List, [], ◌∷◌, length, refl, sym, ◌∙◌, ap, subst, arith}
 use Rattle.std.specs.Prelude.{Some}
 use Rattle.disk_model.specs.Disk.{DiskView, IsDisk, meanwhile}
-use Rattle.device_model.specs.Book.{Setup}
-use Rattle.device_model.specs.Device.{put_count, tombstone_count}
+use Rattle.model_device.specs.Book.{Setup}
+use Rattle.model_device.specs.Device.{put_count, tombstone_count}
 use Rattle.rec_format.specs.declared.entry.Counts.{Counts}
 use Rattle.line_proto.specs.declared.command.Command.TheVariants as command
 use Rattle.line_proto.specs.declared.reply.Reply.TheVariants as reply
@@ -12,11 +12,11 @@ use Rattle.cold_scan.specs.declared.header.StartCause.{StartCause}
 use Rattle.shard_core.specs.declared.settings.Settings.{Settings}
 use Rattle.shard_core.specs.View.{ShardView, setup_of, setup_for}
 use Rattle.shard_core.specs.Again as again
-use Rattle.node_model.specs.Commands.{Slot, Node, total, node_counts}
-use Rattle.node_model.specs.Run.{ImagesLeft, IsSameDevice, RestartsEach}
-use Rattle.node_model.specs.Outside.{RoseOn, counts_of}
-use Rattle.recovery.specs.Start.{Restarts}
-use Rattle.node_model.specs.Meaning.{ActsFrom, left_between}
+use Rattle.model_node.specs.Commands.{Slot, Node, total, node_counts}
+use Rattle.model_node.specs.Run.{ImagesLeft, IsSameDevice, RestartsEach}
+use Rattle.model_node.specs.Outside.{RoseOn, counts_of}
+use Rattle.law_start.specs.Start.{Restarts}
+use Rattle.model_node.specs.Meaning.{ActsFrom, left_between}
 use Rattle.core_run.specs.Views.{NodeView, AreDevices, serving, halted, disks_served, view_at, views_of, unknown, asked, faults_of}
 use Rattle.core_run.specs.Starts.{Started, StartsEach, RefusesAt}
 use Rattle.core_run.specs.Standing.{Each, StandsOn, StandsSafelyOn, StandsFor, StandsSafely, Halts, HaltsSafely}

@@ -7,7 +7,7 @@ use Rattle.cold_scan.specs.declared.header.StartCause.{StartCause}
 use Rattle.rec_format.specs.declared.entry.Counts.{Counts}
 use Rattle.line_proto.specs.declared.command.Command.TheVariants as command
 use Rattle.line_proto.specs.declared.reply.Reply.TheVariants as reply
-use Rattle.node_model.specs.Commands.{Node, node_counts}
+use Rattle.model_node.specs.Commands.{Node, node_counts}
 use Rattle.shard_core.specs.declared.settings.Settings.{Settings}
 use Rattle.shard_core.specs.View.{ShardView, IsSettings}
 use Rattle.core_run.specs.Views.{NodeView, IsNode, AreDevices, serving, disks_served}

@@ -2,16 +2,16 @@
 use Rattle.std.proofs.Common.{◌≡◌, inl, ℕ, true, false, Bool, List, [], ◌∷◌, refl, sym, ◌∙◌, ap, subst}
 use Rattle.disk_model.specs.Disk.{DiskView, IsDisk}
 use Rattle.disk_model.specs.Runs.{OneOf, Leaves, leaves_none}
-use Rattle.device_model.specs.Book.{Setup}
-use Rattle.device_model.specs.Events.{Event, after_events, states_of}
-use Rattle.device_model.specs.Legal.{IsLegal, last_faults}
-use Rattle.recovery.specs.Surviving.{Survives}
+use Rattle.model_device.specs.Book.{Setup}
+use Rattle.model_device.specs.Events.{Event, after_events, states_of}
+use Rattle.model_device.specs.Legal.{IsLegal, last_faults}
+use Rattle.law_start.specs.Surviving.{Survives}
 use Rattle.shard_core.specs.View.{ShardView, setup_of, setup_for}
 use Rattle.shard_core.specs.Stands.{Agrees, IsSafe}
-use Rattle.shard_steps.specs.Standing.{ShelfIsSafe}
+use Rattle.law_steps.specs.Standing.{ShelfIsSafe}
 use Rattle.shard_core.proofs.Events.{RunsBy}
 use Rattle.shard_core.proofs.Later.{later_none, later_then}
-use Rattle.node_model.specs.Commands.{Slot}
+use Rattle.model_node.specs.Commands.{Slot}
 use Rattle.core_run.specs.Standing.{StandsOn, StandsSafelyOn}
 use Rattle.core_run.specs.Turns.{GoesOn}
 use Rattle.core_run.proofs.Places.{slot_after_is}

@@ -4,7 +4,7 @@ use Rattle.disk_model.specs.Disk.{DiskView}
 use Rattle.rec_format.specs.declared.version.Digest.{Digest}
 use Rattle.rec_format.specs.declared.version.Version.{Version}
 use Rattle.rec_format.specs.Places.{device_number}
-use Rattle.device_model.specs.Device.{State}
+use Rattle.model_device.specs.Device.{State}
 use Rattle.block_shelf.specs.View.{AreSure}
 use Rattle.block_shelf.specs.Scans.{possible_copies}
 use Rattle.block_shelf.specs.declared.refusals.ReadRefusal.{ReadRefusal}
@@ -17,13 +17,13 @@ use Rattle.line_proto.specs.declared.command.Command.{Command}
 use Rattle.line_proto.specs.declared.command.Command.TheVariants as command
 use Rattle.line_proto.specs.declared.reply.Reply.{Reply}
 use Rattle.line_proto.specs.declared.reply.Reply.TheVariants as reply
-use Rattle.node_model.specs.Commands.{Node, answer_reply}
-use Rattle.node_model.specs.Outside.{RoseOn}
-use Rattle.node_model.specs.RunEnd.{IsQuiet, AllQuiet}
-use Rattle.node_model.specs.Meaning.{ActsBy, TendsBy, ClosesBy}
+use Rattle.model_node.specs.Commands.{Node, answer_reply}
+use Rattle.model_node.specs.Outside.{RoseOn}
+use Rattle.model_node.specs.RunEnd.{IsQuiet, AllQuiet}
+use Rattle.model_node.specs.Meaning.{ActsBy, TendsBy, ClosesBy}
 use Rattle.core_run.specs.Views.{NodeView, serving, halted, disks_served, disks_of, views_of, unknown, faults_of, AreLater}
 use Rattle.core_run.specs.Starts.{StartsEach, RefusesAt}
-use Rattle.raid_laws.specs.Exact.{RaidsExactly}
+use Rattle.law_raid.specs.Exact.{RaidsExactly}
 use Rattle.core_run.specs.Standing.{Each, StandsSafelyOn, StandsFor, StandsSafely, Halts, HaltsSafely}
 
 -- the digest that a command is on

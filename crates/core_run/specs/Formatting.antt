@@ -1,6 +1,6 @@
 -- Crate core_run. How disks are formatted as the devices of a node: of which shape, what each disk is then, and how it ends.
 use Rattle.std.specs.Prelude.{◌≡◌, ℕ, ◌<◌, ◌≤◌, List, length, Some, slice_get}
-use Rattle.fault_count.specs.Counts.{Rose}
+use Rattle.model_faults.specs.Counts.{Rose}
 use Rattle.disk_model.specs.Disk.{DiskView, IsHonest, IsSettled, Advances}
 use Rattle.disk_model.specs.Runs.{Leaves}
 use Rattle.block_format.specs.declared.geometry.Geometry.{Geometry}

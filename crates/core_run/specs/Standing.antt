@@ -1,15 +1,15 @@
 -- Crate core_run. For which nodes of the model a node stands: device by device.
 use Rattle.std.specs.Prelude.{◌≡◌, ℕ, ◌<◌, List, [], ◌∷◌, length}
 use Rattle.disk_model.specs.Disk.{DiskView, IsHonest}
-use Rattle.recovery.specs.Surviving.{Survives}
+use Rattle.law_start.specs.Surviving.{Survives}
 use Rattle.cold_scan.specs.declared.header.StartCause.{StartCause}
 use Rattle.cold_scan.specs.declared.header.StartCause.TheVariants as why
 use Rattle.shard_core.specs.View.{ShardView, setup_of}
 use Rattle.shard_core.specs.Stands.{Agrees, IsSafe}
 use Rattle.shard_core.specs.Again.{IsNoRefusal}
-use Rattle.node_model.specs.Commands.{Slot, Node}
-use Rattle.node_model.specs.Outside.{counts_of, RoseOn}
-use Rattle.node_model.specs.Headline.{On}
+use Rattle.model_node.specs.Commands.{Slot, Node}
+use Rattle.model_node.specs.Outside.{counts_of, RoseOn}
+use Rattle.model_node.specs.Headline.{On}
 use Rattle.core_run.specs.Views.{NodeView, serving, halted, view_at, faults_of}
 
 -- A device of the model is of the shard's shape and settings and has its disk's count of faults, and the shard stands for its state.

@@ -1,10 +1,10 @@
 -- Crate core_run. What the start of a node comes to, device by device.
 use Rattle.std.specs.Prelude.{◌≡◌, ℕ, zero, suc, ◌+◌, List, [], ◌∷◌}
 use Rattle.disk_model.specs.Disk.{DiskView, IsOnly, IsHonest}
-use Rattle.device_model.specs.Device.{State}
+use Rattle.model_device.specs.Device.{State}
 use Rattle.block_format.specs.Layout.{Body}
-use Rattle.recovery.specs.Start.{start_state}
-use Rattle.recovery.specs.Sound.{IsSound}
+use Rattle.law_start.specs.Start.{start_state}
+use Rattle.law_start.specs.Sound.{IsSound}
 use Rattle.block_shelf.specs.Disks.{OnlyRead}
 use Rattle.cold_scan.specs.declared.header.Asked.{Asked}
 use Rattle.cold_scan.specs.declared.header.StartCause.{StartCause}

@@ -1,10 +1,10 @@
 -- Crate core_run. What a call of one device makes, and what a loop over all devices makes, turn by turn.
 use Rattle.std.specs.Prelude.{◌≡◌, ◌≢◌, ℕ, zero, suc, ◌+◌, ◌%◌, ◌^◌, List, [], ◌∷◌, length, Option, Some, None, Result, Ok, Err, OnOk, OnErr, ◌⊎◌}
 use Rattle.disk_model.specs.Disk.{DiskView, IsHonest}
-use Rattle.device_model.specs.Device.{State, seen}
-use Rattle.device_model.specs.Events.{Call, put_call, get_call, delete_call, bury_call, flush_call, Answer, Cause, disk_fault, Event, after_events}
-use Rattle.device_model.specs.Vacating.{Outcome, VacatesUpTo, Tends, did, stopped}
-use Rattle.device_model.specs.Expiring.{ExpiresEach}
+use Rattle.model_device.specs.Device.{State, seen}
+use Rattle.model_device.specs.Events.{Call, put_call, get_call, delete_call, bury_call, flush_call, Answer, Cause, disk_fault, Event, after_events}
+use Rattle.model_device.specs.Vacating.{Outcome, VacatesUpTo, Tends, did, stopped}
+use Rattle.model_device.specs.Expiring.{ExpiresEach}
 use Rattle.block_shelf.specs.Disks.{IsLater}
 use Rattle.block_shelf.specs.View.{AreSure}
 use Rattle.block_shelf.specs.Scans.{possible_copies}
@@ -22,8 +22,8 @@ use Rattle.line_proto.specs.declared.command.Command.TheVariants as command
 use Rattle.line_proto.specs.declared.reply.Reply.{Reply}
 use Rattle.line_proto.specs.declared.reply.Reply.TheVariants as reply
 use Rattle.line_proto.specs.declared.reply.LineFault.{LineFault}
-use Rattle.node_model.specs.Commands.{Slot, Raids, answer_reply, fault_of, meta_reply, expired_entries}
-use Rattle.raid_laws.specs.Exact.{RaidsExactly}
+use Rattle.model_node.specs.Commands.{Slot, Raids, answer_reply, fault_of, meta_reply, expired_entries}
+use Rattle.law_raid.specs.Exact.{RaidsExactly}
 
 -- ---- one device
 

@@ -1,7 +1,7 @@
 // Calls over all devices of a node, one after another.
 ghost use Rattle.std.specs.Prelude.{◌≡◌, ◌≤◌, ◌<◌, ◌^◌, ℕ, length, IfOk};
 ghost use Rattle.disk_model.specs.declared.disk.DiskFault.{DiskFault};
-ghost use Rattle.node_model.specs.Commands.{Node, node_counts};
+ghost use Rattle.model_node.specs.Commands.{Node, node_counts};
 ghost use Rattle.core_run.specs.Standing.{Each, StandsOn};
 ghost use Rattle.core_run.specs.Turns.{Through, TendTurn, CloseTurn, DefragsOn, DefragsEach, ExpiresOn, ExpiresAll, FlushesEach, wrapped_sum};
 

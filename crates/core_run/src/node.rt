@@ -4,7 +4,7 @@ ghost use Rattle.rec_format.specs.declared.version.Digest.{Digest};
 ghost use Rattle.rec_format.specs.Places.{device_number};
 ghost use Rattle.shard_core.specs.View.{IsSettings, ShardView};
 ghost use Rattle.line_proto.specs.Lines.{IsInRange};
-ghost use Rattle.node_model.specs.Commands.{Slot, node_counts};
+ghost use Rattle.model_node.specs.Commands.{Slot, node_counts};
 ghost use Rattle.core_run.specs.Views.{serving, halted, disks_of};
 ghost use Rattle.core_run.specs.Standing.{StandsFor};
 ghost use Rattle.core_run.specs.Starts.{StartsEach, RefusesAt};

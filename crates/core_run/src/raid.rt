@@ -1,6 +1,6 @@
 // Whole raids: of a device, and of each device of a node.
 ghost use Rattle.std.specs.Prelude.{◌≡◌, ◌≤◌, ◌^◌, length, IfOk};
-ghost use Rattle.node_model.specs.Commands.{fault_of};
+ghost use Rattle.model_node.specs.Commands.{fault_of};
 ghost use Rattle.shard_raid.specs.Scans.{cause_of};
 ghost use Rattle.core_run.specs.Raids.{ended_by};
 ghost use Rattle.core_run.specs.Turns.{RaidsOn, RaidsEach};

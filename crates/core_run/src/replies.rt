@@ -1,9 +1,9 @@
 // The replies to what a device answers.
 ghost use Rattle.std.specs.Prelude.{◌≡◌, Option};
 ghost use Rattle.rec_format.specs.declared.version.Version.{Version};
-ghost use Rattle.device_model.specs.Events.{Cause};
-ghost use Rattle.device_model.specs.Vacating.{Outcome};
-ghost use Rattle.node_model.specs.Commands.{answer_reply, defragged_reply, expired_reply, fault_of, flushed_reply, meta_reply, raided_reply};
+ghost use Rattle.model_device.specs.Events.{Cause};
+ghost use Rattle.model_device.specs.Vacating.{Outcome};
+ghost use Rattle.model_node.specs.Commands.{answer_reply, defragged_reply, expired_reply, fault_of, flushed_reply, meta_reply, raided_reply};
 ghost use Rattle.shard_core.specs.Vacating.{IsCauseOf};
 ghost use Rattle.shard_core.specs.Calls.{cause_of_write, delete_answer, meta_of, read_answer, write_answer};
 ghost use Rattle.core_run.specs.Turns.{IsDefragged, IsExpired, IsFlushed, IsRaided};

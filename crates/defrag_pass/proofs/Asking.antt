@@ -3,9 +3,9 @@ use Rattle.std.proofs.Common.{◌≡◌, ◌≢◌, ℕ, ◌≤◌, Bool, true, 
 use Rattle.std.specs.Prelude.{Option, Some, None, nat_lt, nat_le, length}
 use Rattle.std.proofs.lemmas.Bool.{cond-false}
 use Rattle.rec_format.specs.Versions.{top_number}
-use Rattle.device_model.specs.Book.{Setup, Book, Stream, defrag, has_room}
-use Rattle.device_model.specs.Events.{Cause, too_big, spent, overload, no_space}
-use Rattle.device_model.specs.Legal.{no_place, move_reserve, first_cause}
+use Rattle.model_device.specs.Book.{Setup, Book, Stream, defrag, has_room}
+use Rattle.model_device.specs.Events.{Cause, too_big, spent, overload, no_space}
+use Rattle.model_device.specs.Legal.{no_place, move_reserve, first_cause}
 use Rattle.block_shelf.specs.declared.place.Class.TheVariants as class
 use Rattle.block_shelf.specs.declared.refusals.PutRefusal.{PutRefusal}
 use Rattle.block_shelf.specs.declared.refusals.PutRefusal.TheVariants as put

@@ -4,28 +4,28 @@ use Rattle.std.specs.Prelude.{◌==◌, Option, Some, None, Err, option_map, Mat
 use Rattle.std.specs.List.{AllByRecursion}
 use Rattle.std.proofs.Math.Nat.{le_refl, le_trans}
 use Rattle.std.proofs.lemmas.Bool.{false≢true, eq-eqb}
-use Rattle.fault_count.specs.Counts.{Rose}
+use Rattle.model_faults.specs.Counts.{Rose}
 use Rattle.rec_format.specs.declared.version.Digest.{Digest}
 use Rattle.rec_format.specs.declared.version.Version.{Version}
 use Rattle.rec_format.specs.declared.entry.Entry.{Entry}
 use Rattle.rec_format.specs.Entries.{Names}
 use Rattle.rec_format.specs.Versions.{version_units}
-use Rattle.device_model.specs.Book.{Setup, Live, defrag, has_room, live_of, live_of_entry}
-use Rattle.device_model.specs.Device as device
-use Rattle.device_model.specs.Device.{State, part_of}
-use Rattle.device_model.specs.Steps.{Step, moved, closing_failed, after_step}
-use Rattle.device_model.specs.Events.{Event, Answer, happened, refused, Cause, move_call, too_big, spent, overload, no_space, damaged, no_memory, disk_fault}
-use Rattle.device_model.specs.Legal.{Allowed, NoMemory, Unless, DamageFound, DiskFails, is_in_block, live_units, no_place, move_reserve}
+use Rattle.model_device.specs.Book.{Setup, Live, defrag, has_room, live_of, live_of_entry}
+use Rattle.model_device.specs.Device as device
+use Rattle.model_device.specs.Device.{State, part_of}
+use Rattle.model_device.specs.Steps.{Step, moved, closing_failed, after_step}
+use Rattle.model_device.specs.Events.{Event, Answer, happened, refused, Cause, move_call, too_big, spent, overload, no_space, damaged, no_memory, disk_fault}
+use Rattle.model_device.specs.Legal.{Allowed, NoMemory, Unless, DamageFound, DiskFails, is_in_block, live_units, no_place, move_reserve}
 use Rattle.disk_model.specs.Disk.{DiskView, IsDisk, IsHonest}
 use Rattle.disk_model.specs.Runs.{OneOf, advances_on, leaves_then, leaves_more}
-use Rattle.recovery.specs.Surviving.{Survives}
+use Rattle.law_start.specs.Surviving.{Survives}
 use Rattle.sprig_tree.specs.Entries.{entry_of, with_replaced}
 use Rattle.sprig_tree.specs.State.{SprigState}
-use Rattle.part_laws.specs.Fits.{IsShown}
-use Rattle.part_laws.specs.Becoming.{Replaces, moved_to}
-use Rattle.part_laws.proofs.Taking.{at_entry, found_shown, moved_fits}
-use Rattle.part_laws.proofs.Looking.{place_is}
-use Rattle.part_laws.proofs.Edits.{each_replaced}
+use Rattle.law_sprig.specs.Fits.{IsShown}
+use Rattle.law_sprig.specs.Becoming.{Replaces, moved_to}
+use Rattle.law_sprig.proofs.Taking.{at_entry, found_shown, moved_fits}
+use Rattle.law_sprig.proofs.Looking.{place_is}
+use Rattle.law_sprig.proofs.Edits.{each_replaced}
 use Rattle.block_shelf.specs.declared.place.Place.{Place}
 use Rattle.block_shelf.specs.declared.place.Class.TheVariants as class
 use Rattle.block_shelf.specs.declared.refusals.PutRefusal.{PutRefusal}
@@ -36,13 +36,13 @@ use Rattle.block_shelf.specs.Standing.{IsPlaced}
 use Rattle.block_shelf.specs.Calls.{Goes, IsPriorIn, copy_live}
 use Rattle.block_shelf.specs.Appends.{IsAppendRefusal, IsReadCopy, TakesIn, append_refusal, refused_steps}
 use Rattle.block_shelf.proofs.Going.{goes_none, goes_then}
-use Rattle.shard_steps.specs.Sprigs.{place_of}
-use Rattle.shard_steps.specs.Standing.{SprigStands, StandTogether}
-use Rattle.shard_steps.specs.Events.{StepMakes}
-use Rattle.shard_steps.proofs.Found.{entry_named, lies_found, live_found}
-use Rattle.shard_steps.proofs.Making.{IsFlushing, makes_by, together_on}
+use Rattle.law_steps.specs.Sprigs.{place_of}
+use Rattle.law_steps.specs.Standing.{SprigStands, StandTogether}
+use Rattle.law_steps.specs.Events.{StepMakes}
+use Rattle.law_steps.proofs.Found.{entry_named, lies_found, live_found}
+use Rattle.law_steps.proofs.Making.{IsFlushing, makes_by, together_on}
 use Rattle.block_shelf.proofs.Looking.{goes_read}
-use Rattle.shard_steps.proofs.Reading.{both_named}
+use Rattle.law_steps.proofs.Reading.{both_named}
 use Rattle.defrag_pass.proofs.Asking.{move_refusal}
 use Rattle.defrag_pass.specs.declared.refusal.MoveRefusal.{MoveRefusal}
 use Rattle.defrag_pass.specs.declared.refusal.MoveRefusal.TheVariants as why

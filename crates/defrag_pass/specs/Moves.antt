@@ -1,6 +1,6 @@
 -- Crate defrag_pass. How the move of a record is answered, and why its record isn't read.
 use Rattle.std.specs.Prelude.{◌≡◌, ℕ, Bool, Option, Some, None, Result, Ok, Err}
-use Rattle.device_model.specs.Events.{Answer, happened, refused, Cause, spent, overload, no_space, damaged, no_memory, disk_fault}
+use Rattle.model_device.specs.Events.{Answer, happened, refused, Cause, spent, overload, no_space, damaged, no_memory, disk_fault}
 use Rattle.block_shelf.specs.declared.refusals.PutRefusal.{PutRefusal}
 use Rattle.block_shelf.specs.declared.refusals.PutRefusal.TheVariants as put
 use Rattle.block_shelf.specs.declared.refusals.ReadRefusal.{ReadRefusal}

@@ -1,28 +1,28 @@
 // How the record of one entry is moved.
 ghost use Rattle.std.specs.Prelude.{◌≡◌, ◌+◌, ◌<◌, ◌≤◌, false, None, Some, Ok, Err, Contains, IfOk, IfErr, MatchResult};
-ghost use Rattle.fault_count.specs.Counts.{Rose};
+ghost use Rattle.model_faults.specs.Counts.{Rose};
 ghost use Rattle.disk_model.specs.Disk.{IsHonest};
 ghost use Rattle.rec_format.specs.Entries.{Names};
 ghost use Rattle.rec_format.specs.Places.{device_number};
 ghost use Rattle.rec_format.specs.Versions.{IsVersion, block_capacity};
 ghost use Rattle.rec_format.specs.declared.version.Version.{Version};
 ghost use Rattle.rec_format.specs.declared.entry.Entry.{Entry};
-ghost use Rattle.device_model.specs.Book.{Setup, defrag, first_block, live_of};
-ghost use Rattle.device_model.specs.Device as device;
-ghost use Rattle.device_model.specs.Device.{State, part_of};
-ghost use Rattle.device_model.specs.Events.{Answer, move_call};
-ghost use Rattle.device_model.specs.Legal.{move_reserve, no_place};
+ghost use Rattle.model_device.specs.Book.{Setup, defrag, first_block, live_of};
+ghost use Rattle.model_device.specs.Device as device;
+ghost use Rattle.model_device.specs.Device.{State, part_of};
+ghost use Rattle.model_device.specs.Events.{Answer, move_call};
+ghost use Rattle.model_device.specs.Legal.{move_reserve, no_place};
 ghost use Rattle.block_format.specs.declared.geometry.Gate.TheVariants.{Shut};
 ghost use Rattle.write_buffer.specs.Buffers.{BufferState};
 ghost use Rattle.sprig_tree.specs.Entries.{entry_of};
-ghost use Rattle.part_laws.specs.Becoming.{moved_to};
+ghost use Rattle.law_sprig.specs.Becoming.{moved_to};
 ghost use Rattle.block_shelf.specs.Calls.{copy_live};
 ghost use Rattle.block_shelf.specs.Disks.{IsLater, OnlyRead};
 ghost use Rattle.block_shelf.specs.Standing.{StandsFor, IsPlaced};
 ghost use Rattle.block_shelf.specs.View.{IsSetupOf, SameShape, gate_at, in_memory};
-ghost use Rattle.shard_steps.specs.Standing.{StandTogether};
-ghost use Rattle.shard_steps.specs.Sprigs.{SameSprig, place_of};
-ghost use Rattle.shard_steps.specs.Events.{StepMakes};
+ghost use Rattle.law_steps.specs.Standing.{StandTogether};
+ghost use Rattle.law_steps.specs.Sprigs.{SameSprig, place_of};
+ghost use Rattle.law_steps.specs.Events.{StepMakes};
 ghost use Rattle.defrag_pass.specs.Moves.{Answers, IsUnread, IsUndamaged};
 
 use crate::MoveRefusal;

@@ -4,7 +4,7 @@ use Rattle.std.specs.List.{IsDistinct}
 use Rattle.std.proofs.lemmas.Bool.{cond-true, cond-false}
 use Rattle.std.proofs.lemmas.Cmp.{nat_eq_equiv}
 use Rattle.std.proofs.lemmas.Map.Keys.{IsDistinct-push}
-use Rattle.device_model.specs.Book.{Setup, Book, is_in, use_of, has_buffer, may_be_queued}
+use Rattle.model_device.specs.Book.{Setup, Book, is_in, use_of, has_buffer, may_be_queued}
 use Rattle.defrag_queue.specs.Queues.{is_below_mark, requeued}
 use Rattle.defrag_queue.proofs.Marks.{flipped, once_less, unmoved, entered, left, in_entered, in_left}
 

@@ -11,7 +11,7 @@ use Rattle.std.proofs.lemmas.List.Folds.{list_any-append}
 use Rattle.std.proofs.lemmas.Map.Keys.{IsDistinct-push, IsDistinct-head, IsDistinct-tail, IsDistinct-cons}
 use Rattle.std.proofs.lemmas.Map.Views.{any-filter_same}
 use Rattle.std.proofs.lemmas.Map.Steps.{length-le_from_distinct_below}
-use Rattle.device_model.specs.Book.{is_in}
+use Rattle.model_device.specs.Book.{is_in}
 use Rattle.defrag_queue.specs.Queues.{Marked, requeued}
 
 pub true-false : true ≡ false → ⊥

@@ -7,7 +7,7 @@ use Rattle.std.proofs.lemmas.Bool.{cases_eq, cond-true, cond-false, eq-eqb, ne_e
 use Rattle.std.proofs.lemmas.List.{append-nil}
 use Rattle.std.proofs.lemmas.List.Folds.{list_any-append}
 use Rattle.std.proofs.lemmas.Map.Views.{any-filter_same}
-use Rattle.device_model.specs.Book.{Setup, Book, is_in, all_blocks, may_be_queued, updated, refreshed}
+use Rattle.model_device.specs.Book.{Setup, Book, is_in, all_blocks, may_be_queued, updated, refreshed}
 use Rattle.defrag_queue.specs.Queues.{requeued}
 use Rattle.defrag_queue.proofs.Marks.{without}
 

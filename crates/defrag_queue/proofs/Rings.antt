@@ -5,7 +5,7 @@ use Rattle.std.proofs.lemmas.Bool.{cases_lt, eq-eqb, ne_eqb, eqb-true, cond-true
 use Rattle.std.proofs.lemmas.List.{get_or-set_same, get_or-set_other, get_or-replicate, length-set, length-replicate, length-append}
 use Rattle.std.proofs.lemmas.Map.Keys.{IsDistinct-head, IsDistinct-tail}
 use Rattle.std.proofs.Math.ListN.{get_or-eq_default}
-use Rattle.device_model.specs.Book.{is_in}
+use Rattle.model_device.specs.Book.{is_in}
 use Rattle.defrag_queue.specs.Queues.{Marked}
 use Rattle.defrag_queue.specs.Rings.{link_of, walk, Linked, Ring}
 use Rattle.std.specs.Bool.{beq}

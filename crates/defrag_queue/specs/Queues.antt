@@ -1,7 +1,7 @@
 -- Which blocks wait to be vacated, and in which order.
 use Rattle.std.specs.Prelude.{◌≡◌, ℕ, ◌*◌, slice_index_or, Bool, true, false, not, ◌&&◌, ◌==◌, nat_lt, List, [], ◌∷◌, ◌++◌, filter, if◌then◌else◌}
 use Rattle.std.specs.List.{IsDistinct}
-use Rattle.device_model.specs.Book.{is_in}
+use Rattle.model_device.specs.Book.{is_in}
 
 -- The queued blocks in the order in which they entered, the number of blocks of the device, the units of a block, and
 -- the low-water mark in percent of them.

@@ -1,6 +1,6 @@
 // The queue of blocks to vacate, with a mark for each block that is in it.
 ghost use Rattle.std.specs.Prelude.{◌≡◌, ◌<◌, [], length, nat_lt, ◌*◌, ◌&&◌, IfOk};
-ghost use Rattle.device_model.specs.Legal.{queue_front};
+ghost use Rattle.model_device.specs.Legal.{queue_front};
 ghost use Rattle.defrag_queue.specs.Queues.{is_below_mark, considered};
 
 use crate::NoMemory;

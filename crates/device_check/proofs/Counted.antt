@@ -9,7 +9,7 @@ use Rattle.disk_model.specs.Disk.{DiskView}
 use Rattle.block_format.specs.declared.geometry.Gate.{Gate}
 use Rattle.block_format.specs.declared.geometry.Gate.TheVariants.{Shut, Set, Unsure}
 use Rattle.block_format.specs.Copies.{copies_of}
-use Rattle.recovery.specs.Start.{cold_copies}
+use Rattle.law_start.specs.Start.{cold_copies}
 use Rattle.cold_scan.specs.declared.header.Asked.{Asked}
 use Rattle.cold_scan.specs.declared.bodies.Kept.{Kept}
 use Rattle.cold_scan.specs.declared.device.Finding.{Finding}

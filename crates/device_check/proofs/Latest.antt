@@ -13,12 +13,12 @@ use Rattle.rec_format.specs.declared.version.Digest.{Digest}
 use Rattle.rec_format.specs.Places.{digest_cmp, same_digest}
 use Rattle.rec_format.proofs.Laws.{same_digest_is}
 use Rattle.sprig_tree.proofs.Digests.{digest_order}
-use Rattle.part_laws.proofs.Ordered.{AreInOrder, order-with_digest}
-use Rattle.part_laws.proofs.Starting.{chosen_there}
+use Rattle.law_sprig.proofs.Ordered.{AreInOrder, order-with_digest}
+use Rattle.law_sprig.proofs.Starting.{chosen_there}
 use Rattle.block_format.specs.declared.geometry.Geometry.{Geometry}
 use Rattle.block_format.specs.Copies.{Copy, cold_copy}
-use Rattle.recovery.specs.Start.{names_of_copies, cold_copies}
-use Rattle.recovery.proofs.StartLive.{found_first}
+use Rattle.law_start.specs.Start.{names_of_copies, cold_copies}
+use Rattle.law_start.proofs.StartLive.{found_first}
 use Rattle.cold_scan.specs.declared.bodies.Kept.{Kept}
 use Rattle.cold_scan.specs.Starting.{own_copies}
 use Rattle.cold_scan.specs.Found.{kept_of, HasKept}

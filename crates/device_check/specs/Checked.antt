@@ -6,7 +6,7 @@ use Rattle.disk_model.specs.Disk.{DiskView}
 use Rattle.block_format.specs.declared.geometry.Geometry.{Geometry}
 use Rattle.block_format.specs.Layout.{Body}
 use Rattle.block_format.specs.Copies.{Copy, copies_of}
-use Rattle.recovery.specs.Start.{cold_copies}
+use Rattle.law_start.specs.Start.{cold_copies}
 use Rattle.cold_scan.specs.declared.header.Asked.{Asked}
 use Rattle.cold_scan.specs.Starting.{Passes, own_copies}
 use Rattle.device_check.specs.declared.counts.DeviceCheck.{DeviceCheck}

@@ -1,6 +1,6 @@
 -- What is known of a disk over a file: its size, what waits for a sync, and its counts.
 use Rattle.std.specs.Prelude.{◌≡◌, ℕ, Bool, [], length, if◌then◌else◌, refl}
-use Rattle.fault_count.specs.Counts.{one_more}
+use Rattle.model_faults.specs.Counts.{one_more}
 use Rattle.disk_model.specs.Disk.{DiskView, IsDisk}
 use Rattle.disk_file.specs.Spans.{Waiting}
 

@@ -1,6 +1,6 @@
 -- What a call of a disk does to its bytes, to what a crash may leave, and to its counts.
 use Rattle.std.specs.Prelude.{◌≡◌, ◌⊎◌, ℕ, List, length, Result}
-use Rattle.fault_count.specs.Counts.{Counted, IsCaused}
+use Rattle.model_faults.specs.Counts.{Counted, IsCaused}
 use Rattle.disk_model.specs.Bytes.{range, Torn}
 
 -- the bytes of a write stand at its place, and all others are as they were

@@ -4,7 +4,7 @@ ghost use Rattle.disk_model.specs.Bytes.{range, Torn, overwrite};
 ghost use Rattle.disk_model.specs.Replay.{State, synced, after_write, after, replay, MayLeave, RecordsChange};
 ghost use Rattle.disk_model.specs.Disk.{Written, Within, TornFrom, TellsSame, TellsTorn, Loosens, IsOnly, IsSettled, IsHonest, IsCall, meanwhile};
 ghost use Rattle.disk_model.specs.Faults.{is_asked, IsCounted, IsAskedAfter, IsAskedOf, IsSame, FailsWhere, faults_after, is_due, flipped};
-ghost use Rattle.fault_count.specs.Counts.{one_more};
+ghost use Rattle.model_faults.specs.Counts.{one_more};
 ghost use Rattle.disk_model.specs.Picked.{picked_of, Tracks};
 ghost use Rattle.disk_model.specs.Past.{bytes_after, recorded, is_disk};
 

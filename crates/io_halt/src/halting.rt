@@ -1,6 +1,6 @@
 // A source that a halt ends.
 ghost use Rattle.std.specs.Prelude.{◌≡◌, ◌<◌, length, None, Ok, OnOk, IsTrue, IsFalse, false};
-ghost use Rattle.fault_count.specs.Counts.{IsCaused};
+ghost use Rattle.model_faults.specs.Counts.{IsCaused};
 ghost use Rattle.io_traits.specs.Source.{ReadGives};
 
 use crate::Halt;

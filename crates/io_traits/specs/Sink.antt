@@ -1,6 +1,6 @@
 -- What a write does to the bytes of a sink.
 use Rattle.std.specs.Prelude.{◌≡◌, ℕ, ◌<◌, ◌≤◌, List, ◌++◌, length, take, Option, Some, None, Result, Ok, Err}
-use Rattle.fault_count.specs.Counts.{Rose}
+use Rattle.model_faults.specs.Counts.{Rose}
 
 -- The bytes written of a sink that tells them grow by the piece; nothing is asked of one that doesn't tell.
 abbrev pub Extends : Option (List ℕ) → Option (List ℕ) → List ℕ → Type 0

@@ -1,6 +1,6 @@
 // A sink over bytes in memory.
 ghost use Rattle.std.specs.Prelude.{◌≡◌, ◌↔◌, ◌⊎◌, [], ◌++◌, length, Some, None, IfOk, OnOk, OnErr, IsErr, Contains, is_ok, if◌then◌else◌};
-ghost use Rattle.fault_count.specs.Counts.{one_more};
+ghost use Rattle.model_faults.specs.Counts.{one_more};
 
 use crate::{Ends, Sink, SinkFault};
 use std::alloc::Global;

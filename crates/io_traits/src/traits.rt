@@ -1,5 +1,5 @@
 ghost use Rattle.std.specs.Prelude.{◌≡◌, ◌<◌, ◌≤◌, List, ℕ, length, Option, OnOk, IfOk};
-ghost use Rattle.fault_count.specs.Counts.{IsCaused};
+ghost use Rattle.model_faults.specs.Counts.{IsCaused};
 ghost use Rattle.io_traits.specs.Source.{ReadGives};
 ghost use Rattle.io_traits.specs.Sink.{WriteGives};
 ghost use Rattle.io_traits.specs.Clock.{Ticks};

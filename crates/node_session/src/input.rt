@@ -1,6 +1,6 @@
 // The loop over the input.
 ghost use Rattle.std.specs.Prelude.{◌≡◌, ◌≢◌, ◌⊎◌, ◌+◌, ◌<◌, ◌≤◌, ◌^◌, ◌++◌, List, ℕ, [], length, IfOk, IsErrOf};
-ghost use Rattle.fault_count.specs.Counts.{Rose};
+ghost use Rattle.model_faults.specs.Counts.{Rose};
 ghost use Rattle.io_traits.specs.Source.{Shortens, IsAtEnd};
 ghost use Rattle.line_proto.specs.Stream.{KeepsBytes};
 ghost use Rattle.io_traits.specs.Sink.{Extends};

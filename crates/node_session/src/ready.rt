@@ -1,6 +1,6 @@
 // The turns of all lines that are ready.
 ghost use Rattle.std.specs.Prelude.{◌≡◌, ◌+◌, ◌<◌, ◌≤◌, ◌^◌, List, ℕ, [], length, IsErr};
-ghost use Rattle.fault_count.specs.Counts.{IsCaused};
+ghost use Rattle.model_faults.specs.Counts.{IsCaused};
 ghost use Rattle.io_traits.specs.Sink.{Extends};
 ghost use Rattle.node_session.specs.HandedOn.{FallsShort};
 ghost use Rattle.node_session.specs.Turns.{HasTurns, StopsAmong, ServesSome};

@@ -1,6 +1,6 @@
 // The replies that wait to be handed on.
 ghost use Rattle.std.specs.Prelude.{◌≡◌, ◌≢◌, ◌<◌, ◌≤◌, [], ◌++◌, length, IsOk, OnOk, OnErr};
-ghost use Rattle.fault_count.specs.Counts.{IsCaused};
+ghost use Rattle.model_faults.specs.Counts.{IsCaused};
 ghost use Rattle.line_proto.specs.declared.reply.Reply.{Reply};
 ghost use Rattle.line_proto.specs.Lines.{reply_text};
 ghost use Rattle.node_session.specs.HandedOn.{Sends, reply_room};

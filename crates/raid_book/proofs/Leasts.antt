@@ -8,9 +8,9 @@ use Rattle.std.proofs.lemmas.List.{length-map, take_all, take_more, get_or_defau
 use Rattle.std.proofs.lemmas.List.Elements.{All-head, All-tail}
 use Rattle.rec_format.specs.declared.version.Digest.{Digest}
 use Rattle.rec_format.specs.declared.version.Stamp.{Stamp}
-use Rattle.device_model.specs.Book.{Setup}
-use Rattle.device_model.specs.Device.{part_of}
-use Rattle.device_model.specs.Steps.{least, first_part}
+use Rattle.model_device.specs.Book.{Setup}
+use Rattle.model_device.specs.Device.{part_of}
+use Rattle.model_device.specs.Steps.{least, first_part}
 use Rattle.raid_book.specs.declared.found.FoundCopy.{FoundCopy}
 use Rattle.raid_book.proofs.Lists.{All-front}
 use Rattle.raid_book.specs.Found.{Falls, copy_in, copies_for, least_part}

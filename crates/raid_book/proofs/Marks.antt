@@ -1,7 +1,7 @@
 -- A book goes on to stand for a raid whose marks alone have changed.
 use Rattle.std.proofs.Common.{sym, subst}
-use Rattle.device_model.specs.Book.{Setup}
-use Rattle.device_model.specs.Device.{RaidState}
+use Rattle.model_device.specs.Book.{Setup}
+use Rattle.model_device.specs.Device.{RaidState}
 use Rattle.raid_book.specs.Books.{BookState}
 use Rattle.raid_book.specs.Raids.{RaidStands, SameButMarks}
 

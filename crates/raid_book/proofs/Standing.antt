@@ -5,10 +5,10 @@ use Rattle.std.proofs.lemmas.Bool.{cond-true, cond-false, eq-eqb, eqb-true, ne_e
 use Rattle.std.proofs.lemmas.List.Elements.{filter-append}
 use Rattle.rec_format.specs.declared.version.Digest.{Digest}
 use Rattle.rec_format.specs.declared.version.Stamp.{Stamp}
-use Rattle.device_model.specs.Book.{Setup}
-use Rattle.device_model.specs.Device.{State, RaidState, mark_turn, scan_turn, drop_turn, finished, part_of}
-use Rattle.device_model.specs.Steps as steps
-use Rattle.device_model.specs.Steps.{part_total, after_step, scanned_block, marked_part, compared_part, done_part}
+use Rattle.model_device.specs.Book.{Setup}
+use Rattle.model_device.specs.Device.{State, RaidState, mark_turn, scan_turn, drop_turn, finished, part_of}
+use Rattle.model_device.specs.Steps as steps
+use Rattle.model_device.specs.Steps.{part_total, after_step, scanned_block, marked_part, compared_part, done_part}
 use Rattle.block_format.specs.declared.geometry.Found.{Found}
 use Rattle.raid_book.specs.declared.found.FoundCopy.{FoundCopy}
 use Rattle.raid_book.specs.declared.turn.RaidNext.{RaidNext}

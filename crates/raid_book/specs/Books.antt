@@ -1,7 +1,7 @@
 -- What contracts see of the book of a raid, and what each turn makes of it.
 use Rattle.std.specs.Prelude.{◌≡◌, ℕ, ◌+◌, ◌≤◌, ◌<◌, max, List, []}
 use Rattle.std.specs.List.{All}
-use Rattle.device_model.specs.Steps.{raised}
+use Rattle.model_device.specs.Steps.{raised}
 use Rattle.rec_format.specs.Versions.{top_number}
 use Rattle.raid_book.specs.declared.found.FoundCopy.{FoundCopy}
 use Rattle.raid_book.specs.declared.turn.RaidNext.{RaidNext}

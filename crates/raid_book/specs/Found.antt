@@ -3,7 +3,7 @@ use Rattle.std.specs.Prelude.{ℕ, ◌≤◌, ◌<◌, not, ◌==◌, List, [], 
 use Rattle.std.specs.List.{AllPairs, AllWithin}
 use Rattle.rec_format.specs.declared.version.Digest.{Digest}
 use Rattle.rec_format.specs.declared.version.Stamp.{Stamp}
-use Rattle.device_model.specs.Steps.{least}
+use Rattle.model_device.specs.Steps.{least}
 use Rattle.block_format.specs.declared.geometry.Found.{Found}
 use Rattle.raid_book.specs.declared.found.FoundCopy.{FoundCopy}
 

@@ -2,9 +2,9 @@
 use Rattle.std.specs.Prelude.{◌≡◌, ◌≢◌, ℕ, ◌==◌, List, map, filter}
 use Rattle.rec_format.specs.declared.version.Digest.{Digest}
 use Rattle.rec_format.specs.declared.version.Stamp.{Stamp}
-use Rattle.device_model.specs.Book.{Setup}
-use Rattle.device_model.specs.Device.{RaidState, part_of}
-use Rattle.device_model.specs.Steps.{part_total}
+use Rattle.model_device.specs.Book.{Setup}
+use Rattle.model_device.specs.Device.{RaidState, part_of}
+use Rattle.model_device.specs.Steps.{part_total}
 use Rattle.block_format.specs.declared.geometry.Found.{Found}
 use Rattle.raid_book.specs.Found.{copies_for}
 use Rattle.raid_book.specs.Turns.{turn_of}

@@ -1,6 +1,6 @@
 -- The order of the turns of a raid over so many parts and blocks.
 use Rattle.std.specs.Prelude.{ℕ, ◌+◌, nat_lt, Option, Some, None, if◌then◌else◌}
-use Rattle.device_model.specs.Device.{Turn, mark_turn, scan_turn, apply_turn, drop_turn, finished}
+use Rattle.model_device.specs.Device.{Turn, mark_turn, scan_turn, apply_turn, drop_turn, finished}
 use Rattle.raid_book.specs.declared.turn.RaidNext.{RaidNext}
 use Rattle.raid_book.specs.declared.turn.RaidNext.TheVariants.{Mark, Scan, Apply, Drop, Finished}
 

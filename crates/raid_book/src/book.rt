@@ -2,10 +2,10 @@
 ghost use Rattle.std.specs.Prelude.{◌≡◌, ◌≢◌, ◌<◌, ◌+◌, ◌↔◌, ◌++◌, ◌==◌, [], ℕ, length, Ok, Some, None, IsTrue, IsNone, OnOk, OnErr, OnSome, if◌then◌else◌};
 ghost use Rattle.std.specs.Option.{option_to_list};
 ghost use Rattle.std.specs.List.{All};
-ghost use Rattle.device_model.specs.Book.{Setup};
-ghost use Rattle.device_model.specs.Device.{State, RaidState, no_raid};
-ghost use Rattle.device_model.specs.Passes.{turn_part};
-ghost use Rattle.device_model.specs.Steps.{part_total, after_step, raid_begun, raid_given_up, scanned_block, marked_part, compared_part, done_part};
+ghost use Rattle.model_device.specs.Book.{Setup};
+ghost use Rattle.model_device.specs.Device.{State, RaidState, no_raid};
+ghost use Rattle.model_device.specs.Passes.{turn_part};
+ghost use Rattle.model_device.specs.Steps.{part_total, after_step, raid_begun, raid_given_up, scanned_block, marked_part, compared_part, done_part};
 ghost use Rattle.rec_format.specs.Versions.{top_number};
 ghost use Rattle.raid_book.specs.Found.{copies_for, with_parts};
 ghost use Rattle.raid_book.specs.Turns.{turn_of};
@@ -65,7 +65,7 @@ impl RaidBook {
 
     /// Answers the number of a raid that begins, also over a running one: one more than the last.
     /// Where that was 2^62 it answers none and changes nothing. A constant time.
-    #[tactic(auto, unfolding(device_model::specs::Steps::after_step))]
+    #[tactic(auto, unfolding(model_device::specs::Steps::after_step))]
     pub fn begin(&mut self) -> Option<u64>
         ensures answer { result ≡ (if self.old.number == top_number then None else Some (self.old.number + 1)) }
         ensures book { self.new ≡ (if self.old.number == top_number then self.old else begun self.old) }
@@ -82,7 +82,7 @@ impl RaidBook {
     }
 
     /// No raid runs then. The number rises by one, up to 2^62, also where none ran. A constant time.
-    #[tactic(auto, unfolding(device_model::specs::Steps::after_step))]
+    #[tactic(auto, unfolding(model_device::specs::Steps::after_step))]
     pub fn give_up(&mut self)
         ensures book { self.new ≡ given_up self.old }
         ensures raid { (setup : Setup) (s : State) → RaidStands setup self.old s.raid → RaidStands setup self.new (after_step setup raid_given_up s).raid }

@@ -3,10 +3,10 @@ use crate::program::{Around, Ending};
 use crate::raw::bytes_of;
 use disk_model::MemDisk;
 use hex::encode;
-use model_hist::{cold, copies};
 use rec_format::{Digest, Kind, Version};
 use scenario_text::{Report, Row, Trouble};
 use std::alloc::Global;
+use test_hist::{cold, copies};
 
 /// The latest version of each digest that images have, in the order in which they are met; none where an image can't be read.
 #[derive(Drop)]

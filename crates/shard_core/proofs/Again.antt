@@ -4,36 +4,36 @@ use Rattle.std.specs.Prelude.{Contains}
 use Rattle.disk_model.specs.Disk.{Images, DiskView, IsHonest, IsOnly}
 use Rattle.rec_format.specs.declared.version.Digest.{Digest}
 use Rattle.rec_format.specs.Versions.{block_capacity}
-use Rattle.device_model.specs.Histories.{writes_of}
-use Rattle.device_model.specs.Book.{Setup, Book, cold_book, refreshed, Live, live_of, is_in, may_be_queued}
-use Rattle.device_model.specs.Device.{State, history, entry, no_raid}
+use Rattle.model_device.specs.Histories.{writes_of}
+use Rattle.model_device.specs.Book.{Setup, Book, cold_book, refreshed, Live, live_of, is_in, may_be_queued}
+use Rattle.model_device.specs.Device.{State, history, entry, no_raid}
 use Rattle.block_format.specs.declared.geometry.Geometry.{Geometry}
 use Rattle.block_format.specs.declared.geometry.Gate.{Gate}
 use Rattle.block_format.specs.Layout.{device_end, IsHeader, Body, body_bytes}
 use Rattle.block_format.specs.Copies.{Copy, IsReadable}
 use Rattle.block_format.specs.Refusals.{IsBlock, IsDamagedAt}
 use Rattle.block_format.proofs.BodyLaws.{fault_refuses}
-use Rattle.recovery.specs.Start.{Restarts, start_state}
-use Rattle.recovery.specs.Surviving.{Survives}
-use Rattle.recovery.specs.Orderly.{IsFalling}
-use Rattle.recovery.proofs.ColdStart.{start_entry}
-use Rattle.recovery.proofs.Images.{one_shape}
-use Rattle.kept_trail.specs.Trail.{Records}
-use Rattle.kept_images.specs.Kept.{IsInOrder, IsKept}
-use Rattle.kept_images.specs.Gates.{KnowsGates}
-use Rattle.kept_images.specs.Held.{HoldsGates}
-use Rattle.kept_images.specs.Changes.{records_by}
-use Rattle.kept_images.proofs.Held.{held_kept, held_sure, held_survives}
-use Rattle.kept_images.proofs.Starting.{restart_kept}
-use Rattle.kept_images.proofs.Stepping.{book_in_order}
+use Rattle.law_start.specs.Start.{Restarts, start_state}
+use Rattle.law_start.specs.Surviving.{Survives}
+use Rattle.law_start.specs.Orderly.{IsFalling}
+use Rattle.law_start.proofs.ColdStart.{start_entry}
+use Rattle.law_start.proofs.Images.{one_shape}
+use Rattle.law_trail.specs.Trail.{Records}
+use Rattle.law_images.specs.Kept.{IsInOrder, IsKept}
+use Rattle.law_images.specs.Gates.{KnowsGates}
+use Rattle.law_images.specs.Held.{HoldsGates}
+use Rattle.law_images.specs.Changes.{records_by}
+use Rattle.law_images.proofs.Held.{held_kept, held_sure, held_survives}
+use Rattle.law_images.proofs.Starting.{restart_kept}
+use Rattle.law_images.proofs.Stepping.{book_in_order}
 use Rattle.write_buffer.specs.Buffers.{BufferState}
 use Rattle.raid_book.specs.Raids.{RaidStands}
 use Rattle.block_shelf.specs.View.{records_of, gate_at}
 use Rattle.block_shelf.specs.Standing.{StandsFor, BooksStand, IsOfEntry, HoldsSame, LivesSame, IsListed, book_buffer}
-use Rattle.part_laws.specs.Parts.{AreOwn, FitsParts}
-use Rattle.part_laws.specs.Starting.{AllHaveLatest}
-use Rattle.part_laws.proofs.Restarting.{new_top, restart_parts}
-use Rattle.part_laws.proofs.Resuming.{resumed, resumes, resumed_own}
+use Rattle.law_sprig.specs.Parts.{AreOwn, FitsParts}
+use Rattle.law_sprig.specs.Starting.{AllHaveLatest}
+use Rattle.law_sprig.proofs.Restarting.{new_top, restart_parts}
+use Rattle.law_sprig.proofs.Resuming.{resumed, resumes, resumed_own}
 use Rattle.shard_core.specs.declared.settings.Settings.{Settings}
 use Rattle.cold_scan.specs.declared.header.Asked.{Asked}
 use Rattle.cold_scan.specs.declared.header.StartCause.{StartCause}

@@ -4,19 +4,19 @@ use Rattle.std.specs.Prelude.{option_map}
 use Rattle.std.specs.List.{AllByRecursion, range_with_len}
 use Rattle.disk_model.specs.Disk.{Images, DiskView, IsHonest, IsOnly}
 use Rattle.rec_format.specs.declared.version.Digest.{Digest}
-use Rattle.device_model.specs.Book.{Setup}
-use Rattle.device_model.specs.Device.{State}
+use Rattle.model_device.specs.Book.{Setup}
+use Rattle.model_device.specs.Device.{State}
 use Rattle.block_format.specs.declared.geometry.Geometry.{Geometry}
 use Rattle.block_format.specs.declared.geometry.Gate.{Gate}
 use Rattle.block_format.specs.Layout.{IsGeometry, IsRecordAt, body_bytes, Body}
 use Rattle.block_format.specs.Copies.{Copy, HasBodies, copies_of, cold_copy, entry_for}
 use Rattle.block_format.proofs.BodyLaws.{one_body}
-use Rattle.recovery.specs.Start.{start_state, entries_state, greatest_number, cold_copies}
-use Rattle.recovery.specs.Sound.{IsSound, IsShapeOf}
-use Rattle.recovery.proofs.Cold.{one_image}
-use Rattle.recovery.proofs.Images.{one_shape}
-use Rattle.recovery.proofs.Places.{copy_stands}
-use Rattle.kept_images.specs.Held.{AreSure}
+use Rattle.law_start.specs.Start.{start_state, entries_state, greatest_number, cold_copies}
+use Rattle.law_start.specs.Sound.{IsSound, IsShapeOf}
+use Rattle.law_start.proofs.Cold.{one_image}
+use Rattle.law_start.proofs.Images.{one_shape}
+use Rattle.law_start.proofs.Places.{copy_stands}
+use Rattle.law_images.specs.Held.{AreSure}
 use Rattle.block_shelf.specs.declared.place.Place.{Place}
 use Rattle.block_shelf.specs.declared.place.ShelfLimits.{ShelfLimits}
 use Rattle.block_shelf.specs.View.{ShelfView, IsSetupOf, gate_at}
@@ -26,9 +26,9 @@ use Rattle.shard_core.specs.declared.settings.Settings.{Settings}
 use Rattle.cold_scan.specs.declared.header.Asked.{Asked}
 use Rattle.shard_core.specs.declared.index.Finding.{Finding}
 use Rattle.shard_core.specs.Sprigs.{held, all_entries}
-use Rattle.shard_steps.specs.Sprigs.{HasTimes}
+use Rattle.law_steps.specs.Sprigs.{HasTimes}
 use Rattle.shard_core.specs.View.{ShardView, IsSettings, limits_of, setup_for, setup_of}
-use Rattle.part_laws.specs.Parts.{FitsParts}
+use Rattle.law_sprig.specs.Parts.{FitsParts}
 use Rattle.sprig_tree.specs.State.{SprigState}
 use Rattle.shard_core.specs.Stands.{Agrees, IsWhole, IsSafe}
 use Rattle.cold_scan.specs.Starting.{Passes, own_copies}

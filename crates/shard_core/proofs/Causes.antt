@@ -1,7 +1,7 @@
 -- How the answers of a refused move and a refused choice are told.
 use Rattle.std.proofs.Common.{◌≡◌, Bool, refl, sym, subst}
 use Rattle.std.specs.Prelude.{Result, Ok, Err, MatchResult}
-use Rattle.device_model.specs.Events.{Answer, spent, damaged, no_memory, disk_fault}
+use Rattle.model_device.specs.Events.{Answer, spent, damaged, no_memory, disk_fault}
 use Rattle.defrag_pass.specs.Moves.{Answers}
 use Rattle.defrag_pass.specs.declared.refusal.MoveRefusal.{MoveRefusal}
 use Rattle.defrag_pass.specs.declared.refusal.MoveRefusal.TheVariants as move

@@ -6,13 +6,13 @@ use Rattle.std.proofs.Math.Nat.{le_refl}
 use Rattle.std.proofs.lemmas.List.Sums.{sum_by-cons}
 use Rattle.disk_model.specs.Disk.{DiskView, IsDisk}
 use Rattle.rec_format.specs.Places.{device_number}
-use Rattle.device_model.specs.Book.{Setup}
-use Rattle.device_model.specs.Device.{State}
-use Rattle.device_model.specs.Events.{Event, Answer, choose_call, block_chosen, refused, no_memory}
-use Rattle.device_model.specs.Legal.{Allowed, queue_front}
-use Rattle.device_model.specs.Vacating.{moved_by}
+use Rattle.model_device.specs.Book.{Setup}
+use Rattle.model_device.specs.Device.{State}
+use Rattle.model_device.specs.Events.{Event, Answer, choose_call, block_chosen, refused, no_memory}
+use Rattle.model_device.specs.Legal.{Allowed, queue_front}
+use Rattle.model_device.specs.Vacating.{moved_by}
 use Rattle.disk_model.specs.Runs.{OneOf}
-use Rattle.recovery.specs.Surviving.{Survives}
+use Rattle.law_start.specs.Surviving.{Survives}
 use Rattle.block_shelf.specs.declared.vacate.Vacancy.{Vacancy}
 use Rattle.block_shelf.specs.View.{ShelfView, IsShelf}
 use Rattle.block_shelf.specs.Standing.{StandsFor, BooksStand}

@@ -10,13 +10,13 @@ use Rattle.rec_format.specs.declared.version.Digest.{Digest}
 use Rattle.rec_format.specs.declared.version.Version.{Version}
 use Rattle.rec_format.specs.Places.{same_digest, device_number, with_digest, digest_before}
 use Rattle.rec_format.proofs.Laws.{same_digest_is}
-use Rattle.device_model.specs.Histories.{top_of}
-use Rattle.device_model.specs.Book.{Setup, Book, Live, has_buffer, use_of, may_be_queued, is_in, live_of}
-use Rattle.device_model.specs.Device.{State, Log, entry, history_of, digests_of}
-use Rattle.device_model.specs.Legal.{queue_front, is_in_block}
+use Rattle.model_device.specs.Histories.{top_of}
+use Rattle.model_device.specs.Book.{Setup, Book, Live, has_buffer, use_of, may_be_queued, is_in, live_of}
+use Rattle.model_device.specs.Device.{State, Log, entry, history_of, digests_of}
+use Rattle.model_device.specs.Legal.{queue_front, is_in_block}
 use Rattle.disk_model.specs.Disk.{DiskView}
-use Rattle.recovery.proofs.Growing.{all_from}
-use Rattle.recovery.proofs.Placing.{found_is}
+use Rattle.law_start.proofs.Growing.{all_from}
+use Rattle.law_start.proofs.Placing.{found_is}
 use Rattle.unit_ledger.specs.declared.roll.LiveCopy.{LiveCopy}
 use Rattle.unit_ledger.specs.Rolls.{copies_in}
 use Rattle.unit_ledger.specs.Order.{into_order, by_unit}

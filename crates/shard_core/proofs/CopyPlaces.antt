@@ -8,8 +8,8 @@ use Rattle.rec_format.specs.Versions.{version_units}
 use Rattle.disk_model.specs.Bytes.{Apart}
 use Rattle.block_format.specs.Layout.{Body}
 use Rattle.block_format.specs.Copies.{Copy, copies_from, copies_of}
-use Rattle.recovery.proofs.Growing.{all_at, cons_cases}
-use Rattle.recovery.proofs.Members.{first_there, rest_there, map_there}
+use Rattle.law_start.proofs.Growing.{all_at, cons_cases}
+use Rattle.law_start.proofs.Members.{first_there, rest_there, map_there}
 use Rattle.block_shelf.specs.View.{AreApart}
 
 -- ---- within a body

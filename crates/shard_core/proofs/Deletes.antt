@@ -6,22 +6,22 @@ use Rattle.std.specs.List.{AllByRecursion}
 use Rattle.rec_format.specs.declared.version.Digest.{Digest}
 use Rattle.rec_format.specs.declared.version.Version.{Version}
 use Rattle.rec_format.specs.Versions.{is_expired_put}
-use Rattle.device_model.specs.Book.{Setup}
-use Rattle.device_model.specs.Device.{State, entry, entry_is_covered, entry_passes, seen, part_of}
-use Rattle.device_model.specs.Steps.{removed}
-use Rattle.device_model.specs.Events.{Event, Call, delete_call, expire_call, happened}
-use Rattle.device_model.specs.Legal.{Allowed, Only, Removes, Entombs}
+use Rattle.model_device.specs.Book.{Setup}
+use Rattle.model_device.specs.Device.{State, entry, entry_is_covered, entry_passes, seen, part_of}
+use Rattle.model_device.specs.Steps.{removed}
+use Rattle.model_device.specs.Events.{Event, Call, delete_call, expire_call, happened}
+use Rattle.model_device.specs.Legal.{Allowed, Only, Removes, Entombs}
 use Rattle.disk_model.specs.Disk.{DiskView}
 use Rattle.sprig_tree.specs.State.{SprigState}
-use Rattle.part_laws.specs.Becoming.{Loses}
-use Rattle.part_laws.proofs.Edits.{each_without}
-use Rattle.part_laws.proofs.Taking.{removed_fits}
+use Rattle.law_sprig.specs.Becoming.{Loses}
+use Rattle.law_sprig.proofs.Edits.{each_without}
+use Rattle.law_sprig.proofs.Taking.{removed_fits}
 use Rattle.block_shelf.specs.View.{ShelfView}
 use Rattle.block_shelf.specs.Calls.{Goes}
-use Rattle.shard_steps.specs.Standing.{StandTogether}
-use Rattle.shard_steps.specs.Events.{StepMakes}
+use Rattle.law_steps.specs.Standing.{StandTogether}
+use Rattle.law_steps.specs.Events.{StepMakes}
 use Rattle.shard_core.specs.Writing.{IsEntombing, IsRemoving}
-use Rattle.shard_steps.proofs.Making.{makes_by}
+use Rattle.law_steps.proofs.Making.{makes_by}
 
 module _ (setup : Setup) (s : State) (digest : Digest) (now : ℕ) where
   -- ---- an ordinary delete

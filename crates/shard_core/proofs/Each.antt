@@ -2,7 +2,7 @@
 use Rattle.std.proofs.Common.{◌≡◌, ℕ, zero, suc, ◌<◌, List, [], ◌∷◌, set, get_or, length, Some, refl, sym, ap, subst, arith}
 use Rattle.sprig_tree.specs.State.{SprigState}
 use Rattle.shard_core.specs.Sprigs.{AreSame}
-use Rattle.shard_steps.specs.Sprigs.{SameSprig}
+use Rattle.law_steps.specs.Sprigs.{SameSprig}
 use Rattle.std.specs.Prelude.{slice_get}
 use Rattle.std.specs.List.{AllByRecursion}
 

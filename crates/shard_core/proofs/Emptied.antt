@@ -6,18 +6,18 @@ use Rattle.std.proofs.lemmas.Bool.{both_ways, eq-eqb, eqb-true, false≢true, co
 use Rattle.rec_format.specs.declared.version.Digest.{Digest}
 use Rattle.rec_format.specs.Places.{same_digest}
 use Rattle.rec_format.proofs.Laws.{same_digest_refl}
-use Rattle.device_model.specs.Book.{Setup, Book, Live, defrag, has_buffer, has_room, use_of, live_of, without_live, placed, placing_number}
-use Rattle.device_model.specs.Device.{State}
-use Rattle.device_model.specs.Steps.{Step, closing_failed, moved, moved_state, after_step, after_steps}
-use Rattle.device_model.specs.Events.{Event, Cause, happened, refused, no_memory, damaged, disk_fault, move_call, after_event}
-use Rattle.device_model.specs.Legal.{Allowed, NoMemory, Only, Unless, DamageFound, DiskFails, is_in_block, live_units, no_place, move_reserve}
-use Rattle.recovery.proofs.Growing.{all_at, all_from, cons_cases}
-use Rattle.recovery.proofs.Placing.{found_is}
-use Rattle.kept_trail.specs.Trail.{IsBooked, CanPlace, places_of}
-use Rattle.kept_trail.proofs.Books.{live_there, live_not_free, others_live}
-use Rattle.kept_trail.proofs.Places.{any_there, buffer_place}
-use Rattle.kept_trail.proofs.Placing.{PlacesCopy, placed_is}
-use Rattle.kept_trail.proofs.Room.{place_there}
+use Rattle.model_device.specs.Book.{Setup, Book, Live, defrag, has_buffer, has_room, use_of, live_of, without_live, placed, placing_number}
+use Rattle.model_device.specs.Device.{State}
+use Rattle.model_device.specs.Steps.{Step, closing_failed, moved, moved_state, after_step, after_steps}
+use Rattle.model_device.specs.Events.{Event, Cause, happened, refused, no_memory, damaged, disk_fault, move_call, after_event}
+use Rattle.model_device.specs.Legal.{Allowed, NoMemory, Only, Unless, DamageFound, DiskFails, is_in_block, live_units, no_place, move_reserve}
+use Rattle.law_start.proofs.Growing.{all_at, all_from, cons_cases}
+use Rattle.law_start.proofs.Placing.{found_is}
+use Rattle.law_trail.specs.Trail.{IsBooked, CanPlace, places_of}
+use Rattle.law_trail.proofs.Books.{live_there, live_not_free, others_live}
+use Rattle.law_trail.proofs.Places.{any_there, buffer_place}
+use Rattle.law_trail.proofs.Placing.{PlacesCopy, placed_is}
+use Rattle.law_trail.proofs.Room.{place_there}
 use Rattle.block_shelf.specs.Standing.{IsListed}
 use Rattle.shard_core.specs.Vacating.{LiesAmong}
 

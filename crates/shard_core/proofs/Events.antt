@@ -2,18 +2,18 @@
 use Rattle.std.proofs.Common.{◌≡◌, inl, inr, ℕ, Bool, true, false, List, [], ◌∷◌, ◌++◌, refl, sym, ◌∙◌, ap, subst, append_assoc}
 use Rattle.disk_model.specs.Disk.{Images, DiskView, IsDisk, IsHonest}
 use Rattle.disk_model.specs.Runs.{OneOf, Leaves, leaves_then, leaves_more}
-use Rattle.device_model.specs.Book.{Setup}
-use Rattle.device_model.specs.Device.{State}
-use Rattle.device_model.specs.Steps.{Step, after_step, after_steps, states_through}
-use Rattle.device_model.specs.Events.{Event, Call, Answer, Cause, stamp_given, happened, found_version, counted, block_chosen, raid_numbered, marks_made, block_scanned, marks_undone, part_ended, raid_over, refused, after_event, after_events, steps_of, states_of}
-use Rattle.device_model.specs.Legal.{IsLegal, last_faults}
-use Rattle.device_model.specs.Vacating.{IfRefused}
-use Rattle.recovery.specs.Surviving.{Survives}
+use Rattle.model_device.specs.Book.{Setup}
+use Rattle.model_device.specs.Device.{State}
+use Rattle.model_device.specs.Steps.{Step, after_step, after_steps, states_through}
+use Rattle.model_device.specs.Events.{Event, Call, Answer, Cause, stamp_given, happened, found_version, counted, block_chosen, raid_numbered, marks_made, block_scanned, marks_undone, part_ended, raid_over, refused, after_event, after_events, steps_of, states_of}
+use Rattle.model_device.specs.Legal.{IsLegal, last_faults}
+use Rattle.model_device.specs.Vacating.{IfRefused}
+use Rattle.law_start.specs.Surviving.{Survives}
 use Rattle.block_shelf.specs.View.{ShelfView}
 use Rattle.block_shelf.specs.Standing.{IsPlaced}
 use Rattle.block_shelf.proofs.Going.{after_joined, stays}
-use Rattle.shard_steps.specs.Standing.{ShelfIsSafe}
-use Rattle.shard_steps.specs.Events.{MakesEvent}
+use Rattle.law_steps.specs.Standing.{ShelfIsSafe}
+use Rattle.law_steps.specs.Events.{MakesEvent}
 use Rattle.shard_core.specs.View.{ShardView, setup_of}
 use Rattle.shard_core.specs.Stands.{Agrees}
 use Rattle.shard_core.specs.Vacating.{MakesEvents}

@@ -11,27 +11,27 @@ use Rattle.rec_format.specs.declared.entry.Entry.{Entry}
 use Rattle.rec_format.specs.Places.{same_digest, digest_before, device_number}
 use Rattle.rec_format.specs.Versions.{a_tombstone, version_units, is_expired_put}
 use Rattle.rec_format.proofs.Laws.{same_digest_is}
-use Rattle.device_model.specs.Histories.{Item, is_covered}
-use Rattle.device_model.specs.Book.{Setup, client, has_room}
-use Rattle.device_model.specs.Device.{State, history, entry, entry_is_covered, entry_passes, part_of, next_stamp_of, expired_in}
-use Rattle.device_model.specs.Steps.{part_total, removed}
-use Rattle.device_model.specs.Events.{Event, Call, Answer, Cause, happened, refused, too_big, wrong_generation, spent, overload, no_space, expire_call, after_event, after_events}
-use Rattle.device_model.specs.Expiring.{ExpiresEach}
-use Rattle.device_model.specs.Legal.{Allowed, Only, Removes, Entombs, Unless, WriteEnds, the_stamp, no_write, tombstone_reserve}
-use Rattle.device_model.specs.Passes.{AnswersCount, is_behind, expired_behind, cause_of, done_by}
-use Rattle.device_model.specs.Vacating.{Outcome, did, stopped, IfRefused}
+use Rattle.model_device.specs.Histories.{Item, is_covered}
+use Rattle.model_device.specs.Book.{Setup, client, has_room}
+use Rattle.model_device.specs.Device.{State, history, entry, entry_is_covered, entry_passes, part_of, next_stamp_of, expired_in}
+use Rattle.model_device.specs.Steps.{part_total, removed}
+use Rattle.model_device.specs.Events.{Event, Call, Answer, Cause, happened, refused, too_big, wrong_generation, spent, overload, no_space, expire_call, after_event, after_events}
+use Rattle.model_device.specs.Expiring.{ExpiresEach}
+use Rattle.model_device.specs.Legal.{Allowed, Only, Removes, Entombs, Unless, WriteEnds, the_stamp, no_write, tombstone_reserve}
+use Rattle.model_device.specs.Passes.{AnswersCount, is_behind, expired_behind, cause_of, done_by}
+use Rattle.model_device.specs.Vacating.{Outcome, did, stopped, IfRefused}
 use Rattle.expiry_rule.specs.Seen.{expired_entry, is_expired_entry}
 use Rattle.tomb_rules.specs.Covers.{cover_of}
 use Rattle.sprig_tree.specs.Entries.{digests_in}
 use Rattle.sprig_tree.specs.State.{SprigState}
-use Rattle.part_laws.specs.Fits.{FitsPart}
-use Rattle.part_laws.specs.Making.{digest_named}
-use Rattle.part_laws.specs.Tests.{passes_test}
-use Rattle.part_laws.proofs.Behind.{IsNext, next_is, behind_then, not_itself, expired_walked, expired_alike, others_stay}
-use Rattle.part_laws.proofs.Device.{among_each}
-use Rattle.part_laws.proofs.Looking.{cover_is, expired_found}
+use Rattle.law_sprig.specs.Fits.{FitsPart}
+use Rattle.law_sprig.specs.Making.{digest_named}
+use Rattle.law_sprig.specs.Tests.{passes_test}
+use Rattle.law_sprig.proofs.Behind.{IsNext, next_is, behind_then, not_itself, expired_walked, expired_alike, others_stay}
+use Rattle.law_sprig.proofs.Device.{among_each}
+use Rattle.law_sprig.proofs.Looking.{cover_is, expired_found}
 use Rattle.block_shelf.specs.View.{IsShelf}
-use Rattle.shard_steps.specs.Events.{MakesEvent}
+use Rattle.law_steps.specs.Events.{MakesEvent}
 use Rattle.shard_core.specs.declared.refusals.WriteRefusal.{WriteRefusal}
 use Rattle.shard_core.specs.declared.refusals.WriteRefusal.TheVariants as write
 use Rattle.shard_core.specs.Sprigs.{entry_in, held}

@@ -5,14 +5,14 @@ use Rattle.std.specs.List.{AllByRecursion}
 use Rattle.std.proofs.lemmas.Bool.{false≢true}
 use Rattle.std.proofs.lemmas.List.{append-nil, length-append}
 use Rattle.std.specs.Result.{IsErr}
-use Rattle.fault_count.specs.Counts.{Rose}
-use Rattle.device_model.specs.Book.{Setup, Buffer}
-use Rattle.device_model.specs.Device.{State}
-use Rattle.device_model.specs.Steps.{Step, after_steps}
-use Rattle.device_model.specs.Legal.{first_sealed, flush_all, flush_between, flush_first, flush_count, StopsIn}
+use Rattle.model_faults.specs.Counts.{Rose}
+use Rattle.model_device.specs.Book.{Setup, Buffer}
+use Rattle.model_device.specs.Device.{State}
+use Rattle.model_device.specs.Steps.{Step, after_steps}
+use Rattle.model_device.specs.Legal.{first_sealed, flush_all, flush_between, flush_first, flush_count, StopsIn}
 use Rattle.disk_model.specs.Disk.{DiskView, IsHonest}
-use Rattle.recovery.specs.Sound.{IsShapeOf}
-use Rattle.recovery.proofs.Each.{all_map}
+use Rattle.law_start.specs.Sound.{IsShapeOf}
+use Rattle.law_start.proofs.Each.{all_map}
 use Rattle.block_format.specs.declared.geometry.Gate.TheVariants.{Unsure}
 use Rattle.write_buffer.specs.declared.phase.Phase.TheVariants.{GateBegun}
 use Rattle.write_buffer.specs.Buffers.{BufferState, with_phase}

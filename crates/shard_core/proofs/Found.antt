@@ -7,17 +7,17 @@ use Rattle.rec_format.specs.declared.version.Version.{Version}
 use Rattle.rec_format.specs.declared.entry.Entry.{Entry}
 use Rattle.rec_format.specs.Entries.{Names}
 use Rattle.rec_format.specs.Versions.{is_tomb_kind, is_expired, is_expired_put, is_live_put}
-use Rattle.device_model.specs.Histories.{if_live}
-use Rattle.device_model.specs.Book.{Setup}
-use Rattle.device_model.specs.Device as device
-use Rattle.device_model.specs.Device.{State, part_of}
+use Rattle.model_device.specs.Histories.{if_live}
+use Rattle.model_device.specs.Book.{Setup}
+use Rattle.model_device.specs.Device as device
+use Rattle.model_device.specs.Device.{State, part_of}
 use Rattle.expiry_rule.specs.Seen.{seen_entry, is_live_entry, expired_entry, is_expired_entry}
 use Rattle.sprig_tree.specs.Entries.{entry_of}
 use Rattle.sprig_tree.specs.State.{SprigState}
-use Rattle.part_laws.specs.Tests.{passes_test}
-use Rattle.part_laws.proofs.Alike.{Says}
-use Rattle.part_laws.proofs.Looking.{expired_found}
-use Rattle.shard_steps.specs.Standing.{SprigStands}
+use Rattle.law_sprig.specs.Tests.{passes_test}
+use Rattle.law_sprig.proofs.Alike.{Says}
+use Rattle.law_sprig.proofs.Looking.{expired_found}
+use Rattle.law_steps.specs.Standing.{SprigStands}
 
 live_same : (now : ℕ) (e : Entry) (v : Version) → Names e v → is_live_entry now e ≡ is_live_put now v
 live_same now e v names =

@@ -9,30 +9,30 @@ use Rattle.rec_format.specs.declared.entry.Entry.{Entry}
 use Rattle.rec_format.specs.Places.{same_digest, device_number}
 use Rattle.rec_format.specs.Versions.{units_for, version_units}
 use Rattle.rec_format.proofs.Laws.{same_digest_is, same_digest_refl}
-use Rattle.device_model.specs.Book.{Setup}
-use Rattle.device_model.specs.Device.{part_of}
-use Rattle.device_model.specs.Steps.{part_total}
+use Rattle.model_device.specs.Book.{Setup}
+use Rattle.model_device.specs.Device.{part_of}
+use Rattle.model_device.specs.Steps.{part_total}
 use Rattle.disk_model.specs.Bytes.{Apart}
 use Rattle.block_format.specs.declared.geometry.Geometry.{Geometry}
 use Rattle.block_format.specs.declared.geometry.Gate.{Gate}
 use Rattle.block_format.specs.declared.geometry.Gate.TheVariants.{Set}
 use Rattle.block_format.specs.Layout.{Body}
 use Rattle.block_format.specs.Copies.{Copy, copies_of, cold_copy, entry_for}
-use Rattle.recovery.specs.Start.{start_state, cold_copies, names_of_copies, greatest_number}
-use Rattle.recovery.specs.Sound.{IsSound, NoStrays}
-use Rattle.recovery.proofs.Each.{all_map}
-use Rattle.recovery.proofs.Growing.{all_at, all_from, cons_cases}
-use Rattle.recovery.proofs.Members.{first_there, rest_there, map_there, map_from, filter_from}
-use Rattle.recovery.proofs.StartLive.{found_first, found_among}
-use Rattle.kept_trail.proofs.Places.{any_there, some_at}
+use Rattle.law_start.specs.Start.{start_state, cold_copies, names_of_copies, greatest_number}
+use Rattle.law_start.specs.Sound.{IsSound, NoStrays}
+use Rattle.law_start.proofs.Each.{all_map}
+use Rattle.law_start.proofs.Growing.{all_at, all_from, cons_cases}
+use Rattle.law_start.proofs.Members.{first_there, rest_there, map_there, map_from, filter_from}
+use Rattle.law_start.proofs.StartLive.{found_first, found_among}
+use Rattle.law_trail.proofs.Places.{any_there, some_at}
 use Rattle.sprig_tree.specs.State.{SprigState}
 use Rattle.sprig_tree.proofs.Laws.{entry_of-digest}
-use Rattle.part_laws.specs.Parts.{FitsParts}
-use Rattle.part_laws.specs.Starting.{HasLatest}
-use Rattle.part_laws.proofs.Counting.{part_exists}
-use Rattle.part_laws.proofs.Finding.{latest_found}
-use Rattle.part_laws.proofs.Ordered.{each_entry}
-use Rattle.part_laws.proofs.Starting.{chosen_there, start_parts, entries_parts}
+use Rattle.law_sprig.specs.Parts.{FitsParts}
+use Rattle.law_sprig.specs.Starting.{HasLatest}
+use Rattle.law_sprig.proofs.Counting.{part_exists}
+use Rattle.law_sprig.proofs.Finding.{latest_found}
+use Rattle.law_sprig.proofs.Ordered.{each_entry}
+use Rattle.law_sprig.proofs.Starting.{chosen_there, start_parts, entries_parts}
 use Rattle.block_shelf.specs.declared.place.Place.{Place}
 use Rattle.block_shelf.specs.View.{AreApart}
 use Rattle.block_shelf.specs.Starting.{LiesIn, AreTwo, AreEachTwo, CanBeLive, AreLive, blocks_without, place_of_copy}
@@ -40,7 +40,7 @@ use Rattle.block_shelf.proofs.StartShelf.{filter_alike}
 use Rattle.shard_core.specs.declared.settings.Settings.{Settings}
 use Rattle.shard_core.specs.declared.index.Finding.{Finding}
 use Rattle.shard_core.specs.Sprigs.{entry_in, held, all_entries}
-use Rattle.shard_steps.specs.Sprigs.{place_of, HasTimes}
+use Rattle.law_steps.specs.Sprigs.{place_of, HasTimes}
 use Rattle.shard_core.specs.View.{setup_for}
 use Rattle.cold_scan.specs.Starting.{own_copies}
 use Rattle.shard_core.specs.Starting.{blocks_behind}

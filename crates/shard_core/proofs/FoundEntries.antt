@@ -6,12 +6,12 @@ use Rattle.rec_format.specs.declared.version.Digest.{Digest}
 use Rattle.rec_format.specs.declared.entry.Entry.{Entry}
 use Rattle.rec_format.specs.Places.{digest_cmp, same_digest}
 use Rattle.rec_format.proofs.Laws.{same_digest_is}
-use Rattle.device_model.specs.Book.{Setup}
-use Rattle.device_model.specs.Device.{part_of}
-use Rattle.recovery.proofs.Each.{all_map}
-use Rattle.recovery.proofs.Growing.{all_at, all_from}
-use Rattle.recovery.proofs.Members.{first_there, rest_there, flat_map_there}
-use Rattle.recovery.proofs.Opening.{all_joined}
+use Rattle.model_device.specs.Book.{Setup}
+use Rattle.model_device.specs.Device.{part_of}
+use Rattle.law_start.proofs.Each.{all_map}
+use Rattle.law_start.proofs.Growing.{all_at, all_from}
+use Rattle.law_start.proofs.Members.{first_there, rest_there, flat_map_there}
+use Rattle.law_start.proofs.Opening.{all_joined}
 use Rattle.sprig_tree.specs.Entries.{IsInDigestOrder}
 use Rattle.sprig_tree.specs.State.{SprigState}
 use Rattle.sprig_tree.proofs.Digests.{other_above}

@@ -6,10 +6,10 @@ use Rattle.std.specs.List.Sorted.{IsStrictlySortedBy}
 use Rattle.rec_format.specs.declared.version.Digest.{Digest}
 use Rattle.rec_format.specs.Places.{digest_cmp, same_digest}
 use Rattle.rec_format.proofs.Laws.{same_digest_is}
-use Rattle.part_laws.proofs.Ordered.{AreInOrder, order-with_digest}
-use Rattle.part_laws.proofs.Starting.{chosen_there}
+use Rattle.law_sprig.proofs.Ordered.{AreInOrder, order-with_digest}
+use Rattle.law_sprig.proofs.Starting.{chosen_there}
 use Rattle.block_format.specs.Copies.{Copy, cold_copy}
-use Rattle.recovery.specs.Start.{names_of_copies, cold_copies}
+use Rattle.law_start.specs.Start.{names_of_copies, cold_copies}
 
 names_order : (copies : List Copy) → AreInOrder (names_of_copies copies)
 unfolding IsStrictlySortedBy

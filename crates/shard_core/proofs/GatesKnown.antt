@@ -11,9 +11,9 @@ use Rattle.block_format.specs.Layout.{IsOpen, IsClosed, gate_sector, body_bytes,
 use Rattle.block_format.specs.Copies.{HasBodies}
 use Rattle.block_format.specs.Refusals.{IsBlock}
 use Rattle.block_flusher.specs.Images.{IsBodyOf}
-use Rattle.kept_images.specs.Gates.{GateStands}
-use Rattle.kept_images.specs.Held.{AreSure}
-use Rattle.recovery.proofs.Growing.{all_at}
+use Rattle.law_images.specs.Gates.{GateStands}
+use Rattle.law_images.specs.Held.{AreSure}
+use Rattle.law_start.proofs.Growing.{all_at}
 use Rattle.block_shelf.specs.View.{GatesStand, gate_at}
 use Rattle.cold_scan.specs.Found.{IsSure, TellsSector, AreGates}
 use Rattle.cold_scan.proofs.Scans.{each_block}

@@ -3,15 +3,15 @@ use Rattle.std.proofs.Common.{◌≡◌, inl, inr, ℕ, Bool, true, false, cond,
 use Rattle.std.specs.Prelude.{Option, Some, None, Result, Ok, Err, IfOk, IfErr, MatchResult}
 use Rattle.std.proofs.Math.Nat.{le_refl}
 use Rattle.std.proofs.lemmas.Bool.{false≢true}
-use Rattle.fault_count.specs.Counts.{Rose}
+use Rattle.model_faults.specs.Counts.{Rose}
 use Rattle.rec_format.specs.declared.version.Digest.{Digest}
 use Rattle.rec_format.specs.declared.version.Version.{Version}
 use Rattle.rec_format.specs.declared.entry.Entry.{Entry}
-use Rattle.device_model.specs.Book.{Setup, live_of}
-use Rattle.device_model.specs.Device as device
-use Rattle.device_model.specs.Device.{State}
-use Rattle.device_model.specs.Events.{Event, get_call, found_version}
-use Rattle.device_model.specs.Legal.{Allowed, Reads, WhereReads}
+use Rattle.model_device.specs.Book.{Setup, live_of}
+use Rattle.model_device.specs.Device as device
+use Rattle.model_device.specs.Device.{State}
+use Rattle.model_device.specs.Events.{Event, get_call, found_version}
+use Rattle.model_device.specs.Legal.{Allowed, Reads, WhereReads}
 use Rattle.disk_model.specs.Disk.{DiskView, IsDisk, IsHonest}
 use Rattle.expiry_rule.specs.Seen.{seen_entry, is_live_entry}
 use Rattle.write_buffer.specs.declared.stream.Stream.{Stream}
@@ -26,18 +26,18 @@ use Rattle.block_shelf.specs.Calls.{copy_live}
 use Rattle.block_shelf.specs.Reads.{HasRead, IsUndamaged}
 use Rattle.rec_format.specs.Entries.{Names}
 use Rattle.block_shelf.proofs.Going.{goes_none}
-use Rattle.device_model.specs.Device.{part_of}
+use Rattle.model_device.specs.Device.{part_of}
 use Rattle.sprig_tree.specs.Entries.{entry_of}
 use Rattle.sprig_tree.specs.State.{SprigState}
-use Rattle.shard_steps.specs.Sprigs.{place_of}
-use Rattle.shard_steps.specs.Standing.{StandTogether}
+use Rattle.law_steps.specs.Sprigs.{place_of}
+use Rattle.law_steps.specs.Standing.{StandTogether}
 use Rattle.shard_core.specs.Calls.{HasGot, read_answer}
-use Rattle.shard_steps.specs.Events.{StepMakes}
-use Rattle.shard_steps.proofs.Making.{makes_by}
+use Rattle.law_steps.specs.Events.{StepMakes}
+use Rattle.law_steps.proofs.Making.{makes_by}
 use Rattle.block_shelf.proofs.Looking.{goes_read, stands_over}
-use Rattle.shard_steps.proofs.Reading.{both_named}
+use Rattle.law_steps.proofs.Reading.{both_named}
 use Rattle.shard_core.proofs.Found.{SeenIs, seen_none}
-use Rattle.shard_steps.proofs.Found.{entry_named, live_found}
+use Rattle.law_steps.proofs.Found.{entry_named, live_found}
 
 -- ---- what was read
 

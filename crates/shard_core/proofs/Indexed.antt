@@ -13,20 +13,20 @@ use Rattle.rec_format.specs.declared.entry.Entry.{Entry}
 use Rattle.rec_format.specs.Places.{same_digest, device_number, digest_cmp}
 use Rattle.rec_format.specs.Versions.{is_later}
 use Rattle.rec_format.proofs.Laws.{same_digest_is, same_digest_refl}
-use Rattle.device_model.specs.Book.{Setup}
-use Rattle.device_model.specs.Device.{part_of}
+use Rattle.model_device.specs.Book.{Setup}
+use Rattle.model_device.specs.Device.{part_of}
 use Rattle.block_format.specs.declared.geometry.Geometry.{Geometry}
 use Rattle.block_format.specs.Copies.{Copy, copies_named, latest, cold_copy, entry_for}
-use Rattle.recovery.specs.Cold.{copies_high}
-use Rattle.recovery.proofs.Each.{all_map}
-use Rattle.recovery.proofs.Growing.{all_at, all_from}
-use Rattle.recovery.proofs.Held.{IsNewest, latest_is}
-use Rattle.recovery.proofs.Members.{first_there, rest_there, filter_there, filter_from}
+use Rattle.law_start.specs.Cold.{copies_high}
+use Rattle.law_start.proofs.Each.{all_map}
+use Rattle.law_start.proofs.Growing.{all_at, all_from}
+use Rattle.law_start.proofs.Held.{IsNewest, latest_is}
+use Rattle.law_start.proofs.Members.{first_there, rest_there, filter_there, filter_from}
 use Rattle.sprig_tree.proofs.Digests.{digest_order}
 use Rattle.sprig_tree.specs.State.{SprigState}
-use Rattle.part_laws.specs.Starting.{HasLatest}
-use Rattle.part_laws.proofs.Finding.{no_copy, high_within}
-use Rattle.part_laws.proofs.Starting.{no_later_time, time_of_copy, chosen_there}
+use Rattle.law_sprig.specs.Starting.{HasLatest}
+use Rattle.law_sprig.proofs.Finding.{no_copy, high_within}
+use Rattle.law_sprig.proofs.Starting.{no_later_time, time_of_copy, chosen_there}
 use Rattle.cold_scan.specs.declared.bodies.Kept.{Kept}
 use Rattle.cold_scan.specs.Starting.{own_copies}
 use Rattle.cold_scan.specs.Found.{kept_of, HasKept}

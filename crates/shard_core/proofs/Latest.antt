@@ -6,15 +6,15 @@ use Rattle.std.proofs.lemmas.List.{append-nil, length-set}
 use Rattle.std.proofs.lemmas.Option.{slice_get_within, get_or_from_slice_get}
 use Rattle.std.proofs.lemmas.List.Elements.{Contains-get_or, filter-append}
 use Rattle.rec_format.specs.Places.{device_number}
-use Rattle.device_model.specs.Book.{Setup}
-use Rattle.device_model.specs.Device.{part_of}
-use Rattle.device_model.specs.Steps.{part_total}
+use Rattle.model_device.specs.Book.{Setup}
+use Rattle.model_device.specs.Device.{part_of}
+use Rattle.model_device.specs.Steps.{part_total}
 use Rattle.block_format.specs.Copies.{Copy, entry_for}
-use Rattle.recovery.proofs.Growing.{all_at}
+use Rattle.law_start.proofs.Growing.{all_at}
 use Rattle.sprig_tree.specs.State.{SprigState}
-use Rattle.part_laws.specs.Starting.{HasLatest, TakesLater, AllHaveLatest}
-use Rattle.part_laws.proofs.Starting.{none_yet}
-use Rattle.part_laws.proofs.Finding.{all_take}
+use Rattle.law_sprig.specs.Starting.{HasLatest, TakesLater, AllHaveLatest}
+use Rattle.law_sprig.proofs.Starting.{none_yet}
+use Rattle.law_sprig.proofs.Finding.{all_take}
 use Rattle.shard_core.specs.Sprigs.{IsEmptySprig}
 use Rattle.cold_scan.specs.Starting.{own_copies}
 use Rattle.shard_core.specs.Finding.{KeepsOne, AreLatest}

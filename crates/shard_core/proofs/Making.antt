@@ -2,17 +2,17 @@
 use Rattle.std.proofs.Common.{◌≡◌, ℕ, ◌<◌, ◌≤◌, Bool, true, false, List, ◌++◌, length, set, get_or, refl, sym, ◌∙◌, ap, subst, inl, inr}
 use Rattle.std.specs.Prelude.{Some, None, Result, Ok, Err, OnErr, slice_get}
 use Rattle.std.specs.List.{AllByRecursion}
-use Rattle.fault_count.specs.Counts.{Rose}
-use Rattle.device_model.specs.Book.{Setup}
-use Rattle.device_model.specs.Device.{State, part_of}
-use Rattle.device_model.specs.Steps.{Step, after_steps}
-use Rattle.device_model.specs.Events.{Event, Call, Answer, counted, after_event}
-use Rattle.device_model.specs.Passes.{part_named}
+use Rattle.model_faults.specs.Counts.{Rose}
+use Rattle.model_device.specs.Book.{Setup}
+use Rattle.model_device.specs.Device.{State, part_of}
+use Rattle.model_device.specs.Steps.{Step, after_steps}
+use Rattle.model_device.specs.Events.{Event, Call, Answer, counted, after_event}
+use Rattle.model_device.specs.Passes.{part_named}
 use Rattle.sprig_tree.specs.State.{SprigState}
-use Rattle.part_laws.specs.Parts.{FitsParts, NamesOwn}
-use Rattle.part_laws.proofs.Device.{parts_fit_on, parts_become}
+use Rattle.law_sprig.specs.Parts.{FitsParts, NamesOwn}
+use Rattle.law_sprig.proofs.Device.{parts_fit_on, parts_become}
 use Rattle.shard_core.proofs.Each.{all_get, all_set, get_there, set_same}
-use Rattle.device_model.specs.Legal.{Allowed, FlushEnds, flush_all}
+use Rattle.model_device.specs.Legal.{Allowed, FlushEnds, flush_all}
 use Rattle.disk_model.specs.Disk.{DiskView}
 use Rattle.block_shelf.specs.View.{IsSetupOf, ShelfView}
 use Rattle.block_shelf.specs.Calls.{Goes}
@@ -20,15 +20,15 @@ use Rattle.block_format.specs.declared.geometry.Geometry.{Geometry}
 use Rattle.shard_core.specs.declared.settings.Settings.{Settings}
 use Rattle.shard_core.specs.View.{ShardView, IsSettings, SameSetup, limits_of, setup_for, setup_of}
 use Rattle.shard_core.specs.Sprigs.{AreSame, entry_in, held}
-use Rattle.shard_steps.specs.Sprigs.{HasTimes, SameSprig}
+use Rattle.law_steps.specs.Sprigs.{HasTimes, SameSprig}
 use Rattle.sprig_tree.specs.Entries.{entry_of}
 use Rattle.rec_format.specs.declared.version.Digest.{Digest}
 use Rattle.shard_core.specs.Stands.{Agrees, IsWhole}
-use Rattle.shard_steps.specs.Standing.{ShelfStands, StandTogether}
+use Rattle.law_steps.specs.Standing.{ShelfStands, StandTogether}
 use Rattle.shard_core.specs.Calls.{Makes, FlushesAll, flush_answer}
-use Rattle.shard_steps.specs.Events.{MakesEvent, StepMakes}
+use Rattle.law_steps.specs.Events.{MakesEvent, StepMakes}
 use Rattle.shard_raid.specs.Raids.{StandOn}
-use Rattle.shard_steps.proofs.Making.{IsFlushing, event_of, makes_by}
+use Rattle.law_steps.proofs.Making.{IsFlushing, event_of, makes_by}
 use Rattle.block_shelf.specs.declared.place.ShelfLimits.{ShelfLimits}
 
 -- ---- how a flush ends

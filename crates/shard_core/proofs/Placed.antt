@@ -5,11 +5,11 @@ use Rattle.rec_format.specs.declared.version.Digest.{Digest}
 use Rattle.rec_format.specs.declared.version.Version.{Version}
 use Rattle.rec_format.specs.Places.{same_digest}
 use Rattle.rec_format.specs.Versions.{version_units}
-use Rattle.device_model.specs.Book.{Setup, Book, Buffer, Live, client, is_filling, same_stream, filling_buffer, has_room, with_new_buffer, with_room, used_more, put_in, placed, refreshed, placing_number, live_of, without_live}
-use Rattle.device_model.specs.Device.{State}
-use Rattle.device_model.specs.Steps.{wrote, after_step}
+use Rattle.model_device.specs.Book.{Setup, Book, Buffer, Live, client, is_filling, same_stream, filling_buffer, has_room, with_new_buffer, with_room, used_more, put_in, placed, refreshed, placing_number, live_of, without_live}
+use Rattle.model_device.specs.Device.{State}
+use Rattle.model_device.specs.Steps.{wrote, after_step}
 use Rattle.rec_format.proofs.Laws.{same_digest_refl}
-use Rattle.recovery.proofs.Placing.{Room, room_of}
+use Rattle.law_start.proofs.Placing.{Room, room_of}
 
 -- ---- the buffer that takes a copy
 

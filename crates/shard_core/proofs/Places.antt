@@ -13,18 +13,18 @@ use Rattle.rec_format.specs.declared.version.Version.{Version}
 use Rattle.rec_format.specs.declared.entry.Entry.{Entry}
 use Rattle.rec_format.specs.Places.{digest_cmp, same_digest, device_number}
 use Rattle.rec_format.proofs.Laws.{same_digest_is, same_digest_refl}
-use Rattle.device_model.specs.Book.{Live, live_of, live_of_entry}
-use Rattle.device_model.specs.Device.{State, entry, part_of, digests_of}
+use Rattle.model_device.specs.Book.{Live, live_of, live_of_entry}
+use Rattle.model_device.specs.Device.{State, entry, part_of, digests_of}
 use Rattle.disk_model.specs.Disk.{DiskView}
-use Rattle.kept_trail.proofs.Placing.{find_there}
+use Rattle.law_trail.proofs.Placing.{find_there}
 use Rattle.unit_ledger.specs.declared.roll.LiveCopy.{LiveCopy}
 use Rattle.unit_ledger.specs.Rolls.{copies_in}
 use Rattle.sprig_tree.specs.State.{SprigState}
 use Rattle.sprig_tree.specs.Entries.{entry_of}
-use Rattle.part_laws.proofs.Alike.{Says}
-use Rattle.part_laws.proofs.Counting.{part_exists}
-use Rattle.part_laws.proofs.Ordered.{AreInOrder, IsBelowAll}
-use Rattle.part_laws.proofs.Showing.{logged_order}
+use Rattle.law_sprig.proofs.Alike.{Says}
+use Rattle.law_sprig.proofs.Counting.{part_exists}
+use Rattle.law_sprig.proofs.Ordered.{AreInOrder, IsBelowAll}
+use Rattle.law_sprig.proofs.Showing.{logged_order}
 use Rattle.block_shelf.specs.View.{IsShelf, AreApart}
 use Rattle.block_shelf.proofs.Blocks.{few}
 use Rattle.block_shelf.proofs.Rolls.{same_unit}

@@ -9,28 +9,28 @@ use Rattle.rec_format.specs.declared.version.Version.{Version}
 use Rattle.rec_format.specs.declared.entry.Entry.{Entry}
 use Rattle.rec_format.specs.Places.{device_number}
 use Rattle.rec_format.specs.Versions.{a_put, a_tombstone, units_for, version_units, new_stamp, wanted_stamp, void_time, top_number}
-use Rattle.device_model.specs.Book.{Setup, client}
-use Rattle.device_model.specs.Device.{State, entry_is_covered, next_stamp_of, part_of}
-use Rattle.device_model.specs.Events.{Event, Call, Answer, Cause, put_call, stamp_given, refused, too_big, wrong_generation, spent, no_memory}
-use Rattle.device_model.specs.Legal.{Allowed, Unless, WriteEnds, NoMemory, the_stamp, new_put, put_refusal, put_reserve, tombstone_reserve, no_write, no_place, first_cause, not_expected}
+use Rattle.model_device.specs.Book.{Setup, client}
+use Rattle.model_device.specs.Device.{State, entry_is_covered, next_stamp_of, part_of}
+use Rattle.model_device.specs.Events.{Event, Call, Answer, Cause, put_call, stamp_given, refused, too_big, wrong_generation, spent, no_memory}
+use Rattle.model_device.specs.Legal.{Allowed, Unless, WriteEnds, NoMemory, the_stamp, new_put, put_refusal, put_reserve, tombstone_reserve, no_write, no_place, first_cause, not_expected}
 use Rattle.disk_model.specs.Disk.{DiskView, IsDisk}
 use Rattle.tomb_rules.specs.Covers.{cover_of}
 use Rattle.sprig_tree.specs.Entries.{entry_of}
 use Rattle.sprig_tree.specs.State.{SprigState}
-use Rattle.part_laws.specs.Tests.{stamp_found, generation_seen}
-use Rattle.part_laws.proofs.Taking.{at_entry}
-use Rattle.part_laws.proofs.Looking.{next_stamp_is, cover_is, generation_found, new_put_is}
+use Rattle.law_sprig.specs.Tests.{stamp_found, generation_seen}
+use Rattle.law_sprig.proofs.Taking.{at_entry}
+use Rattle.law_sprig.proofs.Looking.{next_stamp_is, cover_is, generation_found, new_put_is}
 use Rattle.block_shelf.specs.declared.place.Class.TheVariants as class
 use Rattle.block_shelf.specs.View.{ShelfView}
 use Rattle.block_shelf.specs.Appends.{append_refusal}
 use Rattle.shard_core.specs.declared.refusals.WriteRefusal.{WriteRefusal}
 use Rattle.shard_core.specs.declared.refusals.WriteRefusal.TheVariants as write
-use Rattle.shard_steps.specs.Standing.{SprigStands, StandTogether}
+use Rattle.law_steps.specs.Standing.{SprigStands, StandTogether}
 use Rattle.shard_core.specs.Calls.{cause_of_write, IsRefusedStep}
-use Rattle.shard_steps.specs.Events.{StepMakes}
+use Rattle.law_steps.specs.Events.{StepMakes}
 use Rattle.shard_core.specs.Writing.{IsWriteOf, IsEntombing, WrittenOrNot, IsExpected, IsFit, IsUnfit}
 use Rattle.block_shelf.proofs.Going.{goes_none}
-use Rattle.shard_steps.proofs.Making.{makes_by}
+use Rattle.law_steps.proofs.Making.{makes_by}
 
 -- ---- the stamp
 

@@ -4,21 +4,21 @@ use Rattle.std.specs.Prelude.{◌==◌, Some, count_by, slice_get, Result, Ok, E
 use Rattle.std.proofs.Math.Nat.{suc-mul, le_refl}
 use Rattle.std.proofs.lemmas.Bool.{and_parts, eq-eqb, eqb-true}
 use Rattle.std.proofs.lemmas.List.Sums.{sum_by-cons}
-use Rattle.fault_count.specs.Counts.{Rose}
+use Rattle.model_faults.specs.Counts.{Rose}
 use Rattle.disk_model.specs.Disk.{DiskView, IsDisk, IsHonest}
 use Rattle.rec_format.specs.declared.version.Digest.{Digest}
 use Rattle.rec_format.specs.declared.version.Stamp.{Stamp}
-use Rattle.device_model.specs.Book.{Setup, Book}
-use Rattle.device_model.specs.Device.{State, Turn, mark_turn, scan_turn, apply_turn, drop_turn, finished}
-use Rattle.device_model.specs.Steps.{Step, scanned_block, part_total, after_step, after_steps}
-use Rattle.recovery.proofs.Turns.{same_turn_is}
-use Rattle.device_model.specs.Events.{Event, Call, turn_call, after_event, raid_over, refused, stale}
-use Rattle.device_model.specs.Passes.{turn_part}
-use Rattle.device_model.specs.Legal.{Allowed, Only, TurnEnds, same_turn}
-use Rattle.kept_facts.specs.Facts.{Possible, SamePossible}
-use Rattle.kept_facts.specs.Asking.{ScansAll, ScansOnly}
-use Rattle.kept_images.specs.Kept.{possible_in}
-use Rattle.kept_images.specs.Held.{loosened}
+use Rattle.model_device.specs.Book.{Setup, Book}
+use Rattle.model_device.specs.Device.{State, Turn, mark_turn, scan_turn, apply_turn, drop_turn, finished}
+use Rattle.model_device.specs.Steps.{Step, scanned_block, part_total, after_step, after_steps}
+use Rattle.law_start.proofs.Turns.{same_turn_is}
+use Rattle.model_device.specs.Events.{Event, Call, turn_call, after_event, raid_over, refused, stale}
+use Rattle.model_device.specs.Passes.{turn_part}
+use Rattle.model_device.specs.Legal.{Allowed, Only, TurnEnds, same_turn}
+use Rattle.law_facts.specs.Facts.{Possible, SamePossible}
+use Rattle.law_facts.specs.Asking.{ScansAll, ScansOnly}
+use Rattle.law_images.specs.Kept.{possible_in}
+use Rattle.law_images.specs.Held.{loosened}
 use Rattle.raid_book.specs.declared.turn.RaidNext.{RaidNext}
 use Rattle.raid_book.specs.declared.turn.RaidNext.TheVariants.{Mark, Scan, Apply, Drop, Finished}
 use Rattle.raid_book.specs.Books.{BookState, FitsTurn, given_up, with_scan}
@@ -33,9 +33,9 @@ use Rattle.block_shelf.proofs.Going.{goes_none}
 use Rattle.rec_format.specs.declared.entry.Entry.{Entry}
 use Rattle.sprig_tree.specs.Tallies.{is_tomb_entry, is_put_entry}
 use Rattle.sprig_tree.specs.State.{SprigState}
-use Rattle.shard_steps.specs.Standing.{ShelfStands, StandTogether}
-use Rattle.shard_steps.specs.Events.{StepMakes}
-use Rattle.shard_steps.proofs.Making.{event_of}
+use Rattle.law_steps.specs.Standing.{ShelfStands, StandTogether}
+use Rattle.law_steps.specs.Events.{StepMakes}
+use Rattle.law_steps.proofs.Making.{event_of}
 use Rattle.shard_raid.specs.Raids.{RaidView, IsNext, turns_left}
 use Rattle.shard_raid.specs.Scans.{ScanMakes, IsDamageOf, IsOfTurn, scan_answer}
 use Rattle.shard_raid.specs.declared.scan.RaidRefusal.{RaidRefusal}

@@ -4,7 +4,7 @@ use Rattle.std.proofs.lemmas.List.{take_all}
 use Rattle.rec_format.specs.Versions.{top_number}
 use Rattle.block_format.specs.Layout.{Body}
 use Rattle.block_format.specs.Copies.{copies_of}
-use Rattle.recovery.specs.Start.{greatest_number}
+use Rattle.law_start.specs.Start.{greatest_number}
 use Rattle.cold_scan.specs.declared.device.Finding as scanned
 use Rattle.cold_scan.specs.Found.{set_blocks, HasFound}
 use Rattle.shard_core.specs.declared.settings.Settings.{Settings}

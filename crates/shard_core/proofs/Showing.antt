@@ -4,14 +4,14 @@ use Rattle.std.specs.Prelude.{◌==◌}
 use Rattle.std.proofs.lemmas.Bool.{cond-true, eq-eqb}
 use Rattle.rec_format.specs.declared.version.Digest.{Digest}
 use Rattle.rec_format.specs.Places.{device_number}
-use Rattle.device_model.specs.Book.{Setup}
-use Rattle.device_model.specs.Device.{entry}
+use Rattle.model_device.specs.Book.{Setup}
+use Rattle.model_device.specs.Device.{entry}
 use Rattle.block_format.specs.Layout.{Body}
 use Rattle.block_format.specs.Copies.{Copy, copies_of, version_of, cold}
-use Rattle.recovery.specs.Start.{greatest_number, cold_copies}
-use Rattle.recovery.specs.Sound.{IsSound, NoStrays}
-use Rattle.recovery.proofs.StartLive.{found_first}
-use Rattle.part_laws.proofs.Starting.{entries_show}
+use Rattle.law_start.specs.Start.{greatest_number, cold_copies}
+use Rattle.law_start.specs.Sound.{IsSound, NoStrays}
+use Rattle.law_start.proofs.StartLive.{found_first}
+use Rattle.law_sprig.proofs.Starting.{entries_show}
 use Rattle.cold_scan.specs.Starting.{own_copies}
 use Rattle.cold_scan.specs.Found.{found_state}
 

@@ -6,12 +6,12 @@ use Rattle.std.proofs.lemmas.List.Sums.{sum_by-set, sum_by-cons, length-filter}
 use Rattle.rec_format.specs.declared.version.Digest.{Digest}
 use Rattle.rec_format.specs.declared.version.Version.{Version}
 use Rattle.rec_format.specs.Versions.{is_put, is_tombstone, is_expired_put}
-use Rattle.device_model.specs.Device.{State, entry, entry_passes, entry_is_covered, part_of, digests_of, expired_in, put_count, tombstone_count, covered_count}
+use Rattle.model_device.specs.Device.{State, entry, entry_passes, entry_is_covered, part_of, digests_of, expired_in, put_count, tombstone_count, covered_count}
 use Rattle.disk_model.specs.Disk.{DiskView}
 use Rattle.sprig_tree.specs.declared.tally.Tally.{Tally}
 use Rattle.sprig_tree.specs.State.{SprigState}
 use Rattle.sprig_tree.specs.Tallies.{tally_of, is_tomb_entry, is_put_entry, joined, parted}
-use Rattle.part_laws.proofs.Counting.{puts_sum, tombstones_sum, covered_sum}
+use Rattle.law_sprig.proofs.Counting.{puts_sum, tombstones_sum, covered_sum}
 use Rattle.block_shelf.specs.View.{IsShelf}
 use Rattle.shard_core.specs.Stands.{Agrees, IsWhole}
 use Rattle.shard_core.specs.Numbers.{tally_sum}

@@ -2,10 +2,10 @@
 use Rattle.std.proofs.Common.{◌≡◌, Bool, true, false, List, [], ◌∷◌, refl, sym, subst, arith}
 use Rattle.std.specs.Prelude.{MatchBool, Option, Some, None, Result, Ok, Err}
 use Rattle.disk_model.specs.Disk.{DiskView, IsHonest}
-use Rattle.device_model.specs.Book.{Setup}
-use Rattle.device_model.specs.Device.{State}
-use Rattle.device_model.specs.Events.{Event, flush_sealed_call, after_event}
-use Rattle.device_model.specs.Vacating.{Outcome, did, stopped, Vacates, can_gain, Tends}
+use Rattle.model_device.specs.Book.{Setup}
+use Rattle.model_device.specs.Device.{State}
+use Rattle.model_device.specs.Events.{Event, flush_sealed_call, after_event}
+use Rattle.model_device.specs.Vacating.{Outcome, did, stopped, Vacates, can_gain, Tends}
 use Rattle.shard_core.specs.declared.refusals.DefragRefusal.{DefragRefusal}
 use Rattle.shard_core.specs.declared.defrag.Vacated.{Vacated}
 use Rattle.shard_core.specs.View.{ShardView, SameSetup, setup_of}
@@ -14,8 +14,8 @@ use Rattle.shard_core.specs.Calls.{MakesAny}
 use Rattle.shard_core.specs.Vacating.{MakesEvents, TendsWell, IsVacating}
 use Rattle.shard_core.proofs.Making.{setup_is, setup_same}
 use Rattle.block_shelf.specs.View.{IsShelf}
-use Rattle.room_laws.proofs.Gaining.{gains}
-use Rattle.room_laws.proofs.Finding.{finds}
+use Rattle.law_room.proofs.Gaining.{gains}
+use Rattle.law_room.proofs.Finding.{finds}
 use Rattle.shard_core.proofs.Tidy.{tidy_for}
 use Rattle.shard_core.proofs.Events.{RunsBy, runs_one, runs_then, makes_events, runs_made}
 

@@ -4,9 +4,9 @@ use Rattle.std.specs.Prelude.{◌==◌, count_by}
 use Rattle.std.specs.List.{AllByRecursion, IsDistinct}
 use Rattle.std.proofs.lemmas.List.Sums.{sum_by-cons}
 use Rattle.disk_model.specs.Disk.{DiskView}
-use Rattle.device_model.specs.Book.{Setup, Buffer, client, defrag}
-use Rattle.device_model.specs.Book as book
-use Rattle.device_model.specs.Device.{State}
+use Rattle.model_device.specs.Book.{Setup, Buffer, client, defrag}
+use Rattle.model_device.specs.Book as book
+use Rattle.model_device.specs.Device.{State}
 use Rattle.write_buffer.specs.declared.stream.Stream.{Stream}
 use Rattle.write_buffer.specs.declared.stream.Stream.TheVariants.{Client, Defrag}
 use Rattle.write_buffer.specs.Buffers.{BufferState}
@@ -15,7 +15,7 @@ use Rattle.block_shelf.specs.View as shelf_view
 use Rattle.block_shelf.specs.Standing.{StandsFor, BooksStand, book_buffer, book_stream}
 use Rattle.block_shelf.proofs.Blocks.{distinct, apart_back}
 use Rattle.block_shelf.proofs.Filling.{fills_booked, one_before}
-use Rattle.room_laws.specs.Tidy.{IsTidy, fills}
+use Rattle.law_room.specs.Tidy.{IsTidy, fills}
 
 abbrev count : Stream → List BufferState → ℕ
 count stream bs = count_by (fills (book_stream stream)) (map book_buffer bs)

@@ -2,24 +2,24 @@
 use Rattle.std.proofs.Common.{◌≡◌, inl, inr, ℕ, ◌≤◌, Bool, true, false, List, [], ◌∷◌, ◌++◌, refl, sym, ◌∙◌, ap, subst}
 use Rattle.std.specs.Prelude.{Option, Some, None, Result, Ok, Err, if◌then◌else◌}
 use Rattle.std.specs.List.{AllByRecursion}
-use Rattle.fault_count.specs.Counts.{Rose}
+use Rattle.model_faults.specs.Counts.{Rose}
 use Rattle.rec_format.specs.declared.version.Digest.{Digest}
 use Rattle.rec_format.specs.declared.version.Version.{Version}
 use Rattle.rec_format.specs.Entries.{entry_at}
 use Rattle.rec_format.specs.Versions.{version_units}
-use Rattle.device_model.specs.Book.{Setup, Book, Live, client, has_room, placing_number, live_of, live_of_entry}
-use Rattle.device_model.specs.Device.{State, part_of}
-use Rattle.device_model.specs.Steps.{Step, wrote, sealed_stream, after_step, after_steps}
-use Rattle.device_model.specs.Events.{Event, Call, Answer, refused, Cause, too_big, spent, overload, no_space, disk_fault}
-use Rattle.device_model.specs.Legal.{Allowed, Unless, WriteEnds, flush_between, StopsIn}
+use Rattle.model_device.specs.Book.{Setup, Book, Live, client, has_room, placing_number, live_of, live_of_entry}
+use Rattle.model_device.specs.Device.{State, part_of}
+use Rattle.model_device.specs.Steps.{Step, wrote, sealed_stream, after_step, after_steps}
+use Rattle.model_device.specs.Events.{Event, Call, Answer, refused, Cause, too_big, spent, overload, no_space, disk_fault}
+use Rattle.model_device.specs.Legal.{Allowed, Unless, WriteEnds, flush_between, StopsIn}
 use Rattle.disk_model.specs.Disk.{DiskView, IsHonest}
-use Rattle.kept_facts.specs.Facts.{Possible, HasFacts}
-use Rattle.kept_facts.specs.Asking.{MayBeWritten}
-use Rattle.kept_facts.proofs.Writable.{next_is_later}
-use Rattle.recovery.proofs.Opening.{all_parted}
+use Rattle.law_facts.specs.Facts.{Possible, HasFacts}
+use Rattle.law_facts.specs.Asking.{MayBeWritten}
+use Rattle.law_facts.proofs.Writable.{next_is_later}
+use Rattle.law_start.proofs.Opening.{all_parted}
 use Rattle.sprig_tree.specs.State.{SprigState}
-use Rattle.part_laws.specs.Becoming.{TakesEntry}
-use Rattle.part_laws.proofs.Taking.{wrote_fits, put_each}
+use Rattle.law_sprig.specs.Becoming.{TakesEntry}
+use Rattle.law_sprig.proofs.Taking.{wrote_fits, put_each}
 use Rattle.block_shelf.specs.declared.place.Place.{Place}
 use Rattle.block_shelf.specs.declared.place.Class.{Class}
 use Rattle.block_shelf.specs.declared.place.Class.TheVariants as class
@@ -32,12 +32,12 @@ use Rattle.block_shelf.specs.Calls.{Goes, copy_live}
 use Rattle.block_shelf.specs.Appends.{IsAppendRefusal, IsCopyOf, TakesIn, append_refusal, refused_steps, stream_of, IsLeftBy}
 use Rattle.shard_core.specs.declared.refusals.WriteRefusal.{WriteRefusal}
 use Rattle.shard_core.specs.declared.refusals.WriteRefusal.TheVariants as write_refusals
-use Rattle.shard_steps.specs.Standing.{SprigStands, StandTogether}
+use Rattle.law_steps.specs.Standing.{SprigStands, StandTogether}
 use Rattle.shard_core.specs.Calls.{FlushesAll, cause_of_write, write_of, IsShelfLeft}
-use Rattle.shard_steps.specs.Events.{StepMakes}
+use Rattle.law_steps.specs.Events.{StepMakes}
 use Rattle.shard_core.specs.Writing.{IsWriteOf, Wrote, IsUnwritten, Commits}
 use Rattle.block_shelf.proofs.Going.{goes_then}
-use Rattle.shard_steps.proofs.Making.{IsFlushing, between_flushing, together_on, makes_by}
+use Rattle.law_steps.proofs.Making.{IsFlushing, between_flushing, together_on, makes_by}
 use Rattle.shard_core.proofs.Placed.{copy_in, wrote_filling}
 
 -- ---- a copy that was appended and entered

@@ -1,8 +1,8 @@
 -- Crate shard_core. What a start comes to on the disk of a shard that was stopped.
 use Rattle.std.specs.Prelude.{◌≡◌, ℕ, List}
 use Rattle.disk_model.specs.Disk.{DiskView}
-use Rattle.device_model.specs.Device.{State}
-use Rattle.recovery.specs.Start.{Restarts}
+use Rattle.model_device.specs.Device.{State}
+use Rattle.law_start.specs.Start.{Restarts}
 use Rattle.cold_scan.specs.declared.header.StartCause.{StartCause}
 use Rattle.cold_scan.specs.declared.header.StartCause.TheVariants.{NotFormatted, OtherGeometry, DamagedBlock, Memory, Fault}
 use Rattle.shard_core.specs.View.{ShardView, setup_of}

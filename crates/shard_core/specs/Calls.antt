@@ -5,10 +5,10 @@ use Rattle.rec_format.specs.declared.version.Digest.{Digest}
 use Rattle.rec_format.specs.declared.version.Stamp.{Stamp}
 use Rattle.rec_format.specs.declared.version.Version.{Version}
 use Rattle.rec_format.specs.declared.entry.Entry.{Entry}
-use Rattle.device_model.specs.Device.{State, seen}
-use Rattle.device_model.specs.Steps.{Step}
-use Rattle.device_model.specs.Events.{Call, Answer, stamp_given, happened, found_version, counted, refused, Cause, too_big, wrong_generation, spent, overload, no_space, no_memory, disk_fault}
-use Rattle.device_model.specs.Legal.{flush_count, StopsIn}
+use Rattle.model_device.specs.Device.{State, seen}
+use Rattle.model_device.specs.Steps.{Step}
+use Rattle.model_device.specs.Events.{Call, Answer, stamp_given, happened, found_version, counted, refused, Cause, too_big, wrong_generation, spent, overload, no_space, no_memory, disk_fault}
+use Rattle.model_device.specs.Legal.{flush_count, StopsIn}
 use Rattle.disk_model.specs.Disk.{DiskView}
 use Rattle.expiry_rule.specs.Seen.{seen_entry}
 use Rattle.write_buffer.specs.declared.stream.Stream.TheVariants.{Client}
@@ -27,10 +27,10 @@ use Rattle.sprig_tree.specs.State.{SprigState}
 use Rattle.block_shelf.specs.View.{ShelfView, in_memory}
 use Rattle.block_shelf.specs.Changes.{SameButRoom}
 use Rattle.shard_core.specs.Sprigs.{AreSame, held}
-use Rattle.shard_steps.specs.Sprigs.{SameSprig, place_of}
+use Rattle.law_steps.specs.Sprigs.{SameSprig, place_of}
 use Rattle.shard_core.specs.View.{ShardView, setup_of}
 use Rattle.shard_core.specs.Stands.{Agrees}
-use Rattle.shard_steps.specs.Events.{MakesEvent, cause_of_read}
+use Rattle.law_steps.specs.Events.{MakesEvent, cause_of_read}
 
 abbrev pub cause_of_write : WriteRefusal → Cause
 cause_of_write (write.Big units capacity) = too_big units capacity

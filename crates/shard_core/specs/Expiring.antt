@@ -2,11 +2,11 @@
 use Rattle.std.specs.Prelude.{◌≡◌, ℕ, false, List, [], filter, Option, Some, None, Result, Ok, Err, slice_get}
 use Rattle.rec_format.specs.declared.version.Digest.{Digest}
 use Rattle.rec_format.specs.declared.entry.Entry.{Entry}
-use Rattle.device_model.specs.Device.{State, part_of}
-use Rattle.device_model.specs.Events.{Event}
-use Rattle.device_model.specs.Expiring.{ExpiresPart}
-use Rattle.device_model.specs.Passes.{AnswersCount, is_behind}
-use Rattle.device_model.specs.Vacating.{did, stopped}
+use Rattle.model_device.specs.Device.{State, part_of}
+use Rattle.model_device.specs.Events.{Event}
+use Rattle.model_device.specs.Expiring.{ExpiresPart}
+use Rattle.model_device.specs.Passes.{AnswersCount, is_behind}
+use Rattle.model_device.specs.Vacating.{did, stopped}
 use Rattle.expiry_rule.specs.Seen.{is_expired_entry, expired_entry}
 use Rattle.tomb_rules.specs.Covers.{cover_of}
 use Rattle.sprig_tree.specs.Entries.{digests_in}

@@ -5,20 +5,20 @@ use Rattle.rec_format.specs.declared.version.Digest.{Digest}
 use Rattle.rec_format.specs.declared.entry.Entry.{Entry}
 use Rattle.rec_format.specs.Places.{device_number}
 use Rattle.rec_format.specs.Versions.{top_number}
-use Rattle.device_model.specs.Book.{Setup}
-use Rattle.device_model.specs.Device.{part_of}
-use Rattle.device_model.specs.Steps.{part_total}
+use Rattle.model_device.specs.Book.{Setup}
+use Rattle.model_device.specs.Device.{part_of}
+use Rattle.model_device.specs.Steps.{part_total}
 use Rattle.sprig_tree.specs.State.{SprigState}
-use Rattle.part_laws.specs.Starting.{TakesLater, AllHaveLatest}
+use Rattle.law_sprig.specs.Starting.{TakesLater, AllHaveLatest}
 use Rattle.disk_model.specs.Bytes.{range}
 use Rattle.disk_model.specs.Disk.{Images, DiskView, IsHonest, IsOnly}
 use Rattle.block_format.specs.declared.geometry.Geometry.{Geometry}
 use Rattle.block_format.specs.declared.geometry.Gate.{Gate}
 use Rattle.block_format.specs.Layout.{IsClosed, gate_sector, Body}
 use Rattle.block_format.specs.Copies.{Copy, copies_of}
-use Rattle.recovery.specs.Start.{start_state, cold_copies, greatest_number}
-use Rattle.recovery.specs.Sound.{IsSound}
-use Rattle.kept_images.specs.Held.{AreSure}
+use Rattle.law_start.specs.Start.{start_state, cold_copies, greatest_number}
+use Rattle.law_start.specs.Sound.{IsSound}
+use Rattle.law_images.specs.Held.{AreSure}
 use Rattle.block_shelf.specs.View.{gate_at}
 use Rattle.block_shelf.specs.Starting.{AllHave}
 use Rattle.block_shelf.specs.Standing.{IsPlaced}
@@ -29,7 +29,7 @@ use Rattle.shard_core.specs.declared.index.Finding.{Finding}
 use Rattle.shard_core.specs.declared.settings.Settings.{Settings}
 use Rattle.block_shelf.specs.declared.place.Place.{Place}
 use Rattle.shard_core.specs.View.{ShardView, setup_for, setup_of}
-use Rattle.shard_steps.specs.Sprigs.{place_of}
+use Rattle.law_steps.specs.Sprigs.{place_of}
 use Rattle.shard_core.specs.Stands.{Agrees, IsSafe}
 use Rattle.shard_core.specs.Starting.{blocks_behind}
 use Rattle.cold_scan.specs.Found.{found_state}

@@ -1,8 +1,8 @@
 -- Crate shard_core. The numbers of a device, and the tally of its sprigs, which a shard keeps.
 use Rattle.std.specs.Prelude.{◌≡◌, ◌%◌, ◌^◌, ◌<◌, List, length, sum_by}
 use Rattle.rec_format.specs.declared.entry.Counts.{Counts}
-use Rattle.device_model.specs.Book.{held_blocks}
-use Rattle.device_model.specs.Device.{State, put_count, tombstone_count, covered_count}
+use Rattle.model_device.specs.Book.{held_blocks}
+use Rattle.model_device.specs.Device.{State, put_count, tombstone_count, covered_count}
 use Rattle.sprig_tree.specs.declared.tally.Tally.{Tally}
 use Rattle.sprig_tree.specs.State.{SprigState}
 use Rattle.sprig_tree.specs.Tallies.{tally_of}

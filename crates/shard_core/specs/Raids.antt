@@ -1,12 +1,12 @@
 -- Crate shard_core. What the turns of a raid answer, and what they make.
 use Rattle.std.specs.Prelude.{◌≡◌, ◌≢◌, ◌<◌, ◌≤◌, ◌^◌, ℕ, Result, Ok, Err, IfOk, IfErr, OnOk, OnErr}
-use Rattle.fault_count.specs.Counts.{Rose}
+use Rattle.model_faults.specs.Counts.{Rose}
 use Rattle.disk_model.specs.Disk.{DiskView, IsHonest}
-use Rattle.device_model.specs.Device.{State}
-use Rattle.device_model.specs.Events.{Answer, turn_call, marks_made, block_scanned, marks_undone, part_ended, raid_over, refused, after_event}
+use Rattle.model_device.specs.Device.{State}
+use Rattle.model_device.specs.Events.{Answer, turn_call, marks_made, block_scanned, marks_undone, part_ended, raid_over, refused, after_event}
 use Rattle.block_format.specs.Layout.{body_bytes}
-use Rattle.kept_facts.specs.Facts.{SamePossible}
-use Rattle.kept_facts.specs.Asking.{ScansAll, ScansOnly}
+use Rattle.law_facts.specs.Facts.{SamePossible}
+use Rattle.law_facts.specs.Asking.{ScansAll, ScansOnly}
 use Rattle.raid_book.specs.declared.turn.RaidNext.{RaidNext}
 use Rattle.raid_book.specs.declared.turn.RaidNext.TheVariants as turn
 use Rattle.raid_book.specs.Turns.{turn_of}

@@ -2,11 +2,11 @@
 use Rattle.std.specs.Prelude.{◌≡◌, List, [], ◌∷◌, Option, Some, None, slice_get, flat_map}
 use Rattle.rec_format.specs.declared.version.Digest.{Digest}
 use Rattle.rec_format.specs.declared.entry.Entry.{Entry}
-use Rattle.device_model.specs.Book.{Setup}
-use Rattle.device_model.specs.Device.{part_of}
+use Rattle.model_device.specs.Book.{Setup}
+use Rattle.model_device.specs.Device.{part_of}
 use Rattle.sprig_tree.specs.State.{SprigState}
 use Rattle.sprig_tree.specs.Entries.{entry_of}
-use Rattle.shard_steps.specs.Sprigs.{SameSprig}
+use Rattle.law_steps.specs.Sprigs.{SameSprig}
 
 -- the entry of a digest in a sprig, if there is one
 abbrev pub entry_in : Digest → Option SprigState → Option Entry

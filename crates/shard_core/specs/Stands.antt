@@ -1,11 +1,11 @@
 -- Crate shard_core. For which states of the model a shard stands.
 use Rattle.std.specs.Prelude.{◌≡◌}
 use Rattle.std.specs.List.{AllByRecursion}
-use Rattle.device_model.specs.Device.{State}
+use Rattle.model_device.specs.Device.{State}
 use Rattle.disk_model.specs.Disk.{DiskView}
-use Rattle.part_laws.specs.Parts.{FitsParts}
-use Rattle.shard_steps.specs.Sprigs.{HasTimes}
-use Rattle.shard_steps.specs.Standing.{ShelfStands, ShelfIsSafe}
+use Rattle.law_sprig.specs.Parts.{FitsParts}
+use Rattle.law_steps.specs.Sprigs.{HasTimes}
+use Rattle.law_steps.specs.Standing.{ShelfStands, ShelfIsSafe}
 use Rattle.shard_core.specs.View.{ShardView, IsSettings, limits_of, setup_of}
 
 -- ---- the whole shard

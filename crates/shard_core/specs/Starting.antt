@@ -3,11 +3,11 @@ use Rattle.std.specs.Prelude.{◌≡◌, ℕ, ◌+◌, ◌==◌, not, List, filt
 use Rattle.std.specs.List.{list_any, range_with_len}
 use Rattle.disk_model.specs.Disk.{DiskView, IsHonest}
 use Rattle.rec_format.specs.declared.version.Digest.{Digest}
-use Rattle.device_model.specs.Device.{entry}
+use Rattle.model_device.specs.Device.{entry}
 use Rattle.block_format.specs.Layout.{Body}
 use Rattle.block_format.specs.Copies.{Copy, copies_of, cold_copy, cold, entry_for}
-use Rattle.recovery.specs.Start.{start_state, cold_copies, greatest_number}
-use Rattle.recovery.specs.Sound.{IsSound}
+use Rattle.law_start.specs.Start.{start_state, cold_copies, greatest_number}
+use Rattle.law_start.specs.Sound.{IsSound}
 use Rattle.shard_core.specs.View.{ShardView, setup_of}
 use Rattle.block_shelf.specs.Standing.{IsPlaced}
 use Rattle.shard_core.specs.Sprigs.{held}

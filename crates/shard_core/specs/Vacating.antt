@@ -2,17 +2,17 @@
 use Rattle.std.specs.Prelude.{◌≡◌, ℕ, Bool, true, false, List, Option, Some, None, Result, Ok, Err, Contains}
 use Rattle.std.specs.List.{AllByRecursion}
 use Rattle.rec_format.specs.declared.version.Digest.{Digest}
-use Rattle.device_model.specs.Book.{Setup, Book, has_buffer, live_of}
-use Rattle.device_model.specs.Device.{State}
-use Rattle.device_model.specs.Events.{Event, Answer, move_call, happened, refused, Cause, spent, overload, no_space, damaged, no_memory, disk_fault, after_events, states_of}
-use Rattle.device_model.specs.Legal.{IsLegal, last_faults, queue_front, is_in_block}
-use Rattle.device_model.specs.Vacating.{IfRefused, MovesOut, Vacates, Tends, did, stopped, moved_count}
-use Rattle.room_laws.specs.Room.{GainsRoom, FindsRoom}
+use Rattle.model_device.specs.Book.{Setup, Book, has_buffer, live_of}
+use Rattle.model_device.specs.Device.{State}
+use Rattle.model_device.specs.Events.{Event, Answer, move_call, happened, refused, Cause, spent, overload, no_space, damaged, no_memory, disk_fault, after_events, states_of}
+use Rattle.model_device.specs.Legal.{IsLegal, last_faults, queue_front, is_in_block}
+use Rattle.model_device.specs.Vacating.{IfRefused, MovesOut, Vacates, Tends, did, stopped, moved_count}
+use Rattle.law_room.specs.Room.{GainsRoom, FindsRoom}
 use Rattle.disk_model.specs.Disk.{DiskView, IsHonest}
 use Rattle.disk_model.specs.Runs.{OneOf, Leaves}
-use Rattle.recovery.specs.Surviving.{Survives}
+use Rattle.law_start.specs.Surviving.{Survives}
 use Rattle.block_shelf.specs.Standing.{IsPlaced}
-use Rattle.shard_steps.specs.Standing.{ShelfIsSafe}
+use Rattle.law_steps.specs.Standing.{ShelfIsSafe}
 use Rattle.block_shelf.specs.declared.refusals.VacateRefusal.{VacateRefusal}
 use Rattle.block_shelf.specs.declared.refusals.VacateRefusal.TheVariants as vacate
 use Rattle.defrag_pass.specs.declared.refusal.MoveRefusal.{MoveRefusal}

@@ -2,7 +2,7 @@
 use Rattle.std.specs.Prelude.{◌≡◌, ◌≤◌, List}
 use Rattle.sprig_tree.specs.State.{SprigState}
 use Rattle.rec_format.specs.Versions.{block_capacity}
-use Rattle.device_model.specs.Book.{Setup}
+use Rattle.model_device.specs.Book.{Setup}
 use Rattle.block_format.specs.declared.geometry.Geometry.{Geometry}
 use Rattle.block_shelf.specs.declared.place.ShelfLimits.{ShelfLimits}
 use Rattle.block_shelf.specs.View.{ShelfView}

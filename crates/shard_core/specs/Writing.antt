@@ -5,16 +5,16 @@ use Rattle.rec_format.specs.declared.version.Digest.{Digest}
 use Rattle.rec_format.specs.declared.version.Stamp.{Stamp}
 use Rattle.rec_format.specs.declared.version.Version.{Version}
 use Rattle.rec_format.specs.Versions.{units_for, version_units, is_tombstone}
-use Rattle.device_model.specs.Book.{Setup, Buffer, client, filling_buffer, has_room, placing_number}
-use Rattle.device_model.specs.Device.{State, entry_is_covered, next_stamp_of, part_of}
-use Rattle.device_model.specs.Steps.{Step, wrote, after_step, states_through}
-use Rattle.device_model.specs.Events.{Event, Call, Answer, refused}
-use Rattle.device_model.specs.Legal.{Allowed, NoMemory, Unless, WriteEnds, Entombs, Removes, StopsIn}
+use Rattle.model_device.specs.Book.{Setup, Buffer, client, filling_buffer, has_room, placing_number}
+use Rattle.model_device.specs.Device.{State, entry_is_covered, next_stamp_of, part_of}
+use Rattle.model_device.specs.Steps.{Step, wrote, after_step, states_through}
+use Rattle.model_device.specs.Events.{Event, Call, Answer, refused}
+use Rattle.model_device.specs.Legal.{Allowed, NoMemory, Unless, WriteEnds, Entombs, Removes, StopsIn}
 use Rattle.disk_model.specs.Disk.{DiskView, IsHonest}
 use Rattle.disk_model.specs.Runs.{OneOf, Leaves}
-use Rattle.recovery.specs.Surviving.{Survives}
+use Rattle.law_start.specs.Surviving.{Survives}
 use Rattle.rec_format.specs.Places.{device_number}
-use Rattle.kept_facts.specs.Asking.{MayBeWritten}
+use Rattle.law_facts.specs.Asking.{MayBeWritten}
 use Rattle.sprig_tree.specs.State.{SprigState}
 use Rattle.block_shelf.specs.declared.place.Class.{Class}
 use Rattle.block_shelf.specs.declared.refusals.PutRefusal.{PutRefusal}
@@ -26,7 +26,7 @@ use Rattle.block_shelf.specs.Calls.{Goes}
 use Rattle.block_shelf.specs.Appends.{append_refusal, refused_steps, IsAppendRefusal}
 use Rattle.shard_core.specs.declared.refusals.WriteRefusal.{WriteRefusal}
 use Rattle.shard_core.specs.declared.refusals.WriteRefusal.TheVariants as write
-use Rattle.shard_steps.specs.Standing.{StandTogether, SprigStands}
+use Rattle.law_steps.specs.Standing.{StandTogether, SprigStands}
 use Rattle.shard_core.specs.Calls.{cause_of_write, write_of}
 
 -- ---- which calls write

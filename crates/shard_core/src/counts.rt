@@ -2,8 +2,8 @@
 ghost use Rattle.std.specs.Prelude.{◌≡◌, ◌<◌, ◌≤◌, ◌^◌, length};
 ghost use Rattle.rec_format.specs.declared.version.Digest.{Digest};
 ghost use Rattle.rec_format.specs.Places.{device_number};
-ghost use Rattle.device_model.specs.Device.{State, part_of};
-ghost use Rattle.device_model.specs.Steps.{part_total};
+ghost use Rattle.model_device.specs.Device.{State, part_of};
+ghost use Rattle.model_device.specs.Steps.{part_total};
 ghost use Rattle.shard_core.specs.Numbers.{AreFew, counts_of, tally_sum};
 ghost use Rattle.shard_core.specs.Stands.{Agrees};
 ghost use Rattle.shard_core.specs.View.{setup_of};

@@ -3,9 +3,9 @@ ghost use Rattle.std.specs.Prelude.{◌≡◌, ◌<◌, ◌≤◌, ◌^◌, leng
 ghost use Rattle.std.specs.List.{AllByRecursion};
 ghost use Rattle.disk_model.specs.Disk.{IsHonest};
 ghost use Rattle.rec_format.specs.Places.{device_number};
-ghost use Rattle.device_model.specs.Device.{State};
-ghost use Rattle.device_model.specs.Events.{Answer, happened, move_call};
-ghost use Rattle.device_model.specs.Vacating.{moved_by};
+ghost use Rattle.model_device.specs.Device.{State};
+ghost use Rattle.model_device.specs.Events.{Answer, happened, move_call};
+ghost use Rattle.model_device.specs.Vacating.{moved_by};
 ghost use Rattle.block_shelf.specs.Disks.{IsLater};
 ghost use Rattle.shard_core.specs.View.{SameSetup, setup_of};
 ghost use Rattle.shard_core.specs.Stands.{Agrees};

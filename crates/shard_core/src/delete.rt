@@ -3,18 +3,18 @@ ghost use Rattle.std.specs.Prelude.{◌≡◌, ◌⊎◌, ◌≤◌, ◌^◌, tr
 ghost use Rattle.disk_model.specs.Disk.{IsHonest};
 ghost use Rattle.rec_format.specs.Places.{device_number};
 ghost use Rattle.rec_format.specs.Versions.{a_tombstone};
-ghost use Rattle.device_model.specs.Device.{State, part_of};
-ghost use Rattle.device_model.specs.Events.{Call, Answer, bury_call, delete_call, happened};
+ghost use Rattle.model_device.specs.Device.{State, part_of};
+ghost use Rattle.model_device.specs.Events.{Call, Answer, bury_call, delete_call, happened};
 ghost use Rattle.expiry_rule.specs.Seen.{seen_entry};
 ghost use Rattle.tomb_rules.specs.Covers.{cover_of};
 ghost use Rattle.sprig_tree.specs.Entries.{entry_of};
-ghost use Rattle.part_laws.specs.Becoming.{Loses};
+ghost use Rattle.law_sprig.specs.Becoming.{Loses};
 ghost use Rattle.block_shelf.specs.Disks.{IsLater};
 ghost use Rattle.block_shelf.specs.View.{SameShape};
 ghost use Rattle.shard_core.specs.View.{IsSettings, limits_of, setup_for};
-ghost use Rattle.shard_steps.specs.Standing.{StandTogether};
+ghost use Rattle.law_steps.specs.Standing.{StandTogether};
 ghost use Rattle.shard_core.specs.Calls.{IsRefusedStep, delete_answer, write_answer};
-ghost use Rattle.shard_steps.specs.Events.{StepMakes};
+ghost use Rattle.law_steps.specs.Events.{StepMakes};
 ghost use Rattle.shard_core.specs.Writing.{IsEntombing, IsRemoving, entombed_answer, written_answer};
 
 use crate::sprigs::place_of_entry;

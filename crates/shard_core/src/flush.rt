@@ -1,19 +1,19 @@
 // How what waits in write buffers comes to the disk.
 ghost use Rattle.std.specs.Prelude.{◌≡◌, ◌≢◌, ◌<◌, ◌≤◌, ◌^◌, true, false, [], List, IfOk, OnOk, OnErr};
 ghost use Rattle.std.specs.List.{AllByRecursion};
-ghost use Rattle.fault_count.specs.Counts.{Rose};
+ghost use Rattle.model_faults.specs.Counts.{Rose};
 ghost use Rattle.disk_model.specs.Disk.{IsHonest};
-ghost use Rattle.device_model.specs.Book.{Setup};
-ghost use Rattle.device_model.specs.Device.{State};
-ghost use Rattle.device_model.specs.Steps.{Step};
-ghost use Rattle.device_model.specs.Events.{flush_call, flush_sealed_call};
-ghost use Rattle.device_model.specs.Legal.{flush_all, flush_between};
+ghost use Rattle.model_device.specs.Book.{Setup};
+ghost use Rattle.model_device.specs.Device.{State};
+ghost use Rattle.model_device.specs.Steps.{Step};
+ghost use Rattle.model_device.specs.Events.{flush_call, flush_sealed_call};
+ghost use Rattle.model_device.specs.Legal.{flush_all, flush_between};
 ghost use Rattle.block_shelf.specs.Disks.{IsLater};
 ghost use Rattle.block_shelf.specs.View.{IsShelf, IsSetupOf, is_unsealed};
 ghost use Rattle.block_shelf.specs.View as shelf_view;
 ghost use Rattle.block_shelf.specs.Standing.{StandsFor};
 ghost use Rattle.block_shelf.specs.Calls.{Goes};
-ghost use Rattle.device_model.specs.Vacating.{can_gain};
+ghost use Rattle.model_device.specs.Vacating.{can_gain};
 ghost use Rattle.shard_core.specs.View.{SameSetup, setup_of};
 ghost use Rattle.shard_core.specs.Stands.{Agrees, IsWhole};
 ghost use Rattle.shard_core.specs.Calls.{Makes, MakesAny, flush_answer, FlushesAll};

@@ -1,6 +1,6 @@
 // How a disk is made a device: every gate is closed, and then the header is written.
 ghost use Rattle.std.specs.Prelude.{◌≡◌, ◌≤◌, ◌^◌, OnOk, OnErr};
-ghost use Rattle.fault_count.specs.Counts.{Rose};
+ghost use Rattle.model_faults.specs.Counts.{Rose};
 ghost use Rattle.disk_model.specs.Disk.{IsSettled, IsHonest, Advances};
 ghost use Rattle.disk_model.specs.Runs.{Leaves};
 ghost use Rattle.block_format.specs.Layout.{IsGeometry, device_end};

@@ -3,9 +3,9 @@ ghost use Rattle.std.specs.Prelude.{◌≡◌, ◌≤◌, ◌^◌, Some, Contain
 ghost use Rattle.disk_model.specs.Disk.{IsHonest};
 ghost use Rattle.rec_format.specs.declared.entry.Entry.{Entry};
 ghost use Rattle.rec_format.specs.Places.{device_number};
-ghost use Rattle.device_model.specs.Book.{Setup};
-ghost use Rattle.device_model.specs.Device.{State, part_of, seen as seen_version};
-ghost use Rattle.device_model.specs.Events.{get_call};
+ghost use Rattle.model_device.specs.Book.{Setup};
+ghost use Rattle.model_device.specs.Device.{State, part_of, seen as seen_version};
+ghost use Rattle.model_device.specs.Events.{get_call};
 ghost use Rattle.write_buffer.specs.Buffers.{BufferState};
 ghost use Rattle.sprig_tree.specs.Entries.{entry_of};
 ghost use Rattle.block_shelf.specs.Disks.{OnlyRead};
@@ -13,9 +13,9 @@ ghost use Rattle.block_shelf.specs.View.{in_memory};
 ghost use Rattle.block_shelf.specs.Standing.{IsPlaced};
 ghost use Rattle.block_shelf.specs.Reads.{IsUndamaged};
 ghost use Rattle.shard_core.specs.View.{IsSettings, limits_of, setup_for};
-ghost use Rattle.shard_steps.specs.Standing.{SprigStands, StandTogether};
+ghost use Rattle.law_steps.specs.Standing.{SprigStands, StandTogether};
 ghost use Rattle.shard_core.specs.Calls.{ReadsStored, read_answer, meta_of};
-ghost use Rattle.shard_steps.specs.Events.{StepMakes};
+ghost use Rattle.law_steps.specs.Events.{StepMakes};
 
 use crate::sprigs::place_of_entry;
 use crate::{ReadRefusal, Settings};

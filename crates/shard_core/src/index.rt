@@ -3,7 +3,7 @@ ghost use Rattle.std.specs.Prelude.{◌≡◌, List, length, IfOk, OnOk, None};
 ghost use Rattle.block_format.specs.Layout.{IsGeometry};
 ghost use Rattle.block_format.specs.Copies.{Copy};
 ghost use Rattle.rec_format.specs.Places.{device_number};
-ghost use Rattle.device_model.specs.Steps.{part_total};
+ghost use Rattle.model_device.specs.Steps.{part_total};
 ghost use Rattle.cold_scan.specs.Found.{HasKept};
 ghost use Rattle.shard_core.specs.View.{IsSettings, setup_for};
 ghost use Rattle.shard_core.specs.Sprigs.{held};

@@ -2,8 +2,8 @@
 ghost use Rattle.std.specs.Prelude.{◌≡◌, ◌+◌, ◌==◌, ℕ, Ok, Err, None, Some, IfSome, OnOk, OnErr, if◌then◌else◌};
 ghost use Rattle.disk_model.specs.Disk.{IsHonest};
 ghost use Rattle.rec_format.specs.Versions.{top_number};
-ghost use Rattle.device_model.specs.Device.{State};
-ghost use Rattle.device_model.specs.Events.{begin_call, raid_numbered};
+ghost use Rattle.model_device.specs.Device.{State};
+ghost use Rattle.model_device.specs.Events.{begin_call, raid_numbered};
 ghost use Rattle.raid_book.specs.Books.{FitsTurn, begun};
 ghost use Rattle.block_shelf.specs.Disks.{IsLater};
 ghost use Rattle.shard_raid.specs.Raids.{IsNext, begun_raid, number_of};

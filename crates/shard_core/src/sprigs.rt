@@ -2,7 +2,7 @@
 ghost use Rattle.std.specs.Prelude.{◌≡◌, ◌++◌, length, IfOk, OnOk};
 ghost use Rattle.std.specs.List.{AllByRecursion};
 ghost use Rattle.shard_core.specs.Sprigs.{IsEmptySprig, all_entries};
-ghost use Rattle.shard_steps.specs.Sprigs.{place_of};
+ghost use Rattle.law_steps.specs.Sprigs.{place_of};
 ghost use Rattle.shard_core.specs.Finding.{live_places};
 
 use block_shelf::Place;

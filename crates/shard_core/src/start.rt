@@ -3,13 +3,13 @@ ghost use Rattle.std.specs.Prelude.{◌≡◌, ◌≤◌, List, length, IfOk, If
 ghost use Rattle.std.specs.List.{AllByRecursion};
 ghost use Rattle.disk_model.specs.Disk.{IsOnly, IsHonest};
 ghost use Rattle.block_format.specs.Layout.{IsGeometry, device_end, Body};
-ghost use Rattle.recovery.specs.Start.{start_state};
-ghost use Rattle.recovery.specs.Sound.{IsSound};
+ghost use Rattle.law_start.specs.Start.{start_state};
+ghost use Rattle.law_start.specs.Sound.{IsSound};
 ghost use Rattle.block_shelf.specs.View.{GatesStand};
 ghost use Rattle.block_shelf.specs.Disks.{OnlyRead};
 ghost use Rattle.cold_scan.specs.Starting.{IsRefused, FaultRose};
 ghost use Rattle.cold_scan.specs.Found.{IsSure, FindsOn, IsShaped};
-ghost use Rattle.device_model.specs.Device.{State};
+ghost use Rattle.model_device.specs.Device.{State};
 ghost use Rattle.shard_core.specs.View.{ShardView, IsSettings, setup_of};
 ghost use Rattle.shard_core.specs.Stands.{Agrees, IsSafe};
 ghost use Rattle.shard_core.specs.Again.{StartsAgain, IsNoRefusal};

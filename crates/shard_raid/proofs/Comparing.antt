@@ -11,13 +11,13 @@ use Rattle.rec_format.specs.declared.version.Stamp.{Stamp}
 use Rattle.rec_format.specs.declared.entry.Entry.{Entry}
 use Rattle.rec_format.specs.Places.{same_digest}
 use Rattle.rec_format.specs.Versions.{is_later_stamp}
-use Rattle.device_model.specs.Device.{RaidState, Turn, apply_turn, finished}
+use Rattle.model_device.specs.Device.{RaidState, Turn, apply_turn, finished}
 use Rattle.sprig_tree.specs.Entries.{IsInDigestOrder, entry_of, with_replaced}
 use Rattle.sprig_tree.specs.State.{SprigState}
-use Rattle.part_laws.specs.Fits.{is_running, has_mark}
-use Rattle.part_laws.specs.Tests.{has_older_copy, passes_test}
-use Rattle.part_laws.specs.Becoming.{with_mark, remarked, mark_left}
-use Rattle.part_laws.proofs.Applying.{copy_passed, copy_found, undone_more}
+use Rattle.law_sprig.specs.Fits.{is_running, has_mark}
+use Rattle.law_sprig.specs.Tests.{has_older_copy, passes_test}
+use Rattle.law_sprig.specs.Becoming.{with_mark, remarked, mark_left}
+use Rattle.law_sprig.proofs.Applying.{copy_passed, copy_found, undone_more}
 use Rattle.raid_book.specs.declared.found.FoundCopy.{FoundCopy}
 use Rattle.raid_book.specs.Found.{copy_in, copies_for, without_part}
 use Rattle.raid_book.proofs.Lists.{filter_out, filter_twice}

@@ -8,11 +8,11 @@ use Rattle.disk_model.specs.Disk.{DiskView, IsDisk, IsHonest}
 use Rattle.rec_format.specs.declared.version.Digest.{Digest}
 use Rattle.rec_format.specs.declared.entry.Entry.{Entry}
 use Rattle.rec_format.specs.Versions.{is_tomb_kind, is_tombstone}
-use Rattle.device_model.specs.Book.{Setup}
-use Rattle.device_model.specs.Device.{State, drop_turn, entry, entry_passes}
-use Rattle.device_model.specs.Steps.{Step, rid_of, uncovered, done_part, after_step, after_steps}
-use Rattle.device_model.specs.Events.{turn_call, part_ended}
-use Rattle.device_model.specs.Legal.{drop_step, drop_steps, marked_in, marked_tombstones}
+use Rattle.model_device.specs.Book.{Setup}
+use Rattle.model_device.specs.Device.{State, drop_turn, entry, entry_passes}
+use Rattle.model_device.specs.Steps.{Step, rid_of, uncovered, done_part, after_step, after_steps}
+use Rattle.model_device.specs.Events.{turn_call, part_ended}
+use Rattle.model_device.specs.Legal.{drop_step, drop_steps, marked_in, marked_tombstones}
 use Rattle.raid_book.specs.declared.turn.RaidNext.{RaidNext}
 use Rattle.raid_book.specs.declared.turn.RaidNext.TheVariants.{Drop}
 use Rattle.raid_book.specs.Turns.{after_drop}
@@ -21,22 +21,22 @@ use Rattle.raid_book.proofs.Standing.{ended_stands}
 use Rattle.sprig_tree.specs.Entries.{digests_in, entry_of}
 use Rattle.sprig_tree.specs.State.{SprigState}
 use Rattle.sprig_tree.proofs.Laws.{entry_of-digest}
-use Rattle.part_laws.specs.Fits.{has_mark, FitsPart}
-use Rattle.part_laws.specs.Tests.{is_tombstone_entry}
-use Rattle.part_laws.specs.Becoming.{without_cover, raid_ended}
-use Rattle.part_laws.proofs.Ordered.{each_entry}
-use Rattle.part_laws.proofs.Showing.{marked_are}
-use Rattle.part_laws.proofs.Taking.{found_shown, times_below}
-use Rattle.part_laws.proofs.Walks.{marked_count_is, marked_tombstones_are}
-use Rattle.part_laws.proofs.Ending.{dropped_fits}
+use Rattle.law_sprig.specs.Fits.{has_mark, FitsPart}
+use Rattle.law_sprig.specs.Tests.{is_tombstone_entry}
+use Rattle.law_sprig.specs.Becoming.{without_cover, raid_ended}
+use Rattle.law_sprig.proofs.Ordered.{each_entry}
+use Rattle.law_sprig.proofs.Showing.{marked_are}
+use Rattle.law_sprig.proofs.Taking.{found_shown, times_below}
+use Rattle.law_sprig.proofs.Walks.{marked_count_is, marked_tombstones_are}
+use Rattle.law_sprig.proofs.Ending.{dropped_fits}
 use Rattle.block_shelf.specs.View.{ShelfView}
 use Rattle.block_shelf.specs.Standing.{ImagesHold}
 use Rattle.block_shelf.specs.Calls.{Goes}
 use Rattle.block_shelf.specs.Scans.{possible_copies}
 use Rattle.block_shelf.proofs.Going.{goes_then}
 use Rattle.block_shelf.proofs.RaidTurns.{goes_by_turn}
-use Rattle.shard_steps.specs.Standing.{SprigStands}
-use Rattle.shard_steps.specs.Events.{StepMakes}
+use Rattle.law_steps.specs.Standing.{SprigStands}
+use Rattle.law_steps.specs.Events.{StepMakes}
 use Rattle.shard_raid.specs.Marks.{is_marked_by}
 use Rattle.shard_raid.specs.Ends.{SparesOlder, EndsMarked, end_steps, StandAtEnd, GoTogether, SameDisk}
 use Rattle.shard_raid.proofs.Turns.{makes_turn}

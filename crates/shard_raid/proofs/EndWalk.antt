@@ -11,19 +11,19 @@ use Rattle.disk_model.specs.Disk.{DiskView, IsDisk, IsHonest}
 use Rattle.rec_format.specs.declared.version.Digest.{Digest}
 use Rattle.rec_format.specs.declared.entry.Entry.{Entry}
 use Rattle.rec_format.specs.Places.{same_digest}
-use Rattle.device_model.specs.Book.{Setup}
-use Rattle.device_model.specs.Device.{State}
-use Rattle.device_model.specs.Steps.{Step, after_steps}
+use Rattle.model_device.specs.Book.{Setup}
+use Rattle.model_device.specs.Device.{State}
+use Rattle.model_device.specs.Steps.{Step, after_steps}
 use Rattle.sprig_tree.specs.Entries.{IsInDigestOrder, entry_of, entry_after, with_replaced, without_digest}
 use Rattle.sprig_tree.specs.State.{SprigState}
 use Rattle.sprig_tree.proofs.Laws.{entry_of-at}
 use Rattle.sprig_tree.proofs.Parted.{entry_after-start}
-use Rattle.part_laws.specs.Tests.{is_put_entry, is_tombstone_entry}
-use Rattle.part_laws.specs.Becoming.{without_cover, ended_entry, raid_ended}
-use Rattle.part_laws.proofs.Turns.{end_found, goes_at, becomes_at, left_at, next_left_at}
+use Rattle.law_sprig.specs.Tests.{is_put_entry, is_tombstone_entry}
+use Rattle.law_sprig.specs.Becoming.{without_cover, ended_entry, raid_ended}
+use Rattle.law_sprig.proofs.Turns.{end_found, goes_at, becomes_at, left_at, next_left_at}
 use Rattle.block_shelf.specs.View.{ShelfView}
 use Rattle.block_shelf.proofs.Going.{after_joined, goes_none, goes_then}
-use Rattle.shard_steps.specs.Standing.{StandTogether}
+use Rattle.law_steps.specs.Standing.{StandTogether}
 use Rattle.shard_raid.specs.Marks.{HasHighTime, is_marked_by}
 use Rattle.shard_raid.specs.Ends.{left_by, EndsMarked, EndsOne, end_steps, StandAtEnd, GoTogether, SameDisk}
 use Rattle.shard_raid.proofs.Times.{below_found}

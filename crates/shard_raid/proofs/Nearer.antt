@@ -5,7 +5,7 @@ use Rattle.std.specs.Prelude.{◌==◌, nat_lt}
 use Rattle.std.specs.List.{All}
 use Rattle.std.proofs.lemmas.Bool.{eq-eqb}
 use Rattle.std.proofs.lemmas.List.Elements.{All-head, All-tail}
-use Rattle.device_model.specs.Steps.{least}
+use Rattle.model_device.specs.Steps.{least}
 use Rattle.raid_book.specs.declared.found.FoundCopy.{FoundCopy}
 use Rattle.raid_book.specs.declared.turn.RaidNext.{RaidNext}
 use Rattle.raid_book.specs.declared.turn.RaidNext.TheVariants.{Mark, Scan, Apply, Drop, Finished}

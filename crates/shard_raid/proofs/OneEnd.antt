@@ -8,23 +8,23 @@ use Rattle.disk_model.specs.Disk.{DiskView, IsDisk}
 use Rattle.rec_format.specs.declared.version.Digest.{Digest}
 use Rattle.rec_format.specs.declared.entry.Entry.{Entry}
 use Rattle.rec_format.proofs.Laws.{same_digest_is}
-use Rattle.device_model.specs.Book.{Setup, live_of_entry}
-use Rattle.device_model.specs.Device.{State, drop_turn, part_of}
-use Rattle.device_model.specs.Steps.{Step, rid_of, uncovered, after_steps}
-use Rattle.recovery.proofs.Members.{filter_from}
-use Rattle.kept_facts.specs.Facts.{NoneOlder}
-use Rattle.kept_facts.proofs.Raids.{none_older}
-use Rattle.kept_trail.proofs.Books.{live_there}
+use Rattle.model_device.specs.Book.{Setup, live_of_entry}
+use Rattle.model_device.specs.Device.{State, drop_turn, part_of}
+use Rattle.model_device.specs.Steps.{Step, rid_of, uncovered, after_steps}
+use Rattle.law_start.proofs.Members.{filter_from}
+use Rattle.law_facts.specs.Facts.{NoneOlder}
+use Rattle.law_facts.proofs.Raids.{none_older}
+use Rattle.law_trail.proofs.Books.{live_there}
 use Rattle.raid_book.specs.Turns.{turn_of}
 use Rattle.raid_book.specs.Raids.{RaidStands}
 use Rattle.sprig_tree.specs.Entries.{entry_of, with_replaced}
 use Rattle.sprig_tree.specs.State.{SprigState}
-use Rattle.part_laws.specs.Fits.{IsShown, is_running, has_mark, marks_of, FitsPart}
-use Rattle.part_laws.specs.Tests.{has_digest, passes_test}
-use Rattle.part_laws.specs.Becoming.{Loses, without_cover}
-use Rattle.part_laws.proofs.Ordered.{among_entries}
-use Rattle.part_laws.proofs.Edits.{each_replaced, each_without}
-use Rattle.part_laws.proofs.Taking.{found_shown, at_entry, rid_fits, uncovered_fits}
+use Rattle.law_sprig.specs.Fits.{IsShown, is_running, has_mark, marks_of, FitsPart}
+use Rattle.law_sprig.specs.Tests.{has_digest, passes_test}
+use Rattle.law_sprig.specs.Becoming.{Loses, without_cover}
+use Rattle.law_sprig.proofs.Ordered.{among_entries}
+use Rattle.law_sprig.proofs.Edits.{each_replaced, each_without}
+use Rattle.law_sprig.proofs.Taking.{found_shown, at_entry, rid_fits, uncovered_fits}
 use Rattle.block_shelf.specs.View.{ShelfView, IsShelf, SameShape}
 use Rattle.block_shelf.specs.Standing.{ImagesHold}
 use Rattle.block_shelf.specs.Calls.{Goes, IsPriorIn, copy_live}
@@ -32,9 +32,9 @@ use Rattle.block_shelf.specs.Scans.{possible_copies}
 use Rattle.block_shelf.proofs.FlushStages.{setup_in}
 use Rattle.block_shelf.proofs.Going.{goes_none}
 use Rattle.block_shelf.proofs.Uncovering.{goes_uncovered}
-use Rattle.shard_steps.specs.Sprigs.{place_of}
-use Rattle.shard_steps.specs.Standing.{StandTogether}
-use Rattle.shard_steps.proofs.Found.{prior_stands}
+use Rattle.law_steps.specs.Sprigs.{place_of}
+use Rattle.law_steps.specs.Standing.{StandTogether}
+use Rattle.law_steps.proofs.Found.{prior_stands}
 use Rattle.shard_raid.specs.Marks.{is_marked_by}
 use Rattle.shard_raid.specs.Ends.{StandAtEnd, GoTogether}
 use Rattle.shard_raid.proofs.Comparing.{mark_is}

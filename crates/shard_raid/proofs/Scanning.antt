@@ -2,17 +2,17 @@
 use Rattle.std.proofs.Common.{◌≡◌, ℕ, ◌≤◌, Bool, true, false, ◌&&◌, List, [], ◌∷◌, inl, inr, refl, sym, ◌∙◌, ap, subst}
 use Rattle.std.specs.Prelude.{◌==◌, Result, Ok, Err, MatchBool}
 use Rattle.std.proofs.lemmas.Bool.{eq-eqb, false≢true}
-use Rattle.fault_count.specs.Counts.{Rose}
+use Rattle.model_faults.specs.Counts.{Rose}
 use Rattle.disk_model.specs.Disk.{DiskView, IsHonest}
-use Rattle.device_model.specs.Book.{Setup}
-use Rattle.device_model.specs.Device.{State, scan_turn}
-use Rattle.device_model.specs.Steps.{Step, scanned_block, raid_given_up}
-use Rattle.device_model.specs.Events.{Event, Call, Answer, turn_call, block_scanned, refused, stale}
-use Rattle.device_model.specs.Legal.{Allowed, Only, TurnEnds, same_turn}
+use Rattle.model_device.specs.Book.{Setup}
+use Rattle.model_device.specs.Device.{State, scan_turn}
+use Rattle.model_device.specs.Steps.{Step, scanned_block, raid_given_up}
+use Rattle.model_device.specs.Events.{Event, Call, Answer, turn_call, block_scanned, refused, stale}
+use Rattle.model_device.specs.Legal.{Allowed, Only, TurnEnds, same_turn}
 use Rattle.block_format.specs.declared.geometry.Geometry.{Geometry}
-use Rattle.kept_facts.specs.Asking.{ScansAll, ScansOnly, FindsOlder, FindsPossible}
-use Rattle.part_laws.specs.Sparing.{Spares}
-use Rattle.part_laws.proofs.Spared.{spared}
+use Rattle.law_facts.specs.Asking.{ScansAll, ScansOnly, FindsOlder, FindsPossible}
+use Rattle.law_sprig.specs.Sparing.{Spares}
+use Rattle.law_sprig.proofs.Spared.{spared}
 use Rattle.raid_book.specs.declared.turn.RaidNext.TheVariants.{Scan}
 use Rattle.raid_book.specs.Turns.{turn_of}
 use Rattle.block_shelf.specs.declared.refusals.VacateRefusal.{VacateRefusal}
@@ -22,8 +22,8 @@ use Rattle.block_shelf.specs.Standing.{ImagesHold}
 use Rattle.block_shelf.specs.Calls.{Goes}
 use Rattle.block_shelf.specs.Scans as shelf
 use Rattle.block_shelf.specs.Scans.{Scans, IsSound, possible_copies}
-use Rattle.shard_steps.specs.Standing.{ShelfStands}
-use Rattle.shard_steps.proofs.Making.{event_of}
+use Rattle.law_steps.specs.Standing.{ShelfStands}
+use Rattle.law_steps.proofs.Making.{event_of}
 use Rattle.shard_raid.specs.declared.scan.RaidRefusal.{RaidRefusal}
 use Rattle.shard_raid.specs.Scans.{ScanMakes, IsDamageOf, refusal_to_scan, cause_of, scan_answer}
 

@@ -6,7 +6,7 @@ use Rattle.rec_format.specs.declared.entry.Entry.{Entry}
 use Rattle.rec_format.specs.Places.{same_digest}
 use Rattle.sprig_tree.specs.Entries.{entry_of}
 use Rattle.sprig_tree.specs.State.{SprigState}
-use Rattle.part_laws.specs.Becoming.{remarked}
+use Rattle.law_sprig.specs.Becoming.{remarked}
 use Rattle.shard_raid.specs.Marks.{HasHighTime}
 
 -- each time that is found is at most the high time

@@ -8,19 +8,19 @@ use Rattle.rec_format.specs.declared.version.Digest.{Digest}
 use Rattle.rec_format.specs.declared.version.Stamp.{Stamp}
 use Rattle.rec_format.specs.declared.entry.Entry.{Entry}
 use Rattle.rec_format.specs.Versions.{top_number}
-use Rattle.device_model.specs.Book.{Setup}
-use Rattle.device_model.specs.Device.{State, Turn, mark_turn, apply_turn, eligible_in}
-use Rattle.device_model.specs.Steps.{Step, raid_begun, marked_part, compared_part, after_step, after_steps}
-use Rattle.device_model.specs.Events.{Event, Answer, begin_call, turn_call, raid_numbered, marks_made, marks_undone, refused, stale}
-use Rattle.device_model.specs.Legal.{Allowed, Only, TurnEnds, same_turn, unmarked_by}
+use Rattle.model_device.specs.Book.{Setup}
+use Rattle.model_device.specs.Device.{State, Turn, mark_turn, apply_turn, eligible_in}
+use Rattle.model_device.specs.Steps.{Step, raid_begun, marked_part, compared_part, after_step, after_steps}
+use Rattle.model_device.specs.Events.{Event, Answer, begin_call, turn_call, raid_numbered, marks_made, marks_undone, refused, stale}
+use Rattle.model_device.specs.Legal.{Allowed, Only, TurnEnds, same_turn, unmarked_by}
 use Rattle.tomb_rules.specs.Covers.{is_eligible_entry}
 use Rattle.sprig_tree.specs.State.{SprigState}
-use Rattle.part_laws.specs.Fits.{is_running}
-use Rattle.part_laws.specs.Becoming.{mark_given, mark_left, found_of, remarked}
-use Rattle.part_laws.specs.Tests.{has_older_copy}
-use Rattle.part_laws.proofs.Marking.{marked_fits, marks_made_are, compared_fits, marks_undone_are}
-use Rattle.part_laws.proofs.Spared.{spared}
-use Rattle.part_laws.proofs.Taking.{times_below}
+use Rattle.law_sprig.specs.Fits.{is_running}
+use Rattle.law_sprig.specs.Becoming.{mark_given, mark_left, found_of, remarked}
+use Rattle.law_sprig.specs.Tests.{has_older_copy}
+use Rattle.law_sprig.proofs.Marking.{marked_fits, marks_made_are, compared_fits, marks_undone_are}
+use Rattle.law_sprig.proofs.Spared.{spared}
+use Rattle.law_sprig.proofs.Taking.{times_below}
 use Rattle.raid_book.specs.declared.found.FoundCopy.{FoundCopy}
 use Rattle.raid_book.specs.declared.turn.RaidNext.{RaidNext}
 use Rattle.raid_book.specs.declared.turn.RaidNext.TheVariants.{Mark, Apply}
@@ -34,10 +34,10 @@ use Rattle.block_shelf.specs.Standing.{BooksStand}
 use Rattle.block_shelf.specs.Calls.{Goes}
 use Rattle.block_shelf.proofs.Going.{goes_none}
 use Rattle.block_shelf.proofs.RaidTurns.{goes_by_turn, goes_begun}
-use Rattle.shard_steps.specs.Sprigs.{HasTimes}
-use Rattle.shard_steps.specs.Standing.{SprigStands, ShelfStands, StandTogether}
-use Rattle.shard_steps.specs.Events.{MakesEvent, StepMakes}
-use Rattle.shard_steps.proofs.Making.{event_of, makes_by}
+use Rattle.law_steps.specs.Sprigs.{HasTimes}
+use Rattle.law_steps.specs.Standing.{SprigStands, ShelfStands, StandTogether}
+use Rattle.law_steps.specs.Events.{MakesEvent, StepMakes}
+use Rattle.law_steps.proofs.Making.{event_of, makes_by}
 use Rattle.shard_raid.specs.Marks.{HasMarksBy, is_marked_by}
 use Rattle.shard_raid.specs.Raids.{StandOn}
 use Rattle.shard_raid.proofs.Times.{times_remarked}

@@ -11,9 +11,9 @@ use Rattle.sprig_tree.specs.State.{SprigState}
 use Rattle.sprig_tree.proofs.Laws.{entry_of-at, entry_after-at}
 use Rattle.sprig_tree.proofs.Parted.{entry_after-start}
 use Rattle.tomb_rules.specs.Covers.{is_eligible_entry}
-use Rattle.part_laws.specs.Becoming.{with_mark, remarked, mark_given}
-use Rattle.part_laws.proofs.Behind.{behind, walk_from, entries_behind}
-use Rattle.part_laws.proofs.Turns.{mark_found, mark_at, stays_at, next_at}
+use Rattle.law_sprig.specs.Becoming.{with_mark, remarked, mark_given}
+use Rattle.law_sprig.proofs.Behind.{behind, walk_from, entries_behind}
+use Rattle.law_sprig.proofs.Turns.{mark_found, mark_at, stays_at, next_at}
 use Rattle.shard_raid.specs.Marks.{HasHighTime, HasMarksBy}
 use Rattle.shard_raid.proofs.Times.{high_stays}
 

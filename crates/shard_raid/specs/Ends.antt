@@ -4,18 +4,18 @@ use Rattle.std.specs.List.{filter_map}
 use Rattle.disk_model.specs.Disk.{DiskView}
 use Rattle.rec_format.specs.declared.version.Digest.{Digest}
 use Rattle.rec_format.specs.declared.entry.Entry.{Entry}
-use Rattle.device_model.specs.Book.{Setup}
-use Rattle.device_model.specs.Device.{State}
-use Rattle.device_model.specs.Steps.{Step, rid_of, uncovered, after_steps}
-use Rattle.kept_facts.specs.Facts.{Possible, NoneOlder}
+use Rattle.model_device.specs.Book.{Setup}
+use Rattle.model_device.specs.Device.{State}
+use Rattle.model_device.specs.Steps.{Step, rid_of, uncovered, after_steps}
+use Rattle.law_facts.specs.Facts.{Possible, NoneOlder}
 use Rattle.raid_book.specs.declared.turn.RaidNext.TheVariants.{Drop}
 use Rattle.sprig_tree.specs.Entries.{entry_of, with_replaced, without_digest}
 use Rattle.sprig_tree.specs.State.{SprigState}
-use Rattle.part_laws.specs.Tests.{is_tombstone_entry}
-use Rattle.part_laws.specs.Becoming.{without_cover}
+use Rattle.law_sprig.specs.Tests.{is_tombstone_entry}
+use Rattle.law_sprig.specs.Becoming.{without_cover}
 use Rattle.block_shelf.specs.View.{ShelfView, IsSetupOf, SameShape}
 use Rattle.block_shelf.specs.Calls.{Goes}
-use Rattle.shard_steps.specs.Standing.{StandTogether}
+use Rattle.law_steps.specs.Standing.{StandTogether}
 use Rattle.shard_raid.specs.Marks.{HasHighTime, is_marked_by}
 
 -- each digest's entry stays as it was, or no possible copy of it is older

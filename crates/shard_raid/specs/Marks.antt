@@ -7,8 +7,8 @@ use Rattle.rec_format.specs.declared.entry.Entry.{Entry}
 use Rattle.rec_format.specs.Versions.{is_later_stamp}
 use Rattle.sprig_tree.specs.Entries.{entry_of, with_replaced}
 use Rattle.sprig_tree.specs.State.{SprigState}
-use Rattle.part_laws.specs.Tests.{passes_test}
-use Rattle.part_laws.specs.Becoming.{with_mark, remarked}
+use Rattle.law_sprig.specs.Tests.{passes_test}
+use Rattle.law_sprig.specs.Becoming.{with_mark, remarked}
 
 -- no entry has a time above the high time
 abbrev pub HasHighTime : SprigState → Type 0

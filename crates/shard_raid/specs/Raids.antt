@@ -1,13 +1,13 @@
 -- Crate shard_raid. What contracts see of a raid that was begun, and what stands behind its beginning.
 use Rattle.std.specs.Prelude.{◌≡◌, ℕ, ◌+◌, ◌-◌, ◌*◌, max, Option, option_map}
-use Rattle.device_model.specs.Book.{Setup}
-use Rattle.device_model.specs.Device.{State}
+use Rattle.model_device.specs.Book.{Setup}
+use Rattle.model_device.specs.Device.{State}
 use Rattle.raid_book.specs.declared.turn.RaidNext.{RaidNext}
 use Rattle.raid_book.specs.declared.turn.RaidNext.TheVariants.{Mark, Scan, Apply, Drop, Finished}
 use Rattle.raid_book.specs.Books.{BookState}
 use Rattle.sprig_tree.specs.State.{SprigState}
 use Rattle.block_shelf.specs.View.{ShelfView}
-use Rattle.shard_steps.specs.Standing.{SprigStands, ShelfStands}
+use Rattle.law_steps.specs.Standing.{SprigStands, ShelfStands}
 
 -- its number, and its next turn
 pub record RaidView : Type 0 where

@@ -1,11 +1,11 @@
 -- Crate shard_raid. How a raid's scan of a block is answered, and what it makes.
 use Rattle.std.specs.Prelude.{ℕ, List, Result, Ok, Err}
 use Rattle.disk_model.specs.Disk.{DiskView, IsHonest}
-use Rattle.device_model.specs.Book.{Setup}
-use Rattle.device_model.specs.Device.{State, scan_turn}
-use Rattle.device_model.specs.Events.{Answer, Cause, turn_call, block_scanned, refused, stale, damaged, no_memory, disk_fault}
+use Rattle.model_device.specs.Book.{Setup}
+use Rattle.model_device.specs.Device.{State, scan_turn}
+use Rattle.model_device.specs.Events.{Answer, Cause, turn_call, block_scanned, refused, stale, damaged, no_memory, disk_fault}
 use Rattle.block_format.specs.declared.geometry.Geometry.{Geometry}
-use Rattle.kept_facts.specs.Asking.{ScansAll, ScansOnly}
+use Rattle.law_facts.specs.Asking.{ScansAll, ScansOnly}
 use Rattle.raid_book.specs.Turns.{turn_of}
 use Rattle.block_shelf.specs.declared.refusals.VacateRefusal.{VacateRefusal}
 use Rattle.block_shelf.specs.declared.refusals.VacateRefusal.TheVariants as vacate
@@ -13,7 +13,7 @@ use Rattle.block_shelf.specs.Scans as shelf
 use Rattle.block_shelf.specs.Scans.{possible_copies}
 use Rattle.block_shelf.specs.Standing.{ImagesHold}
 use Rattle.block_shelf.specs.View.{ShelfView}
-use Rattle.shard_steps.specs.Events.{MakesEvent}
+use Rattle.law_steps.specs.Events.{MakesEvent}
 use Rattle.shard_raid.specs.declared.scan.RaidRefusal.{RaidRefusal}
 use Rattle.shard_raid.specs.declared.scan.RaidRefusal.TheVariants.{Stale, Damaged, Memory, Fault}
 use Rattle.shard_raid.specs.Raids.{StandOn}

@@ -1,13 +1,13 @@
 // How a raid begins.
 ghost use Rattle.std.specs.Prelude.{◌≡◌, ◌+◌, ◌==◌, None, Some, IfSome, MatchBool, if◌then◌else◌};
 ghost use Rattle.rec_format.specs.Versions.{top_number};
-ghost use Rattle.device_model.specs.Book.{Setup};
-ghost use Rattle.device_model.specs.Device.{State};
-ghost use Rattle.device_model.specs.Events.{begin_call, raid_numbered};
+ghost use Rattle.model_device.specs.Book.{Setup};
+ghost use Rattle.model_device.specs.Device.{State};
+ghost use Rattle.model_device.specs.Events.{begin_call, raid_numbered};
 ghost use Rattle.raid_book.specs.Books.{FitsTurn, begun};
 ghost use Rattle.block_shelf.specs.View.{IsSetupOf};
-ghost use Rattle.shard_steps.specs.Standing.{ShelfStands};
-ghost use Rattle.shard_steps.specs.Events.{MakesEvent};
+ghost use Rattle.law_steps.specs.Standing.{ShelfStands};
+ghost use Rattle.law_steps.specs.Events.{MakesEvent};
 ghost use Rattle.shard_raid.specs.Raids.{RaidView, IsNext, begun_raid, number_of, StandOn};
 
 use block_shelf::Shelf;

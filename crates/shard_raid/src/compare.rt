@@ -1,15 +1,15 @@
 // How the copies of a part that a raid's scans found are compared with its entries.
 ghost use Rattle.std.specs.Prelude.{◌≡◌, ◌≢◌, ◌<◌, ℕ, [], count_by, ◌&&◌};
-ghost use Rattle.device_model.specs.Book.{Setup};
-ghost use Rattle.device_model.specs.Device.{State, apply_turn};
-ghost use Rattle.device_model.specs.Events.{turn_call, marks_undone};
+ghost use Rattle.model_device.specs.Book.{Setup};
+ghost use Rattle.model_device.specs.Device.{State, apply_turn};
+ghost use Rattle.model_device.specs.Events.{turn_call, marks_undone};
 ghost use Rattle.raid_book.specs.Turns.{turn_with};
 ghost use Rattle.raid_book.specs.Found.{copies_for, least_part};
-ghost use Rattle.part_laws.specs.Becoming.{mark_left};
-ghost use Rattle.part_laws.specs.Tests.{has_older_copy};
+ghost use Rattle.law_sprig.specs.Becoming.{mark_left};
+ghost use Rattle.law_sprig.specs.Tests.{has_older_copy};
 ghost use Rattle.block_shelf.specs.View.{IsSetupOf};
-ghost use Rattle.shard_steps.specs.Standing.{StandTogether};
-ghost use Rattle.shard_steps.specs.Events.{StepMakes};
+ghost use Rattle.law_steps.specs.Standing.{StandTogether};
+ghost use Rattle.law_steps.specs.Events.{StepMakes};
 ghost use Rattle.shard_raid.specs.Marks.{HasMarksBy, is_marked_by, Unmarks};
 ghost use Rattle.shard_raid.specs.Raids.{turns_left};
 

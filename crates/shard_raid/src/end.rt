@@ -1,21 +1,21 @@
 // How a raid ends for a part: what is still marked goes.
 ghost use Rattle.std.specs.Prelude.{◌≡◌, ℕ, [], ◌∷◌, Some, count_by, flat_map, ◌&&◌, if◌then◌else◌};
 ghost use Rattle.disk_model.specs.Disk.{IsHonest};
-ghost use Rattle.device_model.specs.Book.{Setup};
-ghost use Rattle.device_model.specs.Device.{State, drop_turn};
-ghost use Rattle.device_model.specs.Steps.{rid_of};
-ghost use Rattle.device_model.specs.Events.{turn_call, part_ended};
-ghost use Rattle.kept_facts.specs.Facts.{NoneOlder};
+ghost use Rattle.model_device.specs.Book.{Setup};
+ghost use Rattle.model_device.specs.Device.{State, drop_turn};
+ghost use Rattle.model_device.specs.Steps.{rid_of};
+ghost use Rattle.model_device.specs.Events.{turn_call, part_ended};
+ghost use Rattle.law_facts.specs.Facts.{NoneOlder};
 ghost use Rattle.raid_book.specs.Books.{after_turn};
 ghost use Rattle.sprig_tree.specs.Entries.{entry_of};
-ghost use Rattle.part_laws.specs.Tests.{is_put_entry, is_tombstone_entry};
-ghost use Rattle.part_laws.specs.Becoming.{Loses, without_cover};
+ghost use Rattle.law_sprig.specs.Tests.{is_put_entry, is_tombstone_entry};
+ghost use Rattle.law_sprig.specs.Becoming.{Loses, without_cover};
 ghost use Rattle.block_shelf.specs.View.{IsSetupOf};
 ghost use Rattle.block_shelf.specs.Standing.{ImagesHold};
 ghost use Rattle.block_shelf.specs.Scans.{possible_copies};
-ghost use Rattle.shard_steps.specs.Sprigs.{place_of};
-ghost use Rattle.shard_steps.specs.Standing.{StandTogether};
-ghost use Rattle.shard_steps.specs.Events.{StepMakes};
+ghost use Rattle.law_steps.specs.Sprigs.{place_of};
+ghost use Rattle.law_steps.specs.Standing.{StandTogether};
+ghost use Rattle.law_steps.specs.Events.{StepMakes};
 ghost use Rattle.shard_raid.specs.Marks.{is_marked_by};
 ghost use Rattle.shard_raid.specs.Ends.{SparesOlder, EndsMarked, EndsOne, end_steps, StandAtEnd, GoTogether, SameDisk};
 

@@ -1,14 +1,14 @@
 // How the entries of a part are marked.
 ghost use Rattle.std.specs.Prelude.{◌≡◌, count_by};
-ghost use Rattle.device_model.specs.Book.{Setup};
-ghost use Rattle.device_model.specs.Device.{State, mark_turn};
-ghost use Rattle.device_model.specs.Events.{turn_call, marks_made};
+ghost use Rattle.model_device.specs.Book.{Setup};
+ghost use Rattle.model_device.specs.Device.{State, mark_turn};
+ghost use Rattle.model_device.specs.Events.{turn_call, marks_made};
 ghost use Rattle.raid_book.specs.Books.{after_turn};
 ghost use Rattle.tomb_rules.specs.Covers.{is_eligible_entry};
-ghost use Rattle.part_laws.specs.Becoming.{mark_given, remarked, with_mark};
+ghost use Rattle.law_sprig.specs.Becoming.{mark_given, remarked, with_mark};
 ghost use Rattle.block_shelf.specs.View.{IsSetupOf};
-ghost use Rattle.shard_steps.specs.Standing.{StandTogether};
-ghost use Rattle.shard_steps.specs.Events.{StepMakes};
+ghost use Rattle.law_steps.specs.Standing.{StandTogether};
+ghost use Rattle.law_steps.specs.Events.{StepMakes};
 ghost use Rattle.shard_raid.specs.Marks.{HasHighTime, HasMarksBy};
 
 use block_shelf::Shelf;

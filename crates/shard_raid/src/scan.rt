@@ -1,17 +1,17 @@
 // How a raid scans a block.
 ghost use Rattle.std.specs.Prelude.{◌≡◌, ℕ, Err, IfOk, IfErr, OnOk, OnErr};
-ghost use Rattle.fault_count.specs.Counts.{Rose};
+ghost use Rattle.model_faults.specs.Counts.{Rose};
 ghost use Rattle.disk_model.specs.Disk.{IsHonest};
-ghost use Rattle.device_model.specs.Book.{Setup};
-ghost use Rattle.device_model.specs.Device.{State};
+ghost use Rattle.model_device.specs.Book.{Setup};
+ghost use Rattle.model_device.specs.Device.{State};
 ghost use Rattle.block_format.specs.Layout.{body_bytes};
-ghost use Rattle.kept_facts.specs.Facts.{SamePossible};
+ghost use Rattle.law_facts.specs.Facts.{SamePossible};
 ghost use Rattle.raid_book.specs.Books.{given_up, with_scan};
 ghost use Rattle.block_shelf.specs.Disks.{IsLater};
 ghost use Rattle.block_shelf.specs.View.{AreSure, IsSetupOf};
 ghost use Rattle.block_shelf.specs.Standing.{ImagesHold};
 ghost use Rattle.block_shelf.specs.Scans.{possible_copies};
-ghost use Rattle.shard_steps.specs.Standing.{ShelfStands};
+ghost use Rattle.law_steps.specs.Standing.{ShelfStands};
 ghost use Rattle.shard_raid.specs.Scans.{ScanMakes, IsOfTurn, IsDamageOf, refusal_to_scan};
 
 use block_shelf::{Shelf, VacateRefusal};

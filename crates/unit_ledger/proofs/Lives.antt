@@ -5,7 +5,7 @@ use Rattle.std.proofs.lemmas.Bool.{cond-true, cond-false, eq-eqb, ne_eqb}
 use Rattle.std.proofs.lemmas.List.{append-nil}
 use Rattle.std.proofs.lemmas.List.Elements.{filter-append}
 use Rattle.std.proofs.lemmas.List.Sums.{sum_by-cons}
-use Rattle.device_model.specs.Book.{Live}
+use Rattle.model_device.specs.Book.{Live}
 use Rattle.unit_ledger.specs.declared.roll.LiveCopy.{LiveCopy}
 use Rattle.unit_ledger.specs.Rolls.{BlockRoll, rolled_use, live_in_block, live_from}
 

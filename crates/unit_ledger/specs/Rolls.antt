@@ -1,6 +1,6 @@
 -- The live copies of a device, block by block.
 use Rattle.std.specs.Prelude.{◌≡◌, ℕ, ◌+◌, ◌≤◌, not, ◌==◌, List, [], ◌∷◌, ◌++◌, map, filter, find, sum_by, slice_index_or, slice_set, Option, None}
-use Rattle.device_model.specs.Book.{Live}
+use Rattle.model_device.specs.Book.{Live}
 use Rattle.unit_ledger.specs.declared.roll.LiveCopy.{LiveCopy}
 
 -- the live copies of one block, in the order in which they were added, and how many more may be before room is reserved

@@ -3,7 +3,7 @@ ghost use Rattle.turn_table.specs.Passes.{HoldsNothing, IsPassOf, own_count, joi
 
 use std::alloc::Global;
 use std::test::Fail;
-use table_trial::{Log, Piles, count, open, push, try_len};
+use test_table::{Log, Piles, count, open, push, try_len};
 use turn_table::{NewRefusal, Pass, Table};
 
 // Ten values were counted before; the log and the first pile have a 7.

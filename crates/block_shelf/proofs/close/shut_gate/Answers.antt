@@ -1,7 +1,7 @@
 use Rattle.std.proofs.Common.{◌≢◌, ◌<◌, ℕ, List, rules, sym, subst}
 use Rattle.std.proofs.lemmas.List.{get_or-set_same}
 use Rattle.block_format.specs.declared.geometry.Gate.TheVariants.{Shut, Unsure}
-use Rattle.kept_images.specs.Gates.{GateStands}
+use Rattle.law_images.specs.Gates.{GateStands}
 use Rattle.block_shelf.specs.View.{gate_at}
 use Rattle.block_shelf.proofs.Closing.{asked}
 use Rattle.block_shelf.proofs.close.shut_gate.Goals as goal

@@ -2,7 +2,7 @@ use Rattle.std.proofs.Common.{◌≡◌, ◌+◌, ◌*◌, ℕ, suc, take, arith
 use Rattle.std.specs.Prelude.{Some}
 use Rattle.shard_core.specs.Numbers.{AreFew, counts_of}
 use Rattle.shard_core.specs.View.{ShardView}
-use Rattle.node_model.specs.Commands.{Node, node_counts}
+use Rattle.model_node.specs.Commands.{Node, node_counts}
 use Rattle.core_run.specs.Standing.{StandsOn}
 use Rattle.core_run.specs.Turns.{wrapped_sum}
 use Rattle.core_run.proofs.Making.{slot_at, each_length, there_is}

@@ -1,5 +1,5 @@
 use Rattle.std.proofs.Common.{◌≡◌, ◌*◌, take}
-use Rattle.node_model.specs.Commands.{Node, node_counts}
+use Rattle.model_node.specs.Commands.{Node, node_counts}
 use Rattle.core_run.specs.Standing.{Each, StandsOn}
 use Rattle.core_run.proofs.Counting.{wrapped_counts, AreUnder, most_of_one}
 use Rattle.core_run.proofs.devices.counts_of.Given as goal

@@ -1,7 +1,7 @@
 use Rattle.std.proofs.Common.{ℕ, ◌+◌, ◌<◌, ◌^◌, arith, sym, subst, ap}
 use Rattle.std.specs.Prelude.{Option, Ok, IfSome}
 use Rattle.rec_format.specs.declared.entry.Counts.{Counts}
-use Rattle.device_model.specs.Device.{State}
+use Rattle.model_device.specs.Device.{State}
 use Rattle.shard_core.specs.Stands.{Agrees}
 use Rattle.shard_core.specs.Vacating.{MakesEvents, IsVacating}
 use Rattle.shard_core.specs.declared.defrag.Vacated.{Vacated}

@@ -1,8 +1,8 @@
 use Rattle.std.proofs.Common.{◌≡◌, ◌<◌, ◌≤◌, ◌+◌, ℕ, arith, subst}
 use Rattle.rec_format.specs.declared.version.Digest.{Digest}
 use Rattle.rec_format.specs.Places.{device_number}
-use Rattle.device_model.specs.Device.{part_of}
-use Rattle.device_model.specs.Steps.{part_total}
+use Rattle.model_device.specs.Device.{part_of}
+use Rattle.model_device.specs.Steps.{part_total}
 use Rattle.shard_core.specs.View.{setup_of}
 use Rattle.core_run.specs.Turns.{GoesOn}
 use Rattle.core_run.proofs.Turning.{goes_on_none, goes_on_then}

@@ -1,7 +1,7 @@
 use Rattle.std.proofs.Common.{◌≡◌, refl, List, ℕ, sym, subst, ap, ◌∙◌}
 use Rattle.rec_format.specs.declared.version.Digest.{Digest}
-use Rattle.device_model.specs.Device.{seen}
-use Rattle.device_model.specs.Events.{put_call, bury_call}
+use Rattle.model_device.specs.Device.{seen}
+use Rattle.model_device.specs.Events.{put_call, bury_call}
 use Rattle.shard_core.specs.Calls.{write_answer, meta_of, Makes}
 use Rattle.line_proto.specs.declared.command.Command.{Command}
 use Rattle.core_run.specs.Calls.{digest_of}

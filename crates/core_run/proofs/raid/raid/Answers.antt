@@ -3,7 +3,7 @@ use Rattle.std.specs.Prelude.{◌==◌}
 use Rattle.rec_format.specs.declared.version.Digest.{Digest}
 use Rattle.rec_format.specs.Places.{device_number}
 use Rattle.rec_format.specs.Versions.{top_number}
-use Rattle.device_model.specs.Device.{part_of}
+use Rattle.model_device.specs.Device.{part_of}
 use Rattle.raid_book.specs.Books.{begun}
 use Rattle.raid_book.specs.declared.turn.RaidNext.{RaidNext}
 use Rattle.line_proto.specs.declared.reply.LineFault.{LineFault}

@@ -4,21 +4,21 @@ use Rattle.std.proofs.lemmas.Bool.{ne_eqb}
 use Rattle.std.proofs.lemmas.Result.{err_from_is_err_and}
 use Rattle.rec_format.specs.declared.version.Digest.{Digest}
 use Rattle.rec_format.specs.declared.entry.Entry.{Entry}
-use Rattle.device_model.specs.Book.{first_block}
-use Rattle.device_model.specs.Device.{part_of}
-use Rattle.device_model.specs.Events.{Answer, happened, move_call}
+use Rattle.model_device.specs.Book.{first_block}
+use Rattle.model_device.specs.Device.{part_of}
+use Rattle.model_device.specs.Events.{Answer, happened, move_call}
 use Rattle.block_format.specs.declared.geometry.Geometry.{Geometry}
 use Rattle.block_format.specs.declared.geometry.Gate.TheVariants.{Shut}
 use Rattle.block_flusher.proofs.Steps.{size_bounds}
 use Rattle.sprig_tree.specs.Entries.{entry_of}
-use Rattle.part_laws.specs.Becoming.{moved_to}
+use Rattle.law_sprig.specs.Becoming.{moved_to}
 use Rattle.block_shelf.specs.declared.place.Place.{Place}
 use Rattle.block_shelf.specs.declared.refusals.PutRefusal.{PutRefusal}
 use Rattle.block_shelf.specs.Calls.{IsPriorIn}
 use Rattle.block_shelf.specs.View.{ShelfView, gate_at}
-use Rattle.shard_steps.specs.Sprigs.{place_of}
-use Rattle.shard_steps.specs.Events.{StepMakes}
-use Rattle.shard_steps.proofs.Found.{entry_named, lies_found, prior_stands}
+use Rattle.law_steps.specs.Sprigs.{place_of}
+use Rattle.law_steps.specs.Events.{StepMakes}
+use Rattle.law_steps.proofs.Found.{entry_named, lies_found, prior_stands}
 use Rattle.defrag_pass.specs.declared.refusal.MoveRefusal.{MoveRefusal}
 use Rattle.defrag_pass.specs.Moves.{Answers}
 use Rattle.defrag_pass.proofs.Moved.{makes_elsewhere, makes_unread, makes_unappended, makes_moved, copy_is_read, stand_read, none_there, out_of, fits_here, prior_at, live_at, version_at, shown_here, prior_read, read_then_later, replaced_by, setup_read}

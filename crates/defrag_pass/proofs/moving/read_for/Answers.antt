@@ -1,6 +1,6 @@
 use Rattle.std.proofs.Common.{sym, subst, arith}
-use Rattle.device_model.specs.Book.{defrag}
-use Rattle.device_model.specs.Legal.{move_reserve, no_place}
+use Rattle.model_device.specs.Book.{defrag}
+use Rattle.model_device.specs.Legal.{move_reserve, no_place}
 use Rattle.defrag_pass.specs.Moves.{IsUnread, IsUndamaged}
 use Rattle.defrag_pass.proofs.Asking.{unread_for, undamaged_for}
 use Rattle.defrag_pass.proofs.moving.read_for.Goals as goal

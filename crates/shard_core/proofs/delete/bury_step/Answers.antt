@@ -1,11 +1,11 @@
 use Rattle.std.specs.Prelude.{Result, Ok, Err}
 use Rattle.rec_format.specs.declared.version.Stamp.{Stamp}
-use Rattle.device_model.specs.Device.{part_of}
-use Rattle.device_model.specs.Events.{bury_call, stamp_given}
+use Rattle.model_device.specs.Device.{part_of}
+use Rattle.model_device.specs.Events.{bury_call, stamp_given}
 use Rattle.shard_core.specs.declared.refusals.WriteRefusal.{WriteRefusal}
 use Rattle.shard_core.specs.View.{setup_for}
 use Rattle.shard_core.specs.Calls.{write_answer}
-use Rattle.shard_steps.specs.Events.{StepMakes}
+use Rattle.law_steps.specs.Events.{StepMakes}
 use Rattle.shard_core.specs.Writing.{entombed_answer}
 use Rattle.shard_core.proofs.delete.bury_step.Goals as goal
 

@@ -7,15 +7,15 @@ use Rattle.rec_format.specs.declared.entry.Entry.{Entry}
 use Rattle.rec_format.specs.declared.version.Stamp.{Stamp}
 use Rattle.rec_format.specs.declared.version.Version.{Version}
 use Rattle.rec_format.specs.Versions.{IsVersion, new_stamp}
-use Rattle.device_model.specs.Book.{Setup}
-use Rattle.device_model.specs.Device.{part_of}
-use Rattle.device_model.specs.Events.{refused, spent}
+use Rattle.model_device.specs.Book.{Setup}
+use Rattle.model_device.specs.Device.{part_of}
+use Rattle.model_device.specs.Events.{refused, spent}
 use Rattle.sprig_tree.specs.Entries.{entry_of}
-use Rattle.part_laws.specs.Tests.{stamp_found}
+use Rattle.law_sprig.specs.Tests.{stamp_found}
 use Rattle.shard_core.specs.declared.refusals.WriteRefusal.{WriteRefusal}
 use Rattle.shard_core.specs.declared.refusals.WriteRefusal.TheVariants as write
 use Rattle.shard_core.specs.View.{setup_for}
-use Rattle.shard_steps.specs.Events.{StepMakes}
+use Rattle.law_steps.specs.Events.{StepMakes}
 use Rattle.shard_core.specs.Writing.{IsWriteOf, written_answer, entombed_answer}
 use Rattle.block_shelf.specs.declared.place.Class.TheVariants as class
 use Rattle.cold_scan.proofs.Room.{size_bounds}

@@ -5,27 +5,27 @@ use Rattle.std.proofs.Math.Nat.{le_refl}
 use Rattle.rec_format.specs.declared.entry.Entry.{Entry}
 use Rattle.rec_format.specs.declared.version.Digest.{Digest}
 use Rattle.rec_format.specs.declared.version.Stamp.{Stamp}
-use Rattle.device_model.specs.Book.{Setup, live_of_entry}
-use Rattle.device_model.specs.Device.{State, entry_is_covered, part_of}
-use Rattle.device_model.specs.Events.{happened}
+use Rattle.model_device.specs.Book.{Setup, live_of_entry}
+use Rattle.model_device.specs.Device.{State, entry_is_covered, part_of}
+use Rattle.model_device.specs.Events.{happened}
 use Rattle.block_format.specs.declared.geometry.Geometry.{Geometry}
-use Rattle.kept_trail.proofs.Books.{live_there}
+use Rattle.law_trail.proofs.Books.{live_there}
 use Rattle.tomb_rules.specs.Covers.{cover_of}
 use Rattle.sprig_tree.specs.Entries.{entry_of}
 use Rattle.sprig_tree.specs.State.{SprigState}
 use Rattle.unit_ledger.specs.Rolls.{copies_in, copy_at}
-use Rattle.part_laws.proofs.Looking.{cover_is}
+use Rattle.law_sprig.proofs.Looking.{cover_is}
 use Rattle.block_shelf.specs.Disks.{IsLater}
 use Rattle.block_shelf.specs.declared.place.Place.{Place}
 use Rattle.block_shelf.specs.View.{ShelfView}
 use Rattle.block_shelf.specs.Calls.{IsPriorIn, copy_live}
 use Rattle.shard_core.specs.declared.refusals.WriteRefusal.{WriteRefusal}
-use Rattle.shard_steps.specs.Sprigs.{place_of}
-use Rattle.shard_steps.specs.Standing.{StandTogether}
-use Rattle.shard_steps.specs.Events.{StepMakes}
+use Rattle.law_steps.specs.Sprigs.{place_of}
+use Rattle.law_steps.specs.Standing.{StandTogether}
+use Rattle.law_steps.specs.Events.{StepMakes}
 use Rattle.shard_core.specs.View.{setup_for}
 use Rattle.shard_core.specs.Writing.{entombed_answer, written_answer}
-use Rattle.shard_steps.proofs.Found.{entry_named, live_found, lies_found, prior_stands}
+use Rattle.law_steps.proofs.Found.{entry_named, live_found, lies_found, prior_stands}
 use Rattle.shard_core.proofs.Later.{later_none}
 use Rattle.shard_core.proofs.Making.{setup_fits}
 use Rattle.shard_core.proofs.Deletes.{removes_covered, makes_removed}

@@ -3,16 +3,16 @@ use Rattle.std.specs.Prelude.{Some, None, Result, Err}
 use Rattle.std.specs.Option.{option_copied}
 use Rattle.std.proofs.lemmas.Result.{err_from_is_err_and}
 use Rattle.rec_format.specs.declared.entry.Entry.{Entry}
-use Rattle.device_model.specs.Book.{Setup}
-use Rattle.device_model.specs.Device.{part_of}
-use Rattle.device_model.specs.Events.{expire_call, happened}
+use Rattle.model_device.specs.Book.{Setup}
+use Rattle.model_device.specs.Device.{part_of}
+use Rattle.model_device.specs.Events.{expire_call, happened}
 use Rattle.expiry_rule.specs.Seen.{expired_entry}
 use Rattle.sprig_tree.specs.Entries.{entry_of}
 use Rattle.shard_core.specs.declared.refusals.WriteRefusal.{WriteRefusal}
 use Rattle.shard_core.specs.View.{setup_for}
 use Rattle.shard_core.specs.Calls.{delete_answer}
 use Rattle.shard_core.specs.Writing.{written_answer}
-use Rattle.shard_steps.specs.Events.{StepMakes}
+use Rattle.law_steps.specs.Events.{StepMakes}
 use Rattle.shard_core.proofs.Found.{expired_held, expired_some, unexpired}
 use Rattle.shard_core.proofs.Puts.{makes_nothing}
 use Rattle.shard_core.proofs.Deletes.{expires_none, expires}

@@ -1,7 +1,7 @@
 use Rattle.std.proofs.Common.{inl, ◌≡◌, ◌≤◌, ◌^◌, true, ℕ, List, [], subst}
 use Rattle.std.specs.Prelude.{Result, Ok, Err, OnOk, IfOk}
 use Rattle.std.specs.List.{AllByRecursion}
-use Rattle.device_model.specs.Steps.{Step}
+use Rattle.model_device.specs.Steps.{Step}
 use Rattle.disk_model.specs.declared.disk.DiskFault.{DiskFault}
 use Rattle.block_shelf.specs.View.{is_unsealed}
 use Rattle.shard_core.specs.Calls.{FlushesAll}

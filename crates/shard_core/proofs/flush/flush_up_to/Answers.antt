@@ -1,8 +1,8 @@
 use Rattle.std.proofs.Common.{inl, inr, ◌≡◌, ◌≢◌, ◌+◌, ◌<◌, ◌≤◌, ◌^◌, true, false, ℕ, [], refl, sym, ◌∙◌, ap, subst, arith}
 use Rattle.std.specs.Prelude.{Option, Some, None, Result, Ok, Err, OnErr}
 use Rattle.std.specs.List.{AllByRecursion}
-use Rattle.fault_count.specs.Counts.{Rose}
-use Rattle.device_model.specs.Legal.{flush_between}
+use Rattle.model_faults.specs.Counts.{Rose}
+use Rattle.model_device.specs.Legal.{flush_between}
 use Rattle.disk_model.specs.Disk.{IsDisk}
 use Rattle.disk_model.specs.declared.disk.DiskFault.{DiskFault}
 use Rattle.block_shelf.specs.View.{ShelfView, is_unsealed}

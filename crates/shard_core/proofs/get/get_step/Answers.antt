@@ -4,9 +4,9 @@ use Rattle.std.specs.Prelude.{Some, None, Result, IfErr}
 use Rattle.std.specs.Option.{option_copied}
 use Rattle.rec_format.specs.declared.version.Version.{Version}
 use Rattle.rec_format.specs.declared.entry.Entry.{Entry}
-use Rattle.device_model.specs.Device.{part_of}
-use Rattle.device_model.specs.Device as device
-use Rattle.device_model.specs.Events.{get_call}
+use Rattle.model_device.specs.Device.{part_of}
+use Rattle.model_device.specs.Device as device
+use Rattle.model_device.specs.Events.{get_call}
 use Rattle.expiry_rule.specs.Seen.{seen_entry}
 use Rattle.sprig_tree.specs.Entries.{entry_of}
 use Rattle.block_shelf.specs.declared.place.Place.{Place}
@@ -15,13 +15,13 @@ use Rattle.block_shelf.specs.declared.refusals.ReadRefusal.TheVariants as read
 use Rattle.block_shelf.specs.View.{in_memory}
 use Rattle.block_shelf.specs.Standing.{IsCopyIn}
 use Rattle.block_shelf.specs.Reads.{copy_bytes, HasRead, IsUndamaged}
-use Rattle.shard_steps.specs.Sprigs.{place_of}
+use Rattle.law_steps.specs.Sprigs.{place_of}
 use Rattle.shard_core.specs.View.{setup_for}
-use Rattle.shard_steps.specs.Standing.{StandTogether}
+use Rattle.law_steps.specs.Standing.{StandTogether}
 use Rattle.shard_core.specs.Calls.{ReadsStored, read_answer}
-use Rattle.shard_steps.specs.Events.{StepMakes}
+use Rattle.law_steps.specs.Events.{StepMakes}
 use Rattle.shard_core.proofs.Found.{seen_none, seen_some}
-use Rattle.shard_steps.proofs.Found.{lies_found}
+use Rattle.law_steps.proofs.Found.{lies_found}
 use Rattle.shard_core.proofs.Getting.{seen_held, live_is, shown, shown_got, shown_is, shown_err, makes_unseen, makes_read}
 use Rattle.shard_core.proofs.get.get_step.Goals as goal
 

@@ -1,5 +1,5 @@
 use Rattle.std.proofs.Common.{◌≡◌, List, ◌++◌, length}
-use Rattle.device_model.specs.Steps.{part_total}
+use Rattle.model_device.specs.Steps.{part_total}
 use Rattle.block_format.specs.Copies.{Copy}
 use Rattle.cold_scan.specs.Starting.{own_copies}
 use Rattle.cold_scan.specs.Found.{HasKept}

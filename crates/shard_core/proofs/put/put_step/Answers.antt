@@ -7,19 +7,19 @@ use Rattle.rec_format.specs.declared.entry.Entry.{Entry}
 use Rattle.rec_format.specs.declared.version.Stamp.{Stamp}
 use Rattle.rec_format.specs.declared.version.Version.{Version}
 use Rattle.rec_format.specs.Versions.{IsVersion, a_put, new_stamp, void_time, block_capacity}
-use Rattle.device_model.specs.Book.{Setup}
-use Rattle.device_model.specs.Device.{part_of}
-use Rattle.device_model.specs.Events.{put_call, stamp_given, refused}
+use Rattle.model_device.specs.Book.{Setup}
+use Rattle.model_device.specs.Device.{part_of}
+use Rattle.model_device.specs.Events.{put_call, stamp_given, refused}
 use Rattle.block_format.specs.declared.geometry.Geometry.{Geometry}
 use Rattle.tomb_rules.specs.Covers.{cover_of}
 use Rattle.sprig_tree.specs.Entries.{entry_of}
-use Rattle.part_laws.specs.Tests.{stamp_found, generation_seen}
+use Rattle.law_sprig.specs.Tests.{stamp_found, generation_seen}
 use Rattle.block_shelf.specs.declared.place.Class.TheVariants as class
 use Rattle.shard_core.specs.declared.refusals.WriteRefusal.{WriteRefusal}
 use Rattle.shard_core.specs.declared.refusals.WriteRefusal.TheVariants as write
 use Rattle.shard_core.specs.View.{setup_for}
 use Rattle.shard_core.specs.Calls.{cause_of_write, write_answer, IsRefusedStep}
-use Rattle.shard_steps.specs.Events.{StepMakes}
+use Rattle.law_steps.specs.Events.{StepMakes}
 use Rattle.shard_core.specs.Writing.{IsWriteOf, IsFit, IsUnfit, written_answer}
 use Rattle.shard_core.proofs.Later.{later_none}
 use Rattle.shard_core.proofs.Puts.{stamp_fine, unfit_refusal, spent_refusal, put_writes, stands_against, memory_wants, makes_nothing, unfit_left}

@@ -7,7 +7,7 @@ use Rattle.rec_format.specs.declared.entry.Entry.{Entry}
 use Rattle.block_shelf.specs.declared.place.Place.{Place}
 use Rattle.sprig_tree.specs.State.{SprigState}
 use Rattle.shard_core.specs.Sprigs.{all_entries}
-use Rattle.shard_steps.specs.Sprigs.{place_of}
+use Rattle.law_steps.specs.Sprigs.{place_of}
 use Rattle.shard_core.specs.Finding.{live_places}
 use Rattle.shard_core.proofs.sprigs.live_copies.Goals as goal
 

@@ -5,19 +5,19 @@ use Rattle.std.specs.Prelude.{Option, Some, None, IfSome, option_map}
 use Rattle.rec_format.specs.declared.entry.Entry.{Entry}
 use Rattle.sprig_tree.specs.Entries.{entry_of}
 use Rattle.sprig_tree.specs.State.{SprigState}
-use Rattle.part_laws.specs.Becoming.{TakesEntry}
+use Rattle.law_sprig.specs.Becoming.{TakesEntry}
 use Rattle.rec_format.specs.Versions.{version_units}
-use Rattle.device_model.specs.Book.{has_room}
-use Rattle.device_model.specs.Device.{part_of}
+use Rattle.model_device.specs.Book.{has_room}
+use Rattle.model_device.specs.Device.{part_of}
 use Rattle.write_buffer.specs.declared.stream.Stream.{Stream}
 use Rattle.block_shelf.specs.declared.refusals.PutRefusal.TheVariants as put
 use Rattle.block_shelf.specs.Standing.{book_stream}
 use Rattle.block_shelf.specs.Calls.{IsPriorIn, prior_live}
 use Rattle.block_shelf.specs.Changes.{HasRoom}
-use Rattle.shard_steps.specs.Standing.{SprigStands}
+use Rattle.law_steps.specs.Standing.{SprigStands}
 use Rattle.block_shelf.proofs.Going.{goes_none}
-use Rattle.shard_steps.specs.Sprigs.{place_of}
-use Rattle.shard_steps.proofs.Found.{lies_found, prior_is, prior_stands, same_stands}
+use Rattle.law_steps.specs.Sprigs.{place_of}
+use Rattle.law_steps.proofs.Found.{lies_found, prior_is, prior_stands, same_stands}
 use Rattle.shard_core.proofs.Later.{later_none}
 use Rattle.shard_core.proofs.Writes.{copy_of, wrote_by, left_by}
 use Rattle.shard_core.proofs.write.append_entry.Goals as goal

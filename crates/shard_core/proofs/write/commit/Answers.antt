@@ -1,8 +1,8 @@
 use Rattle.std.proofs.Common.{ℕ, ◌∷◌, [], sym, subst}
 use Rattle.std.specs.Prelude.{Result}
-use Rattle.device_model.specs.Steps.{sealed_stream, after_step}
-use Rattle.device_model.specs.Book.{client}
-use Rattle.device_model.specs.Legal.{flush_between}
+use Rattle.model_device.specs.Steps.{sealed_stream, after_step}
+use Rattle.model_device.specs.Book.{client}
+use Rattle.model_device.specs.Legal.{flush_between}
 use Rattle.disk_model.specs.Disk.{IsHonest}
 use Rattle.disk_model.specs.declared.disk.DiskFault.{DiskFault}
 use Rattle.block_shelf.proofs.Going.{goes_then}

@@ -4,18 +4,18 @@ use Rattle.std.proofs.Math.Nat.{le_trans}
 use Rattle.std.specs.Prelude.{Result, Ok, Err, ◌⊎◌, IfErr}
 use Rattle.std.proofs.lemmas.Bool.{false≢true}
 use Rattle.std.proofs.lemmas.Result.{err_from_is_err_and}
-use Rattle.fault_count.specs.Counts.{Rose}
+use Rattle.model_faults.specs.Counts.{Rose}
 use Rattle.rec_format.specs.declared.version.Stamp.{Stamp}
-use Rattle.device_model.specs.Book.{Setup, client}
-use Rattle.device_model.specs.Device.{State, part_of}
-use Rattle.device_model.specs.Steps.{Step, wrote, sealed_stream, after_step}
-use Rattle.device_model.specs.Legal.{flush_between}
+use Rattle.model_device.specs.Book.{Setup, client}
+use Rattle.model_device.specs.Device.{State, part_of}
+use Rattle.model_device.specs.Steps.{Step, wrote, sealed_stream, after_step}
+use Rattle.model_device.specs.Legal.{flush_between}
 use Rattle.block_shelf.specs.View.{IsSetupOf}
 use Rattle.block_shelf.specs.Calls.{Goes}
 use Rattle.shard_core.specs.declared.refusals.WriteRefusal.{WriteRefusal}
 use Rattle.shard_core.specs.declared.refusals.WriteRefusal.TheVariants as write
 use Rattle.shard_core.specs.View.{setup_for}
-use Rattle.shard_steps.specs.Events.{StepMakes}
+use Rattle.law_steps.specs.Events.{StepMakes}
 use Rattle.shard_core.specs.Writing.{Wrote, Commits, written_answer}
 use Rattle.shard_core.proofs.FlushLoop.{rose_since, setup_stays}
 use Rattle.shard_core.proofs.Later.{later_then, shape_then}

@@ -1,6 +1,6 @@
 use Rattle.std.proofs.Common.{take, arith}
 use Rattle.std.specs.Prelude.{flat_map}
-use Rattle.device_model.specs.Steps.{after_steps}
+use Rattle.model_device.specs.Steps.{after_steps}
 use Rattle.shard_raid.specs.Ends.{end_steps}
 use Rattle.shard_raid.proofs.EndWalk.{begins, all_ended, all_removed, all_cleared, all_gone_over, stand_now, found, few_removed, few_cleared, fewer, ends_more}
 use Rattle.shard_raid.proofs.end.end_entries.Goals as goal

@@ -3,11 +3,11 @@ use Rattle.std.specs.Prelude.{List, [], ◌∷◌}
 use Rattle.std.proofs.lemmas.Bool.{cond-true, cond-false}
 use Rattle.rec_format.specs.Versions.{is_tomb_kind}
 use Rattle.rec_format.specs.declared.entry.Entry.{Entry}
-use Rattle.device_model.specs.Steps.{Step, rid_of, uncovered}
+use Rattle.model_device.specs.Steps.{Step, rid_of, uncovered}
 use Rattle.sprig_tree.specs.Entries.{with_replaced, without_digest}
 use Rattle.sprig_tree.specs.State.{SprigState}
-use Rattle.part_laws.specs.Becoming.{without_cover}
-use Rattle.part_laws.specs.Tests.{is_tombstone_entry}
+use Rattle.law_sprig.specs.Becoming.{without_cover}
+use Rattle.law_sprig.specs.Tests.{is_tombstone_entry}
 use Rattle.shard_raid.specs.Marks.{is_marked_by}
 use Rattle.shard_raid.specs.Ends.{GoTogether}
 use Rattle.shard_raid.proofs.OneEnd.{none_older_than, go_nowhere, go_uncovered}

@@ -1,6 +1,6 @@
 use Rattle.std.proofs.Common.{ℕ, ◌∙◌, ap, subst}
 use Rattle.raid_book.specs.Books.{BookState}
-use Rattle.part_laws.specs.Becoming.{mark_given}
+use Rattle.law_sprig.specs.Becoming.{mark_given}
 use Rattle.shard_raid.specs.Marks.{HasMarksBy}
 use Rattle.shard_raid.proofs.Turns.{makes_marked}
 use Rattle.shard_raid.proofs.mark.raid_mark.Goals as goal

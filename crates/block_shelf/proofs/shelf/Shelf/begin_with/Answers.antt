@@ -3,7 +3,7 @@ use Rattle.std.proofs.lemmas.List.{get_or-set_same, with_items_is}
 use Rattle.std.specs.Prelude.{slice_set}
 use Rattle.std.specs.Vec.{with_items}
 use Rattle.rec_format.specs.Versions.{top_number}
-use Rattle.device_model.specs.Book.{first_block}
+use Rattle.model_device.specs.Book.{first_block}
 use Rattle.block_format.specs.declared.geometry.Gate.{Gate}
 use Rattle.block_format.specs.declared.geometry.Gate.TheVariants.{Shut, Unsure}
 use Rattle.write_buffer.specs.declared.stream.Stream.{Stream}

@@ -1,9 +1,9 @@
 use Rattle.std.proofs.Common.{◌≡◌, ◌<◌, ℕ, [], ◌∷◌, refl, sym, ◌∙◌, ap, subst}
 use Rattle.rec_format.specs.declared.version.Digest.{Digest}
-use Rattle.device_model.specs.Histories.{dropped, rid}
-use Rattle.device_model.specs.Book.{Setup, dropped_live}
-use Rattle.device_model.specs.Device.{State}
-use Rattle.device_model.specs.Steps.{removed, rid_of, with_item, after_step}
+use Rattle.model_device.specs.Histories.{dropped, rid}
+use Rattle.model_device.specs.Book.{Setup, dropped_live}
+use Rattle.model_device.specs.Device.{State}
+use Rattle.model_device.specs.Steps.{removed, rid_of, with_item, after_step}
 use Rattle.block_shelf.specs.View.{ShelfView, IsUnused}
 use Rattle.block_shelf.specs.Calls.{Goes}
 use Rattle.block_shelf.specs.Changes.{with_free, with_requeued}

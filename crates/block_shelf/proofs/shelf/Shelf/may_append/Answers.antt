@@ -1,7 +1,7 @@
 use Rattle.std.proofs.Common.{◌≡◌, ◌≢◌, ℕ, ◌≤◌, Result, Ok, Err, sym, ◌∙◌, ap, subst}
 use Rattle.std.specs.Prelude.{Option, None, IfErr, MatchResult}
 use Rattle.rec_format.specs.Versions.{block_capacity}
-use Rattle.device_model.specs.Events.{Cause}
+use Rattle.model_device.specs.Events.{Cause}
 use Rattle.write_buffer.specs.declared.stream.Stream.{Stream}
 use Rattle.block_shelf.specs.declared.refusals.PutRefusal.{PutRefusal}
 use Rattle.block_shelf.specs.declared.refusals.PutRefusal.TheVariants.{Memory, Fault}

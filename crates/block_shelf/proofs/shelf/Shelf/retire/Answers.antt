@@ -1,9 +1,9 @@
 use Rattle.std.proofs.Common.{◌≡◌, ◌≢◌, ◌<◌, ◌≤◌, ◌++◌, arith, ℕ, List, [], ◌∷◌, length, refl, sym, ap, subst, ◌∙◌}
 use Rattle.std.specs.List.{AllByRecursion}
 use Rattle.std.specs.VecDeque.{deque_capacity}
-use Rattle.device_model.specs.Book.{Setup}
-use Rattle.device_model.specs.Device.{State}
-use Rattle.device_model.specs.Steps.{flushed_buffer}
+use Rattle.model_device.specs.Book.{Setup}
+use Rattle.model_device.specs.Device.{State}
+use Rattle.model_device.specs.Steps.{flushed_buffer}
 use Rattle.block_format.specs.declared.geometry.Gate.TheVariants.{Set}
 use Rattle.block_format.specs.Layout.{IsBody}
 use Rattle.write_buffer.specs.declared.phase.Phase.TheVariants.{GateBegun}

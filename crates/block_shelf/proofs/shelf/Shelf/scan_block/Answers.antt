@@ -5,12 +5,12 @@ use Rattle.disk_model.specs.Disk.{IsHonest}
 use Rattle.rec_format.specs.declared.version.Digest.{Digest}
 use Rattle.rec_format.specs.declared.version.Stamp.{Stamp}
 use Rattle.rec_format.specs.Places.{part_number_of, part_count}
-use Rattle.device_model.specs.Device.{scan_turn}
-use Rattle.device_model.specs.Steps.{after_step, scanned_block}
+use Rattle.model_device.specs.Device.{scan_turn}
+use Rattle.model_device.specs.Steps.{after_step, scanned_block}
 use Rattle.block_format.specs.declared.geometry.Found.{Found}
-use Rattle.kept_facts.specs.Asking.{FindsOlder}
-use Rattle.kept_images.specs.Held.{loosened}
-use Rattle.kept_images.proofs.Scanning.{scan_finds}
+use Rattle.law_facts.specs.Asking.{FindsOlder}
+use Rattle.law_images.specs.Held.{loosened}
+use Rattle.law_images.proofs.Scanning.{scan_finds}
 use Rattle.raid_book.specs.Books.{BookState, with_scan}
 use Rattle.raid_book.specs.Raids.{RaidStands, found_copies, found_parts}
 use Rattle.raid_book.specs.Turns.{turn_of}

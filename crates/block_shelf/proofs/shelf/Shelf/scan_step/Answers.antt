@@ -1,6 +1,6 @@
 use Rattle.std.proofs.Common.{arith, ◌≡◌, ℕ, [], ◌∷◌, sym, ◌∙◌, ap, subst}
-use Rattle.device_model.specs.Steps.{raid_given_up}
-use Rattle.kept_facts.specs.Facts.{SamePossible}
+use Rattle.model_device.specs.Steps.{raid_given_up}
+use Rattle.law_facts.specs.Facts.{SamePossible}
 use Rattle.raid_book.specs.Books.{given_up}
 use Rattle.disk_model.specs.Disk.{IsHonest}
 use Rattle.block_format.specs.Layout.{body_bytes}

@@ -3,8 +3,8 @@ use Rattle.std.proofs.lemmas.List.{with_items_is}
 use Rattle.std.specs.Prelude.{is_some}
 use Rattle.std.specs.Vec.{with_items}
 use Rattle.write_buffer.specs.Buffers.{BufferState}
-use Rattle.device_model.specs.Book.{filling_buffer}
-use Rattle.device_model.specs.Legal.{seal_if}
+use Rattle.model_device.specs.Book.{filling_buffer}
+use Rattle.model_device.specs.Legal.{seal_if}
 use Rattle.block_shelf.specs.View.{IsShelf}
 use Rattle.block_shelf.specs.Standing.{book_stream}
 use Rattle.block_shelf.specs.Calls.{Goes}

@@ -1,7 +1,7 @@
 use Rattle.std.proofs.Common.{List, sym, ◌∙◌, ap, subst}
 use Rattle.std.specs.Prelude.{Contains}
 use Rattle.rec_format.specs.declared.version.Digest.{Digest}
-use Rattle.device_model.specs.Legal.{queue_front}
+use Rattle.model_device.specs.Legal.{queue_front}
 use Rattle.unit_ledger.specs.Rolls.{BlockRoll, copies_in}
 use Rattle.unit_ledger.specs.Order.{by_unit, digests_by_unit, AreByUnit}
 use Rattle.block_shelf.specs.View.{ShelfView}

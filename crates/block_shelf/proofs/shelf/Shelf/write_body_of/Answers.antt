@@ -3,9 +3,9 @@ use Rattle.std.specs.List.{AllByRecursion}
 use Rattle.std.specs.Prelude.{slice_set}
 use Rattle.disk_model.specs.Disk.{IsHonest}
 use Rattle.block_flusher.specs.Images.{HasOneBody}
-use Rattle.fault_count.specs.Counts.{Rose}
-use Rattle.device_model.specs.Book.{Setup}
-use Rattle.device_model.specs.Device.{State}
+use Rattle.model_faults.specs.Counts.{Rose}
+use Rattle.model_device.specs.Book.{Setup}
+use Rattle.model_device.specs.Device.{State}
 use Rattle.write_buffer.specs.declared.phase.Phase.TheVariants.{Sealed, BodyDone}
 use Rattle.write_buffer.specs.Buffers.{BufferState, with_phase}
 use Rattle.write_buffer.proofs.Sizes.{body_size}

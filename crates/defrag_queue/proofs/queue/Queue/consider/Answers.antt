@@ -1,6 +1,6 @@
 use Rattle.std.proofs.Common.{ℕ, ◌≡◌, ◌<◌, ◌+◌, ◌-◌, ◌++◌, ◌∷◌, [], List, Bool, set, ap, sym, subst, ◌∙◌, arith}
 use Rattle.std.proofs.lemmas.List.{length-set}
-use Rattle.device_model.specs.Book.{is_in}
+use Rattle.model_device.specs.Book.{is_in}
 use Rattle.defrag_queue.specs.Queues.{QueueState, Marked, is_below_mark, considered}
 use Rattle.defrag_queue.specs.Rings.{walk, Ring}
 use Rattle.defrag_queue.proofs.Marks.{without, marked_enter, marked_leave, same, fewer, unmoved, moved_in, moved_out}

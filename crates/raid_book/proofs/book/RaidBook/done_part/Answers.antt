@@ -1,6 +1,6 @@
 use Rattle.std.proofs.Common.{◌≡◌, ℕ, subst, sym, ap, ◌∙◌}
-use Rattle.device_model.specs.Passes.{turn_part}
-use Rattle.device_model.specs.Steps.{after_step, marked_part, compared_part, done_part}
+use Rattle.model_device.specs.Passes.{turn_part}
+use Rattle.model_device.specs.Steps.{after_step, marked_part, compared_part, done_part}
 use Rattle.raid_book.specs.declared.turn.RaidNext.{RaidNext}
 use Rattle.raid_book.specs.declared.turn.RaidNext.TheVariants.{Apply}
 use Rattle.raid_book.specs.Found.{Falls, least_part}

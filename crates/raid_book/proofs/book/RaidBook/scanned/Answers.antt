@@ -1,6 +1,6 @@
 use Rattle.std.proofs.Common.{◌≡◌, ℕ, ◌+◌, ◌<◌, List, max, subst, sym, ap, ◌∙◌, arith}
 use Rattle.std.specs.List.{All}
-use Rattle.device_model.specs.Steps.{after_step, scanned_block}
+use Rattle.model_device.specs.Steps.{after_step, scanned_block}
 use Rattle.raid_book.specs.declared.turn.RaidNext.TheVariants.{Scan}
 use Rattle.raid_book.specs.Found.{copies_for, with_parts, least_part}
 use Rattle.raid_book.specs.Turns.{turn_with}

@@ -1,6 +1,6 @@
 use Rattle.std.proofs.Common.{◌≡◌, subst}
-use Rattle.device_model.specs.Device.{State}
-use Rattle.device_model.specs.Vacating.{can_gain}
+use Rattle.model_device.specs.Device.{State}
+use Rattle.model_device.specs.Vacating.{can_gain}
 use Rattle.shard_core.specs.View.{ShardView, setup_of}
 use Rattle.shard_core.specs.Stands.{Agrees}
 use Rattle.shard_core.proofs.shard.Shard.can_gain.Goals as goal

@@ -1,6 +1,6 @@
 use Rattle.std.proofs.Common.{◌≡◌, ◌<◌, ℕ, max, length, set, refl, sym, ap, ◌∙◌, subst, arith, Ok}
-use Rattle.device_model.specs.Device.{State, apply_turn}
-use Rattle.device_model.specs.Events.{turn_call, marks_undone}
+use Rattle.model_device.specs.Device.{State, apply_turn}
+use Rattle.model_device.specs.Events.{turn_call, marks_undone}
 use Rattle.raid_book.specs.declared.turn.RaidNext.{RaidNext}
 use Rattle.raid_book.specs.declared.turn.RaidNext.TheVariants.{Apply}
 use Rattle.raid_book.specs.Books.{BookState, FitsTurn}
@@ -9,8 +9,8 @@ use Rattle.raid_book.specs.Found.{least_part}
 use Rattle.raid_book.specs.Turns.{turn_with}
 use Rattle.shard_core.specs.declared.raid.RaidDid.TheVariants.{Applied}
 use Rattle.shard_core.specs.View.{ShardView, SameSetup, setup_of}
-use Rattle.shard_steps.specs.Standing.{StandTogether}
-use Rattle.shard_steps.specs.Events.{StepMakes}
+use Rattle.law_steps.specs.Standing.{StandTogether}
+use Rattle.law_steps.specs.Events.{StepMakes}
 use Rattle.shard_core.specs.Stands.{Agrees}
 use Rattle.shard_core.specs.Calls.{Makes}
 use Rattle.shard_core.specs.Raids.{TakesTurn}

@@ -1,6 +1,6 @@
 use Rattle.std.proofs.Common.{◌≡◌, sym, ◌∙◌, ap, subst}
 use Rattle.rec_format.specs.declared.entry.Counts.{Counts}
-use Rattle.device_model.specs.Device.{State}
+use Rattle.model_device.specs.Device.{State}
 use Rattle.sprig_tree.specs.declared.tally.Tally.{Tally}
 use Rattle.shard_core.specs.Numbers.{AreFew, counts_of}
 use Rattle.shard_core.specs.Stands.{Agrees}

@@ -4,8 +4,8 @@ use Rattle.rec_format.specs.declared.entry.Entry.{Entry}
 use Rattle.rec_format.specs.Places.{device_number}
 use Rattle.disk_model.specs.Disk.{IsHonest}
 use Rattle.block_shelf.specs.Disks.{IsLater}
-use Rattle.device_model.specs.Device.{State, part_of}
-use Rattle.device_model.specs.Events.{delete_call}
+use Rattle.model_device.specs.Device.{State, part_of}
+use Rattle.model_device.specs.Events.{delete_call}
 use Rattle.expiry_rule.specs.Seen.{seen_entry}
 use Rattle.tomb_rules.specs.Covers.{cover_of}
 use Rattle.shard_core.specs.declared.refusals.WriteRefusal.{WriteRefusal}

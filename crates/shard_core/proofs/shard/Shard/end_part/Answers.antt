@@ -1,7 +1,7 @@
 use Rattle.std.proofs.Common.{◌≡◌, ◌<◌, ℕ, length, set, refl, sym, ap, ◌∙◌, subst, arith, Ok}
-use Rattle.device_model.specs.Device.{State, drop_turn}
-use Rattle.device_model.specs.Steps.{part_total}
-use Rattle.device_model.specs.Events.{turn_call, part_ended}
+use Rattle.model_device.specs.Device.{State, drop_turn}
+use Rattle.model_device.specs.Steps.{part_total}
+use Rattle.model_device.specs.Events.{turn_call, part_ended}
 use Rattle.raid_book.specs.declared.turn.RaidNext.{RaidNext}
 use Rattle.raid_book.specs.declared.turn.RaidNext.TheVariants.{Drop}
 use Rattle.raid_book.specs.Books.{BookState, FitsTurn, after_turn}
@@ -9,8 +9,8 @@ use Rattle.shard_raid.specs.Raids.{turns_left}
 use Rattle.shard_raid.proofs.Nearer.{drop_nearer}
 use Rattle.shard_core.specs.declared.raid.RaidDid.TheVariants.{Dropped}
 use Rattle.shard_core.specs.View.{ShardView, SameSetup, setup_of}
-use Rattle.shard_steps.specs.Standing.{StandTogether}
-use Rattle.shard_steps.specs.Events.{StepMakes}
+use Rattle.law_steps.specs.Standing.{StandTogether}
+use Rattle.law_steps.specs.Events.{StepMakes}
 use Rattle.shard_core.specs.Stands.{Agrees}
 use Rattle.shard_core.specs.Calls.{Makes}
 use Rattle.shard_core.specs.Raids.{AreFewEnds, TakesTurn}

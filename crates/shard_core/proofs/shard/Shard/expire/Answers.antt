@@ -2,8 +2,8 @@ use Rattle.std.proofs.Common.{arith, ◌≡◌, ◌<◌, false, length, set, ref
 use Rattle.std.specs.Prelude.{Option, IsOk}
 use Rattle.rec_format.specs.declared.entry.Entry.{Entry}
 use Rattle.rec_format.specs.Places.{device_number}
-use Rattle.device_model.specs.Device.{State, part_of}
-use Rattle.device_model.specs.Events.{expire_call}
+use Rattle.model_device.specs.Device.{State, part_of}
+use Rattle.model_device.specs.Events.{expire_call}
 use Rattle.expiry_rule.specs.Seen.{expired_entry}
 use Rattle.tomb_rules.specs.Covers.{cover_of}
 use Rattle.shard_core.specs.Sprigs.{held}

@@ -1,8 +1,8 @@
 use Rattle.std.proofs.Common.{ℕ, ◌+◌, ◌<◌, refl, sym, ◌∙◌, subst, arith}
 use Rattle.std.specs.Prelude.{Some}
-use Rattle.device_model.specs.Book.{Setup}
-use Rattle.device_model.specs.Device.{State}
-use Rattle.device_model.specs.Steps.{part_total}
+use Rattle.model_device.specs.Book.{Setup}
+use Rattle.model_device.specs.Device.{State}
+use Rattle.model_device.specs.Steps.{part_total}
 use Rattle.block_shelf.specs.View.{IsShelf}
 use Rattle.shard_core.specs.View.{ShardView, SameSetup, setup_of}
 use Rattle.shard_core.specs.Stands.{Agrees, IsWhole}

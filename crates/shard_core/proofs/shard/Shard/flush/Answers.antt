@@ -1,10 +1,10 @@
 use Rattle.std.proofs.Common.{◌≤◌, sym, refl, ◌∙◌, subst}
 use Rattle.std.specs.Prelude.{OnErr}
-use Rattle.fault_count.specs.Counts.{Rose}
-use Rattle.device_model.specs.Device.{State}
-use Rattle.device_model.specs.Steps.{after_steps}
-use Rattle.device_model.specs.Events.{flush_call}
-use Rattle.device_model.specs.Legal.{seal_all}
+use Rattle.model_faults.specs.Counts.{Rose}
+use Rattle.model_device.specs.Device.{State}
+use Rattle.model_device.specs.Steps.{after_steps}
+use Rattle.model_device.specs.Events.{flush_call}
+use Rattle.model_device.specs.Legal.{seal_all}
 use Rattle.disk_model.specs.Disk.{IsHonest}
 use Rattle.block_shelf.specs.View.{ShelfView}
 use Rattle.shard_core.specs.View.{ShardView, setup_of}
@@ -13,7 +13,7 @@ use Rattle.shard_core.specs.Calls.{Makes, flush_answer}
 use Rattle.block_shelf.proofs.Going.{goes_then}
 use Rattle.shard_core.proofs.FlushLoop.{setup_stays}
 use Rattle.shard_core.proofs.Making.{setup_is, makes_flush, whole_made}
-use Rattle.shard_steps.proofs.Making.{seal_all_flushing}
+use Rattle.law_steps.proofs.Making.{seal_all_flushing}
 use Rattle.shard_core.proofs.shard.Shard.flush.Given.{Over}
 use Rattle.shard_core.proofs.shard.Shard.flush.Goals as goal
 

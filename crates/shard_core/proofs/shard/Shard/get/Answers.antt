@@ -2,8 +2,8 @@ use Rattle.std.proofs.Common.{◌≡◌, List, ◌<◌, length, set, refl, sym, 
 use Rattle.std.specs.Prelude.{Some, IfErr, Contains}
 use Rattle.rec_format.specs.declared.entry.Entry.{Entry}
 use Rattle.rec_format.specs.Places.{device_number}
-use Rattle.device_model.specs.Device.{State, part_of}
-use Rattle.device_model.specs.Events.{get_call}
+use Rattle.model_device.specs.Device.{State, part_of}
+use Rattle.model_device.specs.Events.{get_call}
 use Rattle.disk_model.specs.Disk.{IsHonest}
 use Rattle.expiry_rule.specs.Seen.{seen_entry}
 use Rattle.write_buffer.specs.Buffers.{BufferState}

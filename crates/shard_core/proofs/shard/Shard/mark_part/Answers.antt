@@ -1,6 +1,6 @@
 use Rattle.std.proofs.Common.{◌≡◌, ◌<◌, length, set, refl, sym, ap, ◌∙◌, subst, arith, Ok}
-use Rattle.device_model.specs.Device.{State, mark_turn}
-use Rattle.device_model.specs.Events.{turn_call, marks_made}
+use Rattle.model_device.specs.Device.{State, mark_turn}
+use Rattle.model_device.specs.Events.{turn_call, marks_made}
 use Rattle.raid_book.specs.declared.turn.RaidNext.{RaidNext}
 use Rattle.raid_book.specs.declared.turn.RaidNext.TheVariants.{Mark}
 use Rattle.raid_book.specs.Books.{BookState, FitsTurn, after_turn}
@@ -9,8 +9,8 @@ use Rattle.shard_raid.specs.Raids.{turns_left}
 use Rattle.shard_raid.proofs.Nearer.{mark_nearer}
 use Rattle.shard_core.specs.declared.raid.RaidDid.TheVariants.{Marked}
 use Rattle.shard_core.specs.View.{ShardView, SameSetup, setup_of}
-use Rattle.shard_steps.specs.Standing.{StandTogether}
-use Rattle.shard_steps.specs.Events.{StepMakes}
+use Rattle.law_steps.specs.Standing.{StandTogether}
+use Rattle.law_steps.specs.Events.{StepMakes}
 use Rattle.shard_core.specs.Stands.{Agrees}
 use Rattle.shard_core.specs.Calls.{Makes}
 use Rattle.shard_core.specs.Raids.{TakesTurn}

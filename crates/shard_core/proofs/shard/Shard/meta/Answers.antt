@@ -1,5 +1,5 @@
 use Rattle.std.proofs.Common.{◌≡◌, ◌<◌, length, refl, sym, ap, ◌∙◌, subst}
-use Rattle.device_model.specs.Device.{State, seen, part_of}
+use Rattle.model_device.specs.Device.{State, seen, part_of}
 use Rattle.shard_core.specs.View.{ShardView, setup_of}
 use Rattle.shard_core.specs.Stands.{Agrees}
 use Rattle.shard_core.specs.Calls.{meta_of}

@@ -1,7 +1,7 @@
 use Rattle.std.proofs.Common.{arith, ◌≡◌, ◌<◌, length, set, refl, sym, ap, ◌∙◌, subst}
 use Rattle.rec_format.specs.Places.{device_number}
-use Rattle.device_model.specs.Device.{State, part_of}
-use Rattle.device_model.specs.Events.{Answer, move_call}
+use Rattle.model_device.specs.Device.{State, part_of}
+use Rattle.model_device.specs.Events.{Answer, move_call}
 use Rattle.shard_core.specs.View.{ShardView, SameSetup, setup_of}
 use Rattle.shard_core.specs.Stands.{Agrees}
 use Rattle.shard_core.specs.Calls.{Makes}

@@ -4,13 +4,13 @@ use Rattle.std.specs.Option.{option_copied}
 use Rattle.std.proofs.lemmas.Bool.{cond-true, cond-false}
 use Rattle.rec_format.specs.declared.version.Digest.{Digest}
 use Rattle.rec_format.specs.declared.entry.Entry.{Entry}
-use Rattle.device_model.specs.Passes.{is_behind}
-use Rattle.device_model.specs.Steps.{part_total}
+use Rattle.model_device.specs.Passes.{is_behind}
+use Rattle.model_device.specs.Steps.{part_total}
 use Rattle.expiry_rule.specs.Seen.{expired_entry, is_expired_entry}
 use Rattle.sprig_tree.specs.Entries.{digests_in, entry_after}
 use Rattle.sprig_tree.specs.State.{SprigState}
-use Rattle.part_laws.proofs.Behind.{behind, walk_from, entries_behind}
-use Rattle.part_laws.proofs.Taking.{swapped}
+use Rattle.law_sprig.proofs.Behind.{behind, walk_from, entries_behind}
+use Rattle.law_sprig.proofs.Taking.{swapped}
 use Rattle.shard_core.specs.Expiring.{entries_in, expired_left}
 use Rattle.shard_core.specs.View.{ShardView, setup_of}
 use Rattle.shard_core.specs.Stands.{IsWhole}

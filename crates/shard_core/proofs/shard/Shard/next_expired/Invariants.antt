@@ -1,7 +1,7 @@
 use Rattle.std.proofs.Common.{◌≡◌, length}
 use Rattle.std.specs.Prelude.{filter}
 use Rattle.expiry_rule.specs.Seen.{is_expired_entry}
-use Rattle.part_laws.proofs.Behind.{behind, walk_from}
+use Rattle.law_sprig.proofs.Behind.{behind, walk_from}
 use Rattle.shard_core.proofs.shard.Shard.next_expired.Given as goal
 
 -- what is expired behind the last digest is from the next entry on

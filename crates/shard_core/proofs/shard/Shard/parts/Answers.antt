@@ -2,9 +2,9 @@ use Rattle.std.proofs.Common.{◌≡◌, ◌<◌, ℕ, sym, ◌∙◌, ap, subst
 use Rattle.rec_format.specs.declared.version.Digest.{Digest}
 use Rattle.rec_format.specs.Places.{device_number, part_count}
 use Rattle.block_format.specs.declared.geometry.Geometry.{Geometry}
-use Rattle.device_model.specs.Device.{part_of}
-use Rattle.device_model.specs.Steps.{part_total}
-use Rattle.part_laws.proofs.Counting.{part_exists}
+use Rattle.model_device.specs.Device.{part_of}
+use Rattle.model_device.specs.Steps.{part_total}
+use Rattle.law_sprig.proofs.Counting.{part_exists}
 use Rattle.shard_core.specs.View.{ShardView, setup_of}
 use Rattle.shard_core.proofs.shard.Shard.parts.Goals as goal
 

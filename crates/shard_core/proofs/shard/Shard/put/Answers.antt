@@ -4,14 +4,14 @@ use Rattle.rec_format.specs.declared.version.Stamp.{Stamp}
 use Rattle.rec_format.specs.Places.{device_number}
 use Rattle.rec_format.specs.Versions.{units_for}
 use Rattle.disk_model.specs.Disk.{IsHonest}
-use Rattle.device_model.specs.Book.{first_block}
+use Rattle.model_device.specs.Book.{first_block}
 use Rattle.block_format.specs.declared.geometry.Gate.TheVariants.{Shut}
 use Rattle.write_buffer.specs.declared.stream.Stream.TheVariants.{Client}
 use Rattle.block_shelf.specs.View.{gate_at}
 use Rattle.block_shelf.specs.Changes.{HasRoom}
 use Rattle.block_shelf.specs.Disks.{IsLater}
-use Rattle.device_model.specs.Device.{State, part_of}
-use Rattle.device_model.specs.Events.{put_call}
+use Rattle.model_device.specs.Device.{State, part_of}
+use Rattle.model_device.specs.Events.{put_call}
 use Rattle.shard_core.specs.declared.refusals.WriteRefusal.{WriteRefusal}
 use Rattle.shard_core.specs.declared.refusals.WriteRefusal.TheVariants as write
 use Rattle.shard_core.specs.View.{ShardView, SameSetup, setup_of}

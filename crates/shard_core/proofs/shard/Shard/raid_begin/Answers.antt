@@ -1,8 +1,8 @@
 use Rattle.std.proofs.Common.{◌≡◌, refl, ◌∙◌, ap, subst, Bool, true, false, cond}
 use Rattle.std.specs.Prelude.{◌==◌}
 use Rattle.rec_format.specs.Versions.{top_number}
-use Rattle.device_model.specs.Device.{State}
-use Rattle.device_model.specs.Events.{begin_call, raid_numbered}
+use Rattle.model_device.specs.Device.{State}
+use Rattle.model_device.specs.Events.{begin_call, raid_numbered}
 use Rattle.raid_book.specs.Books.{begun}
 use Rattle.block_shelf.specs.View.{ShelfView}
 use Rattle.shard_raid.specs.Raids.{number_of}

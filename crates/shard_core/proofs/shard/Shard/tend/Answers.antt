@@ -1,5 +1,5 @@
 use Rattle.std.proofs.Common.{sym, ◌∙◌}
-use Rattle.device_model.specs.Events.{after_event}
+use Rattle.model_device.specs.Events.{after_event}
 use Rattle.shard_core.specs.View.{setup_of}
 use Rattle.shard_core.proofs.Tending.{tends_vacating, tends_resting, tends_well}
 use Rattle.shard_core.proofs.shard.Shard.tend.Goals as goal

@@ -1,0 +1,33 @@
+-- Crate law_raid. What a raid that takes every turn has done at its end.
+use Rattle.std.specs.Prelude.{ℕ, Bool, true, ◌&&◌, List, [], ◌∷◌, count_by, ◌≡◌, if◌then◌else◌, MatchBool}
+use Rattle.rec_format.specs.declared.version.Digest.{Digest}
+use Rattle.rec_format.specs.declared.version.Version.{Version}
+use Rattle.rec_format.specs.Versions.{is_put, is_tombstone}
+use Rattle.model_device.specs.Histories.{Item, rid, cleared}
+use Rattle.model_device.specs.Book.{Setup}
+use Rattle.model_device.specs.Device.{State, history, entry, entry_passes, digests_of, is_eligible}
+use Rattle.model_device.specs.Events.{Event, after_event}
+use Rattle.law_facts.specs.Facts.{Possible, IsOlder, NoneOlder}
+use Rattle.law_facts.specs.Asking.{ScansAll, ScansOnly}
+
+-- some possible copy of the digest is older than its entry
+abbrev pub SomeOlder : State → Possible → Digest → Type 0
+SomeOlder s possible digest = (block : ℕ) × (v : Version) × IsOlder s possible block digest v
+
+-- what a raid that removes or clears the entry adds to its history
+abbrev pub drop_item : State → Digest → Item
+drop_item s digest = if entry_passes is_tombstone (entry s digest) then rid else cleared
+
+-- A raid from this state, of which these copies are possible, removed just those tombstones that are old enough and have no older copy, cleared just
+-- the covers of those covered puts that have none, and told how many. `bare` tells of which digests no older copy is possible.
+pub record RaidsExactly (setup : Setup) (now : ℕ) (s : State) (possible : Possible) (removed cleared : ℕ) (after : State) : Type 0 where
+  pub bare : Digest → Bool
+  pub bare_is : (digest : Digest) → is_eligible setup now s digest ≡ true → MatchBool (bare digest) (NoneOlder s possible digest) (SomeOlder s possible digest)
+  pub removed_are : removed ≡ count_by (λ d. (is_eligible setup now s d && bare d) && entry_passes is_tombstone (entry s d)) (digests_of s.log)
+  pub cleared_are : cleared ≡ count_by (λ d. (is_eligible setup now s d && bare d) && entry_passes is_put (entry s d)) (digests_of s.log)
+  pub histories : (digest : Digest) → history after digest ≡ (if is_eligible setup now s digest && bare digest then drop_item s digest ∷ history s digest else history s digest)
+
+-- each scan of these events finds what it has to, and nothing but what is possible; what is possible stays the same up to the last scan
+abbrev pub FindsAlong : Setup → Possible → State → List Event → Type 0
+FindsAlong setup possible s [] = Unit {0}
+FindsAlong setup possible s (event ∷ events) = ScansAll s possible event × ScansOnly s possible event × FindsAlong setup possible (after_event setup event s) events

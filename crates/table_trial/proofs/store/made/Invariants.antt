@@ -1,4 +1,0 @@
-use Rattle.table_trial.proofs.store.made.Given as goal
-
-abbrev pub ghost-new : goal.ghost-new
-ghost-new g a = g.opening
