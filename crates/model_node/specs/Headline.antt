@@ -1,8 +1,11 @@
 -- Crate model_node. What a run promises: what is written is the replies of a chain, each image that a crash might have left
 -- is one that the chain allows, with commit on what was answered as done is on the device, and its end has its cause.
-use Rattle.std.specs.Prelude.{length, ℕ, ◌≤◌, Bool, true, false, List, [], ◌∷◌, map, Option, ◌≡◌, MatchOption, IfSome, slice_get, IsTrue}
+use Rattle.std.specs.Prelude.{length, ℕ, ◌≤◌, Bool, true, false, List, [], ◌∷◌, ◌++◌, map, Option, ◌≡◌, ◌≢◌, MatchOption, IfSome, slice_get, IsTrue}
+use Rattle.model_faults.specs.Counts.{Rose}
 use Rattle.disk_model.specs.Runs.{OneOf}
 use Rattle.model_device.specs.Book.{Setup}
+use Rattle.model_device.specs.Events.{Event, flush_call, after_events, states_of}
+use Rattle.model_device.specs.Legal.{IsLegal, last_faults}
 use Rattle.block_format.specs.Layout.{Body}
 use Rattle.law_start.specs.Start.{start_state}
 use Rattle.law_start.specs.Surviving.{Survives}
@@ -100,3 +103,23 @@ pub record HoldsThroughout (setups : List Setup) (o : Outside) (since now : Imag
   pub left_since : LeavesSome since replies.first replies.lines replies.closing
   pub committed : CommitsAll replies.first replies.lines
   pub unrefused : IsNeverRefused o.end
+
+-- ---- many callers
+
+-- One device under many callers: one legal list from its start, and the closing flush; each image that its disk might have
+-- left survives the state after some of the list and some of the steps of the next event. The list's counts of faults are
+-- between those at entry, which the start may have raised, and those at exit.
+pub record HoldsForAll (setup : Setup) (how : RunEnd) (image : List ℕ) (before after : ℕ) (since now : List ℕ → Type 0) : Type 0 where
+  pub bodies : List Body
+  pub sound : IsSound setup image bodies
+  pub opened : ℕ
+  pub events : List Event
+  pub closing : Event
+  pub is_flush : closing.call ≡ flush_call
+  pub count_first : before ≤ opened
+  pub count_last : last_faults opened (events ++ closing ∷ []) ≡ after
+  pub legal : IsLegal setup true (start_state setup bodies) opened (events ++ closing ∷ [])
+  pub success : how ≡ end.Served → (after_events setup (events ++ closing ∷ []) (start_state setup bodies)).book.buffers ≡ []
+  pub disk : how ≡ end.DeviceFault setup.device → Rose before after × ((after_events setup (events ++ closing ∷ []) (start_state setup bodies)).book.buffers ≢ [])
+  pub left_since : (other : List ℕ) → since other → OneOf (Survives setup) (states_of setup (events ++ closing ∷ []) (start_state setup bodies)) other
+  pub left_now : (other : List ℕ) → now other → Survives setup (after_events setup (events ++ closing ∷ []) (start_state setup bodies)) other
