@@ -26,7 +26,8 @@ images_at place n place' n' before now here long from =
     λ c image. let t = from c image in (t.0, t.1, torn_at place n place' n' t.0 c here long t.2)
 
 -- what a write left at its place
-pub stands : {T E : Type 0} (r : Result T E) (place place' n : ℕ) (bytes text old new : List ℕ) → place ≡ place' → length bytes ≡ n → bytes ≡ text → OnOk r (Written place bytes old new) → OnOk r (range place' n new ≡ text)
+pub stands : {T E : Type 0} (r : Result T E) (place place' n : ℕ) (bytes text old new : List ℕ) → place ≡ place' → length bytes ≡ n → bytes ≡ text → OnOk r (Written place bytes old new)
+    → OnOk r (range place' n new ≡ text)
 stands (Ok x) place place' n bytes text old new here long is write =
     ap (λ (p : ℕ). range p n new) (sym here) ∙ ap (λ (k : ℕ). range place k new) (sym long) ∙ write.there ∙ is
 stands (Err e) place place' n bytes text old new here long is write = tt
@@ -52,7 +53,8 @@ module _ (g : Geometry) (block : ℕ) where
       zeros_differ : replicate 16 0 ≢ gate_text
       zeros_differ same = cc
 
-  pub alone_shut : {T E : Type 0} (r : Result T E) (bytes : List ℕ) (images : Images) → OnOk r (gate_sector g block bytes ≡ closed_sector) → OnOk r (IsOnly bytes images) → OnOk r (IsShut g block images)
+  pub alone_shut : {T E : Type 0} (r : Result T E) (bytes : List ℕ) (images : Images) → OnOk r (gate_sector g block bytes ≡ closed_sector) → OnOk r (IsOnly bytes images)
+      → OnOk r (IsShut g block images)
   alone_shut (Ok x) bytes images gate only = only_shut bytes images gate only
   alone_shut (Err e) bytes images gate only = tt
 
@@ -62,14 +64,16 @@ module _ (g : Geometry) (block : ℕ) where
       only_shut bytes images
       (ap (gate_sector g block) zeros ∙ ap (take 4096) (drop-replicate (block_place g block) n 0) ∙ take-replicate 4096 (n - block_place g block) 0 (omega arith)) only
 
-  pub alone_opened : {T E : Type 0} (r : Result T E) (bytes : List ℕ) (images : Images) → OnOk r (gate_sector g block bytes ≡ open_sector) → OnOk r (IsOnly bytes images) → OnOk r (IsOpened g block images)
+  pub alone_opened : {T E : Type 0} (r : Result T E) (bytes : List ℕ) (images : Images) → OnOk r (gate_sector g block bytes ≡ open_sector) → OnOk r (IsOnly bytes images)
+      → OnOk r (IsOpened g block images)
   alone_opened (Ok x) bytes images gate only = λ c image. ap (take 16) (ap (gate_sector g block) (only.alone c image) ∙ gate)
   alone_opened (Err e) bytes images gate only = tt
 
 -- ---- all other bytes
 
 -- a part of a block is apart from the header and from each other block
-pub elsewhere : (g : Geometry) (block place n : ℕ) (old new : List ℕ) → block_place g block ≤ place → place + n ≤ block_place g block + g.block_size → Torn place n old new → StaysElsewhere g block old new
+pub elsewhere : (g : Geometry) (block place n : ℕ) (old new : List ℕ) → block_place g block ≤ place → place + n ≤ block_place g block + g.block_size → Torn place n old new
+    → StaysElsewhere g block old new
 elsewhere g block place n old new from to torn = record {
   header = torn.apart 0 4096 (inl (omega arith));
   others = λ k other. torn.apart (block_place g k) g.block_size (⊎_elim
@@ -81,5 +85,6 @@ elsewhere g block place n old new from to torn = record {
     sides : (k : ℕ) → k ≢ block → (k + 1 ≤ block) ⊎ (block + 1 ≤ k)
     sides k other = grind (arith, other)
 
-pub no_other : (g : Geometry) (block place n : ℕ) (before now : Images) → block_place g block ≤ place → place + n ≤ block_place g block + g.block_size → TornFrom place n before now → ChangesNoOther g block before now
+pub no_other : (g : Geometry) (block place n : ℕ) (before now : Images) → block_place g block ≤ place → place + n ≤ block_place g block + g.block_size → TornFrom place n before now
+    → ChangesNoOther g block before now
 no_other g block place n before now from to torn = λ c image. let t = torn c image in (t.0, t.1, elsewhere g block place n t.0 c from to t.2)

@@ -139,7 +139,8 @@ no_more capacity bytes block place f bs front count within short =
 -- bytes with a fault have no body of the block
 pub fault_refuses : (capacity : ℕ) (bytes : List ℕ) (block place : ℕ) → capacity < 2 ^ 32 → IsFaultAt capacity bytes block place → (b : Body) → IsBody capacity bytes b → b.block ≡ block → ⊥
 fault_refuses capacity bytes block place small (inl none) b is block_is =
-    none.0 b.number (length b.records) (units_of_records b.records) (subst (λ (k : ℕ). IsHead capacity bytes b.number (length b.records) (units_of_records b.records) k) block_is (head_of_body capacity bytes b is))
+    none.0 b.number (length b.records) (units_of_records b.records)
+    (subst (λ (k : ℕ). IsHead capacity bytes b.number (length b.records) (units_of_records b.records) k) block_is (head_of_body capacity bytes b is))
 fault_refuses capacity bytes block place small (inr f) b is block_is =
     let mine = fields_of_head capacity bytes f.number f.count f.units block small f.head in
     let its = fields_of_head capacity bytes b.number (length b.records) (units_of_records b.records) b.block small (head_of_body capacity bytes b is) in
@@ -195,7 +196,8 @@ reading_of bytes block number count units found head has =
         behind = behind;
         text = sym (take-append-drop 32 bytes)
             ∙ ap (λ (t : List ℕ). t ++ drop 32 bytes) text
-            ∙ ap (λ (t : List ℕ). body_head_text number (length has.records) (units_of_records has.records) block ++ t) (sym (front_is bytes has.records (record { each = has.each; there = has.there })))
+            ∙ ap (λ (t : List ℕ). body_head_text number (length has.records) (units_of_records has.records) block ++ t)
+            (sym (front_is bytes has.records (record { each = has.each; there = has.there })))
             ∙ sym (append_assoc (body_head_text number (length has.records) (units_of_records has.records) block) (records_text has.records) behind);
       };
       block_is = refl;

@@ -40,7 +40,28 @@ hello_text = record {
 }
   where
     sevens_are : AllByRecursion (λ b. b < 256) (replicate 20 7)
-    sevens_are = (lit< tt, (lit< tt, (lit< tt, (lit< tt, (lit< tt, (lit< tt, (lit< tt, (lit< tt, (lit< tt, (lit< tt, (lit< tt, (lit< tt, (lit< tt, (lit< tt, (lit< tt, (lit< tt, (lit< tt, (lit< tt, (lit< tt, (lit< tt, tt))))))))))))))))))))
+    sevens_are = (
+      lit< tt,
+      (
+        lit< tt,
+        (
+          lit< tt,
+          (
+            lit< tt,
+            (
+              lit< tt,
+              (
+                lit< tt,
+                (
+                  lit< tt,
+                  (lit< tt, (lit< tt, (lit< tt, (lit< tt, (lit< tt, (lit< tt, (lit< tt, (lit< tt, (lit< tt, (lit< tt, (lit< tt, (lit< tt, (lit< tt, tt))))))))))))),
+                ),
+              ),
+            ),
+          ),
+        ),
+      ),
+    )
 
 -- zeros: no head
 zeros_fault : IsFaultAt 766 (replicate 64 0) 0 0

@@ -52,7 +52,12 @@ same_fault refusal answered failed is_answered is_failed same = cc
 
 -- a refusal leaves the shape
 room_shape : {D : Type 0} (old new : ShelfView D) → SameButRoom old new → SameShape old new
-room_shape {D} old new same = record { geometry = ap (λ (x : ShelfView D). x.geometry) same.rest; limits = ap (λ (x : ShelfView D). x.limits) same.rest; raid = ap (λ (x : ShelfView D). x.raid) same.rest }
+room_shape {D} old new same = record {
+  geometry = ap (λ (x : ShelfView D). x.geometry) same.rest;
+  limits = ap (λ (x : ShelfView D). x.limits) same.rest;
+  raid =
+      ap (λ (x : ShelfView D). x.raid) same.rest;
+}
 
 same_shape : {D : Type 0} (old new : ShelfView D) → new ≡ old → SameShape old new
 same_shape {D} old new same = record { geometry = ap (λ (x : ShelfView D). x.geometry) same; limits = ap (λ (x : ShelfView D). x.limits) same; raid = ap (λ (x : ShelfView D). x.raid) same }
@@ -63,12 +68,18 @@ left_shape old new Spent left = same_shape old new left
 left_shape old new (Load pending) left = same_shape old new left
 left_shape old new (Space free) left = same_shape old new left
 left_shape old new Memory left = room_shape old new left
-left_shape {D} old new Fault left = record { geometry = ap (λ (x : ShelfView D). x.geometry) left.1.rest; limits = ap (λ (x : ShelfView D). x.limits) left.1.rest; raid = ap (λ (x : ShelfView D). x.raid) left.1.rest }
+left_shape {D} old new Fault left = record {
+  geometry = ap (λ (x : ShelfView D). x.geometry) left.1.rest;
+  limits = ap (λ (x : ShelfView D). x.limits) left.1.rest;
+  raid =
+      ap (λ (x : ShelfView D). x.raid) left.1.rest;
+}
 
 place_in : (g h : Geometry) (n units : ℕ) (place : Place) → g ≡ h → n ≡ units → IsPlaceFor g n place → IsPlaceFor h units place
 place_in g h n units place geometry same is = subst (λ (x : Geometry). IsPlaceFor x units place) geometry (subst (λ (m : ℕ). IsPlaceFor g m place) same is)
 
-module _ {D : Type 0} (view : D → DiskView) (is_disk : (disk : D) → IsDisk (view disk)) (kind : Class) (digest : Digest) (v : Version) (prior : Option Place) (old : ShelfView D) (is : IsShelf view old) where
+module _ {D : Type 0} (view : D → DiskView) (is_disk : (disk : D) → IsDisk (view disk)) (kind : Class) (digest : Digest) (v : Version) (prior : Option Place) (old : ShelfView D)
+    (is : IsShelf view old) where
   abbrev stream : Stream
   stream = stream_of kind
 
@@ -172,13 +183,19 @@ module _ {D : Type 0} (view : D → DiskView) (is_disk : (disk : D) → IsDisk (
           let stands = there_still.stands in
           let disk : new.disk ≡ old.disk = puts.disk ∙ room_disk old mid same in
           record {
-            appended = λ setup s setup_is stands live is_copy. takes_in_room view is_disk setup kind s digest v prior at old mid new place is stands setup_is is_copy same there_still live there (puts.put there_still.stands) puts.each;
+            appended = λ setup s setup_is stands live is_copy. takes_in_room view is_disk setup kind s digest v prior at old mid new place is stands setup_is is_copy same there_still live
+                there (puts.put there_still.stands) puts.each;
             causes = λ setup s setup_is stands. none_in_room setup s old stands setup_is kind units (fits_in setup setup_is) (room_found view setup kind s v at old is stands setup_is room);
             refused = tt;
             first = both_in_room stream units at old mid new same room (put_both digest v prior stands.front stands.buffer stands.behind mid new place (puts.put stands));
             place = place_in mid.geometry old.geometry n units place (ap (λ (x : ShelfView D). x.geometry) same.rest) n_is puts.there;
             whole = is;
-            shape = record { geometry = puts.shape.geometry ∙ ap (λ (x : ShelfView D). x.geometry) same.rest; limits = puts.shape.limits ∙ ap (λ (x : ShelfView D). x.limits) same.rest; raid = puts.shape.raid ∙ ap (λ (x : ShelfView D). x.raid) same.rest };
+            shape = record {
+              geometry = puts.shape.geometry ∙ ap (λ (x : ShelfView D). x.geometry) same.rest;
+              limits = puts.shape.limits
+                  ∙ ap (λ (x : ShelfView D). x.limits) same.rest;
+              raid = puts.shape.raid ∙ ap (λ (x : ShelfView D). x.raid) same.rest;
+            };
             in_room = λ has. disk;
             quiet = λ shut. disk;
             bytes = tells_same new.disk disk;
@@ -187,7 +204,8 @@ module _ {D : Type 0} (view : D → DiskView) (is_disk : (disk : D) → IsDisk (
             honest = honest_same new.disk disk;
           }
 
-      pub appends_in_new : (HasRoom stream units old.buffers → ⊥) → (begun : ShelfView D) → BeginsFor view kind old begun (Ok tt) → mid ≡ begun → (count : ℕ) → at ≡ count - 1 → count ≡ length mid.buffers
+      pub appends_in_new : (HasRoom stream units old.buffers → ⊥) → (begun : ShelfView D) → BeginsFor view kind old begun (Ok tt) → mid ≡ begun → (count : ℕ) → at ≡ count - 1
+          → count ≡ length mid.buffers
           → AppendsCopy view kind digest v prior old new (Ok place)
       appends_in_new full begun begins same count at_is count_is =
           let is_begun : mid ≡ with_begun stream (ready_for begun old) = same ∙ begins.begun in
@@ -199,13 +217,19 @@ module _ {D : Type 0} (view : D → DiskView) (is_disk : (disk : D) → IsDisk (
           subst (λ (x : ShelfView D). PutsCopy digest v prior (map (sealed_in stream) old.buffers) (begun_buffer stream old) [] x new place) is_begun (puts.put stands_at) in
           record {
             appended = λ setup s setup_is stands live is_copy. takes_in_new view setup kind s digest v prior old begun new place setup_is is_copy (none full setup s setup_is stands) may.0 some
-                (subst (λ (k : ℕ). first_block old.free < k) (sym is.gates) (first_below view old is some)) (fits_in setup setup_is) begins.whole begins.ready (begins.goes setup s stands) live there put puts.each;
+                (subst (λ (k : ℕ). first_block old.free < k) (sym is.gates) (first_below view old is some)) (fits_in setup setup_is) begins.whole begins.ready
+                (begins.goes setup s stands) live there put puts.each;
             causes = λ setup s setup_is stands. cause_in_new setup s old stands setup_is kind units (fits_in setup setup_is) (none full setup s setup_is stands) ∙ begins.refusal;
             refused = tt;
             first = both_in_new stream units old begun mid new is_begun full (put_both digest v prior stands_at.front stands_at.buffer stands_at.behind mid new place (puts.put stands_at));
             place = place_in mid.geometry old.geometry n units place (ap (λ (x : ShelfView D). x.geometry) is_begun) n_is puts.there;
             whole = is;
-            shape = record { geometry = puts.shape.geometry ∙ ap (λ (x : ShelfView D). x.geometry) is_begun; limits = puts.shape.limits ∙ ap (λ (x : ShelfView D). x.limits) is_begun; raid = puts.shape.raid ∙ ap (λ (x : ShelfView D). x.raid) is_begun };
+            shape = record {
+              geometry = puts.shape.geometry ∙ ap (λ (x : ShelfView D). x.geometry) is_begun;
+              limits = puts.shape.limits
+                  ∙ ap (λ (x : ShelfView D). x.limits) is_begun;
+              raid = puts.shape.raid ∙ ap (λ (x : ShelfView D). x.raid) is_begun;
+            };
             in_room = λ has. absurd (full has);
             quiet = λ shut. disk ∙ begins.quiet shut;
             bytes = subst Tells (sym disk) begins.bytes;

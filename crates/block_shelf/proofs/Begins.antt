@@ -70,7 +70,8 @@ module _ {D : Type 0} (view : D → DiskView) (is_disk : (disk : D) → IsDisk (
     bytes_first : TellsTorn (block_place shelf.geometry (first_block shelf.free)) 4096 (view shelf.disk) (view disk)
     bytes_first = subst (λ (k : ℕ). TellsTorn (block_place shelf.geometry k) 4096 (view shelf.disk) (view disk)) at bytes
 
-    pub closed_begins : gates ≡ slice_set shelf.gates block Shut → (gate_at shelf.gates block ≡ Shut → disk ≡ shelf.disk) → BeginsIn view stream shelf (with_begun stream (with_first_shut disk shelf)) (Ok tt)
+    pub closed_begins : gates ≡ slice_set shelf.gates block Shut → (gate_at shelf.gates block ≡ Shut → disk ≡ shelf.disk)
+        → BeginsIn view stream shelf (with_begun stream (with_first_shut disk shelf)) (Ok tt)
     closed_begins is_shut quiet = record {
       begun = refl;
       whole = shut_shelf view is_disk shelf disk block is some at later honest was_honest changes gates known is_shut;
@@ -84,7 +85,8 @@ module _ {D : Type 0} (view : D → DiskView) (is_disk : (disk : D) → IsDisk (
       honest = honest;
     }
 
-    pub unclosed_begins : gates ≡ slice_set shelf.gates block Unsure → gate_at shelf.gates block ≢ Shut → Rose (view shelf.disk).faults (view disk).faults → BeginsIn view stream shelf (with_first_unclosed disk shelf) (Err Fault)
+    pub unclosed_begins : gates ≡ slice_set shelf.gates block Unsure → gate_at shelf.gates block ≢ Shut → Rose (view shelf.disk).faults (view disk).faults
+        → BeginsIn view stream shelf (with_first_unclosed disk shelf) (Err Fault)
     unclosed_begins is_unsure unshut rose =
         let open_still : gate_at shelf.gates (first_block shelf.free) ≢ Shut = subst (λ (k : ℕ). gate_at shelf.gates k ≢ Shut) at unshut in
         record {
@@ -149,7 +151,8 @@ module _ {D : Type 0} (view : D → DiskView) (is_disk : (disk : D) → IsDisk (
   }
 
   -- memory was taken, and then it begins
-  module _ (none : begin_refusal (kept_free kind) old ≡ None) (mid new : ShelfView D) (same : SameButRoom old mid) (space : 1 ≤ spare_of (first_block old.free) mid.rolls) (hold : 1 ≤ mid.holds.spare) where
+  module _ (none : begin_refusal (kept_free kind) old ≡ None) (mid new : ShelfView D) (same : SameButRoom old mid) (space : 1 ≤ spare_of (first_block old.free) mid.rolls)
+      (hold : 1 ≤ mid.holds.spare) where
     abbrev Begun : Type 0
     Begun = new ≡ with_begun (stream_of kind) (with_first_shut new.disk mid)
 
@@ -181,7 +184,8 @@ module _ {D : Type 0} (view : D → DiskView) (is_disk : (disk : D) → IsDisk (
       begun = on_ok r (new ≡ with_begun (stream_of kind) (ready_for new old)) begins.begun (λ begun. begun ∙ ap (with_begun (stream_of kind)) (ready_is (stream_of kind) old mid new same begun));
       ready = on_ok r (SameButRoom (with_first_shut new.disk old) (ready_for new old)) begins.begun now_ready;
       whole = now_whole r begins.begun begins.whole;
-      space = on_ok r (1 ≤ spare_of (first_block old.free) new.rolls) begins.begun (λ begun. subst (λ (rolls : List BlockRoll). 1 ≤ spare_of (first_block old.free) rolls) (sym (ap (λ (x : ShelfView D). x.rolls) begun)) space);
+      space = on_ok r (1 ≤ spare_of (first_block old.free) new.rolls) begins.begun
+          (λ begun. subst (λ (rolls : List BlockRoll). 1 ≤ spare_of (first_block old.free) rolls) (sym (ap (λ (x : ShelfView D). x.rolls) begun)) space);
       hold = on_ok r (1 ≤ new.holds.spare) begins.begun (λ begun. subst (λ (holds : HoldState). 1 ≤ holds.spare) (sym (ap (λ (x : ShelfView D). x.holds) begun)) hold);
       refused = left_behind (stream_of kind) old mid new same r begins.refusal begins.refused;
       goes = λ setup s stands. goes_begun (stream_of kind) old mid new same view setup s r begins.begun (begins.goes setup s (room_stands old mid same setup s stands));

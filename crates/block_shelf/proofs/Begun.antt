@@ -48,13 +48,15 @@ unfailed_steps Memory other = refl
 unfailed_steps Fault other = absurd (other refl)
 
 -- what a shelf goes by behind memory that was taken, the shelf before goes by
-pub goes_behind : {D : Type 0} (view : D → DiskView) (setup : Setup) (steps : List Step) (s : State) (old mid new : ShelfView D) → SameButRoom old mid → Goes view setup steps mid s new → Goes view setup steps old s new
+pub goes_behind : {D : Type 0} (view : D → DiskView) (setup : Setup) (steps : List Step) (s : State) (old mid new : ShelfView D) → SameButRoom old mid → Goes view setup steps mid s new
+    → Goes view setup steps old s new
 goes_behind {D} view setup steps s old mid new same goes = record {
   stands = goes.stands;
   queued = λ queued. goes.queued (room_queued old mid same setup s queued);
   placed = λ honest placed. goes.placed (now honest) (room_placed old mid same view s placed);
   safe = λ honest safe. goes.safe (now honest) (room_safe old mid same setup view s safe);
-  leaves = λ honest safe. subst (λ (disk : D). Leaves (OneOf (Survives setup) (states_through setup steps s)) (view disk) (view new.disk)) (room_disk old mid same) (goes.leaves (now honest) (room_safe old mid same setup view s safe));
+  leaves = λ honest safe. subst (λ (disk : D). Leaves (OneOf (Survives setup) (states_through setup steps s)) (view disk) (view new.disk)) (room_disk old mid same)
+      (goes.leaves (now honest) (room_safe old mid same setup view s safe));
 }
   where
     now : IsHonest (view old.disk) → IsHonest (view mid.disk)

@@ -71,8 +71,10 @@ any_without p (x ∷ front) b behind none = ap (λ (t : Bool). p x || t) (any_wi
 
 -- ---- numbers in order
 
-pub order_phase : (p : Phase) → is_unsealed p ≡ false → (front : List BufferState) (b : BufferState) (behind : List BufferState) → StandInOrder (front ++ b ∷ behind) → StandInOrder (front ++ with_phase p b ∷ behind)
-order_phase p sealed [] b behind order = (all_map (StandsBefore b) (StandsBefore (with_phase p b)) behind (λ c h. record { below = h.below; alone = λ is. absurd (both_ways (is_unsealed p) sealed is) }) order.0, order.1)
+pub order_phase : (p : Phase) → is_unsealed p ≡ false → (front : List BufferState) (b : BufferState) (behind : List BufferState) → StandInOrder (front ++ b ∷ behind)
+    → StandInOrder (front ++ with_phase p b ∷ behind)
+order_phase p sealed [] b behind order =
+    (all_map (StandsBefore b) (StandsBefore (with_phase p b)) behind (λ c h. record { below = h.below; alone = λ is. absurd (both_ways (is_unsealed p) sealed is) }) order.0, order.1)
 order_phase p sealed (c ∷ front) b behind order =
     let own = all_own (StandsBefore c) front b behind order.0 in (
       all_instead (StandsBefore c) front b (with_phase p b) behind order.0 (record { below = own.below; alone = λ is. ap (λ (t : Bool). t && is_stream c.stream b.stream) sealed }),
@@ -94,15 +96,18 @@ module _ (front : List BufferState) (b : BufferState) (behind : List BufferState
   others_apart = over front apart
     where
       over : (bs : List BufferState) → AreApart (map (λ c. c.block) (bs ++ b ∷ behind) ++ free) → AllByRecursion (λ c. c.block ≢ b.block) (bs ++ behind)
-      over [] is = all_before_map (λ c. c.block ≢ b.block) (λ k. b.block ≢ k) (λ c. c.block) (λ c other same. other (sym same)) behind (all_parted (λ k. b.block ≢ k) (map (λ c. c.block) behind) free is.0).0
+      over [] is = all_before_map (λ c. c.block ≢ b.block) (λ k. b.block ≢ k) (λ c. c.block) (λ c other same. other (sym same)) behind
+          (all_parted (λ k. b.block ≢ k) (map (λ c. c.block) behind) free is.0).0
       over (c ∷ bs) is = (
-        all_own (λ d. c.block ≢ d.block) bs b behind (all_before_map (λ d. c.block ≢ d.block) (λ k. c.block ≢ k) (λ d. d.block) (λ d other. other) (bs ++ b ∷ behind) (all_parted (λ k. c.block ≢ k) (map (λ d. d.block) (bs ++ b ∷ behind)) free is.0).0),
+        all_own (λ d. c.block ≢ d.block) bs b behind (all_before_map (λ d. c.block ≢ d.block) (λ k. c.block ≢ k) (λ d. d.block) (λ d other. other) (bs ++ b ∷ behind)
+            (all_parted (λ k. c.block ≢ k) (map (λ d. d.block) (bs ++ b ∷ behind)) free is.0).0),
         over bs is.1,
       )
 
   -- so none of them has the block
   pub no_buffer_has : has_buffer_in (front ++ behind) b.block ≡ false
-  no_buffer_has = any_none (λ c. c.block == b.block) (front ++ behind) (all_map (λ c. c.block ≢ b.block) (λ c. (c.block == b.block) ≡ false) (front ++ behind) (λ c other. ne_eqb c.block b.block other) others_apart)
+  no_buffer_has = any_none (λ c. c.block == b.block) (front ++ behind)
+      (all_map (λ c. c.block ≢ b.block) (λ c. (c.block == b.block) ≡ false) (front ++ behind) (λ c other. ne_eqb c.block b.block other) others_apart)
 
   pub free_apart : AllByRecursion (λ k. b.block ≢ k) free
   free_apart = over front apart
@@ -114,7 +119,8 @@ module _ (front : List BufferState) (b : BufferState) (behind : List BufferState
   pub apart_without : AreApart (map (λ c. c.block) (front ++ behind) ++ free)
   apart_without = over front apart
     where
-      still : (c : BufferState) (bs : List BufferState) → AllByRecursion (λ k. c.block ≢ k) (map (λ d. d.block) (bs ++ b ∷ behind) ++ free) → AllByRecursion (λ k. c.block ≢ k) (map (λ d. d.block) (bs ++ behind) ++ free)
+      still : (c : BufferState) (bs : List BufferState) → AllByRecursion (λ k. c.block ≢ k) (map (λ d. d.block) (bs ++ b ∷ behind) ++ free)
+          → AllByRecursion (λ k. c.block ≢ k) (map (λ d. d.block) (bs ++ behind) ++ free)
       still c [] all = all.1
       still c (d ∷ bs) all = (all.0, still c bs all.1)
 
@@ -137,14 +143,16 @@ module _ (front : List BufferState) (b : BufferState) (behind : List BufferState
     pub records_at : records_of (front ++ b ∷ behind) b.number ≡ b.records
     records_at =
         ap (λ (l : List (ℕ × List (Digest × Version))). records_by l b.number) (map-append named front (b ∷ behind))
-        ∙ records_found b.number b.records (map named behind) (map named front) (all_to_map (λ c. c.number ≢ b.number) (λ p. p.0 ≢ b.number) named (λ c other. other) front (numbers_apart front b behind order).0)
+        ∙ records_found b.number b.records (map named behind) (map named front)
+        (all_to_map (λ c. c.number ≢ b.number) (λ p. p.0 ≢ b.number) named (λ c other. other) front (numbers_apart front b behind order).0)
 
     -- what is recorded of all others is recorded without it
     others_named : AllByRecursion (λ p. p.0 ≢ b.number) (map named front ++ map named behind)
     others_named =
         let two = numbers_apart front b behind order in
         all_joined (λ p. p.0 ≢ b.number) (map named front) (map named behind)
-        (all_to_map (λ c. c.number ≢ b.number) (λ p. p.0 ≢ b.number) named (λ c other. other) front two.0) (all_to_map (λ c. c.number ≢ b.number) (λ p. p.0 ≢ b.number) named (λ c other. other) behind two.1)
+        (all_to_map (λ c. c.number ≢ b.number) (λ p. p.0 ≢ b.number) named (λ c other. other) front two.0)
+        (all_to_map (λ c. c.number ≢ b.number) (λ p. p.0 ≢ b.number) named (λ c other. other) behind two.1)
 
     parted : records_by (map named front ++ (b.number, b.records) ∷ map named behind) ≡ records_of (front ++ b ∷ behind)
     parted = ap records_by (sym (map-append named front (b ∷ behind)))
@@ -160,7 +168,8 @@ module _ (front : List BufferState) (b : BufferState) (behind : List BufferState
     pub others_recorded : (book : Book) → AllByRecursion (λ p. p.0 ≢ b.number) (places_of book) → KeepsRecords book (records_of (front ++ b ∷ behind)) (records_of (front ++ behind))
     others_recorded book apart =
         subst (λ (r : Records). KeepsRecords book r (records_of (front ++ behind))) parted
-        (subst (KeepsRecords book (records_by (map named front ++ (b.number, b.records) ∷ map named behind))) joined (left_keeps b.number b.records (map named behind) (map named front) others_named book apart))
+        (subst (KeepsRecords book (records_by (map named front ++ (b.number, b.records) ∷ map named behind))) joined
+        (left_keeps b.number b.records (map named behind) (map named front) others_named book apart))
 
     -- the write of its gate begins
     pub first_opened : map (λ x. opened_if (x.number == b.number) x) (map book_buffer (front ++ b ∷ behind)) ≡ map book_buffer (front ++ with_phase GateBegun b ∷ behind)
@@ -194,9 +203,12 @@ module _ (front : List BufferState) (b : BufferState) (behind : List BufferState
             cond-true (stays (book_buffer c)) (book_buffer c ∷ filter stays (map book_buffer bs)) (filter stays (map book_buffer bs)) (ap not (ne_eqb c.number b.number all.0))
             ∙ ap (λ (l : List Buffer). book_buffer c ∷ l) (others bs all.1)
 
-        before : (bs : List BufferState) → AllByRecursion (λ c. c.number ≢ b.number) bs → AllByRecursion (λ c. c.number ≢ b.number) behind → filter stays (map book_buffer (bs ++ b ∷ behind)) ≡ map book_buffer (bs ++ behind)
+        before : (bs : List BufferState) → AllByRecursion (λ c. c.number ≢ b.number) bs → AllByRecursion (λ c. c.number ≢ b.number) behind
+            → filter stays (map book_buffer (bs ++ b ∷ behind)) ≡ map book_buffer (bs ++ behind)
         before [] all after =
-            cond-false (stays (book_buffer b)) (book_buffer b ∷ filter stays (map book_buffer behind)) (filter stays (map book_buffer behind)) (ap not (eq-eqb b.number b.number refl)) ∙ others behind after
+            cond-false (stays (book_buffer b)) (book_buffer b ∷ filter stays (map book_buffer behind)) (filter stays (map book_buffer behind)) (ap not (eq-eqb b.number b.number refl))
+            ∙ others behind after
         before (c ∷ bs) all after =
-            cond-true (stays (book_buffer c)) (book_buffer c ∷ filter stays (map book_buffer (bs ++ b ∷ behind))) (filter stays (map book_buffer (bs ++ b ∷ behind))) (ap not (ne_eqb c.number b.number all.0))
+            cond-true (stays (book_buffer c)) (book_buffer c ∷ filter stays (map book_buffer (bs ++ b ∷ behind))) (filter stays (map book_buffer (bs ++ b ∷ behind)))
+            (ap not (ne_eqb c.number b.number all.0))
             ∙ ap (λ (l : List Buffer). book_buffer c ∷ l) (before bs all.1 after)

@@ -43,22 +43,26 @@ gates_with gates block gate lt k =
     ⊎_elim (λ (e : k ≡ block). ap (gate_at (slice_set gates block gate)) e ∙ get_or-set_same gates block gate Shut lt ∙ sym (gate_own block k gate (gate_at gates) e))
     (λ (other : k ≢ block). get_or-set_other gates block k gate Shut other ∙ sym (gate_other block k gate (gate_at gates) other)) (cases_eq k block)
 
-pub holds_same : (setup : Setup) (g : Geometry) (s : State) (records : Records) (old new : ℕ → Gate) (images : Images) → ((k : ℕ) → new k ≡ old k) → HoldsGates setup g s records old images → HoldsGates setup g s records new images
+pub holds_same : (setup : Setup) (g : Geometry) (s : State) (records : Records) (old new : ℕ → Gate) (images : Images) → ((k : ℕ) → new k ≡ old k) → HoldsGates setup g s records old images
+    → HoldsGates setup g s records new images
 holds_same setup g s records old new images same holds = record {
   knows = knows_same g s.book images old new same holds.knows;
   held = held_fewer setup g s records old new images images (λ k lt unsure. sym (same k) ∙ unsure) (λ c image. image) holds.held;
 }
 
 -- what the closing of a gate asks, where it isn't shut
-pub asked : (g : Geometry) (images : Images) (block : ℕ) (gate : Gate) (seen : List ℕ) → GateStands g images block gate → gate ≢ Shut → images seen → HasOneBody g block (body_bytes g block seen) images × IsBodyOf g block (body_bytes g block seen)
+pub asked : (g : Geometry) (images : Images) (block : ℕ) (gate : Gate) (seen : List ℕ) → GateStands g images block gate → gate ≢ Shut → images seen
+    → HasOneBody g block (body_bytes g block seen) images × IsBodyOf g block (body_bytes g block seen)
 asked g images block Shut seen stands unshut image = absurd (unshut refl)
 asked g images block Set seen stands unshut image = over_seen g images block stands.1.0 seen stands.1.1 image
 asked g images block Unsure seen stands unshut image = over_seen g images block stands.0 seen stands.1 image
 
 -- ---- the shelf, behind the write of a gate
 
-module _ {D : Type 0} (view : D → DiskView) (shelf : ShelfView D) (disk : D) (block : ℕ) (is : IsShelf view shelf) (is_disk : IsDisk (view disk)) (was_disk : IsDisk (view shelf.disk)) (below : block < shelf.geometry.blocks)
-    (unbuffered : AllByRecursion (λ b. b.block ≢ block) shelf.buffers) (size : (view disk).extent ≡ (view shelf.disk).extent) (was_honest : IsHonest (view disk) → IsHonest (view shelf.disk)) (time : Advances (view shelf.disk) (view disk))
+module _ {D : Type 0} (view : D → DiskView) (shelf : ShelfView D) (disk : D) (block : ℕ) (is : IsShelf view shelf) (is_disk : IsDisk (view disk)) (was_disk : IsDisk (view shelf.disk))
+    (below : block < shelf.geometry.blocks)
+    (unbuffered : AllByRecursion (λ b. b.block ≢ block) shelf.buffers) (size : (view disk).extent ≡ (view shelf.disk).extent) (was_honest : IsHonest (view disk) → IsHonest (view shelf.disk))
+    (time : Advances (view shelf.disk) (view disk))
     (torn : IsHonest (view shelf.disk) → TornFrom (block_place shelf.geometry block) 4096 (view shelf.disk).may_leave (meanwhile (view shelf.disk) (view disk))) where
   lt : block < length shelf.gates
   lt = subst (λ (n : ℕ). block < n) (sym is.gates) below
@@ -94,9 +98,11 @@ module _ {D : Type 0} (view : D → DiskView) (shelf : ShelfView D) (disk : D) (
     raid = is.raid;
     stand = λ honest k k_lt.
         subst (GateStands shelf.geometry (view disk).may_leave k) (sym (gates_with shelf.gates block gate lt k))
-        (⊎_elim (λ (e : k ≡ block). subst (λ (x : Gate). GateStands shelf.geometry (view disk).may_leave k x) (sym (gate_own block k gate (gate_at shelf.gates) e)) (subst (λ (j : ℕ). GateStands shelf.geometry (view disk).may_leave j gate) (sym e) (stands honest)))
+        (⊎_elim (λ (e : k ≡ block). subst (λ (x : Gate). GateStands shelf.geometry (view disk).may_leave k x) (sym (gate_own block k gate (gate_at shelf.gates) e))
+        (subst (λ (j : ℕ). GateStands shelf.geometry (view disk).may_leave j gate) (sym e) (stands honest)))
         (λ (other : k ≢ block). subst (GateStands shelf.geometry (view disk).may_leave k) (sym (gate_other block k gate (gate_at shelf.gates) other))
-        (gates_elsewhere shelf.geometry (view shelf.disk).may_leave (view disk).may_leave block k (gate_at shelf.gates k) (changes (was_honest honest)) k_lt other (is.stand (was_honest honest) k k_lt))) (cases_eq k block));
+        (gates_elsewhere shelf.geometry (view shelf.disk).may_leave (view disk).may_leave block k (gate_at shelf.gates k) (changes (was_honest honest)) k_lt other
+        (is.stand (was_honest honest) k k_lt))) (cases_eq k block));
   }
     where
       waits : (bs : List BufferState) → AllByRecursion (λ b. b.block ≢ block) bs → AllByRecursion (WaitsShut shelf.gates) bs → AllByRecursion (WaitsShut (slice_set shelf.gates block gate)) bs
@@ -106,7 +112,8 @@ module _ {D : Type 0} (view : D → DiskView) (shelf : ShelfView D) (disk : D) (
         waits bs others.1 all.1,
       )
 
-      readies : IsHonest (view shelf.disk) → (bs : List BufferState) → AllByRecursion (λ b. b.block ≢ block) bs → AllByRecursion (IsBufferOf shelf.geometry shelf.next_number) bs → AllByRecursion (HasItsBody shelf.geometry (view shelf.disk).may_leave) bs
+      readies : IsHonest (view shelf.disk) → (bs : List BufferState) → AllByRecursion (λ b. b.block ≢ block) bs → AllByRecursion (IsBufferOf shelf.geometry shelf.next_number) bs
+          → AllByRecursion (HasItsBody shelf.geometry (view shelf.disk).may_leave) bs
           → AllByRecursion (HasItsBody shelf.geometry (view disk).may_leave) bs
       readies honest [] others of_g all = tt
       readies honest (b ∷ bs) others of_g all = (
@@ -131,21 +138,26 @@ module _ {D : Type 0} (view : D → DiskView) (shelf : ShelfView D) (disk : D) (
     }
 
     -- the bodies stay as they are
-    pub still_placed : IsHonest (view shelf.disk) → ((digest : Digest) (l : Live) → live_of digest s.book.live ≡ Some l → l.block < shelf.geometry.blocks) → (gate : Gate) → IsPlaced view shelf s → IsPlaced view (with_gate_known disk block gate shelf) s
+    pub still_placed : IsHonest (view shelf.disk) → ((digest : Digest) (l : Live) → live_of digest s.book.live ≡ Some l → l.block < shelf.geometry.blocks) → (gate : Gate)
+        → IsPlaced view shelf s → IsPlaced view (with_gate_known disk block gate shelf) s
     still_placed honest within gate placed = record {
       buffered = placed.buffered;
       there = λ e l v is_live is_entry none c image.
           let t = torn honest c (now_within c image) in
           let d = changes honest c image in
           ⊎_elim (λ (here : l.block ≡ block). subst (λ (x : List ℕ). IsRecordAt x (32 + 16 * l.unit) e v)
-          (sym (subst (λ (k : ℕ). body_bytes shelf.geometry k c ≡ body_bytes shelf.geometry k t.0) (sym here) (body_stays shelf.geometry block is.geometry t.0 c t.2))) (placed.there e l v is_live is_entry none t.0 t.1))
-          (λ (other : l.block ≢ block). subst (λ (x : List ℕ). IsRecordAt x (32 + 16 * l.unit) e v) (sym (d.2.bodies l.block (within e l is_live) other)) (placed.there e l v is_live is_entry none d.0 d.1)) (cases_eq l.block block);
+          (sym (subst (λ (k : ℕ). body_bytes shelf.geometry k c ≡ body_bytes shelf.geometry k t.0) (sym here) (body_stays shelf.geometry block is.geometry t.0 c t.2)))
+          (placed.there e l v is_live is_entry none t.0 t.1))
+          (λ (other : l.block ≢ block). subst (λ (x : List ℕ). IsRecordAt x (32 + 16 * l.unit) e v) (sym (d.2.bodies l.block (within e l is_live) other))
+          (placed.there e l v is_live is_entry none d.0 d.1)) (cases_eq l.block block);
       kept = placed.kept;
     }
 
-    module _ (honest : IsHonest (view shelf.disk)) (safe : ImagesHold setup view shelf s) (not_shut : gate_at shelf.gates block ≢ Shut) (free : gate_at shelf.gates block ≡ Set → Contains s.book.free block) where
+    module _ (honest : IsHonest (view shelf.disk)) (safe : ImagesHold setup view shelf s) (not_shut : gate_at shelf.gates block ≢ Shut)
+        (free : gate_at shelf.gates block ≡ Set → Contains s.book.free block) where
       abbrev closed : HasClosed setup shelf.geometry s (records_of shelf.buffers) (gate_at shelf.gates) block (meanwhile (view shelf.disk) (view disk)) (view disk).may_leave
-      closed = close_call setup shelf.geometry s (records_of shelf.buffers) (gate_at shelf.gates) (view shelf.disk).may_leave (meanwhile (view shelf.disk) (view disk)) (view disk).may_leave block below safe not_shut free (torn honest) now_within
+      closed = close_call setup shelf.geometry s (records_of shelf.buffers) (gate_at shelf.gates) (view shelf.disk).may_leave (meanwhile (view shelf.disk) (view disk))
+          (view disk).may_leave block below safe not_shut free (torn honest) now_within
 
       -- meanwhile each image survives the state
       pub closing_leaves : Leaves (Survives setup s) (view shelf.disk) (view disk)
@@ -153,11 +165,13 @@ module _ {D : Type 0} (view : D → DiskView) (shelf : ShelfView D) (disk : D) (
 
       -- it failed, or may have failed
       pub unsure_safe : ImagesHold setup view (with_gate_known disk block Unsure shelf) s
-      unsure_safe = holds_same setup shelf.geometry s (records_of shelf.buffers) (with_gate block Unsure (gate_at shelf.gates)) (gate_at (slice_set shelf.gates block Unsure)) (view disk).may_leave (gates_with shelf.gates block Unsure lt) closed.failed
+      unsure_safe = holds_same setup shelf.geometry s (records_of shelf.buffers) (with_gate block Unsure (gate_at shelf.gates)) (gate_at (slice_set shelf.gates block Unsure))
+          (view disk).may_leave (gates_with shelf.gates block Unsure lt) closed.failed
 
       -- it went well
       pub shut_safe : IsShut shelf.geometry block (view disk).may_leave → ImagesHold setup view (with_gate_known disk block Shut shelf) s
-      shut_safe shut = holds_same setup shelf.geometry s (records_of shelf.buffers) (with_gate block Shut (gate_at shelf.gates)) (gate_at (slice_set shelf.gates block Shut)) (view disk).may_leave (gates_with shelf.gates block Shut lt) (closed.closed shut)
+      shut_safe shut = holds_same setup shelf.geometry s (records_of shelf.buffers) (with_gate block Shut (gate_at shelf.gates)) (gate_at (slice_set shelf.gates block Shut))
+          (view disk).may_leave (gates_with shelf.gates block Shut lt) (closed.closed shut)
 
     module _ (unshut : gate_at shelf.gates block ≢ Shut) (free : gate_at shelf.gates block ≡ Set → Contains s.book.free block) where
       within : (digest : Digest) (l : Live) → live_of digest s.book.live ≡ Some l → l.block < shelf.geometry.blocks
@@ -209,7 +223,12 @@ module _ {D : Type 0} (view : D → DiskView) (setup : Setup) (shelf : ShelfView
 
   pub passed_placed : IsPlaced view shelf s → IsPlaced view (record shelf { free = first_to_back shelf.free }) (after_step setup closing_failed s)
   unfolding after_step
-  passed_placed placed = record { buffered = placed.buffered; there = λ e l v is_live is_entry none c image. placed.there e l v is_live is_entry none c image; kept = λ e l v is_live is_entry. placed.kept e l v is_live is_entry }
+  passed_placed placed = record {
+    buffered = placed.buffered;
+    there = λ e l v is_live is_entry none c image. placed.there e l v is_live is_entry none c image;
+    kept =
+        λ e l v is_live is_entry. placed.kept e l v is_live is_entry;
+  }
 
   pub passed_safe : ImagesHold setup view shelf s → ImagesHold setup view (record shelf { free = first_to_back shelf.free }) (after_step setup closing_failed s)
   passed_safe safe = plain_holds setup shelf.geometry s (records_of shelf.buffers) (gate_at shelf.gates) (view shelf.disk).may_leave safe closing_failed refl tt

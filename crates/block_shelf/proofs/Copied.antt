@@ -130,7 +130,8 @@ module _ {D : Type 0} (setup : Setup) (shelf : ShelfView D) (s : State) (stands 
     order = λ old new order appends. moved_booked setup s old new digest is.live is.is_live v order (as_live old new appends);
   }
 
-  pub move_holds : (g : Geometry) (old new : Records) (gates : ℕ → Gate) (images : Images) → HoldsGates setup g s old gates images → entry s digest ≡ Some v → AppendsCopy setup Move digest v s.book old new
+  pub move_holds : (g : Geometry) (old new : Records) (gates : ℕ → Gate) (images : Images) → HoldsGates setup g s old gates images → entry s digest ≡ Some v
+      → AppendsCopy setup Move digest v s.book old new
       → (has_room_for setup Move v s.book ≡ false → gates (first_block s.book.free) ≡ Shut) → HoldsGates setup g (copied setup Move digest v s) new gates images
   move_holds g old new gates images holds top appends shut =
       moved_holds setup g s old gates images holds new digest is.live v is.is_live top (as_live old new appends)
@@ -138,14 +139,16 @@ module _ {D : Type 0} (setup : Setup) (shelf : ShelfView D) (s : State) (stands 
 
 -- ---- of each class
 
-pub is_copied : {D : Type 0} (setup : Setup) (shelf : ShelfView D) (s : State) → StandsFor setup shelf s → (kind : Class) (digest : Digest) (v : Version) → IsCopyOf kind s digest v → IsCopied setup kind s digest v
+pub is_copied : {D : Type 0} (setup : Setup) (shelf : ShelfView D) (s : State) → StandsFor setup shelf s → (kind : Class) (digest : Digest) (v : Version) → IsCopyOf kind s digest v
+    → IsCopied setup kind s digest v
 is_copied setup shelf s stands Put digest v is = put_copied setup s digest v
 is_copied setup shelf s stands Tomb digest v is = tomb_copied setup s digest v
 is_copied setup shelf s stands Move digest v is = move_copied setup shelf s stands digest v is
 
 -- where the copy may be made what is held is so too
 pub copied_holds : {D : Type 0} (setup : Setup) (shelf : ShelfView D) (s : State) → StandsFor setup shelf s → (kind : Class) (digest : Digest) (v : Version) → IsCopyOf kind s digest v
-    → (g : Geometry) (old new : Records) (gates : ℕ → Gate) (images : Images) → HoldsGates setup g s old gates images → MayBeCopied setup kind s digest v → AppendsCopy setup kind digest v s.book old new
+    → (g : Geometry) (old new : Records) (gates : ℕ → Gate) (images : Images) → HoldsGates setup g s old gates images → MayBeCopied setup kind s digest v
+    → AppendsCopy setup kind digest v s.book old new
     → (has_room_for setup kind v s.book ≡ false → gates (first_block s.book.free) ≡ Shut) → HoldsGates setup g (copied setup kind digest v s) new gates images
 copied_holds setup shelf s stands Put digest v is g old new gates images holds may appends shut = wrote_holds setup g s old gates images holds new digest v may appends shut
 copied_holds setup shelf s stands Tomb digest v is g old new gates images holds may appends shut = wrote_holds setup g s old gates images holds new digest v may appends shut

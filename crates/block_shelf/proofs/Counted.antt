@@ -30,7 +30,8 @@ held_from : (hs : List (ℕ × ℕ)) (block : ℕ) → Contains (held_blocks hs)
 held_from [] block there = absurd (omega (arith, there.1))
 held_from (x ∷ hs) block there = by (is_in (held_blocks hs) x.1) there (held_from hs block)
   where
-    by : (b : Bool) → Contains (cond b (held_blocks hs) (x.1 ∷ held_blocks hs)) block → (Contains (held_blocks hs) block → (number : ℕ) × Contains hs (number, block)) → (number : ℕ) × Contains (x ∷ hs) (number, block)
+    by : (b : Bool) → Contains (cond b (held_blocks hs) (x.1 ∷ held_blocks hs)) block → (Contains (held_blocks hs) block → (number : ℕ) × Contains hs (number, block)) → (number : ℕ)
+        × Contains (x ∷ hs) (number, block)
     by true there rest = let one = rest there in (one.0, rest_there x hs (one.0, block) one.1)
     by false there rest = split (cons_cases x.1 (held_blocks hs) block there)
       where
@@ -45,7 +46,11 @@ held_differ (x ∷ hs) = by (is_in (held_blocks hs) x.1) refl (held_differ hs)
   where
     by : (b : Bool) → is_in (held_blocks hs) x.1 ≡ b → IsDistinct nat_eq (held_blocks hs) → IsDistinct nat_eq (cond b (held_blocks hs) (x.1 ∷ held_blocks hs))
     by true is rest = rest
-    by false is rest = (all_from (λ y. nat_eq x.1 y ≡ false) (held_blocks hs) (λ y there. ne_eqb x.1 y (λ e. false≢true (sym (none_at (λ (k : ℕ). k == x.1) (held_blocks hs) y is there) ∙ eq-eqb y x.1 (sym e)))), rest)
+    by false is rest = (
+      all_from (λ y. nat_eq x.1 y ≡ false) (held_blocks hs)
+          (λ y there. ne_eqb x.1 y (λ e. false≢true (sym (none_at (λ (k : ℕ). k == x.1) (held_blocks hs) y is there) ∙ eq-eqb y x.1 (sym e)))),
+      rest,
+    )
 
 -- so they are as many as the shelf says
 pub counted : (holds : Holds) (book : Book) (count : ℕ) → HoldsSame holds book → CountsHeld holds count → count ≡ length (held_blocks book.holds)

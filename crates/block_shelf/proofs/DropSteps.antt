@@ -41,7 +41,8 @@ use Rattle.block_shelf.specs.Scans.{possible_copies}
 use Rattle.block_shelf.specs.Changes.{has_buffer_in, without_copy, with_free, with_requeued, rolls_without}
 use Rattle.block_shelf.proofs.Blocks.{apart_push, apart_back, few}
 use Rattle.block_shelf.proofs.Frees.{IsVacant, vacant_from, vacant_is}
-use Rattle.block_shelf.proofs.Dropping.{dropped_book, dropped_buffers, dropped_next, dropped_holds, dropped_lives, left_live, stays_live, dropped_listed, dropped_frees, fewer, fewer_own, fewer_units, use_elsewhere}
+use Rattle.block_shelf.proofs.Dropping.{dropped_book, dropped_buffers, dropped_next, dropped_holds, dropped_lives, left_live, stays_live, dropped_listed}
+use Rattle.block_shelf.proofs.Dropping.{dropped_frees, fewer, fewer_own, fewer_units, use_elsewhere}
 use Rattle.block_shelf.proofs.Going.{stays}
 use Rattle.block_shelf.proofs.Keeping.{have_fewer}
 use Rattle.block_shelf.proofs.QueueSteps.{has_buffer_is, marked_as, queue_considered, queued_alike, rolled_is_use}
@@ -54,7 +55,8 @@ some_copies unit [] P some none = absurd some
 some_copies unit (c ∷ cs) P some none = cc
 
 -- other holds of the device's blocks, none of a free one
-pub held_shelf : {D : Type 0} (view : D → DiskView) (shelf : ShelfView D) (holds : HoldState) → HoldsBelow shelf.geometry.blocks holds.holds → AllByRecursion (λ b. IsHeld holds.holds b → ⊥) shelf.free → IsShelf view shelf → IsShelf view (record shelf { holds = holds })
+pub held_shelf : {D : Type 0} (view : D → DiskView) (shelf : ShelfView D) (holds : HoldState) → HoldsBelow shelf.geometry.blocks holds.holds
+    → AllByRecursion (λ b. IsHeld holds.holds b → ⊥) shelf.free → IsShelf view shelf → IsShelf view (record shelf { holds = holds })
 held_shelf view shelf holds below free is = record {
   geometry = is.geometry;
   limits = is.limits;
@@ -80,7 +82,8 @@ held_shelf view shelf holds below free is = record {
 }
 
 -- one more hold, of a block that isn't free
-pub one_held : (holds : Holds) (number block : ℕ) (free : List ℕ) → AllByRecursion (λ b. b ≢ block) free → AllByRecursion (λ b. IsHeld holds b → ⊥) free → AllByRecursion (λ b. IsHeld (with_pair holds number block) b → ⊥) free
+pub one_held : (holds : Holds) (number block : ℕ) (free : List ℕ) → AllByRecursion (λ b. b ≢ block) free → AllByRecursion (λ b. IsHeld holds b → ⊥) free
+    → AllByRecursion (λ b. IsHeld (with_pair holds number block) b → ⊥) free
 one_held holds number block [] apart unheld = tt
 one_held holds number block (b ∷ free) apart unheld = (
   λ held. ⊎_elim (λ here. apart.0 (eqb-true b block (and_parts (held.0 == number) (b == block) here).1)) (λ was. unheld.0 (held.0, was))
@@ -110,8 +113,10 @@ module _ {D : Type 0} (view : D → DiskView) (shelf : ShelfView D) (is : IsShel
     vacant = all_map (λ b. copies_in b shelf.rolls ≡ []) (λ b. copies_in b (rolls_without place.block place.unit shelf.rolls) ≡ []) shelf.free
         (λ b none. each_left (λ j cs. cs ≡ []) place.block place.unit shelf.rolls lt b none (λ here. absurd (some here))) is.vacant;
     unheld = is.unheld;
-    packed = all_map (λ b. ArePacked (used_units b) (copies_in b.block shelf.rolls)) (λ b. ArePacked (used_units b) (copies_in b.block (rolls_without place.block place.unit shelf.rolls))) shelf.buffers
-        (λ b packed. each_left (λ j cs. ArePacked (used_units b) cs) place.block place.unit shelf.rolls lt b.block packed (λ here. left_packed place.unit (used_units b) (copies_in place.block shelf.rolls) here)) is.packed;
+    packed = all_map (λ b. ArePacked (used_units b) (copies_in b.block shelf.rolls))
+        (λ b. ArePacked (used_units b) (copies_in b.block (rolls_without place.block place.unit shelf.rolls))) shelf.buffers
+        (λ b packed. each_left (λ j cs. ArePacked (used_units b) cs) place.block place.unit shelf.rolls lt b.block packed
+        (λ here. left_packed place.unit (used_units b) (copies_in place.block shelf.rolls) here)) is.packed;
     waits = is.waits;
     ready = is.ready;
     stand = is.stand;
@@ -134,7 +139,8 @@ module _ {D : Type 0} (view : D → DiskView) (shelf : ShelfView D) (is : IsShel
       order = is.order;
       free = all_joined (λ b. b < shelf.geometry.blocks) shelf.free (block ∷ []) is.free (below, tt);
       apart = subst AreApart (append_assoc (map (λ b. b.block) shelf.buffers) shelf.free (block ∷ []))
-          (apart_push (map (λ b. b.block) shelf.buffers ++ shelf.free) block is.apart (all_joined (λ x. x ≢ block) (map (λ b. b.block) shelf.buffers) shelf.free (blocks shelf.buffers unused.buffers) unlisted));
+          (apart_push (map (λ b. b.block) shelf.buffers ++ shelf.free) block is.apart
+          (all_joined (λ x. x ≢ block) (map (λ b. b.block) shelf.buffers) shelf.free (blocks shelf.buffers unused.buffers) unlisted));
       gates = is.gates;
       rolls = is.rolls;
       each = is.each;
@@ -191,7 +197,8 @@ module _ {D : Type 0} (view : D → DiskView) (is_disk : (disk : D) → IsDisk (
         let left = left_live setup s digest (live_in_block k c) (subst (λ (l : List Live). Contains l (live_in_block k c)) (dropped_lives setup s digest) there) in
         left_there place.block place.unit shelf.rolls lt k c (stands.lives.known k c left.0)
         (λ here at.
-        let one = same_unit (copies_in place.block shelf.rolls) (is.each place.block).own c copy (subst (λ (j : ℕ). Contains (copies_in j shelf.rolls) c) here (stands.lives.known k c left.0)) (stands.lives.known place.block copy live) at in
+        let one = same_unit (copies_in place.block shelf.rolls) (is.each place.block).own c copy
+        (subst (λ (j : ℕ). Contains (copies_in j shelf.rolls) c) here (stands.lives.known k c left.0)) (stands.lives.known place.block copy live) at in
         both_ways (same_digest digest c.digest) left.1 (ap (λ (x : LiveCopy). same_digest digest x.digest) one ∙ same_digest_refl digest));
     there = λ k c there.
         let was = left_from place.block place.unit shelf.rolls lt k c there in
@@ -291,10 +298,12 @@ module _ {D : Type 0} (view : D → DiskView) (is_disk : (disk : D) → IsDisk (
   queued_with free queued =
       queue_considered setup shelf (record requeued_view { free = free }) s after refl dropped_raid (fewer setup s digest) (dropped_book setup s digest) refl
       (subst (λ (n : ℕ). AllByRecursion (λ b. b < n) shelf.queue.queue) (sym of_shelf.shape.blocks) is.queue.below) queued place.block lt_setup
-      (ap (λ (t : Bool). requeued t place.block shelf.queue.queue) (marked_as setup shelf (fewer setup s digest) place.block (rolled_use place.block rolls) (not (has_buffer_in shelf.buffers place.block)) of_shelf is.queue use_is
+      (ap (λ (t : Bool). requeued t place.block shelf.queue.queue)
+      (marked_as setup shelf (fewer setup s digest) place.block (rolled_use place.block rolls) (not (has_buffer_in shelf.buffers place.block)) of_shelf is.queue use_is
       (ap not (has_buffer_is shelf.buffers (fewer setup s digest) place.block stands.buffers))))
       (λ b lt other. queued_alike setup s.book (fewer setup s digest) b refl
-      (ap (sum_by (λ (l : Live). l.units)) (use_elsewhere digest b s.book.live (λ l there same at. other (sym at ∙ ap (λ (x : Live). x.block) (sym (stands.listed.one (copy_live digest place) l live there same)))))))
+      (ap (sum_by (λ (l : Live). l.units)) (use_elsewhere digest b s.book.live
+      (λ l there same at. other (sym at ∙ ap (λ (x : Live). x.block) (sym (stands.listed.one (copy_live digest place) l live there same)))))))
 
   -- what the step asks of the copies that an image may have
   abbrev pub MayStep : Type 0
@@ -334,9 +343,11 @@ module _ {D : Type 0} (view : D → DiskView) (is_disk : (disk : D) → IsDisk (
   is_unused vacant = record {
     buffers = all_from (λ b. b.block ≢ place.block) shelf.buffers
         (λ b there at. vacant.places b.number (subst (λ (l : List (ℕ × ℕ)). Contains l (b.number, place.block)) (sym places_same)
-        (subst (λ (k : ℕ). Contains (map {B = ℕ × ℕ} (λ (x : BufferState). (x.number, x.block)) shelf.buffers) (b.number, k)) at (map_there (λ (x : BufferState). (x.number, x.block)) shelf.buffers b there))));
+        (subst (λ (k : ℕ). Contains (map {B = ℕ × ℕ} (λ (x : BufferState). (x.number, x.block)) shelf.buffers) (b.number, k)) at
+        (map_there (λ (x : BufferState). (x.number, x.block)) shelf.buffers b there))));
     live = no_copies (copies_in place.block rolls)
-        (λ c there. vacant.live (live_in_block place.block c) (subst (λ (l : List Live). Contains l (live_in_block place.block c)) (dropped_lives setup s digest) (lives_left.there place.block c there)) refl);
+        (λ c there. vacant.live (live_in_block place.block c)
+        (subst (λ (l : List Live). Contains l (live_in_block place.block c)) (dropped_lives setup s digest) (lives_left.there place.block c there)) refl);
     holds = λ held. vacant.holds held.0 (stands.holds.there held.0 place.block held.1);
   }
 

@@ -69,7 +69,8 @@ use_elsewhere digest block (l ∷ live) apart = by (same_digest digest l.digest)
     by : (b : Bool) → same_digest digest l.digest ≡ b → filter (λ m. m.block == block) (without_live digest live) ≡ filter (λ m. m.block == block) live
         → filter (λ m. m.block == block) (cond (not b) (l ∷ without_live digest live) (without_live digest live)) ≡ filter (λ m. m.block == block) (l ∷ live)
     by true same rest =
-        rest ∙ sym (cond-false (l.block == block) (l ∷ filter (λ (m : Live). m.block == block) live) (filter (λ (m : Live). m.block == block) live) (ne_eqb l.block block (apart l (first_there l live) same)))
+        rest ∙ sym (cond-false (l.block == block) (l ∷ filter (λ (m : Live). m.block == block) live) (filter (λ (m : Live). m.block == block) live)
+        (ne_eqb l.block block (apart l (first_there l live) same)))
     by false other rest = ap (λ (ls : List Live). cond (l.block == block) (l ∷ ls) ls) rest
 
 module _ (setup : Setup) (s : State) (digest : Digest) (booked : IsBooked s.book) (listed : IsListed setup s.book) where
@@ -86,7 +87,8 @@ module _ (setup : Setup) (s : State) (digest : Digest) (booked : IsBooked s.book
   dropped_listed = record {
     all = λ b lt may. subst (λ (l : List ℕ). Contains l b) (sym (dropped_free setup s digest)) (refreshed_all setup fewer' b lt (sym (dropped_may setup s digest b) ∙ may));
     one = λ l m in_l in_m same.
-        listed.one l m (left_live setup s digest l (subst (λ (x : List Live). Contains x l) (dropped_lives setup s digest) in_l)).0 (left_live setup s digest m (subst (λ (x : List Live). Contains x m) (dropped_lives setup s digest) in_m)).0 same;
+        listed.one l m (left_live setup s digest l (subst (λ (x : List Live). Contains x l) (dropped_lives setup s digest) in_l)).0
+        (left_live setup s digest m (subst (λ (x : List Live). Contains x m) (dropped_lives setup s digest) in_m)).0 same;
     own = subst HaveOwnDigests (sym (dropped_lives setup s digest)) fewer_own;
   }
 

@@ -83,15 +83,18 @@ pub first_below : {D : Type 0} (view : D → DiskView) (shelf : ShelfView D) →
 first_below view shelf is some = (subst (AllByRecursion (λ b. b < shelf.geometry.blocks)) (first_and_rest shelf.free some) is.free).0
 
 -- a shelf with other buffers, gates and free blocks, and with what is kept
-pub same_parts : {D : Type 0} (shelf : ShelfView D) (disk : D) (cache : CacheState BufferState) (next_number : ℕ) (bs cs : List BufferState) (gs hs : List Gate) (es fs : List ℕ) → bs ≡ cs → gs ≡ hs → es ≡ fs
-    → record shelf { disk = disk; buffers = bs; gates = gs; free = es; cache = cache; next_number = next_number } ≡ record shelf { disk = disk; buffers = cs; gates = hs; free = fs; cache = cache; next_number = next_number }
+pub same_parts : {D : Type 0} (shelf : ShelfView D) (disk : D) (cache : CacheState BufferState) (next_number : ℕ) (bs cs : List BufferState) (gs hs : List Gate) (es fs : List ℕ)
+    → bs ≡ cs → gs ≡ hs → es ≡ fs
+    → record shelf { disk = disk; buffers = bs; gates = gs; free = es; cache = cache; next_number = next_number }
+    ≡ record shelf { disk = disk; buffers = cs; gates = hs; free = fs; cache = cache; next_number = next_number }
 same_parts shelf disk cache next_number bs cs gs hs es fs buffers gates free =
     ap (λ (l : List BufferState). record shelf { disk = disk; buffers = l; gates = gs; free = es; cache = cache; next_number = next_number }) buffers
     ∙ ap (λ (l : List Gate). record shelf { disk = disk; buffers = cs; gates = l; free = es; cache = cache; next_number = next_number }) gates
     ∙ ap (λ (l : List ℕ). record shelf { disk = disk; buffers = cs; gates = hs; free = l; cache = cache; next_number = next_number }) free
 
 -- the calls that close the gate of a block, which is the first free one
-module _ {D : Type 0} (view : D → DiskView) (is_disk : (disk : D) → IsDisk (view disk)) (shelf : ShelfView D) (disk : D) (block : ℕ) (is : IsShelf view shelf) (some : 0 < length shelf.free) (at : block ≡ first_block shelf.free)
+module _ {D : Type 0} (view : D → DiskView) (is_disk : (disk : D) → IsDisk (view disk)) (shelf : ShelfView D) (disk : D) (block : ℕ) (is : IsShelf view shelf) (some : 0 < length shelf.free)
+    (at : block ≡ first_block shelf.free)
     (later : IsLater (view shelf.disk) (view disk)) (honest : IsHonest (view shelf.disk) → IsHonest (view disk)) (was_honest : IsHonest (view disk) → IsHonest (view shelf.disk))
     (changes : IsHonest (view shelf.disk) → TornFrom (block_place shelf.geometry block) 4096 (view shelf.disk).may_leave (meanwhile (view shelf.disk) (view disk)))
     (gates : List Gate) (known : IsHonest (view disk) → GateStands shelf.geometry (view disk).may_leave block (gate_at gates block)) where
@@ -106,12 +109,14 @@ module _ {D : Type 0} (view : D → DiskView) (is_disk : (disk : D) → IsDisk (
 
   unbuffered : AllByRecursion (λ b. b.block ≢ first) shelf.buffers
   unbuffered = all_before_map (λ b. b.block ≢ first) (λ k. k ≢ first) (λ b. b.block) (λ b ne. ne) shelf.buffers
-      (apart_from (map (λ b. b.block) shelf.buffers) first (drop 1 shelf.free) (subst (λ (l : List ℕ). AreApart (map (λ (b : BufferState). b.block) shelf.buffers ++ l)) (first_and_rest shelf.free some) is.apart))
+      (apart_from (map (λ b. b.block) shelf.buffers) first (drop 1 shelf.free)
+      (subst (λ (l : List ℕ). AreApart (map (λ (b : BufferState). b.block) shelf.buffers ++ l)) (first_and_rest shelf.free some) is.apart))
 
   stands_as : (gate : Gate) → gates ≡ slice_set shelf.gates block gate → IsHonest (view disk) → GateStands shelf.geometry (view disk).may_leave first gate
   stands_as gate is_set now =
       subst (λ (k : ℕ). GateStands shelf.geometry (view disk).may_leave k gate) at
-      (subst (GateStands shelf.geometry (view disk).may_leave block) (ap (λ (l : List Gate). gate_at l block) is_set ∙ get_or-set_same shelf.gates block gate Shut (subst (λ (n : ℕ). block < n) (sym is.gates) (subst (λ (k : ℕ). k < shelf.geometry.blocks) (sym at) below))) (known now))
+      (subst (GateStands shelf.geometry (view disk).may_leave block) (ap (λ (l : List Gate). gate_at l block) is_set
+      ∙ get_or-set_same shelf.gates block gate Shut (subst (λ (n : ℕ). block < n) (sym is.gates) (subst (λ (k : ℕ). k < shelf.geometry.blocks) (sym at) below))) (known now))
 
   known_shelf : (gate : Gate) → gates ≡ slice_set shelf.gates block gate → IsShelf view (with_gate_known disk first gate shelf)
   known_shelf gate is_set = gate_shelf view shelf disk first is (is_disk disk) (is_disk shelf.disk) below unbuffered later.size was_honest later.time torn gate (stands_as gate is_set)
@@ -130,7 +135,8 @@ module _ {D : Type 0} (view : D → DiskView) (is_disk : (disk : D) → IsDisk (
     goes_closed is_set quiet = by (gate_at shelf.gates first) refl
       where
         called : gate_at shelf.gates first ≢ Shut → Goes view setup [] shelf s (with_first_shut disk shelf)
-        called unshut = goes_shut view shelf disk first is (is_disk disk) (is_disk shelf.disk) below unbuffered later.size was_honest later.time torn setup s stands unshut (λ set. there) (λ was. stands_as Shut is_set (honest was))
+        called unshut = goes_shut view shelf disk first is (is_disk disk) (is_disk shelf.disk) below unbuffered later.size was_honest later.time torn setup s stands unshut (λ set. there)
+            (λ was. stands_as Shut is_set (honest was))
 
         by : (gate : Gate) → gate_at shelf.gates first ≡ gate → Goes view setup [] shelf s (with_first_shut disk shelf)
         by Shut is_shut =
@@ -146,7 +152,8 @@ module _ {D : Type 0} (view : D → DiskView) (is_disk : (disk : D) → IsDisk (
     goes_unclosed unshut =
         let mid = with_gate_known disk first Unsure shelf in
         let open_still : gate_at shelf.gates first ≢ Shut = subst (λ (k : ℕ). gate_at shelf.gates k ≢ Shut) at unshut in
-        let goes : Goes view setup [] shelf s mid = goes_unsure view shelf disk first is (is_disk disk) (is_disk shelf.disk) below unbuffered later.size was_honest later.time torn setup s stands open_still (λ set. there) in
+        let goes : Goes view setup [] shelf s mid = goes_unsure view shelf disk first is (is_disk disk)
+        (is_disk shelf.disk) below unbuffered later.size was_honest later.time torn setup s stands open_still (λ set. there) in
         record {
           stands = passed_stands view setup mid s goes.stands;
           queued = λ queued. passed_queued view setup mid s (goes.queued queued);

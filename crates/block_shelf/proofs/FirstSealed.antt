@@ -60,7 +60,8 @@ found_at P at buffers b is found =
     }
 
 -- it was searched for from the front
-pub first_found : (buffers : List BufferState) (at : ℕ) → at < length buffers → ((d : BufferState) → is_unsealed (slice_index_or buffers at d).phase ≡ false) → AllWithin (λ b. is_unsealed b.phase ≡ true) buffers 0 at → IsFirstAt at buffers
+pub first_found : (buffers : List BufferState) (at : ℕ) → at < length buffers → ((d : BufferState) → is_unsealed (slice_index_or buffers at d).phase ≡ false)
+    → AllWithin (λ b. is_unsealed b.phase ≡ true) buffers 0 at → IsFirstAt at buffers
 first_found [] at lt here before = absurd (omega (arith, lt))
 first_found (b ∷ bs) zero lt here before = record { sealed = record { front = []; buffer = b; behind = bs; parts = refl; filling = tt; sealed = here b }; before = refl }
 first_found (b ∷ bs) (suc n) lt here before =
@@ -79,7 +80,8 @@ first_found (b ∷ bs) (suc n) lt here before =
     }
 
 pub first_told : (buffers : List BufferState) (found : Option ℕ)
-    → MatchOption found (AllWithin (λ b. is_unsealed b.phase ≡ true) buffers 0 (length buffers)) (λ at. (at < length buffers) × HoldsAt (λ b. is_unsealed b.phase ≡ false) buffers at × AllWithin (λ b. is_unsealed b.phase ≡ true) buffers 0 at)
+    → MatchOption found (AllWithin (λ b. is_unsealed b.phase ≡ true) buffers 0 (length buffers)) (λ at. (at < length buffers) × HoldsAt (λ b. is_unsealed b.phase ≡ false) buffers at
+    × AllWithin (λ b. is_unsealed b.phase ≡ true) buffers 0 at)
     → MatchOption found (AllByRecursion (λ b. is_unsealed b.phase ≡ true) buffers) (λ at. IsFirstAt at buffers)
 first_told buffers None none = recursion_from_All (λ b. is_unsealed b.phase ≡ true) buffers (All-from_all_within (λ b. is_unsealed b.phase ≡ true) buffers none)
 first_told buffers (Some at) is = first_found buffers at is.0 is.1 is.2

@@ -26,10 +26,12 @@ use Rattle.block_shelf.proofs.Between.{all_own, records_same}
 use Rattle.block_shelf.proofs.FlushShelf.{KeepsDisk, now_within, written, own, written_shelf, still_stands, still_queued, still_placed}
 
 -- the gate of a buffer that waits is shut
-waits_shut : {D : Type 0} (view : D → DiskView) (shelf : ShelfView D) (front : List BufferState) (b : BufferState) (behind : List BufferState) → shelf.buffers ≡ front ++ b ∷ behind → IsShelf view shelf → b.phase ≡ Sealed → gate_at shelf.gates b.block ≡ Shut
+waits_shut : {D : Type 0} (view : D → DiskView) (shelf : ShelfView D) (front : List BufferState) (b : BufferState) (behind : List BufferState) → shelf.buffers ≡ front ++ b ∷ behind
+    → IsShelf view shelf → b.phase ≡ Sealed → gate_at shelf.gates b.block ≡ Shut
 waits_shut view shelf front b behind parts is sealed = all_own (WaitsShut shelf.gates) front b behind (subst (AllByRecursion (WaitsShut shelf.gates)) parts is.waits) (ap has_begun sealed)
 
-module _ {D : Type 0} (view : D → DiskView) (shelf : ShelfView D) (disk : D) (front : List BufferState) (b : BufferState) (behind : List BufferState) (is : IsShelf view (record shelf { buffers = front ++ b ∷ behind })) (call : KeepsDisk view shelf.disk disk) (sealed : b.phase ≡ Sealed)
+module _ {D : Type 0} (view : D → DiskView) (shelf : ShelfView D) (disk : D) (front : List BufferState) (b : BufferState) (behind : List BufferState)
+    (is : IsShelf view (record shelf { buffers = front ++ b ∷ behind })) (call : KeepsDisk view shelf.disk disk) (sealed : b.phase ≡ Sealed)
     (torn : IsHonest (view shelf.disk) → TornFrom (block_place shelf.geometry b.block + 4096) (shelf.geometry.block_size - 4096) (view shelf.disk).may_leave (meanwhile (view shelf.disk) (view disk)))
     (still : IsHonest (view shelf.disk) → IsShut shelf.geometry b.block (meanwhile (view shelf.disk) (view disk))) where
   abbrev old : ShelfView D
@@ -53,7 +55,8 @@ module _ {D : Type 0} (view : D → DiskView) (shelf : ShelfView D) (disk : D) (
   below : b.block < shelf.geometry.blocks
   below = (own view shelf disk front b behind is call away).block
 
-  pub body_shelf : (p : Phase) → is_unsealed p ≡ false → (IsHonest (view disk) → is_written p ≡ true → HasOneBody shelf.geometry b.block (bytes_of b) (view disk).may_leave) → IsShelf view (written view shelf disk front b behind p shelf.gates)
+  pub body_shelf : (p : Phase) → is_unsealed p ≡ false → (IsHonest (view disk) → is_written p ≡ true → HasOneBody shelf.geometry b.block (bytes_of b) (view disk).may_leave)
+      → IsShelf view (written view shelf disk front b behind p shelf.gates)
   body_shelf p unfilled body =
       written_shelf view shelf disk front b behind is call away p shelf.gates unfilled refl (λ k other. refl) (λ unbegun. is_shut) body
       (λ honest. subst (GateStands shelf.geometry (view disk).may_leave b.block) (sym is_shut) (λ c image. still (call.was_honest honest) c (fewer c image)))
@@ -87,14 +90,16 @@ settled_phase b c set phase = set ∙ ap (λ (q : Phase). with_phase (later_phas
 -- ---- as the call finds it
 
 -- the gate is shut before
-pub shut_before : {D : Type 0} (view : D → DiskView) (shelf : ShelfView D) (front : List BufferState) (b : BufferState) (behind : List BufferState) → shelf.buffers ≡ front ++ b ∷ behind → IsShelf view shelf → b.phase ≡ Sealed → (block : ℕ) → block ≡ b.block
+pub shut_before : {D : Type 0} (view : D → DiskView) (shelf : ShelfView D) (front : List BufferState) (b : BufferState) (behind : List BufferState) → shelf.buffers ≡ front ++ b ∷ behind
+    → IsShelf view shelf → b.phase ≡ Sealed → (block : ℕ) → block ≡ b.block
     → IsHonest (view shelf.disk) → IsShut shelf.geometry block (view shelf.disk).may_leave
 shut_before view shelf front b behind parts is sealed block at honest =
     subst (λ (k : ℕ). IsShut shelf.geometry k (view shelf.disk).may_leave) (sym at)
     (subst (GateStands shelf.geometry (view shelf.disk).may_leave b.block) (waits_shut view shelf front b behind parts is sealed)
     (is.stand honest b.block (all_own (IsBufferOf shelf.geometry shelf.next_number) front b behind (subst (AllByRecursion (IsBufferOf shelf.geometry shelf.next_number)) parts is.buffers)).block))
 
-module _ {D : Type 0} (view : D → DiskView) (shelf : ShelfView D) (disk : D) (front : List BufferState) (b : BufferState) (behind : List BufferState) (parts : shelf.buffers ≡ front ++ b ∷ behind) (shelf_is : IsShelf view shelf)
+module _ {D : Type 0} (view : D → DiskView) (shelf : ShelfView D) (disk : D) (front : List BufferState) (b : BufferState) (behind : List BufferState)
+    (parts : shelf.buffers ≡ front ++ b ∷ behind) (shelf_is : IsShelf view shelf)
     (call : KeepsDisk view shelf.disk disk) (sealed : b.phase ≡ Sealed) (block : ℕ) (at : block ≡ b.block)
     (torn : IsHonest (view shelf.disk) → TornFrom (block_place shelf.geometry block + 4096) (shelf.geometry.block_size - 4096) (view shelf.disk).may_leave (meanwhile (view shelf.disk) (view disk)))
     (still : IsHonest (view shelf.disk) → IsShut shelf.geometry block (meanwhile (view shelf.disk) (view disk))) where
@@ -102,7 +107,8 @@ module _ {D : Type 0} (view : D → DiskView) (shelf : ShelfView D) (disk : D) (
   is_between = subst (λ (bs : List BufferState). IsShelf view (record shelf { buffers = bs })) parts shelf_is
 
   torn_b : IsHonest (view shelf.disk) → TornFrom (block_place shelf.geometry b.block + 4096) (shelf.geometry.block_size - 4096) (view shelf.disk).may_leave (meanwhile (view shelf.disk) (view disk))
-  torn_b honest = subst (λ (k : ℕ). TornFrom (block_place shelf.geometry k + 4096) (shelf.geometry.block_size - 4096) (view shelf.disk).may_leave (meanwhile (view shelf.disk) (view disk))) at (torn honest)
+  torn_b honest = subst (λ (k : ℕ). TornFrom (block_place shelf.geometry k + 4096) (shelf.geometry.block_size - 4096) (view shelf.disk).may_leave (meanwhile (view shelf.disk) (view disk)))
+      at (torn honest)
 
   still_b : IsHonest (view shelf.disk) → IsShut shelf.geometry b.block (meanwhile (view shelf.disk) (view disk))
   still_b honest = subst (λ (k : ℕ). IsShut shelf.geometry k (meanwhile (view shelf.disk) (view disk))) at (still honest)
@@ -114,7 +120,8 @@ module _ {D : Type 0} (view : D → DiskView) (shelf : ShelfView D) (disk : D) (
   goes_to : (p : Phase) → book_phase p ≡ book_phase b.phase → Goes_to (record shelf { disk = disk; buffers = front ++ with_phase p b ∷ behind })
   goes_to p same setup s stands =
       subst (λ (bs : List BufferState). Goes view setup [] (record shelf { buffers = bs }) s (record shelf { disk = disk; buffers = front ++ with_phase p b ∷ behind })) (sym parts)
-      (goes_body view shelf disk front b behind is_between call sealed torn_b still_b setup s (subst (λ (bs : List BufferState). StandsFor setup (record shelf { buffers = bs }) s) parts stands) p same)
+      (goes_body view shelf disk front b behind is_between call sealed torn_b still_b setup s
+      (subst (λ (bs : List BufferState). StandsFor setup (record shelf { buffers = bs }) s) parts stands) p same)
 
   -- it failed
   pub tried_shelf : IsShelf view (record shelf { disk = disk; buffers = front ++ b ∷ behind })
@@ -124,7 +131,8 @@ module _ {D : Type 0} (view : D → DiskView) (shelf : ShelfView D) (disk : D) (
   tried_goes setup s stands = goes_to b.phase refl setup s stands
 
   -- it went well
-  pub done_shelf : (IsHonest (view disk) → HasOneBody shelf.geometry b.block (bytes_of b) (view disk).may_leave) → IsShelf view (record shelf { disk = disk; buffers = front ++ with_phase BodyDone b ∷ behind })
+  pub done_shelf : (IsHonest (view disk) → HasOneBody shelf.geometry b.block (bytes_of b) (view disk).may_leave)
+      → IsShelf view (record shelf { disk = disk; buffers = front ++ with_phase BodyDone b ∷ behind })
   done_shelf body = body_shelf view shelf disk front b behind is_between call sealed torn_b still_b BodyDone refl (λ honest was. body honest)
 
   pub done_goes : Goes_to (record shelf { disk = disk; buffers = front ++ with_phase BodyDone b ∷ behind })

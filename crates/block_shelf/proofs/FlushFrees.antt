@@ -85,7 +85,8 @@ module _ (setup : Setup) (s : State) (number : ℕ) where
     flushed_free =
         flushed_refreshed ∙ refreshed_free setup left
         ∙ updated_more (may_be_free left) s.book.free (all_blocks setup) (filter comes (all_blocks setup))
-        (all_from (λ b. may_be_free left b ≡ true) s.book.free (λ b there. vacant_is left b (still_vacant b (vacant_from s.book b booked.units (all_at (λ k. may_be_free s.book k ≡ true) s.book.free b booked.free there))))) refl
+        (all_from (λ b. may_be_free left b ≡ true) s.book.free
+        (λ b there. vacant_is left b (still_vacant b (vacant_from s.book b booked.units (all_at (λ k. may_be_free s.book k ≡ true) s.book.free b booked.free there))))) refl
 
     pub flushed_listed : IsListed setup s.book → IsListed setup after.book
     flushed_listed listed = record {

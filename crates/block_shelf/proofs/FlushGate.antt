@@ -46,14 +46,16 @@ begun_phase b c set = set ∙ ap (λ (q : Phase). with_phase q b) (latest b.phas
     latest GateBegun = refl
 
 -- a buffer whose gate has begun is begun in the book
-begun_between : (s : State) (front : List BufferState) (b : BufferState) (behind : List BufferState) → b.phase ≡ GateBegun → s.book.buffers ≡ map book_buffer (front ++ b ∷ behind) → is_begun (pending_of s.book) b.number ≡ true
+begun_between : (s : State) (front : List BufferState) (b : BufferState) (behind : List BufferState) → b.phase ≡ GateBegun → s.book.buffers ≡ map book_buffer (front ++ b ∷ behind)
+    → is_begun (pending_of s.book) b.number ≡ true
 begun_between s front b behind phase is =
     any_there (λ (p : ℕ × Bool). p.0 == b.number && p.1) (pending_of s.book) (b.number, is_opening (book_phase b.phase))
     (subst (λ (l : List Buffer). Contains (map {B = ℕ × Bool} (λ x. (x.number, is_opening x.phase)) l) (b.number, is_opening (book_phase b.phase))) (sym is)
     (map_there {Y = ℕ × Bool} (λ x. (x.number, is_opening x.phase)) (map book_buffer (front ++ b ∷ behind)) (book_buffer b) (map_there book_buffer (front ++ b ∷ behind) b (own_there front b behind))))
     (and_from (b.number == b.number) (is_opening (book_phase b.phase)) (eq-eqb b.number b.number refl) (ap (λ (p : Phase). is_opening (book_phase p)) phase))
 
-module _ {D : Type 0} (view : D → DiskView) (shelf : ShelfView D) (disk : D) (front : List BufferState) (b : BufferState) (behind : List BufferState) (is : IsShelf view (record shelf { buffers = front ++ b ∷ behind })) (call : KeepsDisk view shelf.disk disk)
+module _ {D : Type 0} (view : D → DiskView) (shelf : ShelfView D) (disk : D) (front : List BufferState) (b : BufferState) (behind : List BufferState)
+    (is : IsShelf view (record shelf { buffers = front ++ b ∷ behind })) (call : KeepsDisk view shelf.disk disk)
     (has_body : is_written b.phase ≡ true) (is_body : IsBody (block_capacity shelf.geometry.block_size) (bytes_of b) (body_in b))
     (torn : IsHonest (view shelf.disk) → TornFrom (block_place shelf.geometry b.block) 4096 (view shelf.disk).may_leave (meanwhile (view shelf.disk) (view disk))) where
   abbrev old : ShelfView D
@@ -101,7 +103,8 @@ module _ {D : Type 0} (view : D → DiskView) (shelf : ShelfView D) (disk : D) (
 
   gate_shelf : (gate : Gate) → (IsHonest (view disk) → GateStands shelf.geometry now b.block gate) → IsShelf view (opening_view gate)
   gate_shelf gate stands =
-      written_shelf view shelf disk front b behind is call away GateBegun (slice_set shelf.gates b.block gate) refl (length-set shelf.gates b.block gate) (λ k other. get_or-set_other shelf.gates b.block k gate Shut other)
+      written_shelf view shelf disk front b behind is call away GateBegun (slice_set shelf.gates b.block gate) refl (length-set shelf.gates b.block gate)
+      (λ k other. get_or-set_other shelf.gates b.block k gate Shut other)
       (λ unbegun. absurd (false≢true (sym unbegun))) (λ honest was. still_body (call.was_honest honest))
       (λ honest. subst (GateStands shelf.geometry now b.block) (sym (get_or-set_same shelf.gates b.block gate Shut lt)) (stands honest))
 
@@ -123,12 +126,14 @@ module _ {D : Type 0} (view : D → DiskView) (shelf : ShelfView D) (disk : D) (
         (map_there {Y = ℕ × ℕ} (λ x. (x.number, x.block)) (map book_buffer (front ++ b ∷ behind)) (book_buffer b) (map_there book_buffer (front ++ b ∷ behind) b (own_there front b behind)))
 
     -- from a state in which the write of the gate has begun
-    module _ (then : State) (opening : IsOpening then.book b.number b.block) (holds : ImagesHold setup view old s → HoldsGates setup shelf.geometry then records gates before) (honest : IsHonest (view shelf.disk)) (safe : ImagesHold setup view old s) where
+    module _ (then : State) (opening : IsOpening then.book b.number b.block) (holds : ImagesHold setup view old s → HoldsGates setup shelf.geometry then records gates before)
+        (honest : IsHonest (view shelf.disk)) (safe : ImagesHold setup view old s) where
       opens : HasOpened setup shelf.geometry then records gates b.number b.block (bytes_of b) since now
       opens = open_call setup shelf.geometry then records gates before since now b.number b.block (bytes_of b) below (holds safe) opening (the_body honest) with_own (torn honest) fewer
 
       unsure_safe : HoldsGates setup shelf.geometry then records (gate_at (slice_set shelf.gates b.block Unsure)) now
-      unsure_safe = holds_same setup shelf.geometry then records (with_gate b.block Unsure gates) (gate_at (slice_set shelf.gates b.block Unsure)) now (gates_with shelf.gates b.block Unsure lt) opens.failed
+      unsure_safe = holds_same setup shelf.geometry then records (with_gate b.block Unsure gates) (gate_at (slice_set shelf.gates b.block Unsure)) now
+          (gates_with shelf.gates b.block Unsure lt) opens.failed
 
       set_safe : IsOpened shelf.geometry b.block now → HoldsGates setup shelf.geometry then records (gate_at (slice_set shelf.gates b.block Set)) now
       set_safe opened =
@@ -140,7 +145,8 @@ module _ {D : Type 0} (view : D → DiskView) (shelf : ShelfView D) (disk : D) (
 
     -- what is held behind it, in each state in which the write of the gate has begun
     abbrev HoldsAfter : Gate → Type 0
-    HoldsAfter gate = (then : State) → IsOpening then.book b.number b.block → (ImagesHold setup view old s → HoldsGates setup shelf.geometry then records gates before) → IsHonest (view shelf.disk) → ImagesHold setup view old s
+    HoldsAfter gate = (then : State) → IsOpening then.book b.number b.block → (ImagesHold setup view old s → HoldsGates setup shelf.geometry then records gates before)
+        → IsHonest (view shelf.disk) → ImagesHold setup view old s
         → HoldsGates setup shelf.geometry then records (gate_at (slice_set shelf.gates b.block gate)) now
 
     -- the records are those of the buffers then
@@ -189,7 +195,8 @@ module _ {D : Type 0} (view : D → DiskView) (shelf : ShelfView D) (disk : D) (
 
 -- ---- as the call finds it
 
-module _ {D : Type 0} (view : D → DiskView) (shelf : ShelfView D) (disk : D) (front : List BufferState) (b : BufferState) (behind : List BufferState) (parts : shelf.buffers ≡ front ++ b ∷ behind) (shelf_is : IsShelf view shelf) (call : KeepsDisk view shelf.disk disk)
+module _ {D : Type 0} (view : D → DiskView) (shelf : ShelfView D) (disk : D) (front : List BufferState) (b : BufferState) (behind : List BufferState)
+    (parts : shelf.buffers ≡ front ++ b ∷ behind) (shelf_is : IsShelf view shelf) (call : KeepsDisk view shelf.disk disk)
     (has_body : is_written b.phase ≡ true) (is_body : IsBody b.capacity (bytes_of b) (body_in b)) (block : ℕ) (at : block ≡ b.block)
     (torn : IsHonest (view shelf.disk) → TornFrom (block_place shelf.geometry block) 4096 (view shelf.disk).may_leave (meanwhile (view shelf.disk) (view disk))) where
   is_between : IsShelf view (record shelf { buffers = front ++ b ∷ behind })
@@ -211,17 +218,21 @@ module _ {D : Type 0} (view : D → DiskView) (shelf : ShelfView D) (disk : D) (
   abbrev Goes_to : ShelfView D → Type 0
   Goes_to new = (setup : Setup) (s : State) → StandsFor setup shelf s → Goes view setup (gate_steps b.phase b.number) shelf s new
 
-  goes_from : (new : ShelfView D) → ((setup : Setup) (s : State) → StandsFor setup (record shelf { buffers = front ++ b ∷ behind }) s → Goes view setup (gate_steps b.phase b.number) (record shelf { buffers = front ++ b ∷ behind }) s new) → Goes_to new
+  goes_from : (new : ShelfView D) → ((setup : Setup) (s : State) → StandsFor setup (record shelf { buffers = front ++ b ∷ behind }) s
+      → Goes view setup (gate_steps b.phase b.number) (record shelf { buffers = front ++ b ∷ behind }) s new) → Goes_to new
   goes_from new goes setup s stands =
-      subst (λ (bs : List BufferState). Goes view setup (gate_steps b.phase b.number) (record shelf { buffers = bs }) s new) (sym parts) (goes setup s (subst (λ (bs : List BufferState). StandsFor setup (record shelf { buffers = bs }) s) parts stands))
+      subst (λ (bs : List BufferState). Goes view setup (gate_steps b.phase b.number) (record shelf { buffers = bs }) s new) (sym parts)
+      (goes setup s (subst (λ (bs : List BufferState). StandsFor setup (record shelf { buffers = bs }) s) parts stands))
 
   -- it failed
   pub tried_gate_shelf : IsShelf view tried_view
-  tried_gate_shelf = subst (λ (k : ℕ). IsShelf view (record shelf { disk = disk; buffers = front ++ with_phase GateBegun b ∷ behind; gates = slice_set shelf.gates k Unsure })) (sym at) (unsure_shelf view shelf disk front b behind is_between call has_body own_body torn_b)
+  tried_gate_shelf = subst (λ (k : ℕ). IsShelf view (record shelf { disk = disk; buffers = front ++ with_phase GateBegun b ∷ behind; gates = slice_set shelf.gates k Unsure })) (sym at)
+      (unsure_shelf view shelf disk front b behind is_between call has_body own_body torn_b)
 
   pub tried_gate_goes : Goes_to tried_view
   tried_gate_goes = subst (λ (k : ℕ). Goes_to (record shelf { disk = disk; buffers = front ++ with_phase GateBegun b ∷ behind; gates = slice_set shelf.gates k Unsure })) (sym at)
-      (goes_from (record shelf { disk = disk; buffers = front ++ with_phase GateBegun b ∷ behind; gates = slice_set shelf.gates b.block Unsure }) (λ setup s stands. goes_unsure view shelf disk front b behind is_between call has_body own_body torn_b setup s stands))
+      (goes_from (record shelf { disk = disk; buffers = front ++ with_phase GateBegun b ∷ behind; gates = slice_set shelf.gates b.block Unsure })
+      (λ setup s stands. goes_unsure view shelf disk front b behind is_between call has_body own_body torn_b setup s stands))
 
   -- it went well
   module _ (opened : IsHonest (view disk) → IsOpened shelf.geometry block (view disk).may_leave) where
@@ -232,7 +243,8 @@ module _ {D : Type 0} (view : D → DiskView) (shelf : ShelfView D) (disk : D) (
     gates_same = set-set shelf.gates block Unsure Set ∙ ap (λ (k : ℕ). slice_set shelf.gates k Set) at
 
     pub done_gate_shelf : IsShelf view done_view
-    done_gate_shelf = subst (λ (l : List Gate). IsShelf view (record shelf { disk = disk; buffers = front ++ with_phase GateBegun b ∷ behind; gates = l })) (sym gates_same) (set_shelf view shelf disk front b behind is_between call has_body own_body torn_b opened_b)
+    done_gate_shelf = subst (λ (l : List Gate). IsShelf view (record shelf { disk = disk; buffers = front ++ with_phase GateBegun b ∷ behind; gates = l })) (sym gates_same)
+        (set_shelf view shelf disk front b behind is_between call has_body own_body torn_b opened_b)
 
     pub done_gate_goes : (IsHonest (view shelf.disk) → IsHonest (view disk)) → Goes_to done_view
     done_gate_goes stays = subst (λ (l : List Gate). Goes_to (record shelf { disk = disk; buffers = front ++ with_phase GateBegun b ∷ behind; gates = l })) (sym gates_same)

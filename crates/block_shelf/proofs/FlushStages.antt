@@ -50,12 +50,28 @@ first_later p sealed at buffers first = record {
 }
 
 -- what leaves it out, by the buffer that was found
-pub without_first : {D : Type 0} (number at : ℕ) (old new : ShelfView D) (first : IsFirstAt at old.buffers) (bs : List BufferState) (b : BufferState) (holds : HoldState) (free : List ℕ) → bs ≡ first.sealed.front ++ first.sealed.behind → b ≡ first.sealed.buffer
-    → new ≡ record old { buffers = bs; holds = holds; free = free; queue = considered old.queue b.block (rolled_use b.block old.rolls) true; cache = with_flushed b old.cache } → holds.holds ≡ without_buffer old.holds.holds number → IsWithoutFirst number first.sealed old new
+pub without_first : {D : Type 0} (number at : ℕ) (old new : ShelfView D) (first : IsFirstAt at old.buffers) (bs : List BufferState) (b : BufferState) (holds : HoldState) (free : List ℕ)
+    → bs ≡ first.sealed.front ++ first.sealed.behind → b ≡ first.sealed.buffer
+    → new ≡ record old { buffers = bs; holds = holds; free = free; queue = considered old.queue b.block (rolled_use b.block old.rolls) true; cache = with_flushed b old.cache }
+    → holds.holds ≡ without_buffer old.holds.holds number → IsWithoutFirst number first.sealed old new
 without_first {D} number at old new first bs b holds free left same is unheld = record {
   rest =
-      is ∙ ap (λ (l : List BufferState). record old { buffers = l; holds = holds; free = free; queue = considered old.queue b.block (rolled_use b.block old.rolls) true; cache = with_flushed b old.cache }) left
-      ∙ ap (λ (x : BufferState). record old { buffers = others; holds = holds; free = free; queue = considered old.queue x.block (rolled_use x.block old.rolls) true; cache = with_flushed x old.cache }) same
+      is ∙ ap (λ (l : List BufferState). record old {
+        buffers = l;
+        holds = holds;
+        free = free;
+        queue = considered old.queue b.block (rolled_use b.block old.rolls) true;
+        cache =
+            with_flushed b old.cache;
+      }) left
+      ∙ ap (λ (x : BufferState). record old {
+        buffers = others;
+        holds = holds;
+        free = free;
+        queue = considered old.queue x.block (rolled_use x.block old.rolls) true;
+        cache =
+            with_flushed x old.cache;
+      }) same
       ∙ ap (λ (h : HoldState). record old { buffers = others; holds = h; free = free; queue = queue; cache = cache }) (sym holds_are)
       ∙ ap (λ (l : List ℕ). record old { buffers = others; holds = new.holds; free = l; queue = queue; cache = cache }) (sym (ap (λ (v : ShelfView D). v.free) is));
   unheld = ap (λ (h : HoldState). h.holds) holds_are ∙ unheld;
@@ -116,7 +132,12 @@ module _ {D : Type 0} (at : ℕ) (old : ShelfView D) (first : IsFirstAt at old.b
       left_disk = ap (λ (v : ShelfView D). v.disk) leaves_it.rest
 
       pub left_shape : SameShape old new
-      left_shape = record { geometry = ap (λ (v : ShelfView D). v.geometry) leaves_it.rest; limits = ap (λ (v : ShelfView D). v.limits) leaves_it.rest; raid = ap (λ (v : ShelfView D). v.raid) leaves_it.rest }
+      left_shape = record {
+        geometry = ap (λ (v : ShelfView D). v.geometry) leaves_it.rest;
+        limits = ap (λ (v : ShelfView D). v.limits) leaves_it.rest;
+        raid =
+            ap (λ (v : ShelfView D). v.raid) leaves_it.rest;
+      }
 
       pub leaves_shelf : first.sealed.buffer.number ≡ number → FirstLeaves number old new
       leaves_shelf own = record {

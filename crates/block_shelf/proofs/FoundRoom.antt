@@ -15,7 +15,8 @@ use Rattle.block_shelf.specs.Changes.{StandsAt, CanTake, HasRoom, HasRoomAt, Sam
 use Rattle.block_shelf.specs.Appends.{BeginsInFirst, PutsCopy, ready_for}
 use Rattle.block_shelf.proofs.Appended.{put_is}
 
-pub told_room : (stream other : Stream) (n units : ℕ) (place at : ℕ) (buffers : List BufferState) → stream ≡ other → n ≡ units → at ≡ place → HasRoomAt stream n place buffers → HasRoomAt other units at buffers
+pub told_room : (stream other : Stream) (n units : ℕ) (place at : ℕ) (buffers : List BufferState) → stream ≡ other → n ≡ units → at ≡ place → HasRoomAt stream n place buffers
+    → HasRoomAt other units at buffers
 told_room stream other n units place at buffers of_stream same there room =
     subst (λ (k : ℕ). HasRoomAt other units k buffers) (sym there) (subst (λ (m : ℕ). HasRoomAt other m place buffers) same (subst (λ (x : Stream). HasRoomAt x n place buffers) of_stream room))
 
@@ -29,7 +30,8 @@ stands_within at buffers s = subst (λ (l : List BufferState). at < length l) (s
 -- ---- the buffer takes the copy
 
 -- where memory was taken for it
-pub can_in_room : {D : Type 0} (stream : Stream) (units at : ℕ) (old mid : ShelfView D) → SameButRoom old mid → (room : HasRoomAt stream units at old.buffers) → 1 ≤ spare_of room.stands.buffer.block mid.rolls → CanTake units at mid
+pub can_in_room : {D : Type 0} (stream : Stream) (units at : ℕ) (old mid : ShelfView D) → SameButRoom old mid → (room : HasRoomAt stream units at old.buffers)
+    → 1 ≤ spare_of room.stands.buffer.block mid.rolls → CanTake units at mid
 can_in_room {D} stream units at old mid same room space =
     let s = room.stands in record {
       stands = record { front = s.front; buffer = s.buffer; behind = s.behind; parts = ap (λ (x : ShelfView D). x.buffers) same.rest ∙ s.parts; before = s.before };
@@ -39,16 +41,19 @@ can_in_room {D} stream units at old mid same room space =
     }
 
 -- the buffer that has begun is the last one
-abbrev pub begun_stands : {D : Type 0} (stream : Stream) (old begun mid : ShelfView D) (at n : ℕ) → mid ≡ with_begun stream (ready_for begun old) → at ≡ n - 1 → n ≡ length mid.buffers → StandsAt at mid.buffers
+abbrev pub begun_stands : {D : Type 0} (stream : Stream) (old begun mid : ShelfView D) (at n : ℕ) → mid ≡ with_begun stream (ready_for begun old) → at ≡ n - 1 → n ≡ length mid.buffers
+    → StandsAt at mid.buffers
 begun_stands {D} stream old begun mid at n is place count = record {
   front = map (sealed_in stream) old.buffers;
   buffer = begun_buffer stream old;
   behind = [];
   parts = ap (λ (x : ShelfView D). x.buffers) is;
-  before = let all : length mid.buffers ≡ length (map (sealed_in stream) old.buffers) + 1 = ap (λ (x : ShelfView D). length x.buffers) is ∙ length_push (map (sealed_in stream) old.buffers) (begun_buffer stream old) in omega (arith, all, place, count);
+  before = let all : length mid.buffers ≡ length (map (sealed_in stream) old.buffers) + 1 = ap (λ (x : ShelfView D). length x.buffers) is
+      ∙ length_push (map (sealed_in stream) old.buffers) (begun_buffer stream old) in omega (arith, all, place, count);
 }
 
-pub can_in_new : {D : Type 0} (stream : Stream) (units : ℕ) (old begun mid : ShelfView D) (at n : ℕ) → mid ≡ with_begun stream (ready_for begun old) → at ≡ n - 1 → n ≡ length mid.buffers → units ≤ block_capacity old.geometry.block_size
+pub can_in_new : {D : Type 0} (stream : Stream) (units : ℕ) (old begun mid : ShelfView D) (at n : ℕ) → mid ≡ with_begun stream (ready_for begun old) → at ≡ n - 1 → n ≡ length mid.buffers
+    → units ≤ block_capacity old.geometry.block_size
     → 1 ≤ spare_of (first_block old.free) begun.rolls → CanTake units at mid
 can_in_new {D} stream units old begun mid at n is place count small space = record {
   stands = begun_stands stream old begun mid at n is place count;
@@ -62,18 +67,21 @@ can_in_new {D} stream units old begun mid at n is place count small space = reco
 abbrev pub KeepsBoth : {D : Type 0} → (old new : ShelfView D) → Type 0
 KeepsBoth old new = (new.gates ≡ old.gates) × (new.cache ≡ old.cache)
 
-pub put_both : {D : Type 0} (digest : Digest) (v : Version) (prior : Option Place) (front : List BufferState) (b : BufferState) (behind : List BufferState) (shelf new : ShelfView D) (place : Place) → PutsCopy digest v prior front b behind shelf new place → KeepsBoth shelf new
+pub put_both : {D : Type 0} (digest : Digest) (v : Version) (prior : Option Place) (front : List BufferState) (b : BufferState) (behind : List BufferState) (shelf new : ShelfView D)
+    (place : Place) → PutsCopy digest v prior front b behind shelf new place → KeepsBoth shelf new
 put_both {D} digest v prior front b behind shelf new place put =
     let is = put_is digest v prior front b behind shelf new place put in
     (ap (λ (x : ShelfView D). x.gates) is, ap (λ (x : ShelfView D). x.cache) is)
 
-pub both_in_room : {D : Type 0} (stream : Stream) (units at : ℕ) (old mid new : ShelfView D) → SameButRoom old mid → HasRoomAt stream units at old.buffers → KeepsBoth mid new → BeginsInFirst stream units old new
+pub both_in_room : {D : Type 0} (stream : Stream) (units at : ℕ) (old mid new : ShelfView D) → SameButRoom old mid → HasRoomAt stream units at old.buffers → KeepsBoth mid new
+    → BeginsInFirst stream units old new
 both_in_room {D} stream units at old mid new same room both = record {
   in_room = λ has. (both.0 ∙ ap (λ (x : ShelfView D). x.gates) same.rest, both.1 ∙ ap (λ (x : ShelfView D). x.cache) same.rest);
   in_new = λ none. absurd (none (at, room));
 }
 
-pub both_in_new : {D : Type 0} (stream : Stream) (units : ℕ) (old begun mid new : ShelfView D) → mid ≡ with_begun stream (ready_for begun old) → (HasRoom stream units old.buffers → ⊥) → KeepsBoth mid new → BeginsInFirst stream units old new
+pub both_in_new : {D : Type 0} (stream : Stream) (units : ℕ) (old begun mid new : ShelfView D) → mid ≡ with_begun stream (ready_for begun old) → (HasRoom stream units old.buffers → ⊥)
+    → KeepsBoth mid new → BeginsInFirst stream units old new
 both_in_new {D} stream units old begun mid new is none both = record {
   in_room = λ has. absurd (none has);
   in_new = λ never. (both.0 ∙ ap (λ (x : ShelfView D). x.gates) is, both.1 ∙ ap (λ (x : ShelfView D). x.cache) is);

@@ -32,7 +32,8 @@ none_has buffers block n none within all =
     sym (any_none (λ b. b.block == block) buffers (all_map (λ b. b.block ≢ block) (λ b. (b.block == block) ≡ false) buffers (λ b other. ne_eqb b.block block other)
     (subst (AllByRecursion (λ b. b.block ≢ block)) (ap (λ (m : ℕ). take m buffers) (let e : n ≡ length buffers = omega (arith, within, all) in e) ∙ take-length buffers) none)))
 
-pub told_bare : (buffers : List BufferState) (rolls : List BlockRoll) (block n : ℕ) → n ≡ rolled_use block rolls → IsRoll (copies_in block rolls) → AllByRecursion (λ b. b.block ≢ block) buffers → MatchBool (n == 0) (IsBare buffers rolls block) (IsBare buffers rolls block → ⊥)
+pub told_bare : (buffers : List BufferState) (rolls : List BlockRoll) (block n : ℕ) → n ≡ rolled_use block rolls → IsRoll (copies_in block rolls)
+    → AllByRecursion (λ b. b.block ≢ block) buffers → MatchBool (n == 0) (IsBare buffers rolls block) (IsBare buffers rolls block → ⊥)
 told_bare buffers rolls block n same roll unbuffered = by (n == 0) refl
   where
     by : (b : Bool) → (n == 0) ≡ b → MatchBool b (IsBare buffers rolls block) (IsBare buffers rolls block → ⊥)
@@ -89,7 +90,9 @@ module _ (blocks : ℕ) (Goes : ℕ → Type 0) (old : List ℕ) where
     freed_same kept = record {
       freed = λ come decides.
           are.freed come decides
-          ∙ ap (λ (l : List ℕ). old ++ l) (sym (come_more come n ∙ ap (λ (l : List ℕ). filter come (range_with_len 0 n) ++ l) (cond-false (come n) (n ∷ []) [] (by (come n) (λ is. kept ((decides n lt).0 is)))) ∙ append-nil (filter come (range_with_len 0 n))));
+          ∙ ap (λ (l : List ℕ). old ++ l)
+          (sym (come_more come n ∙ ap (λ (l : List ℕ). filter come (range_with_len 0 n) ++ l) (cond-false (come n) (n ∷ []) [] (by (come n) (λ is. kept ((decides n lt).0 is))))
+          ∙ append-nil (filter come (range_with_len 0 n))));
       each = are.each;
       below = are.below;
       apart = are.apart;

@@ -83,7 +83,8 @@ pub updated_same : (q : ℕ → Bool) (old all : List ℕ) → AllByRecursion (�
 updated_same q old all still each = updated_more q old all [] still (none_new q old all each) ∙ append-nil old
 
 -- the first is taken
-pub updated_taken : (q : ℕ → Bool) (first : ℕ) (rest all : List ℕ) → q first ≡ false → AllByRecursion (λ b. q b ≡ true) rest → AllByRecursion (λ b. q b ≡ true → Contains (first ∷ rest) b) all → updated q (first ∷ rest) all ≡ rest
+pub updated_taken : (q : ℕ → Bool) (first : ℕ) (rest all : List ℕ) → q first ≡ false → AllByRecursion (λ b. q b ≡ true) rest
+    → AllByRecursion (λ b. q b ≡ true → Contains (first ∷ rest) b) all → updated q (first ∷ rest) all ≡ rest
 updated_taken q first rest all gone still each =
     ap (λ (l : List ℕ). l ++ filter (λ b. q b && not (is_in (first ∷ rest) b)) all) (cond-false (q first) (first ∷ filter q rest) (filter q rest) gone ∙ filter_all q rest still)
     ∙ ap (λ (l : List ℕ). rest ++ l) (none_new q (first ∷ rest) all each) ∙ append-nil rest
@@ -104,7 +105,8 @@ part_of_sum f (y ∷ xs) x there =
 
 pub vacant_from : (book : Book) (block : ℕ) → AllByRecursion (λ l. 1 ≤ l.units) book.live → may_be_free book block ≡ true → IsVacant book block
 vacant_from book block units may = record {
-  places = λ number there. both_values (block == block) (none_at (λ (p : ℕ × ℕ). p.1 == block) (places_of book) (number, block) (sym (buffer_place book block) ∙ nothing.buffer) there) (eq-eqb block block refl);
+  places = λ number there. both_values (block == block) (none_at (λ (p : ℕ × ℕ). p.1 == block) (places_of book) (number, block) (sym (buffer_place book block) ∙ nothing.buffer) there)
+      (eq-eqb block block refl);
   live = λ l there same.
       let part = part_of_sum (λ (m : Live). m.units) (filter (λ m. m.block == block) book.live) l (filter_there (λ (m : Live). m.block == block) book.live l (eq-eqb l.block block same) there) in
       let takes = all_at (λ m. 1 ≤ m.units) book.live l units there in
@@ -125,7 +127,8 @@ vacant_is book block vacant =
         (λ p there. ne_eqb p.1 block (λ same. vacant.places p.0 (subst (λ (k : ℕ). Contains (places_of book) (p.0, k)) same there)))
 
     unused : use_of book block ≡ 0
-    unused = ap (sum_by (λ (l : Live). l.units)) (filter_none (λ (l : Live). l.block == block) book.live (all_from (λ l. (l.block == block) ≡ false) book.live (λ l there. ne_eqb l.block block (vacant.live l there))))
+    unused = ap (sum_by (λ (l : Live). l.units)) (filter_none (λ (l : Live). l.block == block) book.live
+        (all_from (λ l. (l.block == block) ≡ false) book.live (λ l there. ne_eqb l.block block (vacant.live l there))))
 
     unheld : is_held book block ≡ false
     unheld = none_from (λ (h : ℕ × ℕ). h.1 == block) book.holds (λ h there. ne_eqb h.1 block (λ same. vacant.holds h.0 (subst (λ (k : ℕ). Contains book.holds (h.0, k)) same there)))

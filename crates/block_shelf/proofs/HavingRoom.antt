@@ -21,7 +21,8 @@ module _ {D : Type 0} (view : D → DiskView) (setup : Setup) (stream : Stream) 
       let b = room.stands.buffer in
       let behind = room.stands.behind in
       let order = subst StandInOrder room.stands.parts is.order in
-      let filling = ap (filling_buffer (book_stream stream)) (stands.buffers ∙ ap (map book_buffer) room.stands.parts) ∙ fills_found stream front b behind order (fills_from stream b room.fills room.of_stream) in
+      let filling = ap (filling_buffer (book_stream stream)) (stands.buffers ∙ ap (map book_buffer) room.stands.parts)
+      ∙ fills_found stream front b behind order (fills_from stream b room.fills room.of_stream) in
       let one : OneBuffer shelf b = one_buffer view shelf front b behind is room.stands.parts in
       ap (fits_in setup.capacity units) filling
       ∙ le-leb (used_units b + units) setup.capacity (subst (λ (n : ℕ). used_units b + units ≤ n) (one.is.capacity ∙ sym setup_is.shape.capacity) room.room)

@@ -20,7 +20,8 @@ bodies ks = map (λ k. k.body) ks
 
 module _ (g : Geometry) where
   -- what is told of what is kept of a block is told of the buffers of the block
-  pub bodies_all : (P : BufferState → Type 0) (block : ℕ) (ks : List (KeptBody BufferState)) → AllByRecursion (IsKeptOf g) ks → AllByRecursion (λ k. k.block ≡ block → P k.body) ks → AllByRecursion (λ b. b.block ≡ block → P b) (bodies ks)
+  pub bodies_all : (P : BufferState → Type 0) (block : ℕ) (ks : List (KeptBody BufferState)) → AllByRecursion (IsKeptOf g) ks → AllByRecursion (λ k. k.block ≡ block → P k.body) ks
+      → AllByRecursion (λ b. b.block ≡ block → P b) (bodies ks)
   bodies_all P block [] each all = tt
   bodies_all P block (k ∷ ks) each all = ((λ at. all.0 (sym each.0.block ∙ at)), bodies_all P block ks each.1 all.1)
 
@@ -79,10 +80,12 @@ module _ (g : Geometry) where
 
   module _ {D : Type 0} (shelf : ShelfView D) (block : ℕ) (each : AllByRecursion (IsKeptOf g) shelf.cache.kept) where
     -- where the block has a buffer, nothing is kept of it
-    pub unkept_of : (b : BufferState) → Contains shelf.buffers b → b.block ≡ block → AllByRecursion (λ n. kept_at n shelf.cache.kept ≡ None) (map (λ c. c.block) shelf.buffers) → kept_at block shelf.cache.kept ≡ None
+    pub unkept_of : (b : BufferState) → Contains shelf.buffers b → b.block ≡ block → AllByRecursion (λ n. kept_at n shelf.cache.kept ≡ None) (map (λ c. c.block) shelf.buffers)
+        → kept_at block shelf.cache.kept ≡ None
     unkept_of b there at apart =
         subst (λ (n : ℕ). kept_at n shelf.cache.kept ≡ None) at
-        (all_at (λ c. kept_at c.block shelf.cache.kept ≡ None) shelf.buffers b (all_before_map (λ c. kept_at c.block shelf.cache.kept ≡ None) (λ n. kept_at n shelf.cache.kept ≡ None) (λ c. c.block) (λ c absent. absent) shelf.buffers apart) there)
+        (all_at (λ c. kept_at c.block shelf.cache.kept ≡ None) shelf.buffers b
+        (all_before_map (λ c. kept_at c.block shelf.cache.kept ≡ None) (λ n. kept_at n shelf.cache.kept ≡ None) (λ c. c.block) (λ c absent. absent) shelf.buffers apart) there)
 
     pub only_buffer : (b : BufferState) → b.block ≡ block → kept_at block shelf.cache.kept ≡ None → ((other : BufferState) → Contains shelf.buffers other → other.block ≡ block → other ≡ b)
         → (other : BufferState) → Contains (in_memory shelf) other → other.block ≡ block → other ≡ b
@@ -91,21 +94,24 @@ module _ (g : Geometry) where
         (λ (in_kept : Contains (bodies shelf.cache.kept) other). absurd (all_at (λ x. x.block ≢ block) (bodies shelf.cache.kept) other (bodies_other block shelf.cache.kept each none) in_kept same))
         (Contains-append_cases shelf.buffers (bodies shelf.cache.kept) other there)
 
-    module _ (unbuffered : AllByRecursion (λ b. b.block ≢ block) shelf.buffers) (peeked : Option (Bor BufferState)) (is : option_map (λ (b : Bor BufferState). b.now) peeked ≡ body_of block shelf.cache.kept) where
+    module _ (unbuffered : AllByRecursion (λ b. b.block ≢ block) shelf.buffers) (peeked : Option (Bor BufferState))
+        (is : option_map (λ (b : Bor BufferState). b.now) peeked ≡ body_of block shelf.cache.kept) where
       found : IfSome (option_map (λ (b : Bor BufferState). b.now) peeked) (IsBodyOf block shelf.cache.kept)
       found = subst (λ (o : Option BufferState). IfSome o (IsBodyOf block shelf.cache.kept)) (sym is) (found_body block shelf.cache.kept each)
 
       pub peeked_some : IfSome peeked (λ b. Contains (in_memory shelf) b.now × (b.now.block ≡ block))
       peeked_some = by peeked found
         where
-          by : (o : Option (Bor BufferState)) → IfSome (option_map (λ (b : Bor BufferState). b.now) o) (IsBodyOf block shelf.cache.kept) → IfSome o (λ b. Contains (in_memory shelf) b.now × (b.now.block ≡ block))
+          by : (o : Option (Bor BufferState)) → IfSome (option_map (λ (b : Bor BufferState). b.now) o) (IsBodyOf block shelf.cache.kept)
+              → IfSome o (λ b. Contains (in_memory shelf) b.now × (b.now.block ≡ block))
           by None is = tt
           by (Some b) is = (Contains-append_right shelf.buffers (bodies shelf.cache.kept) b.now is.there, is.at)
 
       pub peeked_only : KeepOwnBlocks shelf.cache.kept → IfSome peeked (λ b. (other : BufferState) → Contains (in_memory shelf) other → other.block ≡ block → other ≡ b.now)
       peeked_only own = by peeked found
         where
-          by : (o : Option (Bor BufferState)) → IfSome (option_map (λ (b : Bor BufferState). b.now) o) (IsBodyOf block shelf.cache.kept) → IfSome o (λ b. (other : BufferState) → Contains (in_memory shelf) other → other.block ≡ block → other ≡ b.now)
+          by : (o : Option (Bor BufferState)) → IfSome (option_map (λ (b : Bor BufferState). b.now) o) (IsBodyOf block shelf.cache.kept)
+              → IfSome o (λ b. (other : BufferState) → Contains (in_memory shelf) other → other.block ≡ block → other ≡ b.now)
           by None is = tt
           by (Some b) is = λ other there same.
               ⊎_elim (λ (in_buffers : Contains shelf.buffers other). absurd (all_at (λ x. x.block ≢ block) shelf.buffers other unbuffered in_buffers same))
@@ -119,6 +125,7 @@ module _ (g : Geometry) where
       pub peeked_capacity : block_capacity g.block_size < 65536 → IfSome peeked (λ b. (b.now.capacity ≡ block_capacity g.block_size) × (b.now.capacity < 65536))
       peeked_capacity few = by peeked found
         where
-          by : (o : Option (Bor BufferState)) → IfSome (option_map (λ (b : Bor BufferState). b.now) o) (IsBodyOf block shelf.cache.kept) → IfSome o (λ b. (b.now.capacity ≡ block_capacity g.block_size) × (b.now.capacity < 65536))
+          by : (o : Option (Bor BufferState)) → IfSome (option_map (λ (b : Bor BufferState). b.now) o) (IsBodyOf block shelf.cache.kept)
+              → IfSome o (λ b. (b.now.capacity ≡ block_capacity g.block_size) × (b.now.capacity < 65536))
           by None is = tt
           by (Some b) is = (is.capacity, subst (λ (n : ℕ). n < 65536) (sym is.capacity) few)

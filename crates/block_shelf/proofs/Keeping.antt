@@ -57,7 +57,8 @@ module _ (Has : BufferState → ℕ → Digest → Version → Type 0) where
   have_forgotten block ks s have e l v is_live is_entry = all-without (λ k. k.block ≡ l.block → Has k.body l.unit e v) block ks (have e l v is_live is_entry)
 
   -- a buffer is kept that has the copies of its block
-  pub have_flushed : (b : BufferState) (c : CacheState BufferState) (s : State) → ((e : Digest) (l : Live) (v : Version) → live_of e s.book.live ≡ Some l → entry s e ≡ Some v → b.block ≡ l.block → Has b l.unit e v)
+  pub have_flushed : (b : BufferState) (c : CacheState BufferState) (s : State)
+      → ((e : Digest) (l : Live) (v : Version) → live_of e s.book.live ≡ Some l → entry s e ≡ Some v → b.block ≡ l.block → Has b l.unit e v)
       → KeptHave Has c.kept s → KeptHave Has (with_flushed b c).kept s
   have_flushed b c s this have e l v is_live is_entry = all-with c.limit b.block b c.kept (λ k. k.block ≡ l.block → Has k.body l.unit e v) (have e l v is_live is_entry) (this e l v is_live is_entry)
 
@@ -68,7 +69,8 @@ module _ (Has : BufferState → ℕ → Digest → Version → Type 0) where
 
   -- one digest gets a live copy in a block that isn't kept
   pub have_copied : (ks : List (KeptBody BufferState)) (s t : State) (digest : Digest) (new : Live) → live_of digest t.book.live ≡ Some new → AllByRecursion (λ k. k.block ≢ new.block) ks
-      → ((e : Digest) → same_digest e digest ≡ false → live_of e t.book.live ≡ live_of e s.book.live) → ((e : Digest) → same_digest e digest ≡ false → entry t e ≡ entry s e) → KeptHave Has ks s → KeptHave Has ks t
+      → ((e : Digest) → same_digest e digest ≡ false → live_of e t.book.live ≡ live_of e s.book.live) → ((e : Digest) → same_digest e digest ≡ false → entry t e ≡ entry s e)
+      → KeptHave Has ks s → KeptHave Has ks t
   have_copied ks s t digest new is_new apart lives entries have e l v is_live is_entry = by (same_digest e digest) refl
     where
       some_same : (l m : Live) → Some l ≡ Some m → l ≡ m

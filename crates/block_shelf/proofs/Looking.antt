@@ -25,7 +25,8 @@ stands_over setup old disk s stands = record {
 
 module _ {D : Type 0} (view : D → DiskView) where
   -- what may be left at the end might have been left before
-  read_within : (old new : ShelfView D) → OnlyRead (view old.disk) (view new.disk) → IsDisk (view new.disk) → IsHonest (view old.disk) → (c : List ℕ) → (view new.disk).may_leave c → (view old.disk).may_leave c
+  read_within : (old new : ShelfView D) → OnlyRead (view old.disk) (view new.disk) → IsDisk (view new.disk) → IsHonest (view old.disk) → (c : List ℕ) → (view new.disk).may_leave c
+      → (view old.disk).may_leave c
   read_within old new only now honest c left = only.images honest c (now.now_since (view old.disk).moment c (only.time.stays (view old.disk).moment only.time.started) left)
 
   pub goes_read : (setup : Setup) (old new : ShelfView D) (s : State) → new ≡ record old { disk = new.disk } → OnlyRead (view old.disk) (view new.disk) → IsDisk (view new.disk)
@@ -35,7 +36,11 @@ module _ {D : Type 0} (view : D → DiskView) where
     queued = λ queue. record { same = queue.same; all = queue.all; raid = queue.raid };
     placed = λ honest placed. record { buffered = placed.buffered; there = λ d l v is there none c left. placed.there d l v is there none c (within honest c left); kept = placed.kept };
     safe = λ honest safe. fewer_holds setup old.geometry s (records_of old.buffers) (gate_at old.gates) (view old.disk).may_leave safe (view new.disk).may_leave (within honest);
-    leaves = λ honest safe. record { time = only.time; each = λ c left. inl (held_survives setup old.geometry s (records_of old.buffers) (gate_at old.gates) (view old.disk).may_leave safe.held c (only.images honest c left)) };
+    leaves = λ honest safe. record {
+      time = only.time;
+      each =
+          λ c left. inl (held_survives setup old.geometry s (records_of old.buffers) (gate_at old.gates) (view old.disk).may_leave safe.held c (only.images honest c left));
+    };
   })
     where
       within : IsHonest (view old.disk) → (c : List ℕ) → (view new.disk).may_leave c → (view old.disk).may_leave c

@@ -51,7 +51,8 @@ apart_then : (xs : List ℕ) (k : ℕ) (ys : List ℕ) → AreApart (xs ++ k ∷
 apart_then [] k ys apart = all_map (λ y. k ≢ y) (λ y. y ≢ k) ys (λ y ne e. ne (sym e)) apart.0
 apart_then (x ∷ xs) k ys apart = apart_then xs k ys apart.1
 
-pub own_block : (front : List BufferState) (b : BufferState) (behind : List BufferState) (free : List ℕ) → AreApart (map (λ c. c.block) (front ++ b ∷ behind) ++ free) → OwnBlock b.block front behind free
+pub own_block : (front : List BufferState) (b : BufferState) (behind : List BufferState) (free : List ℕ) → AreApart (map (λ c. c.block) (front ++ b ∷ behind) ++ free)
+    → OwnBlock b.block front behind free
 own_block front b behind free apart =
     let split = subst AreApart (blocks_parted front b behind free) apart in
     let after = all_parted (λ k. k ≢ b.block) (map (λ c. c.block) behind) free (apart_then (map (λ c. c.block) front) b.block (map (λ c. c.block) behind ++ free) split) in
@@ -93,9 +94,11 @@ pub record OneBuffer {D : Type 0} (shelf : ShelfView D) (b : BufferState) : Type
   -- no live copy begins where the next record comes
   pub none_at : copy_at (used_units b) (copies_in b.block shelf.rolls) ≡ None
 
-pub one_buffer : {D : Type 0} (view : D → DiskView) (shelf : ShelfView D) (front : List BufferState) (b : BufferState) (behind : List BufferState) → IsShelf view shelf → shelf.buffers ≡ front ++ b ∷ behind → OneBuffer shelf b
+pub one_buffer : {D : Type 0} (view : D → DiskView) (shelf : ShelfView D) (front : List BufferState) (b : BufferState) (behind : List BufferState) → IsShelf view shelf
+    → shelf.buffers ≡ front ++ b ∷ behind → OneBuffer shelf b
 one_buffer view shelf front b behind is parts =
-    let packed = (all_parted (λ c. ArePacked (used_units c) (copies_in c.block shelf.rolls)) front (b ∷ behind) (subst (AllByRecursion (λ c. ArePacked (used_units c) (copies_in c.block shelf.rolls))) parts is.packed)).1.0 in
+    let packed = (all_parted (λ c. ArePacked (used_units c) (copies_in c.block shelf.rolls)) front (b ∷ behind)
+    (subst (AllByRecursion (λ c. ArePacked (used_units c) (copies_in c.block shelf.rolls))) parts is.packed)).1.0 in
     record {
       is = (all_parted (IsBufferOf shelf.geometry shelf.next_number) front (b ∷ behind) (subst (AllByRecursion (IsBufferOf shelf.geometry shelf.next_number)) parts is.buffers)).1.0;
       packed = packed;
@@ -103,7 +106,8 @@ one_buffer view shelf front b behind is parts =
     }
 
 module _ {D : Type 0} (view : D → DiskView) (shelf : ShelfView D) (digest : Digest) (v : Version) (front : List BufferState) (b : BufferState) (behind : List BufferState)
-    (is : IsShelf view shelf) (parts : shelf.buffers ≡ front ++ b ∷ behind) (fills : b.phase ≡ Filling) (named : device_number shelf.geometry.devices digest ≡ shelf.geometry.device) (takes : 1 ≤ version_units v) where
+    (is : IsShelf view shelf) (parts : shelf.buffers ≡ front ++ b ∷ behind) (fills : b.phase ≡ Filling) (named : device_number shelf.geometry.devices digest ≡ shelf.geometry.device)
+    (takes : 1 ≤ version_units v) where
   abbrev copy : LiveCopy
   copy = record { digest = digest; unit = used_units b; units = version_units v }
 
@@ -124,7 +128,8 @@ module _ {D : Type 0} (view : D → DiskView) (shelf : ShelfView D) (digest : Di
 
   roll_at : (k : ℕ) → IsRoll (copies_in k rolls)
   roll_at k =
-      ⊎_elim (λ (e : k ≡ b.block). subst (λ (j : ℕ). IsRoll (copies_in j rolls)) (sym e) (subst IsRoll (sym (roll_here b.block _ shelf.rolls lt)) (roll_more copy (copies_in b.block shelf.rolls) (is.each b.block) takes one.none_at)))
+      ⊎_elim (λ (e : k ≡ b.block). subst (λ (j : ℕ). IsRoll (copies_in j rolls)) (sym e)
+      (subst IsRoll (sym (roll_here b.block _ shelf.rolls lt)) (roll_more copy (copies_in b.block shelf.rolls) (is.each b.block) takes one.none_at)))
       (λ (other : k ≢ b.block). subst IsRoll (sym (roll_there b.block k _ shelf.rolls other)) (is.each k)) (cases_eq k b.block)
 
   used_more : used_units more ≡ used_units b + version_units v
@@ -144,10 +149,12 @@ module _ {D : Type 0} (view : D → DiskView) (shelf : ShelfView D) (digest : Di
 
   still_packed : AllByRecursion (λ c. ArePacked (used_units c) (copies_in c.block rolls)) (front ++ more ∷ behind)
   still_packed =
-      let was = all_parted (λ c. ArePacked (used_units c) (copies_in c.block shelf.rolls)) front (b ∷ behind) (subst (AllByRecursion (λ c. ArePacked (used_units c) (copies_in c.block shelf.rolls))) parts is.packed) in
+      let was = all_parted (λ c. ArePacked (used_units c) (copies_in c.block shelf.rolls)) front (b ∷ behind)
+      (subst (AllByRecursion (λ c. ArePacked (used_units c) (copies_in c.block shelf.rolls))) parts is.packed) in
       all_joined (λ c. ArePacked (used_units c) (copies_in c.block rolls)) front (more ∷ behind) (others front apart.front was.0) (packed_more, others behind apart.behind was.1.1)
     where
-      others : (bs : List BufferState) → AllByRecursion (λ c. c.block ≢ b.block) bs → AllByRecursion (λ c. ArePacked (used_units c) (copies_in c.block shelf.rolls)) bs → AllByRecursion (λ c. ArePacked (used_units c) (copies_in c.block rolls)) bs
+      others : (bs : List BufferState) → AllByRecursion (λ c. c.block ≢ b.block) bs → AllByRecursion (λ c. ArePacked (used_units c) (copies_in c.block shelf.rolls)) bs
+          → AllByRecursion (λ c. ArePacked (used_units c) (copies_in c.block rolls)) bs
       others [] elsewhere all = tt
       others (c ∷ bs) elsewhere all = (subst (ArePacked (used_units c)) (sym (roll_there b.block c.block _ shelf.rolls elsewhere.0)) all.0, others bs elsewhere.1 all.1)
 

@@ -43,7 +43,8 @@ none_used (c ∷ cs) takes none = let first = takes.0 in absurd (omega (arith, s
 pub one_passed : (held : ℕ → Bool) (used : ℕ → ℕ) (copies : ℕ → List LiveCopy) → ((b : ℕ) → used b ≡ sum_by (λ c. c.units) (copies b)) → (k : ℕ) → ((used k ≡ 0) → held k ≡ false)
     → ((b : ℕ) → b < k → held b ≡ true → copies b ≡ [] → ⊥) → (b : ℕ) → b < k + 1 → held b ≡ true → copies b ≡ [] → ⊥
 one_passed held used copies is k passed before b lt own none =
-    ⊎_elim (λ (e : b ≡ k). false≢true (sym (passed (is k ∙ ap (sum_by (λ (c : LiveCopy). c.units)) (ap copies (sym e) ∙ none))) ∙ ap held (sym e) ∙ own)) (λ (other : b ≢ k). before b (omega (arith, other, lt)) own none) (cases_eq b k)
+    ⊎_elim (λ (e : b ≡ k). false≢true (sym (passed (is k ∙ ap (sum_by (λ (c : LiveCopy). c.units)) (ap copies (sym e) ∙ none))) ∙ ap held (sym e) ∙ own))
+    (λ (other : b ≢ k). before b (omega (arith, other, lt)) own none) (cases_eq b k)
 
 -- ---- the buffer that takes the records of a stream
 
@@ -67,7 +68,8 @@ over_filling stream shelf b order there is n number false told = λ over.
 
 -- ---- the book
 
-module _ {D : Type 0} (view : D → DiskView) (shelf : ShelfView D) (is : IsShelf view shelf) (setup : Setup) (s : State) (set : IsSetupOf setup shelf) (stands : StandsFor setup shelf s) (books : BooksStand setup shelf s) where
+module _ {D : Type 0} (view : D → DiskView) (shelf : ShelfView D) (is : IsShelf view shelf) (setup : Setup) (s : State) (set : IsSetupOf setup shelf) (stands : StandsFor setup shelf s)
+    (books : BooksStand setup shelf s) where
   -- nothing is live in a block where its use is none
   use_none : (block : ℕ) → use_of s.book block ≡ 0 → copies_in block shelf.rolls ≡ []
   use_none block none = over (copies_in block shelf.rolls) (λ c there. there) (is.each block).takes
@@ -76,7 +78,8 @@ module _ {D : Type 0} (view : D → DiskView) (shelf : ShelfView D) (is : IsShel
       over [] within takes = refl
       over (c ∷ cs) within takes =
           let live = stands.lives.there block c (within c (first_there c cs)) in
-          let part = part_of_sum (λ (l : Live). l.units) (filter (λ (l : Live). l.block == block) s.book.live) (live_in_block block c) (filter_there (λ (l : Live). l.block == block) s.book.live (live_in_block block c) (eq-eqb block block refl) live) in
+          let part = part_of_sum (λ (l : Live). l.units) (filter (λ (l : Live). l.block == block) s.book.live) (live_in_block block c)
+          (filter_there (λ (l : Live). l.block == block) s.book.live (live_in_block block c) (eq-eqb block block refl) live) in
           let one = takes.0 in absurd (omega (arith, none, part, one))
 
   none_use : (block : ℕ) → copies_in block shelf.rolls ≡ [] → use_of s.book block ≡ 0
@@ -96,7 +99,8 @@ module _ {D : Type 0} (view : D → DiskView) (shelf : ShelfView D) (is : IsShel
         let hold : ℕ × ℕ = (over.buffer.number, over.holds.block) in
         ap (holds_dead s.book) (ap (filling_buffer (book_stream stream)) stands.buffers ∙ found_there stream shelf.buffers over.buffer is.order over.there over.fills)
         ∙ any_there (λ (h : ℕ × ℕ). (h.0 == over.buffer.number) && (use_of s.book h.1 == 0)) s.book.holds hold (stands.holds.there over.buffer.number over.holds.block over.holds.held)
-        (ap (λ (x : Bool). x && (use_of s.book over.holds.block == 0)) (eq-eqb over.buffer.number over.buffer.number refl) ∙ eq-eqb (use_of s.book over.holds.block) 0 (none_use over.holds.block over.holds.dead))
+        (ap (λ (x : Bool). x && (use_of s.book over.holds.block == 0)) (eq-eqb over.buffer.number over.buffer.number refl)
+        ∙ eq-eqb (use_of s.book over.holds.block) 0 (none_use over.holds.block over.holds.dead))
 
     is_dead : holds_dead s.book found ≡ true → FillsOverDead stream shelf
     is_dead told = by found refl told
@@ -130,7 +134,8 @@ module _ {D : Type 0} (view : D → DiskView) (shelf : ShelfView D) (is : IsShel
     short_is : IsShort shelf → is_short setup (filling_buffer defrag s.book.buffers) ≡ true
     short_is short =
         ap (is_short setup) (ap (filling_buffer defrag) stands.buffers ∙ found_there Defrag shelf.buffers short.buffer is.order short.there short.fills)
-        ∙ same_share (used_units short.buffer) ∙ lt-ltb ((block_capacity shelf.geometry.block_size - used_units short.buffer) * 100) (shelf.limits.lwm * block_capacity shelf.geometry.block_size) short.short
+        ∙ same_share (used_units short.buffer) ∙ lt-ltb ((block_capacity shelf.geometry.block_size - used_units short.buffer) * 100)
+        (shelf.limits.lwm * block_capacity shelf.geometry.block_size) short.short
 
     is_short_too : is_short setup (filling_buffer defrag s.book.buffers) ≡ true → IsShort shelf
     is_short_too told = by (filling_buffer defrag s.book.buffers) refl told
@@ -168,13 +173,15 @@ module _ {D : Type 0} (view : D → DiskView) (shelf : ShelfView D) (is : IsShel
 
     low_is : IsLow stream shelf → low ≡ true
     low_is is_low =
-        ap (λ (x : Bool). x && holds_dead s.book found && has_gathered setup s.book (book_stream stream)) (ap (λ (l : List ℕ). nat_le (length l) 6) stands.free ∙ le-leb (length shelf.free) 6 is_low.few)
+        ap (λ (x : Bool). x && holds_dead s.book found && has_gathered setup s.book (book_stream stream)) (ap (λ (l : List ℕ). nat_le (length l) 6) stands.free
+        ∙ le-leb (length shelf.free) 6 is_low.few)
         ∙ ap (λ (x : Bool). x && has_gathered setup s.book (book_stream stream)) (dead_is is_low.over) ∙ gathered_is stream is_low.gathered
 
     high_is : (IsLow stream shelf → ⊥) → low ≡ false
     high_is high = by (nat_le (length s.book.free) 6) (holds_dead s.book found) (has_gathered setup s.book (book_stream stream)) refl refl refl
       where
-        by : (few dead gathered : Bool) → nat_le (length s.book.free) 6 ≡ few → holds_dead s.book found ≡ dead → has_gathered setup s.book (book_stream stream) ≡ gathered → (few && dead && gathered) ≡ false
+        by : (few dead gathered : Bool) → nat_le (length s.book.free) 6 ≡ few → holds_dead s.book found ≡ dead → has_gathered setup s.book (book_stream stream) ≡ gathered
+            → (few && dead && gathered) ≡ false
         by false dead gathered is_few told all = refl
         by true false gathered is_few told all = refl
         by true true false is_few told all = refl
@@ -196,7 +203,8 @@ module _ {D : Type 0} (view : D → DiskView) (shelf : ShelfView D) (is : IsShel
 -- ---- what is short, and what can gain room, as the calls find it
 
 -- the buffer that takes moved records, and its room
-pub short_at : {D : Type 0} (shelf : ShelfView D) (next : ℕ) → AllByRecursion (IsBufferOf shelf.geometry next) shelf.buffers → StandInOrder shelf.buffers → (b : BufferState) → Contains shelf.buffers b → fills Defrag b ≡ true
+pub short_at : {D : Type 0} (shelf : ShelfView D) (next : ℕ) → AllByRecursion (IsBufferOf shelf.geometry next) shelf.buffers → StandInOrder shelf.buffers → (b : BufferState)
+    → Contains shelf.buffers b → fills Defrag b ≡ true
     → (room capacity : ℕ) → used_units b + room ≡ b.capacity → capacity ≡ block_capacity shelf.geometry.block_size → (r : Bool) → r ≡ nat_lt (room * 100) (shelf.limits.lwm * capacity)
     → MatchBool r (IsShort shelf) (IsShort shelf → ⊥)
 short_at shelf next each order b there is room capacity room_is capacity_is r told = by r told
@@ -205,7 +213,8 @@ short_at shelf next each order b there is room capacity room_is capacity_is r to
     left = let own = (all_at (IsBufferOf shelf.geometry next) shelf.buffers b each there).capacity in omega (arith, own, room_is)
 
     same : nat_lt (room * 100) (shelf.limits.lwm * capacity) ≡ nat_lt ((block_capacity shelf.geometry.block_size - used_units b) * 100) (shelf.limits.lwm * block_capacity shelf.geometry.block_size)
-    same = ap (λ (n : ℕ). nat_lt (n * 100) (shelf.limits.lwm * capacity)) left ∙ ap (λ (n : ℕ). nat_lt ((block_capacity shelf.geometry.block_size - used_units b) * 100) (shelf.limits.lwm * n)) capacity_is
+    same = ap (λ (n : ℕ). nat_lt (n * 100) (shelf.limits.lwm * capacity)) left
+        ∙ ap (λ (n : ℕ). nat_lt ((block_capacity shelf.geometry.block_size - used_units b) * 100) (shelf.limits.lwm * n)) capacity_is
 
     by : (t : Bool) → t ≡ nat_lt (room * 100) (shelf.limits.lwm * capacity) → MatchBool t (IsShort shelf) (IsShort shelf → ⊥)
     by true is_so = record { buffer = b; there = there; fills = is; short = ltb-true _ _ (sym (is_so ∙ same)) }
@@ -214,7 +223,8 @@ short_at shelf next each order b there is room capacity room_is capacity_is r to
         (same_found (sym (found_there Defrag shelf.buffers b order there is) ∙ found_there Defrag shelf.buffers short.buffer order short.there short.fills)) ∙ lt-ltb _ _ short.short)
 
 -- a filling buffer of moved records
-pub gains_filling : {D : Type 0} (setup : Setup) (shelf : ShelfView D) (s : State) → StandsFor setup shelf s → StandInOrder shelf.buffers → (b : BufferState) → Contains shelf.buffers b → fills Defrag b ≡ true → can_gain s.book ≡ true
+pub gains_filling : {D : Type 0} (setup : Setup) (shelf : ShelfView D) (s : State) → StandsFor setup shelf s → StandInOrder shelf.buffers → (b : BufferState) → Contains shelf.buffers b
+    → fills Defrag b ≡ true → can_gain s.book ≡ true
 gains_filling setup shelf s stands order b there is =
     or_left (nat_lt 7 (length s.book.free) || is_some (filling_buffer defrag s.book.buffers)) (nat_lt 1 (length s.book.queue))
     (or_right (nat_lt 7 (length s.book.free)) (is_some (filling_buffer defrag s.book.buffers))
@@ -226,7 +236,8 @@ pub gains_several : {D : Type 0} (setup : Setup) (shelf : ShelfView D) (s : Stat
 gains_several setup shelf s stands books none free queued free_is few queued_is =
     ap (nat_lt 1) (queued_is ∙ sym (ap length books.same))
     ∙ ap (λ (o : Option Buffer). is_some o || nat_lt 1 (length s.book.queue)) (sym (ap (filling_buffer defrag) stands.buffers ∙ none_found Defrag shelf.buffers none))
-    ∙ ap (λ (x : Bool). (x || is_some (filling_buffer defrag s.book.buffers)) || nat_lt 1 (length s.book.queue)) (sym (le-ltb 7 (length s.book.free) (subst (λ (n : ℕ). n ≤ 7) (free_is ∙ sym (ap length stands.free)) few)))
+    ∙ ap (λ (x : Bool). (x || is_some (filling_buffer defrag s.book.buffers)) || nat_lt 1 (length s.book.queue))
+    (sym (le-ltb 7 (length s.book.free) (subst (λ (n : ℕ). n ≤ 7) (free_is ∙ sym (ap length stands.free)) few)))
 
 -- ---- both streams, one after the other
 
@@ -237,7 +248,8 @@ still_due setup true s =
     ap (λ (o : Option Buffer). nat_le (length s.book.free) 6 && holds_dead s.book o && (is_empty s.book.queue || (is_empty s.book.free && is_short setup o))) (other_after setup true s)
 still_due setup false s = refl
 
-pub goes_low : {D : Type 0} (view : D → DiskView) (old mid new : ShelfView D) → IsShelf view old → IsShelf view mid → (setup : Setup) (s : State) → IsSetupOf setup old → StandsFor setup old s → BooksStand setup old s
+pub goes_low : {D : Type 0} (view : D → DiskView) (old mid new : ShelfView D) → IsShelf view old → IsShelf view mid → (setup : Setup) (s : State) → IsSetupOf setup old
+    → StandsFor setup old s → BooksStand setup old s
     → IsDisk (view old.disk) → IsDisk (view mid.disk) → SealsLow Client old mid → SealsLow Defrag mid new → Goes view setup (seal_low setup s.book) old s new
 goes_low {D} view old mid new is_old is_mid setup s set stands books disk_old disk_mid first then =
     let due : Bool = is_due setup s.book client in
@@ -265,7 +277,8 @@ module _ {D : Type 0} where
       subst (λ (v : ShelfView D). Contains v.buffers b) (sym is) (subst (Contains (map (sealed_in stream) old.buffers)) (in_other stream b other) (map_there (sealed_in stream) old.buffers b there))
   other_stays stream old new b there other (inr (high, is)) = subst (λ (v : ShelfView D). Contains v.buffers b) (sym is) there
 
-  own_sealed : (stream : Stream) (old new : ShelfView D) (b : BufferState) → Contains old.buffers b → b.stream ≡ stream → IsLow stream old → SealsLow stream old new → Contains new.buffers (sealed_buffer b)
+  own_sealed : (stream : Stream) (old new : ShelfView D) (b : BufferState) → Contains old.buffers b → b.stream ≡ stream → IsLow stream old → SealsLow stream old new
+      → Contains new.buffers (sealed_buffer b)
   own_sealed stream old new b there own is_low (inl (told, is)) =
       subst (λ (v : ShelfView D). Contains v.buffers (sealed_buffer b)) (sym is)
       (subst (Contains (map (sealed_in stream) old.buffers)) (in_own stream b (ap (is_stream stream) own ∙ stream_self stream)) (map_there (sealed_in stream) old.buffers b there))

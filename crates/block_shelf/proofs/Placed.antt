@@ -38,24 +38,31 @@ module _ (setup : Setup) (s : State) (digest : Digest) (rolls : List BlockRoll) 
   gone_none none = record {
     size = refl;
     kept = λ k c there other. there;
-    from = λ k c there. (there, false_else (same_digest digest c.digest) (λ same. let some = some_live digest s.book.live (live_in_block k c) (lives.there k c there) same in clash (live_of digest s.book.live) some.0 none some.1));
+    from = λ k c there. (
+      there,
+      false_else (same_digest digest c.digest)
+          (λ same. let some = some_live digest s.book.live (live_in_block k c) (lives.there k c there) same in clash (live_of digest s.book.live) some.0 none some.1),
+    );
   }
     where
       clash : (o : Option Live) (l : Live) → o ≡ None → o ≡ Some l → ⊥
       clash o l a b = cc
 
-  pub gone_some : (p : Place) → live_of digest s.book.live ≡ Some (copy_live digest p) → p.block < length rolls → IsRoll (copies_in p.block rolls) → IsGone digest rolls (rolls_without p.block p.unit rolls)
+  pub gone_some : (p : Place) → live_of digest s.book.live ≡ Some (copy_live digest p) → p.block < length rolls → IsRoll (copies_in p.block rolls)
+      → IsGone digest rolls (rolls_without p.block p.unit rolls)
   gone_some p is lt roll = record {
     size = length-set rolls p.block _;
     kept = λ k c there other. left_there p.block p.unit rolls lt k c there
         (λ here at.
-        let one = same_unit (copies_in p.block rolls) roll.own c (record { digest = digest; unit = p.unit; units = p.units }) (subst (λ (j : ℕ). Contains (copies_in j rolls) c) here there) (lives.known p.block (record { digest = digest; unit = p.unit; units = p.units }) live) at in
+        let one = same_unit (copies_in p.block rolls) roll.own c (record { digest = digest; unit = p.unit; units = p.units }) (subst (λ (j : ℕ). Contains (copies_in j rolls) c) here there)
+        (lives.known p.block (record { digest = digest; unit = p.unit; units = p.units }) live) at in
         both_ways (same_digest digest c.digest) other (ap (λ (x : LiveCopy). same_digest digest x.digest) one ∙ same_digest_refl digest));
     from = λ k c there.
         let was = left_from p.block p.unit rolls lt k c there in (
           was.0,
           false_else (same_digest digest c.digest)
-              (λ same. let one = listed.one (copy_live digest p) (live_in_block k c) live (lives.there k c was.0) same in was.1 (ap (λ (l : Live). l.block) (sym one)) (ap (λ (l : Live). l.unit) (sym one))),
+              (λ same. let one = listed.one (copy_live digest p) (live_in_block k c) live (lives.there k c was.0) same in was.1 (ap (λ (l : Live). l.block) (sym one))
+              (ap (λ (l : Live). l.unit) (sym one))),
         );
   }
     where
@@ -69,7 +76,8 @@ replaces_from digest old mid block copy lt gone = record {
   from = λ k c there.
       ⊎_elim (λ (e : k ≡ block).
       ⊎_elim (λ (was : Contains (copies_in block mid) c). inl (gone.from k c (subst (λ (j : ℕ). Contains (copies_in j mid) c) (sym e) was))) (λ (same : copy ≡ c). inr (e, sym same))
-      (Contains-push_cases (copies_in block mid) copy c (subst (λ (l : List LiveCopy). Contains l c) (roll_here block _ mid below) (subst (λ (j : ℕ). Contains (copies_in j (rolls_with block copy mid)) c) e there))))
+      (Contains-push_cases (copies_in block mid) copy c (subst (λ (l : List LiveCopy). Contains l c) (roll_here block _ mid below)
+      (subst (λ (j : ℕ). Contains (copies_in j (rolls_with block copy mid)) c) e there))))
       (λ (other : k ≢ block). inl (gone.from k c (subst (λ (l : List LiveCopy). Contains l c) (roll_there block k _ mid other) there))) (cases_eq k block);
 }
   where
@@ -79,7 +87,8 @@ replaces_from digest old mid block copy lt gone = record {
     over : (k : ℕ) (c : LiveCopy) → Contains (copies_in k mid) c → Contains (copies_in k (rolls_with block copy mid)) c
     over k c there =
         ⊎_elim (λ (e : k ≡ block). subst (λ (j : ℕ). Contains (copies_in j (rolls_with block copy mid)) c) (sym e)
-        (subst (λ (l : List LiveCopy). Contains l c) (sym (roll_here block _ mid below)) (Contains-append_left (copies_in block mid) (copy ∷ []) c (subst (λ (j : ℕ). Contains (copies_in j mid) c) e there))))
+        (subst (λ (l : List LiveCopy). Contains l c) (sym (roll_here block _ mid below))
+        (Contains-append_left (copies_in block mid) (copy ∷ []) c (subst (λ (j : ℕ). Contains (copies_in j mid) c) e there))))
         (λ (other : k ≢ block). subst (λ (l : List LiveCopy). Contains l c) (sym (roll_there block k _ mid other)) there) (cases_eq k block)
 
 -- ---- holds
@@ -94,13 +103,15 @@ holding_none number prior holds none = record {
     clash : (o : Option Live) (l : Live) → o ≡ None → o ≡ Some l → ⊥
     clash o l a b = cc
 
-pub holding_some : (number : ℕ) (prior : Option Live) (digest : Digest) (p : Place) (old new : Holds) → prior ≡ Some (copy_live digest p) → new ≡ with_pair old number p.block → Holding number prior old new
+pub holding_some : (number : ℕ) (prior : Option Live) (digest : Digest) (p : Place) (old new : Holds) → prior ≡ Some (copy_live digest p) → new ≡ with_pair old number p.block
+    → Holding number prior old new
 holding_some number prior digest p old new is held = record {
   kept = λ n k was. shown n k (or_right ((n == number) && (k == p.block)) (has_hold old n k) was);
   here = λ l some. shown number l.block (or_left ((number == number) && (l.block == p.block)) (has_hold old number l.block)
       (and_from (number == number) (l.block == p.block) (eq-eqb number number refl) (eq-eqb l.block p.block (ap (λ (x : Live). x.block) (same l (sym some ∙ is))))));
   from = λ n k now.
-      ⊎_elim (λ (new_one : ((n == number) && (k == p.block)) ≡ true). let two = and_parts (n == number) (k == p.block) new_one in inr (copy_live digest p, is, eqb-true n number two.0, eqb-true k p.block two.1))
+      ⊎_elim (λ (new_one : ((n == number) && (k == p.block)) ≡ true). let two =
+      and_parts (n == number) (k == p.block) new_one in inr (copy_live digest p, is, eqb-true n number two.0, eqb-true k p.block two.1))
       (λ (was : has_hold old n k ≡ true). inl was)
       (or_cases ((n == number) && (k == p.block)) (has_hold old n k) (sym (has_hold-with_hold old number p.block n k) ∙ ap (λ (h : Holds). has_hold h n k) (sym held) ∙ now));
 }

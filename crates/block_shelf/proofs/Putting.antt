@@ -40,7 +40,8 @@ use Rattle.block_shelf.proofs.Written.{Holding, stands_after, stands_before, sta
 
 module _ {D : Type 0} (view : D → DiskView) (setup : Setup) (kind : Class) (s : State) (digest : Digest) (v : Version) (shelf : ShelfView D)
     (is : IsShelf view shelf) (stands : StandsFor setup shelf s) (setup_is : IsSetupOf setup shelf) (is_copy : IsCopyOf kind s digest v)
-    {ready : Book} {free : List ℕ} {cache : CacheState BufferState} {next_number : ℕ} {front : List BufferState} {b : BufferState} {behind : List BufferState} (taker : IsTaker view setup kind s digest v shelf ready free cache next_number front b behind)
+    {ready : Book} {free : List ℕ} {cache : CacheState BufferState} {next_number : ℕ} {front : List BufferState} {b : BufferState} {behind : List BufferState}
+    (taker : IsTaker view setup kind s digest v shelf ready free cache next_number front b behind)
     (prior : Option Place) (live : live_of digest s.book.live ≡ prior_live digest prior)
     (rolls : List BlockRoll) (holds : HoldState) (gone : IsGone digest shelf.rolls rolls) (holding : Holding b.number (live_of digest s.book.live) shelf.holds.holds holds.holds) where
   abbrev t : State
@@ -107,7 +108,8 @@ module _ {D : Type 0} (view : D → DiskView) (setup : Setup) (kind : Class) (s 
           subst (λ (m : Live). AllByRecursion (λ c. c.block ≡ m.block → StandsBehind m.unit e w c.records) (front ++ with_record digest v b ∷ behind)) (here e l same is_live)
           (subst (λ (d : Digest). AllByRecursion (λ c. c.block ≡ b.block → StandsBehind (used_units b) d w c.records) (front ++ with_record digest v b ∷ behind)) name
           (subst (λ (x : Version). AllByRecursion (λ c. c.block ≡ b.block → StandsBehind (used_units b) digest x c.records) (front ++ with_record digest v b ∷ behind)) written
-          (all_joined (λ c. c.block ≡ b.block → StandsBehind (used_units b) digest v c.records) front (with_record digest v b ∷ behind) (others front own.front) ((λ at. stands_last b digest v), others behind own.behind))))
+          (all_joined (λ c. c.block ≡ b.block → StandsBehind (used_units b) digest v c.records) front (with_record digest v b ∷ behind) (others front own.front)
+          ((λ at. stands_last b digest v), others behind own.behind))))
         where
           others : (bs : List BufferState) → AllByRecursion (λ c. c.block ≢ b.block) bs → AllByRecursion (λ c. c.block ≡ b.block → StandsBehind (used_units b) digest v c.records) bs
           others bs = all_map (λ c. c.block ≢ b.block) (λ c. c.block ≡ b.block → StandsBehind (used_units b) digest v c.records) bs (λ c ne at. absurd (ne at))
@@ -115,7 +117,8 @@ module _ {D : Type 0} (view : D → DiskView) (setup : Setup) (kind : Class) (s 
           all_but_one (λ c. c.block ≡ l.block → StandsBehind l.unit e w c.records) (λ c. c.block ≡ l.block → StandsBehind l.unit e w c.records) front b (with_record digest v b) behind
           (placed.buffered e l w (sym (live_there e other) ∙ is_live) (sym (made.entry_there e other) ∙ is_entry)) (λ c h. h) (λ h at. stands_before l.unit e w b.records (digest, v) (h at))
 
-      lies : (e : Digest) (l : Live) (w : Version) → live_of e t.book.live ≡ Some l → entry t e ≡ Some w → AllByRecursion (λ c. c.block ≢ l.block) (front ++ with_record digest v b ∷ behind) → (c : List ℕ) → (view shelf.disk).may_leave c
+      lies : (e : Digest) (l : Live) (w : Version) → live_of e t.book.live ≡ Some l → entry t e ≡ Some w → AllByRecursion (λ c. c.block ≢ l.block) (front ++ with_record digest v b ∷ behind)
+          → (c : List ℕ) → (view shelf.disk).may_leave c
           → (x : Bool) → same_digest e digest ≡ x → IsRecordAt (body_bytes shelf.geometry l.block c) (32 + 16 * l.unit) e w
       lies e l w is_live is_entry none c image true same =
           absurd ((all_parted (λ x. x.block ≢ l.block) front (with_record digest v b ∷ behind) none).1.0 (ap (λ (x : Live). x.block) (here e l same is_live)))
@@ -125,7 +128,8 @@ module _ {D : Type 0} (view : D → DiskView) (setup : Setup) (kind : Class) (s 
 
   safe_after : MayBeCopied setup kind s digest v → ImagesHold setup view shelf s → ImagesHold setup view new t
   safe_after may safe =
-      copied_holds setup shelf s stands kind digest v is_copy shelf.geometry (records_of shelf.buffers) (records_of (front ++ with_record digest v b ∷ behind)) (gate_at shelf.gates) (view shelf.disk).may_leave
+      copied_holds setup shelf s stands kind digest v is_copy shelf.geometry (records_of shelf.buffers) (records_of (front ++ with_record digest v b ∷ behind)) (gate_at shelf.gates)
+      (view shelf.disk).may_leave
       safe may taker.appends taker.shut
 
   stand_then : (x : QueueState) → StandsFor setup (record mid { queue = x }) t

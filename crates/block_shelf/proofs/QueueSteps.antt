@@ -75,7 +75,8 @@ sum_within {X} f (x ∷ xs) ys once within =
     omega (arith, rest, sum, sum_by-cons f x xs, sum_by-append f is.front (x ∷ is.behind), sum_by-cons f x is.behind, sum_by-append f is.front is.behind)
 
 -- two lists of the same elements, in whatever order, have one sum
-pub same_sum : {X : Type 0} (f : X → ℕ) (xs ys : List X) → StandOnce xs → StandOnce ys → ((x : X) → Contains xs x → Contains ys x) → ((x : X) → Contains ys x → Contains xs x) → sum_by f xs ≡ sum_by f ys
+pub same_sum : {X : Type 0} (f : X → ℕ) (xs ys : List X) → StandOnce xs → StandOnce ys → ((x : X) → Contains xs x → Contains ys x) → ((x : X) → Contains ys x → Contains xs x)
+    → sum_by f xs ≡ sum_by f ys
 same_sum f xs ys once_xs once_ys to back = omega (arith, sum_within f xs ys once_xs to, sum_within f ys xs once_ys back)
 
 pub once_kept : {X : Type 0} (p : X → Bool) (xs : List X) → StandOnce xs → StandOnce (filter p xs)
@@ -111,7 +112,8 @@ own_digests_kept p (l ∷ live) own = by (p l) (own_digests_kept p live own.1)
 pub own_digests_more : (l : Live) (live : List Live) → HaveOwnDigests live → HaveOwnDigests (l ∷ without_live l.digest live)
 unfolding IsDistinct
 own_digests_more l live own = (
-  all_from (λ m. same_digest l.digest m.digest ≡ false) (without_live l.digest live) (λ m there. not-true (same_digest l.digest m.digest) (filter_from (λ (x : Live). not (same_digest l.digest x.digest)) live m there).1),
+  all_from (λ m. same_digest l.digest m.digest ≡ false) (without_live l.digest live)
+      (λ m there. not-true (same_digest l.digest m.digest) (filter_from (λ (x : Live). not (same_digest l.digest x.digest)) live m there).1),
   own_digests_kept (λ m. not (same_digest l.digest m.digest)) live own,
 )
 
@@ -163,7 +165,8 @@ has_buffer_is buffers book block is = sym (ap (list_any (λ (b : Buffer). b.bloc
 -- ---- whether a block is to be vacated
 
 -- books with the same places of buffers and the same live copies say the same
-pub queued_alike : (setup : Setup) (old new : Book) (block : ℕ) → has_buffer new block ≡ has_buffer old block → use_of new block ≡ use_of old block → may_be_queued setup new block ≡ may_be_queued setup old block
+pub queued_alike : (setup : Setup) (old new : Book) (block : ℕ) → has_buffer new block ≡ has_buffer old block → use_of new block ≡ use_of old block
+    → may_be_queued setup new block ≡ may_be_queued setup old block
 queued_alike setup old new block buffer live =
     ap (λ (x : Bool). is_below_mark setup.capacity setup.lwm (use_of new block) (not x)) buffer ∙ ap (λ (n : ℕ). is_below_mark setup.capacity setup.lwm n (not (has_buffer old block))) live
 
@@ -224,7 +227,8 @@ module _ {D : Type 0} (setup : Setup) (old new : ShelfView D) (s t : State) (rai
 -- ---- the queue of a shelf
 
 -- a block of the device is considered
-pub considered_is : (g : Geometry) (limits : ShelfLimits) (q : QueueState) (block used : ℕ) (flushed : Bool) → block < g.blocks → IsQueueOf g limits q → IsQueueOf g limits (considered q block used flushed)
+pub considered_is : (g : Geometry) (limits : ShelfLimits) (q : QueueState) (block used : ℕ) (flushed : Bool) → block < g.blocks → IsQueueOf g limits q
+    → IsQueueOf g limits (considered q block used flushed)
 considered_is g limits q block used flushed lt is = record {
   blocks = is.blocks;
   capacity = is.capacity;
@@ -233,7 +237,8 @@ considered_is g limits q block used flushed lt is = record {
 }
 
 -- a shelf with another queue
-pub queue_shelf : {D : Type 0} (view : D → DiskView) (shelf : ShelfView D) (queue : QueueState) → IsShelf view shelf → IsQueueOf shelf.geometry shelf.limits queue → IsShelf view (record shelf { queue = queue })
+pub queue_shelf : {D : Type 0} (view : D → DiskView) (shelf : ShelfView D) (queue : QueueState) → IsShelf view shelf → IsQueueOf shelf.geometry shelf.limits queue
+    → IsShelf view (record shelf { queue = queue })
 queue_shelf view shelf queue is queue_is = record {
   geometry = is.geometry;
   limits = is.limits;

@@ -23,7 +23,8 @@ use Rattle.block_shelf.specs.Scans.{possible_copies}
 use Rattle.block_shelf.proofs.Going.{stays}
 
 -- the book may be another of the same parts and blocks
-pub raided_shelf : {D : Type 0} (view : D → DiskView) (shelf : ShelfView D) (book : BookState) → IsShelf view shelf → IsRaidOf shelf.geometry shelf.limits book → IsShelf view (record shelf { raid = book })
+pub raided_shelf : {D : Type 0} (view : D → DiskView) (shelf : ShelfView D) (book : BookState) → IsShelf view shelf → IsRaidOf shelf.geometry shelf.limits book
+    → IsShelf view (record shelf { raid = book })
 raided_shelf view shelf book is of = record {
   geometry = is.geometry;
   limits = is.limits;
@@ -49,7 +50,8 @@ raided_shelf view shelf book is of = record {
 }
 
 -- a step that changes the raid of a state alone
-module _ {D : Type 0} (view : D → DiskView) (setup : Setup) (shelf : ShelfView D) (book : BookState) (s : State) (raid : RaidState) (step : Step) (only : after_step setup step s ≡ record s { raid = raid }) (plain : is_plain step ≡ true) where
+module _ {D : Type 0} (view : D → DiskView) (setup : Setup) (shelf : ShelfView D) (book : BookState) (s : State) (raid : RaidState) (step : Step)
+    (only : after_step setup step s ≡ record s { raid = raid }) (plain : is_plain step ≡ true) where
   abbrev new : ShelfView D
   new = record shelf { raid = book }
 
@@ -83,7 +85,8 @@ module _ {D : Type 0} (view : D → DiskView) (setup : Setup) (shelf : ShelfView
   abbrev pub MayTurn : Type 0
   MayTurn = MayTake setup s (possible_in shelf.geometry s.book (records_of shelf.buffers) (loosened shelf.geometry (gate_at shelf.gates) (view shelf.disk).may_leave)) step
 
-  pub goes_by_turn : IsDisk (view shelf.disk) → (IsHonest (view shelf.disk) → ImagesHold setup view shelf s → MayTurn) → (BooksStand setup shelf s → RaidStands setup book raid) → StandsFor setup shelf s → Goes view setup (step ∷ []) shelf s new
+  pub goes_by_turn : IsDisk (view shelf.disk) → (IsHonest (view shelf.disk) → ImagesHold setup view shelf s → MayTurn) → (BooksStand setup shelf s → RaidStands setup book raid)
+      → StandsFor setup shelf s → Goes view setup (step ∷ []) shelf s new
   goes_by_turn is_disk may raid_is stands = record {
     stands = subst (StandsFor setup new) (sym only) (stands_then stands);
     queued = λ was. subst (BooksStand setup new) (sym only) (books_then (raid_is was) was);
@@ -120,9 +123,11 @@ module _ {D : Type 0} (view : D → DiskView) (setup : Setup) (shelf : ShelfView
 -- ---- a scan
 
 -- What was found in a block goes to the book, behind what the reading of the block makes of the shelf.
-module _ {D : Type 0} (view : D → DiskView) (setup : Setup) (old mid : ShelfView D) (s : State) (went : Goes view setup [] old s mid) (block : ℕ) (copies : List (Digest × Stamp)) (book : BookState) where
+module _ {D : Type 0} (view : D → DiskView) (setup : Setup) (old mid : ShelfView D) (s : State) (went : Goes view setup [] old s mid) (block : ℕ) (copies : List (Digest × Stamp))
+    (book : BookState) where
   pub goes_scanned : s.raid.next ≡ scan_turn block → RaidStands setup book (after_step setup (scanned_block copies) s).raid
-      → (IsHonest (view old.disk) → ImagesHold setup view old s → FindsOlder s (possible_copies view mid s) block copies) → Goes view setup (scanned_block copies ∷ []) old s (record mid { raid = book })
+      → (IsHonest (view old.disk) → ImagesHold setup view old s → FindsOlder s (possible_copies view mid s) block copies)
+      → Goes view setup (scanned_block copies ∷ []) old s (record mid { raid = book })
   unfolding after_step
   goes_scanned turn stands finds =
       let raid : RaidState = (after_step setup (scanned_block copies) s).raid in
@@ -130,6 +135,7 @@ module _ {D : Type 0} (view : D → DiskView) (setup : Setup) (old mid : ShelfVi
         stands = stands_then view setup mid book s raid (scanned_block copies) refl refl went.stands;
         queued = λ was. books_then view setup mid book s raid (scanned_block copies) refl refl stands (went.queued was);
         placed = λ honest placed. placed_then view setup mid book s raid (scanned_block copies) refl refl (went.placed honest placed);
-        safe = λ honest safe. plain_holds setup mid.geometry s (records_of mid.buffers) (gate_at mid.gates) (view mid.disk).may_leave (went.safe honest safe) (scanned_block copies) refl (block, turn, finds honest safe);
+        safe = λ honest safe. plain_holds setup mid.geometry s (records_of mid.buffers) (gate_at mid.gates) (view mid.disk).may_leave (went.safe honest safe) (scanned_block copies) refl
+            (block, turn, finds honest safe);
         leaves = λ honest safe. leaves_more (λ c h. ⊎_elim (λ (survives : Survives setup s c). inl survives) (λ (none : ⊥). absurd none) h) (went.leaves honest safe);
       }

@@ -32,7 +32,8 @@ use Rattle.block_shelf.proofs.Readied.{IsReadied, new_live, filled, filled_live,
 
 -- ---- lists
 
-any_same : {X : Type 0} (p : X → Bool) (xs ys : List X) → ((x : X) → p x ≡ true → Contains xs x → Contains ys x) → ((x : X) → p x ≡ true → Contains ys x → Contains xs x) → list_any p xs ≡ list_any p ys
+any_same : {X : Type 0} (p : X → Bool) (xs ys : List X) → ((x : X) → p x ≡ true → Contains xs x → Contains ys x) → ((x : X) → p x ≡ true → Contains ys x → Contains xs x)
+    → list_any p xs ≡ list_any p ys
 any_same p xs ys to back = by (list_any p xs) refl
   where
     by : (b : Bool) → list_any p xs ≡ b → b ≡ list_any p ys
@@ -69,7 +70,8 @@ pub refreshed_queued : (setup : Setup) (book : Book) (block : ℕ) → may_be_qu
 unfolding refreshed
 refreshed_queued setup book block = refl
 
-module _ {setup : Setup} {s : State} {stream : Stream} {ready : Book} {free : List ℕ} {next_number : ℕ} {front : List BufferState} {b : BufferState} {behind : List BufferState} (digest : Digest) (v : Version)
+module _ {setup : Setup} {s : State} {stream : Stream} {ready : Book} {free : List ℕ} {next_number : ℕ} {front : List BufferState} {b : BufferState} {behind : List BufferState}
+    (digest : Digest) (v : Version)
     (readied : IsReadied setup s stream (version_units v) ready free next_number front b behind) (booked : IsBooked s.book) (listed : IsListed setup s.book) where
   abbrev mid : Book
   mid = filled digest v readied
@@ -77,13 +79,15 @@ module _ {setup : Setup} {s : State} {stream : Stream} {ready : Book} {free : Li
   -- the block of the buffer that takes the copy isn't, neither before nor then
   own_then : may_be_queued setup mid b.block ≡ false
   own_then = buffered_unqueued setup mid b.block
-      (buffer_place mid b.block ∙ any_there (λ (p : ℕ × ℕ). p.1 == b.block) (places_of mid) (b.number, b.block) (subst (λ (l : List (ℕ × ℕ)). Contains l (b.number, b.block)) (sym (filled_places digest v readied)) (place_there front b behind)) (eq-eqb b.block b.block refl))
+      (buffer_place mid b.block ∙ any_there (λ (p : ℕ × ℕ). p.1 == b.block) (places_of mid) (b.number, b.block)
+      (subst (λ (l : List (ℕ × ℕ)). Contains l (b.number, b.block)) (sym (filled_places digest v readied)) (place_there front b behind)) (eq-eqb b.block b.block refl))
 
   own_before : may_be_queued setup s.book b.block ≡ false
   own_before = by readied.taken
     where
       by : ((s.book.free ≡ free) × Contains (places_of s.book) (b.number, b.block)) ⊎ (s.book.free ≡ b.block ∷ free) → may_be_queued setup s.book b.block ≡ false
-      by (inl two) = buffered_unqueued setup s.book b.block (buffer_place s.book b.block ∙ any_there (λ (p : ℕ × ℕ). p.1 == b.block) (places_of s.book) (b.number, b.block) two.1 (eq-eqb b.block b.block refl))
+      by (inl two) = buffered_unqueued setup s.book b.block (buffer_place s.book b.block
+          ∙ any_there (λ (p : ℕ × ℕ). p.1 == b.block) (places_of s.book) (b.number, b.block) two.1 (eq-eqb b.block b.block refl))
       by (inr first) =
           let nothing : HasNothing s.book b.block = free_has_nothing s.book b.block booked (subst (λ (l : List ℕ). Contains l b.block) (sym first) (first_there b.block free)) in
           unused_unqueued setup s.book b.block nothing.buffer nothing.live
@@ -113,7 +117,8 @@ module _ {setup : Setup} {s : State} {stream : Stream} {ready : Book} {free : Li
     use_same =
         ap (λ (ls : List Live). sum_by (λ (l : Live). l.units) (filter (λ (l : Live). l.block == k) ls)) (filled_live digest v readied)
         ∙ ap (sum_by (λ (l : Live). l.units)) (
-        cond-false (b.block == k) (new_live digest v b ∷ filter (λ (l : Live). l.block == k) (without_live digest s.book.live)) (filter (λ (l : Live). l.block == k) (without_live digest s.book.live)) (ne_eqb b.block k (λ e. other (sym e)))
+        cond-false (b.block == k) (new_live digest v b ∷ filter (λ (l : Live). l.block == k) (without_live digest s.book.live))
+        (filter (λ (l : Live). l.block == k) (without_live digest s.book.live)) (ne_eqb b.block k (λ e. other (sym e)))
         ∙ filter_within (λ (l : Live). l.block == k) (λ (l : Live). not (same_digest digest l.digest)) s.book.live stays
         )
 
@@ -140,9 +145,11 @@ none_is o x none some = cc
 prior_block : (digest : Digest) (p : Place) (o : Option Live) (l : Live) → o ≡ prior_live digest (Some p) → o ≡ Some l → l.block ≡ p.block
 prior_block digest p o l prior found = let same : l ≡ copy_live digest p = cc in ap (λ (x : Live). x.block) same
 
-module _ {D : Type 0} (view : D → DiskView) {setup : Setup} {s : State} {stream : Stream} {ready : Book} {free : List ℕ} {next_number : ℕ} {front : List BufferState} {b : BufferState} {behind : List BufferState} (digest : Digest) (v : Version)
+module _ {D : Type 0} (view : D → DiskView) {setup : Setup} {s : State} {stream : Stream} {ready : Book} {free : List ℕ} {next_number : ℕ} {front : List BufferState} {b : BufferState}
+    {behind : List BufferState} (digest : Digest) (v : Version)
     (readied : IsReadied setup s stream (version_units v) ready free next_number front b behind) (t : State) (booked : t.book ≡ refreshed setup (filled digest v readied))
-    (old mid new : ShelfView D) (raid : new.raid ≡ old.raid) (marks : SameButMarks s.raid t.raid) (is : IsShelf view old) (stands : StandsFor setup old s) (setup_is : IsSetupOf setup old) (same : mid.queue ≡ old.queue) (then : StandsFor setup mid t) (each : (k : ℕ) → IsRoll (copies_in k mid.rolls)) where
+    (old mid new : ShelfView D) (raid : new.raid ≡ old.raid) (marks : SameButMarks s.raid t.raid) (is : IsShelf view old) (stands : StandsFor setup old s) (setup_is : IsSetupOf setup old)
+    (same : mid.queue ≡ old.queue) (then : StandsFor setup mid t) (each : (k : ℕ) → IsRoll (copies_in k mid.rolls)) where
   pub queue_after : (prior : Option Place) → live_of digest s.book.live ≡ prior_live digest prior → new.queue ≡ queue_behind prior mid → BooksStand setup old s → BooksStand setup new t
   queue_after prior live queue was = by prior live queue
     where
@@ -156,7 +163,8 @@ module _ {D : Type 0} (view : D → DiskView) {setup : Setup} {s : State} {strea
       by (Some p) live queue =
           queue_considered setup old new s t raid marks (filled digest v readied) booked readied.was_queued below was p.block
           (all_at (λ l. l.block < setup.blocks) s.book.live (copy_live digest p) stands.order.within.live (live_there digest s.book.live (copy_live digest p) live))
-          (ap (λ (q : QueueState). q.queue) queue ∙ ap (λ (q : QueueState). requeued (is_below_mark q.capacity q.lwm (rolled_use p.block mid.rolls) (not (has_buffer_in mid.buffers p.block))) p.block q.queue) same
+          (ap (λ (q : QueueState). q.queue) queue
+          ∙ ap (λ (q : QueueState). requeued (is_below_mark q.capacity q.lwm (rolled_use p.block mid.rolls) (not (has_buffer_in mid.buffers p.block))) p.block q.queue) same
           ∙ ap (λ (x : Bool). requeued x p.block old.queue.queue)
           (marked_as setup old t.book p.block (rolled_use p.block mid.rolls) (not (has_buffer_in mid.buffers p.block)) setup_is is.queue
           (rolled_is_use mid.rolls t.book p.block then.lives (each p.block) then.listed.own) (ap not (has_buffer_is mid.buffers t.book p.block then.buffers))

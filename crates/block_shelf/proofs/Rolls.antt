@@ -56,7 +56,8 @@ same_unit (x ∷ xs) own a b in_a in_b same =
     ⊎_elim (λ (is_a : x ≡ a).
     ⊎_elim (λ (is_b : x ≡ b). sym is_a ∙ is_b) (λ (more : Contains xs b). absurd (none_at_unit x.unit xs own.0 b more (sym same ∙ ap (λ (y : LiveCopy). y.unit) (sym is_a)))) (cons_cases x xs b in_b))
     (λ (in_rest : Contains xs a).
-    ⊎_elim (λ (is_b : x ≡ b). absurd (none_at_unit x.unit xs own.0 a in_rest (same ∙ ap (λ (y : LiveCopy). y.unit) (sym is_b)))) (λ (more : Contains xs b). same_unit xs own.1 a b in_rest more same) (cons_cases x xs b in_b))
+    ⊎_elim (λ (is_b : x ≡ b). absurd (none_at_unit x.unit xs own.0 a in_rest (same ∙ ap (λ (y : LiveCopy). y.unit) (sym is_b))))
+    (λ (more : Contains xs b). same_unit xs own.1 a b in_rest more same) (cons_cases x xs b in_b))
     (cons_cases x xs a in_a)
 
 -- ---- the copy at a unit goes
@@ -78,23 +79,27 @@ no_copies [] none = refl
 no_copies (c ∷ cs) none = absurd (none c (first_there c cs))
 
 -- in each block it is as before, or the copy is gone
-pub each_left : (P : (k : ℕ) → List LiveCopy → Type 0) (block unit : ℕ) (rolls : List BlockRoll) → block < length rolls → (k : ℕ) → P k (copies_in k rolls) → (P block (copies_in block rolls) → P block (without_unit unit (copies_in block rolls)))
+pub each_left : (P : (k : ℕ) → List LiveCopy → Type 0) (block unit : ℕ) (rolls : List BlockRoll) → block < length rolls → (k : ℕ) → P k (copies_in k rolls)
+    → (P block (copies_in block rolls) → P block (without_unit unit (copies_in block rolls)))
     → P k (copies_in k (rolls_without block unit rolls))
 each_left P block unit rolls lt k is step =
     ⊎_elim (λ (e : k ≡ block). subst (λ (j : ℕ). P j (copies_in j (rolls_without block unit rolls))) (sym e)
     (subst (P block) (sym (roll_here block _ rolls lt)) (step (subst (λ (j : ℕ). P j (copies_in j rolls)) e is))))
     (λ (other : k ≢ block). subst (P k) (sym (roll_there block k _ rolls other)) is) (cases_eq k block)
 
-pub left_there : (block unit : ℕ) (rolls : List BlockRoll) → block < length rolls → (k : ℕ) (c : LiveCopy) → Contains (copies_in k rolls) c → (k ≡ block → c.unit ≢ unit) → Contains (copies_in k (rolls_without block unit rolls)) c
+pub left_there : (block unit : ℕ) (rolls : List BlockRoll) → block < length rolls → (k : ℕ) (c : LiveCopy) → Contains (copies_in k rolls) c → (k ≡ block → c.unit ≢ unit)
+    → Contains (copies_in k (rolls_without block unit rolls)) c
 left_there block unit rolls lt k c there apart =
     ⊎_elim (λ (e : k ≡ block). subst (λ (j : ℕ). Contains (copies_in j (rolls_without block unit rolls)) c) (sym e)
     (subst (λ (l : List LiveCopy). Contains l c) (sym (roll_here block _ rolls lt))
     (filter_there (λ (d : LiveCopy). not (d.unit == unit)) (copies_in block rolls) c (ap not (ne_eqb c.unit unit (apart e))) (subst (λ (j : ℕ). Contains (copies_in j rolls) c) e there))))
     (λ (other : k ≢ block). subst (λ (l : List LiveCopy). Contains l c) (sym (roll_there block k _ rolls other)) there) (cases_eq k block)
 
-pub left_from : (block unit : ℕ) (rolls : List BlockRoll) → block < length rolls → (k : ℕ) (c : LiveCopy) → Contains (copies_in k (rolls_without block unit rolls)) c → Contains (copies_in k rolls) c × (k ≡ block → c.unit ≢ unit)
+pub left_from : (block unit : ℕ) (rolls : List BlockRoll) → block < length rolls → (k : ℕ) (c : LiveCopy) → Contains (copies_in k (rolls_without block unit rolls)) c
+    → Contains (copies_in k rolls) c × (k ≡ block → c.unit ≢ unit)
 left_from block unit rolls lt k c there =
     ⊎_elim (λ (e : k ≡ block).
-    let two = filter_from (λ (d : LiveCopy). not (d.unit == unit)) (copies_in block rolls) c (subst (λ (l : List LiveCopy). Contains l c) (roll_here block _ rolls lt) (subst (λ (j : ℕ). Contains (copies_in j (rolls_without block unit rolls)) c) e there)) in
+    let two = filter_from (λ (d : LiveCopy). not (d.unit == unit)) (copies_in block rolls) c
+    (subst (λ (l : List LiveCopy). Contains l c) (roll_here block _ rolls lt) (subst (λ (j : ℕ). Contains (copies_in j (rolls_without block unit rolls)) c) e there)) in
     (subst (λ (j : ℕ). Contains (copies_in j rolls) c) (sym e) two.0, λ same at. both_ways (c.unit == unit) (not-true (c.unit == unit) two.1) (eq-eqb c.unit unit at)))
     (λ (other : k ≢ block). (subst (λ (l : List LiveCopy). Contains l c) (roll_there block k _ rolls other) there, λ same. absurd (other same))) (cases_eq k block)

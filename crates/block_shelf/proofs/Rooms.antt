@@ -19,13 +19,15 @@ pub record SameCopies (old new : List BlockRoll) : Type 0 where
 pub gained : (block : ℕ) (old new : List BlockRoll) → block < length old → GainsRoom block old new → SameCopies old new
 gained block old new lt gains = record {
   size = ap length gains.same ∙ length-set old block roll;
-  copies = λ k. ap (copies_in k) gains.same ∙ ⊎_elim (λ (e : k ≡ block). ap (λ (j : ℕ). copies_in j (with_roll block roll old)) e ∙ roll_here block roll old lt ∙ ap (λ (j : ℕ). copies_in j old) (sym e)) (λ (other : k ≢ block). roll_there block k roll old other) (cases_eq k block);
+  copies = λ k. ap (copies_in k) gains.same ∙ ⊎_elim (λ (e : k ≡ block). ap (λ (j : ℕ). copies_in j (with_roll block roll old)) e ∙ roll_here block roll old lt
+      ∙ ap (λ (j : ℕ). copies_in j old) (sym e)) (λ (other : k ≢ block). roll_there block k roll old other) (cases_eq k block);
 }
   where
     roll : BlockRoll
     roll = record { copies = copies_in block old; spare = spare_of block new }
 
-pub roomed_shelf : {D : Type 0} (view : D → DiskView) (shelf : ShelfView D) (rolls : List BlockRoll) (holds : HoldState) → IsShelf view shelf → SameCopies shelf.rolls rolls → holds.holds ≡ shelf.holds.holds → IsShelf view (record shelf { rolls = rolls; holds = holds })
+pub roomed_shelf : {D : Type 0} (view : D → DiskView) (shelf : ShelfView D) (rolls : List BlockRoll) (holds : HoldState) → IsShelf view shelf → SameCopies shelf.rolls rolls
+    → holds.holds ≡ shelf.holds.holds → IsShelf view (record shelf { rolls = rolls; holds = holds })
 roomed_shelf view shelf rolls holds is same held = record {
   geometry = is.geometry;
   limits = is.limits;
@@ -41,7 +43,8 @@ roomed_shelf view shelf rolls holds is same held = record {
   held = subst (HoldsBelow shelf.geometry.blocks) (sym held) is.held;
   vacant = all_map (λ b. copies_in b shelf.rolls ≡ []) (λ b. copies_in b rolls ≡ []) shelf.free (λ b none. same.copies b ∙ none) is.vacant;
   unheld = subst (λ (h : Holds). AllByRecursion (λ b. IsHeld h b → ⊥) shelf.free) (sym held) is.unheld;
-  packed = all_map (λ b. ArePacked (used_units b) (copies_in b.block shelf.rolls)) (λ b. ArePacked (used_units b) (copies_in b.block rolls)) shelf.buffers (λ b packed. subst (ArePacked (used_units b)) (sym (same.copies b.block)) packed) is.packed;
+  packed = all_map (λ b. ArePacked (used_units b) (copies_in b.block shelf.rolls)) (λ b. ArePacked (used_units b) (copies_in b.block rolls)) shelf.buffers
+      (λ b packed. subst (ArePacked (used_units b)) (sym (same.copies b.block)) packed) is.packed;
   waits = is.waits;
   ready = is.ready;
   stand = is.stand;

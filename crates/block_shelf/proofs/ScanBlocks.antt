@@ -71,7 +71,8 @@ pub only_err : {X E : Type 0} (P : X → Type 0) (R S : E → Type 0) (r : Resul
 only_err P R S (Ok x) err is = tt
 only_err P R S (Err e) err is = err e is
 
-module _ {D : Type 0} (view : D → DiskView) (setup : Setup) (shelf : ShelfView D) (s : State) (is : IsShelf view shelf) (stands : StandsFor setup shelf s) (honest : IsHonest (view shelf.disk)) (safe : ImagesHold setup view shelf s) (block : ℕ) where
+module _ {D : Type 0} (view : D → DiskView) (setup : Setup) (shelf : ShelfView D) (s : State) (is : IsShelf view shelf) (stands : StandsFor setup shelf s)
+    (honest : IsHonest (view shelf.disk)) (safe : ImagesHold setup view shelf s) (block : ℕ) where
   abbrev g : Geometry
   g = shelf.geometry
 
@@ -103,9 +104,11 @@ module _ {D : Type 0} (view : D → DiskView) (setup : Setup) (shelf : ShelfView
 
     waits : has_begun b.phase ≡ false → IsScanOf g s.book records (loosened g (gate_at shelf.gates) images) block (records b.number)
     waits unbegun = read_waiting setup g s records (loosened g (gate_at shelf.gates) images) b.number block safe.held placed
-        (λ c image. inl (shut_still g safe.held.geometry (gate_at shelf.gates) images block (λ unsure. shut_gates (sym (shut_yet unbegun) ∙ unsure)) (subst (GateStands g images block) (shut_yet unbegun) (is.stand honest block below)) c image))
+        (λ c image. inl (shut_still g safe.held.geometry (gate_at shelf.gates) images block (λ unsure. shut_gates (sym (shut_yet unbegun) ∙ unsure))
+        (subst (GateStands g images block) (shut_yet unbegun) (is.stand honest block below)) c image))
 
-    stands_there : is_written b.phase ≡ true → IsBody (block_capacity g.block_size) (bytes_of b) (body_in b) → IsScanOf g s.book records (loosened g (gate_at shelf.gates) images) block (records b.number)
+    stands_there : is_written b.phase ≡ true → IsBody (block_capacity g.block_size) (bytes_of b) (body_in b)
+        → IsScanOf g s.book records (loosened g (gate_at shelf.gates) images) block (records b.number)
     stands_there written is_body = begun_read setup g s records (gate_at shelf.gates) images block below safe b.number (bytes_of b) placed
         (subst (λ (k : ℕ). HasOneBody g k (bytes_of b) images) at (all_at (HasItsBody g images) shelf.buffers b (is.ready honest) there written))
         (record { body = body_in b; placed = at; same = sym own_records; is_body = is_body })
@@ -128,7 +131,8 @@ module _ {D : Type 0} (view : D → DiskView) (setup : Setup) (shelf : ShelfView
     -- a reading of its bytes finds them
     pub buffer_found : AtMostOneBody → IsBody (block_capacity g.block_size) (bytes_of b) (body_in b) → (found : List Found) → ReadsBody g (bytes_of b) block found → ReadsAll view shelf s block found
     buffer_found one is_body found reads =
-        buffer_reads found is_body (reads.found_is ∙ ap (λ (x : Body). found_from 0 x.records) (one (block_capacity g.block_size) (block_capacity g.block_size) (bytes_of b) reads.body (body_in b) reads.is_body is_body (reads.placed ∙ sym at)))
+        buffer_reads found is_body (reads.found_is ∙ ap (λ (x : Body). found_from 0 x.records)
+        (one (block_capacity g.block_size) (block_capacity g.block_size) (bytes_of b) reads.body (body_in b) reads.is_body is_body (reads.placed ∙ sym at)))
 
   -- ---- a block without one
 

@@ -40,7 +40,8 @@ has_head unit (x ∷ records) r there = by (cons_cases x records r there) (has_h
     by (inr more) rest = let is = rest more in (is.0, rest_there _ (found_from (unit + version_units x.1) records) is.0 is.1, is.2)
 
 -- a digest with an entry is of the device
-own_entry : (setup : Setup) (s : State) (possible : Possible) → HasFacts setup s possible → (digest : Digest) (stamp : Stamp) → is_older_than (stamp_of (entry s digest)) stamp ≡ true → device_number setup.devices digest ≡ setup.device
+own_entry : (setup : Setup) (s : State) (possible : Possible) → HasFacts setup s possible → (digest : Digest) (stamp : Stamp) → is_older_than (stamp_of (entry s digest)) stamp ≡ true
+    → device_number setup.devices digest ≡ setup.device
 own_entry setup s possible facts digest stamp older = by (entry s digest) refl older
   where
     by : (top : Option Version) → entry s digest ≡ top → is_older_than (stamp_of top) stamp ≡ true → device_number setup.devices digest ≡ setup.device
@@ -48,7 +49,8 @@ own_entry setup s possible facts digest stamp older = by (entry s digest) refl o
     by (Some v) is older = facts.own digest v (top_is (history s digest) v (facts.guarded digest).falling is).there
 
 -- of what may be in a block that is found which may be older than a marked entry
-pub own_finds : (setup : Setup) (g : Geometry) (s : State) (possible : Possible) (records : List (Digest × Version)) (found : List Found) → IsShapeOf setup g → HasFacts setup s possible → found ≡ found_from 0 records
+pub own_finds : (setup : Setup) (g : Geometry) (s : State) (possible : Possible) (records : List (Digest × Version)) (found : List Found) → IsShapeOf setup g → HasFacts setup s possible
+    → found ≡ found_from 0 records
     → FindsAmong s records (found_copies (own_found g found))
 own_finds setup g s possible records found shape facts is r there marked older =
     let one = has_head 0 records r there in
@@ -56,7 +58,8 @@ own_finds setup g s possible records found shape facts is r there marked older =
     let own : device_number g.devices one.0.head.digest ≡ g.device =
     ap (device_number g.devices) name ∙ ap (λ (n : ℕ). device_number n r.0) (sym shape.devices) ∙ own_entry setup s possible facts r.0 r.1.stamp older ∙ shape.device in
     let in_own : Contains (own_found g found) one.0 =
-    filter_there (λ (f : Found). device_number g.devices f.head.digest == g.device) found one.0 (eq-eqb (device_number g.devices one.0.head.digest) g.device own) (subst (λ (l : List Found). Contains l one.0) (sym is) one.1) in
+    filter_there (λ (f : Found). device_number g.devices f.head.digest == g.device) found one.0 (eq-eqb (device_number g.devices one.0.head.digest) g.device own)
+    (subst (λ (l : List Found). Contains l one.0) (sym is) one.1) in
     subst (Contains (found_copies (own_found g found))) (ap (λ h. (h.digest, h.stamp)) one.2) (map_there (λ (f : Found). (f.head.digest, f.head.stamp)) (own_found g found) one.0 in_own)
 
 head_from : (unit : ℕ) (records : List (Digest × Version)) (f : Found) → Contains (found_from unit records) f → (r : Digest × Version) × Contains records r × (f.head ≡ head_of r.0 r.1)
@@ -73,7 +76,8 @@ head_from unit (x ∷ records) f there = by (cons_cases first (found_from (unit 
     by (inr more) rest = let is = rest more in (is.0, rest_there x records is.0 is.1, is.2)
 
 -- of what is possible in a block nothing else is found
-pub own_only : (g : Geometry) (possible : Possible) (block : ℕ) (records : List (Digest × Version)) (found : List Found) → found ≡ found_from 0 records → ((r : Digest × Version) → Contains records r → possible block r.0 r.1)
+pub own_only : (g : Geometry) (possible : Possible) (block : ℕ) (records : List (Digest × Version)) (found : List Found) → found ≡ found_from 0 records
+    → ((r : Digest × Version) → Contains records r → possible block r.0 r.1)
     → FindsPossible possible block (found_copies (own_found g found))
 own_only g possible block records found found_is only digest stamp there =
     let f = map_from key (own_found g found) (digest, stamp) there in
@@ -87,7 +91,8 @@ own_only g possible block records found found_is only digest stamp there =
     key x = (x.head.digest, x.head.stamp)
 
 -- each is of a part of the device
-pub parts_below : (g : Geometry) (sprigs : ℕ) (found : List Found) → 0 < g.devices → 0 < sprigs → AllByRecursion (λ p. p < part_count g.device g.devices sprigs) (map (λ f. part_number_of g.devices sprigs f.head.digest) (own_found g found))
+pub parts_below : (g : Geometry) (sprigs : ℕ) (found : List Found) → 0 < g.devices → 0 < sprigs
+    → AllByRecursion (λ p. p < part_count g.device g.devices sprigs) (map (λ f. part_number_of g.devices sprigs f.head.digest) (own_found g found))
 parts_below g sprigs [] some_devices some_sprigs = tt
 parts_below g sprigs (f ∷ found) some_devices some_sprigs = by (device_number g.devices f.head.digest == g.device) refl (parts_below g sprigs found some_devices some_sprigs)
   where

@@ -165,22 +165,29 @@ module _ {D : Type 0} (view : D → DiskView) (is_disk : (disk : D) → IsDisk (
           stayed = gate_unsure (gate_at old.gates block) (mid ≡ old) (λ unsure. absurd (open_gate (closing.shut unsure))) (λ sure. (closing.quiet sure).1)
 
           pub reads_disk : (new : ShelfView D) (result : Result A VacateRefusal)
-              → ((view mid.disk).tells → let bytes = body_bytes mid.geometry block (view mid.disk).seen in MatchResult result (λ found. ReadsBody mid.geometry bytes block (heads found)) (IsDamageOf mid.geometry bytes block))
-              → (result ≡ Err Fault → Rose (view mid.disk).faults (view new.disk).faults) → OnlyRead (view mid.disk) (view new.disk) → IsShelf view new → new ≡ record mid { disk = new.disk } → ReadsIn view block old new heads result
+              → ((view mid.disk).tells → let bytes = body_bytes mid.geometry block (view mid.disk).seen in MatchResult result (λ found. ReadsBody mid.geometry bytes block (heads found))
+              (IsDamageOf mid.geometry bytes block))
+              → (result ≡ Err Fault → Rose (view mid.disk).faults (view new.disk).faults) → OnlyRead (view mid.disk) (view new.disk) → IsShelf view new → new ≡ record mid { disk = new.disk }
+              → ReadsIn view block old new heads result
           reads_disk new result read cause only whole same =
               let was = λ (P : ShelfView D → Type 0) (p : P mid). subst P stayed p in
               let set : gate_at old.gates block ≡ Set = was (λ (v : ShelfView D). gate_at v.gates block ≡ Set) (only_set (gate_at mid.gates block) open_gate closing.sure) in
               let is : IsShelf view old = was (IsShelf view) closing.whole in
-              let read_old : (view old.disk).tells → MatchResult result (λ found. ReadsBody old.geometry (body_bytes old.geometry block (view old.disk).seen) block (heads found)) (IsDamageOf old.geometry (body_bytes old.geometry block (view old.disk).seen) block) =
-              was (λ (v : ShelfView D). (view v.disk).tells → MatchResult result (λ found. ReadsBody v.geometry (body_bytes v.geometry block (view v.disk).seen) block (heads found)) (IsDamageOf v.geometry (body_bytes v.geometry block (view v.disk).seen) block)) read in
+              let read_old : (view old.disk).tells → MatchResult result (λ found. ReadsBody old.geometry (body_bytes old.geometry block (view old.disk).seen) block (heads found))
+              (IsDamageOf old.geometry (body_bytes old.geometry block (view old.disk).seen) block) =
+              was (λ (v : ShelfView D). (view v.disk).tells → MatchResult result (λ found. ReadsBody v.geometry (body_bytes v.geometry block (view v.disk).seen) block (heads found))
+              (IsDamageOf v.geometry (body_bytes v.geometry block (view v.disk).seen) block)) read in
               let only_old : OnlyRead (view old.disk) (view new.disk) = was (λ (v : ShelfView D). OnlyRead (view v.disk) (view new.disk)) only in
               let same_old : new ≡ record old { disk = new.disk } = was (λ (v : ShelfView D). new ≡ record v { disk = new.disk }) same in
-              let rose : result ≡ Err Fault → Rose (view old.disk).faults (view new.disk).faults = was (λ (v : ShelfView D). result ≡ Err Fault → Rose (view v.disk).faults (view new.disk).faults) cause in
+              let rose : result ≡ Err Fault → Rose (view old.disk).faults (view new.disk).faults =
+              was (λ (v : ShelfView D). result ≡ Err Fault → Rose (view v.disk).faults (view new.disk).faults) cause in
               by_old new result read_old rose only_old whole same_old is set
             where
               by_old : (new : ShelfView D) (result : Result A VacateRefusal)
-                  → ((view old.disk).tells → MatchResult result (λ found. ReadsBody old.geometry (body_bytes old.geometry block (view old.disk).seen) block (heads found)) (IsDamageOf old.geometry (body_bytes old.geometry block (view old.disk).seen) block))
-                  → (result ≡ Err Fault → Rose (view old.disk).faults (view new.disk).faults) → OnlyRead (view old.disk) (view new.disk) → IsShelf view new → new ≡ record old { disk = new.disk } → IsShelf view old → gate_at old.gates block ≡ Set
+                  → ((view old.disk).tells → MatchResult result (λ found. ReadsBody old.geometry (body_bytes old.geometry block (view old.disk).seen) block (heads found))
+                  (IsDamageOf old.geometry (body_bytes old.geometry block (view old.disk).seen) block))
+                  → (result ≡ Err Fault → Rose (view old.disk).faults (view new.disk).faults) → OnlyRead (view old.disk) (view new.disk) → IsShelf view new
+                  → new ≡ record old { disk = new.disk } → IsShelf view old → gate_at old.gates block ≡ Set
                   → ReadsIn view block old new heads result
               by_old new result read cause only whole same is set = record {
                 goes = λ setup s stands. goes_read view setup old new s same only (is_disk new.disk) stands;
@@ -189,7 +196,8 @@ module _ {D : Type 0} (view : D → DiskView) (is_disk : (disk : D) → IsDisk (
                     let here_is : IsShelf view here = subst (IsShelf view) same whole in
                     let looked : Goes view setup [] old s here = goes_read view setup old here s refl only (is_disk new.disk) stands in
                     let told = only.bytes honest.told in
-                    each_answer (λ found. ReadsBody old.geometry (body_bytes old.geometry block (view old.disk).seen) block (heads found)) (λ found. ReadsAll view new s block (heads found)) (IsDamageOf old.geometry (body_bytes old.geometry block (view old.disk).seen) block) IsSound result
+                    each_answer (λ found. ReadsBody old.geometry (body_bytes old.geometry block (view old.disk).seen) block (heads found)) (λ found. ReadsAll view new s block (heads found))
+                    (IsDamageOf old.geometry (body_bytes old.geometry block (view old.disk).seen) block) IsSound result
                     (λ found reads. subst (λ (v : ShelfView D). ReadsAll view v s block (heads found)) (sym same)
                     (set_reads view setup here s here_is looked.stands (only.honest honest) (looked.safe honest safe) block lt none set (heads found)
                     (subst (λ (l : List ℕ). ReadsBody old.geometry (body_bytes old.geometry block l) block (heads found)) (sym told.1) reads)))
@@ -197,7 +205,9 @@ module _ {D : Type 0} (view : D → DiskView) (is_disk : (disk : D) → IsDisk (
                 waiting = λ b there at. absurd (none_has old.buffers block b none there at);
                 sure = λ sure. ap (λ (v : ShelfView D). v.gates) same;
                 fewer = λ sure honest c image. only.images honest c ((is_disk new.disk).now_since (view old.disk).moment c (only.time.stays (view old.disk).moment only.time.started) image);
-                damaged = λ told. only_err (λ found. ReadsBody old.geometry (body_bytes old.geometry block (view old.disk).seen) block (heads found)) (IsDamageOf old.geometry (body_bytes old.geometry block (view old.disk).seen) block) (IsDamageOf old.geometry (body_bytes old.geometry block (view old.disk).seen) block) result (λ refusal damage. damage) (read told);
+                damaged = λ told. only_err (λ found. ReadsBody old.geometry (body_bytes old.geometry block (view old.disk).seen) block (heads found))
+                    (IsDamageOf old.geometry (body_bytes old.geometry block (view old.disk).seen) block)
+                    (IsDamageOf old.geometry (body_bytes old.geometry block (view old.disk).seen) block) result (λ refusal damage. damage) (read told);
                 rest = same ∙ ap (λ (l : List Gate). record old { disk = new.disk; gates = l }) (sym (ap (λ (v : ShelfView D). v.gates) same));
                 cause = cause;
                 later = record { time = only.time; count = only.later; size = only.size };
@@ -274,7 +284,8 @@ module _ {D : Type 0} (view : D → DiskView) (is_disk : (disk : D) → IsDisk (
     }
 
     pub block_read : (disk : D) → OnlyRead (view old.disk) (view disk) → (result : Result A VacateRefusal)
-        → ((view old.disk).tells → let bytes = body_bytes old.geometry block (view old.disk).seen in MatchResult result (λ found. ReadsBody old.geometry bytes block (heads found)) (IsDamageOf old.geometry bytes block))
+        → ((view old.disk).tells → let bytes = body_bytes old.geometry block (view old.disk).seen in MatchResult result (λ found. ReadsBody old.geometry bytes block (heads found))
+        (IsDamageOf old.geometry bytes block))
         → (result ≡ Err Fault → Rose (view old.disk).faults (view disk).faults) → ReadsBlock view block old (record old { disk = disk }) heads result
     block_read disk only result read cause = record {
       read = read;

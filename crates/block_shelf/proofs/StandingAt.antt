@@ -43,7 +43,8 @@ pub filling_told : (stream : Stream) (bs : List BufferState) (r : Option ℕ)
     → MatchOption r (AllWithin (λ b. TakesThose stream b → ⊥) bs 0 (length bs)) (λ i. (i < length bs) × HoldsAt (TakesThose stream) bs i × AllWithin (λ b. TakesThose stream b → ⊥) bs 0 i)
     → MatchOption r (AllByRecursion (λ b. fills stream b ≡ false) bs) (λ at. FillsAt stream at bs)
 filling_told stream bs None none =
-    all_map (λ b. TakesThose stream b → ⊥) (λ b. fills stream b ≡ false) bs (unfilled stream) (recursion_from_All (λ b. TakesThose stream b → ⊥) bs (All-from_all_within (λ b. TakesThose stream b → ⊥) bs none))
+    all_map (λ b. TakesThose stream b → ⊥) (λ b. fills stream b ≡ false) bs (unfilled stream)
+    (recursion_from_All (λ b. TakesThose stream b → ⊥) bs (All-from_all_within (λ b. TakesThose stream b → ⊥) bs none))
 filling_told stream [] (Some at) found = absurd (omega (arith, found.0))
 filling_told stream (b ∷ bs) (Some at) found =
     let takes = found.1 b in record { stands = stands_at (b ∷ bs) at b found.0; fills = fills_from stream (get_or (b ∷ bs) at b) takes.0 takes.1 }
@@ -55,7 +56,8 @@ module _ (stream : Stream) (units : ℕ) (bs : List BufferState) where
   pub none_with_room : AllByRecursion (λ b. fills stream b ≡ false) bs → HasRoom stream units bs → ⊥
   none_with_room all has =
       let s = has.1.stands in
-      both_ways (fills stream s.buffer) (all_parted (λ b. fills stream b ≡ false) s.front (s.buffer ∷ s.behind) (subst (AllByRecursion (λ b. fills stream b ≡ false)) s.parts all)).1.0 (fills_from stream s.buffer has.1.fills has.1.of_stream)
+      both_ways (fills stream s.buffer) (all_parted (λ b. fills stream b ≡ false) s.front (s.buffer ∷ s.behind) (subst (AllByRecursion (λ b. fills stream b ≡ false)) s.parts all)).1.0
+      (fills_from stream s.buffer has.1.fills has.1.of_stream)
 
   module _ (at : ℕ) (found : FillsAt stream at bs) (b : BufferState) (read : b ≡ get_or bs at b) (room : ℕ) (left : used_units b + room ≡ b.capacity) where
     abbrev s : StandsAt at bs
@@ -76,8 +78,10 @@ module _ (stream : Stream) (units : ℕ) (bs : List BufferState) where
     pub room_is_less : room < units → StandInOrder bs → (capacity : ℕ) → AllByRecursion (λ x. x.capacity ≡ capacity) bs → HasRoom stream units bs → ⊥
     room_is_less less order capacity sized has =
         let o = has.1.stands in
-        let found_here = ap (λ (l : List BufferState). filling_buffer (book_stream stream) (map book_buffer l)) s.parts ∙ fills_found stream s.front s.buffer s.behind (subst StandInOrder s.parts order) found.fills in
-        let found_other = ap (λ (l : List BufferState). filling_buffer (book_stream stream) (map book_buffer l)) o.parts ∙ fills_found stream o.front o.buffer o.behind (subst StandInOrder o.parts order) (fills_from stream o.buffer has.1.fills has.1.of_stream) in
+        let found_here = ap (λ (l : List BufferState). filling_buffer (book_stream stream) (map book_buffer l)) s.parts
+        ∙ fills_found stream s.front s.buffer s.behind (subst StandInOrder s.parts order) found.fills in
+        let found_other = ap (λ (l : List BufferState). filling_buffer (book_stream stream) (map book_buffer l)) o.parts
+        ∙ fills_found stream o.front o.buffer o.behind (subst StandInOrder o.parts order) (fills_from stream o.buffer has.1.fills has.1.of_stream) in
         let used = same_use s.buffer o.buffer (sym found_here ∙ found_other) in
         let size_here = (all_parted (λ x. x.capacity ≡ capacity) s.front (s.buffer ∷ s.behind) (subst (AllByRecursion (λ x. x.capacity ≡ capacity)) s.parts sized)).1.0 in
         let size_other = (all_parted (λ x. x.capacity ≡ capacity) o.front (o.buffer ∷ o.behind) (subst (AllByRecursion (λ x. x.capacity ≡ capacity)) o.parts sized)).1.0 in

@@ -59,19 +59,23 @@ found_first : {X : Type 0} (p : X → Bool) (xs : List X) (x : X) → Contains x
 found_first p [] x there passes = absurd (omega (arith, there.1))
 found_first {X} p (z ∷ xs) x there passes = by (p z) refl (found_first p xs x)
   where
-    by : (b : Bool) → p z ≡ b → (Contains xs x → p x ≡ true → (y : X) × (find p xs ≡ Some y) × Contains xs y × (p y ≡ true)) → (y : X) × (cond b (Some z) (find p xs) ≡ Some y) × Contains (z ∷ xs) y × (p y ≡ true)
+    by : (b : Bool) → p z ≡ b → (Contains xs x → p x ≡ true → (y : X) × (find p xs ≡ Some y) × Contains xs y × (p y ≡ true)) → (y : X) × (cond b (Some z) (find p xs) ≡ Some y)
+        × Contains (z ∷ xs) y × (p y ≡ true)
     by true is rest = (z, refl, first_there z xs, is)
-    by false is rest = ⊎_elim (λ (e : z ≡ x). absurd (let one : p z ≡ true = ap p e ∙ passes in cc)) (λ (more : Contains xs x). let y = rest more passes in (y.0, y.1, rest_there z xs y.0 y.2, y.3)) (cons_cases z xs x there)
+    by false is rest = ⊎_elim (λ (e : z ≡ x). absurd (let one : p z ≡ true = ap p e ∙ passes in cc))
+        (λ (more : Contains xs x). let y = rest more passes in (y.0, y.1, rest_there z xs y.0 y.2, y.3)) (cons_cases z xs x there)
 
 module _ (copies : List Copy) (look : Digest → Option Copy) (s : State) (shows : ShowsCopies copies look s) where
   live_copied : (d : Digest) (l : Live) → live_of d s.book.live ≡ Some l → (c : Copy) × (look d ≡ Some c) × IsCopyOf copies d l c
   live_copied d l live = by (look d) refl (shows.there d) (sym (shows.live_is d) ∙ live)
     where
-      by : (o : Option Copy) → look d ≡ o → IfSome o (λ c. Contains copies c × (same_digest d c.digest ≡ true)) → option_map live_copy o ≡ Some l → (c : Copy) × (look d ≡ Some c) × IsCopyOf copies d l c
+      by : (o : Option Copy) → look d ≡ o → IfSome o (λ c. Contains copies c × (same_digest d c.digest ≡ true)) → option_map live_copy o ≡ Some l → (c : Copy)
+          × (look d ≡ Some c) × IsCopyOf copies d l c
       by None is there same = absurd (cc)
       by (Some c) is there same = (c, is, record { live_is = cc; listed = there.0; named = same_digest_is d c.digest there.1 })
 
-  shown_placed : {D : Type 0} (view : D → DiskView) (shelf : ShelfView D) → shelf.buffers ≡ [] → shelf.cache.kept ≡ [] → AllHave shelf.geometry (view shelf.disk).may_leave copies → IsPlaced view shelf s
+  shown_placed : {D : Type 0} (view : D → DiskView) (shelf : ShelfView D) → shelf.buffers ≡ [] → shelf.cache.kept ≡ []
+      → AllHave shelf.geometry (view shelf.disk).may_leave copies → IsPlaced view shelf s
   shown_placed view shelf unbuffered unkept have = record {
     buffered = λ d l v live version. subst (AllByRecursion (λ b. b.block ≡ l.block → StandsBehind l.unit d v b.records)) (sym unbuffered) tt;
     kept = λ d l v live version. subst (AllByRecursion (λ k. k.block ≡ l.block → StandsBehind l.unit d v k.body.records)) (sym unkept) tt;
@@ -116,7 +120,8 @@ found_top d (c ∷ found) = by (same_digest d c.digest) (found_top d found)
     log : Log
     log = map (λ x. (x.digest, write x.version [])) found
 
-    by : (b : Bool) → top_of (history_of d log) ≡ version_of (find_copy found d) → top_of (cond b (write c.version [] ∷ history_of d log) (history_of d log)) ≡ version_of (cond b (Some c) (find_copy found d))
+    by : (b : Bool) → top_of (history_of d log) ≡ version_of (find_copy found d)
+        → top_of (cond b (write c.version [] ∷ history_of d log) (history_of d log)) ≡ version_of (cond b (Some c) (find_copy found d))
     by true rest = refl
     by false rest = rest
 
@@ -141,7 +146,8 @@ module _ (setup : Setup) (found : List Copy) (next_number : ℕ) where
   unfolding entries_state cold_book refreshed
   entries_lives = refl
 
-  pub entries_placed : {D : Type 0} (view : D → DiskView) (shelf : ShelfView D) → shelf.buffers ≡ [] → shelf.cache.kept ≡ [] → AllHave shelf.geometry (view shelf.disk).may_leave found → IsPlaced view shelf (entries_state setup found next_number)
+  pub entries_placed : {D : Type 0} (view : D → DiskView) (shelf : ShelfView D) → shelf.buffers ≡ [] → shelf.cache.kept ≡ [] → AllHave shelf.geometry (view shelf.disk).may_leave found
+      → IsPlaced view shelf (entries_state setup found next_number)
   entries_placed view shelf unbuffered unkept have = shown_placed found (find_copy found) (entries_state setup found next_number) entries_show view shelf unbuffered unkept have
 
 -- ---- a start from a sound image
@@ -182,10 +188,12 @@ module _ (setup : Setup) (image : List ℕ) (bodies : List Body) (sound : IsSoun
 
     all_have : (images : Images) → IsOnly image images → AllHave g images copies
     all_have images only c there other left =
-        subst (λ (b : List ℕ). IsRecordAt (body_bytes g c.block b) (32 + 16 * c.unit) c.digest c.version) (sym (only.alone other left)) (copy_stands g image (range_with_len 0 g.blocks) bodies readable.blocks c there).there
+        subst (λ (b : List ℕ). IsRecordAt (body_bytes g c.block b) (32 + 16 * c.unit) c.digest c.version) (sym (only.alone other left))
+        (copy_stands g image (range_with_len 0 g.blocks) bodies readable.blocks c there).there
 
 -- a gate of which it is known how it stands is as it is seen
-seen_gate : (g : Geometry) (image : List ℕ) (images : Images) (gates : List Gate) → IsOnly image images → GatesStand g images gates → AreSure g (gate_at gates) → (block : ℕ) → block < g.blocks → IsSeen g image block (gate_at gates block)
+seen_gate : (g : Geometry) (image : List ℕ) (images : Images) (gates : List Gate) → IsOnly image images → GatesStand g images gates → AreSure g (gate_at gates) → (block : ℕ)
+    → block < g.blocks → IsSeen g image block (gate_at gates block)
 seen_gate g image images gates only stand sure block lt = by (gate_at gates block) refl (stand block lt)
   where
     by : (gate : Gate) → gate_at gates block ≡ gate → GateStands g images block gate → IsSeen g image block gate
@@ -223,14 +231,17 @@ module _ {D : Type 0} (view : D → DiskView) (disk : D) (g : Geometry) (limits 
         let lives = entries_lives setup found next_number in
         stands_with setup g live can (map live_copy found) same own next_number shape.blocks disk limits gates shelf starts s (entries_book setup found next_number)
         (book_in_order (entries_in_order setup found next_number
-        (all_from (λ c. c.block < setup.blocks) found (λ c there. subst (λ (n : ℕ). c.block < n) (sym shape.blocks) (all_at (LiesIn g) live (c.digest, place_of_copy c) can.each (are.there c there)).block))))
+        (all_from (λ c. c.block < setup.blocks) found (λ c there. subst (λ (n : ℕ). c.block < n) (sym shape.blocks)
+        (all_at (LiesIn g) live (c.digest, place_of_copy c) can.each (are.there c there)).block))))
         (λ l there. shown_versions found (find_copy found) s (entries_show setup found next_number)
-        (λ x y in_x in_y. begun_one setup g live can (map live_copy found) same own next_number shape.blocks x y (subst (λ (ls : List Live). Contains ls x) lives in_x) (subst (λ (ls : List Live). Contains ls y) lives in_y))
+        (λ x y in_x in_y. begun_one setup g live can (map live_copy found) same own next_number shape.blocks x y (subst (λ (ls : List Live). Contains ls x) lives in_x)
+        (subst (λ (ls : List Live). Contains ls y) lives in_y))
         l (subst (λ (ls : List Live). Contains ls l) (sym lives) there))
 
     pub entries_queued : BooksStand setup shelf (entries_state setup found next_number)
     entries_queued =
-        queued_with setup g live can (map live_copy found) (from_found live found are) (own_found found are.once) next_number shape.blocks disk limits gates shelf starts (entries_state setup found next_number)
+        queued_with setup g live can (map live_copy found) (from_found live found are) (own_found found are.once) next_number shape.blocks disk limits gates shelf starts
+        (entries_state setup found next_number)
         (entries_book setup found next_number) shape.capacity mark (subst (RaidStands setup shelf.raid) (sym (entries_raid setup found next_number)) raid_stands)
 
   module _ (image : List ℕ) (bodies : List Body) (sound : IsSound setup image bodies) where
@@ -250,18 +261,21 @@ module _ {D : Type 0} (view : D → DiskView) (disk : D) (g : Geometry) (limits 
           stands_with setup g live can (map live_copy cold) same own next_number shape.blocks disk limits gates shelf starts s start_is
           (book_in_order (start_in_order setup g shape is_g image bodies sound))
           (λ l there. shown_versions (copies_of bodies) (λ d. cold_copy d (copies_of bodies)) s (start_show setup image bodies sound)
-          (λ x y in_x in_y. begun_one setup g live can (map live_copy cold) same own next_number shape.blocks x y (subst (λ (ls : List Live). Contains ls x) lives in_x) (subst (λ (ls : List Live). Contains ls y) lives in_y))
+          (λ x y in_x in_y. begun_one setup g live can (map live_copy cold) same own next_number shape.blocks x y (subst (λ (ls : List Live). Contains ls x) lives in_x)
+          (subst (λ (ls : List Live). Contains ls y) lives in_y))
           l (subst (λ (ls : List Live). Contains ls l) (sym lives) there))
 
       pub start_queued : BooksStand setup shelf (start_state setup bodies)
       start_queued =
-          queued_with setup g live can (map live_copy cold) (from_found live cold are) (own_found cold are.once) next_number shape.blocks disk limits gates shelf starts (start_state setup bodies) start_is shape.capacity mark (subst (RaidStands setup shelf.raid) (sym (start_raid setup image bodies sound)) raid_stands)
+          queued_with setup g live can (map live_copy cold) (from_found live cold are) (own_found cold are.once) next_number shape.blocks disk limits gates shelf starts
+          (start_state setup bodies) start_is shape.capacity mark (subst (RaidStands setup shelf.raid) (sym (start_raid setup image bodies sound)) raid_stands)
 
     module _ (only : IsOnly image (view disk).may_leave) where
       pub start_placed : IsPlaced view shelf (start_state setup bodies)
       start_placed =
           subst (λ (v : ShelfView D). IsPlaced view v (start_state setup bodies)) (sym starts.parts)
-          (shown_placed (copies_of bodies) (λ d. cold_copy d (copies_of bodies)) (start_state setup bodies) (start_show setup image bodies sound) view _ refl refl (all_have setup image bodies sound g shape is_g (view disk).may_leave only))
+          (shown_placed (copies_of bodies) (λ d. cold_copy d (copies_of bodies)) (start_state setup bodies) (start_show setup image bodies sound) view _ refl refl
+          (all_have setup image bodies sound g shape is_g (view disk).may_leave only))
 
       pub start_safe : GatesStand g (view disk).may_leave gates → AreSure g (gate_at gates) → ImagesHold setup view shelf (start_state setup bodies)
       start_safe stand sure =

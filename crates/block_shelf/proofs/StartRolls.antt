@@ -1,5 +1,6 @@
 -- The live copies of a start in the blocks' rolls.
-use Rattle.std.proofs.Common.{◌≡◌, ◌≢◌, ◌⊎◌, inl, inr, ⊎_elim, ℕ, ◌+◌, ◌-◌, ◌<◌, ◌≤◌, min, zero, suc, Bool, true, false, cond, List, [], ◌∷◌, ◌++◌, map, length, take, drop, get_or, sum_by, refl, sym, ◌∙◌, ap, subst, arith, add-one, append_assoc}
+use Rattle.std.proofs.Common.{◌≡◌, ◌≢◌, ◌⊎◌, inl, inr, ⊎_elim, ℕ, ◌+◌, ◌-◌, ◌<◌, ◌≤◌, min, zero, suc, Bool, true, false, cond, List, [], ◌∷◌, ◌++◌, map, length}
+use Rattle.std.proofs.Common.{take, drop, get_or, sum_by, refl, sym, ◌∙◌, ap, subst, arith, add-one, append_assoc}
 use Rattle.std.specs.Prelude.{None, Some, filter, ◌==◌}
 use Rattle.std.specs.List.{AllByRecursion, range_with_len}
 use Rattle.std.proofs.lemmas.Bool.{cond-true, cond-false, cases_lt, cases_eq, eq-eqb, ne_eqb, eqb-true}
@@ -32,7 +33,8 @@ use Rattle.block_shelf.specs.Starting.{LiesIn, AreTwo, AreEachTwo, CanBeLive, co
 pub range_more : (a n : ℕ) → range_with_len a (n + 1) ≡ range_with_len a n ++ (a + n) ∷ []
 range_more a zero = ap (λ (k : ℕ). k ∷ []) (omega arith)
 range_more a (suc n) =
-    ap (range_with_len a) (add-one (suc n)) ∙ ap (λ (l : List ℕ). a ∷ l) (ap (range_with_len (a + 1)) (sym (add-one n)) ∙ range_more (a + 1) n) ∙ ap (λ (k : ℕ). (a ∷ range_with_len (a + 1) n) ++ k ∷ []) sum
+    ap (range_with_len a) (add-one (suc n)) ∙ ap (λ (l : List ℕ). a ∷ l) (ap (range_with_len (a + 1)) (sym (add-one n)) ∙ range_more (a + 1) n)
+    ∙ ap (λ (k : ℕ). (a ∷ range_with_len (a + 1) n) ++ k ∷ []) sum
   where
     sum : a + 1 + n ≡ a + suc n
     sum = omega arith
@@ -59,7 +61,8 @@ none_at n c d low high (inl before) = omega arith
 none_at n c d low high (inr behind) = omega arith
 
 -- a unit that one of them has is no other's
-no_other : (n : ℕ) (c : LiveCopy) → c.unit ≤ n → n < c.unit + c.units → (cs : List LiveCopy) → AllByRecursion (λ d. Apart c.unit c.units d.unit d.units) cs → sum_by (below (n + 1)) cs ≡ sum_by (below n) cs
+no_other : (n : ℕ) (c : LiveCopy) → c.unit ≤ n → n < c.unit + c.units → (cs : List LiveCopy) → AllByRecursion (λ d. Apart c.unit c.units d.unit d.units) cs
+    → sum_by (below (n + 1)) cs ≡ sum_by (below n) cs
 no_other n c low high [] apart = refl
 no_other n c low high (d ∷ cs) apart =
     let here = none_at n c d low high apart.0 in
@@ -70,7 +73,8 @@ at_most_one : (n : ℕ) (cs : List LiveCopy) → AreAllApart cs → sum_by (belo
 at_most_one n [] apart = omega arith
 at_most_one n (c ∷ cs) apart = by (cases_lt n c.unit) (cases_lt n (c.unit + c.units)) (at_most_one n cs apart.1)
   where
-    by : (n < c.unit) ⊎ (c.unit ≤ n) → (n < c.unit + c.units) ⊎ (c.unit + c.units ≤ n) → sum_by (below (n + 1)) cs ≤ sum_by (below n) cs + 1 → sum_by (below (n + 1)) (c ∷ cs) ≤ sum_by (below n) (c ∷ cs) + 1
+    by : (n < c.unit) ⊎ (c.unit ≤ n) → (n < c.unit + c.units) ⊎ (c.unit + c.units ≤ n) → sum_by (below (n + 1)) cs ≤ sum_by (below n) cs + 1
+        → sum_by (below (n + 1)) (c ∷ cs) ≤ sum_by (below n) (c ∷ cs) + 1
     by (inl before) end others = let same : below (n + 1) c ≡ below n c = omega arith in omega (arith, sum_by-cons (below (n + 1)) c cs, sum_by-cons (below n) c cs, same, others)
     by (inr low) (inl high) others =
         let one : below (n + 1) c ≤ below n c + 1 = omega arith in
@@ -99,7 +103,8 @@ packed_sum limit cs apart ends = let whole = same cs ends in omega (arith, whole
 
 pub at_more : (block : ℕ) (xs : List (Digest × Place)) (y : Digest × Place) → copies_at block (xs ++ y ∷ []) ≡ copies_at block xs ++ cond (y.1.block == block) (copy_of_place y ∷ []) []
 at_more block xs y =
-    ap (map copy_of_place) (filter-append (λ (x : Digest × Place). x.1.block == block) xs (y ∷ [])) ∙ map-append copy_of_place (filter (λ (x : Digest × Place). x.1.block == block) xs) (filter (λ (x : Digest × Place). x.1.block == block) (y ∷ []))
+    ap (map copy_of_place) (filter-append (λ (x : Digest × Place). x.1.block == block) xs (y ∷ []))
+    ∙ map-append copy_of_place (filter (λ (x : Digest × Place). x.1.block == block) xs) (filter (λ (x : Digest × Place). x.1.block == block) (y ∷ []))
     ∙ ap (λ (l : List LiveCopy). copies_at block xs ++ l) (by (y.1.block == block))
   where
     by : (b : Bool) → map copy_of_place (cond b (y ∷ []) []) ≡ cond b (copy_of_place y ∷ []) []
@@ -111,7 +116,8 @@ pub each_at : (P : LiveCopy → Type 0) (block : ℕ) (xs : List (Digest × Plac
 each_at P block [] all = tt
 each_at P block (x ∷ xs) all = by (x.1.block == block) refl (each_at P block xs all.1)
   where
-    by : (b : Bool) → (x.1.block == block) ≡ b → AllByRecursion P (copies_at block xs) → AllByRecursion P (map copy_of_place (cond b (x ∷ filter (λ y. y.1.block == block) xs) (filter (λ y. y.1.block == block) xs)))
+    by : (b : Bool) → (x.1.block == block) ≡ b → AllByRecursion P (copies_at block xs)
+        → AllByRecursion P (map copy_of_place (cond b (x ∷ filter (λ y. y.1.block == block) xs) (filter (λ y. y.1.block == block) xs)))
     by true is rest = (all.0 (eqb-true x.1.block block is), rest)
     by false is rest = rest
 
@@ -123,7 +129,8 @@ apart_at block (x ∷ xs) two = by (x.1.block == block) refl (apart_at block xs 
     others here [] all = tt
     others here (y ∷ ys) all = ((λ same. all.0.apart (here ∙ sym same)), others here ys all.1)
 
-    by : (b : Bool) → (x.1.block == block) ≡ b → AreAllApart (copies_at block xs) → AreAllApart (map copy_of_place (cond b (x ∷ filter (λ y. y.1.block == block) xs) (filter (λ y. y.1.block == block) xs)))
+    by : (b : Bool) → (x.1.block == block) ≡ b → AreAllApart (copies_at block xs)
+        → AreAllApart (map copy_of_place (cond b (x ∷ filter (λ y. y.1.block == block) xs) (filter (λ y. y.1.block == block) xs)))
     by true is rest = (each_at (λ d. Apart x.1.unit x.1.units d.unit d.units) block xs (others (eqb-true x.1.block block is) xs two.0), rest)
     by false is rest = rest
 
@@ -138,7 +145,8 @@ two_front [] ys two = tt
 two_front (x ∷ xs) ys two = ((all_parted (AreTwo x) xs ys two.0).0, two_front xs ys two.1)
 
 pub capacity_most : (g : Geometry) → IsGeometry g → block_capacity g.block_size ≤ 65278
-capacity_most g is = let high = (sized g.block_size is.block_size).high in let low = (sized g.block_size is.block_size).low in let whole = body_size g.block_size is.block_size in omega (arith, high, low, whole)
+capacity_most g is = let high = (sized g.block_size is.block_size).high in let low = (sized g.block_size is.block_size).low in let whole =
+    body_size g.block_size is.block_size in omega (arith, high, low, whole)
 
 module _ (g : Geometry) (is_g : IsGeometry g) (front : List (Digest × Place)) (x : Digest × Place) (rest : List (Digest × Place)) (can : CanBeLive g (front ++ x ∷ rest)) where
   here : LiesIn g x
@@ -173,8 +181,10 @@ module _ (g : Geometry) (is_g : IsGeometry g) (front : List (Digest × Place)) (
       let parts : front ++ x ∷ rest ≡ all ++ rest = sym (append_assoc front (x ∷ []) rest) in
       let two : AreEachTwo all = two_front all rest (subst AreEachTwo parts can.two) in
       let each : AllByRecursion (LiesIn g) all = (all_parted (LiesIn g) all rest (subst (AllByRecursion (LiesIn g)) parts can.each)).0 in
-      let most = packed_sum (block_capacity g.block_size) (copies_at x.1.block all) (apart_at x.1.block all two) (each_at (λ c. c.unit + c.units ≤ block_capacity g.block_size) x.1.block all (ends all each)) in
-      let more : copies_at x.1.block all ≡ copies_at x.1.block front ++ copy_of_place x ∷ [] = at_more x.1.block front x ∙ ap (λ (l : List LiveCopy). copies_at x.1.block front ++ l) (cond-true (x.1.block == x.1.block) (copy_of_place x ∷ []) [] (eq-eqb x.1.block x.1.block refl)) in
+      let most = packed_sum (block_capacity g.block_size) (copies_at x.1.block all) (apart_at x.1.block all two)
+      (each_at (λ c. c.unit + c.units ≤ block_capacity g.block_size) x.1.block all (ends all each)) in
+      let more : copies_at x.1.block all ≡ copies_at x.1.block front ++ copy_of_place x ∷ [] = at_more x.1.block front x
+      ∙ ap (λ (l : List LiveCopy). copies_at x.1.block front ++ l) (cond-true (x.1.block == x.1.block) (copy_of_place x ∷ []) [] (eq-eqb x.1.block x.1.block refl)) in
       let sum = ap (sum_by (λ (c : LiveCopy). c.units)) more ∙ sum_by-append (λ (c : LiveCopy). c.units) (copies_at x.1.block front) (copy_of_place x ∷ []) in
       let one = sum_by-cons (λ (c : LiveCopy). c.units) (copy_of_place x) [] in
       omega (arith, most, sum, one, capacity_most g is_g)
@@ -192,7 +202,8 @@ module _ (g : Geometry) (is_g : IsGeometry g) (front : List (Digest × Place)) (
       ∙ sym (at_more x.1.block front x ∙ ap (λ (l : List LiveCopy). copies_at x.1.block front ++ l) (cond-true (x.1.block == x.1.block) (copy_of_place x ∷ []) [] (eq-eqb x.1.block x.1.block refl)))))
       (λ (other : block ≢ x.1.block).
       ap (copies_in block) is ∙ roll_there x.1.block block _ old other ∙ each block
-      ∙ sym (at_more block front x ∙ ap (λ (l : List LiveCopy). copies_at block front ++ l) (cond-false (x.1.block == block) (copy_of_place x ∷ []) [] (ne_eqb x.1.block block (λ e. other (sym e)))) ∙ append-nil (copies_at block front)))
+      ∙ sym (at_more block front x ∙ ap (λ (l : List LiveCopy). copies_at block front ++ l)
+      (cond-false (x.1.block == block) (copy_of_place x ∷ []) [] (ne_eqb x.1.block block (λ e. other (sym e)))) ∙ append-nil (copies_at block front)))
       (cases_eq block x.1.block)
 
 -- ---- a step of the loop
@@ -246,8 +257,11 @@ considering p k = by (p k) refl
     before = filter p (range_with_len 0 k)
 
     out : is_in before k ≡ false
-    out = none_from (λ b. b == k) before (λ b there. ne_eqb b k (λ e. let lt : b < k = all_at (λ m. m < k) (range_with_len 0 k) b (range_below 0 k k (omega arith)) (filter_from p (range_with_len 0 k) b there).0 in absurd (omega (arith, e, lt))))
+    out = none_from (λ b. b == k) before (λ b there. ne_eqb b k
+        (λ e. let lt : b < k = all_at (λ m. m < k) (range_with_len 0 k) b (range_below 0 k k (omega arith)) (filter_from p (range_with_len 0 k) b there).0 in absurd
+        (omega (arith, e, lt))))
 
     by : (t : Bool) → p k ≡ t → requeued (p k) k before ≡ filter p (range_with_len 0 (k + 1))
-    by true is = ap (λ (t : Bool). requeued t k before) is ∙ cond-false (is_in before k) before (before ++ k ∷ []) out ∙ sym (filter_more p k ∙ ap (λ (l : List ℕ). before ++ l) (cond-true (p k) (k ∷ []) [] is))
+    by true is = ap (λ (t : Bool). requeued t k before) is ∙ cond-false (is_in before k) before (before ++ k ∷ []) out
+        ∙ sym (filter_more p k ∙ ap (λ (l : List ℕ). before ++ l) (cond-true (p k) (k ∷ []) [] is))
     by false is = ap (λ (t : Bool). requeued t k before) is ∙ queue.stays k before out ∙ sym (filter_more p k ∙ ap (λ (l : List ℕ). before ++ l) (cond-false (p k) (k ∷ []) [] is) ∙ append-nil before)

@@ -45,7 +45,8 @@ unused_is (x ∷ xs) b all = by (x.1.block == b) (unused_is xs b all.1)
 
     by : (c : Bool) → (sum_by (λ (d : LiveCopy). d.units) (copies_at b xs) == 0) ≡ not (list_any (λ (y : Digest × Place). y.1.block == b) xs)
         → (sum_by (λ (d : LiveCopy). d.units) (map copy_of_place (cond c (x ∷ others) others)) == 0) ≡ not (c || list_any (λ (y : Digest × Place). y.1.block == b) xs)
-    by true rest = let takes = all.0 in ne_eqb (sum_by (λ (d : LiveCopy). d.units) (copy_of_place x ∷ map copy_of_place others)) 0 (λ none. omega (arith, none, takes, sum_by-cons (λ (d : LiveCopy). d.units) (copy_of_place x) (map copy_of_place others)))
+    by true rest = let takes = all.0 in ne_eqb (sum_by (λ (d : LiveCopy). d.units) (copy_of_place x ∷ map copy_of_place others)) 0
+        (λ none. omega (arith, none, takes, sum_by-cons (λ (d : LiveCopy). d.units) (copy_of_place x) (map copy_of_place others)))
     by false rest = rest
 
 pub filter_alike : {X : Type 0} (p q : X → Bool) → ((x : X) → p x ≡ q x) → (xs : List X) → filter p xs ≡ filter q xs
@@ -65,7 +66,8 @@ free_is g live rolls can copies =
 pub queue_is : (g : Geometry) (live : List (Digest × Place)) (rolls : List BlockRoll) (lwm : ℕ) → ((block : ℕ) → copies_in block rolls ≡ copies_at block live)
     → filter (λ b. is_below_mark (block_capacity g.block_size) lwm (rolled_use b rolls) true) (range_with_len 0 g.blocks) ≡ blocks_below live g lwm
 queue_is g live rolls lwm copies =
-    filter_alike (λ b. is_below_mark (block_capacity g.block_size) lwm (rolled_use b rolls) true) (λ b. is_below_mark (block_capacity g.block_size) lwm (sum_by (λ (c : LiveCopy). c.units) (copies_at b live)) true)
+    filter_alike (λ b. is_below_mark (block_capacity g.block_size) lwm (rolled_use b rolls) true)
+    (λ b. is_below_mark (block_capacity g.block_size) lwm (sum_by (λ (c : LiveCopy). c.units) (copies_at b live)) true)
     (λ b. ap (λ (cs : List LiveCopy). is_below_mark (block_capacity g.block_size) lwm (sum_by (λ (c : LiveCopy). c.units) cs) true) (copies b)) (range_with_len 0 g.blocks)
 
 -- the blocks of a device that pass a test
@@ -73,7 +75,8 @@ pub passing_below : (p : ℕ → Bool) (blocks : ℕ) → AllByRecursion (λ b. 
 passing_below p blocks = all_from (λ b. b < blocks) (filter p (range_with_len 0 blocks))
     (λ b there. all_at (λ k. k < blocks) (range_with_len 0 blocks) b (range_below 0 blocks blocks (omega arith)) (filter_from p (range_with_len 0 blocks) b there).0)
 
-pub start_queue : (g : Geometry) (limits : ShelfLimits) (p : ℕ → Bool) (q : QueueState) → (q.blocks ≡ g.blocks) × (q.capacity ≡ block_capacity g.block_size) × (q.lwm ≡ limits.lwm) → q.queue ≡ filter p (range_with_len 0 g.blocks)
+pub start_queue : (g : Geometry) (limits : ShelfLimits) (p : ℕ → Bool) (q : QueueState) → (q.blocks ≡ g.blocks) × (q.capacity ≡ block_capacity g.block_size) × (q.lwm ≡ limits.lwm)
+    → q.queue ≡ filter p (range_with_len 0 g.blocks)
     → IsQueueOf g limits q
 start_queue g limits p q shape is = record { blocks = shape.0; capacity = shape.1; lwm = shape.2; below = subst (AllByRecursion (λ b. b < g.blocks)) (sym is) (passing_below p g.blocks) }
 
@@ -83,7 +86,8 @@ above : (p : ℕ → Bool) (from n : ℕ) → (k : ℕ) → k < from → AllByRe
 above p from zero k lt = tt
 above p from (suc n) k lt = by (p from) (above p (from + 1) n k (omega arith))
   where
-    by : (b : Bool) → AllByRecursion (λ m. k ≢ m) (filter p (range_with_len (from + 1) n)) → AllByRecursion (λ m. k ≢ m) (cond b (from ∷ filter p (range_with_len (from + 1) n)) (filter p (range_with_len (from + 1) n)))
+    by : (b : Bool) → AllByRecursion (λ m. k ≢ m) (filter p (range_with_len (from + 1) n))
+        → AllByRecursion (λ m. k ≢ m) (cond b (from ∷ filter p (range_with_len (from + 1) n)) (filter p (range_with_len (from + 1) n)))
     by true rest = ((λ (e : k ≡ from). absurd (omega (arith, e))), rest)
     by false rest = rest
 
@@ -127,12 +131,27 @@ roll_at g live can b = record {
 
 -- ---- the shelf
 
-module _ {D : Type 0} (view : D → DiskView) (disk : D) (g : Geometry) (limits : ShelfLimits) (gates : List Gate) (live : List (Digest × Place)) (next_number : ℕ) (rolls : List BlockRoll) (holds : HoldState) (queue : QueueState) (cache : CacheState BufferState) (raid : BookState) where
+module _ {D : Type 0} (view : D → DiskView) (disk : D) (g : Geometry) (limits : ShelfLimits) (gates : List Gate) (live : List (Digest × Place)) (next_number : ℕ) (rolls : List BlockRoll)
+    (holds : HoldState) (queue : QueueState) (cache : CacheState BufferState) (raid : BookState) where
   abbrev pub begun_with : List ℕ → ShelfView D
-  begun_with free = record { disk = disk; geometry = g; limits = limits; buffers = []; gates = gates; rolls = rolls; holds = holds; free = free; queue = queue; cache = cache; raid = raid; next_number = next_number }
+  begun_with free = record {
+    disk = disk;
+    geometry = g;
+    limits = limits;
+    buffers = [];
+    gates = gates;
+    rolls = rolls;
+    holds = holds;
+    free = free;
+    queue = queue;
+    cache = cache;
+    raid = raid;
+    next_number = next_number;
+  }
 
   pub start_shelf : IsGeometry g → device_end g ≤ (view disk).extent → AreLimits limits → (1 ≤ next_number) × (next_number ≤ top_number + 1) → length gates ≡ g.blocks
-      → (IsHonest (view disk) → GatesStand g (view disk).may_leave gates) → CanBeLive g live → length rolls ≡ g.blocks → ((block : ℕ) → copies_in block rolls ≡ copies_at block live) → holds.holds ≡ set.empty → IsQueueOf g limits queue → cache ≡ record { kept = []; limit = limits.cache }
+      → (IsHonest (view disk) → GatesStand g (view disk).may_leave gates) → CanBeLive g live → length rolls ≡ g.blocks → ((block : ℕ) → copies_in block rolls ≡ copies_at block live)
+      → holds.holds ≡ set.empty → IsQueueOf g limits queue → cache ≡ record { kept = []; limit = limits.cache }
       → raid ≡ empty_book (part_count g.device g.devices limits.sprigs) g.blocks → IsShelf view (begun_with (blocks_without live g.blocks))
   start_shelf geometry room are number count stand can size copies none queued nothing no_raid = record {
     geometry = geometry;

@@ -149,14 +149,16 @@ module _ (setup : Setup) (g : Geometry) (live : List (Digest × Place)) (can : C
   may_is b = same_when (may_be_free before b) (not (list_any (λ x. x.1.block == b) live)) to back
     where
       to : may_be_free before b ≡ true → not (list_any (λ (x : Digest × Place). x.1.block == b) live) ≡ true
-      to may = let vacant = vacant_from before b lives_units may in ap not (none_from (λ (x : Digest × Place). x.1.block == b) live (λ x there. ne_eqb x.1.block b (vacant.live (copy_live x.0 x.1) (same.there x there))))
+      to may = let vacant = vacant_from before b lives_units may in ap not
+          (none_from (λ (x : Digest × Place). x.1.block == b) live (λ x there. ne_eqb x.1.block b (vacant.live (copy_live x.0 x.1) (same.there x there))))
 
       back : not (list_any (λ (x : Digest × Place). x.1.block == b) live) ≡ true → may_be_free before b ≡ true
       back none = vacant_is before b (record {
         places = λ number there. absurd (omega (arith, there.1));
         live = λ l there at.
             let one = same.only l there in
-            both_ways (one.0.1.block == b) (none_at (λ (x : Digest × Place). x.1.block == b) live one.0 (not-true (list_any (λ (x : Digest × Place). x.1.block == b) live) none) one.1) (eq-eqb one.0.1.block b (ap (λ (m : Live). m.block) one.2 ∙ at));
+            both_ways (one.0.1.block == b) (none_at (λ (x : Digest × Place). x.1.block == b) live one.0 (not-true (list_any (λ (x : Digest × Place). x.1.block == b) live) none) one.1)
+            (eq-eqb one.0.1.block b (ap (λ (m : Live). m.block) one.2 ∙ at));
         holds = λ number there. absurd (omega (arith, there.1));
       })
 
@@ -170,13 +172,15 @@ module _ (setup : Setup) (g : Geometry) (live : List (Digest × Place)) (can : C
   begun_one l m in_l in_m named =
       let x = same.only l in_l in
       let y = same.only m in_m in
-      let two = two_same live can.two x.0 y.0 x.1 y.1 (ap (λ (d : Digest). same_digest d y.0.0) (ap (λ (k : Live). k.digest) x.2) ∙ ap (same_digest l.digest) (ap (λ (k : Live). k.digest) y.2) ∙ named) in
+      let two = two_same live can.two x.0 y.0 x.1 y.1 (ap (λ (d : Digest). same_digest d y.0.0) (ap (λ (k : Live). k.digest) x.2)
+      ∙ ap (same_digest l.digest) (ap (λ (k : Live). k.digest) y.2) ∙ named) in
       sym x.2 ∙ ap (λ (z : Digest × Place). copy_live z.0 z.1) two ∙ y.2
 
   begun_listed : IsListed setup begun
   begun_listed = record {
     all = λ b lt may. subst (λ (l : List ℕ). Contains l b) (sym (cold_free setup lives next_number)) (refreshed_all setup before b lt (sym (cold_may setup lives next_number b) ∙ may));
-    one = λ l m in_l in_m named. begun_one l m (subst (λ (x : List Live). Contains x l) (cold_lives setup lives next_number) in_l) (subst (λ (x : List Live). Contains x m) (cold_lives setup lives next_number) in_m) named;
+    one = λ l m in_l in_m named. begun_one l m (subst (λ (x : List Live). Contains x l) (cold_lives setup lives next_number) in_l)
+        (subst (λ (x : List Live). Contains x m) (cold_lives setup lives next_number) in_m) named;
     own = subst HaveOwnDigests (sym (cold_lives setup lives next_number)) own;
   }
 
@@ -186,9 +190,24 @@ module _ (setup : Setup) (g : Geometry) (live : List (Digest × Place)) (can : C
   abbrev pub HasVersions : State → Type 0
   HasVersions s = (l : Live) → Contains lives l → (v : Version) × (entry s l.digest ≡ Some v) × (l.units ≡ version_units v)
 
-  module _ {D : Type 0} (disk : D) (limits : ShelfLimits) (gates : List Gate) (shelf : ShelfView D) (starts : StartsWith disk g limits gates live next_number shelf) (s : State) (is_book : s.book ≡ begun) where
+  module _ {D : Type 0} (disk : D) (limits : ShelfLimits) (gates : List Gate) (shelf : ShelfView D) (starts : StartsWith disk g limits gates live next_number shelf) (s : State)
+      (is_book : s.book ≡ begun) where
     abbrev alike : ShelfView D
-    alike = record { disk = disk; geometry = g; limits = limits; buffers = []; gates = gates; rolls = shelf.rolls; holds = shelf.holds; free = blocks_without live g.blocks; queue = shelf.queue; cache = shelf.cache; raid = shelf.raid; next_number = next_number }
+    alike = record {
+      disk = disk;
+      geometry = g;
+      limits = limits;
+      buffers = [];
+      gates = gates;
+      rolls = shelf.rolls;
+      holds = shelf.holds;
+      free = blocks_without live g.blocks;
+      queue =
+          shelf.queue;
+      cache = shelf.cache;
+      raid = shelf.raid;
+      next_number = next_number;
+    }
 
     holds_same : HoldsSame shelf.holds.holds begun
     holds_same = record {
@@ -203,11 +222,13 @@ module _ (setup : Setup) (g : Geometry) (live : List (Digest × Place)) (can : C
           let at : one.0.1.block ≡ block = ap (λ (m : Live). m.block) one.2 in
           let is : copy_of_place one.0 ≡ c = ap (λ (m : Live). copy_in m) one.2 in
           subst (λ (cs : List LiveCopy). Contains cs c) (sym (starts.copies block))
-          (subst (Contains (copies_at block live)) is (map_there copy_of_place (filter (λ (x : Digest × Place). x.1.block == block) live) one.0 (filter_there (λ (x : Digest × Place). x.1.block == block) live one.0 (eq-eqb one.0.1.block block at) one.1)));
+          (subst (Contains (copies_at block live)) is (map_there copy_of_place (filter (λ (x : Digest × Place). x.1.block == block) live) one.0
+          (filter_there (λ (x : Digest × Place). x.1.block == block) live one.0 (eq-eqb one.0.1.block block at) one.1)));
       there = λ block c there.
           let one = map_from copy_of_place (filter (λ (x : Digest × Place). x.1.block == block) live) c (subst (λ (cs : List LiveCopy). Contains cs c) (starts.copies block) there) in
           let in_live = filter_from (λ (x : Digest × Place). x.1.block == block) live one.0 one.1 in
-          let is : copy_live one.0.0 one.0.1 ≡ live_in_block block c = ap (λ (b : ℕ). live_in_block b (copy_of_place one.0)) (eqb-true one.0.1.block block in_live.1) ∙ ap (live_in_block block) one.2 in
+          let is : copy_live one.0.0 one.0.1 ≡ live_in_block block c = ap (λ (b : ℕ). live_in_block b (copy_of_place one.0)) (eqb-true one.0.1.block block in_live.1)
+          ∙ ap (live_in_block block) one.2 in
           subst (λ (x : List Live). Contains x (live_in_block block c)) (sym (cold_lives setup lives next_number)) (subst (Contains lives) is (same.there one.0 in_live.0));
     }
       where
@@ -260,6 +281,7 @@ module _ (setup : Setup) (g : Geometry) (live : List (Digest × Place)) (can : C
           (λ b. and_true (may_be_queued setup before b) ∙ (λ i. is_below_mark (capacity i) (lwm i) (use_is b i) true)) (all_blocks setup)
           ∙ ap (λ (n : ℕ). filter (λ b. is_below_mark (block_capacity g.block_size) limits.lwm (sum_by (λ (c : LiveCopy). c.units) (copies_at b live)) true) (range_with_len 0 n)) blocks
           ∙ sym starts.queued;
-      all = λ b lt. subst (λ (book : Book). is_in book.queue b ≡ may_be_queued setup book b) (sym (is_book ∙ cold_queued setup lives next_number)) (queue.refreshed_all setup before before refl tt b lt);
+      all = λ b lt. subst (λ (book : Book). is_in book.queue b ≡ may_be_queued setup book b) (sym (is_book ∙ cold_queued setup lives next_number))
+          (queue.refreshed_all setup before before refl tt b lt);
       raid = raid;
     }

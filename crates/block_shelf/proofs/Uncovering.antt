@@ -59,7 +59,8 @@ module _ {D : Type 0} (view : D → DiskView) (setup : Setup) (shelf : ShelfView
   }
 
   -- No possible copy of the digest may be older than its entry.
-  pub goes_uncovered : IsDisk (view shelf.disk) → StandsFor setup shelf s → (IsHonest (view shelf.disk) → ImagesHold setup view shelf s → NoneOlder s (possible_copies view shelf s) digest) → Goes view setup (uncovered digest ∷ []) shelf s shelf
+  pub goes_uncovered : IsDisk (view shelf.disk) → StandsFor setup shelf s → (IsHonest (view shelf.disk) → ImagesHold setup view shelf s → NoneOlder s (possible_copies view shelf s) digest)
+      → Goes view setup (uncovered digest ∷ []) shelf s shelf
   goes_uncovered is_disk stands none = record {
     stands = subst (StandsFor setup shelf) (sym is_after) (stands_after stands);
     queued = λ was. subst (BooksStand setup shelf) (sym is_after) (books_after was);

@@ -39,13 +39,15 @@ sure_at gates block sure = by (cases_lt block (length gates))
     by (inl lt) = all_at (λ (gate : Gate). gate ≢ Unsure) gates (gate_at gates block) sure (Contains-get_or gates block Shut lt)
     by (inr past) = λ e. shut_sure (sym (get_or_past gates block Shut past) ∙ e)
 
-module _ {D : Type 0} (view : D → DiskView) (is_disk : (disk : D) → IsDisk (view disk)) (shelf : ShelfView D) (disk : D) (block : ℕ) (is : IsShelf view shelf) (lt : block < shelf.geometry.blocks) (unbuffered : AllByRecursion (λ b. b.block ≢ block) shelf.buffers)
+module _ {D : Type 0} (view : D → DiskView) (is_disk : (disk : D) → IsDisk (view disk)) (shelf : ShelfView D) (disk : D) (block : ℕ) (is : IsShelf view shelf)
+    (lt : block < shelf.geometry.blocks) (unbuffered : AllByRecursion (λ b. b.block ≢ block) shelf.buffers)
     (later : IsLater (view shelf.disk) (view disk)) (honest : IsHonest (view shelf.disk) → IsHonest (view disk)) (was_honest : IsHonest (view disk) → IsHonest (view shelf.disk))
     (torn : IsHonest (view shelf.disk) → TornFrom (block_place shelf.geometry block) 4096 (view shelf.disk).may_leave (meanwhile (view shelf.disk) (view disk)))
     (gates : List Gate) (known : IsHonest (view disk) → GateStands shelf.geometry (view disk).may_leave block (gate_at gates block)) where
   now_known : (gate : Gate) → gates ≡ slice_set shelf.gates block gate → IsHonest (view disk) → GateStands shelf.geometry (view disk).may_leave block gate
   now_known gate set now =
-      subst (GateStands shelf.geometry (view disk).may_leave block) (ap (λ (l : List Gate). gate_at l block) set ∙ get_or-set_same shelf.gates block gate Shut (subst (λ (n : ℕ). block < n) (sym is.gates) lt)) (known now)
+      subst (GateStands shelf.geometry (view disk).may_leave block)
+      (ap (λ (l : List Gate). gate_at l block) set ∙ get_or-set_same shelf.gates block gate Shut (subst (λ (n : ℕ). block < n) (sym is.gates) lt)) (known now)
 
   pub closed_shelf : (gate : Gate) → gates ≡ slice_set shelf.gates block gate → IsShelf view (record shelf { disk = disk; gates = gates })
   closed_shelf gate set = subst (λ (l : List Gate). IsShelf view (record shelf { disk = disk; gates = l })) (sym set)
@@ -66,8 +68,11 @@ module _ {D : Type 0} (view : D → DiskView) (is_disk : (disk : D) → IsDisk (
 
 -- Where no gate is unsure, what is possible stays so as a disk is only read.
 pub same_possible : {D : Type 0} (view : D → DiskView) (setup : Setup) (old new : ShelfView D) (s : State) → AreSure old.gates → ImagesHold setup view old s → IsHonest (view new.disk)
-    → Within (view old.disk).may_leave (view new.disk).may_leave → new ≡ record old { disk = new.disk; gates = new.gates; raid = new.raid } → new.gates ≡ old.gates → SamePossible (possible_copies view old s) (possible_copies view new s)
+    → Within (view old.disk).may_leave (view new.disk).may_leave → new ≡ record old { disk = new.disk; gates = new.gates; raid = new.raid } → new.gates ≡ old.gates
+    → SamePossible (possible_copies view old s) (possible_copies view new s)
 same_possible {D} view setup old new s sure safe honest fewer rest gates =
-    subst (λ (v : ShelfView D). SamePossible (possible_copies view old s) (possible_copies view v s)) (sym (rest ∙ ap (λ (l : List Gate). record old { disk = new.disk; gates = l; raid = new.raid }) gates))
-    (possible_stays old.geometry s.book (records_of old.buffers) (gate_at old.gates) (view old.disk).may_leave (view new.disk).may_leave safe.held.geometry (λ k lt. sure_at old.gates k sure) safe.knows.stands
+    subst (λ (v : ShelfView D). SamePossible (possible_copies view old s) (possible_copies view v s))
+    (sym (rest ∙ ap (λ (l : List Gate). record old { disk = new.disk; gates = l; raid = new.raid }) gates))
+    (possible_stays old.geometry s.book (records_of old.buffers) (gate_at old.gates) (view old.disk).may_leave (view new.disk).may_leave safe.held.geometry
+    (λ k lt. sure_at old.gates k sure) safe.knows.stands
     fewer (view new.disk).seen honest.image)

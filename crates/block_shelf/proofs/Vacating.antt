@@ -20,7 +20,8 @@ use Rattle.block_shelf.specs.View.{ShelfView}
 use Rattle.block_shelf.specs.Standing.{StandsFor}
 
 -- a live copy of a digest, where there is no other, is the one
-is_live : (digest : Digest) (m : Live) (live : List Live) → AllByRecursion (λ l. same_digest digest l.digest ≡ true → l ≡ m) live → same_digest digest m.digest ≡ true → Contains live m → live_of digest live ≡ Some m
+is_live : (digest : Digest) (m : Live) (live : List Live) → AllByRecursion (λ l. same_digest digest l.digest ≡ true → l ≡ m) live → same_digest digest m.digest ≡ true → Contains live m
+    → live_of digest live ≡ Some m
 is_live digest m [] one same there = absurd (omega (arith, there.1))
 is_live digest m (x ∷ live) one same there = by (same_digest digest x.digest) refl (cons_cases x live m there) (is_live digest m live one.1 same)
   where
@@ -29,7 +30,8 @@ is_live digest m (x ∷ live) one same there = by (same_digest digest x.digest) 
     by false is (inl e) rest = absurd (both_ways (same_digest digest x.digest) is (ap (λ (y : Live). same_digest digest y.digest) e ∙ same))
     by false is (inr more) rest = rest more
 
-module _ {D : Type 0} (setup : Setup) (shelf : ShelfView D) (s : State) (stands : StandsFor setup shelf s) (block : ℕ) (ordered : AreByUnit (copies_in block shelf.rolls) (by_unit (copies_in block shelf.rolls))) where
+module _ {D : Type 0} (setup : Setup) (shelf : ShelfView D) (s : State) (stands : StandsFor setup shelf s) (block : ℕ)
+    (ordered : AreByUnit (copies_in block shelf.rolls) (by_unit (copies_in block shelf.rolls))) where
   abbrev copies : List LiveCopy
   copies = copies_in block shelf.rolls
 

@@ -14,9 +14,11 @@ use Rattle.cold_scan.specs.Found.{is_set, IsSure, TellsSector, AreGates, set_blo
 -- ---- read one after another
 
 -- 16 bytes of a gate sector tell whether it is open
-pub same_gate : (g : Geometry) (block : ℕ) (bytes seen gate : List ℕ) (place : ℕ) → gate ≡ take 16 (drop place seen) → seen ≡ bytes → place ≡ block_place g block → take 16 gate ≡ take 16 (gate_sector g block bytes)
+pub same_gate : (g : Geometry) (block : ℕ) (bytes seen gate : List ℕ) (place : ℕ) → gate ≡ take 16 (drop place seen) → seen ≡ bytes → place ≡ block_place g block
+    → take 16 gate ≡ take 16 (gate_sector g block bytes)
 same_gate g block bytes seen gate place read same is =
-    ap (take 16) (read ∙ (λ i. take 16 (drop (is i) (same i)))) ∙ take-take 16 16 (drop (block_place g block) bytes) (omega arith) ∙ sym (take-take 16 4096 (drop (block_place g block) bytes) (omega arith))
+    ap (take 16) (read ∙ (λ i. take 16 (drop (is i) (same i)))) ∙ take-take 16 16 (drop (block_place g block) bytes) (omega arith)
+    ∙ sym (take-take 16 4096 (drop (block_place g block) bytes) (omega arith))
 
 one_more : {X : Type 0} (xs : List X) (y : X) (k : ℕ) (v : X) → slice_get (xs ++ y ∷ []) k ≡ Some v → (slice_get xs k ≡ Some v) ⊎ ((k ≡ length xs) × (Some y ≡ Some v))
 one_more [] y zero v is = inr (refl, is)
@@ -31,7 +33,8 @@ abbrev gate_or : Gate → Option Gate → Gate
 gate_or other None = other
 gate_or other (Some gate) = gate
 
-pub gates_more : (g : Geometry) (bytes : List ℕ) (gates new : List Gate) (gate : Gate) (k : ℕ) → new ≡ gates ++ gate ∷ [] → length gates ≡ k → AreGates g bytes gates → TellsSector gate (gate_sector g k bytes) → AreGates g bytes new
+pub gates_more : (g : Geometry) (bytes : List ℕ) (gates new : List Gate) (gate : Gate) (k : ℕ) → new ≡ gates ++ gate ∷ [] → length gates ≡ k → AreGates g bytes gates
+    → TellsSector gate (gate_sector g k bytes) → AreGates g bytes new
 gates_more g bytes gates new gate k pushed count are told j other there =
     elim (one_more gates gate j other (subst (λ (l : List Gate). slice_get l j ≡ Some other) pushed there)) [
       | inl before ↦ are j other before
@@ -90,4 +93,5 @@ set_more gates k opened is =
     let at = gate_there gates k opened is in
     let next : k + 1 ≡ suc k = omega arith in
     let here : 0 + k ≡ k = omega arith in
-    ap (λ (n : ℕ). set_blocks 0 (take n gates)) next ∙ set_from 0 gates k at.0 at.1 ∙ ap (λ (b : Bool). set_blocks 0 (take k gates) ++ end_of b (0 + k)) at.2 ∙ ap (λ (n : ℕ). set_blocks 0 (take k gates) ++ end_of opened n) here
+    ap (λ (n : ℕ). set_blocks 0 (take n gates)) next ∙ set_from 0 gates k at.0 at.1 ∙ ap (λ (b : Bool). set_blocks 0 (take k gates) ++ end_of b (0 + k)) at.2
+    ∙ ap (λ (n : ℕ). set_blocks 0 (take k gates) ++ end_of opened n) here

@@ -39,7 +39,8 @@ same_turned a b = by (same_digest a b) (same_digest b a) refl refl
 
 pub copies_more : (bodies : List Body) (b : Body) → copies_of (bodies ++ b ∷ []) ≡ copies_of bodies ++ copies_from b.block 0 b.records
 copies_more [] b = append-nil (copies_from b.block 0 b.records)
-copies_more (x ∷ bodies) b = ap (λ (l : List Copy). copies_from x.block 0 x.records ++ l) (copies_more bodies b) ∙ sym (append_assoc (copies_from x.block 0 x.records) (copies_of bodies) (copies_from b.block 0 b.records))
+copies_more (x ∷ bodies) b = ap (λ (l : List Copy). copies_from x.block 0 x.records ++ l) (copies_more bodies b)
+    ∙ sym (append_assoc (copies_from x.block 0 x.records) (copies_of bodies) (copies_from b.block 0 b.records))
 
 -- a body has a copy for each of its records
 copies_long : (block unit : ℕ) (records : List (Digest × Version)) → length (copies_from block unit records) ≡ length records
@@ -76,13 +77,15 @@ stays k found old is none = record { each = λ d. by d (same_digest d k.head.dig
     by d false other = refl
 
 -- the copy is put at its digest
-pub put : (k : Kept) (old new : BTreeMap Digest Kept) → later_kept (get digest_cmp old k.head.digest) k ≡ k → Updates digest_cmp old new k.head.digest (Some k) → IsOrdered digest_cmp new → KeepsLater k old new
+pub put : (k : Kept) (old new : BTreeMap Digest Kept) → later_kept (get digest_cmp old k.head.digest) k ≡ k → Updates digest_cmp old new k.head.digest (Some k)
+    → IsOrdered digest_cmp new → KeepsLater k old new
 put k old new is updates ordered = record {
   each = λ d. updates.0 d ∙ (λ i. cond (same_turned k.head.digest d i) (Some (sym is i)) (get digest_cmp old d));
   ordered = λ was. ordered;
 }
 
-pub later_than : (k found : Kept) (old : BTreeMap Digest Kept) → get digest_cmp old k.head.digest ≡ Some found → is_later_stamp k.head.stamp found.head.stamp ≡ true → later_kept (get digest_cmp old k.head.digest) k ≡ k
+pub later_than : (k found : Kept) (old : BTreeMap Digest Kept) → get digest_cmp old k.head.digest ≡ Some found → is_later_stamp k.head.stamp found.head.stamp ≡ true
+    → later_kept (get digest_cmp old k.head.digest) k ≡ k
 later_than k found old is later = ap (λ (o : Option Kept). later_kept o k) is ∙ cond-true (is_later_stamp k.head.stamp found.head.stamp) k found later
 
 -- ---- the latest copies

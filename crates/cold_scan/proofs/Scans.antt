@@ -50,7 +50,8 @@ pub found_count : (body : List ℕ) (block number : ℕ) (found : List Found) �
 found_count body block number found reading = ap length reading.found_is ∙ found_long 0 reading.body.records
 
 -- what was read of a block is its body
-pub body_read : (g : Geometry) (block place : ℕ) (old new bytes : List ℕ) → place ≡ block_place g block + 4096 → length old ≡ g.block_size - 4096 → new ≡ range place (length old) bytes → new ≡ body_bytes g block bytes
+pub body_read : (g : Geometry) (block place : ℕ) (old new bytes : List ℕ) → place ≡ block_place g block + 4096 → length old ≡ g.block_size - 4096 → new ≡ range place (length old) bytes
+    → new ≡ body_bytes g block bytes
 body_read g block place old new bytes at long read = read ∙ ap (λ (p : ℕ). take (length old) (drop p bytes)) at ∙ ap (λ (n : ℕ). take n (drop (block_place g block + 4096) bytes)) long
 
 pub takes_body : (g : Geometry) (block number : ℕ) (body : List ℕ) (found : List Found) (old new : Taken) → length body ≡ g.block_size - 4096 → (reading : IsReading body block number found)
@@ -76,7 +77,8 @@ range_more a n = rw add-one (more a n)
 range_next : (n : ℕ) → range_with_len 0 (n + 1) ≡ range_with_len 0 n ++ n ∷ []
 range_next n = range_more 0 n ∙ ap (λ (x : ℕ). range_with_len 0 n ++ x ∷ []) (zero-add n)
 
-bodies_closed : (g : Geometry) (image : List ℕ) (blocks : List ℕ) (bodies : List Body) (k : ℕ) → HasBodies g image blocks bodies → IsClosed (gate_sector g k image) → HasBodies g image (blocks ++ k ∷ []) bodies
+bodies_closed : (g : Geometry) (image : List ℕ) (blocks : List ℕ) (bodies : List Body) (k : ℕ) → HasBodies g image blocks bodies → IsClosed (gate_sector g k image)
+    → HasBodies g image (blocks ++ k ∷ []) bodies
 bodies_closed g image [] bodies k none closed = inl (closed, none)
 bodies_closed g image (b ∷ blocks) bodies k (inl shut) closed = inl (shut.0, bodies_closed g image blocks bodies k shut.1 closed)
 bodies_closed g image (b ∷ blocks) bodies k (inr opens) closed =
@@ -127,7 +129,8 @@ lie_from g gates block unit (r ∷ records) set all fit =
       lie_from g gates block (unit + version_units r.1) records set all.1 (omega (arith, fit, more)),
     )
 
-taken_closed : (g : Geometry) (gates : List Gate) (k : ℕ) (bodies : List Body) (taken : Taken) → IsTaken g gates k bodies taken → option_map is_set (slice_get gates k) ≡ Some false → IsTaken g gates (k + 1) bodies taken
+taken_closed : (g : Geometry) (gates : List Gate) (k : ℕ) (bodies : List Body) (taken : Taken) → IsTaken g gates k bodies taken → option_map is_set (slice_get gates k) ≡ Some false
+    → IsTaken g gates (k + 1) bodies taken
 taken_closed g gates k bodies taken is shut = record {
   latest = is.latest;
   lie = is.lie;
@@ -142,8 +145,10 @@ taken_open : (g : Geometry) (gates : List Gate) (k : ℕ) (bytes : List ℕ) (bo
 taken_open g gates k bytes bodies old new is opens takes = record {
   latest = subst (λ (l : List Copy). HasKept g l new.latest) (sym copies_are) (kept_all g (copies_from k 0 takes.body.records) (copies_of bodies) old.latest new.latest is.latest takes.latest);
   lie = subst (λ (l : List Copy). AllByRecursion (LiesBehind g gates) l) (sym copies_are)
-      (all_joined (LiesBehind g gates) (copies_of bodies) (copies_from k 0 takes.body.records) is.lie (lie_from g gates k 0 takes.body.records (gate_set gates k opens) takes.is_body.records (omega (arith, takes.is_body.units))));
-  opened = map-append (λ (b : Body). b.block) bodies (takes.body ∷ []) ∙ ap (λ (l : List ℕ). l ++ takes.body.block ∷ []) is.opened ∙ ap (λ (n : ℕ). set_blocks 0 (take k gates) ++ n ∷ []) takes.block_is ∙ sym (set_more gates k true opens);
+      (all_joined (LiesBehind g gates) (copies_of bodies) (copies_from k 0 takes.body.records) is.lie
+      (lie_from g gates k 0 takes.body.records (gate_set gates k opens) takes.is_body.records (omega (arith, takes.is_body.units))));
+  opened = map-append (λ (b : Body). b.block) bodies (takes.body ∷ []) ∙ ap (λ (l : List ℕ). l ++ takes.body.block ∷ []) is.opened
+      ∙ ap (λ (n : ℕ). set_blocks 0 (take k gates) ++ n ∷ []) takes.block_is ∙ sym (set_more gates k true opens);
   copies = takes.copies ∙ ap (λ (n : ℕ). n + length takes.body.records) is.copies ∙ sym (count_more bodies takes.body);
   number = takes.greatest ∙ ap (λ (n : ℕ). max n takes.body.number) is.number ∙ sym (greatest_more bodies takes.body);
   top = subst (λ (n : ℕ). n ≤ top_number) (sym takes.greatest) (both_below old.greatest takes.body.number is.top takes.is_body.number);
@@ -161,21 +166,29 @@ taken_open g gates k bytes bodies old new is opens takes = record {
 abbrev pub FoundIn : Geometry → (told : Type 0) → List ℕ → List Gate → ℕ → Taken → Type 0
 FoundIn g told bytes gates k taken = (bodies : List Body) × IsTaken g gates k bodies taken × (told → AreGates g bytes gates → HasBodies g bytes (range_with_len 0 k) bodies)
 
-pub found_closed : (g : Geometry) (told : Type 0) (bytes : List ℕ) (gates : List Gate) (k : ℕ) (taken : Taken) → FoundIn g told bytes gates k taken → option_map is_set (slice_get gates k) ≡ Some false → FoundIn g told bytes gates (k + 1) taken
+pub found_closed : (g : Geometry) (told : Type 0) (bytes : List ℕ) (gates : List Gate) (k : ℕ) (taken : Taken) → FoundIn g told bytes gates k taken
+    → option_map is_set (slice_get gates k) ≡ Some false → FoundIn g told bytes gates (k + 1) taken
 found_closed g told bytes gates k taken found shut =
-    let at = gate_there gates k false shut in
-    (found.0, taken_closed g gates k found.0 taken found.1 shut, λ t are. subst (λ (l : List ℕ). HasBodies g bytes l found.0) (sym (range_next k)) (bodies_closed g bytes (range_with_len 0 k) found.0 k (found.2 t are) (told_shut at.0 (gate_sector g k bytes) at.2 (are k at.0 at.1))))
+    let at = gate_there gates k false shut in (
+      found.0,
+      taken_closed g gates k found.0 taken found.1 shut,
+      λ t are. subst (λ (l : List ℕ). HasBodies g bytes l found.0) (sym (range_next k))
+          (bodies_closed g bytes (range_with_len 0 k) found.0 k (found.2 t are) (told_shut at.0 (gate_sector g k bytes) at.2 (are k at.0 at.1))),
+    )
 
-pub found_open : (g : Geometry) (told : Type 0) (bytes body : List ℕ) (gates : List Gate) (k : ℕ) (old new : Taken) → FoundIn g told bytes gates k old → option_map is_set (slice_get gates k) ≡ Some true
+pub found_open : (g : Geometry) (told : Type 0) (bytes body : List ℕ) (gates : List Gate) (k : ℕ) (old new : Taken) → FoundIn g told bytes gates k old
+    → option_map is_set (slice_get gates k) ≡ Some true
     → TakesBody g k body old new → (told → body ≡ body_bytes g k bytes) → FoundIn g told bytes gates (k + 1) new
 found_open g told bytes body gates k old new found opens takes read = (
   found.0 ++ takes.body ∷ [],
   taken_open g gates k body found.0 old new found.1 opens takes,
   λ t are. subst (λ (l : List ℕ). HasBodies g bytes l (found.0 ++ takes.body ∷ [])) (sym (range_next k))
-      (bodies_open g bytes (range_with_len 0 k) found.0 k takes.body (found.2 t are) (are k Set (gate_set gates k opens)) (subst (λ (l : List ℕ). IsBody (block_capacity g.block_size) l takes.body) (read t) takes.is_body) takes.block_is),
+      (bodies_open g bytes (range_with_len 0 k) found.0 k takes.body (found.2 t are) (are k Set (gate_set gates k opens))
+      (subst (λ (l : List ℕ). IsBody (block_capacity g.block_size) l takes.body) (read t) takes.is_body) takes.block_is),
 )
 
-pub none_found : (g : Geometry) (told : Type 0) (bytes : List ℕ) (gates : List Gate) (taken : Taken) → taken.latest.entries ≡ [] → IsOrdered digest_cmp taken.latest → taken.copies ≡ 0 → taken.greatest ≡ 0 → FoundIn g told bytes gates 0 taken
+pub none_found : (g : Geometry) (told : Type 0) (bytes : List ℕ) (gates : List Gate) (taken : Taken) → taken.latest.entries ≡ [] → IsOrdered digest_cmp taken.latest → taken.copies ≡ 0
+    → taken.greatest ≡ 0 → FoundIn g told bytes gates 0 taken
 none_found g told bytes gates taken empty ordered none greatest = (
   [],
   record {
@@ -190,7 +203,8 @@ none_found g told bytes gates taken empty ordered none greatest = (
 )
 
 -- a stop at a block is a stop of the scan
-pub stopped_there : (g : Geometry) (told : Type 0) (bytes : List ℕ) (gates : List Gate) (k : ℕ) (taken : Taken) (cause : StartCause) → FoundIn g told bytes gates k taken → told → AreGates g bytes gates → k < g.blocks
+pub stopped_there : (g : Geometry) (told : Type 0) (bytes : List ℕ) (gates : List Gate) (k : ℕ) (taken : Taken) (cause : StartCause) → FoundIn g told bytes gates k taken → told
+    → AreGates g bytes gates → k < g.blocks
     → option_map is_set (slice_get gates k) ≡ Some true → StopsOn g bytes k cause → IsStopped g bytes cause
 stopped_there g told bytes gates k taken (why.NotFormatted first) found t are within opens stops = stops
 stopped_there g told bytes gates k taken (why.OtherGeometry kept asked size) found t are within opens stops = stops

@@ -26,12 +26,14 @@ padded bytes count is = cases (cases_lt (length bytes) 4096)
     cases : (length bytes < 4096) ⊎ (4096 ≤ length bytes) → take count bytes ++ replicate (4096 - count) 0 ≡ take 4096 (bytes ++ replicate 4096 0)
     cases (inl short) =
         let all : count ≡ length bytes = omega arith in
-        let long : length (bytes ++ replicate (4096 - length bytes) 0) ≡ 4096 = length-append bytes (replicate (4096 - length bytes) 0) ∙ ap (λ (k : ℕ). length bytes + k) (length-replicate {A = ℕ} (4096 - length bytes) 0) ∙ omega arith in
+        let long : length (bytes ++ replicate (4096 - length bytes) 0) ≡ 4096 = length-append bytes (replicate (4096 - length bytes) 0)
+        ∙ ap (λ (k : ℕ). length bytes + k) (length-replicate {A = ℕ} (4096 - length bytes) 0) ∙ omega arith in
         let zeros : (4096 - length bytes) + length bytes ≡ 4096 = omega arith in
         ap (λ (k : ℕ). take k bytes ++ replicate (4096 - k) 0) all
         ∙ ap (λ (l : List ℕ). l ++ replicate (4096 - length bytes) 0) (take_all (length bytes) bytes (omega arith))
         ∙ sym (take_at (bytes ++ replicate (4096 - length bytes) 0) (replicate (length bytes) 0) 4096 long)
-        ∙ ap (take 4096) (append_assoc bytes (replicate (4096 - length bytes) 0) (replicate (length bytes) 0) ∙ ap (λ (l : List ℕ). bytes ++ l) (replicate-append-replicate (4096 - length bytes) (length bytes) 0 ∙ ap (λ (k : ℕ). replicate k 0) zeros))
+        ∙ ap (take 4096) (append_assoc bytes (replicate (4096 - length bytes) 0) (replicate (length bytes) 0)
+        ∙ ap (λ (l : List ℕ). bytes ++ l) (replicate-append-replicate (4096 - length bytes) (length bytes) 0 ∙ ap (λ (k : ℕ). replicate k 0) zeros))
     cases (inr whole) =
         let all : count ≡ 4096 = omega arith in
         ap (λ (k : ℕ). take k bytes ++ replicate (4096 - k) 0) all ∙ append-nil (take 4096 bytes) ∙ sym (take-append-le 4096 bytes (replicate 4096 0) whole)
@@ -80,7 +82,8 @@ other_device asked bytes sector g size is header sized other =
     why : (g.device ≢ asked.device) ⊎ (g.devices ≢ asked.devices) ⊎ (length bytes < device_end g)
     why = first (cases_eq g.device asked.device)
       where
-        third : g.device ≡ asked.device → g.devices ≡ asked.devices → (length bytes < device_end g) ⊎ (device_end g ≤ length bytes) → (g.device ≢ asked.device) ⊎ (g.devices ≢ asked.devices) ⊎ (length bytes < device_end g)
+        third : g.device ≡ asked.device → g.devices ≡ asked.devices → (length bytes < device_end g) ⊎ (device_end g ≤ length bytes) → (g.device ≢ asked.device) ⊎ (g.devices ≢ asked.devices)
+            ⊎ (length bytes < device_end g)
         third a b (inl lt) = inr (inr lt)
         third a b (inr le) = absurd (other (a, b, subst (λ (n : ℕ). device_end g ≤ n) (sym sized) le))
 

@@ -19,7 +19,8 @@ use Rattle.shard_core.specs.declared.refusals.WriteRefusal.{WriteRefusal}
 use Rattle.line_proto.specs.declared.reply.LineFault.{LineFault}
 use Rattle.shard_core.proofs.Events.{RunsBy, runs_one, runs_made}
 use Rattle.core_run.specs.Standing.{Each, StandsOn, StandsSafelyOn}
-use Rattle.core_run.specs.Turns.{GoesOn, Through, TendTurn, CloseTurn, EndsAs, WorksEach, plus_one, plus_both, FlushesOn, IsFlushed, FlushesEach, DefragsOn, IsDefrag, IsDefragged, DefragsEach, ExpiresOn, IsExpiry, IsExpired, ExpiresAll, slot_for, RaidsOn, IsRaid, IsRaided, RaidsEach}
+use Rattle.core_run.specs.Turns.{GoesOn, Through, TendTurn, CloseTurn, EndsAs, WorksEach, plus_one, plus_both, FlushesOn, IsFlushed, FlushesEach, DefragsOn}
+use Rattle.core_run.specs.Turns.{IsDefrag, IsDefragged, DefragsEach, ExpiresOn, IsExpiry, IsExpired, ExpiresAll, slot_for, RaidsOn, IsRaid, IsRaided, RaidsEach}
 use Rattle.core_run.proofs.Places.{moved, events_of, nones, no_events, only_at, only_event}
 use Rattle.core_run.proofs.Making.{Made, LeftOn, Along, along_none, along_one, slot_at}
 use Rattle.core_run.proofs.Turning.{rests_any, rests_safe, rests_left, many_any, many_safe, many_left}
@@ -58,7 +59,8 @@ closes_moved device (slot ∷ node) events (mine, rest, is, closes, more) = (min
 pub record Kind {D : Type 0} (view : D → DiskView) (Stands : ShardView D → Slot → Type 0) (Holds : (old new : ShardView D) → Slot → List Event → Type 0) : Type 0 where
   pub stands : (shard : ShardView D) (slot : Slot) → Stands shard slot → StandsOn view shard slot
   pub rests : (shard : ShardView D) (slot : Slot) → Stands shard slot → Holds shard shard slot []
-  pub many : (old new : ShardView D) → GoesOn view old new → (slot : Slot) (mine : List Event) → RunsBy view (setup_of old) old.shelf slot.state new.shelf (Agrees new) mine → Stands old slot → Holds old new slot mine
+  pub many : (old new : ShardView D) → GoesOn view old new → (slot : Slot) (mine : List Event) → RunsBy view (setup_of old) old.shelf slot.state new.shelf (Agrees new) mine → Stands old slot
+      → Holds old new slot mine
 
 -- over an honest disk that is safe a crash leaves meanwhile what survives
 abbrev pub Safely : {D : Type 0} → (view : D → DiskView) → (old new : ShardView D) → Slot → List Event → Type 0
@@ -97,7 +99,8 @@ module _ {D : Type 0} (view : D → DiskView) (Stands : ShardView D → Slot →
   Turned olds news node Is = (mines : List (List Event)) × Along Holds olds news node mines × Is mines
 
   -- one event of the device
-  one_made : (old new : ShardView D) → GoesOn view old new → (slot : Slot) (call : Call) (answer : Answer) (m : Makes view call answer old slot.state new) → Stands old slot → Holds old new slot (m.event ∷ [])
+  one_made : (old new : ShardView D) → GoesOn view old new → (slot : Slot) (call : Call) (answer : Answer) (m : Makes view call answer old slot.state new) → Stands old slot
+      → Holds old new slot (m.event ∷ [])
   one_made old new goes slot call answer m stands =
       kind.many old new goes slot (m.event ∷ []) (runs_one view (setup_of old) call answer old.shelf new.shelf slot.state (Agrees new) m) stands
 
@@ -114,7 +117,8 @@ module _ {D : Type 0} (view : D → DiskView) (Stands : ShardView D → Slot →
     behind : (a one : R) (node : Node) (mines : List (List Event)) (outcome : Outcome) → EachDevice Work 0 node (sums (plus a one)).0 (sums (plus a one)).1 (events_of mines) outcome
         → EachDevice Work 1 node ((sums a).0 + (sums one).0) ((sums a).1 + (sums one).1) (map moved (events_of mines)) outcome
     behind a one node mines outcome each =
-        subst (λ (p : ℕ × ℕ). EachDevice Work 1 node p.0 p.1 (map moved (events_of mines)) outcome) (adds a one) (each_moved Work 0 node (sums (plus a one)).0 (sums (plus a one)).1 (events_of mines) outcome each)
+        subst (λ (p : ℕ × ℕ). EachDevice Work 1 node p.0 p.1 (map moved (events_of mines)) outcome) (adds a one)
+        (each_moved Work 0 node (sums (plus a one)).0 (sums (plus a one)).1 (events_of mines) outcome each)
 
     -- one device more in front, which did the work
     one_more : (result : Result R E) (a x : R) (old new : ShardView D) (olds news : List (ShardView D)) (slot : Slot) (node : Node) → Does (Ok x) old new → Stands old slot
@@ -130,9 +134,18 @@ module _ {D : Type 0} (view : D → DiskView) (Stands : ShardView D → Slot →
           ),
         )
 
-    pub work_turns : (result : Result R E) (a : R) (olds news : List (ShardView D)) (node : Node) → WorksEach Does plus result a olds news → Each Stands olds node → Turned olds news node (Worked result a node)
-    work_turns (Ok sum) a [] news node each stands =
-        ([], (each.0, stands, refl), (did (sums sum).0 (sums sum).1, refl, subst (λ (x : Node). EachDevice Work 0 x (sums a).0 (sums a).1 [] (did (sums sum).0 (sums sum).1)) (sym stands) (refl, ap (λ (r : R). did (sums r).0 (sums r).1) each.1)))
+    pub work_turns : (result : Result R E) (a : R) (olds news : List (ShardView D)) (node : Node) → WorksEach Does plus result a olds news → Each Stands olds node
+        → Turned olds news node (Worked result a node)
+    work_turns (Ok sum) a [] news node each stands = (
+      [],
+      (each.0, stands, refl),
+      (
+        did (sums sum).0 (sums sum).1,
+        refl,
+        subst (λ (x : Node). EachDevice Work 0 x (sums a).0 (sums a).1 [] (did (sums sum).0 (sums sum).1)) (sym stands)
+            (refl, ap (λ (r : R). did (sums r).0 (sums r).1) each.1),
+      ),
+    )
     work_turns (Err why) a [] news node each stands = absurd each
     work_turns (Ok sum) a (old ∷ olds) [] node each stands = absurd each
     work_turns (Err why) a (old ∷ olds) [] node each stands = absurd each
@@ -155,10 +168,17 @@ module _ {D : Type 0} (view : D → DiskView) (Stands : ShardView D → Slot →
       → (outcome : Outcome) × IsFlushed flushed outcome × (mine : List Event) × Flushes slot mine outcome × Holds old new slot mine
   flush_does {E} flushed old new slot flushes stands = by flushed (flushes.makes slot.state (kind.stands old slot stands).agrees)
     where
-      by : (f : Result ℕ E) → Makes view flush_call (flush_answer f) old slot.state new → (outcome : Outcome) × IsFlushed f outcome × (mine : List Event) × Flushes slot mine outcome × Holds old new slot mine
+      by : (f : Result ℕ E) → Makes view flush_call (flush_answer f) old slot.state new → (outcome : Outcome) × IsFlushed f outcome × (mine : List Event) × Flushes slot mine outcome
+          × Holds old new slot mine
       by (Ok n) m = (did n 0, refl, m.event ∷ [], (m.event, refl, m.is_call, inl (n, m.is_answer, refl)), one_made old new flushes.goes slot flush_call (counted n) m stands)
-      by (Err fault) m =
-          (stopped disk_fault, (disk_fault, refl, refl), m.event ∷ [], (m.event, refl, m.is_call, inr (disk_fault, m.is_answer, refl)), one_made old new flushes.goes slot flush_call (refused disk_fault) m stands)
+      by (Err fault) m = (
+        stopped disk_fault,
+        (disk_fault, refl, refl),
+        m.event ∷ [],
+        (m.event, refl, m.is_call, inr (disk_fault, m.is_answer, refl)),
+        one_made old new flushes.goes slot flush_call
+            (refused disk_fault) m stands,
+      )
 
   pub flush_turns : {E : Type 0} (flushed : Result ℕ E) (olds news : List (ShardView D)) (node : Node) → FlushesEach view flushed olds news → Each Stands olds node
       → Turned olds news node (λ mines. (outcome : Outcome) × IsFlushed flushed outcome × EachDevice Flushes 0 node 0 0 (events_of mines) outcome)
@@ -258,15 +278,18 @@ module _ {D : Type 0} (view : D → DiskView) (Stands : ShardView D → Slot →
       )
 
   -- one event of the device at a place
-  pub event_turn : (olds : List (ShardView D)) (place : ℕ) (old new : ShardView D) (node : Node) (call : Call) (answer : Answer) → place < length olds → slice_get olds place ≡ Some old → GoesOn view old new
+  pub event_turn : (olds : List (ShardView D)) (place : ℕ) (old new : ShardView D) (node : Node) (call : Call) (answer : Answer) → place < length olds
+      → slice_get olds place ≡ Some old → GoesOn view old new
       → ((s : State) → Agrees old s → Makes view call answer old s new) → Each Stands olds node
-      → (mines : List (List Event)) × Along Holds olds (set olds place new) node mines × (event : Event) × (event.call ≡ call) × (event.answer ≡ answer) × (events_of mines ≡ on_device place event ∷ [])
+      → (mines : List (List Event)) × Along Holds olds (set olds place new) node mines × (event : Event) × (event.call ≡ call) × (event.answer ≡ answer)
+      × (events_of mines ≡ on_device place event ∷ [])
   event_turn olds place old new node call answer there at goes makes stands =
       let here = slot_at Stands olds node place old stands at in
       let m = makes here.0.state (kind.stands old here.0 here.2).agrees in (
         only_at place (length olds) (m.event ∷ []),
         along_one Holds Stands kind.rests olds node place old new (m.event ∷ []) stands at
-            (λ slot is same. let one : here.0 ≡ slot = one_some here.0 slot (sym here.1 ∙ is) in subst (λ (x : Slot). Holds old new x (m.event ∷ [])) one (one_made old new goes here.0 call answer m here.2)),
+            (λ slot is same. let one : here.0 ≡ slot = one_some here.0 slot (sym here.1 ∙ is) in subst (λ (x : Slot). Holds old new x (m.event ∷ [])) one
+            (one_made old new goes here.0 call answer m here.2)),
         m.event,
         m.is_call,
         m.is_answer,

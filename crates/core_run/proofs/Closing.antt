@@ -72,7 +72,8 @@ module _ {D : Type 0} (E : Type 0) (view : D → DiskView) where
       lower zero less = quiet
       lower (suc other) less = closed.lower other (omega arith)
 
-  closed_from : (device : ℕ) (earlier failed : Option ℕ) (count : ℕ) (olds news : List (ShardView D)) (node later : Node) → Through (CloseTurn E view) (length olds) (device, earlier) olds news (count, failed)
+  closed_from : (device : ℕ) (earlier failed : Option ℕ) (count : ℕ) (olds news : List (ShardView D)) (node later : Node)
+      → Through (CloseTurn E view) (length olds) (device, earlier) olds news (count, failed)
       → Each (StandsOn view) olds node → Each (StandsOn view) news later → ClosedFrom device earlier failed (faults_of view (disks_served olds)) (faults_of view (disks_served news)) later
   closed_from device (Some first) failed count [] news node later through stands now = ap (λ (p : ℕ × Option ℕ). p.1) through.1
   closed_from device None failed count [] news node later through stands now =
@@ -97,7 +98,14 @@ module _ {D : Type 0} (E : Type 0) (view : D → DiskView) where
       by None (Err fault) flushes rest =
           let here : device ≡ device + 0 = omega arith in
           subst (λ (f : Option ℕ). ClosedFrom device None f (faults_of view (disks_served (old ∷ olds))) (faults_of view (disks_served (new ∷ news))) (last ∷ later)) (sym rest)
-          (record { place = 0; is_place = here; left = left_now new last now.0 flushes.left; rose = flush_rose fault old new slot.state stands.0.agrees flushes; lower = λ other less. absurd (omega arith) })
+          (record {
+            place = 0;
+            is_place = here;
+            left = left_now new last now.0 flushes.left;
+            rose = flush_rose fault old new slot.state stands.0.agrees flushes;
+            lower =
+                λ other less. absurd (omega arith);
+          })
 
   closed_so : (failed : Option ℕ) (before after : List ℕ) (node : Node) → ClosedFrom 0 None failed before after node → ClosedSo failed before after node
   closed_so None before after node closed = closed
@@ -106,7 +114,8 @@ module _ {D : Type 0} (E : Type 0) (view : D → DiskView) where
       let same : closed.place ≡ x = omega (arith, is) in
       subst (λ (n : ℕ). ClosedSo (Some n) before after node) same (closed.left, closed.rose, closed.lower)
 
-  module _ (is_disk : (disk : D) → IsDisk (view disk)) (olds news : List (ShardView D)) (count : ℕ) (failed : Option ℕ) (through : Through (CloseTurn E view) (length olds) (0, None) olds news (count, failed)) where
+  module _ (is_disk : (disk : D) → IsDisk (view disk)) (olds news : List (ShardView D)) (count : ℕ) (failed : Option ℕ)
+      (through : Through (CloseTurn E view) (length olds) (0, None) olds news (count, failed)) where
     abbrev Says : Node → Type 0
     Says = ClosedSo failed (faults_of view (disks_served olds)) (faults_of view (disks_served news))
 

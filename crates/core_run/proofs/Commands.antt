@@ -28,7 +28,8 @@ use Rattle.shard_core.specs.declared.refusals.WriteRefusal.{WriteRefusal}
 use Rattle.core_run.specs.Views.{serving, halted, disks_served, views_of, unknown, AreLater}
 use Rattle.core_run.specs.Standing.{Each, StandsOn, StandsSafelyOn, StandsFor, StandsSafely, Halts, HaltsSafely}
 use Rattle.core_run.specs.Calls.{digest_of, RepliesStored, RaidedExactly, Acts, Tends}
-use Rattle.core_run.specs.Turns.{GoesOn, RepliesTo, RepliesOn, TendTurn, Through, WorksEach, plus_one, plus_both, IsFlushed, FlushesOn, FlushesEach, IsDefragged, DefragsOn, DefragsEach, IsExpired, ExpiresOn, ExpiresAll, IsRaided, RaidsOn, RaidsEach}
+use Rattle.core_run.specs.Turns.{GoesOn, RepliesTo, RepliesOn, TendTurn, Through, WorksEach, plus_one, plus_both, IsFlushed, FlushesOn, FlushesEach}
+use Rattle.core_run.specs.Turns.{IsDefragged, DefragsOn, DefragsEach, IsExpired, ExpiresOn, ExpiresAll, IsRaided, RaidsOn, RaidsEach}
 use Rattle.core_run.proofs.Places.{events_of, nones, no_events}
 use Rattle.core_run.proofs.Making.{Made, slot_at, each_length, each_more, along_none}
 use Rattle.core_run.proofs.Acting.{Safely, over_any, over_safe, event_turn, flush_turns, defrag_turns, expire_turns, raid_turns, tend_turns}
@@ -50,8 +51,10 @@ within (x ∷ items) (suc place) item there = let less = within items place item
 module _ {D : Type 0} (view : D → DiskView) (is_disk : (disk : D) → IsDisk (view disk)) where
   -- ---- a command, whatever it is, by what it comes to from each state
 
-  module _ (olds news : List (ShardView D)) (c : Command) (now : ℕ) (r : Reply) (later : AreLater view (disks_served olds) (disks_served news)) (other : c ≢ command.Restart) (stored : RepliesStored view olds c now r)
-      (exact : c ≡ command.Raid → (removed cleared : ℕ) → r ≡ reply.Raided removed cleared → (node : Node) → Each (StandsSafelyOn view) olds node → RaidedExactly view now olds node news removed cleared)
+  module _ (olds news : List (ShardView D)) (c : Command) (now : ℕ) (r : Reply) (later : AreLater view (disks_served olds) (disks_served news)) (other : c ≢ command.Restart)
+      (stored : RepliesStored view olds c now r)
+      (exact : c ≡ command.Raid → (removed cleared : ℕ) → r ≡ reply.Raided removed cleared → (node : Node) → Each (StandsSafelyOn view) olds node
+      → RaidedExactly view now olds node news removed cleared)
       (any : (node : Node) → Each (StandsOn view) olds node → ActsFrom (StandsFor view) unknown (Halts view) false (serving olds) node c now r (serving news))
       (safe : (node : Node) → Each (StandsSafelyOn view) olds node → ActsFrom (StandsSafely view) (views_of view) (HaltsSafely view) true (serving olds) node c now r (serving news)) where
     pub acts_serving : Acts view (serving olds) c now r (serving news)
@@ -82,8 +85,10 @@ module _ {D : Type 0} (view : D → DiskView) (is_disk : (disk : D) → IsDisk (
     later : AreLater view (disks_served olds) (disks_served News)
     later = later_at view is_disk olds Place old new at goes.later
 
-    module _ (call : Call) (c : Command) (now : ℕ) (r : Reply) (replies : RepliesTo view call old r new) (other : c ≢ command.Restart) (none : c ≢ command.Raid) (stored : RepliesStored view olds c now r)
-        (does : (node : Node) (event : Event) (work : List NodeEvent) → work ≡ on_device (device_number (length node) digest) event ∷ [] → event.call ≡ call → r ≡ answer_reply event.answer → Does node c now work r) where
+    module _ (call : Call) (c : Command) (now : ℕ) (r : Reply) (replies : RepliesTo view call old r new) (other : c ≢ command.Restart) (none : c ≢ command.Raid)
+        (stored : RepliesStored view olds c now r)
+        (does : (node : Node) (event : Event) (work : List NodeEvent) → work ≡ on_device (device_number (length node) digest) event ∷ [] → event.call ≡ call → r ≡ answer_reply event.answer
+        → Does node c now work r) where
       at_node : (node : Node) (event : Event) (work : List NodeEvent) → length node ≡ length olds → work ≡ on_device Place event ∷ [] → work ≡ on_device (device_number (length node) digest) event ∷ []
       at_node node event work same is = is ∙ ap (λ (n : ℕ). on_device (device_number n digest) event ∷ []) (sym same)
 
@@ -125,7 +130,8 @@ module _ {D : Type 0} (view : D → DiskView) (is_disk : (disk : D) → IsDisk (
           acts_any view olds olds node (nones (length olds)) (along_none (Made false (StandsOn view)) (StandsOn view) (over_any view).rests olds node stands) (command.Meta digest) now r
           (no_events (length olds), told node stands) (goes_on node stands)
 
-      know_safe : (node : Node) → Each (StandsSafelyOn view) olds node → ActsFrom (StandsSafely view) (views_of view) (HaltsSafely view) true (serving olds) node (command.Meta digest) now r (serving olds)
+      know_safe : (node : Node) → Each (StandsSafelyOn view) olds node
+          → ActsFrom (StandsSafely view) (views_of view) (HaltsSafely view) true (serving olds) node (command.Meta digest) now r (serving olds)
       know_safe node stands =
           let plain = each_more (StandsSafelyOn view) (StandsOn view) (λ shard slot s. s.stands) olds node stands in
           acts_safe view olds olds node (nones (length olds)) (along_none (Safely view) (StandsSafelyOn view) (over_safe view is_disk).rests olds node stands) (command.Meta digest) now r
@@ -139,7 +145,8 @@ module _ {D : Type 0} (view : D → DiskView) (is_disk : (disk : D) → IsDisk (
     by_command (command.Put d ttl expect payload) now r on replies =
         let same : d ≡ digest = one_digest d digest on in
         subst (λ (x : Digest). Acts view (serving olds) (command.Put x ttl expect payload) now r (serving News)) (sym same)
-        (event_acts (put_call digest ttl expect payload now) (command.Put digest ttl expect payload) now r (subst (λ (x : Digest). RepliesTo view (put_call x ttl expect payload now) old r new) same replies)
+        (event_acts (put_call digest ttl expect payload now) (command.Put digest ttl expect payload) now r
+        (subst (λ (x : Digest). RepliesTo view (put_call x ttl expect payload now) old r new) same replies)
         (λ is. cc) (λ is. cc) tt (λ node event work at is_call given. (event, at, is_call, given)))
     by_command (command.Get d) now r on replies =
         let same : d ≡ digest = one_digest d digest on in
@@ -170,7 +177,8 @@ module _ {D : Type 0} (view : D → DiskView) (is_disk : (disk : D) → IsDisk (
     by_command command.Restart now r on replies = cc
     by_command command.Quit now r on replies = cc
 
-  pub digest_acts : (olds : List (ShardView D)) (place : ℕ) (digest : Digest) (old new : ShardView D) → place ≡ device_number (length olds) digest → slice_get olds place ≡ Some old → GoesOn view old new
+  pub digest_acts : (olds : List (ShardView D)) (place : ℕ) (digest : Digest) (old new : ShardView D) → place ≡ device_number (length olds) digest
+      → slice_get olds place ≡ Some old → GoesOn view old new
       → (c : Command) (now : ℕ) (r : Reply) → digest_of c ≡ Some digest → RepliesOn view old c now r new → Acts view (serving olds) c now r (serving (set olds place new))
   digest_acts olds place digest old new is at goes c now r on replies =
       subst (λ (n : ℕ). Acts view (serving olds) c now r (serving (set olds n new))) (sym is)
@@ -234,7 +242,8 @@ module _ {D : Type 0} (view : D → DiskView) (is_disk : (disk : D) → IsDisk (
       let m = raids.makes slot.state stands.0.stands.agrees in
       let rest = each_exact now sums (plus_both a one) olds news node more stands.1 in
       let here : (AreSure old.shelf.gates → RaidsExactly slot.setup now slot.state (possible_copies view old.shelf slot.state) one.0 one.1 (after_events (setup_of old) m.events slot.state)) =
-      λ sure. subst (λ (x : Setup). RaidsExactly x now slot.state (possible_copies view old.shelf slot.state) one.0 one.1 (after_events (setup_of old) m.events slot.state)) (sym stands.0.stands.setup_is)
+      λ sure. subst (λ (x : Setup). RaidsExactly x now slot.state (possible_copies view old.shelf slot.state) one.0 one.1 (after_events (setup_of old) m.events slot.state))
+      (sym stands.0.stands.setup_is)
       (m.works.3 sure stands.0.honest stands.0.safe) in (
         (one.0 + rest.0.0, one.1 + rest.0.1),
         omega (arith, rest.1),
@@ -242,7 +251,8 @@ module _ {D : Type 0} (view : D → DiskView) (is_disk : (disk : D) → IsDisk (
         (one.0, one.1, rest.0, refl, refl, (after_events (setup_of old) m.events slot.state, m.stands, here), rest.3),
       )
 
-  raid_exact_each : (result : Result (ℕ × ℕ) LineFault) (olds news : List (ShardView D)) (now : ℕ) (r : Reply) → RaidsEach view now result olds news → ((outcome : Outcome) → IsRaided result outcome → r ≡ raided_reply outcome)
+  raid_exact_each : (result : Result (ℕ × ℕ) LineFault) (olds news : List (ShardView D)) (now : ℕ) (r : Reply) → RaidsEach view now result olds news
+      → ((outcome : Outcome) → IsRaided result outcome → r ≡ raided_reply outcome)
       → (removed cleared : ℕ) → r ≡ reply.Raided removed cleared → (node : Node) → Each (StandsSafelyOn view) olds node → RaidedExactly view now olds node news removed cleared
   raid_exact_each (Ok sums) olds news now r each is removed cleared told node stands =
       let all = each_exact now sums (0, 0) olds news node each stands in
@@ -260,7 +270,8 @@ module _ {D : Type 0} (view : D → DiskView) (is_disk : (disk : D) → IsDisk (
   pub raid_acts : (result : Result (ℕ × ℕ) LineFault) (olds news : List (ShardView D)) (now : ℕ) (r : Reply) → RaidsEach view now result olds news
       → ((outcome : Outcome) → IsRaided result outcome → r ≡ raided_reply outcome) → Acts view (serving olds) command.Raid now r (serving news)
   raid_acts result olds news now r each is =
-      acts_serving olds news command.Raid now r (work_later (RaidsOn view now) plus_both (λ done old new does. does.goes) result (0, 0) olds news each) (λ e. cc) tt (λ e. raid_exact_each result olds news now r each is)
+      acts_serving olds news command.Raid now r (work_later (RaidsOn view now) plus_both (λ done old new does. does.goes) result (0, 0) olds news each) (λ e. cc) tt
+      (λ e. raid_exact_each result olds news now r each is)
       (λ node stands.
       let t = raid_turns view (StandsOn view) (Made false (StandsOn view)) (over_any view) now result olds news node each stands in
       acts_any view olds news node t.0 t.1 command.Raid now r (t.2.0, t.2.2, is t.2.0 t.2.1) (λ h. raided_goes_on t.2.0 (sym (is t.2.0 t.2.1) ∙ h)))

@@ -57,7 +57,13 @@ module _ (setup : Setup) (n : ℕ) (s : State) where
       unfolding left
       one_vacated x vacates = λ rest outcome goes.
           subst (λ (l : List Event). VacatesUpTo setup n s 0 0 l outcome) (sym (append_assoc events mine rest))
-          (goes_so (mine ++ rest) outcome (mine, rest, refl, inr (inl (x, vacates, subst (λ (t : State). VacatesUpTo setup left t (moved + x) (vacated + 1) rest outcome) (after_all setup events mine s) goes))))
+          (goes_so (mine ++ rest) outcome (
+            mine,
+            rest,
+            refl,
+            inr
+                (inl (x, vacates, subst (λ (t : State). VacatesUpTo setup left t (moved + x) (vacated + 1) rest outcome) (after_all setup events mine s) goes)),
+          ))
 
 -- ---- what a device makes of it
 
@@ -98,7 +104,8 @@ module _ {D : Type 0} (view : D → DiskView) where
       defrag_more one makes = λ s agrees same.
           let m = far s agrees same in
           let then = makes (after_events (setup_of old) m.events s) m.stands in
-          makes_then old mid new s (IsSoFar (setup_of old) queued s moved vacated) (IsVacating mid (after_events (setup_of old) m.events s) (Ok (Some one))) (IsSoFar (setup_of old) queued s (moved + one.moved) (vacated + 1)) goes m then
+          makes_then old mid new s (IsSoFar (setup_of old) queued s moved vacated) (IsVacating mid (after_events (setup_of old) m.events s) (Ok (Some one)))
+          (IsSoFar (setup_of old) queued s (moved + one.moved) (vacated + 1)) goes m then
           (one_vacated (setup_of old) queued s moved vacated m.events m.works then.events more one.moved (by_old (after_events (setup_of old) m.events s) then.events (did one.moved 1) then.works.1))
 
       -- nothing waits any more
@@ -107,7 +114,8 @@ module _ {D : Type 0} (view : D → DiskView) where
       defrag_none makes s agrees same =
           let m = far s agrees same in
           let then = makes (after_events (setup_of old) m.events s) m.stands in
-          makes_then old mid new s (IsSoFar (setup_of old) queued s moved vacated) (IsVacating mid (after_events (setup_of old) m.events s) (Ok None)) (IsDefrag old s (Ok (moved, vacated))) goes m then (
+          makes_then old mid new s (IsSoFar (setup_of old) queued s moved vacated) (IsVacating mid (after_events (setup_of old) m.events s) (Ok None))
+          (IsDefrag old s (Ok (moved, vacated))) goes m then (
             did moved vacated,
             refl,
             subst (λ (n : ℕ). VacatesUpTo (setup_of old) n s 0 0 (m.events ++ then.events) (did moved vacated)) same
@@ -115,15 +123,18 @@ module _ {D : Type 0} (view : D → DiskView) where
           )
 
       -- the next was refused
-      pub defrag_refused : (refusal : DefragRefusal) → ((t : State) → Agrees mid t → MakesEvents view (IsVacating mid t (Err refusal)) mid t new) → (s : State) → Agrees old s → queued ≡ length s.book.queue
+      pub defrag_refused : (refusal : DefragRefusal) → ((t : State) → Agrees mid t → MakesEvents view (IsVacating mid t (Err refusal)) mid t new) → (s : State) → Agrees old s
+          → queued ≡ length s.book.queue
           → MakesEvents view (IsDefrag old s (Err refusal.cause)) old s new
       defrag_refused refusal makes s agrees same =
           let m = far s agrees same in
           let then = makes (after_events (setup_of old) m.events s) m.stands in
           let cause = then.works.0 in
-          makes_then old mid new s (IsSoFar (setup_of old) queued s moved vacated) (IsVacating mid (after_events (setup_of old) m.events s) (Err refusal)) (IsDefrag old s (Err refusal.cause)) goes m then (
+          makes_then old mid new s (IsSoFar (setup_of old) queued s moved vacated) (IsVacating mid (after_events (setup_of old) m.events s) (Err refusal))
+          (IsDefrag old s (Err refusal.cause)) goes m then (
             stopped cause,
             (cause, then.works.1, refl),
             subst (λ (n : ℕ). VacatesUpTo (setup_of old) n s 0 0 (m.events ++ then.events) (stopped cause)) same
-                (vacating_stopped (setup_of old) queued s moved vacated m.events m.works then.events more cause (by_old (after_events (setup_of old) m.events s) then.events (stopped cause) then.works.3)),
+                (vacating_stopped (setup_of old) queued s moved vacated m.events m.works then.events more cause
+                (by_old (after_events (setup_of old) m.events s) then.events (stopped cause) then.works.3)),
           )

@@ -32,7 +32,8 @@ use Rattle.core_run.proofs.Defragging.{makes_then}
 -- ---- by the model alone
 
 -- an event that names a part names no other
-named_other : (setup : Setup) (now part other : ℕ) (event : Event) → part ≢ other → (d : Digest) × (event.call ≡ expire_call d now) × (part_of setup d ≡ part) → part_named setup event.call ≢ Some other
+named_other : (setup : Setup) (now part other : ℕ) (event : Event) → part ≢ other → (d : Digest) × (event.call ≡ expire_call d now) × (part_of setup d ≡ part)
+    → part_named setup event.call ≢ Some other
 named_other setup now part other event apart named is =
     let one : Some part ≡ Some other = ap Some (sym named.2) ∙ ap (part_named setup) (sym named.1) ∙ is in
     let same : part ≡ other = cc in
@@ -48,7 +49,8 @@ module _ (setup : Setup) (now : ℕ) (s : State) where
   none_expired = record { expires = (refl, refl); others = λ other le below. refl }
 
   -- all are those below the last
-  pub whole : (total : ℕ) → AllByRecursion (λ d. part_of setup d < total) (digests_of s.log) → (events : List Event) (outcome : Outcome) → ExpiresEach now (expired_below setup now total s) 0 events outcome
+  pub whole : (total : ℕ) → AllByRecursion (λ d. part_of setup d < total) (digests_of s.log) → (events : List Event) (outcome : Outcome)
+      → ExpiresEach now (expired_below setup now total s) 0 events outcome
       → ExpiresEach now (expired_entries setup now s) 0 events outcome
   whole total below events outcome expires = subst (λ (ds : List Digest). ExpiresEach now ds 0 events outcome) (sym (expired_in_turn setup now total s below)) expires
 
@@ -59,7 +61,8 @@ module _ (setup : Setup) (now : ℕ) (s : State) where
 
     -- the part's too
     pub one_more : (n : ℕ) → ExpiresEach now (expired_in setup now part (after_events setup events s)) 0 mine (did n 0)
-        → ((other : ℕ) → part ≢ other → other < part_total setup → expired_in setup now other (after_events setup mine (after_events setup events s)) ≡ expired_in setup now other (after_events setup events s))
+        → ((other : ℕ) → part ≢ other → other < part_total setup
+        → expired_in setup now other (after_events setup mine (after_events setup events s)) ≡ expired_in setup now other (after_events setup events s))
         → HaveExpired (part + 1) (removed + n) (events ++ mine)
     one_more n expires stay =
         let next : suc part ≡ part + 1 = omega arith in
@@ -67,7 +70,8 @@ module _ (setup : Setup) (now : ℕ) (s : State) where
         record {
           expires = subst (λ (p : ℕ). ExpiresEach now (expired_below setup now p s) 0 (events ++ mine) (did (removed + n) 0)) next
               (then_others now (expired_below setup now part s) (expired_in setup now part s) 0 removed 0 events mine (did (removed + n) 0) far.expires
-              (subst (λ (k : ℕ). ExpiresEach now (expired_in setup now part s) k mine (did (removed + n) 0)) from (behind now removed (expired_in setup now part s) 0 mine (did n 0) (at_first (did n 0) expires))));
+              (subst (λ (k : ℕ). ExpiresEach now (expired_in setup now part s) k mine (did (removed + n) 0)) from
+              (behind now removed (expired_in setup now part s) 0 mine (did n 0) (at_first (did n 0) expires))));
           others = λ other le below.
               ap (expired_in setup now other) (after_all setup events mine s)
               ∙ stay other (λ same. absurd (omega (arith, same, le))) below
@@ -75,14 +79,16 @@ module _ (setup : Setup) (now : ℕ) (s : State) where
         }
 
     -- or one was refused, and those behind it weren't come to
-    pub one_refused : (cause : Cause) (total : ℕ) → part + 1 ≤ total → ExpiresEach now (expired_in setup now part (after_events setup events s)) 0 mine (stopped cause) → ExpiresEach now (expired_below setup now total s) 0 (events ++ mine) (stopped cause)
+    pub one_refused : (cause : Cause) (total : ℕ) → part + 1 ≤ total → ExpiresEach now (expired_in setup now part (after_events setup events s)) 0 mine (stopped cause)
+        → ExpiresEach now (expired_below setup now total s) 0 (events ++ mine) (stopped cause)
     one_refused cause total within expires =
         let front = first_parts setup (λ d. entry_passes (is_expired_put now) (entry s d)) (suc part) total (digests_of s.log) (omega (arith, within)) in
         let from : removed + 0 ≡ removed = omega arith in
         subst (λ (ds : List Digest). ExpiresEach now ds 0 (events ++ mine) (stopped cause)) (sym front.1)
         (not_come_to now (expired_below setup now (suc part) s) front.0 0 (events ++ mine) cause
         (then_others now (expired_below setup now part s) (expired_in setup now part s) 0 removed 0 events mine (stopped cause) far.expires
-        (subst (λ (k : ℕ). ExpiresEach now (expired_in setup now part s) k mine (stopped cause)) from (behind now removed (expired_in setup now part s) 0 mine (stopped cause) (at_first (stopped cause) expires)))))
+        (subst (λ (k : ℕ). ExpiresEach now (expired_in setup now part s) k mine (stopped cause)) from
+        (behind now removed (expired_in setup now part s) 0 mine (stopped cause) (at_first (stopped cause) expires)))))
 
 -- ---- what a device makes of it
 
@@ -112,19 +118,24 @@ module _ {D : Type 0} (view : D → DiskView) (now : ℕ) where
 
     module _ (new : ShardView D) (there : part < part_total (setup_of old)) where
       -- what a removal is by the setup at the start
-      by_old : (t : State) (events : List Event) (outcome : Outcome) → ExpiresEach now (expired_in (setup_of mid) now part t) 0 events outcome → ExpiresEach now (expired_in (setup_of old) now part t) 0 events outcome
+      by_old : (t : State) (events : List Event) (outcome : Outcome) → ExpiresEach now (expired_in (setup_of mid) now part t) 0 events outcome
+          → ExpiresEach now (expired_in (setup_of old) now part t) 0 events outcome
       by_old t events outcome expires = subst (λ (setup : Setup). ExpiresEach now (expired_in setup now part t) 0 events outcome) (setups_same view old mid goes) expires
 
       -- and the other parts stay
-      others_stay : (t : State) (outcome : Outcome) (Work : List Event → Type 0) → Agrees mid t → (then : MakesEvents view Work mid t new) → ExpiresEach now (expired_in (setup_of mid) now part t) 0 then.events outcome
+      others_stay : (t : State) (outcome : Outcome) (Work : List Event → Type 0) → Agrees mid t → (then : MakesEvents view Work mid t new)
+          → ExpiresEach now (expired_in (setup_of mid) now part t) 0 then.events outcome
           → (other : ℕ) → part ≢ other → other < part_total (setup_of old) → expired_in (setup_of old) now other (after_events (setup_of old) then.events t) ≡ expired_in (setup_of old) now other t
       others_stay t outcome Work agrees then expires other apart below =
           let same = setups_same view old mid goes in
           let test : Digest → Bool = λ d. entry_passes (is_expired_put now) (entry t d) in
-          let named = calls_are now (λ d. part_of (setup_of mid) d ≡ part) (expired_in (setup_of mid) now part t) 0 then.events outcome (of_one_part (setup_of mid) test part (digests_of t.log)) expires in
-          let each = all_map (λ e. (d : Digest) × (e.call ≡ expire_call d now) × (part_of (setup_of mid) d ≡ part)) (λ e. part_named (setup_of mid) e.call ≢ Some other) then.events (λ e is. named_other (setup_of mid) now part other e apart is) named in
+          let named = calls_are now (λ d. part_of (setup_of mid) d ≡ part) (expired_in (setup_of mid) now part t) 0 then.events outcome
+          (of_one_part (setup_of mid) test part (digests_of t.log)) expires in
+          let each = all_map (λ e. (d : Digest) × (e.call ≡ expire_call d now) × (part_of (setup_of mid) d ≡ part)) (λ e. part_named (setup_of mid) e.call ≢ Some other) then.events
+          (λ e is. named_other (setup_of mid) now part other e apart is) named in
           subst (λ (setup : Setup). expired_in setup now other (after_events setup then.events t) ≡ expired_in setup now other t) same
-          (expired_stay (setup_of mid) other false now t (view mid.shelf.disk).faults then.events mid.sprigs (subst (λ (setup : Setup). other < part_total setup) (sym same) below) each then.legal agrees.sprigs)
+          (expired_stay (setup_of mid) other false now t (view mid.shelf.disk).faults then.events mid.sprigs
+          (subst (λ (setup : Setup). other < part_total setup) (sym same) below) each then.legal agrees.sprigs)
 
       -- the part's entries were removed
       pub expiry_more : (n : ℕ) → ((t : State) → Agrees mid t → MakesEvents view (IsExpiring mid part now t (Ok n)) mid t new) → ExpiredSoFar (part + 1) (removed + n) old new
@@ -137,8 +148,10 @@ module _ {D : Type 0} (view : D → DiskView) (now : ℕ) where
           (others_stay t (did n 0) (IsExpiring mid part now t (Ok n)) m.stands then then.works))
 
       -- one was refused
-      pub expiry_refused : (total : ℕ) → part + 1 ≤ total → ((digest : Digest) → device_number (setup_of old).devices digest ≡ (setup_of old).device → part_of (setup_of old) digest < total) → (refusal : ExpireRefusal)
-          → ((t : State) → Agrees mid t → MakesEvents view (IsExpiring mid part now t (Err refusal)) mid t new) → (s : State) → Agrees old s → MakesEvents view (IsExpiry old now s (Err refusal.cause)) old s new
+      pub expiry_refused : (total : ℕ) → part + 1 ≤ total → ((digest : Digest) → device_number (setup_of old).devices digest ≡ (setup_of old).device → part_of (setup_of old) digest < total)
+          → (refusal : ExpireRefusal)
+          → ((t : State) → Agrees mid t → MakesEvents view (IsExpiring mid part now t (Err refusal)) mid t new) → (s : State) → Agrees old s
+          → MakesEvents view (IsExpiry old now s (Err refusal.cause)) old s new
       expiry_refused total within each refusal makes s agrees =
           let m = far s agrees in
           let t = after_events (setup_of old) m.events s in

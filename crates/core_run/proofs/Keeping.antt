@@ -38,8 +38,13 @@ module _ {D : Type 0} where
   devices_kept : (set : Settings) (device devices : ℕ) (olds news : List (ShardView D)) → SameEach olds news → AreDevices set device devices olds → AreDevices set device devices news
   devices_kept set device devices [] news same are = subst (AreDevices set device devices) (sym same) tt
   devices_kept set device devices (old ∷ olds) [] same are = absurd same
-  devices_kept set device devices (old ∷ olds) (new ∷ news) same are =
-      (same.0.set ∙ are.0, ap (λ (g : Geometry). g.device) same.0.geometry ∙ are.1, ap (λ (g : Geometry). g.devices) same.0.geometry ∙ are.2, devices_kept set (device + 1) devices olds news same.1 are.3)
+  devices_kept set device devices (old ∷ olds) (new ∷ news) same are = (
+    same.0.set ∙ are.0,
+    ap (λ (g : Geometry). g.device) same.0.geometry ∙ are.1,
+    ap (λ (g : Geometry). g.devices) same.0.geometry
+        ∙ are.2,
+    devices_kept set (device + 1) devices olds news same.1 are.3,
+  )
 
   none_kept : (olds news : List (ShardView D)) → SameEach olds news → olds ≡ [] → news ≡ []
   none_kept [] news same none = same
@@ -70,7 +75,8 @@ module _ {D : Type 0} where
   node_serves set a b shards None disks none is = λ i. record { shards = shards; refused = None; disks = is.1.0 i }
   node_serves set a b shards (Some why) disks none is = cc
 
-  pub node_halts : (set : Settings) (a b : ℕ) (shards : List (ShardView D)) (refused : Option (ℕ × StartCause)) (disks : List D) (why : ℕ × StartCause) → refused ≡ Some why → IsNode set a b (seen_so shards refused disks)
+  pub node_halts : (set : Settings) (a b : ℕ) (shards : List (ShardView D)) (refused : Option (ℕ × StartCause)) (disks : List D) (why : ℕ × StartCause) → refused ≡ Some why
+      → IsNode set a b (seen_so shards refused disks)
       → seen_so shards refused disks ≡ halted why disks
   node_halts set a b shards None disks why some is = cc
   node_halts set a b shards (Some other) disks why some is = λ i. record { shards = is.1.0 i; refused = some i; disks = disks }
@@ -83,7 +89,8 @@ module _ {D : Type 0} where
   same_through Turn each a b (old ∷ olds) [] through = absurd through
   same_through Turn each a b (old ∷ olds) (new ∷ news) through = (each a old new through.0 through.1, same_through Turn each through.0 b olds news through.2)
 
-  pub same_worked : {R E : Type 0} (Does : Result R E → ShardView D → ShardView D → Type 0) (plus : R → R → R) → ((result : Result R E) (old new : ShardView D) → Does result old new → SameSetup old new)
+  pub same_worked : {R E : Type 0} (Does : Result R E → ShardView D → ShardView D → Type 0) (plus : R → R → R)
+      → ((result : Result R E) (old new : ShardView D) → Does result old new → SameSetup old new)
       → (result : Result R E) (a : R) (olds news : List (ShardView D)) → WorksEach Does plus result a olds news → SameEach olds news
   same_worked Does plus one (Ok sum) a [] news each = each.0
   same_worked Does plus one (Err why) a [] news each = absurd each
@@ -112,7 +119,8 @@ module _ {D : Type 0} where
       (more.0 ∙ further, more.1)
 
 -- a tending, whether the node serves or halted
-pub tends_so : {D : Type 0} {A : Type 0} (view : D → DiskView) → ((disk : D) → IsDisk (view disk)) → (set : Settings) (a b : ℕ) (olds news : List (ShardView D)) (refused : Option (ℕ × StartCause)) (disks : List D) (x y : A)
+pub tends_so : {D : Type 0} {A : Type 0} (view : D → DiskView) → ((disk : D) → IsDisk (view disk))
+    → (set : Settings) (a b : ℕ) (olds news : List (ShardView D)) (refused : Option (ℕ × StartCause)) (disks : List D) (x y : A)
     → IsNode set a b (seen_so olds refused disks) → Through (TendTurn view) (length olds) x olds news y → Tends view (seen_so olds refused disks) (seen_so news refused disks)
 tends_so {D} {A} view is_disk set a b olds news refused disks x y is through = by refused refl
   where
@@ -161,7 +169,8 @@ module _ {D : Type 0} (set : Settings) (a b : ℕ) (shards : List (ShardView D))
   pub devices_of : refused ≡ None → IsNode set a b (seen_so shards refused disks) → (1 ≤ length shards) × (length shards ≤ 16) × (length shards ≤ b) × AreDevices set 0 (length shards) shards
   devices_of none is = by refused none is
     where
-      by : (r : Option (ℕ × StartCause)) → r ≡ None → IsNode set a b (seen_so shards r disks) → (1 ≤ length shards) × (length shards ≤ 16) × (length shards ≤ b) × AreDevices set 0 (length shards) shards
+      by : (r : Option (ℕ × StartCause)) → r ≡ None → IsNode set a b (seen_so shards r disks) → (1 ≤ length shards) × (length shards ≤ 16) × (length shards ≤ b)
+          × AreDevices set 0 (length shards) shards
       by None none is = (is.1.1, is.1.2, is.1.3, is.1.4)
       by (Some why) none is = cc
 
@@ -174,7 +183,8 @@ is_there None told is some = let e : false ≡ true = sym is ∙ some in cc
 is_there (Some x) told is some = (x, refl)
 
 -- a command of a node that serves before it and after it
-pub acts_so : {D : Type 0} (view : D → DiskView) (set : Settings) (a b : ℕ) (olds news : List (ShardView D)) (refused : Option (ℕ × StartCause)) (disks : List D) (self : NodeView D) (c : Command) (now : ℕ) (r : Reply)
+pub acts_so : {D : Type 0} (view : D → DiskView) (set : Settings) (a b : ℕ) (olds news : List (ShardView D)) (refused : Option (ℕ × StartCause)) (disks : List D) (self : NodeView D)
+    (c : Command) (now : ℕ) (r : Reply)
     → IsNode set a b (seen_so olds refused disks) → refused ≡ None → SameEach olds news → seen_so olds refused disks ≡ self → Acts view (serving olds) c now r (serving news)
     → Acts view self c now r (seen_so news refused disks)
 acts_so {D} view set a b olds news refused disks self c now r is none same seen acts =
@@ -189,9 +199,11 @@ items_are shards news same = with_items_is shards news (same_length shards.items
 module _ {D : Type 0} (set : Settings) (b : ℕ) (shards : Vec (ShardView D) Global) (news : List (ShardView D)) (refused : Option (ℕ × StartCause)) (disks : List D) (same : SameEach shards.items news)
     (is : IsNode set (vec_capacity shards) b (seen_so shards.items refused disks)) where
   pub all_kept : IsNode set (vec_capacity shards) b (seen_so (with_items shards news).items refused disks)
-  all_kept = subst (λ (s : List (ShardView D)). IsNode set (vec_capacity shards) b (seen_so s refused disks)) (sym (items_are shards news same)) (node_kept set (vec_capacity shards) b shards.items news refused disks same is)
+  all_kept = subst (λ (s : List (ShardView D)). IsNode set (vec_capacity shards) b (seen_so s refused disks)) (sym (items_are shards news same))
+      (node_kept set (vec_capacity shards) b shards.items news refused disks same is)
 
-  pub all_act : refused ≡ None → (view : D → DiskView) (self : NodeView D) (c d : Command) (now : ℕ) (r : Reply) → seen_so shards.items refused disks ≡ self → c ≡ d → Acts view (serving shards.items) d now r (serving news)
+  pub all_act : refused ≡ None → (view : D → DiskView) (self : NodeView D) (c d : Command) (now : ℕ) (r : Reply) → seen_so shards.items refused disks ≡ self → c ≡ d
+      → Acts view (serving shards.items) d now r (serving news)
       → Acts view self c now r (seen_so (with_items shards news).items refused disks)
   all_act none view self c d now r seen named acts =
       subst (λ (x : Command). Acts view self x now r (seen_so (with_items shards news).items refused disks)) (sym named)

@@ -6,7 +6,8 @@ use Rattle.core_run.specs.Turns.{Through, WorkTurn, WorksEach, first_failed}
 
 module _ {A S : Type 0} (Turn : A → S → S → A → Type 0) where
   -- the next element takes its turn
-  pub through_step : (k : ℕ) (a : A) (olds mid : List S) (b : A) (d x : S) (c : A) → Through Turn k a olds mid b → k < length mid → Turn b (get_or mid k d) x c → Through Turn (suc k) a olds (set mid k x) c
+  pub through_step : (k : ℕ) (a : A) (olds mid : List S) (b : A) (d x : S) (c : A) → Through Turn k a olds mid b → k < length mid → Turn b (get_or mid k d) x c
+      → Through Turn (suc k) a olds (set mid k x) c
   through_step zero a [] mid b d x c through there turn = let none : length mid ≡ 0 = ap length through.0 in absurd (omega (arith, none))
   through_step zero a (o ∷ olds) [] b d x c through there turn = absurd (omega arith)
   through_step zero a (o ∷ olds) (m ∷ mid) b d x c through there turn =
@@ -31,7 +32,8 @@ module _ {A S : Type 0} (Turn : A → S → S → A → Type 0) where
   through_within (suc k) a (o ∷ olds) (x ∷ news) b through = let less = through_within k through.0 olds news b through.2 in omega (arith, less)
 
   -- and it is the next by its index
-  pub through_next : (k : ℕ) (a : A) (olds mid : List S) (b : A) (d x : S) (c : A) → Through Turn k a olds mid b → k < length mid → Turn b (get_or mid k d) x c → Through Turn (k + 1) a olds (set mid k x) c
+  pub through_next : (k : ℕ) (a : A) (olds mid : List S) (b : A) (d x : S) (c : A) → Through Turn k a olds mid b → k < length mid → Turn b (get_or mid k d) x c
+      → Through Turn (k + 1) a olds (set mid k x) c
   through_next k a olds mid b d x c through there turn =
       let next : suc k ≡ k + 1 = omega arith in subst (λ (n : ℕ). Through Turn n a olds (set mid k x) c) next (through_step k a olds mid b d x c through there turn)
 

@@ -28,7 +28,8 @@ nothing_left old new node states = λ device. record {
 }
 
 -- each image that the disk of a safe device may leave survives its state
-pub safe_survives : {D : Type 0} (view : D → DiskView) (shard : ShardView D) (s : State) → IsSafe view shard s → (image : List ℕ) → (view shard.shelf.disk).may_leave image → Survives (setup_of shard) s image
+pub safe_survives : {D : Type 0} (view : D → DiskView) (shard : ShardView D) (s : State) → IsSafe view shard s → (image : List ℕ) → (view shard.shelf.disk).may_leave image
+    → Survives (setup_of shard) s image
 safe_survives view shard s safe image left =
     held_survives (setup_of shard) shard.shelf.geometry s (records_of shard.shelf.buffers) (gate_at shard.shelf.gates) (view shard.shelf.disk).may_leave safe.safe.held image left
 

@@ -49,7 +49,8 @@ module _ {D : Type 0} (view : D → DiskView) (is_disk : (disk : D) → IsDisk (
       (subst (λ (s : ShardView D). IsLater (view s.shelf.disk) (view new.shelf.disk)) (sym same) later, later_same (disks_served shards))
   later_at (shard ∷ shards) (suc place) old new there later = (later_none view shard.shelf.disk (is_disk shard.shelf.disk), later_at shards place old new there later)
 
-pub later_through : {D A : Type 0} (view : D → DiskView) (Turn : A → ShardView D → ShardView D → A → Type 0) → ((a : A) (old new : ShardView D) (b : A) → Turn a old new b → IsLater (view old.shelf.disk) (view new.shelf.disk))
+pub later_through : {D A : Type 0} (view : D → DiskView) (Turn : A → ShardView D → ShardView D → A → Type 0)
+    → ((a : A) (old new : ShardView D) (b : A) → Turn a old new b → IsLater (view old.shelf.disk) (view new.shelf.disk))
     → (a b : A) (olds news : List (ShardView D)) → Through Turn (length olds) a olds news b → AreLater view (disks_served olds) (disks_served news)
 later_through view Turn each a b [] news through = ap disks_served through.0
 later_through view Turn each a b (old ∷ olds) [] through = absurd through
@@ -105,7 +106,8 @@ module _ {D : Type 0} (view : D → DiskView) (olds news : List (ShardView D)) (
     left : LeavesEach (views_of view) node (λ device. states_while device Work node) (serving olds) (serving news)
     left = along_left view olds news node mines (along_both (Made true (StandsSafelyOn view)) (LeftOn view) olds news node mines along).1
 
-    pub acts_safe : (c : Command) (now : ℕ) (r : Reply) → Does node c now Work r → r ≢ reply.Halted → ActsFrom (StandsSafely view) (views_of view) (HaltsSafely view) true (serving olds) node c now r (serving news)
+    pub acts_safe : (c : Command) (now : ℕ) (r : Reply) → Does node c now Work r → r ≢ reply.Halted
+        → ActsFrom (StandsSafely view) (views_of view) (HaltsSafely view) true (serving olds) node c now r (serving news)
     acts_safe c now r does goes = record {
       work = Work;
       restarted = None;

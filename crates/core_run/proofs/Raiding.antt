@@ -94,7 +94,8 @@ ended_turn setup part s = over (marked_in setup part s) s
     over [] t = refl
     over (d ∷ ds) t = over ds (after_step setup (drop_step s d) t)
 
-drops_on : (setup : Setup) (told : Bool) (s : State) (event : Event) (number part now : ℕ) → s.raid.next ≡ drop_turn part → Allowed setup told s event (turn_call number (drop_turn part) now) → IsBefore (after_event setup event s).raid.next → ⊥
+drops_on : (setup : Setup) (told : Bool) (s : State) (event : Event) (number part now : ℕ) → s.raid.next ≡ drop_turn part → Allowed setup told s event (turn_call number (drop_turn part) now)
+    → IsBefore (after_event setup event s).raid.next → ⊥
 drops_on setup told s event number part now at allowed = by ((number == s.raid.number) && same_turn (drop_turn part) s.raid.next) allowed
   where
     by : (b : Bool) → MatchBool b (TurnEnds setup told s event (drop_turn part) now) (Only event (refused (stale s.raid.number s.raid.next))) → IsBefore (after_event setup event s).raid.next → ⊥
@@ -102,7 +103,8 @@ drops_on setup told s event number part now at allowed = by ((number == s.raid.n
     by false only before = subst IsBefore (ap (λ l. (after_steps setup l s).raid.next) only.1 ∙ at) before
 
 -- the last event of a turn that is refused isn't of a raid that is over
-not_over : (setup : Setup) (told : Bool) (s : State) (event : Event) (number : ℕ) (next : RaidNext) (now : ℕ) (cause : Cause) → event.answer ≡ refused cause → number ≡ s.raid.number → s.raid.next ≡ turn_of next
+not_over : (setup : Setup) (told : Bool) (s : State) (event : Event) (number : ℕ) (next : RaidNext) (now : ℕ) (cause : Cause) → event.answer ≡ refused cause → number ≡ s.raid.number
+    → s.raid.next ≡ turn_of next
     → Allowed setup told s event (turn_call number (turn_of next) now) → same_turn (turn_of next) finished ≡ false
 not_over setup told s event number (Mark part) now cause is same at allowed = refl
 not_over setup told s event number (Scan block) now cause is same at allowed = refl
@@ -127,7 +129,8 @@ slots_then : (xs : List Event) (x : Event) (slot : Slot) → slot_after_all (xs 
 slots_then [] x slot = refl
 slots_then (y ∷ xs) x slot = slots_then xs x (slot_after y slot)
 
-finds_then : (setup : Setup) (possible : Possible) (xs : List Event) (x : Event) (s : State) → FindsAlong setup possible s xs → ScansAll (after_events setup xs s) possible x → ScansOnly (after_events setup xs s) possible x
+finds_then : (setup : Setup) (possible : Possible) (xs : List Event) (x : Event) (s : State) → FindsAlong setup possible s xs → ScansAll (after_events setup xs s) possible x
+    → ScansOnly (after_events setup xs s) possible x
     → FindsAlong setup possible s (xs ++ x ∷ [])
 finds_then setup possible [] x s finds all only = (all, only, tt)
 finds_then setup possible (y ∷ xs) x s finds all only = (finds.0, finds.1, finds_then setup possible xs x (after_event setup y s) finds.2 all only)
@@ -159,13 +162,22 @@ module _ (now number : ℕ) (slot : Slot) where
           (subst (λ (n : ℕ). TakesTurns number now (slot_after event here) (removed + gone) (cleared + n) rest outcome) (sym both.1)
           (subst (λ (x : Slot). TakesTurns number now x (removed + gone) (cleared + bare) rest outcome) (slots_then events event slot) turns)) in
           subst (λ (l : List Event). Raids now slot l outcome) (sym (append_assoc events (event ∷ []) rest))
-          (far (event ∷ rest) outcome (is_call, more, went_on told event.answer (λ cause. (rest ≡ []) × (outcome ≡ stopped cause)) (TakesTurns number now (slot_after event here) (removed + removed_by event.answer) (cleared + cleared_by event.answer) rest outcome) is_answer there))
+          (far (event ∷ rest) outcome (
+            is_call,
+            more,
+            went_on told event.answer (λ cause. (rest ≡ []) × (outcome ≡ stopped cause))
+                (TakesTurns number now (slot_after event here) (removed + removed_by event.answer) (cleared + cleared_by event.answer) rest outcome) is_answer there,
+          ))
 
       -- a turn was refused
       pub refused_so : (cause : Cause) → event.answer ≡ refused cause → Raids now slot (events ++ event ∷ []) (stopped cause)
       refused_so cause is_answer =
-          far (event ∷ []) (stopped cause)
-          (is_call, more, subst (λ (a : Answer). IfRefused a (λ other. (◌≡◌ {A = List Event} [] []) × (stopped cause ≡ stopped other)) (TakesTurns number now (slot_after event here) (removed + removed_by event.answer) (cleared + cleared_by event.answer) [] (stopped cause))) (sym is_answer) (refl, refl))
+          far (event ∷ []) (stopped cause) (
+            is_call,
+            more,
+            subst (λ (a : Answer). IfRefused a (λ other. (◌≡◌ {A = List Event} [] []) × (stopped cause ≡ stopped other))
+                (TakesTurns number now (slot_after event here) (removed + removed_by event.answer) (cleared + cleared_by event.answer) [] (stopped cause))) (sym is_answer) (refl, refl),
+          )
 
 -- the beginning of a raid makes one step, which scans nothing and leaves the blocks
 module _ (setup : Setup) (told : Bool) (s : State) (event : Event) (number : ℕ) (is : event.answer ≡ raid_numbered (Some number)) (allowed : Allowed setup told s event begin_call) where
@@ -226,7 +238,8 @@ module _ {D : Type 0} (view : D → DiskView) (now : ℕ) where
       }) (runs_one view (setup_of old) begin_call (raid_numbered (Some number)) old.shelf mid.shelf s (Agrees mid) m)
 
   -- no raid begins any more
-  pub raid_spent : (old mid : ShardView D) → ((s : State) → Agrees old s → Makes view begin_call (raid_numbered None) old s mid) → (s : State) → Agrees old s → MakesEvents view (IsRaid view old now s (Err why.Spent)) old s mid
+  pub raid_spent : (old mid : ShardView D) → ((s : State) → Agrees old s → Makes view begin_call (raid_numbered None) old s mid) → (s : State) → Agrees old s
+      → MakesEvents view (IsRaid view old now s (Err why.Spent)) old s mid
   raid_spent old mid makes s agrees =
       let m = makes s agrees in
       makes_events view old mid s (IsRaid view old now s (Err why.Spent)) (m.event ∷ [])
@@ -235,12 +248,14 @@ module _ {D : Type 0} (view : D → DiskView) (now : ℕ) where
 
   module _ (number removed cleared : ℕ) (old mid : ShardView D) (goes : GoesOn view old mid) (far : RaidedSoFar number removed cleared old mid) where
     -- it is over
-    pub raid_done : mid.shelf.raid.next ≡ Finished → ((digest : Digest) → device_number (setup_of old).devices digest ≡ (setup_of old).device → part_of (setup_of old) digest < part_total (setup_of old))
+    pub raid_done : mid.shelf.raid.next ≡ Finished → ((digest : Digest) → device_number (setup_of old).devices digest ≡ (setup_of old).device
+        → part_of (setup_of old) digest < part_total (setup_of old))
         → (s : State) → Agrees old s → MakesEvents view (IsRaid view old now s (Ok (removed, cleared))) old s mid
     raid_done over each s agrees =
         let m = far s agrees in
         let slot = slot_for view old s in
-        let at : (slot_after_all m.events slot).state.raid.next ≡ finished = ap (λ (t : State). t.raid.next) (here_is view now number old s m.events) ∙ next_is mid (after_events (setup_of old) m.events s) Finished m.stands over in
+        let at : (slot_after_all m.events slot).state.raid.next ≡ finished = ap (λ (t : State). t.raid.next) (here_is view now number old s m.events)
+        ∙ next_is mid (after_events (setup_of old) m.events s) Finished m.stands over in
         let raids = over_so now number slot removed cleared m.events m.works.so_far at in
         makes_events view old mid s (IsRaid view old now s (Ok (removed, cleared))) m.events (
           did removed cleared,
@@ -249,7 +264,8 @@ module _ {D : Type 0} (view : D → DiskView) (now : ℕ) where
           λ sure honest safe.
               let found = m.works.exact sure honest safe in
               raid_exact false slot now m.events removed cleared (possible_copies view old.shelf s) raids m.legal safe.safe.held.facts.blocks
-              (all_map (λ d. device_number (setup_of old).devices d ≡ (setup_of old).device) (λ d. part_of (setup_of old) d < part_total (setup_of old)) (digests_of s.log) each agrees.sprigs.own) found.finds,
+              (all_map (λ d. device_number (setup_of old).devices d ≡ (setup_of old).device) (λ d. part_of (setup_of old) d < part_total (setup_of old))
+              (digests_of s.log) each agrees.sprigs.own) found.finds,
         ) (runs_made view old mid s (HaveRaided view now number old s mid removed cleared) m)
 
     module _ (new : ShardView D) (raid : RaidView) (next : IsNext raid mid.shelf.raid) (same : raid.number ≡ number) where
@@ -270,7 +286,8 @@ module _ {D : Type 0} (view : D → DiskView) (now : ℕ) where
 
       -- ---- what was found with one turn more
 
-      module _ (told : RaidDid) (took : TakesTurn view raid.next now (Ok told) mid new) (gone bare : ℕ) (ended : ended_by told ≡ Some (gone, bare)) (s : State) (m : MakesEvents view (HaveRaided view now number old s mid removed cleared) old s mid)
+      module _ (told : RaidDid) (took : TakesTurn view raid.next now (Ok told) mid new) (gone bare : ℕ) (ended : ended_by told ≡ Some (gone, bare)) (s : State)
+          (m : MakesEvents view (HaveRaided view now number old s mid removed cleared) old s mid)
           (turn : TurnMakes view raid now (Ok told) mid (after_events (setup_of old) m.events s) new) where
         abbrev t : State
         t = after_events (setup_of old) m.events s
@@ -301,7 +318,8 @@ module _ {D : Type 0} (view : D → DiskView) (now : ℕ) where
           all_found : (n : RaidNext) → raid.next ≡ n → ScansAll t start turn.makes.event
           unfolding start
           all_found (Mark part) at = no_scan_all t start turn.makes.event (mark_turn part) (comes ∙ ap turn_of at) (λ block is. absurd cc)
-          all_found (Scan block) at = scans_all_as t start (possible_copies view mid.shelf t) turn.makes.event (found.alike (subst IsBefore (sym (comes ∙ ap turn_of at)) tt)) (turn.all found.sure honest safe)
+          all_found (Scan block) at = scans_all_as t start (possible_copies view mid.shelf t) turn.makes.event (found.alike (subst IsBefore (sym (comes ∙ ap turn_of at)) tt))
+              (turn.all found.sure honest safe)
           all_found (Apply part) at = no_scan_all t start turn.makes.event (apply_turn part) (comes ∙ ap turn_of at) (λ block is. absurd cc)
           all_found (Drop part) at = no_scan_all t start turn.makes.event (drop_turn part) (comes ∙ ap turn_of at) (λ block is. absurd cc)
           all_found Finished at = absurd (more at)
@@ -309,19 +327,25 @@ module _ {D : Type 0} (view : D → DiskView) (now : ℕ) where
           only_found : (n : RaidNext) → raid.next ≡ n → ScansOnly t start turn.makes.event
           unfolding start
           only_found (Mark part) at = no_scan_only t start turn.makes.event (mark_turn part) (comes ∙ ap turn_of at) (λ block is. absurd cc)
-          only_found (Scan block) at = scans_only_as t start (possible_copies view mid.shelf t) turn.makes.event (found.alike (subst IsBefore (sym (comes ∙ ap turn_of at)) tt)) (turn.only found.sure honest safe)
+          only_found (Scan block) at = scans_only_as t start (possible_copies view mid.shelf t) turn.makes.event (found.alike (subst IsBefore (sym (comes ∙ ap turn_of at)) tt))
+              (turn.only found.sure honest safe)
           only_found (Apply part) at = no_scan_only t start turn.makes.event (apply_turn part) (comes ∙ ap turn_of at) (λ block is. absurd cc)
           only_found (Drop part) at = no_scan_only t start turn.makes.event (drop_turn part) (comes ∙ ap turn_of at) (λ block is. absurd cc)
           only_found Finished at = absurd (more at)
 
-          still : (n : RaidNext) → raid.next ≡ n → IsBefore (after_event (setup_of mid) turn.makes.event t).raid.next → SamePossible start (possible_copies view new.shelf (after_event (setup_of mid) turn.makes.event t))
+          still : (n : RaidNext) → raid.next ≡ n → IsBefore (after_event (setup_of mid) turn.makes.event t).raid.next
+              → SamePossible start (possible_copies view new.shelf (after_event (setup_of mid) turn.makes.event t))
           unfolding start
-          still (Mark part) at before = possible_then start (possible_copies view mid.shelf t) _ (found.alike (subst IsBefore (sym (comes ∙ ap turn_of at)) tt)) (turn.alike found.sure honest safe (subst IsNoDrop (sym at) tt))
-          still (Scan block) at before = possible_then start (possible_copies view mid.shelf t) _ (found.alike (subst IsBefore (sym (comes ∙ ap turn_of at)) tt)) (turn.alike found.sure honest safe (subst IsNoDrop (sym at) tt))
-          still (Apply part) at before = possible_then start (possible_copies view mid.shelf t) _ (found.alike (subst IsBefore (sym (comes ∙ ap turn_of at)) tt)) (turn.alike found.sure honest safe (subst IsNoDrop (sym at) tt))
+          still (Mark part) at before = possible_then start (possible_copies view mid.shelf t) _ (found.alike (subst IsBefore (sym (comes ∙ ap turn_of at)) tt))
+              (turn.alike found.sure honest safe (subst IsNoDrop (sym at) tt))
+          still (Scan block) at before = possible_then start (possible_copies view mid.shelf t) _ (found.alike (subst IsBefore (sym (comes ∙ ap turn_of at)) tt))
+              (turn.alike found.sure honest safe (subst IsNoDrop (sym at) tt))
+          still (Apply part) at before = possible_then start (possible_copies view mid.shelf t) _ (found.alike (subst IsBefore (sym (comes ∙ ap turn_of at)) tt))
+              (turn.alike found.sure honest safe (subst IsNoDrop (sym at) tt))
           still (Drop part) at before =
               absurd (drops_on (setup_of mid) false t turn.makes.event raid.number part now (comes ∙ ap turn_of at)
-              (subst (λ (x : Turn). Allowed (setup_of mid) false t turn.makes.event (turn_call raid.number x now)) (ap turn_of at) (subst (λ (c : Call). Allowed (setup_of mid) false t turn.makes.event c) turn.makes.is_call turn.makes.follows.allowed)) before)
+              (subst (λ (x : Turn). Allowed (setup_of mid) false t turn.makes.event (turn_call raid.number x now)) (ap turn_of at)
+              (subst (λ (c : Call). Allowed (setup_of mid) false t turn.makes.event c) turn.makes.is_call turn.makes.follows.allowed)) before)
           still Finished at before = absurd (more at)
 
           pub found_more : HaveFound view now number old s new (m.events ++ turn.makes.event ∷ [])
@@ -344,7 +368,8 @@ module _ {D : Type 0} (view : D → DiskView) (now : ℕ) where
           let turn = makes t m.stands in
           let one = makes_events view mid new t (λ events. events ≡ turn.makes.event ∷ []) (turn.makes.event ∷ []) refl
           (runs_one view (setup_of mid) (turn_call raid.number (turn_of raid.next) now) (turn_answer (Ok told)) mid.shelf new.shelf t (Agrees new) turn.makes) in
-          makes_then view old mid new s (HaveRaided view now number old s mid removed cleared) (λ events. events ≡ turn.makes.event ∷ []) (HaveRaided view now number old s new (removed + gone) (cleared + bare)) goes m one
+          makes_then view old mid new s (HaveRaided view now number old s mid removed cleared) (λ events. events ≡ turn.makes.event ∷ [])
+          (HaveRaided view now number old s new (removed + gone) (cleared + bare)) goes m one
           (subst (λ (l : List Event). HaveRaided view now number old s new (removed + gone) (cleared + bare) (m.events ++ l)) (sym one.works) (record {
             so_far = turn_so now number (slot_for view old s) removed cleared m.events m.works.so_far turn.makes.event (named s m.events turn.makes.event.call m.stands turn.makes.is_call)
                 (not_finished s m.events m.stands (goes_on raid.next (more told took gone bare ended s m turn))) told gone bare turn.makes.is_answer ended;
@@ -364,12 +389,14 @@ module _ {D : Type 0} (view : D → DiskView) (now : ℕ) where
           let one = makes_events view mid new t (λ events. events ≡ turn.makes.event ∷ []) (turn.makes.event ∷ []) refl
           (runs_one view (setup_of mid) (turn_call raid.number (turn_of raid.next) now) (turn_answer (Err refusal)) mid.shelf new.shelf t (Agrees new) turn.makes) in
           let allowed = subst (λ (c : Call). Allowed (setup_of mid) false t turn.makes.event c) turn.makes.is_call turn.makes.follows.allowed in
-          let goes_further = not_over (setup_of mid) false t turn.makes.event raid.number raid.next now cause turn.makes.is_answer (next.number ∙ m.stands.shelf.queue.raid.turns.number) (sym m.stands.shelf.queue.raid.turns.next ∙ ap turn_of (sym next.next)) allowed in
+          let goes_further = not_over (setup_of mid) false t turn.makes.event raid.number raid.next now cause turn.makes.is_answer (next.number ∙ m.stands.shelf.queue.raid.turns.number)
+          (sym m.stands.shelf.queue.raid.turns.next ∙ ap turn_of (sym next.next)) allowed in
           makes_then view old mid new s (HaveRaided view now number old s mid removed cleared) (λ events. events ≡ turn.makes.event ∷ []) (IsRaid view old now s (Err (fault_of cause))) goes m one
           (subst (λ (l : List Event). IsRaid view old now s (Err (fault_of cause)) (m.events ++ l)) (sym one.works) (
             stopped cause,
             (cause, refl, refl),
-            refused_so now number (slot_for view old s) removed cleared m.events m.works.so_far turn.makes.event (named s m.events turn.makes.event.call m.stands turn.makes.is_call) (not_finished s m.events m.stands goes_further) cause turn.makes.is_answer,
+            refused_so now number (slot_for view old s) removed cleared m.events m.works.so_far turn.makes.event (named s m.events turn.makes.event.call m.stands turn.makes.is_call)
+                (not_finished s m.events m.stands goes_further) cause turn.makes.is_answer,
             tt,
           ))
 
@@ -415,11 +442,14 @@ some_more told both ended over = let none : Some both ≡ ended_by Done = sym en
 pub few_more : (told : RaidDid) (left then gone bare sum : ℕ) → ended_by told ≡ Some (gone, bare) → AreFewEnds left told → then < left → sum + min left (2 ^ 20) * 2 ^ 32 ≤ 2 ^ 52
     → (sum + gone + min then (2 ^ 20) * 2 ^ 32 ≤ 2 ^ 52) × (sum + bare + min then (2 ^ 20) * 2 ^ 32 ≤ 2 ^ 52)
 few_more (Marked marks) left then gone bare sum ended few less most =
-    let same : ◌≡◌ {A = ℕ × ℕ} (0, 0) (gone, bare) = cc in let one : 0 ≡ gone = ap (λ (p : ℕ × ℕ). p.0) same in let two : 0 ≡ bare = ap (λ (p : ℕ × ℕ). p.1) same in (omega (arith, one, less, most), omega (arith, two, less, most))
+    let same : ◌≡◌ {A = ℕ × ℕ} (0, 0) (gone, bare) = cc in let one : 0 ≡ gone = ap (λ (p : ℕ × ℕ). p.0) same in let two : 0 ≡ bare =
+    ap (λ (p : ℕ × ℕ). p.1) same in (omega (arith, one, less, most), omega (arith, two, less, most))
 few_more (Scanned block) left then gone bare sum ended few less most =
-    let same : ◌≡◌ {A = ℕ × ℕ} (0, 0) (gone, bare) = cc in let one : 0 ≡ gone = ap (λ (p : ℕ × ℕ). p.0) same in let two : 0 ≡ bare = ap (λ (p : ℕ × ℕ). p.1) same in (omega (arith, one, less, most), omega (arith, two, less, most))
+    let same : ◌≡◌ {A = ℕ × ℕ} (0, 0) (gone, bare) = cc in let one : 0 ≡ gone = ap (λ (p : ℕ × ℕ). p.0) same in let two : 0 ≡ bare =
+    ap (λ (p : ℕ × ℕ). p.1) same in (omega (arith, one, less, most), omega (arith, two, less, most))
 few_more (Applied unmarked) left then gone bare sum ended few less most =
-    let same : ◌≡◌ {A = ℕ × ℕ} (0, 0) (gone, bare) = cc in let one : 0 ≡ gone = ap (λ (p : ℕ × ℕ). p.0) same in let two : 0 ≡ bare = ap (λ (p : ℕ × ℕ). p.1) same in (omega (arith, one, less, most), omega (arith, two, less, most))
+    let same : ◌≡◌ {A = ℕ × ℕ} (0, 0) (gone, bare) = cc in let one : 0 ≡ gone = ap (λ (p : ℕ × ℕ). p.0) same in let two : 0 ≡ bare =
+    ap (λ (p : ℕ × ℕ). p.1) same in (omega (arith, one, less, most), omega (arith, two, less, most))
 few_more (Dropped removed cleared) left then gone bare sum ended few less most =
     let same : ◌≡◌ {A = ℕ × ℕ} (removed, cleared) (gone, bare) = cc in
     let one : removed ≡ gone = ap (λ (p : ℕ × ℕ). p.0) same in

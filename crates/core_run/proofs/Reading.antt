@@ -105,7 +105,8 @@ module _ {D : Type 0} (view : D → DiskView) where
         let was = stands.0.faults_is in
         (refl, refl, subst (λ (n : ℕ). n ≤ (view later).faults) (sym was) risen, same_states shards new node stands.1 read.1)
 
-    pub counts_now : (shards : List (ShardView D)) (new : List D) (node : Node) → Each (StandsOn view) shards node → ReadEach (disks_served shards) new → counts_of (counted_now node new) ≡ faults_of view new
+    pub counts_now : (shards : List (ShardView D)) (new : List D) (node : Node) → Each (StandsOn view) shards node → ReadEach (disks_served shards) new
+        → counts_of (counted_now node new) ≡ faults_of view new
     counts_now [] new node stands read = subst (λ (n : Node). counts_of (counted_now n new) ≡ faults_of view new) (sym stands) (ap (faults_of view) (sym read))
     counts_now (shard ∷ shards) [] node stands read = absurd read
     counts_now (shard ∷ shards) (later ∷ new) [] stands read = absurd stands

@@ -28,7 +28,8 @@ use Rattle.core_run.proofs.Reading.{ReadEach, read_later, starts_read, refuses_r
 
 module _ {D : Type 0} (view : D → DiskView) (set : Settings) where
   -- the setup of a device that was started again on the disk of one
-  same_device : (device devices : ℕ) (old new : ShardView D) → old.set ≡ set → old.shelf.geometry.device ≡ device → old.shelf.geometry.devices ≡ devices → Started view set (asked device devices) old.shelf.disk new
+  same_device : (device devices : ℕ) (old new : ShardView D) → old.set ≡ set → old.shelf.geometry.device ≡ device → old.shelf.geometry.devices ≡ devices
+      → Started view set (asked device devices) old.shelf.disk new
       → IsSameDevice (setup_of old) (setup_of new)
   same_device device devices old new set_is device_is devices_is started = record {
     device_is = started.device_is ∙ sym device_is;
@@ -56,7 +57,8 @@ module _ {D : Type 0} (view : D → DiskView) (set : Settings) where
     restarts : RestartsEach left false device node after
     stands : Each (StandsOn view) fresh after
 
-  again_any : (left : ImagesLeft) (device devices : ℕ) (olds fresh : List (ShardView D)) (node : Node) → AreDevices set device devices olds → StartsEach view set device devices (disks_served olds) fresh
+  again_any : (left : ImagesLeft) (device devices : ℕ) (olds fresh : List (ShardView D)) (node : Node) → AreDevices set device devices olds
+      → StartsEach view set device devices (disks_served olds) fresh
       → Each (StandsOn view) olds node → AgainAny left device node fresh
   again_any left device devices [] fresh node are starts stands = record {
     after = [];
@@ -87,7 +89,8 @@ module _ {D : Type 0} (view : D → DiskView) (set : Settings) where
     stands : Each (StandsSafelyOn view) fresh after
 
   module _ (is_disk : (disk : D) → IsDisk (view disk)) where
-    again_safe : (left : ImagesLeft) (device devices : ℕ) (olds fresh : List (ShardView D)) (node : Node) → AreDevices set device devices olds → StartsEach view set device devices (disks_served olds) fresh
+    again_safe : (left : ImagesLeft) (device devices : ℕ) (olds fresh : List (ShardView D)) (node : Node) → AreDevices set device devices olds
+        → StartsEach view set device devices (disks_served olds) fresh
         → Each (StandsSafelyOn view) olds node
         → ((place : ℕ) (image : List ℕ) → meanwhile (view_at view (disks_served olds) place) (view_at view (disks_served fresh) place) image → left (device + place) image)
         → AgainSafe left device node fresh
@@ -107,7 +110,8 @@ module _ {D : Type 0} (view : D → DiskView) (set : Settings) where
         let moment = (view old.shelf.disk).moment in
         let image_left : left device begun.image =
         subst (λ (n : ℕ). left n begun.image) here
-        (was 0 begun.image (started.read.time.kept moment begun.image (is_disk old.shelf.disk).now_had ((is_disk old.shelf.disk).now_since moment begun.image (is_disk old.shelf.disk).now_had begun.left))) in
+        (was 0 begun.image (started.read.time.kept moment begun.image (is_disk old.shelf.disk).now_had
+        ((is_disk old.shelf.disk).now_since moment begun.image (is_disk old.shelf.disk).now_had begun.left))) in
         let rest = again_safe left (device + 1) devices olds fresh node are.3 starts.1 stands.1
         (λ place image since. let further : device + suc place ≡ device + 1 + place = omega arith in subst (λ (n : ℕ). left n image) further (was (suc place) image since)) in
         let one : Slot = record { setup = setup_of new; state = begun.state; faults = (view new.shelf.disk).faults } in
@@ -149,7 +153,8 @@ module _ {D : Type 0} (view : D → DiskView) (set : Settings) where
       safe : (node : Node) → Each (StandsSafelyOn view) olds node
           → ActsFrom (StandsSafely view) (views_of view) (HaltsSafely view) true (serving olds) node command.Restart now (reply.Restarted counts.records counts.tombstones) (serving fresh)
       safe node stands =
-          let made = again_safe Left 0 (length olds) olds fresh node are starts stands (λ place image since. let same : place ≡ 0 + place = omega arith in subst (λ (n : ℕ). Left n image) same since) in
+          let made = again_safe Left 0 (length olds) olds fresh node are starts stands
+          (λ place image since. let same : place ≡ 0 + place = omega arith in subst (λ (n : ℕ). Left n image) same since) in
           let plain = each_more (StandsSafelyOn view) (StandsOn view) (λ shard slot s. s.stands) fresh made.after made.stands in
           record {
             work = [];

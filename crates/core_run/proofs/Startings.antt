@@ -29,7 +29,8 @@ module _ {D : Type 0} (view : D → DiskView) (set : Settings) (devices : ℕ) w
       (so_far.0, starts_one (device + 1) disks shards disk left shard so_far.1 (subst (λ (n : ℕ). Started view set (asked n devices) disk shard) (sym (further device (length shards))) started))
 
   -- all are started
-  pub starts_all : (device : ℕ) (disks : List D) (shards : List (ShardView D)) (left : List D) → Starting view set device devices disks shards left → left ≡ [] → StartsEach view set device devices disks shards
+  pub starts_all : (device : ℕ) (disks : List D) (shards : List (ShardView D)) (left : List D) → Starting view set device devices disks shards left → left ≡ []
+      → StartsEach view set device devices disks shards
   starts_all device [] [] left so_far none = refl
   starts_all device (d ∷ disks) [] left so_far none = let e : d ∷ disks ≡ [] = sym so_far ∙ none in cc
   starts_all device [] (s ∷ shards) left so_far none = absurd so_far
@@ -45,8 +46,11 @@ module _ {D : Type 0} (view : D → DiskView) (set : Settings) (devices : ℕ) w
       let here : device + 0 ≡ device = omega arith in
       (refl, subst (λ (x : D). NotStarted view set (asked device devices) cause x last) first (subst (λ (n : ℕ). NotStarted view set (asked n devices) cause disk last) here refused), rest)
   stops_next device [] (s ∷ shards) disk last left cause so_far refused = absurd so_far
-  stops_next device (d ∷ disks) (s ∷ shards) disk last left cause so_far refused =
-      (so_far.0, stops_next (device + 1) disks shards disk last left cause so_far.1 (subst (λ (n : ℕ). NotStarted view set (asked n devices) cause disk last) (sym (further device (length shards))) refused))
+  stops_next device (d ∷ disks) (s ∷ shards) disk last left cause so_far refused = (
+    so_far.0,
+    stops_next (device + 1) disks shards disk last left cause so_far.1
+        (subst (λ (n : ℕ). NotStarted view set (asked n devices) cause disk last) (sym (further device (length shards))) refused),
+  )
 
   -- those that were started are stopped
   pub stops_refuse : (place device : ℕ) (cause : StartCause) (disks : List D) (shards : List (ShardView D)) (left : List D) → StopsAt view set place device devices cause disks shards left
@@ -86,7 +90,8 @@ module _ {D : Type 0} (view : D → DiskView) (set : Settings) where
   starts_are device devices (disk ∷ disks) (shard ∷ shards) starts = (starts.0.set_is, starts.0.device_is, starts.0.devices_is, starts_are (device + 1) devices disks shards starts.1)
 
   -- a node of devices that were all started
-  pub node_started : (a b : ℕ) (was : List D) (shards : List (ShardView D)) (refused : Option (ℕ × StartCause)) (disks : List D) → IsSettings set → refused ≡ None → disks ≡ [] → 1 ≤ length was → length was ≤ 16 → length was ≤ b
+  pub node_started : (a b : ℕ) (was : List D) (shards : List (ShardView D)) (refused : Option (ℕ × StartCause)) (disks : List D) → IsSettings set → refused ≡ None → disks ≡ []
+      → 1 ≤ length was → length was ≤ 16 → length was ≤ b
       → StartsEach view set 0 (length was) was shards → IsNode set a b (record { shards = shards; refused = refused; disks = disks })
   node_started a b was shards (Some why) disks settings none no_disks some few room starts = cc
   node_started a b was shards None disks settings none no_disks some few room starts =

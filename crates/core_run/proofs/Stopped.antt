@@ -66,7 +66,8 @@ module _ {D : Type 0} (view : D → DiskView) (is_disk : (disk : D) → IsDisk (
         → Acts view self command.Restart now (reply.Restarted counts.records counts.tombstones) (seen_so fresh refused left)
     done_again counts now told =
         subst (λ (old : NodeView D). Acts view old command.Restart now (reply.Restarted counts.records counts.tombstones) (seen_so fresh refused left)) was
-        (subst (λ (new : NodeView D). Acts view (serving olds) command.Restart now (reply.Restarted counts.records counts.tombstones) new) (λ i. record { shards = fresh; refused = sym none i; disks = sym no_left i })
+        (subst (λ (new : NodeView D). Acts view (serving olds) command.Restart now (reply.Restarted counts.records counts.tombstones) new)
+        (λ i. record { shards = fresh; refused = sym none i; disks = sym no_left i })
         (restart_done view set is_disk olds fresh counts now devices.3 started told))
 
   module _ (why : ℕ × StartCause) (back : List D) (refuses : RefusesAt view set why.0 0 n why.1 given back) where

@@ -83,7 +83,8 @@ replaced_by x to old new one is =
 
 -- ---- the event
 
-module _ {D : Type 0} (view : D → DiskView) (setup : Setup) (digest : Digest) (block : ℕ) (sprig : SprigState) (old : ShelfView D) (s : State) (stand : StandTogether setup (part_of setup digest) sprig old s) where
+module _ {D : Type 0} (view : D → DiskView) (setup : Setup) (digest : Digest) (block : ℕ) (sprig : SprigState) (old : ShelfView D) (s : State)
+    (stand : StandTogether setup (part_of setup digest) sprig old s) where
   abbrev part : ℕ
   part = part_of setup digest
 
@@ -214,7 +215,8 @@ module _ {D : Type 0} (view : D → DiskView) (setup : Setup) (digest : Digest) 
           up : (view old.disk).faults ≤ (view new.disk).faults
           up = le_trans only.later later
 
-          makes_refused : (answer : Answer) (steps : List Step) → AllByRecursion IsFlushing steps → Goes view setup steps mid s new → ((told : Bool) → Allowed setup told s (event_of answer steps) (move_call digest block))
+          makes_refused : (answer : Answer) (steps : List Step) → AllByRecursion IsFlushing steps → Goes view setup steps mid s new
+              → ((told : Bool) → Allowed setup told s (event_of answer steps) (move_call digest block))
               → Makes answer sprig new
           makes_refused answer steps flushing goes may =
               makes_by view setup old new s (move_call digest block) answer steps (StandTogether setup part sprig new) up

@@ -140,4 +140,5 @@ unfolding IsDistinct
 none_marked n = record { once = tt; tells = λ x. sym (all_false n x) }
   where
     all_false : (n x : ℕ) → get_or (replicate n false) x false ≡ false
-    all_false n x = ⊎_elim (λ (lt : x < n). get_or-replicate n x false false lt) (λ (ge : n ≤ x). get_or-eq_default (replicate n false) false (subst (λ k. k ≤ x) (sym (length-replicate n false)) ge)) (cases_lt x n)
+    all_false n x = ⊎_elim (λ (lt : x < n). get_or-replicate n x false false lt)
+        (λ (ge : n ≤ x). get_or-eq_default (replicate n false) false (subst (λ k. k ≤ x) (sym (length-replicate n false)) ge)) (cases_lt x n)

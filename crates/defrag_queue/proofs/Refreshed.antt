@@ -116,7 +116,8 @@ module _ (p : ℕ → Bool) (blocks : ℕ) (queue : List ℕ) (below : AllByRecu
   pub updated_in : (b : ℕ) → b < blocks → is_in (updated p queue (range_with_len 0 blocks)) b ≡ p b
   updated_in b lt =
       list_any-append (λ x. x == b) (filter p queue) (filter come (range_with_len 0 blocks))
-      ∙ (λ i. any-filter_same (λ x. x == b) p (p b) (λ x is. ap p (eqb-true x b is)) queue i || any-filter_same (λ x. x == b) come (come b) (λ x is. ap come (eqb-true x b is)) (range_with_len 0 blocks) i)
+      ∙ (λ i. any-filter_same (λ x. x == b) p (p b) (λ x is. ap p (eqb-true x b is)) queue i || any-filter_same (λ x. x == b) come (come b) (λ x is. ap come (eqb-true x b is))
+      (range_with_len 0 blocks) i)
       ∙ ap (λ t. (p b && is_in queue b) || (come b && t)) (in_range 0 blocks b (omega arith) (omega (arith, lt)))
       ∙ whole (p b) (is_in queue b)
     where

@@ -34,6 +34,7 @@ seen : seen_entry 1000 None ∷ seen_entry (2 ^ 61) (Some (entry Put 0)) ∷ see
 seen = refl
 
 -- puts expire, and tombstones don't
-expired : expired_entry 2000 None ∷ expired_entry (2 ^ 61) (Some (entry Put 0)) ∷ expired_entry 1999 (Some (entry Put 2)) ∷ expired_entry 2000 (Some (entry Put 2)) ∷ expired_entry 2000 (Some (entry Tomb 2)) ∷ []
+expired : expired_entry 2000 None ∷ expired_entry (2 ^ 61) (Some (entry Put 0)) ∷ expired_entry 1999 (Some (entry Put 2)) ∷ expired_entry 2000 (Some (entry Put 2)) ∷ expired_entry 2000
+    (Some (entry Tomb 2)) ∷ []
     ≡ None ∷ None ∷ None ∷ Some (entry Put 2) ∷ None ∷ []
 expired = refl

@@ -1,5 +1,7 @@
 -- Pairs in rising order: where one is, where one would go, and the first of a buffer.
-use Rattle.std.proofs.Common.{◌≡◌, ◌≢◌, ◌⊎◌, inl, inr, ℕ, zero, suc, ◌+◌, ◌-◌, ◌<◌, ◌≤◌, Bool, true, false, cond, ◌||◌, eqb, ltb, List, [], ◌∷◌, length, get_or, slice_get, insert, Option, Some, None, MatchOption, Result, Ok, Err, is_ok, MatchResult, Less, Equal, Greater, refl, ap, sym, subst, ◌∙◌, ⊎_elim, arith, Contains}
+use Rattle.std.proofs.Common.{◌≡◌, ◌≢◌, ◌⊎◌, inl, inr, ℕ, zero, suc, ◌+◌, ◌-◌, ◌<◌, ◌≤◌, Bool, true, false, cond, ◌||◌, eqb, ltb, List, [], ◌∷◌, length, get_or}
+use Rattle.std.proofs.Common.{slice_get, insert, Option, Some, None, MatchOption, Result, Ok, Err, is_ok, MatchResult, Less, Equal, Greater, refl, ap, sym}
+use Rattle.std.proofs.Common.{subst, ◌∙◌, ⊎_elim, arith, Contains}
 use Rattle.std.specs.Prelude.{◌↔◌, IsTrue, count_by}
 use Rattle.std.specs.List.Sorted.{IsStrictlySortedBy, IsSortedBy, IsNonDecreasingBy, IsPartitionPoint, IsSearchInRange, IsBinarySearchResult}
 use Rattle.std.specs.Ordering.{nat_cmp, is_lt, ordering_index, ordering_then, ordering_reverse, MatchOrdering}
@@ -196,7 +198,8 @@ module _ (ps : List (ℕ × ℕ)) (rise : AreRising ps) (buffer from at : ℕ) w
     low = λ k d lt. ap (pair_cmp (get_or ps k d)) (sym (found d)) ∙ Less-from_sorted pair_cmp ps k at d rise lt within;
     high = λ k d le lt less. ⊎_elim
         (λ (same : k ≡ at). not_less (sym (tied_itself pair_order (buffer, from)) ∙ ap (λ (p : ℕ × ℕ). pair_cmp p (buffer, from)) (sym (found d) ∙ ap (λ j. get_or ps j d) (sym same)) ∙ less))
-        (λ (apart : k ≢ at). more_is_not (sym (ap (pair_cmp (get_or ps k d)) (sym (found d)) ∙ greater_back (get_or ps at d) (get_or ps k d) (Less-from_sorted pair_cmp ps at k d rise (omega arith) lt)) ∙ less)) (cases_eq k at);
+        (λ (apart : k ≢ at). more_is_not (sym (ap (pair_cmp (get_or ps k d)) (sym (found d))
+        ∙ greater_back (get_or ps at d) (get_or ps k d) (Less-from_sorted pair_cmp ps at k d rise (omega arith) lt)) ∙ less)) (cases_eq k at);
   }
     where
       found : (d : ℕ × ℕ) → get_or ps at d ≡ (buffer, from)

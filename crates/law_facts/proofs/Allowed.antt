@@ -12,8 +12,10 @@ use Rattle.rec_format.specs.Versions.{version_units, units_for, a_tombstone, is_
 use Rattle.model_device.specs.Histories.{Item, rid, cleared, top_of}
 use Rattle.model_device.specs.Book.{Setup, Book, Buffer, Stream, client, defrag, Phase, filling, sealed, opening, has_room, live_of, placing_number, is_filling, dropped_live}
 use Rattle.model_device.specs.Device.{State, Turn, mark_turn, scan_turn, apply_turn, drop_turn, finished, history, entry, entry_is_covered, entry_passes, seen, next_stamp_of, part_of, digests_of}
-use Rattle.model_device.specs.Steps.{Step, wrote, moved, removed, rid_of, uncovered, sealed_stream, gate_begun, flushed_buffer, closing_failed, raid_begun, raid_given_up, marked_part, scanned_block, compared_part, done_part, after_step, after_steps, with_item}
-use Rattle.model_device.specs.Events.{Call, put_call, bury_call, delete_call, expire_call, get_call, flush_call, flush_sealed_call, flush_next_call, choose_call, move_call, begin_call, turn_call, Cause, Answer, stamp_given, happened, raid_numbered, refused, stale, Event}
+use Rattle.model_device.specs.Steps.{Step, wrote, moved, removed, rid_of, uncovered, sealed_stream, gate_begun, flushed_buffer, closing_failed, raid_begun}
+use Rattle.model_device.specs.Steps.{raid_given_up, marked_part, scanned_block, compared_part, done_part, after_step, after_steps, with_item}
+use Rattle.model_device.specs.Events.{Call, put_call, bury_call, delete_call, expire_call, get_call, flush_call, flush_sealed_call, flush_next_call}
+use Rattle.model_device.specs.Events.{choose_call, move_call, begin_call, turn_call, Cause, Answer, stamp_given, happened, raid_numbered, refused, stale, Event}
 use Rattle.model_device.specs.Legal
 use Rattle.rec_format.proofs.Laws.{same_digest_is}
 use Rattle.law_start.proofs.Turns.{same_turn_is}
@@ -122,7 +124,8 @@ commit_flush_free setup number s = by setup.commit
     by true = each_free (filter (λ b. nat_le 0 b.number && nat_le b.number number) s.book.buffers)
     by false = tt
 
-write_ends : (setup : Setup) (s : State) (possible : ℕ → Possible) (event : Event) (digest : Digest) (v : Version) (ok : Answer) → MayBeWritten setup s digest v → Legal.WriteEnds setup s event digest v ok
+write_ends : (setup : Setup) (s : State) (possible : ℕ → Possible) (event : Event) (digest : Digest) (v : Version) (ok : Answer) → MayBeWritten setup s digest v
+    → Legal.WriteEnds setup s event digest v ok
     → MayTakeAll setup s possible 0 event.steps
 write_ends setup s possible event digest v ok may ends = by ends
   where
@@ -137,7 +140,11 @@ write_ends setup s possible event digest v ok may ends = by ends
 
     written : (more : List Step) → AreFree more → event.steps ≡ wrote digest v ∷ (first ++ more) → MayTakeAll setup s possible 0 event.steps
     written more free e =
-        subst (MayTakeAll setup s possible 0) (sym e) (may, all_free setup (after_step setup (wrote digest v) s) possible 1 (first ++ more) (all_joined (λ step. is_free step ≡ true) first more (commit_free setup) free))
+        subst (MayTakeAll setup s possible 0) (sym e) (
+          may,
+          all_free setup (after_step setup (wrote digest v) s) possible 1 (first ++ more)
+              (all_joined (λ step. is_free step ≡ true) first more (commit_free setup) free),
+        )
 
     by : Legal.WriteEnds setup s event digest v ok → MayTakeAll setup s possible 0 event.steps
     by (inl done) = written rest rest_free done.1
@@ -147,7 +154,8 @@ write_ends setup s possible event digest v ok may ends = by ends
 none_steps : (setup : Setup) (s : State) (possible : ℕ → Possible) (event : Event) → event.steps ≡ [] → MayTakeAll setup s possible 0 event.steps
 none_steps setup s possible event none = subst (MayTakeAll setup s possible 0) (sym none) tt
 
-unless : (setup : Setup) (s : State) (possible : ℕ → Possible) (event : Event) (cause : Option Cause) (Rest : Type 0) → (cause ≡ None → Rest → MayTakeAll setup s possible 0 event.steps) → Legal.Unless event cause Rest
+unless : (setup : Setup) (s : State) (possible : ℕ → Possible) (event : Event) (cause : Option Cause) (Rest : Type 0) → (cause ≡ None → Rest → MayTakeAll setup s possible 0 event.steps)
+    → Legal.Unless event cause Rest
     → MayTakeAll setup s possible 0 event.steps
 unless setup s possible event None Rest next rest = next refl rest
 unless setup s possible event (Some cause) Rest next only = none_steps setup s possible event only.1
@@ -161,7 +169,8 @@ second_none : (a b : Option Cause) → Legal.first_cause a b ≡ None → b ≡ 
 second_none None b none = none
 second_none (Some cause) b none = absurd cc
 
-entombs : (setup : Setup) (s : State) (possible : ℕ → Possible) (event : Event) (digest : Digest) (now : ℕ) (ok : Stamp → Answer) → HasFacts setup s (possible 0) → device_number setup.devices digest ≡ setup.device
+entombs : (setup : Setup) (s : State) (possible : ℕ → Possible) (event : Event) (digest : Digest) (now : ℕ) (ok : Stamp → Answer) → HasFacts setup s (possible 0)
+    → device_number setup.devices digest ≡ setup.device
     → Legal.Entombs setup s event digest now ok → MayTakeAll setup s possible 0 event.steps
 entombs setup s possible event digest now ok facts own (inl memory) = none_steps setup s possible event memory.1
 entombs setup s possible event digest now ok facts own (inr rest) =
@@ -186,7 +195,8 @@ removes : (setup : Setup) (s : State) (possible : ℕ → Possible) (event : Eve
 removes setup s possible event digest now facts ends = by (entry_is_covered s digest) refl ends
   where
     by : (b : Bool) → entry_is_covered s digest ≡ b
-        → MatchBool b (Legal.Entombs setup s event digest now (λ stamp. happened true)) ((event.answer ≡ happened true) × (event.steps ≡ removed digest ∷ [])) → MayTakeAll setup s possible 0 event.steps
+        → MatchBool b (Legal.Entombs setup s event digest now (λ stamp. happened true)) ((event.answer ≡ happened true) × (event.steps ≡ removed digest ∷ []))
+        → MayTakeAll setup s possible 0 event.steps
     by true is ends = let w = covered_written (history s digest) is in entombs setup s possible event digest now (λ stamp. happened true) facts (facts.own digest w.0 w.1) ends
     by false is ends = subst (MayTakeAll setup s possible 0) (sym ends.1) (is, tt)
 
@@ -207,7 +217,8 @@ drop_may : (setup : Setup) (s : State) (possible : Possible) (digest : Digest) (
 drop_may setup s possible digest true none = none
 drop_may setup s possible digest false none = none
 
-drop_keeps : (setup : Setup) (s : State) (possible : Possible) (digest : Digest) (b : Bool) (d : Digest) → NoneOlder s possible d → NoneOlder (after_step setup (cond b (rid_of digest) (uncovered digest)) s) possible d
+drop_keeps : (setup : Setup) (s : State) (possible : Possible) (digest : Digest) (b : Bool) (d : Digest) → NoneOlder s possible d
+    → NoneOlder (after_step setup (cond b (rid_of digest) (uncovered digest)) s) possible d
 unfolding after_step
 drop_keeps setup s possible digest true d none = still_none s possible digest rid (dropped_live setup digest s.book) (λ e top. absurd cc) d none
 drop_keeps setup s possible digest false d none = still_none s possible digest cleared s.book (λ e top. top) d none
@@ -242,7 +253,8 @@ drops_may setup first s possible k part (d ∷ digests) none is becomes =
 abbrev pub BecomesIfDropped : Setup → State → (possible : ℕ → Possible) → Event → Type 0
 BecomesIfDropped setup s possible event = (part : ℕ) → event.steps ≡ Legal.drop_steps setup part s → BecomesAlong setup s possible 0 event.steps
 
-turn_ends : (setup : Setup) (told : Bool) (s : State) (possible : ℕ → Possible) (event : Event) (turn : Turn) (now : ℕ) → HasFacts setup s (possible 0) → ScansAll s (possible 0) event → s.raid.next ≡ turn → BecomesIfDropped setup s possible event
+turn_ends : (setup : Setup) (told : Bool) (s : State) (possible : ℕ → Possible) (event : Event) (turn : Turn) (now : ℕ) → HasFacts setup s (possible 0) → ScansAll s (possible 0) event
+    → s.raid.next ≡ turn → BecomesIfDropped setup s possible event
     → Legal.TurnEnds setup told s event turn now → MayTakeAll setup s possible 0 event.steps
 turn_ends setup told s possible event (mark_turn part) now facts scans is becomes ends = subst (MayTakeAll setup s possible 0) (sym ends.1) (is, tt)
 turn_ends setup told s possible event (scan_turn block) now facts scans is becomes (inl done) = subst (MayTakeAll setup s possible 0) (sym done.2) ((block, is, scans block done.1 is done.2), tt)
@@ -256,21 +268,25 @@ turn_ends setup told s possible event (drop_turn part) now facts scans is become
     (all_from (NoneOlder s (possible 0)) (Legal.marked_in setup part s)
     (λ d there.
     let found = filter_from (λ (x : Digest). (part_of setup x == part) && list_any (same_digest x) s.raid.marked) (digests_of s.log) d there in
-    none_older setup s (possible 0) d part is (Contains-from_any same_digest_is d s.raid.marked (and_parts (part_of setup d == part) (list_any (same_digest d) s.raid.marked) found.1).1) facts)) is (subst (BecomesAlong setup s possible 0) ends.1 (becomes part ends.1)))
+    none_older setup s (possible 0) d part is (Contains-from_any same_digest_is d s.raid.marked (and_parts (part_of setup d == part) (list_any (same_digest d) s.raid.marked) found.1).1)
+    facts)) is (subst (BecomesAlong setup s possible 0) ends.1 (becomes part ends.1)))
 turn_ends setup told s possible event finished now facts scans is becomes ends = none_steps setup s possible event ends.1
 
 -- ---- every call
 
-where_reads : {A : Type 0} (setup : Setup) (told : Bool) (s : State) (possible : ℕ → Possible) (event : Event) (what : Option A) → Legal.WhereReads told event what → MayTakeAll setup s possible 0 event.steps
+where_reads : {A : Type 0} (setup : Setup) (told : Bool) (s : State) (possible : ℕ → Possible) (event : Event) (what : Option A) → Legal.WhereReads told event what
+    → MayTakeAll setup s possible 0 event.steps
 where_reads setup told s possible event None reads = absurd reads
 where_reads setup told s possible event (Some what) (inl damaged) = none_steps setup s possible event damaged.2
 where_reads setup told s possible event (Some what) (inr fails) = none_steps setup s possible event fails.1
 
-flushed_ends : (setup : Setup) (s : State) (possible : ℕ → Possible) (event : Event) (first rest : List Step) → AreFree first → AreFree rest → Legal.FlushEnds event first rest → MayTakeAll setup s possible 0 event.steps
+flushed_ends : (setup : Setup) (s : State) (possible : ℕ → Possible) (event : Event) (first rest : List Step) → AreFree first → AreFree rest → Legal.FlushEnds event first rest
+    → MayTakeAll setup s possible 0 event.steps
 flushed_ends setup s possible event first rest front behind ends = all_free setup s possible 0 event.steps (flush_ends event first rest front behind ends)
 
 -- Each step of an event that is allowed may be taken, from the facts before the first.
-pub allowed_may : (setup : Setup) (told : Bool) (s : State) (possible : ℕ → Possible) (event : Event) (call : Call) → HasFacts setup s (possible 0) → WritesOwn setup call → ScansAll s (possible 0) event → BecomesIfDropped setup s possible event → Legal.Allowed setup told s event call
+pub allowed_may : (setup : Setup) (told : Bool) (s : State) (possible : ℕ → Possible) (event : Event) (call : Call) → HasFacts setup s (possible 0) → WritesOwn setup call
+    → ScansAll s (possible 0) event → BecomesIfDropped setup s possible event → Legal.Allowed setup told s event call
     → MayTakeAll setup s possible 0 event.steps
 allowed_may setup told s possible event (put_call digest ttl expect payload now) facts own scans becomes ends = puts setup s possible event digest ttl expect payload now told facts own ends
 allowed_may setup told s possible event (bury_call digest now) facts own scans becomes ends = entombs setup s possible event digest now stamp_given facts own ends
@@ -288,11 +304,14 @@ allowed_may setup told s possible event (get_call digest now) facts own scans be
 allowed_may setup told s possible event (get_call digest now) facts own scans becomes (inr (inl memory)) = none_steps setup s possible event memory.1
 allowed_may setup told s possible event (get_call digest now) facts own scans becomes (inr (inr reads)) = where_reads setup told s possible event (seen s now digest) reads
 allowed_may setup told s possible event flush_call facts own scans becomes ends =
-    flushed_ends setup s possible event (Legal.seal_all s.book) (Legal.flush_all (after_steps setup (Legal.seal_all s.book) s).book) (both_seals _ _) (each_free (after_steps setup (Legal.seal_all s.book) s).book.buffers) ends
+    flushed_ends setup s possible event (Legal.seal_all s.book) (Legal.flush_all (after_steps setup (Legal.seal_all s.book) s).book) (both_seals _ _)
+    (each_free (after_steps setup (Legal.seal_all s.book) s).book.buffers) ends
 allowed_may setup told s possible event flush_sealed_call facts own scans becomes ends =
-    flushed_ends setup s possible event (Legal.seal_low setup s.book) (Legal.flush_all (after_steps setup (Legal.seal_low setup s.book) s).book) (both_seals _ _) (each_free (after_steps setup (Legal.seal_low setup s.book) s).book.buffers) ends
+    flushed_ends setup s possible event (Legal.seal_low setup s.book) (Legal.flush_all (after_steps setup (Legal.seal_low setup s.book) s).book) (both_seals _ _)
+    (each_free (after_steps setup (Legal.seal_low setup s.book) s).book.buffers) ends
 allowed_may setup told s possible event flush_next_call facts own scans becomes ends =
-    flushed_ends setup s possible event (Legal.seal_low setup s.book) (Legal.flush_first (after_steps setup (Legal.seal_low setup s.book) s).book) (both_seals _ _) (first_free (after_steps setup (Legal.seal_low setup s.book) s).book.buffers) ends
+    flushed_ends setup s possible event (Legal.seal_low setup s.book) (Legal.flush_first (after_steps setup (Legal.seal_low setup s.book) s).book) (both_seals _ _)
+    (first_free (after_steps setup (Legal.seal_low setup s.book) s).book.buffers) ends
 allowed_may setup told s possible event choose_call facts own scans becomes (inl only) = none_steps setup s possible event only.1
 allowed_may setup told s possible event choose_call facts own scans becomes (inr (inl memory)) = none_steps setup s possible event memory.1
 allowed_may setup told s possible event choose_call facts own scans becomes (inr (inr reads)) = where_reads setup told s possible event (Legal.queue_front s.book.queue) reads
@@ -312,20 +331,23 @@ allowed_may setup told s possible event (move_call digest block) facts own scans
     moves (inr (inr (inl fails))) = none_steps setup s possible event fails.1
     moves (inr (inr (inr closing))) = all_free setup s possible 0 event.steps (subst AreFree (sym closing.1.1) (refl, tt))
 
-    by : (b : Bool) → MatchBool b (Legal.NoMemory event ⊎ Legal.Unless event (Legal.no_place setup defrag Legal.move_reserve units s.book) Moves) (Legal.Only event (happened false)) → MayTakeAll setup s possible 0 event.steps
+    by : (b : Bool) → MatchBool b (Legal.NoMemory event ⊎ Legal.Unless event (Legal.no_place setup defrag Legal.move_reserve units s.book) Moves) (Legal.Only event (happened false))
+        → MayTakeAll setup s possible 0 event.steps
     by true (inl memory) = none_steps setup s possible event memory.1
     by true (inr rest) = unless setup s possible event (Legal.no_place setup defrag Legal.move_reserve units s.book) Moves (λ _. moves) rest
     by false only = none_steps setup s possible event only.1
 allowed_may setup told s possible event begin_call facts own scans becomes ends = by (nat_le top_number s.raid.number) ends
   where
-    by : (b : Bool) → MatchBool b (Legal.Only event (raid_numbered None)) ((event.answer ≡ raid_numbered (Some (s.raid.number + 1))) × (event.steps ≡ raid_begun ∷ [])) → MayTakeAll setup s possible 0 event.steps
+    by : (b : Bool) → MatchBool b (Legal.Only event (raid_numbered None)) ((event.answer ≡ raid_numbered (Some (s.raid.number + 1))) × (event.steps ≡ raid_begun ∷ []))
+        → MayTakeAll setup s possible 0 event.steps
     by true only = none_steps setup s possible event only.1
     by false begins = all_free setup s possible 0 event.steps (subst AreFree (sym begins.1) (refl, tt))
 allowed_may setup told s possible event (turn_call number turn now) facts own scans becomes ends = by ((number == s.raid.number) && Legal.same_turn turn s.raid.next) refl ends
   where
     by : (b : Bool) → ((number == s.raid.number) && Legal.same_turn turn s.raid.next) ≡ b
         → MatchBool b (Legal.TurnEnds setup told s event turn now) (Legal.Only event (refused (stale s.raid.number s.raid.next))) → MayTakeAll setup s possible 0 event.steps
-    by true is ends = turn_ends setup told s possible event turn now facts scans (same_turn_is turn s.raid.next (and_parts (number == s.raid.number) (Legal.same_turn turn s.raid.next) is).1) becomes ends
+    by true is ends = turn_ends setup told s possible event turn now facts scans
+        (same_turn_is turn s.raid.next (and_parts (number == s.raid.number) (Legal.same_turn turn s.raid.next) is).1) becomes ends
     by false is only = none_steps setup s possible event only.1
 
 -- An event that is allowed keeps the facts in every state on the way, if what it writes belongs to the device and a scan finds what it has to.

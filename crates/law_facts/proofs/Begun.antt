@@ -10,7 +10,8 @@ use Rattle.rec_format.specs.Versions.{version_units}
 use Rattle.model_device.specs.Histories.{Item, write, dropped, rid, cleared, Pending, waiting, begun, flushed, is_pending, is_begun, is_flushed, is_waiting, stage_of, with_number}
 use Rattle.model_device.specs.Book.{Setup, Book, Live, client, defrag, live_of, placing_number, placed, dropped_live, pending_of, with_gate_begun, with_flushed, refreshed}
 use Rattle.model_device.specs.Device.{State, history, history_of, log_with_number}
-use Rattle.model_device.specs.Steps.{Step, wrote, moved, removed, rid_of, uncovered, sealed_stream, gate_begun, flushed_buffer, closing_failed, raid_begun, raid_given_up, marked_part, scanned_block, compared_part, done_part, moved_state, after_step}
+use Rattle.model_device.specs.Steps.{Step, wrote, moved, removed, rid_of, uncovered, sealed_stream, gate_begun, flushed_buffer, closing_failed, raid_begun}
+use Rattle.model_device.specs.Steps.{raid_given_up, marked_part, scanned_block, compared_part, done_part, moved_state, after_step}
 use Rattle.rec_format.proofs.Laws.{same_digest_is}
 use Rattle.model_device.proofs.Numbers.{history_with_number}
 use Rattle.law_start.specs.Awaited.{IsAwaited}
@@ -55,7 +56,8 @@ module _ (number limit : ℕ) (old new : Pending) (awaited : IsAwaited number li
 
 further_flush : (setup : Setup) (number : ℕ) (book : Book) → IsFurther (pending_of book) (pending_of (with_flushed setup number book))
 further_flush setup number book = record {
-  pending = λ m is. ⊎_elim (λ (e : m ≡ number). absurd (both_ways (is_pending (pending_of (with_flushed setup number book)) m) (gone m e) is)) (λ apart. sym (apart_pending setup number book m apart) ∙ is) (cases_eq m number);
+  pending = λ m is. ⊎_elim (λ (e : m ≡ number). absurd (both_ways (is_pending (pending_of (with_flushed setup number book)) m) (gone m e) is))
+      (λ apart. sym (apart_pending setup number book m apart) ∙ is) (cases_eq m number);
   begun = λ m is. ⊎_elim (λ (e : m ≡ number). inr (gone m e)) (λ apart. inl (apart_begun setup number book m apart ∙ is)) (cases_eq m number);
 }
   where
@@ -69,13 +71,15 @@ further_gate number book = record { pending = λ m is. sym (begun_pending number
 abbrev pub HasBegun : State → Digest → Version → Type 0
 HasBegun s d v = Contains (begun_versions (pending_of s.book) (history s d)) v
 
-added_begun : (p : Pending) (b : Bool) (item : Item) (items : List Item) (v : Version) → Contains (begun_versions p items) v → Contains (begun_versions p (item ∷ items)) v → Contains (begun_versions p (cond b (item ∷ items) items)) v
+added_begun : (p : Pending) (b : Bool) (item : Item) (items : List Item) (v : Version) → Contains (begun_versions p items) v → Contains (begun_versions p (item ∷ items)) v
+    → Contains (begun_versions p (cond b (item ∷ items) items)) v
 added_begun p true item items v rest more = more
 added_begun p false item items v rest more = rest
 
 write_begun : (p : Pending) (w : Version) (numbers : List ℕ) (items : List Item) (v : Version) → Contains (begun_versions p items) v → Contains (begun_versions p (write w numbers ∷ items)) v
 write_begun p w numbers items v there =
-    cond_both (is_waiting (stage_of p numbers)) (begun_versions p items) (w ∷ begun_versions p items) (λ (l : List Version). Contains l v) (λ _. there) (λ _. rest_there w (begun_versions p items) v there)
+    cond_both (is_waiting (stage_of p numbers)) (begun_versions p items) (w ∷ begun_versions p items) (λ (l : List Version). Contains l v) (λ _. there)
+    (λ _. rest_there w (begun_versions p items) v there)
 
 module _ (setup : Setup) (s : State) (counted : HasRisingNumbers s.book) (numbers : AreNumbered s) where
   moved_begun : (digest : Digest) (copy : Option Live) (d : Digest) (v : Version) → HasBegun s d v → HasBegun (moved_state setup digest copy s) d v
@@ -94,7 +98,8 @@ module _ (setup : Setup) (s : State) (counted : HasRisingNumbers s.book) (number
       by : (b : Bool) → same_digest d digest ≡ b → Contains (begun_versions new (history_of d (log_with_number digest number s.log))) v
       by false other =
           subst (λ (l : List Item). Contains (begun_versions new l) v) (sym (history_without_number d digest number s.log other))
-          (subst (λ (l : List Version). Contains l v) (sym (begun_same s.book.next_number (pending_of s.book) new (record { pending = awaited.pending; begun = awaited.begun }) (history s d) (numbers d))) has)
+          (subst (λ (l : List Version). Contains l v)
+          (sym (begun_same s.book.next_number (pending_of s.book) new (record { pending = awaited.pending; begun = awaited.begun }) (history s d) (numbers d))) has)
       by true same =
           subst (λ (x : Digest). Contains (begun_versions new (history_of d (log_with_number x number s.log))) v) (same_digest_is d digest same)
           (subst (λ (l : List Item). Contains (begun_versions new l) v) (sym (history_with_number d number s.log))
@@ -106,7 +111,8 @@ module _ (setup : Setup) (s : State) (counted : HasRisingNumbers s.book) (number
   begun_stay (wrote digest w) d v has =
       let awaited = placed_awaited setup client digest (version_units w) s.book counted in
       let new = pending_of (placed setup client digest (version_units w) s.book) in
-      let now = subst (λ (l : List Version). Contains l v) (sym (begun_same s.book.next_number (pending_of s.book) new (record { pending = awaited.pending; begun = awaited.begun }) (history s d) (numbers d))) has in
+      let now = subst (λ (l : List Version). Contains l v) (sym
+      (begun_same s.book.next_number (pending_of s.book) new (record { pending = awaited.pending; begun = awaited.begun }) (history s d) (numbers d))) has in
       let item = write w (placing_number setup client (version_units w) s.book ∷ []) in
       added_begun new (same_digest d digest) item (history s d) v now (write_begun new w (placing_number setup client (version_units w) s.book ∷ []) (history s d) v now)
   begun_stay (moved digest) d v has = moved_begun digest (live_of digest s.book.live) d v has

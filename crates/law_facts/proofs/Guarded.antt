@@ -205,7 +205,8 @@ module _ (items : List Item) (P : Version → Type 0) (v : Version) (numbers : L
   pub guarded_write : IsGuarded new more
   guarded_write = record {
     falling = (later, g.falling);
-    written = λ w may. ⊎_elim (λ (h : P w). rest_there v (writes_of items) w (g.written w h)) (λ (same : w ≡ v). subst (Contains (v ∷ writes_of items)) (sym same) (first_there v (writes_of items))) may;
+    written = λ w may. ⊎_elim (λ (h : P w). rest_there v (writes_of items) w (g.written w h))
+        (λ (same : w ≡ v). subst (Contains (v ∷ writes_of items)) (sym same) (first_there v (writes_of items))) may;
     standing = λ t n. ⊎_elim (λ (same : v ≡ t). subst (Contains (v ∷ standing_writes items)) same (first_there v (standing_writes items)))
         (λ (old : IsNeeded items P t). rest_there v (standing_writes items) t (g.standing t old)) (which t n);
     covered = λ t n. cover (is_tombstone v) refl (which t n) n.is_one;
@@ -219,7 +220,8 @@ module _ (items : List Item) (P : Version → Type 0) (v : Version) (numbers : L
 
       bare : (t p : Version) → IsNeeded new more t → more p → is_put p ≡ true → is_later p t ≡ true → (v ≡ t) ⊎ IsNeeded items P t → p.cover ≡ true
       bare t p n may is_a after (inl same) =
-          absurd (not_after p (⊎_elim (λ (h : P p). rest_there v (writes_of items) p (g.written p h)) (λ (is : p ≡ v). subst (Contains (v ∷ writes_of items)) (sym is) (first_there v (writes_of items))) may)
+          absurd (not_after p (⊎_elim (λ (h : P p). rest_there v (writes_of items) p (g.written p h))
+          (λ (is : p ≡ v). subst (Contains (v ∷ writes_of items)) (sym is) (first_there v (writes_of items))) may)
           (subst (λ (w : Version). is_later p w ≡ true) (sym same) after))
       bare t p n (inl h) is_a after (inr old) = g.puts t p old h is_a after
       bare t p n (inr same) is_a after (inr old) =

@@ -68,12 +68,14 @@ unfolding after_step
 removed_facts setup s possible digest bare facts =
     item_free setup s digest dropped (dropped_live setup digest s.book) possible refl (uncovered_free (history s digest) (somewhere possible digest) (facts.guarded digest) bare) facts
 
-none_needed : (setup : Setup) (s : State) (possible : Possible) (digest : Digest) → NoneOlder s possible digest → HasFacts setup s possible → (t : Version) → IsNeeded (history s digest) (somewhere possible digest) t → ⊥
+none_needed : (setup : Setup) (s : State) (possible : Possible) (digest : Digest) → NoneOlder s possible digest → HasFacts setup s possible → (t : Version)
+    → IsNeeded (history s digest) (somewhere possible digest) t → ⊥
 none_needed setup s possible digest none facts =
     none_older_free (history s digest) (somewhere possible digest) (facts.guarded digest) (λ e top v there later. none there.0 v (record { newer = e; top = top; may_come = there.1; later = later }))
 
 -- where no possible copy is older than the entry, a raid removes it, or clears its cover flag
-pub rid_facts : (setup : Setup) (s : State) (possible : Possible) (digest : Digest) → NoneOlder s possible digest → HasFacts setup s possible → HasFacts setup (after_step setup (rid_of digest) s) possible
+pub rid_facts : (setup : Setup) (s : State) (possible : Possible) (digest : Digest) → NoneOlder s possible digest → HasFacts setup s possible
+    → HasFacts setup (after_step setup (rid_of digest) s) possible
 unfolding after_step
 rid_facts setup s possible digest none facts = item_free setup s digest rid (dropped_live setup digest s.book) possible refl (none_needed setup s possible digest none facts) facts
 

@@ -2,7 +2,8 @@
 use Rattle.std.proofs.Common.{ℕ, ◌+◌, List, [], ◌∷◌}
 use Rattle.model_device.specs.Book.{Setup}
 use Rattle.model_device.specs.Device.{State}
-use Rattle.model_device.specs.Steps.{Step, wrote, moved, removed, rid_of, uncovered, sealed_stream, gate_begun, flushed_buffer, closing_failed, raid_begun, raid_given_up, marked_part, scanned_block, compared_part, done_part, after_step}
+use Rattle.model_device.specs.Steps.{Step, wrote, moved, removed, rid_of, uncovered, sealed_stream, gate_begun, flushed_buffer, closing_failed, raid_begun}
+use Rattle.model_device.specs.Steps.{raid_given_up, marked_part, scanned_block, compared_part, done_part, after_step}
 use Rattle.law_facts.specs.Facts.{Possible, HasFacts}
 use Rattle.law_facts.specs.Asking.{MayTake, MayTakeAll, BecomesAlong, FactsAlong}
 use Rattle.law_facts.proofs.Stay.{facts_become, moved_facts, sealed_facts, begun_facts, flushed_facts, closing_facts}

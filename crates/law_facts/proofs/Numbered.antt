@@ -7,7 +7,8 @@ use Rattle.rec_format.specs.Versions.{version_units}
 use Rattle.model_device.specs.Histories.{Item, write, dropped, rid, cleared, with_number, without_numbers}
 use Rattle.model_device.specs.Book.{Setup, Live, client, defrag, live_of, placing_number, placed, dropped_live, with_flushed, refreshed}
 use Rattle.model_device.specs.Device.{State, history, history_of, log_with_number}
-use Rattle.model_device.specs.Steps.{Step, wrote, moved, removed, rid_of, uncovered, sealed_stream, gate_begun, flushed_buffer, closing_failed, raid_begun, raid_given_up, marked_part, scanned_block, compared_part, done_part, moved_state, after_step}
+use Rattle.model_device.specs.Steps.{Step, wrote, moved, removed, rid_of, uncovered, sealed_stream, gate_begun, flushed_buffer, closing_failed, raid_begun}
+use Rattle.model_device.specs.Steps.{raid_given_up, marked_part, scanned_block, compared_part, done_part, moved_state, after_step}
 use Rattle.rec_format.proofs.Laws.{same_digest_is}
 use Rattle.model_device.proofs.Numbers.{history_with_number, next_number_rises}
 use Rattle.block_format.specs.Layout.{Body}

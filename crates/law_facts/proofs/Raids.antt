@@ -11,7 +11,8 @@ use Rattle.rec_format.specs.Places.{same_digest}
 use Rattle.rec_format.specs.Versions.{is_later}
 use Rattle.model_device.specs.Book.{Setup}
 use Rattle.model_device.specs.Device.{State, RaidState, Turn, mark_turn, scan_turn, drop_turn, finished, entry, stamp_of, part_of}
-use Rattle.model_device.specs.Steps.{raid_begun, raid_given_up, marked_part, scanned_block, compared_part, done_part, after_step, after_scan, first_part, turn_with, raid_at_begin, raid_at_end, has_older, is_older_than, part_total}
+use Rattle.model_device.specs.Steps.{raid_begun, raid_given_up, marked_part, scanned_block, compared_part, done_part, after_step, after_scan, first_part}
+use Rattle.model_device.specs.Steps.{turn_with, raid_at_begin, raid_at_end, has_older, is_older_than, part_total}
 use Rattle.rec_format.proofs.Laws.{same_digest_refl}
 use Rattle.law_start.specs.Surviving.{IsPossible, HasNoOlder}
 use Rattle.law_start.proofs.Growing.{cons_cases}
@@ -46,7 +47,14 @@ at_turn setup s possible turn is facts = subst (IsInTurn setup s.raid) is facts.
 raid_facts : (setup : Setup) (s : State) (possible : Possible) (r : RaidState)
     → ((block : ℕ) (digest : Digest) (v : Version) → Contains r.marked digest → IsOlder s possible block digest v → IsAhead r block digest v)
     → IsInTurn setup r r.next → HasFacts setup s possible → HasFacts setup (record s { raid = r }) possible
-raid_facts setup s possible r marks turn facts = record { guarded = facts.guarded; own = facts.own; blocks = facts.blocks; marks = λ block digest v marked o. marks block digest v marked (record { newer = o.newer; top = o.top; may_come = o.may_come; later = o.later }); turn = turn }
+raid_facts setup s possible r marks turn facts = record {
+  guarded = facts.guarded;
+  own = facts.own;
+  blocks = facts.blocks;
+  marks =
+      λ block digest v marked o. marks block digest v marked (record { newer = o.newer; top = o.top; may_come = o.may_come; later = o.later });
+  turn = turn;
+}
 
 none_marked : (digest : Digest) {X : Type 0} → Contains {X = Digest} [] digest → X
 none_marked digest there = absurd (omega (arith, there.1))
@@ -60,7 +68,8 @@ unfolding after_step
 raid_given_up_facts setup s possible facts = raid_facts setup s possible (raid_at_end s.raid) (λ block digest v marked o. none_marked digest marked) tt facts
 
 -- a part is marked: nothing is scanned yet
-pub marked_facts : (setup : Setup) (s : State) (possible : Possible) (part now : ℕ) → s.raid.next ≡ mark_turn part → HasFacts setup s possible → HasFacts setup (after_step setup (marked_part part now) s) possible
+pub marked_facts : (setup : Setup) (s : State) (possible : Possible) (part now : ℕ) → s.raid.next ≡ mark_turn part → HasFacts setup s possible
+    → HasFacts setup (after_step setup (marked_part part now) s) possible
 unfolding after_step
 marked_facts setup s possible part now is facts =
     let none = at_turn setup s possible (mark_turn part) is facts in
@@ -141,7 +150,8 @@ compared_facts setup s possible part facts =
 -- ---- the marks are dropped
 
 -- no possible copy is older than a marked entry
-pub none_older : (setup : Setup) (s : State) (possible : Possible) (digest : Digest) (part : ℕ) → s.raid.next ≡ drop_turn part → Contains s.raid.marked digest → HasFacts setup s possible → NoneOlder s possible digest
+pub none_older : (setup : Setup) (s : State) (possible : Possible) (digest : Digest) (part : ℕ) → s.raid.next ≡ drop_turn part → Contains s.raid.marked digest → HasFacts setup s possible
+    → NoneOlder s possible digest
 none_older setup s possible digest part is marked facts block v o = ahead (facts.marks block digest v marked o)
   where
     done : (setup.blocks ≤ s.raid.scanned) × (s.raid.found ≡ [])

@@ -26,10 +26,12 @@ pub flushed_written : (p : Pending) (items : List Item) (v : Version) → Contai
 flushed_written p [] v there = there
 flushed_written p (write u numbers ∷ older) v there = by (is_flushed p numbers) there (flushed_written p older v)
   where
-    by : (b : Bool) → Contains (cond b (u ∷ flushed_versions p older) (flushed_versions p older)) v → (Contains (flushed_versions p older) v → Contains (writes_of older) v) → Contains (u ∷ writes_of older) v
+    by : (b : Bool) → Contains (cond b (u ∷ flushed_versions p older) (flushed_versions p older)) v → (Contains (flushed_versions p older) v → Contains (writes_of older) v)
+        → Contains (u ∷ writes_of older) v
     by false there rest = rest_there u (writes_of older) v (rest there)
     by true there rest =
-        ⊎_elim (λ (e : u ≡ v). subst (Contains (u ∷ writes_of older)) e (first_there u (writes_of older))) (λ (more : Contains (flushed_versions p older) v). rest_there u (writes_of older) v (rest more))
+        ⊎_elim (λ (e : u ≡ v). subst (Contains (u ∷ writes_of older)) e (first_there u (writes_of older)))
+        (λ (more : Contains (flushed_versions p older) v). rest_there u (writes_of older) v (rest more))
         (cons_cases u (flushed_versions p older) v there)
 flushed_written p (dropped ∷ older) v there = flushed_written p older v there
 flushed_written p (rid ∷ older) v there = flushed_written p older v there
@@ -67,7 +69,8 @@ flushed_reached p (rid ∷ older) falling durable = absurd (false≢true durable
 flushed_reached p (cleared ∷ older) falling durable = let r = flushed_reached p older falling durable in record { found = r.found; there = r.there; last = r.last }
 
 -- an image that is held, and whose copies are possible, is left
-pub held_left : (setup : Setup) (s : State) (possible : Possible) (image : List ℕ) (bodies : List Body) → HasFacts setup s possible → AllByRecursion (λ c. possible c.block c.digest c.version) (copies_of bodies)
+pub held_left : (setup : Setup) (s : State) (possible : Possible) (image : List ℕ) (bodies : List Body) → HasFacts setup s possible
+    → AllByRecursion (λ c. possible c.block c.digest c.version) (copies_of bodies)
     → Reflects setup s image bodies → IsLeft setup s possible image bodies
 held_left setup s possible image bodies facts may_come h = record {
   shape = h.shape;

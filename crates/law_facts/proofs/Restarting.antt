@@ -38,7 +38,8 @@ falling_behind (rid ∷ lost) kept falling = falling_behind lost kept falling
 falling_behind (cleared ∷ lost) kept falling = falling_behind lost kept falling
 
 -- a write that no kept one is later than is kept
-kept_or_later : (lost kept : List Item) (c v : Version) → IsFalling (writes_of (lost ++ kept)) → Contains (writes_of kept) c → is_later v c ≡ false → Contains (writes_of (lost ++ kept)) v → Contains (writes_of kept) v
+kept_or_later : (lost kept : List Item) (c v : Version) → IsFalling (writes_of (lost ++ kept)) → Contains (writes_of kept) c → is_later v c ≡ false → Contains (writes_of (lost ++ kept)) v
+    → Contains (writes_of kept) v
 kept_or_later [] kept c v falling there no_later in_v = in_v
 kept_or_later (write u numbers ∷ lost) kept c v falling there no_later in_v = by (cons_cases u (writes_of (lost ++ kept)) v in_v) (kept_or_later lost kept c v falling.1 there no_later)
   where
@@ -52,7 +53,8 @@ kept_or_later (rid ∷ lost) kept c v falling there no_later in_v = kept_or_late
 kept_or_later (cleared ∷ lost) kept c v falling there no_later in_v = kept_or_later lost kept c v falling there no_later in_v
 
 -- a kept write since the last removal is one since the last removal among those kept
-standing_behind : (lost kept : List Item) (t : Version) → IsFalling (writes_of (lost ++ kept)) → Contains (writes_of kept) t → Contains (standing_writes (lost ++ kept)) t → Contains (standing_writes kept) t
+standing_behind : (lost kept : List Item) (t : Version) → IsFalling (writes_of (lost ++ kept)) → Contains (writes_of kept) t → Contains (standing_writes (lost ++ kept)) t
+    → Contains (standing_writes kept) t
 standing_behind [] kept t falling there stands = stands
 standing_behind (write u numbers ∷ lost) kept t falling there stands = by (cons_cases u (standing_writes (lost ++ kept)) t stands) (standing_behind lost kept t falling.1 there)
   where
@@ -105,7 +107,8 @@ ends_in p (cleared ∷ older) c ends shown = absurd (false≢true ends)
 -- ---- one history
 
 -- what is kept of a history guards the copies that were read, the latest of which is shown
-module _ (p : Pending) (items : List Item) (kept : List Item) (P Q : Version → Type 0) (g : IsGuarded items P) (keeps : Keeps p items kept) (fewer : (v : Version) → Q v → P v) (c : Version) (shown : last_write kept ≡ Some c) (read : Q c)
+module _ (p : Pending) (items : List Item) (kept : List Item) (P Q : Version → Type 0) (g : IsGuarded items P) (keeps : Keeps p items kept) (fewer : (v : Version) → Q v → P v) (c : Version)
+    (shown : last_write kept ≡ Some c) (read : Q c)
     (none_later : (v : Version) → Q v → is_later v c ≡ false) (tombstones : is_tombstone c ≡ true → c.cover ≡ true) where
   abbrev lost : List Item
   lost = keeps.lost
@@ -179,7 +182,8 @@ module _ (setup : Setup) (s new : State) (image : List ℕ) (possible : Possible
   is_version digest v q =
       all_at IsVersion (writes_of (history (start_state setup r.bodies) digest)) v (start_orderly setup image r.bodies r.sound digest).versions (read_written setup image r.bodies r.sound digest v q)
 
-  guarded_at : (digest : Digest) (found : Option Copy) → latest (copies_named digest copies) ≡ found → IfSome found (IsNewest (copies_named digest copies)) → IsGuarded (without_numbers (r.kept digest).0) (Q digest)
+  guarded_at : (digest : Digest) (found : Option Copy) → latest (copies_named digest copies) ≡ found → IfSome found (IsNewest (copies_named digest copies))
+      → IsGuarded (without_numbers (r.kept digest).0) (Q digest)
   guarded_at digest None e is =
       let k = r.kept digest in
       unread_guarded (history s digest) k.1.keeps.lost k.0 (somewhere possible digest) (Q digest) (facts.guarded digest) k.1.keeps.parts
@@ -196,7 +200,8 @@ module _ (setup : Setup) (s new : State) (image : List ℕ) (possible : Possible
   -- the facts hold, if the copies that were read were possible
   pub restart_facts : HasFacts setup new (copies_among r.bodies)
   restart_facts = record {
-    guarded = λ digest. subst (λ (l : List Item). IsGuarded l (Q digest)) (sym (r.kept digest).2) (guarded_at digest (latest (copies_named digest copies)) refl (latest_is (copies_named digest copies)));
+    guarded = λ digest. subst (λ (l : List Item). IsGuarded l (Q digest)) (sym (r.kept digest).2)
+        (guarded_at digest (latest (copies_named digest copies)) refl (latest_is (copies_named digest copies)));
     own = λ digest v there.
         let k = r.kept digest in
         facts.own digest v (subst (λ (l : List Item). Contains (writes_of l) v) (sym k.1.keeps.parts)

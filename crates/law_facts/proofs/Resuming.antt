@@ -77,7 +77,8 @@ module _ (setup : Setup) (s new : State) (image : List ℕ) (possible : Possible
         found = c.version;
         there = map_there (λ (d : Copy). d.version) (copies_named digest (copies_of r.bodies)) c is.there;
         last = subst (λ (l : List Item). AllByRecursion (λ w. is_later w c.version ≡ false) (flushed_versions pending l)) (sym k.2)
-            (none_behind (pending_of s.book) pending k.0 c.version k.1.keeps.end (sym k.1.shown ∙ ap version_of e) (subst (λ (l : List Item). IsFalling (writes_of l)) k.2 (after.guarded digest).falling));
+            (none_behind (pending_of s.book) pending k.0 c.version k.1.keeps.end (sym k.1.shown ∙ ap version_of e)
+            (subst (λ (l : List Item). IsFalling (writes_of l)) k.2 (after.guarded digest).falling));
       }
 
   has_begun : (c : Copy) → Contains (copies_of r.bodies) c → Contains (begun_versions pending (history new c.digest)) c.version

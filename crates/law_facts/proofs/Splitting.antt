@@ -5,7 +5,8 @@ use Rattle.std.specs.Prelude.{Contains, IsTrue, Some}
 use Rattle.std.specs.List.{AllByRecursion}
 use Rattle.rec_format.specs.declared.version.Version.{Version}
 use Rattle.rec_format.specs.Versions.{is_later, is_tombstone}
-use Rattle.model_device.specs.Histories.{Item, write, dropped, rid, cleared, Pending, is_flushed, is_waiting, stage_of, has_flushed, has_flushed_tombstone, is_durable, ends_well, last_write, writes_of}
+use Rattle.model_device.specs.Histories.{Item, write, dropped, rid, cleared, Pending, is_flushed, is_waiting, stage_of, has_flushed, has_flushed_tombstone}
+use Rattle.model_device.specs.Histories.{is_durable, ends_well, last_write, writes_of}
 use Rattle.law_start.specs.Orderly.{IsFalling}
 use Rattle.law_start.specs.Holding.{begun_versions, flushed_versions}
 use Rattle.law_start.proofs.Growing.{all_at, cons_cases, same_not_later}
@@ -24,7 +25,8 @@ pub record IsSplitAt (p : Pending) (items : List Item) (v : Version) : Type 0 wh
   pub later : AllByRecursion (λ w. is_later w v ≡ true) (writes_of lost)
 
 -- one item more is lost
-lost_too : (p : Pending) (item : Item) (items : List Item) (v : Version) → (s : IsSplitAt p items v) → AllByRecursion (λ w. is_later w v ≡ true) (writes_of (item ∷ s.lost)) → IsSplitAt p (item ∷ items) v
+lost_too : (p : Pending) (item : Item) (items : List Item) (v : Version) → (s : IsSplitAt p items v) → AllByRecursion (λ w. is_later w v ≡ true) (writes_of (item ∷ s.lost))
+    → IsSplitAt p (item ∷ items) v
 lost_too p item items v s later = record { lost = item ∷ s.lost; kept = s.kept; parts = ap (λ (l : List Item). item ∷ l) s.parts; end = s.end; shown = s.shown; later = later }
 
 pub split_at : (p : Pending) (items : List Item) (v : Version) → IsFalling (writes_of items) → Contains (begun_versions p items) v → IsSplitAt p items v
@@ -36,7 +38,8 @@ split_at p (write u numbers ∷ older) v falling there = by (is_waiting (stage_o
         let s = rest more in
         lost_too p (write u numbers) older v s (all_at (λ w. is_later u w ≡ true) (writes_of older) v falling.0 (begun_written p older v more), s.later)
 
-    here : is_waiting (stage_of p numbers) ≡ false → (Contains (begun_versions p older) v → IsSplitAt p older v) → (u ≡ v) ⊎ Contains (begun_versions p older) v → IsSplitAt p (write u numbers ∷ older) v
+    here : is_waiting (stage_of p numbers) ≡ false → (Contains (begun_versions p older) v → IsSplitAt p older v) → (u ≡ v) ⊎ Contains (begun_versions p older) v
+        → IsSplitAt p (write u numbers ∷ older) v
     here is rest (inl e) = record { lost = []; kept = write u numbers ∷ older; parts = refl; end = ap not is; shown = ap (λ (w : Version). Some w) e; later = tt }
     here is rest (inr more) = past rest more
 
@@ -67,7 +70,8 @@ lost_unflushed p (cleared ∷ lost) kept v later none = lost_unflushed p lost ke
 pub writes_joined : (a b : List Item) (v : Version) → Contains (writes_of a) v → Contains (writes_of (a ++ b)) v
 writes_joined [] b v there = absurd (omega (arith, there.1))
 writes_joined (write u numbers ∷ a) b v there =
-    ⊎_elim (λ (e : u ≡ v). subst (Contains (u ∷ writes_of (a ++ b))) e (first_there u (writes_of (a ++ b)))) (λ (more : Contains (writes_of a) v). rest_there u (writes_of (a ++ b)) v (writes_joined a b v more))
+    ⊎_elim (λ (e : u ≡ v). subst (Contains (u ∷ writes_of (a ++ b))) e (first_there u (writes_of (a ++ b))))
+    (λ (more : Contains (writes_of a) v). rest_there u (writes_of (a ++ b)) v (writes_joined a b v more))
     (cons_cases u (writes_of a) v there)
 writes_joined (dropped ∷ a) b v there = writes_joined a b v there
 writes_joined (rid ∷ a) b v there = writes_joined a b v there
@@ -83,7 +87,8 @@ pub flushed_one : (p : Pending) (items : List Item) → has_flushed_tombstone p 
 flushed_one p [] has = absurd (false≢true has)
 flushed_one p (write v numbers ∷ older) has = by (or_cases (is_flushed p numbers && is_tombstone v) (has_flushed_tombstone p older) has) (flushed_one p older)
   where
-    by : ((is_flushed p numbers && is_tombstone v) ≡ true) ⊎ (has_flushed_tombstone p older ≡ true) → (has_flushed_tombstone p older ≡ true → HasTombstone older) → HasTombstone (write v numbers ∷ older)
+    by : ((is_flushed p numbers && is_tombstone v) ≡ true) ⊎ (has_flushed_tombstone p older ≡ true) → (has_flushed_tombstone p older ≡ true → HasTombstone older)
+        → HasTombstone (write v numbers ∷ older)
     by (inl here) rest = record { tombstone = v; there = first_there v (writes_of older); is_one = (and_parts (is_flushed p numbers) (is_tombstone v) here).1 }
     by (inr more) rest = let h = rest more in record { tombstone = h.tombstone; there = rest_there v (writes_of older) h.tombstone h.there; is_one = h.is_one }
 flushed_one p (dropped ∷ older) has = let h = flushed_one p older has in record { tombstone = h.tombstone; there = h.there; is_one = h.is_one }
@@ -110,7 +115,8 @@ standing_durable p (write u numbers ∷ lost) kept falling stand has = by (is_fl
             absurd (same_not_later u t (all_at (λ w. is_later u w ≡ true) (writes_of (lost ++ kept)) t falling.0 (writes_joined lost kept t there)) (ap (λ (w : Version). w.stamp) e))
         past (inr more) = more
 
-    by : (b : Bool) → ((b && is_tombstone u) || has_flushed_tombstone p lost) ≡ true → (has_flushed_tombstone p lost ≡ true → is_durable p (lost ++ kept) ≡ true) → (b || is_durable p (lost ++ kept)) ≡ true
+    by : (b : Bool) → ((b && is_tombstone u) || has_flushed_tombstone p lost) ≡ true → (has_flushed_tombstone p lost ≡ true → is_durable p (lost ++ kept) ≡ true)
+        → (b || is_durable p (lost ++ kept)) ≡ true
     by true e rest = refl
     by false e rest = rest e
 standing_durable p (dropped ∷ lost) kept falling stand has = absurd (none_stands p lost stand has)

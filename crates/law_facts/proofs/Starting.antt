@@ -37,7 +37,8 @@ all_standing (rid ∷ older) writes = absurd writes
 all_standing (cleared ∷ older) writes = absurd writes
 
 -- behind a tombstone that is needed the newest write is covered
-newest_covered : (limit : ℕ) (items : List Item) (t a : Version) → IsOrderlyHistory limit items → Contains (writes_of items) t → Contains (writes_of items) a → is_tombstone t ≡ true → is_later t a ≡ true
+newest_covered : (limit : ℕ) (items : List Item) (t a : Version) → IsOrderlyHistory limit items → Contains (writes_of items) t → Contains (writes_of items) a
+    → is_tombstone t ≡ true → is_later t a ≡ true
     → is_covered items ≡ true
 newest_covered limit [] t a h in_t in_a one later = absurd (omega (arith, in_t.1))
 newest_covered limit (write u numbers ∷ older) t a h in_t in_a one later = by (is_tombstone u) refl (cons_cases u (writes_of older) t in_t)
@@ -89,7 +90,8 @@ module _ (setup : Setup) (image : List ℕ) (bodies : List Body) (sound : IsSoun
   pub read_written : (digest : Digest) (v : Version) → somewhere (copies_among bodies) digest v → Contains (writes_of (history (start_state setup bodies) digest)) v
   read_written digest v there =
       let c = there.1.0 in
-      let mine : Contains (versions_of c.digest (copies_of bodies)) c.version = all_at (λ x. Contains (versions_of x.digest (copies_of bodies)) x.version) (copies_of bodies) c (each_contained (copies_of bodies) sound.twins) there.1.1 in
+      let mine : Contains (versions_of c.digest (copies_of bodies)) c.version =
+      all_at (λ x. Contains (versions_of x.digest (copies_of bodies)) x.version) (copies_of bodies) c (each_contained (copies_of bodies) sound.twins) there.1.1 in
       subst (λ (w : Version). Contains (writes_of (history (start_state setup bodies) digest)) w) there.1.4
       (subst (λ (l : List Version). Contains l c.version) (sym (start_writes digest)) (subst (λ (d : Digest). Contains (versions_of d (copies_of bodies)) c.version) there.1.3 mine))
 

@@ -23,9 +23,11 @@ pub facts_become : (setup : Setup) (s : State) (old new : Possible) → Becomes 
 facts_become setup s old new becomes facts = record {
   guarded = λ digest. guarded_at digest (entry s digest) refl;
   own = facts.own;
-  blocks = λ block digest v there. ⊎_elim (λ (was : old block digest v). facts.blocks block digest v was) (λ (comes : (block < setup.blocks) × (entry s digest ≡ Some v)). comes.0) (becomes block digest v there);
+  blocks = λ block digest v there. ⊎_elim (λ (was : old block digest v). facts.blocks block digest v was) (λ (comes : (block < setup.blocks) × (entry s digest ≡ Some v)). comes.0)
+      (becomes block digest v there);
   marks = λ block digest v marked o. ⊎_elim (λ (was : old block digest v). facts.marks block digest v marked (record { newer = o.newer; top = o.top; may_come = was; later = o.later }))
-      (λ (comes : (block < setup.blocks) × (entry s digest ≡ Some v)). let twice : Some o.newer ≡ Some v = sym o.top ∙ comes.1 in not_itself o.newer v (cc) o.later) (becomes block digest v o.may_come);
+      (λ (comes : (block < setup.blocks) × (entry s digest ≡ Some v)). let twice : Some o.newer ≡ Some v = sym o.top ∙ comes.1 in not_itself o.newer v (cc) o.later)
+      (becomes block digest v o.may_come);
   turn = facts.turn;
 }
   where
@@ -52,7 +54,8 @@ pub record IsAlike (old new : List Item) : Type 0 where
   pub covered : is_covered new ≡ is_covered old
   pub top : top_of new ≡ top_of old
 
-pub facts_alike : (setup : Setup) (s t : State) (possible : Possible) → ((digest : Digest) → IsAlike (history s digest) (history t digest)) → t.raid ≡ s.raid → HasFacts setup s possible → HasFacts setup t possible
+pub facts_alike : (setup : Setup) (s t : State) (possible : Possible) → ((digest : Digest) → IsAlike (history s digest) (history t digest)) → t.raid ≡ s.raid → HasFacts setup s possible
+    → HasFacts setup t possible
 facts_alike setup s t possible alike raid facts = record {
   guarded = λ digest. let a = alike digest in guarded_same (history s digest) (history t digest) (somewhere possible digest) a.writes a.standing a.covered (facts.guarded digest);
   own = λ digest v there. facts.own digest v (subst (λ (l : List Version). Contains l v) (alike digest).writes there);
@@ -117,7 +120,13 @@ numbered_alike digest number log d = by (same_digest d digest) refl
     by true same =
         subst (λ (x : Digest). IsAlike (history_of d log) (history_of d (log_with_number x number log))) (same_digest_is d digest same)
         (subst (IsAlike (history_of d log)) (sym (history_with_number d number log))
-        (record { writes = number_writes number (history_of d log); standing = number_standing number (history_of d log); covered = number_covered number (history_of d log); top = number_top number (history_of d log) }))
+        (record {
+          writes = number_writes number (history_of d log);
+          standing = number_standing number (history_of d log);
+          covered = number_covered number (history_of d log);
+          top =
+              number_top number (history_of d log);
+        }))
 
 moved_alike : (setup : Setup) (digest : Digest) (copy : Option Live) (s : State) (possible : Possible) → HasFacts setup s possible → HasFacts setup (moved_state setup digest copy s) possible
 moved_alike setup digest None s possible facts = facts

@@ -45,7 +45,8 @@ one_stamp (u ∷ versions) a b falling in_a in_b same = by (cons_cases u version
 
 -- ---- one history
 
-module _ (p : Pending) (items : List Item) (possible : Version → Type 0) (v : Version) (g : IsGuarded items possible) (may_come : possible v) (reaches : IsTrue (is_durable p items) → AllByRecursion (λ w. is_later w v ≡ false) (flushed_versions p items))
+module _ (p : Pending) (items : List Item) (possible : Version → Type 0) (v : Version) (g : IsGuarded items possible) (may_come : possible v)
+    (reaches : IsTrue (is_durable p items) → AllByRecursion (λ w. is_later w v ≡ false) (flushed_versions p items))
     (s : IsSplitAt p items v) where
   durable_unflushed : is_durable p items ≡ true → has_flushed p s.lost ≡ false
   durable_unflushed durable =
@@ -102,7 +103,8 @@ module _ (setup : Setup) (s : State) (possible : Possible) (image : List ℕ) (b
       all_from (λ a. AllByRecursion (λ b. IsTrue (same_name a b) → a.version.stamp ≡ b.version.stamp → a.version ≡ b.version) copies) copies
       (λ a in_a. all_from (λ b. IsTrue (same_name a b) → a.version.stamp ≡ b.version.stamp → a.version ≡ b.version) copies
       (λ b in_b same stamp. let g = facts.guarded a.digest in
-      one_stamp (writes_of (history s a.digest)) a.version b.version g.falling (g.written a.version (of_digest a.digest a in_a refl)) (g.written b.version (of_digest a.digest b in_b (same_digest_is a.digest b.digest same))) stamp))
+      one_stamp (writes_of (history s a.digest)) a.version b.version g.falling (g.written a.version (of_digest a.digest a in_a refl))
+      (g.written b.version (of_digest a.digest b in_b (same_digest_is a.digest b.digest same))) stamp))
 
   covered_behind : (a t p : Copy) → Contains copies a → Contains copies t → Contains copies p → IsCopyRule a t p
   covered_behind a t p in_a in_t in_p e =
@@ -130,12 +132,15 @@ module _ (setup : Setup) (s : State) (possible : Possible) (image : List ℕ) (b
   -- ---- what it shows of a digest
 
   -- no flushed write is later than the latest copy
-  none_later : (digest : Digest) (c : Copy) → IsNewest (copies_named digest copies) c → IsTrue (is_durable pending (history s digest)) → AllByRecursion (λ w. is_later w c.version ≡ false) (flushed_versions pending (history s digest))
+  none_later : (digest : Digest) (c : Copy) → IsNewest (copies_named digest copies) c → IsTrue (is_durable pending (history s digest))
+      → AllByRecursion (λ w. is_later w c.version ≡ false) (flushed_versions pending (history s digest))
   none_later digest c is durable =
       let r = left.reaches digest durable in
       let x = map_from (λ (d : Copy). d.version) (copies_named digest copies) r.found r.there in
-      let no_later : is_later r.found c.version ≡ false = subst (λ (v : Version). is_later v c.version ≡ false) x.2 (all_at (λ d. is_later d.version c.version ≡ false) (copies_named digest copies) x.0 is.last x.1) in
-      all_map (λ w. is_later w r.found ≡ false) (λ w. is_later w c.version ≡ false) (flushed_versions pending (history s digest)) (λ w e. no_later_trans w.stamp r.found.stamp c.version.stamp e no_later) r.last
+      let no_later : is_later r.found c.version ≡ false = subst (λ (v : Version). is_later v c.version ≡ false) x.2
+      (all_at (λ d. is_later d.version c.version ≡ false) (copies_named digest copies) x.0 is.last x.1) in
+      all_map (λ w. is_later w r.found ≡ false) (λ w. is_later w c.version ≡ false) (flushed_versions pending (history s digest))
+      (λ w e. no_later_trans w.stamp r.found.stamp c.version.stamp e no_later) r.last
 
   shown_at : (digest : Digest) (found : Option Copy) → latest (copies_named digest copies) ≡ found → IfSome found (IsNewest (copies_named digest copies))
       → (kept : List Item) × Keeps pending (history s digest) kept × (version_of found ≡ last_write kept)
@@ -149,7 +154,8 @@ module _ (setup : Setup) (s : State) (possible : Possible) (image : List ℕ) (b
   shown_at digest (Some c) e is =
       let found = filter_from (λ (d : Copy). same_digest digest d.digest) copies c is.there in
       let same = same_digest_is digest c.digest found.1 in
-      let begun = subst (λ (d : Digest). Contains (begun_versions pending (history s d)) c.version) (sym same) (all_at (λ d. Contains (begun_versions pending (history s d.digest)) d.version) copies c left.begun found.0) in
+      let begun = subst (λ (d : Digest). Contains (begun_versions pending (history s d)) c.version) (sym same)
+      (all_at (λ d. Contains (begun_versions pending (history s d.digest)) d.version) copies c left.begun found.0) in
       let g = facts.guarded digest in
       let split = split_at pending (history s digest) c.version g.falling begun in
       (split.kept, split_keeps pending (history s digest) (somewhere possible digest) c.version g (of_digest digest c found.0 same) (none_later digest c is) split, sym split.shown)

@@ -28,7 +28,8 @@ use Rattle.law_images.specs.Kept.{possible_in, BookInOrder, IsInOrder, IsKept}
 use Rattle.law_images.specs.Changes.{Appends}
 use Rattle.law_images.proofs.Stepping.{WaitedOrCame, book_in_order, step_book, step_in_order, step_kept, whole_kept, none_in}
 
-module _ (setup : Setup) (s : State) (old new : Records) (order : BookInOrder setup s old) (stream : Stream) (units : ℕ) (digest : Digest) (v : Version) (appends : Appends setup stream units digest v s.book old new) where
+module _ (setup : Setup) (s : State) (old new : Records) (order : BookInOrder setup s old) (stream : Stream) (units : ℕ) (digest : Digest) (v : Version)
+    (appends : Appends setup stream units digest v s.book old new) where
   abbrev number : ℕ
   number = placing_number setup stream units s.book
 
@@ -39,16 +40,21 @@ module _ (setup : Setup) (s : State) (old new : Records) (order : BookInOrder se
   still_empty : (n : ℕ) → book.next_number ≤ n → s.book.next_number ≤ book.next_number → new n ≡ []
   still_empty n le up = none_in (new n) (λ r there.
       ⊎_elim (λ (was : Contains (old n) r). let none = subst (λ (l : List (Digest × Version)). Contains l r) (order.ahead n (omega arith)) was in omega (arith, none.1))
-      (λ (is : (n ≡ number) × (r ≡ (digest, v))). let below = placing_below setup stream digest units s.book order.numbered.counted in let same = is.0 in omega (arith, below, same)) (appends.only n r there))
+      (λ (is : (n ≡ number) × (r ≡ (digest, v))). let below = placing_below setup stream digest units s.book order.numbered.counted in let same = is.0 in omega (arith, below, same))
+      (appends.only n r there))
 
   -- What waits waited before, or is the copy that is appended.
-  came : (g : Geometry) (images : Images) (after : State) → after.book ≡ book → AllByRecursion (λ p. p.1 < setup.blocks) (places_of after.book) → entry after digest ≡ Some v → WaitedOrCame setup g s after old new images
-  came g images after booked within top n block d w waits = by (appends.only n (d, w) waits.has) (placed_places setup stream digest units s.book (n, block) (subst (λ (b : Book). Contains (places_of b) (n, block)) booked waits.placed))
+  came : (g : Geometry) (images : Images) (after : State) → after.book ≡ book → AllByRecursion (λ p. p.1 < setup.blocks) (places_of after.book) → entry after digest ≡ Some v
+      → WaitedOrCame setup g s after old new images
+  came g images after booked within top n block d w waits = by (appends.only n (d, w) waits.has)
+      (placed_places setup stream digest units s.book (n, block) (subst (λ (b : Book). Contains (places_of b) (n, block)) booked waits.placed))
     where
-      by : Contains (old n) (d, w) ⊎ ((n ≡ number) × (◌≡◌ {A = Digest × Version} (d, w) (digest, v))) → Contains (places_of s.book) (n, block) ⊎ ((has_room setup stream units s.book ≡ false) × (◌≡◌ {A = ℕ × ℕ} (n, block) (s.book.next_number, first_block s.book.free)))
+      by : Contains (old n) (d, w) ⊎ ((n ≡ number) × (◌≡◌ {A = Digest × Version} (d, w) (digest, v))) → Contains (places_of s.book) (n, block)
+          ⊎ ((has_room setup stream units s.book ≡ false) × (◌≡◌ {A = ℕ × ℕ} (n, block) (s.book.next_number, first_block s.book.free)))
           → possible_in g s.book old images block d w ⊎ ((block < setup.blocks) × (entry after d ≡ Some w))
       by (inl was) (inl there) = inl (inl (n, record { placed = there; has = was }))
-      by (inl was) (inr next) = absurd (let same = ap (λ (p : ℕ × ℕ). p.0) next.1 in let none = subst (λ (l : List (Digest × Version)). Contains l (d, w)) (order.ahead n (omega (arith, same))) was in omega (arith, none.1))
+      by (inl was) (inr next) = absurd (let same = ap (λ (p : ℕ × ℕ). p.0) next.1 in let none =
+          subst (λ (l : List (Digest × Version)). Contains l (d, w)) (order.ahead n (omega (arith, same))) was in omega (arith, none.1))
       by (inr is) there = inr (
         all_at (λ p. p.1 < setup.blocks) (places_of after.book) (n, block) within waits.placed,
         ap (λ (r : Digest × Version). entry after r.0) is.1 ∙ top ∙ sym (ap (λ (r : Digest × Version). Some r.1) is.1),
@@ -70,15 +76,19 @@ module _ (setup : Setup) (s : State) (old new : Records) (digest : Digest) (v : 
   pub wrote_booked : BookInOrder setup s old → Appends setup client (version_units v) digest v s.book old new → BookInOrder setup (after_step setup (wrote digest v) s) new
   wrote_booked order appends =
       step_book setup s old new (wrote digest v) order appends.room
-      (λ n le. still_empty setup s old new order client (version_units v) digest v appends n (subst (λ (b : Book). b.next_number ≤ n) wrote_book le) (subst (λ (b : Book). s.book.next_number ≤ b.next_number) wrote_book (next_number_rises setup (wrote digest v) s)))
+      (λ n le. still_empty setup s old new order client (version_units v) digest v appends n (subst (λ (b : Book). b.next_number ≤ n) wrote_book le)
+      (subst (λ (b : Book). s.book.next_number ≤ b.next_number) wrote_book (next_number_rises setup (wrote digest v) s)))
 
   pub wrote_in_order : IsInOrder setup s old → Appends setup client (version_units v) digest v s.book old new → IsInOrder setup (after_step setup (wrote digest v) s) new
   wrote_in_order order appends =
-      step_in_order setup s old new (wrote digest v) order appends.room appends.only (step_whole setup s new order.numbered (whole_kept s old new appends.keeps order.whole) [] (wrote digest v) appends.there)
-      (λ n le. still_empty setup s old new (book_in_order order) client (version_units v) digest v appends n (subst (λ (b : Book). b.next_number ≤ n) wrote_book le) (subst (λ (b : Book). s.book.next_number ≤ b.next_number) wrote_book (next_number_rises setup (wrote digest v) s)))
+      step_in_order setup s old new (wrote digest v) order appends.room appends.only
+      (step_whole setup s new order.numbered (whole_kept s old new appends.keeps order.whole) [] (wrote digest v) appends.there)
+      (λ n le. still_empty setup s old new (book_in_order order) client (version_units v) digest v appends n (subst (λ (b : Book). b.next_number ≤ n) wrote_book le)
+      (subst (λ (b : Book). s.book.next_number ≤ b.next_number) wrote_book (next_number_rises setup (wrote digest v) s)))
 
   -- A version that may be written is appended to the client stream.
-  pub wrote_kept : (g : Geometry) (images : Images) → IsKept setup g s old images → MayBeWritten setup s digest v → Appends setup client (version_units v) digest v s.book old new → IsKept setup g (after_step setup (wrote digest v) s) new images
+  pub wrote_kept : (g : Geometry) (images : Images) → IsKept setup g s old images → MayBeWritten setup s digest v → Appends setup client (version_units v) digest v s.book old new
+      → IsKept setup g (after_step setup (wrote digest v) s) new images
   wrote_kept g images kept may appends =
       let order = wrote_in_order kept.order appends in
       step_kept setup g s old new images (wrote digest v) kept appends.room may appends.keeps order (λ c image bodies r. appends.there)
@@ -101,7 +111,8 @@ module _ (setup : Setup) (s : State) (old new : Records) (digest : Digest) (copy
   pub moved_booked : (v : Version) → BookInOrder setup s old → Appends setup defrag copy.units digest v s.book old new → BookInOrder setup (after_step setup (moved digest) s) new
   moved_booked v order appends =
       step_book setup s old new (moved digest) order (moved_room appends.room)
-      (λ n le. still_empty setup s old new order defrag copy.units digest v appends n (subst (λ (b : Book). b.next_number ≤ n) moved_book le) (subst (λ (b : Book). s.book.next_number ≤ b.next_number) moved_book (next_number_rises setup (moved digest) s)))
+      (λ n le. still_empty setup s old new order defrag copy.units digest v appends n (subst (λ (b : Book). b.next_number ≤ n) moved_book le)
+      (subst (λ (b : Book). s.book.next_number ≤ b.next_number) moved_book (next_number_rises setup (moved digest) s)))
 
 module _ (setup : Setup) (s : State) (old new : Records) (digest : Digest) (copy : Live) (live : live_of digest s.book.live ≡ Some copy) (v : Version) (top : entry s digest ≡ Some v) where
   pub moved_entry : entry (after_step setup (moved digest) s) digest ≡ Some v
@@ -114,7 +125,8 @@ module _ (setup : Setup) (s : State) (old new : Records) (digest : Digest) (copy
     room = moved_room setup s old new digest copy live appends.room
 
     adds : AddsPlaced setup s (moved digest) old new
-    adds = subst (λ (o : Option Live). MatchOption o (AddsNone old new) (λ l. (w : Version) × (entry s digest ≡ Some w) × AddsOnly (placing_number setup defrag l.units s.book) digest w old new)) (sym live) (v, top, appends.only)
+    adds = subst (λ (o : Option Live). MatchOption o (AddsNone old new) (λ l. (w : Version) × (entry s digest ≡ Some w)
+        × AddsOnly (placing_number setup defrag l.units s.book) digest w old new)) (sym live) (v, top, appends.only)
 
     backed : (bodies : List Body) → IsBacked setup s new bodies (moved digest)
     backed bodies =
@@ -124,11 +136,14 @@ module _ (setup : Setup) (s : State) (old new : Records) (digest : Digest) (copy
     pub moved_in_order : IsInOrder setup s old → IsInOrder setup (after_step setup (moved digest) s) new
     moved_in_order order =
         step_in_order setup s old new (moved digest) order room adds (step_whole setup s new order.numbered (whole_kept s old new appends.keeps order.whole) [] (moved digest) (backed []))
-        (λ n le. still_empty setup s old new (book_in_order order) defrag copy.units digest v appends n (subst (λ (b : Book). b.next_number ≤ n) (moved_book setup s old new digest copy live) le) (subst (λ (b : Book). s.book.next_number ≤ b.next_number) (moved_book setup s old new digest copy live) (next_number_rises setup (moved digest) s)))
+        (λ n le. still_empty setup s old new (book_in_order order) defrag copy.units digest v appends n
+        (subst (λ (b : Book). b.next_number ≤ n) (moved_book setup s old new digest copy live) le)
+        (subst (λ (b : Book). s.book.next_number ≤ b.next_number) (moved_book setup s old new digest copy live) (next_number_rises setup (moved digest) s)))
 
     -- The copy of an entry is appended to the other stream.
     pub moved_kept : (g : Geometry) (images : Images) → IsKept setup g s old images → IsKept setup g (after_step setup (moved digest) s) new images
     moved_kept g images kept =
         let order = moved_in_order kept.order in
         step_kept setup g s old new images (moved digest) kept room tt appends.keeps order (λ c image bodies r. backed bodies)
-        (came setup s old new (book_in_order kept.order) defrag copy.units digest v appends g images (after_step setup (moved digest) s) (moved_book setup s old new digest copy live) order.within.places moved_entry)
+        (came setup s old new (book_in_order kept.order) defrag copy.units digest v appends g images (after_step setup (moved digest) s)
+        (moved_book setup s old new digest copy live) order.within.places moved_entry)

@@ -33,10 +33,12 @@ sector_sized = refl
 module _ (setup : Setup) (g : Geometry) (s : State) (records : Records) (gates : ℕ → Gate) (images : Images) (block : ℕ) (lt : block < g.blocks) (held : IsKeptLoosened setup g s records gates images)
     (bytes : List ℕ) (own : List (Digest × Version)) (one : HasOneBody g block bytes images) (is_body : IsBodyWith g block bytes own) where
   -- what is possible in the block waits in a pending buffer, or stands behind the gate
-  pub behind_only : (digest : Digest) (v : Version) → possible_in g s.book records (loosened g gates images) block digest v → ((number : ℕ) × WaitsIn s.book records number block digest v) ⊎ Contains own (digest, v)
+  pub behind_only : (digest : Digest) (v : Version) → possible_in g s.book records (loosened g gates images) block digest v → ((number : ℕ) × WaitsIn s.book records number block digest v)
+      ⊎ Contains own (digest, v)
   behind_only digest v (inl waits) = inl waits
   behind_only digest v (inr left) =
-      let is = shows_with g left.image block bytes own lt (subst (λ (k : ℕ). IsOpen (gate_sector g k left.image)) left.placed left.shown.is_open) (one_still g held.geometry gates images block bytes one left.image left.is_left) is_body in
+      let is = shows_with g left.image block bytes own lt (subst (λ (k : ℕ). IsOpen (gate_sector g k left.image)) left.placed left.shown.is_open)
+      (one_still g held.geometry gates images block bytes one left.image left.is_left) is_body in
       let same = one_behind g left.image left.image left.body is.body left.shown is.shown (left.placed ∙ sym is.placed) (ap (λ (k : ℕ). body_bytes g k left.image) (is.placed ∙ sym left.placed)) in
       inr (subst (λ (l : List (Digest × Version)). Contains l (digest, v)) is.same (subst (λ (b : Body). Contains b.records (digest, v)) same left.has))
 
@@ -70,7 +72,15 @@ module _ (setup : Setup) (g : Geometry) (s : State) (records : Records) (gates :
     -- each record behind the gate is possible
     pub behind_possible : (digest : Digest) (v : Version) → Contains own (digest, v) → possible_in g s.book records (loosened g gates images) block digest v
     behind_possible digest v has =
-        inr (record { image = opened; is_left = in_loosened; body = shows.body; shown = shows.shown; placed = shows.placed; has = subst (λ (l : List (Digest × Version)). Contains l (digest, v)) (sym shows.same) has })
+        inr (record {
+          image = opened;
+          is_left = in_loosened;
+          body = shows.body;
+          shown = shows.shown;
+          placed = shows.placed;
+          has =
+              subst (λ (l : List (Digest × Version)). Contains l (digest, v)) (sym shows.same) has;
+        })
 
     -- and its flush has begun
     pub behind_begun : HaveBegun s own
@@ -80,7 +90,8 @@ module _ (setup : Setup) (g : Geometry) (s : State) (records : Records) (gates :
 
 -- ---- gates that aren't unsure
 
-module _ (g : Geometry) (is : IsGeometry g) (gates : ℕ → Gate) (images : Images) (block : ℕ) (sure : gates block ≢ Unsure) (digest : Digest) (v : Version) (left : IsLeftIn g (loosened g gates images) block digest v) (c : List ℕ) (image : images c) where
+module _ (g : Geometry) (is : IsGeometry g) (gates : ℕ → Gate) (images : Images) (block : ℕ) (sure : gates block ≢ Unsure) (digest : Digest) (v : Version)
+    (left : IsLeftIn g (loosened g gates images) block digest v) (c : List ℕ) (image : images c) where
   left_behind : (gate : Gate) → gates block ≡ gate → GateStands g images block gate → HasRecord g c block digest v
   left_behind Shut at stands = absurd (shut_still g is gates images block sure stands left.image left.is_left (subst (λ (k : ℕ). IsOpen (gate_sector g k left.image)) left.placed left.shown.is_open))
   left_behind Set at stands = record {
@@ -105,7 +116,8 @@ module _ (g : Geometry) (is : IsGeometry g) (gates : ℕ → Gate) (images : Ima
   left_each stands = left_behind (gates block) refl stands
 
 -- Where no gate is unsure the same is possible over fewer images, if there is one.
-pub possible_stays : (g : Geometry) (book : Book) (records : Records) (gates : ℕ → Gate) (before now : Images) → IsGeometry g → AreSure g gates → ((block : ℕ) → block < g.blocks → GateStands g before block (gates block))
+pub possible_stays : (g : Geometry) (book : Book) (records : Records) (gates : ℕ → Gate) (before now : Images) → IsGeometry g → AreSure g gates
+    → ((block : ℕ) → block < g.blocks → GateStands g before block (gates block))
     → Within before now → (c : List ℕ) → now c → SamePossible (possible_in g book records (loosened g gates before)) (possible_in g book records (loosened g gates now))
 possible_stays g book records gates before now is sure stands fewer c image block digest v = (to, from)
   where

@@ -30,7 +30,8 @@ appends_from setup stream units digest v book old new room others own = record {
 
     kept : (n : ℕ) (r : Digest × Version) → Contains (old n) r → Contains (new n) r
     kept n r there =
-        ⊎_elim (λ (e : n ≡ number). subst (λ (k : ℕ). Contains (new k) r) (sym e) (subst (λ (l : List (Digest × Version)). Contains l r) (sym own) (Contains-append_left (old number) ((digest, v) ∷ []) r (subst (λ (k : ℕ). Contains (old k) r) e there))))
+        ⊎_elim (λ (e : n ≡ number). subst (λ (k : ℕ). Contains (new k) r) (sym e)
+        (subst (λ (l : List (Digest × Version)). Contains l r) (sym own) (Contains-append_left (old number) ((digest, v) ∷ []) r (subst (λ (k : ℕ). Contains (old k) r) e there))))
         (λ (other : n ≢ number). subst (λ (l : List (Digest × Version)). Contains l r) (sym (others n other)) there) (cases_eq n number)
 
     last : (n : ℕ) → n ≡ number → (r : Digest × Version) → Contains ((digest, v) ∷ []) r → (n ≡ number) × (r ≡ (digest, v))
@@ -65,7 +66,8 @@ records_none number [] others = refl
 records_none number (b ∷ buffers) others = cond-false (b.0 == number) b.1 (records_by buffers number) (ne_eqb b.0 number others.0) ∙ records_none number buffers others.1
 
 -- a buffer comes behind the others
-pub records_behind : (number n : ℕ) (records : List (Digest × Version)) (buffers : List (ℕ × List (Digest × Version))) → n ≢ number → records_by (buffers ++ (number, records) ∷ []) n ≡ records_by buffers n
+pub records_behind : (number n : ℕ) (records : List (Digest × Version)) (buffers : List (ℕ × List (Digest × Version))) → n ≢ number
+    → records_by (buffers ++ (number, records) ∷ []) n ≡ records_by buffers n
 records_behind number n records [] other = cond-false (number == n) records [] (ne_eqb number n (λ e. other (sym e)))
 records_behind number n records (b ∷ buffers) other = ap (λ (l : List (Digest × Version)). cond (b.0 == n) b.1 l) (records_behind number n records buffers other)
 
@@ -75,18 +77,22 @@ abbrev AreOthers : ℕ → List (ℕ × List (Digest × Version)) → Type 0
 AreOthers number buffers = AllByRecursion (λ b. b.0 ≢ number) buffers
 
 -- a copy is appended to a buffer that is there
-pub appended_in : (setup : Setup) (stream : Stream) (units : ℕ) (digest : Digest) (v : Version) (book : Book) (front back : List (ℕ × List (Digest × Version))) (number : ℕ) (records : List (Digest × Version))
+pub appended_in : (setup : Setup) (stream : Stream) (units : ℕ) (digest : Digest) (v : Version) (book : Book) (front back : List (ℕ × List (Digest × Version))) (number : ℕ)
+    (records : List (Digest × Version))
     → CanPlace setup stream units book → placing_number setup stream units book ≡ number → AreOthers number front
     → Appends setup stream units digest v book (records_by (front ++ (number, records) ∷ back)) (records_by (front ++ (number, records ++ (digest, v) ∷ []) ∷ back))
 appended_in setup stream units digest v book front back number records room is others =
     appends_from setup stream units digest v book (records_by (front ++ (number, records) ∷ back)) (records_by (front ++ (number, records ++ (digest, v) ∷ []) ∷ back)) room
     (λ n other. records_apart number records back front (records ++ (digest, v) ∷ []) n (λ e. other (e ∙ sym is)))
     (ap (records_by (front ++ (number, records ++ (digest, v) ∷ []) ∷ back)) is ∙ records_found number (records ++ (digest, v) ∷ []) back front others
-    ∙ ap (λ (l : List (Digest × Version)). l ++ (digest, v) ∷ []) (sym (records_found number records back front others)) ∙ ap (λ (n : ℕ). records_by (front ++ (number, records) ∷ back) n ++ (digest, v) ∷ []) (sym is))
+    ∙ ap (λ (l : List (Digest × Version)). l ++ (digest, v) ∷ []) (sym (records_found number records back front others))
+    ∙ ap (λ (n : ℕ). records_by (front ++ (number, records) ∷ back) n ++ (digest, v) ∷ []) (sym is))
 
 -- or to one that begins
-pub appended_new : (setup : Setup) (stream : Stream) (units : ℕ) (digest : Digest) (v : Version) (book : Book) (buffers : List (ℕ × List (Digest × Version))) (number : ℕ) → CanPlace setup stream units book
-    → placing_number setup stream units book ≡ number → AreOthers number buffers → Appends setup stream units digest v book (records_by buffers) (records_by (buffers ++ (number, (digest, v) ∷ []) ∷ []))
+pub appended_new : (setup : Setup) (stream : Stream) (units : ℕ) (digest : Digest) (v : Version) (book : Book) (buffers : List (ℕ × List (Digest × Version))) (number : ℕ)
+    → CanPlace setup stream units book
+    → placing_number setup stream units book ≡ number → AreOthers number buffers
+    → Appends setup stream units digest v book (records_by buffers) (records_by (buffers ++ (number, (digest, v) ∷ []) ∷ []))
 appended_new setup stream units digest v book buffers number room is others =
     appends_from setup stream units digest v book (records_by buffers) (records_by (buffers ++ (number, (digest, v) ∷ []) ∷ [])) room
     (λ n other. records_behind number n ((digest, v) ∷ []) buffers (λ e. other (e ∙ sym is)))
@@ -102,7 +108,8 @@ module _ (number : ℕ) (records : List (Digest × Version)) (back : List (ℕ �
   module _ (front : List (ℕ × List (Digest × Version))) (others : AreOthers number (front ++ back)) where
     pub left_adds_none : AddsNone (records_by (front ++ (number, records) ∷ back)) (records_by (front ++ back))
     left_adds_none n r there =
-        ⊎_elim (λ (e : n ≡ number). absurd (let none = subst (λ (l : List (Digest × Version)). Contains l r) (ap (records_by (front ++ back)) e ∙ records_none number (front ++ back) others) there in omega (arith, none.1)))
+        ⊎_elim (λ (e : n ≡ number). absurd (let none = subst (λ (l : List (Digest × Version)). Contains l r)
+        (ap (records_by (front ++ back)) e ∙ records_none number (front ++ back) others) there in omega (arith, none.1)))
         (λ (other : n ≢ number). subst (λ (l : List (Digest × Version)). Contains l r) (records_without front n other) there) (cases_eq n number)
 
     pub left_keeps : (book : Book) → AllByRecursion (λ p. p.0 ≢ number) (places_of book) → KeepsRecords book (records_by (front ++ (number, records) ∷ back)) (records_by (front ++ back))

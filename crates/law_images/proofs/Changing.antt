@@ -32,12 +32,14 @@ images_kept setup g s records before now upheld were kept = record {
   geometry = kept.geometry;
   order = kept.order;
   facts = facts_become setup s (possible_in g s.book records before) (possible_in g s.book records now)
-      (λ block digest v possible. inl (⊎_elim (λ (waits : (number : ℕ) × WaitsIn s.book records number block digest v). inl waits) (λ (left : IsLeftIn g now block digest v). were block digest v left) possible)) kept.facts;
+      (λ block digest v possible. inl (⊎_elim (λ (waits : (number : ℕ) × WaitsIn s.book records number block digest v). inl waits)
+      (λ (left : IsLeftIn g now block digest v). were block digest v left) possible)) kept.facts;
   upheld = upheld;
 }
 
 pub fewer_brings : (g : Geometry) (book : Book) (records : Records) (before now : Images) → Within before now → BringsNone g book records before now
-fewer_brings g book records before now fewer block digest v left = inr (record { image = left.image; is_left = fewer left.image left.is_left; body = left.body; shown = left.shown; placed = left.placed; has = left.has })
+fewer_brings g book records before now fewer block digest v left =
+    inr (record { image = left.image; is_left = fewer left.image left.is_left; body = left.body; shown = left.shown; placed = left.placed; has = left.has })
 
 -- A read, or a sync that fails: each image is one of those before.
 pub fewer_kept : (setup : Setup) (g : Geometry) (s : State) (records : Records) (before now : Images) → Within before now → IsKept setup g s records before → IsKept setup g s records now
@@ -60,7 +62,15 @@ module _ (setup : Setup) (g : Geometry) (s : State) (records : Records) (before 
       ⊎_elim (λ (e : k ≡ block). subst (λ (x : ℕ). possible_in g s.book records before x digest v) (sym e)
       (all_at (λ r. possible_in g s.book records before block r.0 r.1) left.body.records (digest, v) (may left.image left.is_left left.body (left.placed ∙ e) left.shown).1 left.has))
       (λ (other : k ≢ block). let was = changes left.image left.is_left in
-      inr (record { image = was.0; is_left = was.1; body = left.body; shown = shown_before g block was.0 left.image was.2 left.body (λ e. other (sym left.placed ∙ e)) left.shown; placed = left.placed; has = left.has })) (cases_eq k block)
+      inr (record {
+        image = was.0;
+        is_left = was.1;
+        body = left.body;
+        shown = shown_before g block was.0 left.image was.2 left.body (λ e. other (sym left.placed ∙ e)) left.shown;
+        placed =
+            left.placed;
+        has = left.has;
+      })) (cases_eq k block)
 
   module _ (c : List ℕ) (image : now c) where
     was : (d : List ℕ) × before d × DiffersIn g block d c
@@ -70,7 +80,8 @@ module _ (setup : Setup) (g : Geometry) (s : State) (records : Records) (before 
     upheld_before = kept.upheld was.0 was.1
 
     -- with other bodies, of which those of other blocks are the same
-    upheld_with : (bodies : List Body) → IsReadable c g bodies → MayBeShown c → ((x : Body) → Contains upheld_before.bodies x → has_buffer s.book x.block ≡ false → NotFree s.book x.block → Contains bodies x) → Upholds g s records c
+    upheld_with : (bodies : List Body) → IsReadable c g bodies → MayBeShown c
+        → ((x : Body) → Contains upheld_before.bodies x → has_buffer s.book x.block ≡ false → NotFree s.book x.block → Contains bodies x) → Upholds g s records c
     upheld_with bodies r may stay = record {
       bodies = bodies;
       readable = r;
@@ -115,7 +126,8 @@ module _ (setup : Setup) (g : Geometry) (s : State) (records : Records) (before 
           let others = readable_changed g block (was c image).0 c (was c image).2 (upheld_before c image).bodies (upheld_before c image).readable (inl (still c image)) in
           upheld_with c image others.0 others.1 (none_shown still c image)
           (λ x there free used. still_there c image others.0 others.1 x
-          (λ e. shut (was c image).0 (was c image).1 (subst (λ (k : ℕ). IsOpen (gate_sector g k (was c image).0)) e (body_shown g (was c image).0 (upheld_before c image).bodies x (upheld_before c image).readable there).is_open)) there)
+          (λ e. shut (was c image).0 (was c image).1 (subst (λ (k : ℕ). IsOpen (gate_sector g k (was c image).0)) e
+          (body_shown g (was c image).0 (upheld_before c image).bodies x (upheld_before c image).readable there).is_open)) there)
 
   -- what is shown was shown before
   as_before : OpensAsBefore g block before now → (c : List ℕ) → now c → MayBeShown c
@@ -127,7 +139,8 @@ module _ (setup : Setup) (g : Geometry) (s : State) (records : Records) (before 
         all_from (λ r. possible_in g s.book records before block r.0 r.1) body.records (λ r has. inr (record { image = d; is_left = left; body = body; shown = is; placed = placed; has = has })),
       )
 
-      by : IsClosed (gate_sector g block c) ⊎ ((old : Body) × (old.block ≡ block) × Shows g c old × (d : List ℕ) × before d × Shows g d old) → HaveBegun s body.records × AllByRecursion (λ r. possible_in g s.book records before block r.0 r.1) body.records
+      by : IsClosed (gate_sector g block c) ⊎ ((old : Body) × (old.block ≡ block) × Shows g c old × (d : List ℕ) × before d × Shows g d old) → HaveBegun s body.records
+          × AllByRecursion (λ r. possible_in g s.book records before block r.0 r.1) body.records
       by (inl closed) = absurd (closed (subst (λ (k : ℕ). IsOpen (gate_sector g k c)) placed shown.is_open))
       by (inr is) = of is.3 is.4 (subst (Shows g is.3) (one_shown g c is.0 body is.2 shown (is.1 ∙ sym placed)) is.5)
 
@@ -168,7 +181,8 @@ module _ (setup : Setup) (g : Geometry) (s : State) (records : Records) (before 
       may : (c : List ℕ) → now c → MayBeShown c
       may c image body placed shown = by (opens c image)
         where
-          by : IsClosed (gate_sector g block c) ⊎ ShowsRecords g c block (records number) → HaveBegun s body.records × AllByRecursion (λ r. possible_in g s.book records before block r.0 r.1) body.records
+          by : IsClosed (gate_sector g block c) ⊎ ShowsRecords g c block (records number) → HaveBegun s body.records
+              × AllByRecursion (λ r. possible_in g s.book records before block r.0 r.1) body.records
           by (inl closed) = absurd (closed (subst (λ (k : ℕ). IsOpen (gate_sector g k c)) placed shown.is_open))
           by (inr is) =
               subst (λ (l : List (Digest × Version)). HaveBegun s l × AllByRecursion (λ r. possible_in g s.book records before block r.0 r.1) l)

@@ -8,7 +8,8 @@ use Rattle.rec_format.specs.declared.version.Version.{Version}
 use Rattle.rec_format.specs.Versions.{is_tombstone}
 use Rattle.model_device.specs.Book.{Setup, Live, defrag, live_of}
 use Rattle.model_device.specs.Device.{State, entry, entry_passes}
-use Rattle.model_device.specs.Steps.{Step, wrote, moved, removed, rid_of, uncovered, sealed_stream, gate_begun, flushed_buffer, closing_failed, raid_begun, raid_given_up, marked_part, scanned_block, compared_part, done_part, moved_state, after_step, after_steps}
+use Rattle.model_device.specs.Steps.{Step, wrote, moved, removed, rid_of, uncovered, sealed_stream, gate_begun, flushed_buffer, closing_failed, raid_begun}
+use Rattle.model_device.specs.Steps.{raid_given_up, marked_part, scanned_block, compared_part, done_part, moved_state, after_step, after_steps}
 use Rattle.model_device.specs.Events.{Event}
 use Rattle.model_device.specs.Legal
 use Rattle.disk_model.specs.Disk.{Images}
@@ -30,7 +31,8 @@ module _ (setup : Setup) (g : Geometry) (s : State) (old new : Records) (images 
   with_same t same is = subst (λ (r : Records). IsKept setup g t r images) (sym same) is
 
   made_moved : (digest : Digest) (live : Option Live) → live_of digest s.book.live ≡ live
-      → MatchOption live (new ≡ old) (λ copy. (v : Version) × (entry s digest ≡ Some v) × Appends setup defrag copy.units digest v s.book old new) → IsKept setup g (after_step setup (moved digest) s) new images
+      → MatchOption live (new ≡ old) (λ copy. (v : Version) × (entry s digest ≡ Some v) × Appends setup defrag copy.units digest v s.book old new)
+      → IsKept setup g (after_step setup (moved digest) s) new images
   unfolding after_step
   made_moved digest None is same = subst (λ (o : Option Live). IsKept setup g (moved_state setup digest o s) new images) (sym is) (with_same s same kept)
   made_moved digest (Some copy) is made = moved_kept setup s old new digest copy is made.0 made.1 made.2 g images kept
@@ -52,7 +54,8 @@ module _ (setup : Setup) (g : Geometry) (s : State) (old new : Records) (images 
   made_kept (compared_part part) may made = with_same (after_step setup (compared_part part) s) made (plain_kept setup g s old images kept (compared_part part) refl may)
   made_kept (done_part part) may made = with_same (after_step setup (done_part part) s) made (plain_kept setup g s old images kept (done_part part) refl may)
 
-change_kept : (setup : Setup) (g : Geometry) (after : State) (records : Records) (before now : Images) (step : Step) → ChangeBehind setup g after records before now step → IsKept setup g after records before → IsKept setup g after records now
+change_kept : (setup : Setup) (g : Geometry) (after : State) (records : Records) (before now : Images) (step : Step) → ChangeBehind setup g after records before now step
+    → IsKept setup g after records before → IsKept setup g after records now
 change_kept setup g after records before now (wrote digest v) change kept = change kept
 change_kept setup g after records before now (moved digest) change kept = change kept
 change_kept setup g after records before now (removed digest) change kept = change kept
@@ -95,7 +98,8 @@ states_from setup s front (step ∷ rest) = (
   ap (λ (l : List Step). after_steps setup l s) (take-append_seam front (step ∷ rest)),
   subst (λ (t : State). AreStates setup (λ k. after_steps setup (take k (front ++ step ∷ rest)) s) (length front + 1) t rest) (after_one_more setup front step s)
       (subst (λ (n : ℕ). AreStates setup (λ k. after_steps setup (take k (front ++ step ∷ rest)) s) n (after_steps setup (front ++ step ∷ []) s) rest) (length_one_more front step)
-      (subst (λ (l : List Step). AreStates setup (λ k. after_steps setup (take k l) s) (length (front ++ step ∷ [])) (after_steps setup (front ++ step ∷ []) s) rest) (append_assoc front (step ∷ []) rest)
+      (subst (λ (l : List Step). AreStates setup (λ k. after_steps setup (take k l) s) (length (front ++ step ∷ [])) (after_steps setup (front ++ step ∷ []) s) rest)
+      (append_assoc front (step ∷ []) rest)
       (states_from setup s (front ++ step ∷ []) rest))),
 )
 
@@ -103,12 +107,14 @@ module _ (setup : Setup) (g : Geometry) (states : ℕ → State) (records : ℕ 
   abbrev possible : ℕ → Possible
   possible k = possible_in g (states k).book (records k) (images k)
 
-  course_kept : (k : ℕ) (s : State) (steps : List Step) → AreStates setup states k s steps → MayTakeAll setup s possible k steps → MadeAlong setup g s records images k steps → IsKept setup g s (records k) (images k)
+  course_kept : (k : ℕ) (s : State) (steps : List Step) → AreStates setup states k s steps → MayTakeAll setup s possible k steps → MadeAlong setup g s records images k steps
+      → IsKept setup g s (records k) (images k)
       → KeptAlong setup g s records images k steps
   course_kept k s [] are may made kept = kept
   course_kept k s (step ∷ steps) are may made kept =
       let after = after_step setup step s in
-      let next = made_kept setup g s (records k) (records (k + 1)) (images k) kept step (subst (λ (t : State). MayTake setup s (possible_in g t.book (records k) (images k)) step) are.0 may.0) made.0 in
+      let next = made_kept setup g s (records k) (records (k + 1)) (images k) kept step
+      (subst (λ (t : State). MayTake setup s (possible_in g t.book (records k) (images k)) step) are.0 may.0) made.0 in
       (kept, next, course_kept (k + 1) after steps are.1 may.1 made.2 (change_kept setup g after (records (k + 1)) (images k) (images (k + 1)) step made.1 next))
 
   -- ---- what a raid drops
@@ -140,7 +146,8 @@ module _ (setup : Setup) (g : Geometry) (states : ℕ → State) (records : ℕ 
   drop_same s old new now digest true same = same
   drop_same s old new now digest false same = same
 
-  drop_brings : (after : State) (old : Records) (before now : Images) (digest : Digest) (b : Bool) → ChangeBehind setup g after old before now (cond b (rid_of digest) (uncovered digest)) → BringsNone g after.book old before now
+  drop_brings : (after : State) (old : Records) (before now : Images) (digest : Digest) (b : Bool) → ChangeBehind setup g after old before now (cond b (rid_of digest) (uncovered digest))
+      → BringsNone g after.book old before now
   drop_brings after old before now digest true change = change.1
   drop_brings after old before now digest false change = change.1
 
@@ -159,11 +166,14 @@ module _ (setup : Setup) (g : Geometry) (states : ℕ → State) (records : ℕ 
 
 -- An event that is allowed, each of whose steps is made, keeps the images in every state on the way, as long as a change behind a step keeps
 -- them there. What it writes belongs to the device, and a scan finds what it has to.
-pub event_kept : (setup : Setup) (g : Geometry) (told : Bool) (s : State) (records : ℕ → Records) (images : ℕ → Images) (event : Event) → IsKept setup g s (records 0) (images 0) → WritesOwn setup event.call
-    → ScansAll s (possible_in g s.book (records 0) (images 0)) event → Legal.Allowed setup told s event event.call → MadeAlong setup g s records images 0 event.steps → KeptAlong setup g s records images 0 event.steps
+pub event_kept : (setup : Setup) (g : Geometry) (told : Bool) (s : State) (records : ℕ → Records) (images : ℕ → Images) (event : Event) → IsKept setup g s (records 0) (images 0)
+    → WritesOwn setup event.call
+    → ScansAll s (possible_in g s.book (records 0) (images 0)) event → Legal.Allowed setup told s event event.call → MadeAlong setup g s records images 0 event.steps
+    → KeptAlong setup g s records images 0 event.steps
 event_kept setup g told s records images event kept own scans allowed made =
     course_kept setup g states records images 0 s event.steps are
-    (allowed_may setup told s (possible setup g states records images) event event.call facts own (subst (λ (t : State). ScansAll s (possible_in g t.book (records 0) (images 0)) event) (sym at_first) scans) becomes allowed) made kept
+    (allowed_may setup told s (possible setup g states records images) event event.call facts own
+    (subst (λ (t : State). ScansAll s (possible_in g t.book (records 0) (images 0)) event) (sym at_first) scans) becomes allowed) made kept
   where
     states : ℕ → State
     states k = after_steps setup (take k event.steps) s

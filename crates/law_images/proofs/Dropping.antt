@@ -42,14 +42,16 @@ along_survives setup g s records images k (step ∷ steps) kept (suc j) le c ima
 
 -- ---- what a raid drops
 
-drop_made : (setup : Setup) (g : Geometry) (s : State) (records : Records) (images : Images) (digest : Digest) (b : Bool) → IsMade setup g s records records images (cond b (rid_of digest) (uncovered digest))
+drop_made : (setup : Setup) (g : Geometry) (s : State) (records : Records) (images : Images) (digest : Digest) (b : Bool)
+    → IsMade setup g s records records images (cond b (rid_of digest) (uncovered digest))
 drop_made setup g s records images digest true = refl
 drop_made setup g s records images digest false = refl
 
 still : (setup : Setup) (g : Geometry) (after : State) (records : Records) (images : Images) → ChangesKept setup g after records images images × BringsNone g after.book records images images
 still setup g after records images = (λ kept. kept, fewer_brings g after.book records images images (λ c image. image))
 
-drop_still : (setup : Setup) (g : Geometry) (after : State) (records : Records) (images : Images) (digest : Digest) (b : Bool) → ChangeBehind setup g after records images images (cond b (rid_of digest) (uncovered digest))
+drop_still : (setup : Setup) (g : Geometry) (after : State) (records : Records) (images : Images) (digest : Digest) (b : Bool)
+    → ChangeBehind setup g after records images images (cond b (rid_of digest) (uncovered digest))
 drop_still setup g after records images digest true = still setup g after records images
 drop_still setup g after records images digest false = still setup g after records images
 

@@ -45,14 +45,16 @@ gates_elsewhere g before now block k Set changes lt other stands =
 gates_elsewhere g before now block k Unsure changes lt other stands = (stands.0, over_elsewhere g before now block k stands.0 changes lt other stands.1)
 
 -- a gate that isn't shut is being written: it is unsure
-pub gate_torn : (g : Geometry) (before now : Images) (block : ℕ) (bytes : List ℕ) → IsGeometry g → TornFrom (block_place g block) 4096 before now → StandsOver g block bytes before → GateStands g now block Unsure
+pub gate_torn : (g : Geometry) (before now : Images) (block : ℕ) (bytes : List ℕ) → IsGeometry g → TornFrom (block_place g block) 4096 before now → StandsOver g block bytes before
+    → GateStands g now block Unsure
 gate_torn g before now block bytes is torn over = (bytes, record { one = λ c image. let t = torn c image in body_stays g block is t.0 c t.2 ∙ over.one t.0 t.1; is_body = over.is_body })
 
 -- Behind a sync that went well one image is left, and each gate stands in it as it is seen.
 pub gate_closed : (g : Geometry) (seen : List ℕ) (images : Images) (block : ℕ) → ((c : List ℕ) → images c → c ≡ seen) → IsClosed (gate_sector g block seen) → GateStands g images block Shut
 gate_closed g seen images block alone closed = λ c image. subst (λ (x : List ℕ). IsClosed (gate_sector g block x)) (sym (alone c image)) closed
 
-pub gate_open : (g : Geometry) (seen : List ℕ) (images : Images) (block : ℕ) → ((c : List ℕ) → images c → c ≡ seen) → IsOpen (gate_sector g block seen) → IsBodyOf g block (body_bytes g block seen) → GateStands g images block Set
+pub gate_open : (g : Geometry) (seen : List ℕ) (images : Images) (block : ℕ) → ((c : List ℕ) → images c → c ≡ seen) → IsOpen (gate_sector g block seen)
+    → IsBodyOf g block (body_bytes g block seen) → GateStands g images block Set
 gate_open g seen images block alone is_open is_body = (
   λ c image. subst (λ (x : List ℕ). IsOpen (gate_sector g block x)) (sym (alone c image)) is_open,
   (body_bytes g block seen, record { one = λ c image. ap (body_bytes g block) (alone c image); is_body = is_body }),
@@ -65,13 +67,15 @@ gate_over_one g images block Set stands c d in_c in_d is_open = stands.1.1.one d
 gate_over_one g images block Unsure stands c d in_c in_d is_open = stands.1.one d in_d ∙ sym (stands.1.one c in_c)
 
 -- What the closing of a gate asks: each image has the body that one of them has, and it is a body.
-pub over_seen : (g : Geometry) (images : Images) (block : ℕ) (bytes seen : List ℕ) → StandsOver g block bytes images → images seen → HasOneBody g block (body_bytes g block seen) images × IsBodyOf g block (body_bytes g block seen)
+pub over_seen : (g : Geometry) (images : Images) (block : ℕ) (bytes seen : List ℕ) → StandsOver g block bytes images → images seen → HasOneBody g block (body_bytes g block seen) images
+    × IsBodyOf g block (body_bytes g block seen)
 over_seen g images block bytes seen over image = (λ c is. over.one c is ∙ sym (over.one seen image), subst (IsBodyOf g block) (sym (over.one seen image)) over.is_body)
 
 -- ---- what an image shows behind an open gate
 
 -- a body stands behind the open gates of images that are kept
-pub open_shown : (setup : Setup) (g : Geometry) (s : State) (records : Records) (images : Images) (c : List ℕ) (block : ℕ) → IsKept setup g s records images → images c → block < g.blocks → IsOpen (gate_sector g block c) → IsShownIn g c block
+pub open_shown : (setup : Setup) (g : Geometry) (s : State) (records : Records) (images : Images) (c : List ℕ) (block : ℕ) → IsKept setup g s records images → images c → block < g.blocks
+    → IsOpen (gate_sector g block c) → IsShownIn g c block
 open_shown setup g s records images c block kept image lt is_open = by (clear_block g c (kept.upheld c image).bodies block (kept.upheld c image).readable lt)
   where
     by : IsClear g c block → IsShownIn g c block
@@ -79,13 +83,15 @@ open_shown setup g s records images c block kept image lt is_open = by (clear_bl
     by (inr is) = is
 
 -- so it is in the grammar, as the closing of a gate asks
-pub open_is_body : (setup : Setup) (g : Geometry) (s : State) (records : Records) (images : Images) (c : List ℕ) (block : ℕ) → IsKept setup g s records images → images c → block < g.blocks → IsOpen (gate_sector g block c)
+pub open_is_body : (setup : Setup) (g : Geometry) (s : State) (records : Records) (images : Images) (c : List ℕ) (block : ℕ) → IsKept setup g s records images → images c → block < g.blocks
+    → IsOpen (gate_sector g block c)
     → IsBodyOf g block (body_bytes g block c)
 open_is_body setup g s records images c block kept image lt is_open =
     let is = open_shown setup g s records images c block kept image lt is_open in
     (is.body, subst (λ (k : ℕ). IsBody (block_capacity g.block_size) (body_bytes g k c) is.body) is.placed is.shown.is_body, is.placed)
 
-pub shows_with : (g : Geometry) (c : List ℕ) (block : ℕ) (bytes : List ℕ) (records : List (Digest × Version)) → block < g.blocks → IsOpen (gate_sector g block c) → body_bytes g block c ≡ bytes → IsBodyWith g block bytes records
+pub shows_with : (g : Geometry) (c : List ℕ) (block : ℕ) (bytes : List ℕ) (records : List (Digest × Version)) → block < g.blocks → IsOpen (gate_sector g block c)
+    → body_bytes g block c ≡ bytes → IsBodyWith g block bytes records
     → ShowsRecords g c block records
 shows_with g c block bytes records lt is_open same is = record {
   body = is.body;
@@ -93,18 +99,22 @@ shows_with g c block bytes records lt is_open same is = record {
   shown = record {
     within = subst (λ (k : ℕ). k < g.blocks) (sym is.placed) lt;
     is_open = subst (λ (k : ℕ). IsOpen (gate_sector g k c)) (sym is.placed) is_open;
-    is_body = subst (λ (k : ℕ). IsBody (block_capacity g.block_size) (body_bytes g k c) is.body) (sym is.placed) (subst (λ (l : List ℕ). IsBody (block_capacity g.block_size) l is.body) (sym same) is.is_body);
+    is_body = subst (λ (k : ℕ). IsBody (block_capacity g.block_size) (body_bytes g k c) is.body) (sym is.placed)
+        (subst (λ (l : List ℕ). IsBody (block_capacity g.block_size) l is.body) (sym same) is.is_body);
   };
   same = is.same;
 }
 
 -- each image has the gate closed, or shows the records
-pub opens_over : (g : Geometry) (images : Images) (block : ℕ) (bytes : List ℕ) (records : List (Digest × Version)) → block < g.blocks → HasOneBody g block bytes images → IsBodyWith g block bytes records → OpensOver g block records images
+pub opens_over : (g : Geometry) (images : Images) (block : ℕ) (bytes : List ℕ) (records : List (Digest × Version)) → block < g.blocks → HasOneBody g block bytes images
+    → IsBodyWith g block bytes records → OpensOver g block records images
 opens_over g images block bytes records lt one is c image =
-    ⊎_elim (λ (closed : IsClosed (gate_sector g block c)). inl closed) (λ (is_open : IsOpen (gate_sector g block c)). inr (shows_with g c block bytes records lt is_open (one c image) is)) (closed_or_open (gate_sector g block c))
+    ⊎_elim (λ (closed : IsClosed (gate_sector g block c)). inl closed) (λ (is_open : IsOpen (gate_sector g block c)). inr (shows_with g c block bytes records lt is_open (one c image) is))
+    (closed_or_open (gate_sector g block c))
 
 -- each image shows them
-pub opened_shows : (g : Geometry) (images : Images) (block : ℕ) (bytes : List ℕ) (records : List (Digest × Version)) → block < g.blocks → IsOpened g block images → HasOneBody g block bytes images → IsBodyWith g block bytes records → AllShow g block records images
+pub opened_shows : (g : Geometry) (images : Images) (block : ℕ) (bytes : List ℕ) (records : List (Digest × Version)) → block < g.blocks → IsOpened g block images
+    → HasOneBody g block bytes images → IsBodyWith g block bytes records → AllShow g block records images
 opened_shows g images block bytes records lt opened one is c image = shows_with g c block bytes records lt (opened c image) (one c image) is
 
 -- ---- the calls
@@ -127,7 +137,8 @@ module _ (setup : Setup) (g : Geometry) (s : State) (records : Records) (before 
       bytes : body_bytes g is.body.block c ≡ body_bytes g is.body.block t.0
       bytes = subst (λ (k : ℕ). body_bytes g k c ≡ body_bytes g k t.0) (sym is.placed) (body_stays g block kept.geometry t.0 c t.2)
 
-      by : IsClosed (gate_sector g block c) ⊎ IsOpen (gate_sector g block c) → IsClosed (gate_sector g block c) ⊎ ((body : Body) × (body.block ≡ block) × Shows g c body × (d : List ℕ) × before d × Shows g d body)
+      by : IsClosed (gate_sector g block c) ⊎ IsOpen (gate_sector g block c) → IsClosed (gate_sector g block c)
+          ⊎ ((body : Body) × (body.block ≡ block) × Shows g c body × (d : List ℕ) × before d × Shows g d body)
       by (inl closed) = inl closed
       by (inr is_open) = inr (
         is.body,
@@ -154,12 +165,15 @@ module _ (setup : Setup) (g : Geometry) (s : State) (records : Records) (before 
   closing_call_brings opened torn = closing_brings setup g s records before since block (gate_changes g block kept.geometry before since torn) kept (opens opened torn)
 
   -- The gate of a pending buffer is opened, over its body.
-  pub opening_call_kept : (number : ℕ) (bytes : List ℕ) → IsOpening s.book number block → HasOneBody g block bytes before → IsBodyWith g block bytes (records number) → TornFrom (block_place g block) 4096 before since → IsKept setup g s records since
+  pub opening_call_kept : (number : ℕ) (bytes : List ℕ) → IsOpening s.book number block → HasOneBody g block bytes before → IsBodyWith g block bytes (records number)
+      → TornFrom (block_place g block) 4096 before since → IsKept setup g s records since
   opening_call_kept number bytes opening one is torn =
       opening_kept setup g s records before since block (gate_changes g block kept.geometry before since torn) kept number opening
       (opens_over g since block bytes (records number) lt (λ c image. let t = torn c image in body_stays g block kept.geometry t.0 c t.2 ∙ one t.0 t.1) is)
 
 -- When it is open in each image, the buffer is flushed.
-pub opened_call_kept : (setup : Setup) (g : Geometry) (s : State) (records : Records) (now : Images) (number block : ℕ) (bytes : List ℕ) → IsKept setup g s records now → block < g.blocks → Contains (places_of s.book) (number, block)
+pub opened_call_kept : (setup : Setup) (g : Geometry) (s : State) (records : Records) (now : Images) (number block : ℕ) (bytes : List ℕ) → IsKept setup g s records now → block < g.blocks
+    → Contains (places_of s.book) (number, block)
     → IsOpened g block now → HasOneBody g block bytes now → IsBodyWith g block bytes (records number) → IsKept setup g (after_step setup (flushed_buffer number) s) records now
-opened_call_kept setup g s records now number block bytes kept lt placed opened one is = flushed_kept setup g s records now kept number block placed (opened_shows g now block bytes (records number) lt opened one is)
+opened_call_kept setup g s records now number block bytes kept lt placed opened one is =
+    flushed_kept setup g s records now kept number block placed (opened_shows g now block bytes (records number) lt opened one is)

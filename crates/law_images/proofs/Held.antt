@@ -23,7 +23,8 @@ use Rattle.law_images.specs.Held.{loosened, IsKeptLoosened, IsSurer, AreSure}
 use Rattle.law_images.proofs.Changing.{fewer_kept, fewer_brings}
 use Rattle.law_images.proofs.Gates.{body_call_kept, body_call_brings, closing_call_kept, closing_call_brings, opening_call_kept, gate_torn, over_seen}
 use Rattle.law_images.proofs.Knowing.{knows_changed}
-use Rattle.law_images.proofs.Loosening.{gate_own, gate_other, surer_with, surer_since, loosened_has, loosened_sure, loosened_fewer, loosened_torn, loosened_written, loosened_surer, loosened_begun, shut_still, open_still, one_still}
+use Rattle.law_images.proofs.Loosening.{gate_own, gate_other, surer_with, surer_since, loosened_has, loosened_sure, loosened_fewer, loosened_torn}
+use Rattle.law_images.proofs.Loosening.{loosened_written, loosened_surer, loosened_begun, shut_still, open_still, one_still}
 use Rattle.law_images.proofs.Parts.{body_changes, gate_changes, body_stays}
 use Rattle.law_images.proofs.Surviving.{kept_survives}
 
@@ -56,17 +57,21 @@ module _ (setup : Setup) (g : Geometry) (s : State) (records : Records) where
       fewer_kept setup g s records (loosened g old before) (loosened g new now) (λ c image. loosened_surer g old new before surer c (loosened_fewer g new before now fewer c image)) held
 
   -- A gate was unsure while it was written, and is known then.
-  pub held_known : (gates : ℕ → Gate) (since now : Images) (block : ℕ) (gate : Gate) → Within since now → IsKeptLoosened setup g s records (with_gate block Unsure gates) since → IsKeptLoosened setup g s records (with_gate block gate gates) now
+  pub held_known : (gates : ℕ → Gate) (since now : Images) (block : ℕ) (gate : Gate) → Within since now → IsKeptLoosened setup g s records (with_gate block Unsure gates) since
+      → IsKeptLoosened setup g s records (with_gate block gate gates) now
   held_known gates since now block gate fewer held = held_fewer (with_gate block Unsure gates) (with_gate block gate gates) since now (surer_since g block gate gates) fewer held
 
 -- ---- the writes of a block
 
-module _ (setup : Setup) (g : Geometry) (s : State) (records : Records) (gates : ℕ → Gate) (before since : Images) (block : ℕ) (lt : block < g.blocks) (held : IsKeptLoosened setup g s records gates before) where
+module _ (setup : Setup) (g : Geometry) (s : State) (records : Records) (gates : ℕ → Gate) (before since : Images) (block : ℕ) (lt : block < g.blocks)
+    (held : IsKeptLoosened setup g s records gates before) where
   -- The body is written behind a gate that is shut.
-  pub body_held : gates block ≡ Shut → IsShut g block before → IsShut g block since → TornFrom (block_place g block + 4096) (g.block_size - 4096) before since → IsKeptLoosened setup g s records gates since
+  pub body_held : gates block ≡ Shut → IsShut g block before → IsShut g block since → TornFrom (block_place g block + 4096) (g.block_size - 4096) before since
+      → IsKeptLoosened setup g s records gates since
   body_held is shut still torn =
       let sure : gates block ≢ Unsure = λ unsure. shut_not_unsure (sym is ∙ unsure) in
-      body_call_kept setup g s records (loosened g gates before) (loosened g gates since) block lt held (shut_still g held.geometry gates before block sure shut) (shut_still g held.geometry gates since block sure still)
+      body_call_kept setup g s records (loosened g gates before) (loosened g gates since) block lt held (shut_still g held.geometry gates before block sure shut)
+      (shut_still g held.geometry gates since block sure still)
       (loosened_torn g gates (block_place g block + 4096) (g.block_size - 4096) before since torn)
 
   -- A gate that is unsure is written, whatever the images show there now.
@@ -74,7 +79,8 @@ module _ (setup : Setup) (g : Geometry) (s : State) (records : Records) (gates :
   unsure_held is torn = fewer_kept setup g s records (loosened g gates before) (loosened g gates since) (loosened_written g gates block before since lt is torn) held
 
   -- where it may be unsure, it is written
-  begun_held : IsKeptLoosened setup g s records (with_gate block Unsure gates) before → TornFrom (block_place g block) 4096 before since → IsKeptLoosened setup g s records (with_gate block Unsure gates) since
+  begun_held : IsKeptLoosened setup g s records (with_gate block Unsure gates) before → TornFrom (block_place g block) 4096 before since
+      → IsKeptLoosened setup g s records (with_gate block Unsure gates) since
   begun_held is torn =
       fewer_kept setup g s records (loosened g (with_gate block Unsure gates) before) (loosened g (with_gate block Unsure gates) since)
       (loosened_written g (with_gate block Unsure gates) block before since lt (gate_own block block Unsure gates refl) torn) is
@@ -92,24 +98,29 @@ module _ (setup : Setup) (g : Geometry) (s : State) (records : Records) (gates :
       by Unsure is at = held_fewer setup g s records gates (with_gate block Unsure gates) before before (surer_with g block Unsure gates (λ same. is)) (λ c image. image) held
 
   -- The gate of a pending buffer is opened over its body, for the first time or again.
-  pub open_held : (number : ℕ) (bytes : List ℕ) → IsOpening s.book number block → HasOneBody g block bytes before → IsBodyWith g block bytes (records number) → TornFrom (block_place g block) 4096 before since
+  pub open_held : (number : ℕ) (bytes : List ℕ) → IsOpening s.book number block → HasOneBody g block bytes before → IsBodyWith g block bytes (records number)
+      → TornFrom (block_place g block) 4096 before since
       → IsKeptLoosened setup g s records (with_gate block Unsure gates) since
   open_held number bytes opening one is_body torn =
       begun_held
-      (opening_call_kept setup g s records (loosened g gates before) (loosened g (with_gate block Unsure gates) before) block lt held number bytes opening (one_still g held.geometry gates before block bytes one) is_body
+      (opening_call_kept setup g s records (loosened g gates before) (loosened g (with_gate block Unsure gates) before) block lt held number bytes opening
+      (one_still g held.geometry gates before block bytes one) is_body
       (loosened_begun g gates block before)) torn
 
   -- ---- none of them shows a copy that wasn't possible
 
-  pub body_brings : gates block ≡ Shut → IsShut g block since → TornFrom (block_place g block + 4096) (g.block_size - 4096) before since → BringsNone g s.book records (loosened g gates before) (loosened g gates since)
+  pub body_brings : gates block ≡ Shut → IsShut g block since → TornFrom (block_place g block + 4096) (g.block_size - 4096) before since
+      → BringsNone g s.book records (loosened g gates before) (loosened g gates since)
   body_brings is still torn =
-      body_call_brings setup g s records (loosened g gates before) (loosened g gates since) block lt held (shut_still g held.geometry gates since block (λ unsure. shut_not_unsure (sym is ∙ unsure)) still)
+      body_call_brings setup g s records (loosened g gates before) (loosened g gates since) block lt held
+      (shut_still g held.geometry gates since block (λ unsure. shut_not_unsure (sym is ∙ unsure)) still)
       (loosened_torn g gates (block_place g block + 4096) (g.block_size - 4096) before since torn)
 
   pub unsure_brings : gates block ≡ Unsure → TornFrom (block_place g block) 4096 before since → BringsNone g s.book records (loosened g gates before) (loosened g gates since)
   unsure_brings is torn = fewer_brings g s.book records (loosened g gates before) (loosened g gates since) (loosened_written g gates block before since lt is torn)
 
-  pub set_brings : gates block ≡ Set → IsOpened g block before → TornFrom (block_place g block) 4096 before since → BringsNone g s.book records (loosened g gates before) (loosened g (with_gate block Unsure gates) since)
+  pub set_brings : gates block ≡ Set → IsOpened g block before → TornFrom (block_place g block) 4096 before since
+      → BringsNone g s.book records (loosened g gates before) (loosened g (with_gate block Unsure gates) since)
   set_brings is opened torn k digest v left =
       closing_call_brings setup g s records (loosened g gates before) (loosened g (with_gate block Unsure gates) before) block lt held
       (open_still g held.geometry gates before block (λ unsure. set_not_unsure (sym is ∙ unsure)) opened) (loosened_begun g gates block before) k digest v
@@ -157,7 +168,8 @@ module _ (g : Geometry) (is : IsGeometry g) (book : Book) (gates : ℕ → Gate)
   -- the body is written
   pub body_knows : gates block ≡ Shut → IsShut g block since → TornFrom (block_place g block + 4096) (g.block_size - 4096) before since → KnowsGates g book since gates
   body_knows shut still torn =
-      knows_same g book since (with_gate block Shut gates) gates same (knows_changed g book before since gates block Shut (body_changes g block is before since torn) still (λ number there unbegun. refl) knows)
+      knows_same g book since (with_gate block Shut gates) gates same
+      (knows_changed g book before since gates block Shut (body_changes g block is before since torn) still (λ number there unbegun. refl) knows)
     where
       same : (k : ℕ) → gates k ≡ with_gate block Shut gates k
       same k = ⊎_elim (λ (e : k ≡ block). ap gates e ∙ shut ∙ sym (gate_own block k Shut gates e)) (λ (other : k ≢ block). sym (gate_other block k Shut gates other)) (cases_eq k block)
@@ -165,7 +177,8 @@ module _ (g : Geometry) (is : IsGeometry g) (book : Book) (gates : ℕ → Gate)
   -- a gate that isn't shut is written
   pub write_knows : gates block ≢ Shut → TornFrom (block_place g block) 4096 before since → KnowsGates g book since (with_gate block Unsure gates)
   write_knows not_shut torn =
-      knows_changed g book before since gates block Unsure (gate_changes g block is before since torn) (by (gates block) refl (knows.stands block lt)) (λ number there unbegun. absurd (not_shut (knows.waiting number block there unbegun))) knows
+      knows_changed g book before since gates block Unsure (gate_changes g block is before since torn) (by (gates block) refl (knows.stands block lt))
+      (λ number there unbegun. absurd (not_shut (knows.waiting number block there unbegun))) knows
     where
       by : (gate : Gate) → gates block ≡ gate → GateStands g before block gate → GateStands g since block Unsure
       by Shut shut stands = absurd (not_shut shut)
@@ -173,7 +186,8 @@ module _ (g : Geometry) (is : IsGeometry g) (book : Book) (gates : ℕ → Gate)
       by Unsure unsure stands = gate_torn g before since block stands.0 is torn stands.1
 
   -- the gate of a pending buffer is opened
-  pub open_knows : (number : ℕ) (bytes : List ℕ) (own : List (Digest × Version)) → IsBooked book → IsOpening book number block → HasOneBody g block bytes before → IsBodyWith g block bytes own → TornFrom (block_place g block) 4096 before since
+  pub open_knows : (number : ℕ) (bytes : List ℕ) (own : List (Digest × Version)) → IsBooked book → IsOpening book number block → HasOneBody g block bytes before
+      → IsBodyWith g block bytes own → TornFrom (block_place g block) 4096 before since
       → KnowsGates g book since (with_gate block Unsure gates)
   open_knows number bytes own booked opening one is_body torn =
       knows_changed g book before since gates block Unsure (gate_changes g block is before since torn)

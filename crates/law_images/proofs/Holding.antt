@@ -30,10 +30,15 @@ use Rattle.law_images.proofs.Stepping.{plain_kept, forgotten_kept}
 module _ (setup : Setup) (g : Geometry) (s : State) (records : Records) (gates : ℕ → Gate) (images : Images) (holds : HoldsGates setup g s records gates images) where
   -- a read, or a sync
   pub fewer_holds : (now : Images) → Within images now → HoldsGates setup g s records gates now
-  fewer_holds now fewer = record { knows = knows_fewer g s.book images now gates fewer holds.knows; held = held_fewer setup g s records gates gates images now (λ k lt unsure. unsure) fewer holds.held }
+  fewer_holds now fewer = record {
+    knows = knows_fewer g s.book images now gates fewer holds.knows;
+    held =
+        held_fewer setup g s records gates gates images now (λ k lt unsure. unsure) fewer holds.held;
+  }
 
   -- Seals, removals, begun gates, blocks that couldn't be closed, and raids.
-  pub plain_holds : (step : Step) → is_plain step ≡ true → MayTake setup s (possible_in g s.book records (loosened g gates images)) step → HoldsGates setup g (after_step setup step s) records gates images
+  pub plain_holds : (step : Step) → is_plain step ≡ true → MayTake setup s (possible_in g s.book records (loosened g gates images)) step
+      → HoldsGates setup g (after_step setup step s) records gates images
   plain_holds step is may = record { knows = knows_plain setup g s images gates step is holds.knows; held = plain_kept setup g s records (loosened g gates images) holds.held step is may }
 
   -- records of numbers that aren't pending go
@@ -44,15 +49,18 @@ module _ (setup : Setup) (g : Geometry) (s : State) (records : Records) (gates :
   pub wrote_holds : (new : Records) (digest : Digest) (v : Version) → MayBeWritten setup s digest v → Appends setup client (version_units v) digest v s.book records new
       → (has_room setup client (version_units v) s.book ≡ false → gates (first_block s.book.free) ≡ Shut) → HoldsGates setup g (after_step setup (wrote digest v) s) new gates images
   wrote_holds new digest v may appends shut = record {
-    knows = subst (λ (b : Book). KnowsGates g b images gates) (sym (wrote_book setup s records new digest v)) (knows_placed setup g client digest (version_units v) s.book images gates holds.held.order.numbered.counted shut holds.knows);
+    knows = subst (λ (b : Book). KnowsGates g b images gates) (sym (wrote_book setup s records new digest v))
+        (knows_placed setup g client digest (version_units v) s.book images gates holds.held.order.numbered.counted shut holds.knows);
     held = wrote_kept setup s records new digest v g (loosened g gates images) holds.held may appends;
   }
 
   -- or moved
-  pub moved_holds : (new : Records) (digest : Digest) (copy : Live) (v : Version) → live_of digest s.book.live ≡ Some copy → entry s digest ≡ Some v → Appends setup defrag copy.units digest v s.book records new
+  pub moved_holds : (new : Records) (digest : Digest) (copy : Live) (v : Version) → live_of digest s.book.live ≡ Some copy → entry s digest ≡ Some v
+      → Appends setup defrag copy.units digest v s.book records new
       → (has_room setup defrag copy.units s.book ≡ false → gates (first_block s.book.free) ≡ Shut) → HoldsGates setup g (after_step setup (moved digest) s) new gates images
   moved_holds new digest copy v live top appends shut = record {
-    knows = subst (λ (b : Book). KnowsGates g b images gates) (sym (moved_book setup s records new digest copy live)) (knows_placed setup g defrag digest copy.units s.book images gates holds.held.order.numbered.counted shut holds.knows);
+    knows = subst (λ (b : Book). KnowsGates g b images gates) (sym (moved_book setup s records new digest copy live))
+        (knows_placed setup g defrag digest copy.units s.book images gates holds.held.order.numbered.counted shut holds.knows);
     held = moved_kept setup s records new digest copy live v top appends g (loosened g gates images) holds.held;
   }
 
@@ -70,7 +78,8 @@ start_holds setup g shape is_g image bodies gates images alone each sound = reco
   held = start_held setup g shape is_g image bodies gates images alone each sound;
 }
 
-pub restart_holds : (setup : Setup) (g : Geometry) (s new : State) (records : Records) (was gates : ℕ → Gate) (before now : Images) (image : List ℕ) → HoldsGates setup g s records was before → before image → (r : Restarts setup s image new)
+pub restart_holds : (setup : Setup) (g : Geometry) (s new : State) (records : Records) (was gates : ℕ → Gate) (before now : Images) (image : List ℕ) → HoldsGates setup g s records was before
+    → before image → (r : Restarts setup s image new)
     → ((c : List ℕ) → now c → c ≡ image) → ((block : ℕ) → block < g.blocks → IsSeen g image block (gates block)) → HoldsGates setup g new (records_by []) gates now
 restart_holds setup g s new records was gates before now image holds left r alone each = record {
   knows = knows_seen g new.book image now gates alone (subst (λ (b : Book). b.buffers ≡ []) (sym r.book) (no_buffers setup r.bodies)) each;

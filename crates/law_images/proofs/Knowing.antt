@@ -6,7 +6,8 @@ use Rattle.rec_format.specs.declared.version.Digest.{Digest}
 use Rattle.model_device.specs.Histories.{Pending, is_begun}
 use Rattle.model_device.specs.Book.{Setup, Book, Stream, first_block, has_room, placed, pending_of, with_gate_begun, dropped_live, refreshed, Buffer}
 use Rattle.model_device.specs.Device.{State}
-use Rattle.model_device.specs.Steps.{Step, wrote, moved, removed, rid_of, uncovered, sealed_stream, gate_begun, flushed_buffer, closing_failed, raid_begun, raid_given_up, marked_part, scanned_block, compared_part, done_part, after_step}
+use Rattle.model_device.specs.Steps.{Step, wrote, moved, removed, rid_of, uncovered, sealed_stream, gate_begun, flushed_buffer, closing_failed, raid_begun}
+use Rattle.model_device.specs.Steps.{raid_given_up, marked_part, scanned_block, compared_part, done_part, after_step}
 use Rattle.disk_model.specs.Disk.{Images, Within}
 use Rattle.block_format.specs.declared.geometry.Geometry.{Geometry}
 use Rattle.block_format.specs.declared.geometry.Gate.{Gate}
@@ -33,10 +34,12 @@ knows_fewer g book before now gates fewer knows = record { stands = λ block lt.
 
 -- A block changes: its gate stands as it now does. It stays shut where the write of a pending buffer's gate hasn't begun.
 pub knows_changed : (g : Geometry) (book : Book) (before now : Images) (gates : ℕ → Gate) (block : ℕ) (gate : Gate) → ChangesIn g block before now → GateStands g now block gate
-    → ((number : ℕ) → Contains (places_of book) (number, block) → is_begun (pending_of book) number ≡ false → gate ≡ Shut) → KnowsGates g book before gates → KnowsGates g book now (with_gate block gate gates)
+    → ((number : ℕ) → Contains (places_of book) (number, block) → is_begun (pending_of book) number ≡ false → gate ≡ Shut) → KnowsGates g book before gates
+    → KnowsGates g book now (with_gate block gate gates)
 knows_changed g book before now gates block gate changes stands shut knows = record {
   stands = λ k lt. ⊎_elim (λ (e : k ≡ block). subst (λ (x : Gate). GateStands g now k x) (sym (own k e)) (subst (λ (x : ℕ). GateStands g now x gate) (sym e) stands))
-      (λ (other : k ≢ block). subst (λ (x : Gate). GateStands g now k x) (sym (others k other)) (gates_elsewhere g before now block k (gates k) changes lt other (knows.stands k lt))) (cases_eq k block);
+      (λ (other : k ≢ block). subst (λ (x : Gate). GateStands g now k x) (sym (others k other)) (gates_elsewhere g before now block k (gates k) changes lt other (knows.stands k lt)))
+      (cases_eq k block);
   waiting = λ number k there unbegun.
       ⊎_elim (λ (e : k ≡ block). own k e ∙ shut number (subst (λ (x : ℕ). Contains (places_of book) (number, x)) e there) unbegun)
       (λ (other : k ≢ block). others k other ∙ knows.waiting number k there unbegun) (cases_eq k block);
@@ -52,14 +55,16 @@ knows_changed g book before now gates block gate changes stands shut knows = rec
 
 -- where each place was one before, and what has begun since had begun or its gate is shut
 knows_places : (g : Geometry) (old new : Book) (images : Images) (gates : ℕ → Gate)
-    → ((number block : ℕ) → Contains (places_of new) (number, block) → is_begun (pending_of new) number ≡ false → (Contains (places_of old) (number, block) × (is_begun (pending_of old) number ≡ false)) ⊎ (gates block ≡ Shut))
+    → ((number block : ℕ) → Contains (places_of new) (number, block) → is_begun (pending_of new) number ≡ false
+    → (Contains (places_of old) (number, block) × (is_begun (pending_of old) number ≡ false)) ⊎ (gates block ≡ Shut))
     → KnowsGates g old images gates → KnowsGates g new images gates
 knows_places g old new images gates were knows = record {
   stands = knows.stands;
   waiting = λ number block there unbegun. ⊎_elim (λ was. knows.waiting number block was.0 was.1) (λ shut. shut) (were number block there unbegun);
 }
 
-plain_unbegun : (setup : Setup) (s : State) (step : Step) (number : ℕ) → is_plain step ≡ true → is_begun (pending_of (after_step setup step s).book) number ≡ false → is_begun (pending_of s.book) number ≡ false
+plain_unbegun : (setup : Setup) (s : State) (step : Step) (number : ℕ) → is_plain step ≡ true → is_begun (pending_of (after_step setup step s).book) number ≡ false
+    → is_begun (pending_of s.book) number ≡ false
 unfolding after_step dropped_live refreshed
 plain_unbegun setup s (wrote digest v) number is none = absurd (false≢true is)
 plain_unbegun setup s (moved digest) number is none = absurd (false≢true is)
@@ -82,20 +87,28 @@ plain_unbegun setup s (compared_part part) number is none = none
 plain_unbegun setup s (done_part part) number is none = none
 
 -- seals, removals, begun gates, blocks that couldn't be closed, and raids
-pub knows_plain : (setup : Setup) (g : Geometry) (s : State) (images : Images) (gates : ℕ → Gate) (step : Step) → is_plain step ≡ true → KnowsGates g s.book images gates → KnowsGates g (after_step setup step s).book images gates
+pub knows_plain : (setup : Setup) (g : Geometry) (s : State) (images : Images) (gates : ℕ → Gate) (step : Step) → is_plain step ≡ true → KnowsGates g s.book images gates
+    → KnowsGates g (after_step setup step s).book images gates
 knows_plain setup g s images gates step is knows =
     knows_places g s.book (after_step setup step s).book images gates
     (λ number block there none. inl (subst (λ (l : List (ℕ × ℕ)). Contains l (number, block)) (plain_places setup s step is) there, plain_unbegun setup s step number is none)) knows
 
 -- a buffer is flushed
-pub knows_flushed : (setup : Setup) (g : Geometry) (s : State) (images : Images) (gates : ℕ → Gate) (number : ℕ) → KnowsGates g s.book images gates → KnowsGates g (after_step setup (flushed_buffer number) s).book images gates
+pub knows_flushed : (setup : Setup) (g : Geometry) (s : State) (images : Images) (gates : ℕ → Gate) (number : ℕ) → KnowsGates g s.book images gates
+    → KnowsGates g (after_step setup (flushed_buffer number) s).book images gates
 unfolding after_step
 knows_flushed setup g s images gates number knows =
     knows_places g s.book (after_step setup (flushed_buffer number) s).book images gates
-    (λ n block there none. inl (places_left setup s number (n, block) there, sym (apart_begun setup number s.book n (all_at (λ p. p.0 ≢ number) (places_of (after_step setup (flushed_buffer number) s).book) (n, block) (flushed_apart setup s number) there)) ∙ none)) knows
+    (λ n block there none. inl (
+      places_left setup s number (n, block) there,
+      sym
+          (apart_begun setup number s.book n (all_at (λ p. p.0 ≢ number) (places_of (after_step setup (flushed_buffer number) s).book) (n, block) (flushed_apart setup s number) there))
+          ∙ none,
+    )) knows
 
 -- a copy is placed: where a buffer begins its block is shut
-pub knows_placed : (setup : Setup) (g : Geometry) (stream : Stream) (digest : Digest) (units : ℕ) (book : Book) (images : Images) (gates : ℕ → Gate) → HasRisingNumbers book → (has_room setup stream units book ≡ false → gates (first_block book.free) ≡ Shut)
+pub knows_placed : (setup : Setup) (g : Geometry) (stream : Stream) (digest : Digest) (units : ℕ) (book : Book) (images : Images) (gates : ℕ → Gate) → HasRisingNumbers book
+    → (has_room setup stream units book ≡ false → gates (first_block book.free) ≡ Shut)
     → KnowsGates g book images gates → KnowsGates g (placed setup stream digest units book) images gates
 knows_placed setup g stream digest units book images gates counted shut knows =
     knows_places g book (placed setup stream digest units book) images gates
@@ -113,7 +126,8 @@ knows_placed setup g stream digest units book images gates counted shut knows =
 -- ---- what is known of a gate
 
 -- of a pending buffer, until the write of its gate begins
-pub waiting_shut : (g : Geometry) (book : Book) (images : Images) (gates : ℕ → Gate) (number block : ℕ) → KnowsGates g book images gates → block < g.blocks → Contains (places_of book) (number, block) → is_begun (pending_of book) number ≡ false
+pub waiting_shut : (g : Geometry) (book : Book) (images : Images) (gates : ℕ → Gate) (number block : ℕ) → KnowsGates g book images gates → block < g.blocks
+    → Contains (places_of book) (number, block) → is_begun (pending_of book) number ≡ false
     → IsShut g block images
 waiting_shut g book images gates number block knows lt there unbegun = subst (GateStands g images block) (knows.waiting number block there unbegun) (knows.stands block lt)
 
@@ -129,7 +143,8 @@ seen_stands g seen images block Set alone is = gate_open g seen images block alo
 seen_stands g seen images block Unsure alone is = absurd is
 
 -- At a start one image is left, no buffer is pending, and each gate is as it is seen.
-pub knows_seen : (g : Geometry) (book : Book) (seen : List ℕ) (images : Images) (gates : ℕ → Gate) → ((c : List ℕ) → images c → c ≡ seen) → book.buffers ≡ [] → ((block : ℕ) → block < g.blocks → IsSeen g seen block (gates block)) → KnowsGates g book images gates
+pub knows_seen : (g : Geometry) (book : Book) (seen : List ℕ) (images : Images) (gates : ℕ → Gate) → ((c : List ℕ) → images c → c ≡ seen) → book.buffers ≡ []
+    → ((block : ℕ) → block < g.blocks → IsSeen g seen block (gates block)) → KnowsGates g book images gates
 knows_seen g book seen images gates alone none each = record {
   stands = λ block lt. seen_stands g seen images block (gates block) alone (each block lt);
   waiting = λ number block there unbegun. absurd (let never = subst (λ (l : List Buffer). Contains (map place l) (number, block)) none there in omega (arith, never.1));

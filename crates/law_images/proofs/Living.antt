@@ -42,7 +42,8 @@ module _ (book : Book) (records : Records) (bodies : List Body) (digest : Digest
   stored_first (uncovered_since rest) free v top = stored_first rest free v top
 
 -- Each image shows the live copy of an entry, where its block has no buffer.
-pub live_shown : (setup : Setup) (g : Geometry) (s : State) (records : Records) (images : Images) (digest : Digest) (copy : Live) (v : Version) → IsKept setup g s records images → live_of digest s.book.live ≡ Some copy → entry s digest ≡ Some v
+pub live_shown : (setup : Setup) (g : Geometry) (s : State) (records : Records) (images : Images) (digest : Digest) (copy : Live) (v : Version) → IsKept setup g s records images
+    → live_of digest s.book.live ≡ Some copy → entry s digest ≡ Some v
     → has_buffer s.book copy.block ≡ false → (c : List ℕ) → images c → HasRecord g c copy.block digest v
 live_shown setup g s records images digest copy v kept live top none c image =
     let u = kept.upheld c image in
@@ -53,7 +54,8 @@ live_shown setup g s records images digest copy v kept live top none c image =
 -- ---- raids
 
 -- What law_start calls possible is possible in some block.
-pub possible_somewhere : (setup : Setup) (g : Geometry) (s : State) (records : Records) (images : Images) (digest : Digest) (v : Version) → IsKept setup g s records images → IsPossible setup s images digest v
+pub possible_somewhere : (setup : Setup) (g : Geometry) (s : State) (records : Records) (images : Images) (digest : Digest) (v : Version) → IsKept setup g s records images
+    → IsPossible setup s images digest v
     → somewhere (possible_in g s.book records images) digest v
 possible_somewhere setup g s records images digest v kept (inl pending) = let w = pending_waits s records digest v kept.order.whole pending in (w.1, inl (w.0, w.2))
 possible_somewhere setup g s records images digest v kept (inr is) =
@@ -73,7 +75,8 @@ possible_somewhere setup g s records images digest v kept (inr is) =
     )
 
 -- so where no copy in any block is older than the entry, none is
-pub kept_no_older : (setup : Setup) (g : Geometry) (s : State) (records : Records) (images : Images) (digest : Digest) (e : Version) → IsKept setup g s records images → entry s digest ≡ Some e → NoneOlder s (possible_in g s.book records images) digest
+pub kept_no_older : (setup : Setup) (g : Geometry) (s : State) (records : Records) (images : Images) (digest : Digest) (e : Version) → IsKept setup g s records images
+    → entry s digest ≡ Some e → NoneOlder s (possible_in g s.book records images) digest
     → HasNoOlder setup s images digest e
 kept_no_older setup g s records images digest e kept top none =
     has_no_older setup s images (possible_in g s.book records images) digest e top none (λ v is. possible_somewhere setup g s records images digest v kept is)

@@ -71,7 +71,8 @@ module _ (g : Geometry) (gates : ℕ → Gate) where
       (is.0, (t.0, t.1, is.1), is.2)
 
   -- the write of a gate that is unsure brings no other
-  pub loosened_written : (block : ℕ) (before now : Images) → block < g.blocks → gates block ≡ Unsure → TornFrom (block_place g block) 4096 before now → Within (loosened g gates before) (loosened g gates now)
+  pub loosened_written : (block : ℕ) (before now : Images) → block < g.blocks → gates block ≡ Unsure → TornFrom (block_place g block) 4096 before now
+      → Within (loosened g gates before) (loosened g gates now)
   loosened_written block before now lt unsure torn c image =
       let t = torn image.0 image.1 in
       (t.0, t.1, record { size = image.2.size ∙ t.2.size; apart = λ a m free. image.2.apart a m free ∙ t.2.apart a m (free block lt unsure) })
@@ -102,7 +103,8 @@ module _ (g : Geometry) (is : IsGeometry g) (gates : ℕ → Gate) (images : Ima
       narrow (inr behind) = let size = low g j is in inr (omega (arith, behind, size))
 
   body_away : (k : ℕ) → IsAway g gates (block_place g k + 4096) (g.block_size - 4096)
-  body_away k j lt unsure = ⊎_elim (λ (e : k ≡ j). inr (let same = ap (block_place g) e in omega (arith, same))) (λ (other : k ≢ j). narrow (away g j is k 4096 (g.block_size - 4096) other (let size = low g j is in omega (arith, size)))) (cases_eq k j)
+  body_away k j lt unsure = ⊎_elim (λ (e : k ≡ j). inr (let same = ap (block_place g) e in omega (arith, same)))
+      (λ (other : k ≢ j). narrow (away g j is k 4096 (g.block_size - 4096) other (let size = low g j is in omega (arith, size)))) (cases_eq k j)
     where
       narrow : Apart (block_place g k + 4096) (g.block_size - 4096) (block_place g j) g.block_size → Apart (block_place g k + 4096) (g.block_size - 4096) (block_place g j) 4096
       narrow (inl before) = inl before

@@ -26,12 +26,14 @@ IsClear g image block = IsClosed (gate_sector g block image) ⊎ IsShownIn g ima
 -- two bodies that are shown in one block are one
 pub one_shown : (g : Geometry) (image : List ℕ) (a b : Body) → Shows g image a → Shows g image b → a.block ≡ b.block → a ≡ b
 one_shown g image a b in_a in_b same =
-    one_body (block_capacity g.block_size) (block_capacity g.block_size) (body_bytes g a.block image) a b in_a.is_body (subst (λ (k : ℕ). IsBody (block_capacity g.block_size) (body_bytes g k image) b) (sym same) in_b.is_body) same
+    one_body (block_capacity g.block_size) (block_capacity g.block_size) (body_bytes g a.block image) a b in_a.is_body
+    (subst (λ (k : ℕ). IsBody (block_capacity g.block_size) (body_bytes g k image) b) (sym same) in_b.is_body) same
 
 -- so they are in two images with the same bytes there
 pub one_behind : (g : Geometry) (c d : List ℕ) (a b : Body) → Shows g c a → Shows g d b → a.block ≡ b.block → body_bytes g b.block d ≡ body_bytes g a.block c → a ≡ b
 one_behind g c d a b in_a in_b same bytes =
-    one_body (block_capacity g.block_size) (block_capacity g.block_size) (body_bytes g a.block c) a b in_a.is_body (subst (λ (l : List ℕ). IsBody (block_capacity g.block_size) l b) bytes in_b.is_body) same
+    one_body (block_capacity g.block_size) (block_capacity g.block_size) (body_bytes g a.block c) a b in_a.is_body
+    (subst (λ (l : List ℕ). IsBody (block_capacity g.block_size) l b) bytes in_b.is_body) same
 
 module _ (g : Geometry) (image : List ℕ) where
   -- ---- from bodies to what is shown
@@ -126,7 +128,8 @@ module _ (g : Geometry) (image : List ℕ) where
 
   pub readable_from : IsHeader (take 4096 image) g → device_end g ≤ length image → ((block : ℕ) → block < g.blocks → IsClear g image block) → (bodies : List Body) × IsReadable image g bodies
   readable_from header size each =
-      let is = all_read (range_with_len 0 g.blocks) (all_from (IsClear g image) (range_with_len 0 g.blocks) (λ k there. each k (all_at (λ x. x < g.blocks) (range_with_len 0 g.blocks) k below there))) in
+      let is = all_read (range_with_len 0 g.blocks) (all_from (IsClear g image) (range_with_len 0 g.blocks)
+      (λ k there. each k (all_at (λ x. x < g.blocks) (range_with_len 0 g.blocks) k below there))) in
       (is.0, record { header = header; size = size; blocks = is.1 })
 
 -- ---- a change within one block

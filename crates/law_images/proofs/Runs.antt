@@ -34,7 +34,8 @@ module _ (setup : Setup) (g : Geometry) (records : ℕ → Records) (images : �
   kept_from k j m s (step ∷ steps) same kept =
       let next : m + 1 ≡ k + (j + 1) = omega (arith, same) in (
         subst (λ (n : ℕ). IsKept setup g s (records n) (images n)) (sym same) kept.0,
-        subst (λ (n : ℕ). IsKept setup g (after_step setup step s) (records n) (images m)) (sym next) (subst (λ (n : ℕ). IsKept setup g (after_step setup step s) (records (k + (j + 1))) (images n)) (sym same) kept.1),
+        subst (λ (n : ℕ). IsKept setup g (after_step setup step s) (records n) (images m)) (sym next)
+            (subst (λ (n : ℕ). IsKept setup g (after_step setup step s) (records (k + (j + 1))) (images n)) (sym same) kept.1),
         kept_from k (j + 1) (m + 1) (after_step setup step s) steps next kept.2,
       )
 
@@ -49,7 +50,8 @@ module _ (setup : Setup) (g : Geometry) (records : ℕ → Records) (images : �
 
   -- ---- one list after another
 
-  joined : (k : ℕ) (s : State) (xs ys : List Step) → KeptAlong setup g s records images k xs → KeptAlong setup g (after_steps setup xs s) records images (k + length xs) ys → KeptAlong setup g s records images k (xs ++ ys)
+  joined : (k : ℕ) (s : State) (xs ys : List Step) → KeptAlong setup g s records images k xs → KeptAlong setup g (after_steps setup xs s) records images (k + length xs) ys
+      → KeptAlong setup g s records images k (xs ++ ys)
   joined k s [] ys first second = let same : k + 0 ≡ k = omega arith in subst (λ (n : ℕ). KeptAlong setup g s records images n ys) same second
   joined k s (x ∷ xs) ys first second =
       let same : k + length (x ∷ xs) ≡ k + 1 + length xs = length_behind k x xs in
@@ -64,7 +66,8 @@ module _ (setup : Setup) (g : Geometry) (records : ℕ → Records) (images : �
   abbrev pub RunMade : State → (k : ℕ) → List Event → Type 0
   RunMade s k [] = Unit {0}
   RunMade s k (event ∷ events) =
-      WritesOwn setup event.call × ScansAll s (possible_in g s.book (records k) (images k)) event × MadeAlong setup g s records images k event.steps × RunMade (after_event setup event s) (k + length event.steps) events
+      WritesOwn setup event.call × ScansAll s (possible_in g s.book (records k) (images k)) event × MadeAlong setup g s records images k event.steps
+      × RunMade (after_event setup event s) (k + length event.steps) events
 
   pub run_kept : (told : Bool) (s : State) (faults : ℕ) (k : ℕ) (events : List Event) → IsLegal setup told s faults events → IsKept setup g s (records k) (images k) → RunMade s k events
       → KeptAlong setup g s records images k (steps_of events)

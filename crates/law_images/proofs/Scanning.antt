@@ -32,14 +32,17 @@ use Rattle.law_images.proofs.Stepping.{plain_kept}
 -- ---- what has to be read
 
 -- of a pending buffer's block its records, as long as no image shows others there
-pub read_waiting : (setup : Setup) (g : Geometry) (s : State) (records : Records) (images : Images) (number block : ℕ) → IsKept setup g s records images → Contains (places_of s.book) (number, block) → OpensOver g block (records number) images
+pub read_waiting : (setup : Setup) (g : Geometry) (s : State) (records : Records) (images : Images) (number block : ℕ) → IsKept setup g s records images
+    → Contains (places_of s.book) (number, block) → OpensOver g block (records number) images
     → IsScanOf g s.book records images block (records number)
 read_waiting setup g s records images number block kept placed opens = record {
-  pending = λ m there r has. subst (λ (k : ℕ). Contains (records k) r) (ap (λ (p : ℕ × ℕ). p.0) (one_place (places_of s.book) (m, block) (number, block) kept.order.booked.apart there placed refl)) has;
+  pending = λ m there r has. subst (λ (k : ℕ). Contains (records k) r)
+      (ap (λ (p : ℕ × ℕ). p.0) (one_place (places_of s.book) (m, block) (number, block) kept.order.booked.apart there placed refl)) has;
   stored = λ c image body at shown r has. by c body at shown r has (opens c image);
 }
   where
-    by : (c : List ℕ) (body : Body) → body.block ≡ block → Shows g c body → (r : Digest × Version) → Contains body.records r → IsClosed (gate_sector g block c) ⊎ ShowsRecords g c block (records number) → Contains (records number) r
+    by : (c : List ℕ) (body : Body) → body.block ≡ block → Shows g c body → (r : Digest × Version) → Contains body.records r → IsClosed (gate_sector g block c)
+        ⊎ ShowsRecords g c block (records number) → Contains (records number) r
     by c body at shown r has (inl closed) = absurd (closed (subst (λ (k : ℕ). IsOpen (gate_sector g k c)) at shown.is_open))
     by c body at shown r has (inr is) =
         subst (λ (l : List (Digest × Version)). Contains l r) (ap (λ (b : Body). b.records) (one_shown g c body is.body shown is.shown (at ∙ sym is.placed)) ∙ is.same) has
@@ -69,7 +72,8 @@ module _ (g : Geometry) (s : State) (records : Records) (images : Images) (block
 -- ---- what is found
 
 -- A scan finds what it has to, if all that the block may have was read.
-pub scan_finds : (g : Geometry) (s : State) (records : Records) (images : Images) (block : ℕ) (read : List (Digest × Version)) (copies : List (Digest × Stamp)) → IsScanOf g s.book records images block read → FindsAmong s read copies
+pub scan_finds : (g : Geometry) (s : State) (records : Records) (images : Images) (block : ℕ) (read : List (Digest × Version)) (copies : List (Digest × Stamp))
+    → IsScanOf g s.book records images block read → FindsAmong s read copies
     → FindsOlder s (possible_in g s.book records images) block copies
 scan_finds g s records images block read copies is finds digest v marked o =
     finds (digest, v) (there o.may_come) marked (ap (λ e. is_older_than (stamp_of e) v.stamp) o.top ∙ o.later)
@@ -81,22 +85,26 @@ scan_finds g s records images block read copies is finds digest v marked o =
 pub older_found : (s : State) (read : List (Digest × Version)) → FindsAmong s read (older_among s read)
 older_found s read r there marked older =
     map_there (λ (x : Digest × Version). (x.0, x.1.stamp)) (filter passes read) r
-    (filter_there passes read r (and_from (list_any (same_digest r.0) s.raid.marked) (is_older_than (stamp_of (entry s r.0)) r.1.stamp) (any_passes (same_digest r.0) s.raid.marked r.0 marked (same_digest_refl r.0)) older) there)
+    (filter_there passes read r (and_from (list_any (same_digest r.0) s.raid.marked) (is_older_than (stamp_of (entry s r.0)) r.1.stamp)
+    (any_passes (same_digest r.0) s.raid.marked r.0 marked (same_digest_refl r.0)) older) there)
   where
     passes : Digest × Version → Bool
     passes x = list_any (same_digest x.0) s.raid.marked && is_older_than (stamp_of (entry s x.0)) x.1.stamp
 
 -- so the scan's step may be taken
-pub scan_kept : (setup : Setup) (g : Geometry) (s : State) (records : Records) (images : Images) (block : ℕ) (read : List (Digest × Version)) (copies : List (Digest × Stamp)) → IsKept setup g s records images → s.raid.next ≡ scan_turn block
+pub scan_kept : (setup : Setup) (g : Geometry) (s : State) (records : Records) (images : Images) (block : ℕ) (read : List (Digest × Version)) (copies : List (Digest × Stamp))
+    → IsKept setup g s records images → s.raid.next ≡ scan_turn block
     → IsScanOf g s.book records images block read → FindsAmong s read copies → IsKept setup g (after_step setup (scanned_block copies) s) records images
 scan_kept setup g s records images block read copies kept turn is finds =
     plain_kept setup g s records images kept (scanned_block copies) refl (block, turn, scan_finds g s records images block read copies is finds)
 
 -- and an event that is this scan finds all
-pub scans_all : (g : Geometry) (s : State) (records : Records) (images : Images) (event : Event) (block : ℕ) (read : List (Digest × Version)) (copies : List (Digest × Stamp)) → s.raid.next ≡ scan_turn block → event.steps ≡ scanned_block copies ∷ []
+pub scans_all : (g : Geometry) (s : State) (records : Records) (images : Images) (event : Event) (block : ℕ) (read : List (Digest × Version)) (copies : List (Digest × Stamp))
+    → s.raid.next ≡ scan_turn block → event.steps ≡ scanned_block copies ∷ []
     → IsScanOf g s.book records images block read → FindsAmong s read copies → ScansAll s (possible_in g s.book records images) event
 scans_all g s records images event block read copies turn steps is finds other found other_turn other_steps =
-    subst (λ (k : ℕ). FindsOlder s (possible_in g s.book records images) k found) same_block (subst (λ (l : List (Digest × Stamp)). FindsOlder s (possible_in g s.book records images) block l) same_copies (scan_finds g s records images block read copies is finds))
+    subst (λ (k : ℕ). FindsOlder s (possible_in g s.book records images) k found) same_block
+    (subst (λ (l : List (Digest × Stamp)). FindsOlder s (possible_in g s.book records images) block l) same_copies (scan_finds g s records images block read copies is finds))
   where
     turns : scan_turn block ≡ scan_turn other
     turns = sym turn ∙ other_turn

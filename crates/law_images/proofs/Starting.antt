@@ -69,7 +69,8 @@ body_copied bodies b digest v there has =
     record { copy = one.copy; there = flat_map_there (λ (x : Body). copies_from x.block 0 x.records) bodies b one.copy there one.there; placed = one.placed; named = one.named; same = one.same }
 
 -- what holds of each copy holds of each record
-all_records : (P : Digest → Version → Type 0) (bodies : List Body) → AllByRecursion (λ c. P c.digest c.version) (copies_of bodies) → AllByRecursion (λ b. AllByRecursion (λ r. P r.0 r.1) b.records) bodies
+all_records : (P : Digest → Version → Type 0) (bodies : List Body) → AllByRecursion (λ c. P c.digest c.version) (copies_of bodies)
+    → AllByRecursion (λ b. AllByRecursion (λ r. P r.0 r.1) b.records) bodies
 all_records P bodies all =
     all_from (λ b. AllByRecursion (λ r. P r.0 r.1) b.records) bodies
     (λ b there. all_from (λ r. P r.0 r.1) b.records
@@ -128,13 +129,16 @@ module _ (setup : Setup) (g : Geometry) (shape : IsShapeOf setup g) (is_g : IsGe
   }
 
   -- A start from a sound image, which is the one that a crash may leave.
-  pub start_kept : (image : List ℕ) (bodies : List Body) (images : Images) → ((c : List ℕ) → images c → c ≡ image) → IsSound setup image bodies → IsKept setup g (start_state setup bodies) (records_by []) images
+  pub start_kept : (image : List ℕ) (bodies : List Body) (images : Images) → ((c : List ℕ) → images c → c ≡ image) → IsSound setup image bodies
+      → IsKept setup g (start_state setup bodies) (records_by []) images
   start_kept image bodies images alone sound =
-      one_kept setup g (start_state setup bodies) image bodies images shape is_g alone (read_in setup g image bodies shape is_g sound) (start_in_order image bodies sound) (start_facts setup image bodies sound)
+      one_kept setup g (start_state setup bodies) image bodies images shape is_g alone (read_in setup g image bodies shape is_g sound) (start_in_order image bodies sound)
+      (start_facts setup image bodies sound)
       (start_trailed setup (records_by []) bodies sound.twins) (start_left setup image bodies sound).begun
 
 -- A restart within a run, from an image of a set that was kept.
-pub restart_kept : (setup : Setup) (g : Geometry) (s new : State) (records : Records) (before now : Images) (image : List ℕ) → IsKept setup g s records before → before image → Restarts setup s image new
+pub restart_kept : (setup : Setup) (g : Geometry) (s new : State) (records : Records) (before now : Images) (image : List ℕ) → IsKept setup g s records before → before image
+    → Restarts setup s image new
     → ((c : List ℕ) → now c → c ≡ image) → IsKept setup g new (records_by []) now
 restart_kept setup g s new records before now image kept was r alone =
     one_kept setup g new image r.bodies now kept.shape kept.geometry alone readable order
@@ -184,7 +188,8 @@ live_within : (limit : ℕ) (found : List Copy) → AllByRecursion (λ c. c.bloc
 live_within limit [] all = tt
 live_within limit (c ∷ found) all = (all.0, live_within limit found all.1)
 
-pub entries_in_order : (setup : Setup) (found : List Copy) (next_number : ℕ) → AllByRecursion (λ c. c.block < setup.blocks) found → IsInOrder setup (entries_state setup found next_number) (records_by [])
+pub entries_in_order : (setup : Setup) (found : List Copy) (next_number : ℕ) → AllByRecursion (λ c. c.block < setup.blocks) found
+    → IsInOrder setup (entries_state setup found next_number) (records_by [])
 unfolding entries_state cold_book refreshed
 entries_in_order setup found next_number within = record {
   booked = refreshed_booked setup bare tt (units_taken found);

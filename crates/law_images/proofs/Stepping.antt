@@ -7,7 +7,8 @@ use Rattle.rec_format.specs.declared.version.Digest.{Digest}
 use Rattle.rec_format.specs.declared.version.Version.{Version}
 use Rattle.model_device.specs.Book.{Setup, Buffer, with_flushed, refreshed, dropped_live}
 use Rattle.model_device.specs.Device.{State, history, entry}
-use Rattle.model_device.specs.Steps.{Step, wrote, moved, removed, rid_of, uncovered, sealed_stream, gate_begun, flushed_buffer, closing_failed, raid_begun, raid_given_up, marked_part, scanned_block, compared_part, done_part, after_step}
+use Rattle.model_device.specs.Steps.{Step, wrote, moved, removed, rid_of, uncovered, sealed_stream, gate_begun, flushed_buffer, closing_failed, raid_begun}
+use Rattle.model_device.specs.Steps.{raid_given_up, marked_part, scanned_block, compared_part, done_part, after_step}
 use Rattle.model_device.proofs.Numbers.{next_number_rises}
 use Rattle.disk_model.specs.Disk.{Images}
 use Rattle.block_format.specs.declared.geometry.Geometry.{Geometry}
@@ -43,7 +44,8 @@ use Rattle.law_images.proofs.Reading.{shown_there}
 -- a number has one block
 pub one_block : (buffers : List Buffer) → AreRising buffers → (number k l : ℕ) → Contains (map place buffers) (number, k) → Contains (map place buffers) (number, l) → k ≡ l
 one_block [] rising number k l in_k in_l = absurd (omega (arith, in_k.1))
-one_block (b ∷ buffers) rising number k l in_k in_l = by (cons_cases (place b) (map place buffers) (number, k) in_k) (cons_cases (place b) (map place buffers) (number, l) in_l) (one_block buffers rising.1 number k l)
+one_block (b ∷ buffers) rising number k l in_k in_l = by (cons_cases (place b) (map place buffers) (number, k) in_k) (cons_cases (place b) (map place buffers) (number, l) in_l)
+    (one_block buffers rising.1 number k l)
   where
     never : (m : ℕ) → place b ≡ (number, m) → (n : ℕ) → Contains (map place buffers) (number, n) → ⊥
     never m first n there =
@@ -80,7 +82,8 @@ step_book setup s old new step order room ahead = record {
 }
 
 -- where each record is what its history says
-pub step_in_order : (setup : Setup) (s : State) (old new : Records) (step : Step) → IsInOrder setup s old → HasRoomFor setup s step → AddsPlaced setup s step old new → RecordsWhole (after_step setup step s) new
+pub step_in_order : (setup : Setup) (s : State) (old new : Records) (step : Step) → IsInOrder setup s old → HasRoomFor setup s step → AddsPlaced setup s step old new
+    → RecordsWhole (after_step setup step s) new
     → ((number : ℕ) → (after_step setup step s).book.next_number ≤ number → new number ≡ []) → IsInOrder setup (after_step setup step s) new
 step_in_order setup s old new step order room adds whole ahead = record {
   booked = step_booked setup s order.booked step room;
@@ -92,7 +95,8 @@ step_in_order setup s old new step order room adds whole ahead = record {
 }
 
 -- and with the images
-pub step_kept : (setup : Setup) (g : Geometry) (s : State) (old new : Records) (images : Images) (step : Step) → IsKept setup g s old images → HasRoomFor setup s step → MayTake setup s (possible_in g s.book old images) step
+pub step_kept : (setup : Setup) (g : Geometry) (s : State) (old new : Records) (images : Images) (step : Step) → IsKept setup g s old images → HasRoomFor setup s step
+    → MayTake setup s (possible_in g s.book old images) step
     → KeepsRecords s.book old new → IsInOrder setup (after_step setup step s) new
     → ((c : List ℕ) → images c → (bodies : List Body) → IsReadable c g bodies → IsBacked setup s new bodies step) → WaitedOrCame setup g s (after_step setup step s) old new images
     → IsKept setup g (after_step setup step s) new images
@@ -154,13 +158,15 @@ forgotten_book setup s old new none order = record {
   ahead = λ n le. none_in (new n) (λ r there. let was = subst (λ (l : List (Digest × Version)). Contains l r) (order.ahead n le) (none n r there) in omega (arith, was.1));
 }
 
-pub forgotten_kept : (setup : Setup) (g : Geometry) (s : State) (old new : Records) (images : Images) → KeepsRecords s.book old new → AddsNone old new → IsKept setup g s old images → IsKept setup g s new images
+pub forgotten_kept : (setup : Setup) (g : Geometry) (s : State) (old new : Records) (images : Images) → KeepsRecords s.book old new → AddsNone old new → IsKept setup g s old images
+    → IsKept setup g s new images
 forgotten_kept setup g s old new images keeps none kept = record {
   shape = kept.shape;
   geometry = kept.geometry;
   order = forgotten_in_order setup s old new keeps none kept.order;
   facts = facts_become setup s (possible_in g s.book old images) (possible_in g s.book new images)
-      (λ block digest v possible. inl (⊎_elim (λ (waits : (number : ℕ) × WaitsIn s.book new number block digest v). inl (waits.0, record { placed = waits.1.placed; has = none waits.0 (digest, v) waits.1.has }))
+      (λ block digest v possible. inl
+      (⊎_elim (λ (waits : (number : ℕ) × WaitsIn s.book new number block digest v). inl (waits.0, record { placed = waits.1.placed; has = none waits.0 (digest, v) waits.1.has }))
       (λ (left : IsLeftIn g images block digest v). inr left) possible)) kept.facts;
   upheld = λ c image. let u = kept.upheld c image in
       record { bodies = u.bodies; readable = u.readable; begun = u.begun; trailed = records_kept s old new u.bodies kept.order.booked keeps u.trailed };
@@ -255,7 +261,8 @@ module _ (setup : Setup) (s : State) (records : Records) (order : IsInOrder setu
 
   pub flushed_in_order : (number : ℕ) → IsInOrder setup (after_step setup (flushed_buffer number) s) records
   flushed_in_order number =
-      step_in_order setup s records records (flushed_buffer number) order tt (λ n r there. there) (flushed_whole setup s records order.numbered order.whole number) (still_ahead setup s records (book_in_order order) (flushed_buffer number))
+      step_in_order setup s records records (flushed_buffer number) order tt (λ n r there. there) (flushed_whole setup s records order.numbered order.whole number)
+      (still_ahead setup s records (book_in_order order) (flushed_buffer number))
 
 -- ---- the places behind a flush
 
@@ -284,7 +291,8 @@ module _ (setup : Setup) (g : Geometry) (s : State) (records : Records) (images 
       (λ number block digest v waits. inl (inl (number, record { placed = subst (λ (l : List (ℕ × ℕ)). Contains l (number, block)) (plain_places setup s step is) waits.placed; has = waits.has })))
 
   -- Where each image shows the records of a buffer in its block, the buffer is flushed.
-  pub flushed_kept : (number block : ℕ) → Contains (places_of s.book) (number, block) → AllShow g block (records number) images → IsKept setup g (after_step setup (flushed_buffer number) s) records images
+  pub flushed_kept : (number block : ℕ) → Contains (places_of s.book) (number, block) → AllShow g block (records number) images
+      → IsKept setup g (after_step setup (flushed_buffer number) s) records images
   flushed_kept number block placed shown =
       step_kept setup g s records records images (flushed_buffer number) kept tt tt (same_records s.book records) (flushed_in_order setup s records kept.order number) backed
       (λ n k digest v waits. inl (inl (n, record { placed = places_left setup s number (n, k) waits.placed; has = waits.has })))

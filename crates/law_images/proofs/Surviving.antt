@@ -23,13 +23,16 @@ use Rattle.law_images.specs.Kept.{Upholds, possible_in, IsKept}
 use Rattle.law_images.proofs.Reading.{body_shown}
 
 -- what holds of each record of each body holds of their copies
-placed_copies : (P : ℕ → Digest → Version → Type 0) (block unit : ℕ) (records : List (Digest × Version)) → AllByRecursion (λ r. P block r.0 r.1) records → AllByRecursion (λ c. P c.block c.digest c.version) (copies_from block unit records)
+placed_copies : (P : ℕ → Digest → Version → Type 0) (block unit : ℕ) (records : List (Digest × Version)) → AllByRecursion (λ r. P block r.0 r.1) records
+    → AllByRecursion (λ c. P c.block c.digest c.version) (copies_from block unit records)
 placed_copies P block unit [] all = tt
 placed_copies P block unit (r ∷ records) all = (all.0, placed_copies P block (unit + version_units r.1) records all.1)
 
-all_placed : (P : ℕ → Digest → Version → Type 0) (bodies : List Body) → AllByRecursion (λ b. AllByRecursion (λ r. P b.block r.0 r.1) b.records) bodies → AllByRecursion (λ c. P c.block c.digest c.version) (copies_of bodies)
+all_placed : (P : ℕ → Digest → Version → Type 0) (bodies : List Body) → AllByRecursion (λ b. AllByRecursion (λ r. P b.block r.0 r.1) b.records) bodies
+    → AllByRecursion (λ c. P c.block c.digest c.version) (copies_of bodies)
 all_placed P [] all = tt
-all_placed P (b ∷ bodies) all = all_joined (λ (c : Copy). P c.block c.digest c.version) (copies_from b.block 0 b.records) (copies_of bodies) (placed_copies P b.block 0 b.records all.0) (all_placed P bodies all.1)
+all_placed P (b ∷ bodies) all = all_joined (λ (c : Copy). P c.block c.digest c.version) (copies_from b.block 0 b.records) (copies_of bodies) (placed_copies P b.block 0 b.records all.0)
+    (all_placed P bodies all.1)
 
 module _ (setup : Setup) (g : Geometry) (s : State) (records : Records) (images : Images) (kept : IsKept setup g s records images) (c : List ℕ) (image : images c) where
   pub upholds : Upholds g s records c

@@ -38,7 +38,8 @@ pub opening_begun : (setup : Setup) (s : State) (number block : ℕ) → Contain
 opening_begun setup s number block there = record {
   placed = subst (λ (l : List (ℕ × ℕ)). Contains l (number, block)) (sym (plain_places setup s (gate_begun number) refl)) there;
   begun = begun_is setup s number
-      (sym (any_map (λ (p : ℕ × ℕ). p.0 == number) (λ b. (b.number, b.block)) s.book.buffers) ∙ any_there (λ (p : ℕ × ℕ). p.0 == number) (places_of s.book) (number, block) there (eq-eqb number number refl));
+      (sym (any_map (λ (p : ℕ × ℕ). p.0 == number) (λ b. (b.number, b.block)) s.book.buffers)
+      ∙ any_there (λ (p : ℕ × ℕ). p.0 == number) (places_of s.book) (number, block) there (eq-eqb number number refl));
 }
 
 -- ---- a gate is closed
@@ -50,7 +51,8 @@ pub record HasClosed (setup : Setup) (g : Geometry) (s : State) (records : Recor
   pub closed : IsShut g block now → HoldsGates setup g s records (with_gate block Shut gates) now
 
 -- The gate is set, and its block is free; or it is unsure, and nothing is asked.
-pub close_call : (setup : Setup) (g : Geometry) (s : State) (records : Records) (gates : ℕ → Gate) (before since now : Images) (block : ℕ) → block < g.blocks → HoldsGates setup g s records gates before
+pub close_call : (setup : Setup) (g : Geometry) (s : State) (records : Records) (gates : ℕ → Gate) (before since now : Images) (block : ℕ) → block < g.blocks
+    → HoldsGates setup g s records gates before
     → gates block ≢ Shut → (gates block ≡ Set → Contains s.book.free block) → TornFrom (block_place g block) 4096 before since → Within since now → HasClosed setup g s records gates block since now
 close_call setup g s records gates before since now block lt holds not_shut free torn fewer = record {
   meanwhile = held_survives setup g s records (with_gate block Unsure gates) since in_since;
@@ -73,8 +75,10 @@ pub record HasOpened (setup : Setup) (g : Geometry) (s : State) (records : Recor
   pub one : HasOneBody g block bytes now
   pub flushed : IsOpened g block now → HoldsGates setup g (after_step setup (flushed_buffer number) s) records (with_gate block Set gates) now
 
-pub open_call : (setup : Setup) (g : Geometry) (s : State) (records : Records) (gates : ℕ → Gate) (before since now : Images) (number block : ℕ) (bytes : List ℕ) → block < g.blocks → HoldsGates setup g s records gates before
-    → IsOpening s.book number block → HasOneBody g block bytes before → IsBodyWith g block bytes (records number) → TornFrom (block_place g block) 4096 before since → Within since now → HasOpened setup g s records gates number block bytes since now
+pub open_call : (setup : Setup) (g : Geometry) (s : State) (records : Records) (gates : ℕ → Gate) (before since now : Images) (number block : ℕ) (bytes : List ℕ) → block < g.blocks
+    → HoldsGates setup g s records gates before
+    → IsOpening s.book number block → HasOneBody g block bytes before → IsBodyWith g block bytes (records number) → TornFrom (block_place g block) 4096 before since → Within since now
+    → HasOpened setup g s records gates number block bytes since now
 open_call setup g s records gates before since now number block bytes lt holds opening one is_body torn fewer = record {
   meanwhile = held_survives setup g s records (with_gate block Unsure gates) since in_since;
   failed = record { knows = known; held = held_known setup g s records gates since now block Unsure fewer in_since };
@@ -91,7 +95,8 @@ open_call setup g s records gates before since now number block bytes lt holds o
     in_since = open_held setup g s records gates before since block lt holds.held number bytes opening one is_body torn
 
     known : KnowsGates g s.book now (with_gate block Unsure gates)
-    known = knows_fewer g s.book since now (with_gate block Unsure gates) fewer (open_knows g holds.held.geometry s.book gates before since block lt holds.knows number bytes (records number) holds.held.order.booked opening one is_body torn)
+    known = knows_fewer g s.book since now (with_gate block Unsure gates) fewer
+        (open_knows g holds.held.geometry s.book gates before since block lt holds.knows number bytes (records number) holds.held.order.booked opening one is_body torn)
 
     still : HasOneBody g block bytes now
     still c image = let t = torn c (fewer c image) in body_stays g block holds.held.geometry t.0 c t.2 ∙ one t.0 t.1
@@ -104,7 +109,8 @@ open_call setup g s records gates before since now number block bytes lt holds o
 
 -- An opening that failed is tried again, by what it left.
 pub open_again : (setup : Setup) (g : Geometry) (s : State) (records : Records) (gates : ℕ → Gate) (since now since_again again : Images) (number block : ℕ) (bytes : List ℕ) → block < g.blocks
-    → HasOpened setup g s records gates number block bytes since now → IsOpening s.book number block → IsBodyWith g block bytes (records number) → TornFrom (block_place g block) 4096 now since_again → Within since_again again
+    → HasOpened setup g s records gates number block bytes since now → IsOpening s.book number block → IsBodyWith g block bytes (records number)
+    → TornFrom (block_place g block) 4096 now since_again → Within since_again again
     → HasOpened setup g s records (with_gate block Unsure gates) number block bytes since_again again
 open_again setup g s records gates since now since_again again number block bytes lt first opening is_body torn fewer =
     open_call setup g s records (with_gate block Unsure gates) now since_again again number block bytes lt first.failed opening first.one is_body torn fewer
@@ -118,13 +124,15 @@ pub record IsFlushed (setup : Setup) (g : Geometry) (s : State) (records : Recor
   pub opened : HasOpened setup g (after_step setup (gate_begun number) s) records gates number block bytes opening now
 
 -- The body of a sealed buffer is written behind its gate, which is shut, and then the gate is opened over it, each with a sync.
-pub flush_held : (setup : Setup) (g : Geometry) (s : State) (records : Records) (gates : ℕ → Gate) (before writing between opening now : Images) (number block : ℕ) (bytes : List ℕ) → block < g.blocks → HoldsGates setup g s records gates before → Contains (places_of s.book) (number, block) → gates block ≡ Shut → IsBodyWith g block bytes (records number)
+pub flush_held : (setup : Setup) (g : Geometry) (s : State) (records : Records) (gates : ℕ → Gate) (before writing between opening now : Images) (number block : ℕ) (bytes : List ℕ)
+    → block < g.blocks → HoldsGates setup g s records gates before → Contains (places_of s.book) (number, block) → gates block ≡ Shut → IsBodyWith g block bytes (records number)
     → IsShut g block writing → TornFrom (block_place g block + 4096) (g.block_size - 4096) before writing → Within writing between → HasOneBody g block bytes between
     → TornFrom (block_place g block) 4096 between opening → Within opening now → IsFlushed setup g s records gates number block bytes writing opening now
 flush_held setup g s records gates before writing between opening now number block bytes lt holds placed is_shut is_body still torn fewer one torn_gate fewer_now = record {
   written = held_survives setup g s records gates writing in_writing;
   kept = record { knows = known; held = in_writing };
-  opened = open_call setup g begun records gates between opening now number block bytes lt (record { knows = knows_plain setup g s between gates (gate_begun number) refl (knows_fewer g s.book writing between gates fewer known); held = in_between })
+  opened = open_call setup g begun records gates between opening now number block bytes lt
+      (record { knows = knows_plain setup g s between gates (gate_begun number) refl (knows_fewer g s.book writing between gates fewer known); held = in_between })
       (opening_begun setup s number block placed) one is_body torn_gate fewer_now;
 }
   where
@@ -145,13 +153,17 @@ flush_held setup g s records gates before writing between opening now number blo
 -- what the closing of a free block's gate leaves, if it goes well and a version is appended, or if it fails
 pub record IsReused (setup : Setup) (g : Geometry) (s : State) (old new : Records) (gates : ℕ → Gate) (digest : Digest) (v : Version) (block : ℕ) (closing now : Images) : Type 0 where
   pub closed : HasClosed setup g s old gates block closing now
-  pub appended : IsShut g block now → MayBeWritten setup s digest v → Appends setup client (version_units v) digest v s.book old new → HoldsGates setup g (after_step setup (wrote digest v) s) new (with_gate block Shut gates) now
+  pub appended : IsShut g block now → MayBeWritten setup s digest v → Appends setup client (version_units v) digest v s.book old new
+      → HoldsGates setup g (after_step setup (wrote digest v) s) new (with_gate block Shut gates) now
   pub failed : HoldsGates setup g (after_step setup closing_failed s) old (with_gate block Unsure gates) now
 
-pub reuse_held : (setup : Setup) (g : Geometry) (s : State) (old new : Records) (gates : ℕ → Gate) (digest : Digest) (v : Version) (before closing now : Images) (block : ℕ) → block < g.blocks → HoldsGates setup g s old gates before → gates block ≢ Shut → Contains s.book.free block → first_block s.book.free ≡ block → TornFrom (block_place g block) 4096 before closing → Within closing now → IsReused setup g s old new gates digest v block closing now
+pub reuse_held : (setup : Setup) (g : Geometry) (s : State) (old new : Records) (gates : ℕ → Gate) (digest : Digest) (v : Version) (before closing now : Images) (block : ℕ)
+    → block < g.blocks → HoldsGates setup g s old gates before → gates block ≢ Shut → Contains s.book.free block → first_block s.book.free ≡ block
+    → TornFrom (block_place g block) 4096 before closing → Within closing now → IsReused setup g s old new gates digest v block closing now
 reuse_held setup g s old new gates digest v before closing now block lt holds not_shut free first torn fewer = record {
   closed = call;
-  appended = λ shut may appends. wrote_holds setup g s old (with_gate block Shut gates) now (call.closed shut) new digest v may appends (λ none. gate_own block (first_block s.book.free) Shut gates first);
+  appended = λ shut may appends. wrote_holds setup g s old (with_gate block Shut gates) now (call.closed shut) new digest v may appends
+      (λ none. gate_own block (first_block s.book.free) Shut gates first);
   failed = plain_holds setup g s old (with_gate block Unsure gates) now call.failed closing_failed refl tt;
 }
   where
@@ -166,15 +178,18 @@ pub record IsScanned (setup : Setup) (g : Geometry) (s : State) (records : Recor
   pub scanned : IsShut g block now → HoldsGates setup g (after_step setup (scanned_block []) s) records (with_gate block Shut gates) now
   pub given_up : HoldsGates setup g (after_step setup raid_given_up s) records (with_gate block Unsure gates) now
 
-pub scan_held : (setup : Setup) (g : Geometry) (s : State) (records : Records) (gates : ℕ → Gate) (before closing now : Images) (block : ℕ) → block < g.blocks → HoldsGates setup g s records gates before
-    → gates block ≡ Unsure → has_buffer s.book block ≡ false → s.raid.next ≡ scan_turn block → TornFrom (block_place g block) 4096 before closing → Within closing now → IsScanned setup g s records gates block closing now
+pub scan_held : (setup : Setup) (g : Geometry) (s : State) (records : Records) (gates : ℕ → Gate) (before closing now : Images) (block : ℕ) → block < g.blocks
+    → HoldsGates setup g s records gates before
+    → gates block ≡ Unsure → has_buffer s.book block ≡ false → s.raid.next ≡ scan_turn block → TornFrom (block_place g block) 4096 before closing → Within closing now
+    → IsScanned setup g s records gates block closing now
 scan_held setup g s records gates before closing now block lt holds is none turn torn fewer = record {
   closed = call;
   scanned = λ shut. plain_holds setup g s records (with_gate block Shut gates) now (call.closed shut) (scanned_block []) refl (
     block,
     turn,
     scan_finds g s records (loosened g (with_gate block Shut gates) now) block [] []
-        (shut_read setup g s records (with_gate block Shut gates) now block lt (call.closed shut) none (gate_own block block Shut gates refl)) (λ r there marked older. absurd (omega (arith, there.1))),
+        (shut_read setup g s records (with_gate block Shut gates) now block lt (call.closed shut) none (gate_own block block Shut gates refl))
+        (λ r there marked older. absurd (omega (arith, there.1))),
   );
   given_up = plain_holds setup g s records (with_gate block Unsure gates) now call.failed raid_given_up refl tt;
 }

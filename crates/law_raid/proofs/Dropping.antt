@@ -51,7 +51,8 @@ module _ (setup : Setup) (now : ℕ) (s : State) (bare : Digest → Bool) where
     where
       by : (o : Option Version) → entry s d ≡ o → is_eligible setup now s d ≡ true → entry_passes is_put (entry s d) ≡ not (entry_passes is_tombstone (entry s d))
       by (Some v) e eligible = (λ i. entry_passes is_put (e i)) ∙ (λ i. not (entry_passes is_tombstone (sym e i)))
-      by None e eligible = absurd (both_ways (is_eligible setup now s d) (λ i. entry_passes (λ v. is_tombstone v && is_old_enough setup.raid_age now v) (e i) || (entry_passes is_put (e i) && entry_is_covered s d)) eligible)
+      by None e eligible = absurd (both_ways (is_eligible setup now s d)
+          (λ i. entry_passes (λ v. is_tombstone v && is_old_enough setup.raid_age now v) (e i) || (entry_passes is_put (e i) && entry_is_covered s d)) eligible)
 
   module _ (part : ℕ) (t : State) (removed cleared : ℕ) (h : IsDropped part t removed cleared) where
     -- the digests whose entries go
@@ -60,7 +61,8 @@ module _ (setup : Setup) (now : ℕ) (s : State) (bare : Digest → Bool) where
 
     same_history : (d : Digest) → part ≤ part_of setup d → history t d ≡ history s d
     same_history d le =
-        h.histories d ∙ cond-false (drops d && nat_lt (part_of setup d) part) (drop_item s d ∷ history s d) (history s d) (and_right (drops d) (nat_lt (part_of setup d) part) (le-ltb (part_of setup d) part le))
+        h.histories d ∙ cond-false (drops d && nat_lt (part_of setup d) part) (drop_item s d ∷ history s d) (history s d)
+        (and_right (drops d) (nat_lt (part_of setup d) part) (le-ltb (part_of setup d) part le))
 
     -- a test of the digests of the part that says the same of both states
     of_part : (p q : Digest → Bool) → ((d : Digest) → part_of setup d ≡ part → p d ≡ q d) → (d : Digest) → ((part_of setup d == part) && p d) ≡ ((part_of setup d == part) && q d)
@@ -112,7 +114,8 @@ module _ (setup : Setup) (now : ℕ) (s : State) (bare : Digest → Bool) where
     steps_are : drop_steps setup part t ≡ map (drop_step s) mine ++ done_part part ∷ []
     steps_are =
         ap (λ (l : List Digest). map (drop_step t) l ++ done_part part ∷ []) marked_are
-        ∙ ap (λ (l : List Step). l ++ done_part part ∷ []) (map_alike (drop_step t) (drop_step s) mine (all_map (λ d. part_of setup d ≡ part) (λ d. drop_step t d ≡ drop_step s d) mine same_step all_mine))
+        ∙ ap (λ (l : List Step). l ++ done_part part ∷ []) (map_alike (drop_step t) (drop_step s) mine
+        (all_map (λ d. part_of setup d ≡ part) (λ d. drop_step t d ≡ drop_step s d) mine same_step all_mine))
 
     abbrev middle : State
     middle = after_steps setup (map (drop_step s) mine) t
@@ -135,10 +138,12 @@ module _ (setup : Setup) (now : ℕ) (s : State) (bare : Digest → Bool) where
             side (inr le) = le-ltb n part le ∙ sym (le-ltb n (part + 1) (omega (arith, other)))
 
         by : (c : Bool) → (part_of setup d == part) ≡ c
-            → cond (drops d && (part_of setup d == part)) (drop_item s d ∷ history t d) (history t d) ≡ cond (drops d && nat_lt (part_of setup d) (part + 1)) (drop_item s d ∷ history s d) (history s d)
+            → cond (drops d && (part_of setup d == part)) (drop_item s d ∷ history t d) (history t d)
+            ≡ cond (drops d && nat_lt (part_of setup d) (part + 1)) (drop_item s d ∷ history s d) (history s d)
         by true is =
             let here : part_of setup d ≡ part = eqb-true (part_of setup d) part is in
-            (λ i. cond (drops d && (is ∙ sym (lt-ltb (part_of setup d) (part + 1) (omega (arith, here)))) i) (drop_item s d ∷ same_history d (omega (arith, here)) i) (same_history d (omega (arith, here)) i))
+            (λ i. cond (drops d && (is ∙ sym (lt-ltb (part_of setup d) (part + 1) (omega (arith, here)))) i) (drop_item s d ∷ same_history d (omega (arith, here)) i)
+            (same_history d (omega (arith, here)) i))
         by false is =
             let other = eqb-false (part_of setup d) part is in
             cond-false (drops d && (part_of setup d == part)) (drop_item s d ∷ history t d) (history t d) (and_right (drops d) (part_of setup d == part) is)
@@ -148,7 +153,9 @@ module _ (setup : Setup) (now : ℕ) (s : State) (bare : Digest → Bool) where
     digests_now =
         ap digests_of (dropped_log setup s mine t)
         ∙ digests_stay (drop_item s) mine t.log
-        (all_from (λ d. has_digest (digests_of t.log) d ≡ true) mine (λ d there. subst (λ (l : List Digest). has_digest l d ≡ true) (sym h.digests) (logged d (filter_from (λ x. (part_of setup x == part) && drops x) (digests_of s.log) d there).1)))
+        (all_from (λ d. has_digest (digests_of t.log) d ≡ true) mine
+        (λ d there. subst (λ (l : List Digest). has_digest l d ≡ true) (sym h.digests)
+        (logged d (filter_from (λ x. (part_of setup x == part) && drops x) (digests_of s.log) d there).1)))
         ∙ h.digests
       where
         logged : (d : Digest) → ((part_of setup d == part) && drops d) ≡ true → has_digest (digests_of s.log) d ≡ true
@@ -176,7 +183,8 @@ module _ (setup : Setup) (now : ℕ) (s : State) (bare : Digest → Bool) where
             → (((part_of setup d == part) && drops d) && entry_passes is_tombstone (entry t d)) ≡ ((drops d && is_tomb d) && (part_of setup d == part))
         by d true is =
             let here : part_of setup d ≡ part = eqb-true (part_of setup d) part is in
-            (λ i. (is i && drops d) && entry_passes is_tombstone (top_of (same_history d (omega (arith, here)) i))) ∙ with_true (drops d && is_tomb d) ∙ ap (λ (b : Bool). (drops d && is_tomb d) && b) (sym is)
+            (λ i. (is i && drops d) && entry_passes is_tombstone (top_of (same_history d (omega (arith, here)) i))) ∙ with_true (drops d && is_tomb d)
+            ∙ ap (λ (b : Bool). (drops d && is_tomb d) && b) (sym is)
         by d false is =
             (λ i. (is i && drops d) && entry_passes is_tombstone (entry t d)) ∙ sym (and_right (drops d && is_tomb d) (part_of setup d == part) is)
 
@@ -184,7 +192,8 @@ module _ (setup : Setup) (now : ℕ) (s : State) (bare : Digest → Bool) where
         ≡ count_by (λ d. (drops d && is_tomb d) && (part_of setup d == part)) (digests_of s.log) + count_by (λ d. (drops d && is_a_put d) && (part_of setup d == part)) (digests_of s.log)
     kinds_are =
         ap length marked_are ∙ length-filter (λ d. (part_of setup d == part) && drops d) (digests_of s.log)
-        ∙ count_both (λ d. (part_of setup d == part) && drops d) (λ d. (drops d && is_tomb d) && (part_of setup d == part)) (λ d. (drops d && is_a_put d) && (part_of setup d == part)) (digests_of s.log)
+        ∙ count_both (λ d. (part_of setup d == part) && drops d) (λ d. (drops d && is_tomb d) && (part_of setup d == part))
+        (λ d. (drops d && is_a_put d) && (part_of setup d == part)) (digests_of s.log)
         (λ d. by d (drops d) refl (part_of setup d == part))
       where
         split : (a c : Bool) → one_if (c && true) ≡ one_if (a && c) + one_if (not a && c)
@@ -203,7 +212,8 @@ module _ (setup : Setup) (now : ℕ) (s : State) (bare : Digest → Bool) where
             ∙ (λ i. one_if ((sym is i && is_tomb d) && c) + one_if ((sym is i && sym (either_kind d is) i) && c))
         by d false is c = ap (λ (b : Bool). one_if (c && b)) is ∙ nothing c ∙ (λ i. one_if ((sym is i && is_tomb d) && c) + one_if ((sym is i && is_a_put d) && c))
 
-    more : (test : Digest → Bool) (before here : ℕ) → before ≡ count_by (λ d. test d && nat_lt (part_of setup d) part) (digests_of s.log) → here ≡ count_by (λ d. test d && (part_of setup d == part)) (digests_of s.log)
+    more : (test : Digest → Bool) (before here : ℕ) → before ≡ count_by (λ d. test d && nat_lt (part_of setup d) part) (digests_of s.log)
+        → here ≡ count_by (λ d. test d && (part_of setup d == part)) (digests_of s.log)
         → before + here ≡ count_by (λ d. test d && nat_lt (part_of setup d) (part + 1)) (digests_of s.log)
     more test before here one two =
         (λ i. one i + two i)
@@ -217,10 +227,12 @@ module _ (setup : Setup) (now : ℕ) (s : State) (bare : Digest → Bool) where
         rest a b x y one two = omega (arith, one, two)
 
     -- The drop turn of the part.
-    pub part_dropped : IsDropped (part + 1) (after_steps setup (drop_steps setup part t) t) (removed + marked_tombstones setup part t) (cleared + (length (marked_in setup part t) - marked_tombstones setup part t))
+    pub part_dropped : IsDropped (part + 1) (after_steps setup (drop_steps setup part t) t) (removed + marked_tombstones setup part t)
+        (cleared + (length (marked_in setup part t) - marked_tombstones setup part t))
     unfolding after_step
     part_dropped =
-        subst (λ (next : State). IsDropped (part + 1) next (removed + marked_tombstones setup part t) (cleared + (length (marked_in setup part t) - marked_tombstones setup part t))) (sym behind) (record {
+        subst (λ (next : State). IsDropped (part + 1) next (removed + marked_tombstones setup part t) (cleared + (length (marked_in setup part t) - marked_tombstones setup part t)))
+        (sym behind) (record {
           histories = histories_now;
           digests = digests_now;
           marks = marks_now;

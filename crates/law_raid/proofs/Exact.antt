@@ -38,7 +38,8 @@ went_on event events removed cleared Goes how = (
     Stops cause = (events ≡ []) × (did removed cleared ≡ stopped cause)
 
 -- a turn that isn't refused is the raid's next one
-turn_ends : (setup : Setup) (told : Bool) (number now : ℕ) (t : State) (event : Event) (turn : Turn) → t.raid.next ≡ turn → event.call ≡ turn_call number t.raid.next now → Allowed setup told t event event.call
+turn_ends : (setup : Setup) (told : Bool) (number now : ℕ) (t : State) (event : Event) (turn : Turn) → t.raid.next ≡ turn → event.call ≡ turn_call number t.raid.next now
+    → Allowed setup told t event event.call
     → ((cause : Cause) → event.answer ≡ refused cause → ⊥) → TurnEnds setup told t event turn now
 turn_ends setup told number now t event turn at call allowed answered =
     subst (λ (k : Turn). TurnEnds setup told t event k now) at (by ((number == t.raid.number) && same_turn t.raid.next t.raid.next) (subst (Allowed setup told t event) call allowed))
@@ -93,7 +94,8 @@ module _ (setup : Setup) (told : Bool) (now : ℕ) (s : State) (possible : Possi
         by true is at = inl at
         by false is at = inr (at, ltb-false (part + 1) (part_total setup) is)
 
-    drop_turns : (events : List Event) (faults : ℕ) (t : State) (part a b : ℕ) → AtDrop t part → IsDropped setup now s bare part t a b → TakesTurns number now (slot_of setup t faults) a b events (did removed cleared)
+    drop_turns : (events : List Event) (faults : ℕ) (t : State) (part a b : ℕ) → AtDrop t part → IsDropped setup now s bare part t a b
+        → TakesTurns number now (slot_of setup t faults) a b events (did removed cleared)
         → IsLegal setup told t faults events → RaidsExactly setup now s possible removed cleared (after_events setup events t)
     drop_turns [] faults t part a b (inl at) h takes legal = let never : drop_turn part ≡ finished = sym at ∙ takes.0 in absurd cc
     drop_turns [] faults t part a b (inr over) h takes legal =
@@ -117,7 +119,8 @@ module _ (setup : Setup) (told : Bool) (now : ℕ) (s : State) (possible : Possi
   -- no part is done yet, and a digest goes where it is marked
   none_dropped : (r : RaidState) → IsScanned setup now s possible r → IsDropped setup now s (has_digest r.marked) 0 (record s { raid = r }) 0 0
   none_dropped r h = record {
-    histories = λ d. sym (cond-false (drops setup now s (has_digest r.marked) d && nat_lt (part_of setup d) 0) (drop_item s d ∷ history s d) (history s d) (none (drops setup now s (has_digest r.marked) d) d));
+    histories = λ d. sym (cond-false (drops setup now s (has_digest r.marked) d && nat_lt (part_of setup d) 0) (drop_item s d ∷ history s d) (history s d)
+        (none (drops setup now s (has_digest r.marked) d) d));
     digests = refl;
     marks = λ d le. by d (has_digest r.marked d) refl;
     removed_are = count_none (λ d. (drops setup now s (has_digest r.marked) d && is_tomb setup now s (has_digest r.marked) d) && nat_lt (part_of setup d) 0) (digests_of s.log)
@@ -237,7 +240,8 @@ raid_exact told slot now events removed cleared possible (first, turns, is, call
     begun number answer false begins = begins.1
 
     by : ((first.answer ≡ raid_numbered None) × (turns ≡ []) × (did removed cleared ≡ stopped spent))
-        ⊎ ((number : ℕ) × (first.answer ≡ raid_numbered (Some number)) × TakesTurns number now (slot_of slot.setup (after_event slot.setup first slot.state) first.faults_after) 0 0 turns (did removed cleared))
+        ⊎ ((number : ℕ) × (first.answer ≡ raid_numbered (Some number))
+        × TakesTurns number now (slot_of slot.setup (after_event slot.setup first slot.state) first.faults_after) 0 0 turns (did removed cleared))
         → IsLegal slot.setup told slot.state slot.faults (first ∷ turns) → FindsAlong slot.setup possible slot.state (first ∷ turns)
         → RaidsExactly slot.setup now slot.state possible removed cleared (after_events slot.setup (first ∷ turns) slot.state)
     by (inl none) legal finds = let never : did removed cleared ≡ stopped spent = none.2 in absurd cc

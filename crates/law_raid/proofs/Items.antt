@@ -35,7 +35,8 @@ eligible_logged setup now s d is = by (has_digest (digests_of s.log) d) refl
   where
     none : has_digest (digests_of s.log) d ≡ false → false ≡ true
     none absent =
-        sym (ap (λ (items : List Item). entry_passes (λ v. is_tombstone v && is_old_enough setup.raid_age now v) (top_of items) || (entry_passes is_put (top_of items) && is_covered items)) (unlogged d s.log absent)) ∙ is
+        sym (ap (λ (items : List Item). entry_passes (λ v. is_tombstone v && is_old_enough setup.raid_age now v) (top_of items) || (entry_passes is_put (top_of items) && is_covered items))
+        (unlogged d s.log absent)) ∙ is
 
     by : (b : Bool) → has_digest (digests_of s.log) d ≡ b → b ≡ true
     by true there = refl

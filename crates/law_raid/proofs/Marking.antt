@@ -85,10 +85,13 @@ module _ (setup : Setup) (now : ℕ) (s : State) (possible : Possible) where
       where
         by : (b : Bool) → (part_of setup d == part) ≡ b → (has_digest more d || has_digest others d) ≡ true
         by true here =
-            or_left (has_digest more d) (has_digest others d) (among_more d ∙ and_from (has_digest (digests_of s.log) d) ((part_of setup d == part) && eligible d) (eligible_logged setup now s d is) (and_from (part_of setup d == part) (eligible d) here is))
+            or_left (has_digest more d) (has_digest others d)
+            (among_more d ∙ and_from (has_digest (digests_of s.log) d) ((part_of setup d == part) && eligible d) (eligible_logged setup now s d is)
+            (and_from (part_of setup d == part) (eligible d) here is))
         by false other =
             let earlier = eqb-false (part_of setup d) part other in
-            or_right (has_digest more d) (has_digest others d) (among_others d ∙ and_from (has_digest r.marked d) (not (part_of setup d == part)) (h.each d is (omega (arith, lt, earlier))) (ap not other))
+            or_right (has_digest more d) (has_digest others d)
+            (among_others d ∙ and_from (has_digest r.marked d) (not (part_of setup d == part)) (h.each d is (omega (arith, lt, earlier))) (ap not other))
 
     next_marked : IsMarked (part + 1) marking
     unfolding after_step
@@ -98,7 +101,8 @@ module _ (setup : Setup) (now : ℕ) (s : State) (possible : Possible) where
     unfolding after_step
     all_marked all = record {
       only = only_now;
-      lost = λ d is off. absurd (both_ways (has_digest (more ++ others) d) off (each_now d is (reach d (at_digest (λ x. part_of setup x < part_total setup) (digests_of s.log) d below (eligible_logged setup now s d is)))));
+      lost = λ d is off. absurd (both_ways (has_digest (more ++ others) d) off
+          (each_now d is (reach d (at_digest (λ x. part_of setup x < part_total setup) (digests_of s.log) d below (eligible_logged setup now s d is)))));
       found = λ d stamp there. let never = subst (λ (l : List (Digest × Stamp)). Contains l (d, stamp)) h.unfound there in absurd (omega (arith, never.1));
       ahead = λ block d v on o. inl (zero_under block);
     }
@@ -224,7 +228,8 @@ module _ (setup : Setup) (now : ℕ) (s : State) (possible : Possible) where
         by : (c : Bool) → (part_of setup d == part) ≡ c → (r.scanned ≤ block) ⊎ Contains left (d, v.stamp)
         by true is =
             absurd (both_ways (not (has_older s mine d))
-            (ap not (any_there (λ f. same_digest d f.0 && is_older_than (stamp_of (entry s d)) f.1) mine (d, v.stamp) (filter_there (λ (f : Digest × Stamp). part_of setup f.0 == part) r.found (d, v.stamp) is there) older)) kept)
+            (ap not (any_there (λ f. same_digest d f.0 && is_older_than (stamp_of (entry s d)) f.1) mine (d, v.stamp)
+            (filter_there (λ (f : Digest × Stamp). part_of setup f.0 == part) r.found (d, v.stamp) is there) older)) kept)
         by false is = inr (filter_there (λ (f : Digest × Stamp). not (part_of setup f.0 == part)) r.found (d, v.stamp) (ap not is) there)
 
     compared_now : IsScanned comparing

@@ -3,7 +3,8 @@ use Rattle.std.proofs.Common.{◌≡◌, ◌≢◌, ℕ, ◌+◌, ◌*◌, ◌�
 use Rattle.std.specs.Prelude.{◌==◌, nat_lt, Some, Contains, count_by}
 use Rattle.std.proofs.lemmas.Bool.{eqb-true, eq-eqb, both_ways, and_parts, and_from, not-true, ltb-true, lt-ltb, leb-false}
 use Rattle.rec_format.specs.declared.version.Digest.{Digest}
-use Rattle.model_device.specs.Book.{Setup, Buffer, Book, Live, Stream, client, defrag, Phase, filling, sealed, opening, is_filling, same_stream, sealed_if, seal_stream, filling_buffer, has_buffer, has_room, fits_in, use_of, with_new_buffer, used_more, live_of}
+use Rattle.model_device.specs.Book.{Setup, Buffer, Book, Live, Stream, client, defrag, Phase, filling, sealed, opening, is_filling, same_stream, sealed_if}
+use Rattle.model_device.specs.Book.{seal_stream, filling_buffer, has_buffer, has_room, fits_in, use_of, with_new_buffer, used_more, live_of}
 use Rattle.law_room.specs.Tidy.{IsTidy, fills}
 use Rattle.law_room.specs.Room.{may_come}
 use Rattle.law_room.proofs.Counts.{count_changed, count_joined, count_none, only_found}
@@ -54,7 +55,8 @@ module _ (setup : Setup) (book : Book) (tidy : IsTidy setup book) (units : ℕ) 
       found is = only_found (fills defrag) book.buffers y (tidy.alone defrag) there is
 
       by : (stream : Stream) (phase : Phase) → y.stream ≡ stream → y.phase ≡ phase
-          → may_come setup (with_new_buffer defrag book) (sealed_if (same_stream defrag stream) (record y { stream = stream; phase = phase })) ≡ true → may_come setup book (record y { stream = stream; phase = phase }) ≡ true
+          → may_come setup (with_new_buffer defrag book) (sealed_if (same_stream defrag stream) (record y { stream = stream; phase = phase })) ≡ true
+          → may_come setup book (record y { stream = stream; phase = phase }) ≡ true
       by client phase of_stream of_phase e = e
       by defrag filling of_stream of_phase e =
           comes_full (use_of book y.block) (setup.lwm * setup.capacity) setup.capacity units y.used half small

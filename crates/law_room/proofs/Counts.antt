@@ -22,7 +22,8 @@ one_if_le true false to = absurd (false≢true (to refl))
 one_if_le false b to = omega arith
 
 -- where each that passes behind a change passed before, no more pass
-pub count_changed : {X Y : Type 0} (p : Y → Bool) (q : X → Bool) (change : X → Y) (xs : List X) → ((x : X) → Contains xs x → p (change x) ≡ true → q x ≡ true) → count_by p (map change xs) ≤ count_by q xs
+pub count_changed : {X Y : Type 0} (p : Y → Bool) (q : X → Bool) (change : X → Y) (xs : List X) → ((x : X) → Contains xs x → p (change x) ≡ true → q x ≡ true)
+    → count_by p (map change xs) ≤ count_by q xs
 count_changed p q change [] each = omega arith
 count_changed p q change (x ∷ xs) each =
     let rest = count_changed p q change xs (λ y there. each y (rest_there x xs y there)) in

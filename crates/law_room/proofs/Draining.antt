@@ -7,7 +7,8 @@ use Rattle.std.proofs.lemmas.Bool.{both_ways, cond-true, cond-false, cond_both, 
 use Rattle.std.proofs.Math.Nat.{mul-le-mul_right}
 use Rattle.rec_format.specs.declared.version.Digest.{Digest}
 use Rattle.rec_format.specs.Places.{same_digest}
-use Rattle.model_device.specs.Book.{Setup, Buffer, Book, Live, defrag, filling, sealed, is_filling, same_stream, sealed_if, seal_stream, used_more, first_block, filling_buffer, fits_in, has_buffer, has_room, use_of, live_of, with_new_buffer, put_in, placed}
+use Rattle.model_device.specs.Book.{Setup, Buffer, Book, Live, defrag, filling, sealed, is_filling, same_stream, sealed_if, seal_stream, used_more, first_block}
+use Rattle.model_device.specs.Book.{filling_buffer, fits_in, has_buffer, has_room, use_of, live_of, with_new_buffer, put_in, placed}
 use Rattle.model_device.specs.Device.{State}
 use Rattle.model_device.specs.Steps.{moved, moved_state, after_step}
 use Rattle.law_start.specs.Holding.{HasRisingNumbers}
@@ -165,7 +166,8 @@ module _ (setup : Setup) (book ready : Book) (x : Buffer) (is : IsReadied book r
         over bs all.1,
       )
 
-  pub emptied : IsWhich → (setup.lwm ≤ 50 → count_by (may_come setup ready) ready.buffers ≤ count_by (may_come setup book) book.buffers) → (FreeAs book → AllFill book → AllFill ready) → IsTidy setup new
+  pub emptied : IsWhich → (setup.lwm ≤ 50 → count_by (may_come setup ready) ready.buffers ≤ count_by (may_come setup book) book.buffers)
+      → (FreeAs book → AllFill book → AllFill ready) → IsTidy setup new
       → IsEmptying setup copy.block behind start new
   emptied which ready_come ready_filled tidy = record {
     tidy = tidy;
@@ -212,7 +214,8 @@ module _ (setup : Setup) (s : State) (digest : Digest) (copy : Live) (live : liv
 
   kept : IsKept setup after
   kept = record {
-    booked = (placed_is setup defrag digest copy.units s.book (all_at (λ (l : Live). 1 ≤ l.units) s.book.live copy was.tidy.booked.units (live_there digest s.book.live copy live)) was.tidy.booked can).booked;
+    booked = (placed_is setup defrag digest copy.units s.book
+        (all_at (λ (l : Live). 1 ≤ l.units) s.book.live copy was.tidy.booked.units (live_there digest s.book.live copy live)) was.tidy.booked can).booked;
     within = subst (IsWithin setup) (moved_book setup s digest copy live)
         (step_within setup s was.tidy.within (moved digest) (subst (λ (o : Option Live). MatchOption o (Unit {0}) (λ copy. CanPlace setup defrag copy.units s.book)) (sym live) can));
     numbered = placed_counted setup defrag digest copy.units s.book was.tidy.numbered;

@@ -76,7 +76,8 @@ module _ (setup : Setup) (b : Buffer) (bs : List Buffer) (rest : AllFlushed setu
       let then = last_flushed begun (step_keeps setup s tidy (gate_begun b.number) tt).tidy (opened_buffers setup s tidy front c bs at) in
       record {
         buffers = then.buffers;
-        vacates = one_more setup s.book begun.book (after_steps setup (flat_map flush_of bs) (after_step setup (flushed_buffer b.number) begun)).book (begun_vacates setup s tidy front c bs at refl) then.vacates;
+        vacates = one_more setup s.book begun.book (after_steps setup (flat_map flush_of bs) (after_step setup (flushed_buffer b.number) begun)).book
+            (begun_vacates setup s tidy front c bs at refl) then.vacates;
       }
   first_flushed s tidy opening at = last_flushed s tidy at
 

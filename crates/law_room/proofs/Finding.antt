@@ -44,6 +44,7 @@ module _ (setup : Setup) (told : Bool) (s : State) (faults : ℕ) (tidy : IsTidy
       (flush_finds first (seal_low setup s.book) (flush_all (after_steps setup (seal_low setup s.book) s).book) allowed, rest_finds (can_gain mid.book) vacates)
 
 -- With a low-water mark of at most the whole block a tending over a tidy book finds room where a block is free.
-pub finds : (setup : Setup) (told : Bool) (s : State) (faults : ℕ) (events : List Event) → IsTidy setup s.book → setup.lwm ≤ 100 → IsLegal setup told s faults events → Tends setup s events → FindsRoom s events
+pub finds : (setup : Setup) (told : Bool) (s : State) (faults : ℕ) (events : List Event) → IsTidy setup s.book → setup.lwm ≤ 100 → IsLegal setup told s faults events
+    → Tends setup s events → FindsRoom s events
 finds setup told s faults events tidy low legal (first, rest, is, call, vacates) some =
     subst FindsIn (sym is) (tending_finds setup told s faults tidy low first rest call (subst (IsLegal setup told s faults) is legal) some vacates)

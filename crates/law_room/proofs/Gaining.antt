@@ -101,7 +101,8 @@ module _ (setup : Setup) (told : Bool) where
   gains s faults events tidy legal tends half none = (tended s faults events tidy legal tends half none).gains
 
   -- Tendings in a row come to rest.
-  pub few_in_row : (tendings : List (List Event)) (s : State) (faults : ℕ) → setup.lwm ≤ 50 → IsTidy setup s.book → TendInRow setup told s faults tendings → length tendings ≤ left_to_vacate setup s.book
+  pub few_in_row : (tendings : List (List Event)) (s : State) (faults : ℕ) → setup.lwm ≤ 50 → IsTidy setup s.book → TendInRow setup told s faults tendings
+      → length tendings ≤ left_to_vacate setup s.book
   few_in_row [] s faults half tidy row = omega arith
   few_in_row (events ∷ more) s faults half tidy row =
       let one = tended s faults events tidy row.0.legal row.0.tends half row.0.none_refused in

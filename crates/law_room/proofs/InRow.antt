@@ -33,7 +33,17 @@ second_tends = (
   event choose_call (block_chosen (Some 1)) [] ∷ event (move_call (digest 2) 1) (happened true) (moved (digest 2) ∷ []) ∷ [],
   refl,
   refl,
-  (did 1 1, (event choose_call (block_chosen (Some 1)) [], event (move_call (digest 2) 1) (happened true) (moved (digest 2) ∷ []) ∷ [], refl, refl, inr (inl (1, refl, ((digest 2, refl), (refl, refl)))))),
+  (
+    did 1 1,
+    (
+      event choose_call (block_chosen (Some 1)) [],
+      event (move_call (digest 2) 1) (happened true) (moved (digest 2) ∷ []) ∷ [],
+      refl,
+      refl,
+      inr
+          (inl (1, refl, ((digest 2, refl), (refl, refl)))),
+    ),
+  ),
 )
 
 second_legal : IsLegal setup true one_queued 0 second

@@ -116,7 +116,8 @@ module _ (setup : Setup) (s : State) (tidy : IsTidy setup s.book) (front : List 
   buffered_as block other =
       ap (list_any (λ (c : Buffer). c.block == block)) gone_buffers
       ∙ list_any-append (λ (c : Buffer). c.block == block) front bs
-      ∙ ap (λ (x : Bool). list_any (λ (c : Buffer). c.block == block) front || (x || list_any (λ (c : Buffer). c.block == block) bs)) (sym (ne_eqb b.block block (λ (same : b.block ≡ block). other (sym same))))
+      ∙ ap (λ (x : Bool). list_any (λ (c : Buffer). c.block == block) front || (x || list_any (λ (c : Buffer). c.block == block) bs))
+      (sym (ne_eqb b.block block (λ (same : b.block ≡ block). other (sym same))))
       ∙ sym (list_any-append (λ (c : Buffer). c.block == block) front (b ∷ bs))
       ∙ sym (ap (list_any (λ (c : Buffer). c.block == block)) at)
 

@@ -6,7 +6,8 @@ use Rattle.rec_format.specs.declared.version.Digest.{Digest}
 use Rattle.model_device.specs.Book.{Setup, Live, defrag, live_of, has_room}
 use Rattle.model_device.specs.Device.{State}
 use Rattle.model_device.specs.Steps.{Step, moved, closing_failed}
-use Rattle.model_device.specs.Events.{choose_call, move_call, Cause, no_space, damaged, no_memory, disk_fault, Answer, stamp_given, happened, found_version, counted, block_chosen, raid_numbered, marks_made, block_scanned, marks_undone, part_ended, raid_over, refused, Event}
+use Rattle.model_device.specs.Events.{choose_call, move_call, Cause, no_space, damaged, no_memory, disk_fault, Answer, stamp_given, happened, found_version}
+use Rattle.model_device.specs.Events.{counted, block_chosen, raid_numbered, marks_made, block_scanned, marks_undone, part_ended, raid_over, refused, Event}
 use Rattle.model_device.specs.Legal.{Allowed, Only, NoMemory, Unless, DamageFound, DiskFails, WhereReads, is_in_block, live_units, move_reserve, no_place, queue_front}
 use Rattle.model_device.specs.Vacating.{IfRefused}
 use Rattle.law_trail.specs.Trail.{CanPlace}
@@ -53,7 +54,8 @@ move_ends setup told s event digest block allowed = by (live_of digest s.book.li
         ⊎ DiskFails event []
         ⊎ ((has_room setup defrag (live_units copy) s.book ≡ false) × DiskFails event (closing_failed ∷ []))
 
-    placed : (has : HasCopy s digest block) (o : Option Cause) → no_place setup defrag move_reserve has.copy.units s.book ≡ o → Unless event o (Ends (Some has.copy)) → MoveEnds setup s event digest block
+    placed : (has : HasCopy s digest block) (o : Option Cause) → no_place setup defrag move_reserve has.copy.units s.book ≡ o → Unless event o (Ends (Some has.copy))
+        → MoveEnds setup s event digest block
     placed has None none (inl made) = goes has (place_there setup defrag move_reserve has.copy.units s.book none) made.0 made.1
     placed has None none (inr (inl damage)) = fails (damage_fails told event [] damage)
     placed has None none (inr (inr (inl fault))) = fails (disk_fails event [] fault)
@@ -68,7 +70,8 @@ move_ends setup told s event digest block allowed = by (live_of digest s.book.li
         placed (record { copy = copy; live = live; there = eqb-true copy.block block here }) (no_place setup defrag move_reserve copy.units s.book) refl ends
 
     by : (o : Option Live) → live_of digest s.book.live ≡ o
-        → MatchBool (is_in_block block o) (NoMemory event ⊎ Unless event (no_place setup defrag move_reserve (live_units o) s.book) (Ends o)) (Only event (happened false)) → MoveEnds setup s event digest block
+        → MatchBool (is_in_block block o) (NoMemory event ⊎ Unless event (no_place setup defrag move_reserve (live_units o) s.book) (Ends o)) (Only event (happened false))
+        → MoveEnds setup s event digest block
     by None live only = stays only.0 only.1
     by (Some copy) live ends = in_block copy (copy.block == block) refl live ends
 

@@ -1,6 +1,7 @@
 -- A copy is moved out of a block without a buffer: only the use of that block and of the buffer that takes the copy changes, no block comes
 -- into the queue, and no free block goes but that of a new buffer.
-use Rattle.std.proofs.Common.{◌≡◌, ◌≢◌, ◌⊎◌, inl, inr, ⊎_elim, ℕ, zero, suc, ◌+◌, ◌≤◌, ◌<◌, Bool, true, false, not, cond, ◌&&◌, ◌||◌, List, [], ◌∷◌, ◌++◌, length, length-append, map, refl, sym, ◌∙◌, ap, subst, arith}
+use Rattle.std.proofs.Common.{◌≡◌, ◌≢◌, ◌⊎◌, inl, inr, ⊎_elim, ℕ, zero, suc, ◌+◌, ◌≤◌, ◌<◌, Bool, true, false, not, cond, ◌&&◌, ◌||◌, List, [], ◌∷◌, ◌++◌}
+use Rattle.std.proofs.Common.{length, length-append, map, refl, sym, ◌∙◌, ap, subst, arith}
 use Rattle.std.specs.Prelude.{◌==◌, Option, Some, Contains, filter, find}
 use Rattle.std.specs.List.{AllByRecursion, IsDistinct, list_any}
 use Rattle.std.proofs.lemmas.Bool.{cases_eq, cond-true, cond-false, or_from, ne_eqb, eq-eqb, both_ways, and_from, not-true}
@@ -8,7 +9,8 @@ use Rattle.std.proofs.lemmas.List.Sums.{length-filter, count_by-le-length}
 use Rattle.std.proofs.lemmas.Map.Keys.{IsDistinct-head, IsDistinct-tail, IsDistinct-cons}
 use Rattle.rec_format.specs.declared.version.Digest.{Digest}
 use Rattle.rec_format.specs.Places.{same_digest}
-use Rattle.model_device.specs.Book.{Setup, Buffer, Book, Live, Stream, defrag, filling_buffer, has_buffer, is_held, is_in, use_of, may_be_free, may_be_queued, all_blocks, refreshed, used_more, with_hold, live_of, without_live}
+use Rattle.model_device.specs.Book.{Setup, Buffer, Book, Live, Stream, defrag, filling_buffer, has_buffer, is_held, is_in, use_of, may_be_free, may_be_queued}
+use Rattle.model_device.specs.Book.{all_blocks, refreshed, used_more, with_hold, live_of, without_live}
 use Rattle.defrag_queue.specs.Queues.{requeued}
 use Rattle.defrag_queue.proofs.Refreshed.{refreshed_one}
 use Rattle.law_start.specs.Holding.{HasRisingNumbers}
@@ -84,7 +86,8 @@ module _ (setup : Setup) (book ready : Book) (x : Buffer) (is : IsReadied book r
   uses : (k : ℕ) → share k copy + use_of mid k ≡ share k here + use_of book k
   uses k =
       let one = use_cons k here (without_live digest ready.live) in
-      let same : use_of mid k ≡ share k here + use_of (record book { live = without_live digest book.live }) k = one ∙ ap (λ (l : List Live). share k here + use_of (record book { live = without_live digest l }) k) is.live in
+      let same : use_of mid k ≡ share k here + use_of (record book { live = without_live digest book.live }) k = one
+      ∙ ap (λ (l : List Live). share k here + use_of (record book { live = without_live digest l }) k) is.live in
       let rest = use_without digest book.live copy tidy.own live k in
       omega (arith, same, rest)
 

@@ -3,9 +3,11 @@ use Rattle.std.proofs.Common.{◌≡◌, ℕ, ◌≤◌, Bool, true, false, not,
 use Rattle.std.proofs.lemmas.Bool.{and_parts, and_from, cond_both, false≢true}
 use Rattle.std.specs.Prelude.{◌==◌, filter}
 use Rattle.std.specs.List.{AllByRecursion, list_any}
-use Rattle.model_device.specs.Book.{Setup, Book, Buffer, Live, Stream, sealed, opening, is_filling, same_stream, sealed_if, opened_if, has_buffer, is_held, use_of, may_be_free, may_be_queued, with_seal, with_gate_begun, with_flushed, refreshed}
+use Rattle.model_device.specs.Book.{Setup, Book, Buffer, Live, Stream, sealed, opening, is_filling, same_stream, sealed_if, opened_if, has_buffer, is_held}
+use Rattle.model_device.specs.Book.{use_of, may_be_free, may_be_queued, with_seal, with_gate_begun, with_flushed, refreshed}
 use Rattle.model_device.specs.Device.{State}
-use Rattle.model_device.specs.Steps.{Step, wrote, moved, removed, rid_of, uncovered, sealed_stream, gate_begun, flushed_buffer, closing_failed, raid_begun, raid_given_up, marked_part, scanned_block, compared_part, done_part, after_step, after_steps}
+use Rattle.model_device.specs.Steps.{Step, wrote, moved, removed, rid_of, uncovered, sealed_stream, gate_begun, flushed_buffer, closing_failed, raid_begun}
+use Rattle.model_device.specs.Steps.{raid_given_up, marked_part, scanned_block, compared_part, done_part, after_step, after_steps}
 use Rattle.defrag_queue.proofs.Refreshed.{each_of}
 use Rattle.law_start.specs.Holding.{HasRisingNumbers}
 use Rattle.law_start.proofs.Each.{all_map}
@@ -80,7 +82,12 @@ module _ (setup : Setup) (s : State) (tidy : IsTidy setup s.book) where
       within = step_within setup s tidy.within (sealed_stream stream) tt;
       numbered = counted (sealed_stream stream);
       alone = λ other. let before = tidy.alone other in
-          omega (arith, before, count_changed (fills other) (fills other) (λ b. sealed_if (same_stream stream b.stream) b) s.book.buffers (λ b there. sealed_fills other (same_stream stream b.stream) b));
+          omega (
+            arith,
+            before,
+            count_changed (fills other) (fills other) (λ b. sealed_if (same_stream stream b.stream) b) s.book.buffers
+                (λ b there. sealed_fills other (same_stream stream b.stream) b),
+          );
       once = tidy.once;
       own = tidy.own;
       below = tidy.below;

@@ -5,7 +5,8 @@ use Rattle.std.specs.List.{list_any}
 use Rattle.std.proofs.lemmas.Bool.{or_from, ne_eqb, eq-eqb, both_ways}
 use Rattle.std.proofs.lemmas.List.Folds.{list_any-append}
 use Rattle.std.proofs.lemmas.List.Elements.{Contains-append_cases, Contains-append_right}
-use Rattle.model_device.specs.Book.{Setup, Buffer, Book, Stream, client, defrag, Phase, filling, sealed, opening, same_stream, sealed_if, seal_stream, first_block, filling_buffer, has_buffer, use_of, with_new_buffer}
+use Rattle.model_device.specs.Book.{Setup, Buffer, Book, Stream, client, defrag, Phase, filling, sealed, opening, same_stream, sealed_if, seal_stream}
+use Rattle.model_device.specs.Book.{first_block, filling_buffer, has_buffer, use_of, with_new_buffer}
 use Rattle.law_start.specs.Holding.{AreRising}
 use Rattle.law_start.proofs.Growing.{all_at, all_from, cons_cases}
 use Rattle.law_start.proofs.Members.{map_there, map_from, first_there}
@@ -152,7 +153,8 @@ module _ (setup : Setup) (book : Book) (tidy : IsTidy setup book) where
       alone = new_alone;
       buffered = λ block used.
           new_has defrag book block
-          ∙ ap (λ t. has_buffer book block || (t || false)) (ne_eqb (first_block book.free) block (λ same. let zero_use = subst (λ (n : ℕ). use_of book n ≡ 0) same fresh_unused in absurd (omega (arith, zero_use, used))))
+          ∙ ap (λ t. has_buffer book block || (t || false)) (ne_eqb (first_block book.free) block
+          (λ same. let zero_use = subst (λ (n : ℕ). use_of book n ≡ 0) same fresh_unused in absurd (omega (arith, zero_use, used))))
           ∙ or_none (has_buffer book block);
       unused = λ block there other.
           new_has defrag book block

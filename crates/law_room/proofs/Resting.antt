@@ -49,7 +49,8 @@ module _ (setup : Setup) (old new : Book) (is : IsFlushed setup old new) where
       is.keeps.holds (λ h. (h.0 == b.number) && (use_of old h.1 == 0))
       (ap (λ (l : List Live). list_any (λ h. (h.0 == b.number) && (use_of (record old { live = l }) h.1 == 0)) new.holds) (sym is.keeps.live) ∙ dead)
 
-  gathered_before : (stream : Stream) (b : Buffer) → filling_buffer stream new.buffers ≡ Some b → filling_buffer stream old.buffers ≡ Some b → has_gathered setup new stream ≡ true → has_gathered setup old stream ≡ true
+  gathered_before : (stream : Stream) (b : Buffer) → filling_buffer stream new.buffers ≡ Some b → filling_buffer stream old.buffers ≡ Some b → has_gathered setup new stream ≡ true
+      → has_gathered setup old stream ≡ true
   gathered_before client b now was gathered = refl
   gathered_before defrag b now was gathered = by (or_cases (is_empty new.queue) (is_empty new.free && is_short setup (filling_buffer defrag new.buffers)) gathered)
     where

@@ -148,7 +148,8 @@ module _ (own test : Buffer → Bool) (change : Buffer → Buffer) (others : (b 
 client_same : (setup : Setup) (book : Book) (b : Buffer) → may_come setup book (sealed_if (same_stream client b.stream) b) ≡ may_come setup book b
 client_same setup book b = by b.stream b.phase
   where
-    by : (stream : Stream) (phase : Phase) → may_come setup book (sealed_if (same_stream client stream) (record b { stream = stream; phase = phase })) ≡ may_come setup book (record b { stream = stream; phase = phase })
+    by : (stream : Stream) (phase : Phase) → may_come setup book (sealed_if (same_stream client stream) (record b { stream = stream; phase = phase }))
+        ≡ may_come setup book (record b { stream = stream; phase = phase })
     by client filling = refl
     by client sealed = refl
     by client opening = refl
@@ -212,7 +213,12 @@ module _ (setup : Setup) (book : Book) (half : setup.lwm ≤ 50) where
   client_counts false = refl
 
   client_few : (first : Bool) (stream : Stream) → count_by (fills stream) book.buffers ≤ 1 → count_by (fills stream) (sealed_where first client book.buffers) ≤ 1
-  client_few true stream few = omega (arith, few, count_changed (fills stream) (fills stream) (λ b. sealed_if (same_stream client b.stream) b) book.buffers (λ b there. sealed_fills stream (same_stream client b.stream) b))
+  client_few true stream few = omega (
+    arith,
+    few,
+    count_changed (fills stream) (fills stream) (λ b. sealed_if (same_stream client b.stream) b) book.buffers
+        (λ b there. sealed_fills stream (same_stream client b.stream) b),
+  )
   client_few false stream few = few
 
   module _ (first : Bool) where

@@ -8,7 +8,9 @@ use Rattle.rec_format.specs.Versions.{top_number}
 use Rattle.model_device.specs.Book.{Setup, Book, defrag, filling_buffer, has_room, is_in, use_of, may_be_queued}
 use Rattle.model_device.specs.Device.{State}
 use Rattle.model_device.specs.Steps.{Step, moved as moved_step, after_steps}
-use Rattle.model_device.specs.Events.{choose_call, move_call, Cause, spent, overload, no_space, Answer, stamp_given, happened, found_version, counted, block_chosen, raid_numbered, marks_made, block_scanned, marks_undone, part_ended, raid_over, refused, Event, after_event, after_events, steps_of}
+use Rattle.model_device.specs.Events.{choose_call, move_call, Cause, spent, overload, no_space, Answer, stamp_given, happened, found_version, counted}
+use Rattle.model_device.specs.Events.{block_chosen, raid_numbered, marks_made, block_scanned, marks_undone, part_ended, raid_over, refused, Event, after_event}
+use Rattle.model_device.specs.Events.{after_events, steps_of}
 use Rattle.model_device.specs.Legal.{Allowed, Follows, IsLegal, move_reserve, no_new_buffer, no_place, queue_front}
 use Rattle.model_device.specs.Vacating.{IfRefused, moved_by, MovesOut, Outcome, Vacates, did, stopped}
 use Rattle.law_room.specs.Tidy.{IsTidy}
@@ -64,7 +66,8 @@ module _ (setup : Setup) (told : Bool) (block : ℕ) (behind : List ℕ) (start 
   Emptying s = IsEmptying setup block behind start s.book
 
   -- an event that isn't refused goes on with it
-  move_empties : (s : State) (event : Event) (digest : Digest) → Emptying s → MoveEnds setup s event digest block → ((cause : Cause) → event.answer ≢ refused cause) → Emptying (after_event setup event s)
+  move_empties : (s : State) (event : Event) (digest : Digest) → Emptying s → MoveEnds setup s event digest block → ((cause : Cause) → event.answer ≢ refused cause)
+      → Emptying (after_event setup event s)
   move_empties s event digest was (stays answer steps) none = subst (λ (l : List Step). Emptying (after_steps setup l s)) (sym steps) was
   move_empties s event digest was (goes has can answer steps) none =
       subst (λ (l : List Step). Emptying (after_steps setup l s)) (sym steps)
@@ -154,7 +157,8 @@ pub record HasVacated (setup : Setup) (old new : Book) : Type 0 where
   pub free : filling_buffer defrag old.buffers ≡ None → length old.free ≤ length new.free + 1
   pub filled : filling_buffer defrag old.buffers ≡ None → AllFill old → AllFill new
 
-emptied_vacates : (setup : Setup) (block : ℕ) (behind : List ℕ) (old new : Book) → setup.lwm ≤ 50 → old.queue ≡ block ∷ behind → IsEmptying setup block behind old new → use_of new block ≡ 0 → HasVacated setup old new
+emptied_vacates : (setup : Setup) (block : ℕ) (behind : List ℕ) (old new : Book) → setup.lwm ≤ 50 → old.queue ≡ block ∷ behind → IsEmptying setup block behind old new → use_of new block ≡ 0
+    → HasVacated setup old new
 emptied_vacates setup block behind old new half front is empty = record {
   tidy = is.tidy;
   less =
@@ -204,7 +208,8 @@ module _ (setup : Setup) (told : Bool) (t : State) (faults : ℕ) (tidy : IsTidy
       inr (emptied_vacates setup ends.0 front.0 t.book (after_events setup moves (after_event setup first t)).book half front.1 made.0 made.1)
   vacates outcome half none (inr (inr ends)) = absurd (not_refused first.answer ends.0 none.0 ends.1)
 
-  finds : (outcome : Outcome) → setup.lwm ≤ 100 → 1 ≤ length t.book.free → Ends outcome → AllByRecursion (λ event. IfRefused event.answer (λ cause. (free : ℕ) → cause ≢ no_space free) (Unit {0})) (first ∷ moves)
+  finds : (outcome : Outcome) → setup.lwm ≤ 100 → 1 ≤ length t.book.free → Ends outcome
+      → AllByRecursion (λ event. IfRefused event.answer (λ cause. (free : ℕ) → cause ≢ no_space free) (Unit {0})) (first ∷ moves)
   finds outcome low some ends = (not_for_space first.answer first_finds, by ends)
     where
       first_finds : (free : ℕ) → first.answer ≢ refused (no_space free)

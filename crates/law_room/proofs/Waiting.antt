@@ -18,7 +18,8 @@ pub buffered_waits_not : (setup : Setup) (book : Book) (block : ℕ) → has_buf
 buffered_waits_not setup book block has = ap (λ (t : Bool). not t && nat_lt 0 (use_of book block) && nat_lt (use_of book block * 100) (setup.lwm * setup.capacity)) has
 
 -- it depends on the buffer and the use alone
-pub queued_alike : (setup : Setup) (old new : Book) (block : ℕ) → has_buffer new block ≡ has_buffer old block → use_of new block ≡ use_of old block → may_be_queued setup new block ≡ may_be_queued setup old block
+pub queued_alike : (setup : Setup) (old new : Book) (block : ℕ) → has_buffer new block ≡ has_buffer old block → use_of new block ≡ use_of old block
+    → may_be_queued setup new block ≡ may_be_queued setup old block
 queued_alike setup old new block buffer live =
     ap (λ (t : Bool). not t && nat_lt 0 (use_of new block) && nat_lt (use_of new block * 100) (setup.lwm * setup.capacity)) buffer
     ∙ ap (λ (n : ℕ). not (has_buffer old block) && nat_lt 0 n && nat_lt (n * 100) (setup.lwm * setup.capacity)) live
@@ -33,10 +34,12 @@ waits_below setup book block may =
 pub waits_bare : (setup : Setup) (book : Book) (block : ℕ) → may_be_queued setup book block ≡ true → has_buffer book block ≡ false
 waits_bare setup book block may =
     not-true (has_buffer book block)
-    (and_parts (not (has_buffer book block)) (nat_lt 0 (use_of book block)) (and_parts (not (has_buffer book block) && nat_lt 0 (use_of book block)) (nat_lt (use_of book block * 100) (setup.lwm * setup.capacity)) may).0).0
+    (and_parts (not (has_buffer book block)) (nat_lt 0 (use_of book block))
+    (and_parts (not (has_buffer book block) && nat_lt 0 (use_of book block)) (nat_lt (use_of book block * 100) (setup.lwm * setup.capacity)) may).0).0
 
 -- one below the mark, without a buffer, that isn't queued has nothing live
-pub waits_not : (setup : Setup) (book : Book) (block : ℕ) → has_buffer book block ≡ false → use_of book block * 100 < setup.lwm * setup.capacity → may_be_queued setup book block ≡ false → use_of book block ≡ 0
+pub waits_not : (setup : Setup) (book : Book) (block : ℕ) → has_buffer book block ≡ false → use_of book block * 100 < setup.lwm * setup.capacity
+    → may_be_queued setup book block ≡ false → use_of book block ≡ 0
 waits_not setup book block bare less may = by (nat_lt 0 (use_of book block)) refl
   where
     by : (t : Bool) → nat_lt 0 (use_of book block) ≡ t → use_of book block ≡ 0

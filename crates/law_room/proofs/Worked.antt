@@ -60,7 +60,17 @@ tends = (
   event choose_call (block_chosen (Some 0)) [] ∷ event (move_call (digest 1) 0) (happened true) (moved (digest 1) ∷ []) ∷ [],
   refl,
   refl,
-  (did 1 1, (event choose_call (block_chosen (Some 0)) [], event (move_call (digest 1) 0) (happened true) (moved (digest 1) ∷ []) ∷ [], refl, refl, inr (inl (0, refl, ((digest 1, refl), (refl, refl)))))),
+  (
+    did 1 1,
+    (
+      event choose_call (block_chosen (Some 0)) [],
+      event (move_call (digest 1) 0) (happened true) (moved (digest 1) ∷ []) ∷ [],
+      refl,
+      refl,
+      inr
+          (inl (0, refl, ((digest 1, refl), (refl, refl)))),
+    ),
+  ),
 )
 
 pub legal : IsLegal setup true two_live 0 tending

@@ -13,7 +13,8 @@ use Rattle.law_session.specs.Whole.{ClosesWith, HaltsWith}
 use Rattle.law_run.specs.Concluding.{refusal_end, closed_end}
 
 -- what the closing ends with
-pub closes_with : (first : Node) (lines : List Served) (closing : List NodeEvent) (before after : List ℕ) → counts_of (node_after_lines lines first) ≡ before → counts_of (last_node first lines closing) ≡ after
+pub closes_with : (first : Node) (lines : List Served) (closing : List NodeEvent) (before after : List ℕ) → counts_of (node_after_lines lines first) ≡ before
+    → counts_of (last_node first lines closing) ≡ after
     → (failed : Option ℕ) → ClosedSo failed before after (last_node first lines closing) → ClosesWith (closed_end failed) first lines closing
 closes_with first lines closing before after old_is new_is None says = says
 closes_with first lines closing before after old_is new_is (Some device) says = record {

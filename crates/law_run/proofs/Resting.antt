@@ -23,7 +23,8 @@ nothing_left old new node states = λ device. record {
 }
 
 -- where no event is made, the one state is that of now
-one_of_now : (device : ℕ) (slot : Option Slot) (image : List ℕ) → MatchOption slot (Unit {0}) (λ s. Survives s.setup s.state image) → MatchOption slot (Unit {0}) (λ s. OneOf (Survives s.setup) (states_from device [] slot) image)
+one_of_now : (device : ℕ) (slot : Option Slot) (image : List ℕ) → MatchOption slot (Unit {0}) (λ s. Survives s.setup s.state image)
+    → MatchOption slot (Unit {0}) (λ s. OneOf (Survives s.setup) (states_from device [] slot) image)
 one_of_now device None image survives = tt
 one_of_now device (Some slot) image survives = inl survives
 

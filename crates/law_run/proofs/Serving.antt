@@ -33,11 +33,13 @@ use Rattle.law_session.proofs.Whole.{ran_whole, halt_last, last_served, last_clo
 use Rattle.law_session.proofs.Holds.{run_replies, run_holds}
 use Rattle.law_run.specs.Concluding.{session_end, refusal_end}
 use Rattle.law_run.specs.Behind.{WasClosed, WasRefused, IsBehind}
-use Rattle.law_run.specs.Promises.{Ends, reads_of, HonestEach, OnlyEach, setups_for, AreNumbered, PassEach, StartsFound, IsCount, CountedReplies, CountedThroughout, IsServed, ServedCounting, disks_between, outside}
+use Rattle.law_run.specs.Promises.{Ends, reads_of, HonestEach, OnlyEach, setups_for, AreNumbered, PassEach, StartsFound, IsCount, CountedReplies}
+use Rattle.law_run.specs.Promises.{CountedThroughout, IsServed, ServedCounting, disks_between, outside}
 use Rattle.law_run.proofs.Disks.{as_many, are_later_none, are_later_then, later_count, later_at, none_fell, read_are_later, is_disk_at}
 use Rattle.law_run.proofs.Standing.{serves_or_halts, one_refusal, each_count, each_stands, each_counted}
 use Rattle.law_run.proofs.Resting.{nothing_left, now_survives, rest_on_any, rest_on_safe}
-use Rattle.law_run.proofs.Starting.{geometries_of, started_count, started_read, started_numbered, started_passes, first_setups, first_numbered, tells_at, tell_each, found_node, sound_node, safe_node, entered}
+use Rattle.law_run.proofs.Starting.{geometries_of, started_count, started_read, started_numbered, started_passes, first_setups, first_numbered, tells_at}
+use Rattle.law_run.proofs.Starting.{tell_each, found_node, sound_node, safe_node, entered}
 use Rattle.law_run.proofs.Ending.{closes_with, halts_with, closed_never, cause_never}
 
 module _ {D : Type 0} (view : D → DiskView) where
@@ -98,8 +100,10 @@ module _ {D : Type 0} (view : D → DiskView) where
 
     -- How a run ends, of which a halted store stands for nothing, and any other for a state.
     module _ (Stop : Node → Node → Type 0) (is_stop : (before after : Node) → Stop before after → Halts view new before after)
-        (bytes output : List ℕ) (ended : Bool) (times : Option (List ℕ)) (before after : Ends) (images : List (List ℕ)) (first : Node) (served : List Served) (unserved : List (Option (List ℕ))) (closing : List NodeEvent)
-        (many : length (disks_of new) ≡ length first) (once : EndsOnce served) (halt : InHalt Stop first served) (stands : is_halted served ≡ false → (shards : List (ShardView D)) × (new ≡ serving shards))
+        (bytes output : List ℕ) (ended : Bool) (times : Option (List ℕ)) (before after : Ends) (images : List (List ℕ)) (first : Node) (served : List Served)
+        (unserved : List (Option (List ℕ))) (closing : List NodeEvent)
+        (many : length (disks_of new) ≡ length first) (once : EndsOnce served) (halt : InHalt Stop first served) (stands : is_halted served ≡ false → (shards : List (ShardView D))
+        × (new ≡ serving shards))
         (counts : IsCounted new (node_after_lines served first)) (last_counts : IsCounted end (last_node first served closing)) where
       abbrev Concluded : RunEnd → Ended → Type 0
       Concluded e result = Concludes Stop (outside e bytes output ended times before after images) first served closing result
@@ -152,7 +156,8 @@ module _ {D : Type 0} (view : D → DiskView) where
   -- ---- how it ends
 
   module _ (is_disk : (disk : D) → IsDisk (view disk))
-      (before after : Ends) (set : Settings) (disks : List D) (shards : List (ShardView D)) (new end : NodeView D) (times later : Times) (result : Ended) (failed : Option ℕ) (behind : RunEnd) (counted : Option Counts)
+      (before after : Ends) (set : Settings) (disks : List D) (shards : List (ShardView D)) (new end : NodeView D) (times later : Times) (result : Ended) (failed : Option ℕ)
+      (behind : RunEnd) (counted : Option Counts)
       (ran : Ran (Acts view) (Tends view) (2 ^ 40) before.taken after.taken before.left after.left before.written after.written (serving shards) new times later result)
       (started : StartsEach view set 0 (length disks) disks shards)
       (how : WasClosed view failed new end behind counted ⊎ WasRefused new end behind counted)
@@ -223,7 +228,8 @@ module _ {D : Type 0} (view : D → DiskView) where
             run_replies (StandsFor view) unknown (Halts view) false SaysHow Starts Setups (OutsideOf w.lifted.ended images)
                 (unknown old) first old new end result w refl (frames Starts w.lifted.ended images first last agree starts at_end)
                 (concludes failed new end behind counted (Halts view new) (λ a b h. h) ran.bytes ran.output w.lifted.ended times before after images first w.lifted.served w.lifted.unserved w.closing
-                (many first agree) w.lifted.once w.lifted.halt (λ goes. let stands = w.lifted.stands goes in (stands.0, stands.1)) at_new at_end how input_limit result w.lifted.ends w.says source sink)
+                (many first agree) w.lifted.once w.lifted.halt
+                (λ goes. let stands = w.lifted.stands goes in (stands.0, stands.1)) at_new at_end how input_limit result w.lifted.ends w.says source sink)
                 (λ (device : ℕ). (nothing_left old old first (λ n. []) device).time),
             count_at failed new end behind counted how first w.lifted.served w.closing w.stands (λ is. halt_last (Halts view new) first w.lifted.served w.lifted.once is w.lifted.halt),
           ),
@@ -277,22 +283,27 @@ module _ {D : Type 0} (view : D → DiskView) where
           of Halted = by (is_halted served) refl how
           of (Long n) = tt
 
-      holds : (ended : Bool) × CountedThroughout counted Setups (OutsideOf ended Reads) (λ device. meanwhile (view_at view disks device) (view_at view (disks_of end) device)) (λ device. (view_at view (disks_of end) device).may_leave)
+      holds : (ended : Bool) × CountedThroughout counted Setups (OutsideOf ended Reads) (λ device. meanwhile (view_at view disks device) (view_at view (disks_of end) device))
+          (λ device. (view_at view (disks_of end) device).may_leave)
       unfolding run_holds run_replies
       holds =
           let w = safe_run in
           let last : Node = last_node First w.lifted.served w.closing in
           let at_new : IsCounted new (node_after_lines w.lifted.served First) =
-          last_served (StandsSafely view) (views_of view) (HaltsSafely view) true SaysHow _ _ _ _ _ First old new result w.lifted (IsCounted new) (counted_safe new) (λ a b h. counted_halted new a b h.halts) in
+          last_served (StandsSafely view) (views_of view) (HaltsSafely view) true SaysHow _ _ _ _ _ First old new result w.lifted (IsCounted new) (counted_safe new)
+          (λ a b h. counted_halted new a b h.halts) in
           let at_end : IsCounted end last =
-          last_closed (StandsSafely view) (views_of view) (HaltsSafely view) true SaysHow _ _ _ _ _ First old new end result w (IsCounted end) (counted_safe end) (λ a b h. counted_halted end a b h.halts) in (
+          last_closed (StandsSafely view) (views_of view) (HaltsSafely view) true SaysHow _ _ _ _ _ First old new end result w (IsCounted end) (counted_safe end)
+          (λ a b h. counted_halted end a b h.halts) in (
             w.lifted.ended,
             (
               run_holds (StandsSafely view) (views_of view) (HaltsSafely view) SaysHow (rest_on_safe view is_disk) Setups (OutsideOf w.lifted.ended Reads)
                   (λ device. view_at view disks device) (λ device. (view_at view (disks_of end) device).may_leave) First old new end result w refl
                   (frames (StartsFrom Reads) w.lifted.ended Reads First last agreed starts at_end)
-                  (concludes failed new end behind counted (HaltsSafely view new) (λ a b h. h.halts) ran.bytes ran.output w.lifted.ended times before after Reads First w.lifted.served w.lifted.unserved w.closing
-                  (many First agreed) w.lifted.once w.lifted.halt (λ goes. let stands = w.lifted.stands goes in (stands.0, stands.1)) at_new at_end how input_limit result w.lifted.ends w.says source sink)
+                  (concludes failed new end behind counted (HaltsSafely view new)
+                  (λ a b h. h.halts) ran.bytes ran.output w.lifted.ended times before after Reads First w.lifted.served w.lifted.unserved w.closing
+                  (many First agreed) w.lifted.once w.lifted.halt
+                  (λ goes. let stands = w.lifted.stands goes in (stands.0, stands.1)) at_new at_end how input_limit result w.lifted.ends w.says source sink)
                   enters
                   (λ device image left. let law = is_disk_at view is_disk (disks_of end) device in law.now_since (view_at view (disks_of end) device).moment image law.now_had left)
                   unrefused,
@@ -347,7 +358,8 @@ module _ {D : Type 0} (view : D → DiskView) where
     is_served how_ends is = subst (λ (e : RunEnd). ServedCounting set (disks_between view disks (disks_of end)) e counted times before after) (sym is) (serving_so, refl)
 
   -- The same by what is behind the session, of so many disks that are handed in, and those that are given back.
-  pub served_behind : ((disk : D) → IsDisk (view disk)) → (before after : Ends) (set : Settings) (disks given : List D) (shards : List (ShardView D)) (node new end : NodeView D) (times later : Times) (result : Ended) (behind : RunEnd) (counted : Option Counts) (count : ℕ)
+  pub served_behind : ((disk : D) → IsDisk (view disk)) → (before after : Ends) (set : Settings) (disks given : List D) (shards : List (ShardView D)) (node new end : NodeView D)
+      (times later : Times) (result : Ended) (behind : RunEnd) (counted : Option Counts) (count : ℕ)
       → count ≡ length disks → given ≡ disks_of end
       → node ≡ serving shards → Ran (Acts view) (Tends view) (2 ^ 40) before.taken after.taken before.left after.left before.written after.written node new times later result
       → StartsEach view set 0 count disks shards → IsBehind view new end behind counted

@@ -54,7 +54,8 @@ rest_order : (lines : List (List ℕ)) (rest : List ℕ) → 0 < length rest →
 rest_order lines [] some = absurd (omega arith)
 rest_order lines (byte ∷ rest) some = sym (append-nil (map Some lines ++ None ∷ []))
 
-parts_of : (bytes : List ℕ) (left : Option (List ℕ)) (lines : List (List ℕ)) (rest : List ℕ) (line : LineEnd) → bytes ≡ flat_map ended lines ++ rest → AllByRecursion IsOneLine lines → TakesUp left rest line → Parts bytes left lines line
+parts_of : (bytes : List ℕ) (left : Option (List ℕ)) (lines : List (List ℕ)) (rest : List ℕ) (line : LineEnd) → bytes ≡ flat_map ended lines ++ rest → AllByRecursion IsOneLine lines
+    → TakesUp left rest line → Parts bytes left lines line
 parts_of bytes left lines rest line whole each takes_up = elim takes_up.how [
   | inl one ↦
       let f = falls_any one.1 in
@@ -124,7 +125,8 @@ module _ {T : Type 0} (Stands : T → Node → Type 0) (views : T → ℕ → Di
   }
 
   -- a chain, and what the bytes and the replies say of it
-  lifted : (limit : ℕ) (bytes output : List ℕ) (left : Option (List ℕ)) (old new : T) (times later : Times) (node : Node) (result : Ended) (raws unserved : List (Option (List ℕ))) (rs : List Reply) (at_input_end : Bool) (lines : List (List ℕ)) (rest : List ℕ)
+  lifted : (limit : ℕ) (bytes output : List ℕ) (left : Option (List ℕ)) (old new : T) (times later : Times) (node : Node) (result : Ended) (raws unserved : List (Option (List ℕ)))
+      (rs : List Reply) (at_input_end : Bool) (lines : List (List ℕ)) (rest : List ℕ)
       → ChainOf Stands views Halts told old times node raws rs new later → FallInto bytes lines rest
       → map Some lines ++ rest_line at_input_end rest ≡ raws ++ unserved → (IsTrue at_input_end → IsAtEnd left)
       → once_in rs → IsFrontOf output (flat_map reply_text rs)
@@ -174,10 +176,12 @@ module _ {T : Type 0} (Stands : T → Node → Type 0) (views : T → ℕ → Di
   TurnsOf ends old times output new later = HasTurns (ActsBy Stands views Halts told) (TendsBy Stands views told) ends old times output new later
 
   -- all whole lines had their turns, and perhaps a rest at the input's end; the output is a front of their replies' text
-  all_served : RestsOn Stands views Halts told → (limit : ℕ) (bytes text output : List ℕ) (left : Option (List ℕ)) (old new : T) (times later : Times) (node : Node) (result : Ended) (raws unserved : List (Option (List ℕ))) (at_input_end : Bool) (lines : List (List ℕ)) (rest : List ℕ)
+  all_served : RestsOn Stands views Halts told → (limit : ℕ) (bytes text output : List ℕ) (left : Option (List ℕ)) (old new : T) (times later : Times) (node : Node) (result : Ended)
+      (raws unserved : List (Option (List ℕ))) (at_input_end : Bool) (lines : List (List ℕ)) (rest : List ℕ)
       → TurnsOf (map line_end_of raws) old times text new later → IsFrontOf output text → Stands old node → FallInto bytes lines rest
       → map Some lines ++ rest_line at_input_end rest ≡ raws ++ unserved → (IsTrue at_input_end → IsAtEnd left)
-      → ((served : List Served) → map (λ s. s.line) served ≡ raws → text ≡ written_text served → has_quit served ≡ false → is_halted served ≡ false → EndsWith limit bytes output at_input_end served unserved result)
+      → ((served : List Served) → map (λ s. s.line) served ≡ raws → text ≡ written_text served → has_quit served ≡ false → is_halted served ≡ false
+      → EndsWith limit bytes output at_input_end served unserved result)
       → Lifted Stands views Halts told limit bytes output left times node old new result
   all_served on limit bytes text output left old new times later node result raws unserved at_input_end lines rest serves front stands falls in_order at_end ends =
       let chain = turns_chain Stands views Halts told on raws serves.replies old new times later node serves.turns stands in
@@ -198,7 +202,8 @@ module _ {T : Type 0} (Stands : T → Node → Type 0) (views : T → ℕ → Di
   front_on : (output text unsent : List ℕ) → (front : IsFrontOf output text) → text ++ unsent ≡ output ++ (front.0 ++ unsent)
   front_on output text unsent front = ap (λ (l : List ℕ). l ++ unsent) front.1 ∙ append_assoc output front.0 unsent
 
-  text_parts : (output told_text sent unsent : List ℕ) (rs : List Reply) (r : Reply) → output ≡ told_text ++ sent → told_text ≡ flat_map reply_text rs → reply_text r ≡ sent ++ unsent → flat_map reply_text (rs ++ r ∷ []) ≡ output ++ unsent
+  text_parts : (output told_text sent unsent : List ℕ) (rs : List Reply) (r : Reply) → output ≡ told_text ++ sent → told_text ≡ flat_map reply_text rs → reply_text r ≡ sent ++ unsent
+      → flat_map reply_text (rs ++ r ∷ []) ≡ output ++ unsent
   text_parts output told_text sent unsent rs r all told_is text =
       flat_map-append reply_text rs (r ∷ []) ∙ (λ i. sym told_is i ++ (append-nil (reply_text r) ∙ text) i) ∙ sym (append_assoc told_text sent unsent) ∙ ap (λ (l : List ℕ). l ++ unsent) (sym all)
 
@@ -215,7 +220,8 @@ module _ {T : Type 0} (Stands : T → Node → Type 0) (views : T → ℕ → Di
   said_so served rs said of is = text_of served ∙ of_text served rs of ∙ is
 
   -- the session stopped at a line; the output is a front of what is told up to it
-  stopped_lifts : RestsOn Stands views Halts told → (limit : ℕ) (bytes text output : List ℕ) (left : Option (List ℕ)) (old new : T) (times later : Times) (node : Node) (result : Ended) (n : ℕ) (stop : Stop)
+  stopped_lifts : RestsOn Stands views Halts told → (limit : ℕ) (bytes text output : List ℕ) (left : Option (List ℕ)) (old new : T) (times later : Times) (node : Node)
+      (result : Ended) (n : ℕ) (stop : Stop)
       → StopsAfter (ActsBy Stands views Halts told) (TendsBy Stands views told) bytes left n old times text new later stop → IsFrontOf output text → Stands old node
       → ((at_input_end : Bool) (served : List Served) (unserved : List (Option (List ℕ))) (r : Reply) (unsent : List ℕ) → length served ≡ n + 1 → written_text served ≡ text ++ unsent
       → LastIs stop r unsent → has_quit served ≡ is_bye r → is_halted served ≡ halts r → EndsWith limit bytes output at_input_end served unserved result)
@@ -233,8 +239,10 @@ module _ {T : Type 0} (Stands : T → Node → Type 0) (views : T → ℕ → Di
       let both : ChainOf Stands views Halts told old times node (map Some stops.lines ++ parts.raw ∷ []) (serves.replies ++ last.last ∷ []) new later =
       chain_then Stands views Halts told on old stops.mid new times stops.then later node (map Some stops.lines) (parts.raw ∷ []) serves.replies (last.last ∷ []) first.0 last.chain
       (back_in_halt (Halts new) node first.0.served last.chain.served (omega (arith, count_served last.chain.served (parts.raw ∷ []) last.chain.of_lines)) last.chain.halt) in
-      let said : flat_map reply_text (serves.replies ++ last.last ∷ []) ≡ text ++ last.unsent = text_parts text stops.told stops.last last.unsent serves.replies last.last stops.all serves.told last.text in
-      lifted limit bytes output left old new times later node result (map Some stops.lines ++ parts.raw ∷ []) parts.unserved (serves.replies ++ last.last ∷ []) parts.at_input_end parts.all_lines parts.open_line
+      let said : flat_map reply_text (serves.replies ++ last.last ∷ []) ≡ text ++ last.unsent =
+      text_parts text stops.told stops.last last.unsent serves.replies last.last stops.all serves.told last.text in
+      lifted limit bytes output left old new times later node result (map Some stops.lines ++ parts.raw ∷ []) parts.unserved
+      (serves.replies ++ last.last ∷ []) parts.at_input_end parts.all_lines parts.open_line
       both parts.falls parts.in_order parts.at_end (last_once serves.replies last.last first.1) (front.0 ++ last.unsent, said ∙ front_on output text last.unsent front)
       (λ served of_lines of_replies. ends parts.at_input_end served parts.unserved last.last last.unsent
       (counted_so served stops.lines parts.raw n of_lines stops.counted)
@@ -310,7 +318,8 @@ module _ {T : Type 0} (Stands : T → Node → Type 0) (views : T → ℕ → Di
       whole_lines on limit bytes output left old new times later node (Long n) ends.2 stands (λ served told_text quit halted. (told_text, refl, refl, quit, halted, ends.1))
 
   -- The same of the session's own word.
-  pub ran_lifts : RestsOn Stands views Halts told → (limit : ℕ) (taken taken' : List ℕ) (left left' : Option (List ℕ)) (written written' : Option (List ℕ)) (old new : T) (times later : Times) (node : Node) (result : Ended)
+  pub ran_lifts : RestsOn Stands views Halts told → (limit : ℕ) (taken taken' : List ℕ) (left left' : Option (List ℕ)) (written written' : Option (List ℕ)) (old new : T)
+      (times later : Times) (node : Node) (result : Ended)
       → (ran : Ran (ActsBy Stands views Halts told) (TendsBy Stands views told) limit taken taken' left left' written written' old new times later result) → Stands old node
       → Lifted Stands views Halts told limit ran.bytes ran.output left' times node old new result
   ran_lifts on limit taken taken' left left' written written' old new times later node result ran stands =

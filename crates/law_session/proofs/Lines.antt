@@ -33,7 +33,8 @@ command_of line c is = on_test line c (leb (length line) line_limit) is
 
 -- ---- any bytes fall into lines
 
-falls_more : (byte : ℕ) (bytes : List ℕ) (lines : List (List ℕ)) (rest : List ℕ) → byte ≢ 10 → FallInto bytes lines rest → (more : List (List ℕ)) × (open_line : List ℕ) × FallInto (byte ∷ bytes) more open_line
+falls_more : (byte : ℕ) (bytes : List ℕ) (lines : List (List ℕ)) (rest : List ℕ) → byte ≢ 10 → FallInto bytes lines rest → (more : List (List ℕ)) × (open_line : List ℕ)
+    × FallInto (byte ∷ bytes) more open_line
 falls_more byte bytes [] rest other falls = ([], byte ∷ rest, record { whole = ap (λ (l : List ℕ). byte ∷ l) falls.whole; each = tt; open_line = (other, falls.open_line) })
 falls_more byte bytes (line ∷ lines) rest other falls =
     ((byte ∷ line) ∷ lines, rest, record { whole = ap (λ (l : List ℕ). byte ∷ l) falls.whole; each = ((other, falls.each.0), falls.each.1); open_line = falls.open_line })
@@ -46,15 +47,18 @@ falls_any (byte ∷ bytes) = let f = falls_any bytes in elim (cases_eq byte 10) 
 ]
 
 -- lines, and after them bytes that fall into lines
-pub falls_behind : (bytes rest : List ℕ) (lines more : List (List ℕ)) (open_line : List ℕ) → bytes ≡ flat_map ended lines ++ rest → AllByRecursion IsOneLine lines → FallInto rest more open_line → FallInto bytes (lines ++ more) open_line
+pub falls_behind : (bytes rest : List ℕ) (lines more : List (List ℕ)) (open_line : List ℕ) → bytes ≡ flat_map ended lines ++ rest → AllByRecursion IsOneLine lines
+    → FallInto rest more open_line → FallInto bytes (lines ++ more) open_line
 falls_behind bytes rest lines more open_line whole each falls = record {
-  whole = whole ∙ ap (λ (l : List ℕ). flat_map ended lines ++ l) falls.whole ∙ sym (append_assoc (flat_map ended lines) (flat_map ended more) open_line) ∙ ap (λ (l : List ℕ). l ++ open_line) (sym (flat_map-append ended lines more));
+  whole = whole ∙ ap (λ (l : List ℕ). flat_map ended lines ++ l) falls.whole ∙ sym (append_assoc (flat_map ended lines) (flat_map ended more) open_line)
+      ∙ ap (λ (l : List ℕ). l ++ open_line) (sym (flat_map-append ended lines more));
   each = all_append IsOneLine lines more each falls.each;
   open_line = falls.open_line;
 }
 
 -- one line in front of bytes that fall into lines
-pub falls_first : (bytes text after : List ℕ) (more : List (List ℕ)) (open_line : List ℕ) → bytes ≡ ended text ++ after → IsOneLine text → FallInto after more open_line → FallInto bytes (text ∷ more) open_line
+pub falls_first : (bytes text after : List ℕ) (more : List (List ℕ)) (open_line : List ℕ) → bytes ≡ ended text ++ after → IsOneLine text → FallInto after more open_line
+    → FallInto bytes (text ∷ more) open_line
 falls_first bytes text after more open_line whole one falls = record {
   whole = whole ∙ ap (λ (l : List ℕ). ended text ++ l) falls.whole ∙ sym (append_assoc (ended text) (flat_map ended more) open_line);
   each = (one, falls.each);

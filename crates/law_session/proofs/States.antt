@@ -9,7 +9,8 @@ use Rattle.model_device.specs.Events.{Event}
 use Rattle.line_proto.specs.declared.command.Command.{Command}
 use Rattle.line_proto.specs.declared.reply.Reply.{Reply}
 use Rattle.model_node.specs.Commands.{Slot, Node, NodeEvent, at_place, slot_after, node_after}
-use Rattle.model_node.specs.Run.{ImagesLeft, Served, StartsAgain, RestartsEach, SameStates, Carries, AnswersLine, Serves, ServesAll, node_or, node_at_reply, node_after_line, node_after_lines, steps_on, states_from, states_while, states_of_lines, times_of}
+use Rattle.model_node.specs.Run.{ImagesLeft, Served, StartsAgain, RestartsEach, SameStates, Carries, AnswersLine, Serves, ServesAll, node_or, node_at_reply}
+use Rattle.model_node.specs.Run.{node_after_line, node_after_lines, steps_on, states_from, states_while, states_of_lines, times_of}
 use Rattle.model_node.specs.Headline.{On}
 
 pub one_of_more : {S : Type 0} (P : S → List ℕ → Type 0) (front xs ys : List S) (image : List ℕ) → (OneOf P xs image → OneOf P ys image) → OneOf P (front ++ xs) image → OneOf P (front ++ ys) image
@@ -94,12 +95,14 @@ first_of_steps P setup [] s image h = h
 first_of_steps P setup (step ∷ steps) s image (inl h) = inl h
 first_of_steps P setup (step ∷ steps) s image (inr h) = absurd h
 
-first_from : (P : State → List ℕ → Type 0) (device : ℕ) (events : List NodeEvent) (slot : Option Slot) (image : List ℕ) → OneOf P (states_from device [] slot) image → OneOf P (states_from device events slot) image
+first_from : (P : State → List ℕ → Type 0) (device : ℕ) (events : List NodeEvent) (slot : Option Slot) (image : List ℕ) → OneOf P (states_from device [] slot) image
+    → OneOf P (states_from device events slot) image
 first_from P device events None image h = h
 first_from P device events (Some slot) image h = first_of_steps P slot.setup (steps_on device events) slot.state image h
 
 -- the state before the lines is the first on the way
-pub first_of_lines : (P : State → List ℕ → Type 0) (device : ℕ) (lines : List Served) (node : Node) (image : List ℕ) → OneOf P (states_while device [] node) image → OneOf P (states_of_lines device lines node) image
+pub first_of_lines : (P : State → List ℕ → Type 0) (device : ℕ) (lines : List Served) (node : Node) (image : List ℕ) → OneOf P (states_while device [] node) image
+    → OneOf P (states_of_lines device lines node) image
 first_of_lines P device [] node image h = h
 first_of_lines P device (served ∷ lines) node image h =
     let front = states_while device served.work node in
@@ -107,12 +110,14 @@ first_of_lines P device (served ∷ lines) node image h =
     one_of_front P (front ++ back) (states_of_lines device lines (node_after_line served node)) image
     (one_of_front P front back image (first_from P device served.work (slice_get node device) image h))
 
-pub states_front : (P : State → List ℕ → Type 0) (device : ℕ) (xs ys : List Served) (node : Node) (image : List ℕ) → OneOf P (states_of_lines device xs node) image → OneOf P (states_of_lines device (xs ++ ys) node) image
+pub states_front : (P : State → List ℕ → Type 0) (device : ℕ) (xs ys : List Served) (node : Node) (image : List ℕ) → OneOf P (states_of_lines device xs node) image
+    → OneOf P (states_of_lines device (xs ++ ys) node) image
 states_front P device [] ys node image h = first_of_lines P device ys node image h
 states_front P device (x ∷ xs) ys node image h =
     one_of_more P (states_while device x.work node ++ states_while device x.tended (node_at_reply x node)) _ _ image (states_front P device xs ys (node_after_line x node) image) h
 
-pub states_back : (P : State → List ℕ → Type 0) (device : ℕ) (xs ys : List Served) (node : Node) (image : List ℕ) → OneOf P (states_of_lines device ys (node_after_lines xs node)) image → OneOf P (states_of_lines device (xs ++ ys) node) image
+pub states_back : (P : State → List ℕ → Type 0) (device : ℕ) (xs ys : List Served) (node : Node) (image : List ℕ) → OneOf P (states_of_lines device ys (node_after_lines xs node)) image
+    → OneOf P (states_of_lines device (xs ++ ys) node) image
 states_back P device [] ys node image h = h
 states_back P device (x ∷ xs) ys node image h = one_of_back P _ _ image (states_back P device xs ys (node_after_line x node) image h)
 
@@ -126,23 +131,27 @@ pub after_append : (xs ys : List Served) (node : Node) → node_after_lines (xs 
 after_append [] ys node = refl
 after_append (x ∷ xs) ys node = after_append xs ys (node_after_line x node)
 
-pub serves_append : (left : ImagesLeft) (told : Bool) (xs ys : List Served) (node : Node) → ServesAll left told node xs → ServesAll left told (node_after_lines xs node) ys → ServesAll left told node (xs ++ ys)
+pub serves_append : (left : ImagesLeft) (told : Bool) (xs ys : List Served) (node : Node) → ServesAll left told node xs → ServesAll left told (node_after_lines xs node) ys
+    → ServesAll left told node (xs ++ ys)
 serves_append left told [] ys node first then = then
 serves_append left told (x ∷ xs) ys node first then = (first.0, serves_append left told xs ys (node_after_line x node) first.1 then)
 
 -- ---- more images
 
-starts_more : (less more : ImagesLeft) → ((device : ℕ) (image : List ℕ) → less device image → more device image) → (told : Bool) (device : ℕ) (slot fresh : Slot) → StartsAgain less told device slot fresh → StartsAgain more told device slot fresh
+starts_more : (less more : ImagesLeft) → ((device : ℕ) (image : List ℕ) → less device image → more device image) → (told : Bool) (device : ℕ) (slot fresh : Slot)
+    → StartsAgain less told device slot fresh → StartsAgain more told device slot fresh
 starts_more less more wider true device slot fresh starts = (starts.0, starts.1, wider device starts.1 starts.2, starts.3)
 starts_more less more wider false device slot fresh starts = starts
 
-pub restarts_more : (less more : ImagesLeft) → ((device : ℕ) (image : List ℕ) → less device image → more device image) → (told : Bool) (device : ℕ) (old new : Node) → RestartsEach less told device old new → RestartsEach more told device old new
+pub restarts_more : (less more : ImagesLeft) → ((device : ℕ) (image : List ℕ) → less device image → more device image) → (told : Bool) (device : ℕ) (old new : Node)
+    → RestartsEach less told device old new → RestartsEach more told device old new
 restarts_more less more wider told device [] new restarts = restarts
 restarts_more less more wider told device (slot ∷ slots) [] restarts = absurd restarts
 restarts_more less more wider told device (slot ∷ slots) (fresh ∷ new) restarts =
     (restarts.0, starts_more less more wider told device slot fresh restarts.1, restarts_more less more wider told (device + 1) slots new restarts.2)
 
-carries_more : (less more : ImagesLeft) → ((device : ℕ) (image : List ℕ) → less device image → more device image) → (told : Bool) (node : Node) (c : Command) (now : ℕ) (work : List NodeEvent) (restarted : Option Node) (r : Reply)
+carries_more : (less more : ImagesLeft) → ((device : ℕ) (image : List ℕ) → less device image → more device image)
+    → (told : Bool) (node : Node) (c : Command) (now : ℕ) (work : List NodeEvent) (restarted : Option Node) (r : Reply)
     → Carries less told node c now work restarted r → Carries more told node c now work restarted r
 carries_more less more wider told node c now work restarted r (inl made) = inl made
 carries_more less more wider told node c now work restarted r (inr ends) = inr (
@@ -161,7 +170,8 @@ carries_more less more wider told node c now work restarted r (inr ends) = inr (
 answers_more : (less more : ImagesLeft) → ((device : ℕ) (image : List ℕ) → less device image → more device image) → (told : Bool) (node : Node) (line : Option (List ℕ)) (served : Served)
     → AnswersLine less told node line served → AnswersLine more told node line served
 answers_more less more wider told node None served answers = answers
-answers_more less more wider told node (Some line) served (inl does) = inl (does.0, does.1, does.2, does.3, carries_more less more wider told node does.0 _ served.work served.restarted served.reply does.4)
+answers_more less more wider told node (Some line) served (inl does) =
+    inl (does.0, does.1, does.2, does.3, carries_more less more wider told node does.0 _ served.work served.restarted served.reply does.4)
 answers_more less more wider told node (Some line) served (inr rest) = inr rest
 
 pub serves_more : (less more : ImagesLeft) → ((device : ℕ) (image : List ℕ) → less device image → more device image) → (told : Bool) (node : Node) (lines : List Served)

@@ -19,7 +19,8 @@ use Rattle.line_proto.specs.declared.reply.LineFault.TheVariants as why
 use Rattle.model_node.specs.Commands.{Node, NodeEvent, node_after, Does, IsLegalOn, TendsEach, answer_reply, found_reply, meta_reply, flushed_reply, defragged_reply, expired_reply, raided_reply}
 use Rattle.model_device.specs.Vacating.{Outcome, did, stopped}
 use Rattle.node_session.specs.Turns.{Times, WholeTurn, Turns, Answers, Quits, IsCommand, NamesNoCommand}
-use Rattle.model_node.specs.Run.{ImagesLeft, Served, Serves, ServesAll, AnswersLine, Carries, goes_on, halts, is_halted, node_or, node_at_reply, node_after_line, node_after_lines, states_while, states_of_lines, times_of, replies_of}
+use Rattle.model_node.specs.Run.{ImagesLeft, Served, Serves, ServesAll, AnswersLine, Carries, goes_on, halts, is_halted, node_or, node_at_reply}
+use Rattle.model_node.specs.Run.{node_after_line, node_after_lines, states_while, states_of_lines, times_of, replies_of}
 use Rattle.model_node.specs.Headline.{Gives}
 use Rattle.model_node.specs.Meaning.{left_between, SurvivesOne, LeavesEach, ActsFrom, ActsBy, TendsFrom, TendsBy}
 use Rattle.model_node.specs.Run.{WantsMemory}
@@ -193,9 +194,11 @@ module _ {T : Type 0} (Stands : T → Node → Type 0) (views : T → ℕ → Di
   leaves_all node mid_node first second all old mid new same front back one two device =
       leaves_then {P = SurvivesOne device node (all device)} {old = views old device} {mid = views mid device} {new = views new device}
       (leaves_more {P = SurvivesOne device node (first device)} {Q = SurvivesOne device node (all device)} {old = views old device} {new = views mid device}
-      (λ image h. on_same (λ setup. OneOf (Survives setup) (first device) image) (λ setup. OneOf (Survives setup) (all device) image) node node device refl (λ setup. front (Survives setup) device image) h) (one device))
+      (λ image h. on_same (λ setup. OneOf (Survives setup) (first device) image) (λ setup. OneOf (Survives setup) (all device) image) node node device refl
+      (λ setup. front (Survives setup) device image) h) (one device))
       (leaves_more {P = SurvivesOne device mid_node (second device)} {Q = SurvivesOne device node (all device)} {old = views mid device} {new = views new device}
-      (λ image h. on_same (λ setup. OneOf (Survives setup) (second device) image) (λ setup. OneOf (Survives setup) (all device) image) node mid_node device same (λ setup. back (Survives setup) device image) h) (two device))
+      (λ image h. on_same (λ setup. OneOf (Survives setup) (second device) image) (λ setup. OneOf (Survives setup) (all device) image) node mid_node device same
+      (λ setup. back (Survives setup) device image) h) (two device))
 
   -- one list of states and another, of which the second goes from a node with the same setups
   pub leaves_both : RestsOn Stands views Halts told → (node mid_node : Node) (first second all : ℕ → List State) (old mid new : T) → (told ≡ true → setups_of mid_node ≡ setups_of node)
@@ -213,14 +216,16 @@ module _ {T : Type 0} (Stands : T → Node → Type 0) (views : T → ℕ → Di
       → LeavesEach views node some old new → LeavesEach views node all old new
   leaves_wider node some all old new wider leaves device =
       leaves_more {P = SurvivesOne device node (some device)} {Q = SurvivesOne device node (all device)} {old = views old device} {new = views new device}
-      (λ image h. on_same (λ setup. OneOf (Survives setup) (some device) image) (λ setup. OneOf (Survives setup) (all device) image) node node device refl (λ setup. wider (Survives setup) device image) h) (leaves device)
+      (λ image h. on_same (λ setup. OneOf (Survives setup) (some device) image) (λ setup. OneOf (Survives setup) (all device) image) node node device refl
+      (λ setup. wider (Survives setup) device image) h) (leaves device)
 
   abbrev pub ChainOf : T → Times → Node → List (Option (List ℕ)) → List Reply → T → Times → Type 0
   ChainOf old times node lines replies new later = Chain Stands views Halts told old times node lines replies new later
 
   -- one chain after another
   pub chain_then : RestsOn Stands views Halts told → (old mid new : T) (times then later : Times) (node : Node) (xs ys : List (Option (List ℕ))) (rs ss : List Reply)
-      → (first : ChainOf old times node xs rs mid then) → (second : ChainOf mid then (node_after_lines first.served node) ys ss new later) → InHalt (Halts new) node (first.served ++ second.served) → ChainOf old times node (xs ++ ys) (rs ++ ss) new later
+      → (first : ChainOf old times node xs rs mid then) → (second : ChainOf mid then (node_after_lines first.served node) ys ss new later)
+      → InHalt (Halts new) node (first.served ++ second.served) → ChainOf old times node (xs ++ ys) (rs ++ ss) new later
   chain_then on old mid new times then later node xs ys rs ss first second halt =
       let mid_node = node_after_lines first.served node in
       let one : (device : ℕ) → Advances (views old device) (views mid device) = λ device. (first.leaves device).time in
@@ -232,7 +237,8 @@ module _ {T : Type 0} (Stands : T → Node → Type 0) (views : T → ℕ → Di
             (serves_more (left_between views mid new) (left_between views old new) (second_images old mid new one two) told mid_node second.served second.serves);
         of_lines = map-append (λ s. s.line) first.served second.served ∙ (λ i. first.of_lines i ++ second.of_lines i);
         of_replies = map-append (λ s. s.reply) first.served second.served ∙ (λ i. first.of_replies i ++ second.of_replies i);
-        clock = subst (λ (given : List ℕ). TicksAll times given later) (sym (times_append first.served second.served)) (ticks_then times then later (times_of first.served) (times_of second.served) first.clock second.clock);
+        clock = subst (λ (given : List ℕ). TicksAll times given later) (sym (times_append first.served second.served))
+            (ticks_then times then later (times_of first.served) (times_of second.served) first.clock second.clock);
         stands = λ goes. subst (Stands new) (sym (after_append first.served second.served node)) (second.stands (halted_behind first.served second.served goes));
         leaves = leaves_both on node mid_node (λ device. states_of_lines device first.served node) (λ device. states_of_lines device second.served mid_node)
             (λ device. states_of_lines device (first.served ++ second.served) node) old mid new
@@ -273,13 +279,15 @@ module _ {T : Type 0} (Stands : T → Node → Type 0) (views : T → ℕ → Di
   }
 
   -- what is on the way of one line: of its work, and of the tending
-  in_work : (P : State → Images) (device : ℕ) (node : Node) (served : Served) (image : List ℕ) → OneOf P (states_while device served.work node) image → OneOf P (states_of_lines device (served ∷ []) node) image
+  in_work : (P : State → Images) (device : ℕ) (node : Node) (served : Served) (image : List ℕ) → OneOf P (states_while device served.work node) image
+      → OneOf P (states_of_lines device (served ∷ []) node) image
   in_work P device node served image h =
       let front = states_while device served.work node in
       let back = states_while device served.tended (node_at_reply served node) in
       one_of_front P (front ++ back) (states_of_lines device [] (node_after_line served node)) image (one_of_front P front back image h)
 
-  in_tending : (P : State → Images) (device : ℕ) (node : Node) (served : Served) (image : List ℕ) → OneOf P (states_while device served.tended (node_at_reply served node)) image → OneOf P (states_of_lines device (served ∷ []) node) image
+  in_tending : (P : State → Images) (device : ℕ) (node : Node) (served : Served) (image : List ℕ) → OneOf P (states_while device served.tended (node_at_reply served node)) image
+      → OneOf P (states_of_lines device (served ∷ []) node) image
   in_tending P device node served image h =
       let front = states_while device served.work node in
       let back = states_while device served.tended (node_at_reply served node) in
@@ -308,7 +316,8 @@ module _ {T : Type 0} (Stands : T → Node → Type 0) (views : T → ℕ → Di
       (serves_more (left_between views old mid) (left_between views old new) (first_images old mid new one two) told node (served ∷ []) (serves, tt)).0
       (later, ticks, refl) stands
       (leaves_both on node (node_at_reply served node) (λ device. states_while device from.work node) (λ device. states_while device tended (node_at_reply served node))
-      (λ device. states_of_lines device (served ∷ []) node) old mid new (λ is. reply_setups (left_between views old mid) node served (subst (λ (b : Bool). Serves (left_between views old mid) b node served) is serves))
+      (λ device. states_of_lines device (served ∷ []) node) old mid new
+      (λ is. reply_setups (left_between views old mid) node served (subst (λ (b : Bool). Serves (left_between views old mid) b node served) is serves))
       (λ P device image h. in_work P device node served image h) (λ P device image h. in_tending P device node served image h) from.leaves leaves) halt
 
   -- a line was declined, and tending followed
@@ -325,7 +334,8 @@ module _ {T : Type 0} (Stands : T → Node → Type 0) (views : T → ℕ → Di
         tending = tend.legal;
       })
       refl (λ other. tend.stands)
-      (leaves_wider node (λ device. states_while device tend.tended node) (λ device. states_of_lines device (served ∷ []) node) old new (λ P device image h. in_tending P device node served image h) tend.leaves)
+      (leaves_wider node (λ device. states_while device tend.tended node) (λ device. states_of_lines device (served ∷ []) node) old new
+      (λ P device image h. in_tending P device node served image h) tend.leaves)
       (λ is. absurd (goes_not_halted r goes is))
 
   fail_is_no_bye : (line : Option (List ℕ)) (r : Reply) → (NamesNoCommand (line_end_of line) × (r ≡ reply.Fail why.Line)) ⊎ (r ≡ reply.Fail why.Memory) → r ≢ reply.Bye
@@ -347,7 +357,8 @@ module _ {T : Type 0} (Stands : T → Node → Type 0) (views : T → ℕ → Di
         let from : ActsFrom Stands views Halts told old node carries.command (bounded_time carries.now) r turn.answered = carries.acted node stands in
         let at_reply : Node = node_or (node_after from.work node) from.restarted in
         let tend : TendsFrom Stands views told turn.answered at_reply new = turn.tended at_reply (from.stands turn.no_halt) in
-        let goes : goes_on r ≡ true = goes_of r turn.no_halt (carried_no_bye (left_between views old turn.answered) told node carries.command (bounded_time carries.now) from.work from.restarted r carries.goes_on from.carried) in (
+        let goes : goes_on r ≡ true = goes_of r turn.no_halt (carried_no_bye (left_between views old turn.answered) told node carries.command
+        (bounded_time carries.now) from.work from.restarted r carries.goes_on from.carried) in (
           carried_chain on old turn.answered new times later node line carries.command carries.now r tend.tended carries.is_command carries.ticks from
               (goes_tends r (TendsEach 0 at_reply tend.tended) (tend.tended ≡ []) goes tend.tends) tend.legal (λ other. tend.stands) tend.leaves (λ is. absurd (turn.no_halt is)),
           goes,
@@ -365,7 +376,16 @@ module _ {T : Type 0} (Stands : T → Node → Type 0) (views : T → ℕ → Di
       subst (λ (t : T). ChainOf old times node (line ∷ []) (r ∷ []) t later) (sym quits.same_store)
       (subst (λ (b : Reply). ChainOf old times node (line ∷ []) (b ∷ []) old later) (sym quits.farewell)
       (carried_chain on old old old times later node line command.Quit quits.now reply.Bye [] quits.is_quit quits.ticks
-      (record { work = []; restarted = None; carried = inl (inl (refl, (refl, refl))); legal = tt; stands = λ other. stands; leaves = on.rests old node stands; halt = λ is. absurd (bye_not_halted is) })
+      (record {
+        work = [];
+        restarted = None;
+        carried = inl (inl (refl, (refl, refl)));
+        legal = tt;
+        stands = λ other. stands;
+        leaves = on.rests old node stands;
+        halt =
+            λ is. absurd (bye_not_halted is);
+      })
       refl tt (λ other. stands) (on.rests old node stands) (λ is. absurd (bye_not_halted is))))
 
   -- a halt, which ends the run
@@ -388,7 +408,8 @@ module _ {T : Type 0} (Stands : T → Node → Type 0) (views : T → ℕ → Di
       let second = turns_chain on lines rs turns.0 new turns.1 later (node_after_lines first.0.served node) turns.3
       (first.0.stands (halted_of first.0.served ∙ ap halted_in first.0.of_replies ∙ go_halted (r ∷ []) (first.1, tt))) in (
         chain_then on old turns.0 new times turns.1 later node (line ∷ []) lines (r ∷ []) rs first.0 second.0
-            (go_in_halt (Halts new) node (first.0.served ++ second.0.served) (subst AllGo (sym (map-append (λ s. s.reply) first.0.served second.0.served ∙ (λ i. first.0.of_replies i ++ second.0.of_replies i))) (first.1, second.1))),
+            (go_in_halt (Halts new) node (first.0.served ++ second.0.served)
+            (subst AllGo (sym (map-append (λ s. s.reply) first.0.served second.0.served ∙ (λ i. first.0.of_replies i ++ second.0.of_replies i))) (first.1, second.1))),
         (first.1, second.1),
       )
   turns_chain on [] (r ∷ rs) old new times later node turns stands = absurd turns

@@ -37,16 +37,19 @@ module _ {T : Type 0} (acts weak : T → Command → ℕ → Reply → T → Typ
   any_more line old times r new later (inl turn) = inl (turn_more line old times r new later turn)
   any_more line old times r new later (inr quits) = inr quits
 
-  turns_more : (lines : List LineEnd) (rs : List Reply) (old : T) (times : Times) (new : T) (later : Times) → Turns acts tends lines old times rs new later → Turns weak weakly lines old times rs new later
+  turns_more : (lines : List LineEnd) (rs : List Reply) (old : T) (times : Times) (new : T) (later : Times) → Turns acts tends lines old times rs new later
+      → Turns weak weakly lines old times rs new later
   turns_more [] [] old times new later turns = turns
   turns_more (line ∷ lines) (r ∷ rs) old times new later turns = (turns.0, turns.1, turn_more line old times r turns.0 turns.1 turns.2, turns_more lines rs turns.0 turns.1 new later turns.3)
   turns_more [] (r ∷ rs) old times new later turns = absurd turns
   turns_more (line ∷ lines) [] old times new later turns = absurd turns
 
-  serves_more : (lines : List LineEnd) (old : T) (times : Times) (output : List ℕ) (new : T) (later : Times) → HasTurns acts tends lines old times output new later → HasTurns weak weakly lines old times output new later
+  serves_more : (lines : List LineEnd) (old : T) (times : Times) (output : List ℕ) (new : T) (later : Times) → HasTurns acts tends lines old times output new later
+      → HasTurns weak weakly lines old times output new later
   serves_more lines old times output new later serves = record { replies = serves.replies; turns = turns_more lines serves.replies old times new later serves.turns; told = serves.told }
 
-  stops_more : (line : LineEnd) (old : T) (times : Times) (last : List ℕ) (new : T) (later : Times) (stop : Stop) → StopsAtLine acts tends line old times last new later stop → StopsAtLine weak weakly line old times last new later stop
+  stops_more : (line : LineEnd) (old : T) (times : Times) (last : List ℕ) (new : T) (later : Times) (stop : Stop) → StopsAtLine acts tends line old times last new later stop
+      → StopsAtLine weak weakly line old times last new later stop
   stops_more line old times last new later QuitStop stops = stops
   stops_more line old times last new later MemoryStop stops = (stops.0, any_more line old times stops.0 new later stops.1, stops.2)
   stops_more line old times last new later HaltStop stops = (answers_more line old times _ new later stops.0, stops.1)
@@ -70,14 +73,17 @@ module _ {T : Type 0} (acts weak : T → Command → ℕ → Reply → T → Typ
     all = s.all;
   }
 
-  whole_more : (bytes : List ℕ) (old : T) (times : Times) (output : List ℕ) (new : T) (later : Times) → HasWholeTurns acts tends bytes old times output new later → HasWholeTurns weak weakly bytes old times output new later
+  whole_more : (bytes : List ℕ) (old : T) (times : Times) (output : List ℕ) (new : T) (later : Times) → HasWholeTurns acts tends bytes old times output new later
+      → HasWholeTurns weak weakly bytes old times output new later
   whole_more bytes old times output new later s = record { lines = s.lines; rest = s.rest; falls = s.falls; serves = serves_more _ old times output new later s.serves }
 
   all_more : (bytes : List ℕ) (left : Option (List ℕ)) (n : ℕ) (old : T) (times : Times) (output : List ℕ) (new : T) (later : Times)
       → HasAllTurns acts tends bytes left n old times output new later → HasAllTurns weak weakly bytes left n old times output new later
-  all_more bytes left n old times output new later s = record { lines = s.lines; rest = s.rest; falls = s.falls; at_end = s.at_end; counted = s.counted; serves = serves_more _ old times output new later s.serves }
+  all_more bytes left n old times output new later s = record
+      { lines = s.lines; rest = s.rest; falls = s.falls; at_end = s.at_end; counted = s.counted; serves = serves_more _ old times output new later s.serves }
 
-  first_more : (bytes : List ℕ) (old : T) (times : Times) (output : List ℕ) (new : T) (later : Times) → HasFirstTurns acts tends bytes old times output new later → HasFirstTurns weak weakly bytes old times output new later
+  first_more : (bytes : List ℕ) (old : T) (times : Times) (output : List ℕ) (new : T) (later : Times) → HasFirstTurns acts tends bytes old times output new later
+      → HasFirstTurns weak weakly bytes old times output new later
   first_more bytes old times output new later s = record { lines = s.lines; rest = s.rest; whole = s.whole; each = s.each; serves = serves_more _ old times output new later s.serves }
 
   some_more : (bytes : List ℕ) (left : Option (List ℕ)) (old : T) (times : Times) (output : List ℕ) (new : T) (later : Times)

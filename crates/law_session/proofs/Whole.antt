@@ -11,7 +11,8 @@ use Rattle.node_session.specs.declared.ended.Ended.{Ended}
 use Rattle.node_session.specs.declared.ended.Ended.TheVariants.{Finish, Quit, SourceFault, SinkFault, Memory, Halted, Long}
 use Rattle.node_session.specs.Turns.{Times}
 use Rattle.node_session.specs.Session.{Ran}
-use Rattle.model_node.specs.Run.{ImagesLeft, Served, ServesAll, IsRun, ClosesEach, EndsOnce, goes_on, halts, is_halted, node_after_line, node_after_lines, last_node, states_from, states_while, states_of_lines, states_of_run}
+use Rattle.model_node.specs.Run.{ImagesLeft, Served, ServesAll, IsRun, ClosesEach, EndsOnce, goes_on, halts, is_halted, node_after_line, node_after_lines}
+use Rattle.model_node.specs.Run.{last_node, states_from, states_while, states_of_lines, states_of_run}
 use Rattle.model_node.specs.declared.run_end.RunEnd.{RunEnd}
 use Rattle.model_node.specs.declared.run_end.RunEnd.TheVariants as end
 use Rattle.model_node.specs.Outside.{Outside, RoseOn, RoseInLast, counts_of}
@@ -25,7 +26,8 @@ use Rattle.law_session.proofs.States.{lines_setups, on_same, first_of_lines, ser
 use Rattle.law_session.proofs.Replies.{match_true, match_false}
 use Rattle.law_session.proofs.Turns.{leaves_both, leaves_wider}
 
-one_state : (device : ℕ) (slot : Option Slot) (image : List ℕ) → MatchOption slot (Unit {0}) (λ s. OneOf (Survives s.setup) (states_from device [] slot) image) → MatchOption slot (Unit {0}) (λ s. Survives s.setup s.state image)
+one_state : (device : ℕ) (slot : Option Slot) (image : List ℕ) → MatchOption slot (Unit {0}) (λ s. OneOf (Survives s.setup) (states_from device [] slot) image)
+    → MatchOption slot (Unit {0}) (λ s. Survives s.setup s.state image)
 one_state device None image h = tt
 one_state device (Some slot) image (inl h) = h
 one_state device (Some slot) image (inr h) = absurd h
@@ -78,7 +80,8 @@ goes_more reply.Bye P lines next rest h is = let e : [] ≡ next ∷ rest = sym 
 goes_more reply.Halted P lines next rest h is = let e : [] ≡ next ∷ rest = sym h ∙ is in cc
 
 -- what holds of the refused restart's line, as of its counts
-pub rose_in_last : (device : ℕ) (node : Node) (lines : List Served) → EndsOnce lines → IsTrue (is_halted lines) → InHalt (λ before after. RoseOn device (counts_of before) (counts_of after)) node lines → RoseInLast device node lines
+pub rose_in_last : (device : ℕ) (node : Node) (lines : List Served) → EndsOnce lines → IsTrue (is_halted lines)
+    → InHalt (λ before after. RoseOn device (counts_of before) (counts_of after)) node lines → RoseInLast device node lines
 rose_in_last device node [] once is h = let e : false ≡ true = is in cc
 rose_in_last device node (served ∷ []) once is h = h (halt_of served.reply (or_is (halts served.reply) false is refl))
 rose_in_last device node (served ∷ next ∷ lines) once is h =
@@ -91,7 +94,8 @@ in_halt_more P Q more node (served ∷ []) h = λ is. more node (node_after_line
 in_halt_more P Q more node (served ∷ next ∷ lines) h = in_halt_more P Q more (node_after_line served node) (next ∷ lines) h
 
 -- A run with a refused restart ends in it.
-pub halt_last : (P : Node → Node → Type 0) (node : Node) (lines : List Served) → EndsOnce lines → is_halted lines ≡ true → InHalt P node lines → (before : Node) × P before (node_after_lines lines node)
+pub halt_last : (P : Node → Node → Type 0) (node : Node) (lines : List Served) → EndsOnce lines → is_halted lines ≡ true → InHalt P node lines → (before : Node)
+    × P before (node_after_lines lines node)
 halt_last P node [] once is h = let e : false ≡ true = is in cc
 halt_last P node (served ∷ []) once is h = (node, h (halt_of served.reply (or_is (halts served.reply) false is refl)))
 halt_last P node (served ∷ next ∷ lines) once is h =
@@ -194,7 +198,8 @@ module _ {T : Type 0} (Stands : T → Node → Type 0) (views : T → ℕ → Di
 
   -- A session over a store, and what is done behind it, are a run of each node that the store stood for: where no restart was refused each
   -- device is closed, and else nothing is done.
-  pub ran_whole : RestsOn Stands views Halts told → (limit : ℕ) (taken taken' : List ℕ) (left left' : Option (List ℕ)) (written written' : Option (List ℕ)) (old new end : T) (times later : Times) (node : Node) (result : Ended)
+  pub ran_whole : RestsOn Stands views Halts told → (limit : ℕ) (taken taken' : List ℕ) (left left' : Option (List ℕ)) (written written' : Option (List ℕ)) (old new end : T)
+      (times later : Times) (node : Node) (result : Ended)
       → (ran : Ran (ActsBy Stands views Halts told) (TendsBy Stands views told) limit taken taken' left left' written written' old new times later result) → Stands old node
       → ((last : Node) → Stands new last → ClosesFrom Stands views told Says new last end)
       → ((before last : Node) → Halts new before last → end ≡ new)
@@ -231,8 +236,10 @@ module _ {T : Type 0} (Stands : T → Node → Type 0) (views : T → ℕ → Di
       → LeavesSome (λ device. meanwhile (entry device) (views end device)) node lines closing
   images_since entry node old end lines closing enters leaves device image was =
       elim ((leaves device).time.only (entry device).moment image ((enters.time device).stays (entry device).moment (enters.time device).started) was) [
-        | inl before ↦ on_same (λ setup. OneOf (Survives setup) (states_while device [] node) image) (λ setup. OneOf (Survives setup) (states_of_run device node lines closing) image) node node device refl
-            (λ setup h. one_of_front (Survives setup) (states_of_lines device lines node) (states_while device closing (node_after_lines lines node)) image (first_of_lines (Survives setup) device lines node image h))
+        | inl before ↦ on_same (λ setup. OneOf (Survives setup) (states_while device [] node) image)
+            (λ setup. OneOf (Survives setup) (states_of_run device node lines closing) image) node node device refl
+            (λ setup h. one_of_front (Survives setup) (states_of_lines device lines node) (states_while device closing (node_after_lines lines node)) image
+            (first_of_lines (Survives setup) device lines node image h))
             (enters.each device image before)
         | inr since_start ↦ (leaves device).each image since_start
       ]
@@ -261,12 +268,14 @@ module _ {T : Type 0} (Stands : T → Node → Type 0) (views : T → ℕ → Di
           subst (λ (events : List NodeEvent). P (last_node node w.lifted.served events)) (sym none) (halted back.0 (node_after_lines w.lifted.served node) back.1)
 
   -- what a crash may leave at the end survives the last state
-  pub last_images : RestsOn Stands views Halts told → (may_leave : ImagesLeft) (limit : ℕ) (bytes output : List ℕ) (left : Option (List ℕ)) (times : Times) (node : Node) (old new end : T) (result : Ended)
+  pub last_images : RestsOn Stands views Halts told → (may_leave : ImagesLeft) (limit : ℕ) (bytes output : List ℕ) (left : Option (List ℕ)) (times : Times) (node : Node)
+      (old new end : T) (result : Ended)
       → (w : RunsWhole Stands views Halts told Says limit bytes output left times node old new end result)
       → ((device : ℕ) (image : List ℕ) → may_leave device image → meanwhile (views end device) (views end device) image)
       → LeavesLast may_leave (last_node node w.lifted.served w.closing)
   last_images on may_leave limit bytes output left times node old new end result w law device image was =
       let last : Node = last_node node w.lifted.served w.closing in
       let rests : LeavesEach views last (λ d. states_while d [] last) end end =
-      last_closed limit bytes output left times node old new end result w (λ n. LeavesEach views n (λ d. states_while d [] n) end end) (λ n stands. on.rests end n stands) (λ before n halts. on.halted end before n halts) in
+      last_closed limit bytes output left times node old new end result w (λ n. LeavesEach views n (λ d. states_while d [] n) end end) (λ n stands. on.rests end n stands)
+      (λ before n halts. on.halted end before n halts) in
       one_state device (slice_get last device) image ((rests device).each image (law device image was))

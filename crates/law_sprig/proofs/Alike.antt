@@ -27,7 +27,8 @@ none_alike s t digest same none = record { top = same.top ∙ none.top; place = 
 abbrev pub Says : Setup → (part : ℕ) → State → Digest → Option Entry → Type 0
 Says setup part s digest found = MatchOption found (part_of setup digest ≡ part → HasNone s digest) (λ e. (part_of setup digest ≡ part) × IsShown s digest e)
 
-pub says_alike : (setup : Setup) (part : ℕ) (s t : State) (digest : Digest) (found : Option Entry) → (part_of setup digest ≡ part → SaysSame s t digest) → Says setup part s digest found → Says setup part t digest found
+pub says_alike : (setup : Setup) (part : ℕ) (s t : State) (digest : Digest) (found : Option Entry) → (part_of setup digest ≡ part → SaysSame s t digest) → Says setup part s digest found
+    → Says setup part t digest found
 says_alike setup part s t digest None same none = λ mine. none_alike s t digest (same mine) (none mine)
 says_alike setup part s t digest (Some e) same is = (is.0, shown_alike s t digest e (same is.0) is.1)
 

@@ -27,7 +27,8 @@ some_entry : (a b : Entry) → Some a ≡ Some b → a ≡ b
 some_entry a b h = cc
 
 -- an entry has an older copy among these and one more
-older_more : (found : List (Digest × Stamp)) (f : Digest × Stamp) (e : Entry) → has_older_copy (found ++ f ∷ []) e ≡ (has_older_copy found e || (same_digest e.digest f.0 && is_later_stamp e.stamp f.1))
+older_more : (found : List (Digest × Stamp)) (f : Digest × Stamp) (e : Entry)
+    → has_older_copy (found ++ f ∷ []) e ≡ (has_older_copy found e || (same_digest e.digest f.0 && is_later_stamp e.stamp f.1))
 older_more found f e =
     list_any-append (λ g. same_digest e.digest g.0 && is_later_stamp e.stamp g.1) found (f ∷ [])
     ∙ ap (λ (b : Bool). has_older_copy found e || b) (last (same_digest e.digest f.0 && is_later_stamp e.stamp f.1))
@@ -72,7 +73,8 @@ module _ (found : List (Digest × Stamp)) (f : Digest × Stamp) (es : List Entry
       not_older d e is false other = refl
       not_older d e is true same =
           let name : d ≡ f.0 = sym (entry_of-digest d es e is) ∙ same_digest_is e.digest f.0 same in
-          let here : entry_of f.0 so_far ≡ Some (with_mark (before e) e) = remarked_of before f.0 es ∙ ap (option_map (λ (x : Entry). with_mark (before x) x)) (ap (λ (k : Digest). entry_of k es) (sym name) ∙ is) in
+          let here : entry_of f.0 so_far ≡ Some (with_mark (before e) e) = remarked_of before f.0 es
+          ∙ ap (option_map (λ (x : Entry). with_mark (before x) x)) (ap (λ (k : Digest). entry_of k es) (sym name) ∙ is) in
           sym (ap (passes_test (λ x. is_later_stamp x.stamp f.1)) here) ∙ none
 
       by : (d : Digest) (o : Option Entry) → entry_of d es ≡ o → option_map (λ (x : Entry). with_mark (before x) x) o ≡ option_map (λ (x : Entry). with_mark (behind x) x) o
@@ -102,7 +104,8 @@ module _ (found : List (Digest × Stamp)) (f : Digest × Stamp) (es : List Entry
           let lost = lost_mark y (ap (λ (b : Bool). b && is_later_stamp y.stamp f.1) mine ∙ ap (λ (e : Entry). is_later_stamp e.stamp f.1) same ∙ later) in
           ap (λ (e : Entry). Some (with_mark 0 e)) (sym same) ∙ ap (λ (n : ℕ). Some (with_mark n y)) (sym lost)
 
-      elsewhere : (d : Digest) (o : Option Entry) → entry_of d es ≡ o → same_digest d x.digest ≡ false → option_map (λ (y : Entry). with_mark (before y) y) o ≡ option_map (λ (y : Entry). with_mark (behind y) y) o
+      elsewhere : (d : Digest) (o : Option Entry) → entry_of d es ≡ o → same_digest d x.digest ≡ false
+          → option_map (λ (y : Entry). with_mark (before y) y) o ≡ option_map (λ (y : Entry). with_mark (behind y) y) o
       elsewhere d None found other = refl
       elsewhere d (Some y) found other =
           ap (λ (n : ℕ). Some (with_mark n y))
@@ -158,7 +161,8 @@ pub undone_more : (raid : RaidState) (found : List (Digest × Stamp)) (f : Diges
     ≡ count_by (λ e. has_mark raid e && has_older_copy found e) es + one_if (passes_test (λ e. has_mark raid e && is_later_stamp e.stamp f.1) (entry_of f.0 (remarked (mark_left found) es)))
 undone_more raid found f es order zero =
     count_at p q f.0 es (one_if (passes_test test (entry_of f.0 (remarked (mark_left found) es)))) order apart
-    (subst (λ (o : Option Entry). MatchOption (entry_of f.0 es) (one_if (passes_test test o) ≡ 0) (λ e. one_if (p e) ≡ one_if (q e) + one_if (passes_test test o))) (sym (remarked_of (mark_left found) f.0 es)) (by (entry_of f.0 es) refl))
+    (subst (λ (o : Option Entry). MatchOption (entry_of f.0 es) (one_if (passes_test test o) ≡ 0) (λ e. one_if (p e) ≡ one_if (q e) + one_if (passes_test test o)))
+    (sym (remarked_of (mark_left found) f.0 es)) (by (entry_of f.0 es) refl))
   where
     p : Entry → Bool
     p e = has_mark raid e && has_older_copy (found ++ f ∷ []) e
@@ -171,7 +175,8 @@ undone_more raid found f es order zero =
 
     apart : (e : Entry) → same_digest f.0 e.digest ≡ false → p e ≡ q e
     apart e other =
-        ap (λ (b : Bool). has_mark raid e && b) (older_more found f e ∙ ap (λ (b : Bool). has_older_copy found e || (b && is_later_stamp e.stamp f.1)) (other_back f.0 e.digest other) ∙ last (has_older_copy found e))
+        ap (λ (b : Bool). has_mark raid e && b) (older_more found f e ∙ ap (λ (b : Bool). has_older_copy found e || (b && is_later_stamp e.stamp f.1)) (other_back f.0 e.digest other)
+        ∙ last (has_older_copy found e))
       where
         last : (b : Bool) → (b || false) ≡ b
         last true = refl

@@ -15,7 +15,8 @@ use Rattle.rec_format.specs.Versions.{is_expired_put}
 use Rattle.model_device.specs.Histories.{Item, dropped, top_of}
 use Rattle.model_device.specs.Book.{Setup, Live, live_of}
 use Rattle.model_device.specs.Device.{State, history, entry, entry_passes, part_of, digests_of as logged, expired_in}
-use Rattle.model_device.specs.Steps.{Step, wrote, moved, removed, rid_of, uncovered, sealed_stream, gate_begun, flushed_buffer, closing_failed, raid_begun, raid_given_up, marked_part, scanned_block, compared_part, done_part, after_step, after_steps, moved_state}
+use Rattle.model_device.specs.Steps.{Step, wrote, moved, removed, rid_of, uncovered, sealed_stream, gate_begun, flushed_buffer, closing_failed, raid_begun}
+use Rattle.model_device.specs.Steps.{raid_given_up, marked_part, scanned_block, compared_part, done_part, after_step, after_steps, moved_state}
 use Rattle.model_device.specs.Events.{Call, Event, after_event}
 use Rattle.model_device.specs.Legal.{Allowed}
 use Rattle.model_device.specs.Passes.{is_behind, expired_behind}
@@ -64,7 +65,8 @@ module _ {X : Type 0} (key : X → Digest) where
   all_above x [] below = tt
   all_above x (y ∷ ys) below = (ap is_lt below.0, all_above x ys below.1)
 
-  all_behind : (last : Option Digest) (x : X) (xs : List X) → is_behind last (key x) ≡ true → AllByRecursion (λ y. digest_before (key x) (key y) ≡ true) xs → AllByRecursion (λ y. is_behind last (key y) ≡ true) xs
+  all_behind : (last : Option Digest) (x : X) (xs : List X) → is_behind last (key x) ≡ true → AllByRecursion (λ y. digest_before (key x) (key y) ≡ true) xs
+      → AllByRecursion (λ y. is_behind last (key y) ≡ true) xs
   all_behind last x [] is above = tt
   all_behind last x (y ∷ ys) is above = (behind_then last (key x) (key y) is above.0, all_behind last x ys is above.1)
 
@@ -115,7 +117,8 @@ expired_walked setup part sprig s h now last = ap (filter (is_behind last)) (exp
     kept (e ∷ es) = by (is_behind last e.digest) (kept es)
       where
         by : (b : Bool) → filter (is_behind last) (digests_in es) ≡ digests_in (behind (λ x. x.digest) last es)
-            → cond b (e.digest ∷ filter (is_behind last) (digests_in es)) (filter (is_behind last) (digests_in es)) ≡ digests_in (cond b (e ∷ behind (λ x. x.digest) last es) (behind (λ x. x.digest) last es))
+            → cond b (e.digest ∷ filter (is_behind last) (digests_in es)) (filter (is_behind last) (digests_in es))
+            ≡ digests_in (cond b (e ∷ behind (λ x. x.digest) last es) (behind (λ x. x.digest) last es))
         by true rest = ap (λ (l : List Digest). e.digest ∷ l) rest
         by false rest = rest
 
@@ -133,7 +136,8 @@ module _ (setup : Setup) (part now : ℕ) where
     where
       by : (b : Bool) → has_digest (logged s.log) d ≡ b → (b && told s d) ≡ told s d
       by true is = refl
-      by false is = sym (and_right (part_of setup d == part) (entry_passes (is_expired_put now) (entry s d)) (ap (λ (h : List Item). entry_passes (is_expired_put now) (top_of h)) (unlogged d s.log is)))
+      by false is = sym (and_right (part_of setup d == part) (entry_passes (is_expired_put now) (entry s d))
+          (ap (λ (h : List Item). entry_passes (is_expired_put now) (top_of h)) (unlogged d s.log is)))
 
   -- The first digest behind another whose entry in the part is expired.
   pub record IsNext (last : Option Digest) (s : State) (d : Digest) : Type 0 where
@@ -170,7 +174,8 @@ module _ (setup : Setup) (part now : ℕ) where
       of = and_parts (part_of setup d == part) (entry_passes (is_expired_put now) (entry s d)) there.1
 
   -- where the histories behind a digest stay, so does what is expired there
-  pub expired_alike : (last : Option Digest) (s t : State) → ((d : Digest) → is_behind last d ≡ true → history t d ≡ history s d) → expired_behind setup part now last t ≡ expired_behind setup part now last s
+  pub expired_alike : (last : Option Digest) (s t : State) → ((d : Digest) → is_behind last d ≡ true → history t d ≡ history s d)
+      → expired_behind setup part now last t ≡ expired_behind setup part now last s
   expired_alike last s t same =
       one_order (expired_behind setup part now last t) (expired_behind setup part now last s) (order t) (order s)
       (λ d. among-filter (is_behind last) d (expired_in setup now part t) ∙ by d (is_behind last d) refl ∙ sym (among-filter (is_behind last) d (expired_in setup now part s)))

@@ -8,8 +8,10 @@ use Rattle.rec_format.specs.declared.version.Digest.{Digest}
 use Rattle.rec_format.specs.Places.{same_digest, digest_before, device_number, with_digest}
 use Rattle.model_device.specs.Book.{Setup, Live, live_of}
 use Rattle.model_device.specs.Device.{State, Log, digests_of as logged, stops_search, item_with_number, log_with_number}
-use Rattle.model_device.specs.Steps.{Step, wrote, moved, removed, rid_of, uncovered, sealed_stream, gate_begun, flushed_buffer, closing_failed, raid_begun, raid_given_up, marked_part, scanned_block, compared_part, done_part, after_step, after_steps, moved_state}
-use Rattle.model_device.specs.Events.{Call, put_call, bury_call, delete_call, expire_call, get_call, flush_call, flush_sealed_call, flush_next_call, choose_call, move_call, begin_call, turn_call, Event, after_event, after_events}
+use Rattle.model_device.specs.Steps.{Step, wrote, moved, removed, rid_of, uncovered, sealed_stream, gate_begun, flushed_buffer, closing_failed, raid_begun}
+use Rattle.model_device.specs.Steps.{raid_given_up, marked_part, scanned_block, compared_part, done_part, after_step, after_steps, moved_state}
+use Rattle.model_device.specs.Events.{Call, put_call, bury_call, delete_call, expire_call, get_call, flush_call, flush_sealed_call, flush_next_call}
+use Rattle.model_device.specs.Events.{choose_call, move_call, begin_call, turn_call, Event, after_event, after_events}
 use Rattle.model_device.specs.Passes.{part_named, Entered, Opening, events_of}
 use Rattle.model_device.specs.Legal.{Allowed, Follows, IsLegal, last_faults}
 use Rattle.rec_format.proofs.Laws.{same_digest_is}
@@ -40,7 +42,8 @@ moved_logged : (digest : Digest) (number : ℕ) (log : Log) → logged (log_with
 moved_logged digest number [] = refl
 moved_logged digest number (e ∷ log) = by (same_digest digest e.0 && stops_search e.1) (moved_logged digest number log)
   where
-    by : (b : Bool) → logged (log_with_number digest number log) ≡ logged log → logged (cond b ((e.0, item_with_number number e.1) ∷ log) (e ∷ log_with_number digest number log)) ≡ with_digest e.0 (logged log)
+    by : (b : Bool) → logged (log_with_number digest number log) ≡ logged log
+        → logged (cond b ((e.0, item_with_number number e.1) ∷ log) (e ∷ log_with_number digest number log)) ≡ with_digest e.0 (logged log)
     by true rest = refl
     by false rest = ap (with_digest e.0) rest
 
@@ -108,7 +111,8 @@ set_cases (z ∷ xs) (suc k) (suc i) y x found = by (set_cases xs k i y x found)
 some_apart : (k part : ℕ) → part ≢ k → Some k ≢ Some part
 some_apart k part apart same = apart cc
 
-module _ (setup : Setup) (told : Bool) (s : State) (event : Event) (sprigs : List SprigState) (allowed : Allowed setup told s event event.call) (names : NamesOwn setup event.call) (fits : FitsParts setup sprigs s) where
+module _ (setup : Setup) (told : Bool) (s : State) (event : Event) (sprigs : List SprigState) (allowed : Allowed setup told s event event.call) (names : NamesOwn setup event.call)
+    (fits : FitsParts setup sprigs s) where
   -- an event that names no part leaves all sprigs fitting
   pub parts_fit_on : part_named setup event.call ≡ None → FitsParts setup sprigs (after_event setup event s)
   parts_fit_on none = record {
@@ -121,7 +125,8 @@ module _ (setup : Setup) (told : Bool) (s : State) (event : Event) (sprigs : Lis
       never part is = absurd cc
 
   -- behind one that names a part the sprigs fit with what that part's sprig became
-  pub parts_become : (k : ℕ) (new : SprigState) → part_named setup event.call ≡ Some k → FitsPart setup k new (after_event setup event s) → FitsParts setup (set sprigs k new) (after_event setup event s)
+  pub parts_become : (k : ℕ) (new : SprigState) → part_named setup event.call ≡ Some k → FitsPart setup k new (after_event setup event s)
+      → FitsParts setup (set sprigs k new) (after_event setup event s)
   parts_become k new named become = record {
     count = length-set sprigs k new ∙ fits.count;
     each = λ part sprig at. by part sprig (set_cases sprigs k part new sprig at);
@@ -129,7 +134,8 @@ module _ (setup : Setup) (told : Bool) (s : State) (event : Event) (sprigs : Lis
   }
     where
       by : (part : ℕ) (sprig : SprigState) → ((part ≡ k) × (sprig ≡ new)) ⊎ ((part ≢ k) × (slice_get sprigs part ≡ Some sprig)) → FitsPart setup part sprig (after_event setup event s)
-      by part sprig (inl same) = subst (λ (n : ℕ). FitsPart setup n sprig (after_event setup event s)) (sym same.0) (subst (λ (x : SprigState). FitsPart setup k x (after_event setup event s)) (sym same.1) become)
+      by part sprig (inl same) = subst (λ (n : ℕ). FitsPart setup n sprig (after_event setup event s)) (sym same.0)
+          (subst (λ (x : SprigState). FitsPart setup k x (after_event setup event s)) (sym same.1) become)
       by part sprig (inr other) = fits_on setup part told s event sprig (λ is. some_apart k part other.0 (sym named ∙ is)) allowed (fits.each part sprig other.1)
 
 -- ---- lists of events
@@ -145,17 +151,20 @@ last_follows setup told [] e s faults legal = legal.0
 last_follows setup told (x ∷ events) e s faults legal = last_follows setup told events e (after_event setup x s) x.faults_after legal.1
 
 -- A part that fits a list fits it with a further event that may follow and doesn't name it.
-pub fits_longer : (setup : Setup) (part : ℕ) (told : Bool) (s : State) (faults : ℕ) (events : List Event) (e : Event) (sprig : SprigState) → IsLegal setup told s faults (events ++ e ∷ []) → part_named setup e.call ≢ Some part
+pub fits_longer : (setup : Setup) (part : ℕ) (told : Bool) (s : State) (faults : ℕ) (events : List Event) (e : Event) (sprig : SprigState) → IsLegal setup told s faults (events ++ e ∷ [])
+    → part_named setup e.call ≢ Some part
     → FitsPart setup part sprig (after_events setup events s) → FitsPart setup part sprig (after_events setup (events ++ e ∷ []) s)
 fits_longer setup part told s faults events e sprig legal apart fits =
     subst (FitsPart setup part sprig) (sym (after_more setup events e s))
     (fits_on setup part told (after_events setup events s) e sprig apart (last_follows setup told events e s faults legal).allowed fits)
 
 -- The same of the lists that passes see: a part that fits the state after a list fits it after a further event.
-pub fits_entered : (opening : Opening) (part : ℕ) (list : List Entered) (e : Entered) (sprig : SprigState) → IsLegal opening.setup opening.told opening.state opening.faults (events_of (list ++ e ∷ []))
+pub fits_entered : (opening : Opening) (part : ℕ) (list : List Entered) (e : Entered) (sprig : SprigState)
+    → IsLegal opening.setup opening.told opening.state opening.faults (events_of (list ++ e ∷ []))
     → part_named opening.setup e.event.call ≢ Some part → FitsPart opening.setup part sprig (after_events opening.setup (events_of list) opening.state)
     → FitsPart opening.setup part sprig (after_events opening.setup (events_of (list ++ e ∷ [])) opening.state)
 fits_entered opening part list e sprig legal apart fits =
     let longer = map-append (λ (x : Entered). x.event) list (e ∷ []) in
     subst (λ (l : List Event). FitsPart opening.setup part sprig (after_events opening.setup l opening.state)) (sym longer)
-    (fits_longer opening.setup part opening.told opening.state opening.faults (events_of list) e.event sprig (subst (IsLegal opening.setup opening.told opening.state opening.faults) longer legal) apart fits)
+    (fits_longer opening.setup part opening.told opening.state opening.faults (events_of list) e.event sprig
+    (subst (IsLegal opening.setup opening.told opening.state opening.faults) longer legal) apart fits)

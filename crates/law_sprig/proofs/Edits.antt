@@ -49,11 +49,13 @@ module _ (test : Entry → Bool) where
           → passing (cond s e x ∷ with_replaced e xs) ≡ without_mark e.digest (digests_in (cond b (x ∷ filter test xs) (filter test xs)))
       by true same true is rest =
           ap digests_in (cond-false (test e) (e ∷ filter test (with_replaced e xs)) (filter test (with_replaced e xs)) off) ∙ rest
-          ∙ sym (cond-false (not (same_digest e.digest x.digest)) (x.digest ∷ without_mark e.digest (passing xs)) (without_mark e.digest (passing xs)) (not_from_true (same_digest e.digest x.digest) same))
+          ∙ sym (cond-false (not (same_digest e.digest x.digest)) (x.digest ∷ without_mark e.digest (passing xs)) (without_mark e.digest (passing xs))
+          (not_from_true (same_digest e.digest x.digest) same))
       by true same false is rest = ap digests_in (cond-false (test e) (e ∷ filter test (with_replaced e xs)) (filter test (with_replaced e xs)) off) ∙ rest
       by false other true is rest =
           ap digests_in (cond-true (test x) (x ∷ filter test (with_replaced e xs)) (filter test (with_replaced e xs)) is) ∙ ap (λ (l : List Digest). x.digest ∷ l) rest
-          ∙ sym (cond-true (not (same_digest e.digest x.digest)) (x.digest ∷ without_mark e.digest (passing xs)) (without_mark e.digest (passing xs)) (not_from_false (same_digest e.digest x.digest) other))
+          ∙ sym (cond-true (not (same_digest e.digest x.digest)) (x.digest ∷ without_mark e.digest (passing xs)) (without_mark e.digest (passing xs))
+          (not_from_false (same_digest e.digest x.digest) other))
       by false other false is rest = ap digests_in (cond-false (test x) (x ∷ filter test (with_replaced e xs)) (filter test (with_replaced e xs)) is) ∙ rest
 
   -- one more that doesn't pass
@@ -61,13 +63,15 @@ module _ (test : Entry → Bool) where
   passing_entry e [] off absent = ap digests_in (cond-false (test e) (e ∷ []) [] off)
   passing_entry e (x ∷ xs) off absent = by (digest_before e.digest x.digest) (test x) refl (absent_cases e.digest x xs absent) (λ none. passing_entry e xs off none)
     where
-      by : (c b : Bool) → test x ≡ b → (same_digest e.digest x.digest ≡ false) × (entry_of e.digest xs ≡ None) → (entry_of e.digest xs ≡ None → passing (with_entry e xs) ≡ without_mark e.digest (passing xs))
+      by : (c b : Bool) → test x ≡ b → (same_digest e.digest x.digest ≡ false) × (entry_of e.digest xs ≡ None)
+          → (entry_of e.digest xs ≡ None → passing (with_entry e xs) ≡ without_mark e.digest (passing xs))
           → passing (cond c (e ∷ x ∷ xs) (x ∷ with_entry e xs)) ≡ without_mark e.digest (passing (x ∷ xs))
       by true b is both rest = ap digests_in (cond-false (test e) (e ∷ filter test (x ∷ xs)) (filter test (x ∷ xs)) off) ∙ sym (unmarked_absent e.digest (x ∷ xs) absent)
       by false true is both rest =
           ap digests_in (cond-true (test x) (x ∷ filter test (with_entry e xs)) (filter test (with_entry e xs)) is) ∙ ap (λ (l : List Digest). x.digest ∷ l) (rest both.1)
           ∙ sym (ap (λ (l : List Entry). without_mark e.digest (digests_in l)) (cond-true (test x) (x ∷ filter test xs) (filter test xs) is)
-          ∙ cond-true (not (same_digest e.digest x.digest)) (x.digest ∷ without_mark e.digest (passing xs)) (without_mark e.digest (passing xs)) (not_from_false (same_digest e.digest x.digest) both.0))
+          ∙ cond-true (not (same_digest e.digest x.digest)) (x.digest ∷ without_mark e.digest (passing xs)) (without_mark e.digest (passing xs))
+          (not_from_false (same_digest e.digest x.digest) both.0))
       by false false is both rest =
           ap digests_in (cond-false (test x) (x ∷ filter test (with_entry e xs)) (filter test (with_entry e xs)) is) ∙ rest both.1
           ∙ sym (ap (λ (l : List Entry). without_mark e.digest (digests_in l)) (cond-false (test x) (x ∷ filter test xs) (filter test xs) is))
@@ -103,7 +107,8 @@ module _ (test : Entry → Bool) where
           ∙ ap passing stays
           ∙ ap digests_in (sym (cond-false (test x) (x ∷ filter test xs) (filter test xs) two))
 
-      behind : (b : Bool) → passing (with_replaced e xs) ≡ passing xs → digests_in (cond b (x ∷ filter test (with_replaced e xs)) (filter test (with_replaced e xs))) ≡ digests_in (cond b (x ∷ filter test xs) (filter test xs))
+      behind : (b : Bool) → passing (with_replaced e xs) ≡ passing xs
+          → digests_in (cond b (x ∷ filter test (with_replaced e xs)) (filter test (with_replaced e xs))) ≡ digests_in (cond b (x ∷ filter test xs) (filter test xs))
       behind true rest = ap (λ (l : List Digest). x.digest ∷ l) rest
       behind false rest = rest
 

@@ -37,10 +37,12 @@ use Rattle.law_sprig.proofs.Marking.{all_fail, done_fits}
 ended_none : (raid : RaidState) (es : List Entry) → AllByRecursion (λ e. has_mark raid e ≡ false) es → raid_ended raid es ≡ es
 ended_none raid [] all = refl
 ended_none raid (e ∷ es) all =
-    ap (λ (o : Option Entry). cons_option o (raid_ended raid es)) (cond-false (has_mark raid e) (cond (is_tombstone_entry e) None (Some (without_cover e))) (Some e) all.0) ∙ ap (λ (l : List Entry). e ∷ l) (ended_none raid es all.1)
+    ap (λ (o : Option Entry). cons_option o (raid_ended raid es)) (cond-false (has_mark raid e) (cond (is_tombstone_entry e) None (Some (without_cover e))) (Some e) all.0)
+    ∙ ap (λ (l : List Entry). e ∷ l) (ended_none raid es all.1)
 
 -- a marked tombstone goes once
-ended_without : (raid : RaidState) (d : Digest) (e : Entry) (es : List Entry) → IsInDigestOrder es → entry_of d es ≡ Some e → ended_entry raid e ≡ None → raid_ended raid (without_digest d es) ≡ raid_ended raid es
+ended_without : (raid : RaidState) (d : Digest) (e : Entry) (es : List Entry) → IsInDigestOrder es → entry_of d es ≡ Some e → ended_entry raid e ≡ None
+    → raid_ended raid (without_digest d es) ≡ raid_ended raid es
 ended_without raid d e [] order found goes = refl
 ended_without raid d e (x ∷ xs) order found goes = by (same_digest d x.digest) refl found (λ more. ended_without raid d e xs (order_rest x xs order) more goes)
   where
@@ -53,7 +55,8 @@ ended_without raid d e (x ∷ xs) order found goes = by (same_digest d x.digest)
     by false other more rest = ap (cons_option (ended_entry raid x)) (rest more)
 
 -- and a marked put loses its flag once
-ended_replaced : (raid : RaidState) (e to : Entry) (es : List Entry) → to.digest ≡ e.digest → IsInDigestOrder es → entry_of e.digest es ≡ Some e → ended_entry raid e ≡ Some to → ended_entry raid to ≡ Some to
+ended_replaced : (raid : RaidState) (e to : Entry) (es : List Entry) → to.digest ≡ e.digest → IsInDigestOrder es → entry_of e.digest es ≡ Some e → ended_entry raid e ≡ Some to
+    → ended_entry raid to ≡ Some to
     → raid_ended raid (with_replaced to es) ≡ raid_ended raid es
 ended_replaced raid e to [] name order found was now = refl
 ended_replaced raid e to (x ∷ xs) name order found was now = by (same_digest to.digest x.digest) refl (λ more. ended_replaced raid e to xs name (order_rest x xs order) more was now)
@@ -61,7 +64,8 @@ ended_replaced raid e to (x ∷ xs) name order found was now = by (same_digest t
     key : same_digest e.digest x.digest ≡ same_digest to.digest x.digest
     key = ap (λ (d : Digest). same_digest d x.digest) (sym name)
 
-    by : (b : Bool) → same_digest to.digest x.digest ≡ b → (entry_of e.digest xs ≡ Some e → raid_ended raid (with_replaced to xs) ≡ raid_ended raid xs) → raid_ended raid (cond b to x ∷ with_replaced to xs) ≡ raid_ended raid (x ∷ xs)
+    by : (b : Bool) → same_digest to.digest x.digest ≡ b → (entry_of e.digest xs ≡ Some e → raid_ended raid (with_replaced to xs) ≡ raid_ended raid xs)
+        → raid_ended raid (cond b to x ∷ with_replaced to xs) ≡ raid_ended raid (x ∷ xs)
     by true same rest =
         let one : x ≡ e = some_same x e (sym (cond-true (same_digest e.digest x.digest) (Some x) (entry_of e.digest xs) (key ∙ same)) ∙ found) in
         let absent = ap (λ (d : Digest). entry_of d xs) (same_digest_is to.digest x.digest same) ∙ entry_of_above x.digest xs (order_first x xs order) in
@@ -119,7 +123,8 @@ no_higher a b le = omega arith
 
 module _ (setup : Setup) (part : ℕ) (s : State) where
   -- the marked digests, one after another
-  ending : (digests : List Digest) (t : State) (old new : SprigState) → digests_in (filter (has_mark t.raid) old.entries) ≡ digests → AreInOrder digests → AreAsBefore s t digests → t.raid.next ≡ drop_turn part
+  ending : (digests : List Digest) (t : State) (old new : SprigState) → digests_in (filter (has_mark t.raid) old.entries) ≡ digests → AreInOrder digests → AreAsBefore s t digests
+      → t.raid.next ≡ drop_turn part
       → new.entries ≡ raid_ended t.raid old.entries → new.hw ≡ old.hw → FitsPart setup part old t → FitsPart setup part new (after_steps setup (map (drop_step s) digests ++ done_part part ∷ []) t)
   unfolding after_step
   ending [] t old new marked order same at entries high fits =
@@ -134,7 +139,8 @@ module _ (setup : Setup) (part : ℕ) (s : State) where
     where
       Rest : State → SprigState → Type 0
       Rest next mid = digests_in (filter (has_mark next.raid) mid.entries) ≡ digests → AreInOrder digests → AreAsBefore s next digests → next.raid.next ≡ drop_turn part
-          → new.entries ≡ raid_ended next.raid mid.entries → new.hw ≡ mid.hw → FitsPart setup part mid next → FitsPart setup part new (after_steps setup (map (drop_step s) digests ++ done_part part ∷ []) next)
+          → new.entries ≡ raid_ended next.raid mid.entries → new.hw ≡ mid.hw → FitsPart setup part mid next
+          → FitsPart setup part new (after_steps setup (map (drop_step s) digests ++ done_part part ∷ []) next)
 
       Goal : Bool → Type 0
       Goal b = FitsPart setup part new (after_steps setup (cond b (rid_of d) (uncovered d) ∷ (map (drop_step s) digests ++ done_part part ∷ [])) t)
@@ -154,7 +160,8 @@ module _ (setup : Setup) (part : ℕ) (s : State) where
           let name = entry_of-digest d old.entries e found in
           let off = no_mark setup part old.entries t.raid to refl fits.marks in
           rest (after_step setup (uncovered d) t) mid
-          (passing_replaced (has_mark t.raid) to old.entries off ∙ ap (λ (k : Digest). without_mark k (digests_in (filter (has_mark t.raid) old.entries))) name ∙ ap (without_mark d) marked ∙ rest_left d digests order)
+          (passing_replaced (has_mark t.raid) to old.entries off ∙ ap (λ (k : Digest). without_mark k (digests_in (filter (has_mark t.raid) old.entries))) name ∙ ap (without_mark d) marked
+          ∙ rest_left d digests order)
           (order_behind d digests order) (others_same s t d cleared t.book digests (below_first d digests order) same.1) at
           (entries ∙ sym (ended_replaced t.raid e to old.entries refl fits.entries.order (ap (λ (k : Digest). entry_of k old.entries) name ∙ found)
           (cond-true (has_mark t.raid e) (cond (is_tombstone_entry e) None (Some to)) (Some e) on ∙ cond-false (is_tombstone_entry e) None (Some to) put)
@@ -175,7 +182,8 @@ module _ (setup : Setup) (part : ℕ) (s : State) where
   dropped_fits old new at entries high fits =
       let marked = marked_are setup part old s fits.entries fits.marks in
       subst (λ (l : List Digest). FitsPart setup part new (after_steps setup (map (drop_step s) l ++ done_part part ∷ []) s)) (sym marked)
-      (ending (digests_in (filter (has_mark s.raid) old.entries)) s old new refl (order-filtered (has_mark s.raid) old.entries fits.entries.order) (all_same (digests_in (filter (has_mark s.raid) old.entries))) at entries high fits)
+      (ending (digests_in (filter (has_mark s.raid) old.entries)) s old new refl (order-filtered (has_mark s.raid) old.entries fits.entries.order)
+      (all_same (digests_in (filter (has_mark s.raid) old.entries))) at entries high fits)
     where
       all_same : (xs : List Digest) → AreAsBefore s s xs
       all_same [] = tt

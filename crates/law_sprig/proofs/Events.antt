@@ -10,8 +10,11 @@ use Rattle.rec_format.specs.Places.{same_digest}
 use Rattle.rec_format.specs.Versions.{version_units, a_tombstone, is_tombstone, is_expired_put, top_number}
 use Rattle.model_device.specs.Book.{Setup, Buffer, Stream, client, defrag, Phase, filling, sealed, opening, has_room, Live, live_of, placing_number, is_filling, filling_buffer}
 use Rattle.model_device.specs.Device.{State, Turn, mark_turn, scan_turn, apply_turn, drop_turn, finished, entry, entry_is_covered, entry_passes, seen, next_stamp_of, part_of, digests_of as logged}
-use Rattle.model_device.specs.Steps.{Step, wrote, moved, removed, rid_of, uncovered, sealed_stream, gate_begun, flushed_buffer, closing_failed, raid_begun, raid_given_up, marked_part, scanned_block, compared_part, done_part, after_step, after_steps}
-use Rattle.model_device.specs.Events.{Call, put_call, bury_call, delete_call, expire_call, get_call, flush_call, flush_sealed_call, flush_next_call, choose_call, move_call, begin_call, turn_call, Cause, Answer, stamp_given, happened, raid_numbered, refused, stale, Event, after_event}
+use Rattle.model_device.specs.Steps.{Step, wrote, moved, removed, rid_of, uncovered, sealed_stream, gate_begun, flushed_buffer, closing_failed, raid_begun}
+use Rattle.model_device.specs.Steps.{raid_given_up, marked_part, scanned_block, compared_part, done_part, after_step, after_steps}
+use Rattle.model_device.specs.Events.{Call, put_call, bury_call, delete_call, expire_call, get_call, flush_call, flush_sealed_call, flush_next_call}
+use Rattle.model_device.specs.Events.{choose_call, move_call, begin_call, turn_call, Cause, Answer, stamp_given, happened, raid_numbered, refused, stale, Event}
+use Rattle.model_device.specs.Events.{after_event}
 use Rattle.model_device.specs.Passes
 use Rattle.model_device.specs.Legal
 use Rattle.sprig_tree.specs.State.{SprigState}
@@ -114,22 +117,28 @@ all_of_part setup other test (x ∷ xs) = by (part_of setup x == other) refl (te
     inner : List Digest
     inner = filter (λ d. (part_of setup d == other) && test d) xs
 
-    by : (a : Bool) → (part_of setup x == other) ≡ a → (b : Bool) → AllByRecursion (λ d. part_of setup d ≡ other) inner → AllByRecursion (λ d. part_of setup d ≡ other) (cond (a && b) (x ∷ inner) inner)
+    by : (a : Bool) → (part_of setup x == other) ≡ a → (b : Bool) → AllByRecursion (λ d. part_of setup d ≡ other) inner
+        → AllByRecursion (λ d. part_of setup d ≡ other) (cond (a && b) (x ∷ inner) inner)
     by true is true rest = (eqb-true (part_of setup x) other is, rest)
     by true is false rest = rest
     by false is b rest = rest
 
-all_logged : (setup : Setup) (other : ℕ) (test : Digest → Bool) (s : State) → AllByRecursion (λ d. has_digest (logged s.log) d ≡ true) (filter (λ d. (part_of setup d == other) && test d) (logged s.log))
+all_logged : (setup : Setup) (other : ℕ) (test : Digest → Bool) (s : State)
+    → AllByRecursion (λ d. has_digest (logged s.log) d ≡ true) (filter (λ d. (part_of setup d == other) && test d) (logged s.log))
 all_logged setup other test s = each (logged s.log) (λ d there. there)
   where
-    each : (xs : List Digest) → ((d : Digest) → has_digest xs d ≡ true → has_digest (logged s.log) d ≡ true) → AllByRecursion (λ d. has_digest (logged s.log) d ≡ true) (filter (λ d. (part_of setup d == other) && test d) xs)
+    each : (xs : List Digest) → ((d : Digest) → has_digest xs d ≡ true → has_digest (logged s.log) d ≡ true)
+        → AllByRecursion (λ d. has_digest (logged s.log) d ≡ true) (filter (λ d. (part_of setup d == other) && test d) xs)
     each [] there = tt
     each (x ∷ xs) there =
-        cond_both ((part_of setup x == other) && test x) (x ∷ filter (λ d. (part_of setup d == other) && test d) xs) (filter (λ d. (part_of setup d == other) && test d) xs) (AllByRecursion (λ d. has_digest (logged s.log) d ≡ true))
-        (λ _. (there x (first_among x xs), each xs (λ d more. there d (or_right (same_digest d x) (has_digest xs d) more)))) (λ _. each xs (λ d more. there d (or_right (same_digest d x) (has_digest xs d) more)))
+        cond_both ((part_of setup x == other) && test x) (x ∷ filter (λ d. (part_of setup d == other) && test d) xs) (filter (λ d. (part_of setup d == other) && test d) xs)
+        (AllByRecursion (λ d. has_digest (logged s.log) d ≡ true))
+        (λ _. (there x (first_among x xs), each xs (λ d more. there d (or_right (same_digest d x) (has_digest xs d) more))))
+        (λ _. each xs (λ d more. there d (or_right (same_digest d x) (has_digest xs d) more)))
 
 -- the marked entries of a part go, and then that part is done
-drops_are : (setup : Setup) (first : State) (call : Call) (part : ℕ) → Passes.part_named setup call ≡ Some part → digest_named call ≡ None → (t : State) (digests : List Digest) → t.raid.next ≡ drop_turn part
+drops_are : (setup : Setup) (first : State) (call : Call) (part : ℕ) → Passes.part_named setup call ≡ Some part → digest_named call ≡ None → (t : State) (digests : List Digest)
+    → t.raid.next ≡ drop_turn part
     → AllByRecursion (λ d. part_of setup d ≡ part) digests → AllByRecursion (λ d. has_digest (logged first.log) d ≡ true) digests
     → AreStepsOf setup first call t (map (Legal.drop_step first) digests ++ done_part part ∷ [])
 unfolding after_step
@@ -215,7 +224,8 @@ module _ (setup : Setup) (told : Bool) (s : State) (event : Event) (call : Call)
   turn_ends (apply_turn part) now at names alone ends = subst (AreStepsOf setup s call s) (sym ends.1) ((names, at), tt)
   turn_ends (drop_turn part) now at names alone ends =
       subst (AreStepsOf setup s call s) (sym ends.1)
-      (drops_are setup s call part names alone s (Legal.marked_in setup part s) at (all_of_part setup part (has_digest s.raid.marked) (logged s.log)) (all_logged setup part (has_digest s.raid.marked) s))
+      (drops_are setup s call part names alone s (Legal.marked_in setup part s) at (all_of_part setup part (has_digest s.raid.marked) (logged s.log))
+      (all_logged setup part (has_digest s.raid.marked) s))
   turn_ends finished now at names alone is = no_steps is.1
 
   turns : (number : ℕ) (turn : Turn) (now : ℕ) → Passes.part_named setup call ≡ Passes.turn_part turn → digest_named call ≡ None → Legal.Allowed setup told s event (turn_call number turn now) → Made
@@ -252,11 +262,13 @@ module _ (setup : Setup) (told : Bool) (s : State) (event : Event) (call : Call)
       made (inr (inr (inl fails))) = no_steps fails.1
       made (inr (inr (inr closing))) = by_book (subst AreOfBook (sym closing.1.1) (refl, tt))
 
-      by : (b : Bool) → MatchBool b (Legal.NoMemory event ⊎ Legal.Unless event (Legal.no_place setup defrag Legal.move_reserve (Legal.live_units copy) s.book) Ends) (Legal.Only event (happened false)) → Made
+      by : (b : Bool) → MatchBool b (Legal.NoMemory event ⊎ Legal.Unless event (Legal.no_place setup defrag Legal.move_reserve (Legal.live_units copy) s.book) Ends)
+          (Legal.Only event (happened false)) → Made
       by true ends = ⊎_elim (λ (memory : Legal.NoMemory event). no_steps memory.1) (unless (Legal.no_place setup defrag Legal.move_reserve (Legal.live_units copy) s.book) Ends made) ends
       by false ends = no_steps ends.1
 
-  puts : (digest : Digest) (ttl : ℕ) (expect : Option ℕ) (payload : List ℕ) (now : ℕ) → digest_named call ≡ Some digest → Legal.Allowed setup told s event (put_call digest ttl expect payload now) → Made
+  puts : (digest : Digest) (ttl : ℕ) (expect : Option ℕ) (payload : List ℕ) (now : ℕ) → digest_named call ≡ Some digest
+      → Legal.Allowed setup told s event (put_call digest ttl expect payload now) → Made
   puts digest ttl expect payload now names (inl memory) = no_steps memory.1
   puts digest ttl expect payload now names (inr rest) =
       let v = Legal.new_put setup s digest ttl payload now in
@@ -283,7 +295,8 @@ module _ (setup : Setup) (told : Bool) (s : State) (event : Event) (call : Call)
 
   flushes : Legal.Allowed setup told s event flush_call → Made
   flushes ends =
-      by_book (flush_ends event (Legal.seal_all s.book) _ (both_seals (is_some (filling_buffer client s.book.buffers)) (is_some (filling_buffer defrag s.book.buffers))) (each_of_book (after_steps setup (Legal.seal_all s.book) s).book.buffers) ends)
+      by_book (flush_ends event (Legal.seal_all s.book) _ (both_seals (is_some (filling_buffer client s.book.buffers)) (is_some (filling_buffer defrag s.book.buffers)))
+      (each_of_book (after_steps setup (Legal.seal_all s.book) s).book.buffers) ends)
 
   flushes_sealed : Legal.Allowed setup told s event flush_sealed_call → Made
   flushes_sealed ends = by_book (flush_ends event (Legal.seal_low setup s.book) _ (both_seals _ _) (each_of_book (after_steps setup (Legal.seal_low setup s.book) s).book.buffers) ends)

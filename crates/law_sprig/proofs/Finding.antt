@@ -45,7 +45,8 @@ first_among : (d : Digest) (found : List Copy) (c : Copy) → first_named found 
 first_among d [] c is = absurd cc
 first_among d (x ∷ found) c is = by (same_digest d x.digest) refl is (λ more. first_among d found c more)
   where
-    by : (b : Bool) → same_digest d x.digest ≡ b → cond b (Some x) (first_named found d) ≡ Some c → (first_named found d ≡ Some c → Contains found c × (same_digest d c.digest ≡ true)) → Contains (x ∷ found) c × (same_digest d c.digest ≡ true)
+    by : (b : Bool) → same_digest d x.digest ≡ b → cond b (Some x) (first_named found d) ≡ Some c → (first_named found d ≡ Some c → Contains found c × (same_digest d c.digest ≡ true))
+        → Contains (x ∷ found) c × (same_digest d c.digest ≡ true)
     by true same here rest = let one : x ≡ c = cc in (subst (Contains (x ∷ found)) one (first_there x found), ap (λ (y : Copy). same_digest d y.digest) (sym one) ∙ same)
     by false other more rest = let r = rest more in (rest_there x found c r.0, r.1)
 
@@ -57,9 +58,11 @@ module _ (setup : Setup) (part : ℕ) (copies found : List Copy) (latest_first :
   -- a copy has a latest of its digest, which isn't earlier
   later_found : (c : Copy) → Contains copies c → part_of setup c.digest ≡ part → c.version.stamp.lut ≤ copies_high setup part found
   later_found c there mine = by (cold_copy c.digest copies) refl
-      (subst (Contains (copies_named c.digest copies)) refl (filter_there (λ (x : Copy). same_digest c.digest x.digest) copies c (same_digest_refl c.digest) there)) (latest_is (copies_named c.digest copies))
+      (subst (Contains (copies_named c.digest copies)) refl (filter_there (λ (x : Copy). same_digest c.digest x.digest) copies c (same_digest_refl c.digest) there))
+      (latest_is (copies_named c.digest copies))
     where
-      by : (o : Option Copy) → cold_copy c.digest copies ≡ o → Contains (copies_named c.digest copies) c → IfSome (cold_copy c.digest copies) (IsNewest (copies_named c.digest copies)) → c.version.stamp.lut ≤ copies_high setup part found
+      by : (o : Option Copy) → cold_copy c.digest copies ≡ o → Contains (copies_named c.digest copies) c → IfSome (cold_copy c.digest copies) (IsNewest (copies_named c.digest copies))
+          → c.version.stamp.lut ≤ copies_high setup part found
       by None is named newest = absurd (no_copy (copies_named c.digest copies) c named is)
       by (Some x) is named newest =
           let last = (subst (λ (o : Option Copy). IfSome o (IsNewest (copies_named c.digest copies))) is newest).last in
@@ -70,8 +73,11 @@ module _ (setup : Setup) (part : ℕ) (copies found : List Copy) (latest_first :
 
   same_high : copies_high setup part found ≡ copies_high setup part copies
   same_high =
-      let up = high_within setup part (copies_high setup part copies) found (all_map (Contains copies) (λ c. part_of setup c.digest ≡ part → c.version.stamp.lut ≤ copies_high setup part copies) found (λ c there mine. time_of_copy setup part copies c there mine) among) in
-      let down = high_within setup part (copies_high setup part found) copies (all_from (λ c. part_of setup c.digest ≡ part → c.version.stamp.lut ≤ copies_high setup part found) copies (λ c there mine. later_found c there mine)) in
+      let up = high_within setup part (copies_high setup part copies) found
+      (all_map (Contains copies) (λ c. part_of setup c.digest ≡ part → c.version.stamp.lut ≤ copies_high setup part copies) found
+      (λ c there mine. time_of_copy setup part copies c there mine) among) in
+      let down = high_within setup part (copies_high setup part found) copies
+      (all_from (λ c. part_of setup c.digest ≡ part → c.version.stamp.lut ≤ copies_high setup part found) copies (λ c there mine. later_found c there mine)) in
       omega (arith, up, down)
 
   -- The latest copies, one for each digest, are the entries that were found, whether the image was sound or not.

@@ -110,7 +110,8 @@ pub live_gone : (digest : Digest) (live : List Live) → live_of digest (without
 live_gone digest [] = refl
 live_gone digest (l ∷ live) = by (same_digest digest l.digest) refl (live_gone digest live)
   where
-    by : (c : Bool) → same_digest digest l.digest ≡ c → live_of digest (without_live digest live) ≡ None → live_of digest (cond (not c) (l ∷ without_live digest live) (without_live digest live)) ≡ None
+    by : (c : Bool) → same_digest digest l.digest ≡ c → live_of digest (without_live digest live) ≡ None
+        → live_of digest (cond (not c) (l ∷ without_live digest live) (without_live digest live)) ≡ None
     by true same rest = rest
     by false other rest = cond-false (same_digest digest l.digest) (Some l) (live_of digest (without_live digest live)) other ∙ rest
 
@@ -121,13 +122,16 @@ room_live setup stream units book = by (has_room setup stream units book)
     by true = refl
     by false = refl
 
-put_in_other : (setup : Setup) (d digest : Digest) (units : ℕ) (book : Book) (o : Option Buffer) → same_digest d digest ≡ false → live_of d (put_in setup digest units book o).live ≡ live_of d book.live
+put_in_other : (setup : Setup) (d digest : Digest) (units : ℕ) (book : Book) (o : Option Buffer) → same_digest d digest ≡ false
+    → live_of d (put_in setup digest units book o).live ≡ live_of d book.live
 unfolding refreshed
 put_in_other setup d digest units book None other = refl
 put_in_other setup d digest units book (Some b) other =
-    cond-false (same_digest d digest) (Some (record { digest = digest; block = b.block; unit = b.used; units = units })) (live_of d (without_live digest book.live)) other ∙ live_other d digest book.live other
+    cond-false (same_digest d digest) (Some (record { digest = digest; block = b.block; unit = b.used; units = units })) (live_of d (without_live digest book.live)) other
+    ∙ live_other d digest book.live other
 
-pub placed_other : (setup : Setup) (stream : Stream) (d digest : Digest) (units : ℕ) (book : Book) → same_digest d digest ≡ false → live_of d (placed setup stream digest units book).live ≡ live_of d book.live
+pub placed_other : (setup : Setup) (stream : Stream) (d digest : Digest) (units : ℕ) (book : Book) → same_digest d digest ≡ false
+    → live_of d (placed setup stream digest units book).live ≡ live_of d book.live
 unfolding placed
 placed_other setup stream d digest units book other =
     let ready = with_room setup stream units book in

@@ -35,7 +35,8 @@ module _ (setup : Setup) (part : ℕ) (sprig : SprigState) (s : State) (h : HasE
   pub cover_is : entry_is_covered s d ≡ cover_of (entry_of d sprig.entries)
   cover_is = by (entry_of d sprig.entries) (entry_is setup part sprig s h d mine)
     where
-      by : (o : Option Entry) → MatchOption o ((entry s d ≡ None) × (entry_is_covered s d ≡ false)) (λ e. (v : Version) × (entry s d ≡ Some v) × Names e v × (entry_is_covered s d ≡ e.cover)) → entry_is_covered s d ≡ cover_of o
+      by : (o : Option Entry) → MatchOption o ((entry s d ≡ None) × (entry_is_covered s d ≡ false)) (λ e. (v : Version) × (entry s d ≡ Some v) × Names e v × (entry_is_covered s d ≡ e.cover))
+          → entry_is_covered s d ≡ cover_of o
       by None says = says.1
       by (Some e) says = says.3
 

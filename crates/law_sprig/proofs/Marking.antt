@@ -50,7 +50,8 @@ passing_remarked test m [] = refl
 passing_remarked test m (e ∷ es) = by (test (with_mark (m e) e)) (passing_remarked test m es)
   where
     by : (b : Bool) → digests_in (filter test (remarked m es)) ≡ digests_in (filter (λ e. test (with_mark (m e) e)) es)
-        → digests_in (cond b (with_mark (m e) e ∷ filter test (remarked m es)) (filter test (remarked m es))) ≡ digests_in (cond b (e ∷ filter (λ e. test (with_mark (m e) e)) es) (filter (λ e. test (with_mark (m e) e)) es))
+        → digests_in (cond b (with_mark (m e) e ∷ filter test (remarked m es)) (filter test (remarked m es)))
+        ≡ digests_in (cond b (e ∷ filter (λ e. test (with_mark (m e) e)) es) (filter (λ e. test (with_mark (m e) e)) es))
     by true rest = ap (λ (l : List Digest). e.digest ∷ l) rest
     by false rest = rest
 
@@ -114,7 +115,8 @@ part_again setup part test (x ∷ xs) = by (part_of setup x == part) refl (test 
     inner : List Digest
     inner = filter (λ d. (part_of setup d == part) && test d) xs
 
-    by : (a : Bool) → (part_of setup x == part) ≡ a → (b : Bool) → filter (λ d. part_of setup d == part) inner ≡ inner → filter (λ d. part_of setup d == part) (cond (a && b) (x ∷ inner) inner) ≡ cond (a && b) (x ∷ inner) inner
+    by : (a : Bool) → (part_of setup x == part) ≡ a → (b : Bool) → filter (λ d. part_of setup d == part) inner ≡ inner
+        → filter (λ d. part_of setup d == part) (cond (a && b) (x ∷ inner) inner) ≡ cond (a && b) (x ∷ inner) inner
     by true is true rest =
         cond-true (part_of setup x == part) (x ∷ filter (λ d. part_of setup d == part) inner) (filter (λ d. part_of setup d == part) inner) is ∙ ap (λ (l : List Digest). x ∷ l) rest
     by true is false rest = rest
@@ -138,7 +140,8 @@ none_marked setup part es raid at h =
 
 -- A part is marked: the entries that a raid may take away have its number as their mark, and the others have what they had.
 pub marked_fits : (setup : Setup) (part now : ℕ) (old new : SprigState) (s : State) → s.raid.next ≡ mark_turn part
-    → new.entries ≡ remarked (mark_given setup.raid_age now s.raid.number) old.entries → new.hw ≡ old.hw → FitsPart setup part old s → FitsPart setup part new (after_step setup (marked_part part now) s)
+    → new.entries ≡ remarked (mark_given setup.raid_age now s.raid.number) old.entries → new.hw ≡ old.hw → FitsPart setup part old s
+    → FitsPart setup part new (after_step setup (marked_part part now) s)
 unfolding after_step
 marked_fits setup part now old new s at entries high fits = fits_remarked setup part old new s r m entries high marks fits
   where
@@ -177,7 +180,8 @@ marked_fits setup part now old new s at entries high fits = fits_remarked setup 
 
     marks : HasMarks setup part (remarked m old.entries) r
     marks = record {
-      most = each_remarked m s.raid.number old.entries (each_of (λ e. e.mark ≤ s.raid.number) (λ e. m e ≤ s.raid.number) old.entries (λ e le. cond_both (eligible e) s.raid.number e.mark (λ n. n ≤ s.raid.number) (λ _. omega arith) (λ _. le)) fits.marks.most);
+      most = each_remarked m s.raid.number old.entries (each_of (λ e. e.mark ≤ s.raid.number) (λ e. m e ≤ s.raid.number) old.entries
+          (λ e le. cond_both (eligible e) s.raid.number e.mark (λ n. n ≤ s.raid.number) (λ _. omega arith) (λ _. le)) fits.marks.most);
       marked =
           filter-append (λ d. part_of setup d == part) (eligible_in setup now part s) (filter (λ d. not (part_of setup d == part)) s.raid.marked)
           ∙ ap (λ (l : List Digest). filter (λ d. part_of setup d == part) (eligible_in setup now part s) ++ l) (part_out setup part s.raid.marked)
@@ -193,7 +197,8 @@ marked_fits setup part now old new s at entries high fits = fits_remarked setup 
     }
 
 -- and so many are marked
-pub marks_made_are : (setup : Setup) (part now : ℕ) (sprig : SprigState) (s : State) → HasEntries setup part sprig s → length (eligible_in setup now part s) ≡ count_by (is_eligible_entry setup.raid_age now) sprig.entries
+pub marks_made_are : (setup : Setup) (part now : ℕ) (sprig : SprigState) (s : State) → HasEntries setup part sprig s
+    → length (eligible_in setup now part s) ≡ count_by (is_eligible_entry setup.raid_age now) sprig.entries
 marks_made_are setup part now sprig s h =
     let eligible = is_eligible_entry setup.raid_age now in
     ap length (eligible_are setup part sprig s h now) ∙ length-map (filter eligible sprig.entries) (λ (e : Entry). e.digest) ∙ length-filter eligible sprig.entries
@@ -209,7 +214,8 @@ digests_filtered q mine p (e ∷ es) all = by (p e) (digests_filtered q mine p e
     inner : List Entry
     inner = filter (λ e. p e && mine e) es
 
-    kept : (b : Bool) → filter q (digests_in (filter p es)) ≡ digests_in inner → cond b (e.digest ∷ filter q (digests_in (filter p es))) (filter q (digests_in (filter p es))) ≡ digests_in (cond b (e ∷ inner) inner)
+    kept : (b : Bool) → filter q (digests_in (filter p es)) ≡ digests_in inner
+        → cond b (e.digest ∷ filter q (digests_in (filter p es))) (filter q (digests_in (filter p es))) ≡ digests_in (cond b (e ∷ inner) inner)
     kept true rest = ap (λ (l : List Digest). e.digest ∷ l) rest
     kept false rest = rest
 
@@ -224,10 +230,12 @@ module _ (setup : Setup) (part : ℕ) (sprig : SprigState) (s : State) (h : HasE
   -- an entry has an older found copy where its digest has
   older_same : AllByRecursion (λ e. has_older s mine e.digest ≡ has_older_copy mine e) sprig.entries
   older_same = each_entry (λ e. has_older s mine e.digest ≡ has_older_copy mine e) sprig.entries h.order
-      (λ d e found. let is = found_shown setup part sprig s d e h found in subst (λ (x : Digest). has_older s mine x ≡ list_any (λ f. same_digest x f.0 && is_later_stamp e.stamp f.1) mine) (sym (entry_of-digest d sprig.entries e found)) (same d e is.1))
+      (λ d e found. let is = found_shown setup part sprig s d e h found in subst (λ (x : Digest). has_older s mine x ≡ list_any (λ f. same_digest x f.0 && is_later_stamp e.stamp f.1) mine)
+      (sym (entry_of-digest d sprig.entries e found)) (same d e is.1))
     where
       same : (d : Digest) (e : Entry) → IsShown s d e → has_older s mine d ≡ list_any (λ f. same_digest d f.0 && is_later_stamp e.stamp f.1) mine
-      same d e is = (λ i. list_any (λ f. same_digest d f.0 && is_older_than (stamp_of (is.top i)) f.1) mine) ∙ (λ i. list_any (λ f. same_digest d f.0 && is_later_stamp (sym is.names.stamp i) f.1) mine)
+      same d e is = (λ i. list_any (λ f. same_digest d f.0 && is_older_than (stamp_of (is.top i)) f.1) mine)
+          ∙ (λ i. list_any (λ f. same_digest d f.0 && is_later_stamp (sym is.names.stamp i) f.1) mine)
 
 -- The found copies of a part are compared: an entry with an older one loses its mark.
 pub compared_fits : (setup : Setup) (part : ℕ) (old new : SprigState) (s : State) → s.raid.next ≡ apply_turn part
@@ -257,7 +265,8 @@ compared_fits setup part old new s at entries high fits = fits_remarked setup pa
     least = fits.marks.begun was_running
 
     keeps : (e : Entry) → has_mark r (with_mark (m e) e) ≡ (has_mark s.raid e && not (has_older_copy found e))
-    keeps e = ap (λ (b : Bool). b && (m e == s.raid.number)) running ∙ by (has_older_copy found e) ∙ ap (λ (b : Bool). (b && (e.mark == s.raid.number)) && not (has_older_copy found e)) (sym was_running)
+    keeps e = ap (λ (b : Bool). b && (m e == s.raid.number)) running ∙ by (has_older_copy found e)
+        ∙ ap (λ (b : Bool). (b && (e.mark == s.raid.number)) && not (has_older_copy found e)) (sym was_running)
       where
         nothing : (b : Bool) → false ≡ (b && false)
         nothing true = refl
@@ -273,12 +282,14 @@ compared_fits setup part old new s at entries high fits = fits_remarked setup pa
 
     marks : HasMarks setup part (remarked m old.entries) r
     marks = record {
-      most = each_remarked m s.raid.number old.entries (each_of (λ e. e.mark ≤ s.raid.number) (λ e. m e ≤ s.raid.number) old.entries (λ e le. cond_both (has_older_copy found e) 0 e.mark (λ n. n ≤ s.raid.number) (λ _. omega arith) (λ _. le)) fits.marks.most);
+      most = each_remarked m s.raid.number old.entries (each_of (λ e. e.mark ≤ s.raid.number) (λ e. m e ≤ s.raid.number) old.entries
+          (λ e le. cond_both (has_older_copy found e) 0 e.mark (λ n. n ≤ s.raid.number) (λ _. omega arith) (λ _. le)) fits.marks.most);
       marked =
           swapped (λ d. part_of setup d == part) (λ d. not (has_older s found d)) s.raid.marked
           ∙ ap (filter (λ d. not (has_older s found d))) fits.marks.marked
           ∙ digests_filtered (λ d. not (has_older s found d)) (λ e. not (has_older_copy found e)) (has_mark s.raid) old.entries
-          (each_of (λ e. has_older s found e.digest ≡ has_older_copy found e) (λ e. not (has_older s found e.digest) ≡ not (has_older_copy found e)) old.entries (λ e same. ap not same) (older_same setup part old s fits.entries))
+          (each_of (λ e. has_older s found e.digest ≡ has_older_copy found e) (λ e. not (has_older s found e.digest) ≡ not (has_older_copy found e)) old.entries (λ e same. ap not same)
+          (older_same setup part old s fits.entries))
           ∙ sym (passing_remarked (has_mark r) m old.entries
           ∙ ap digests_in (filter_alike (λ e. has_mark r (with_mark (m e) e)) (λ e. has_mark s.raid e && not (has_older_copy found e)) old.entries
           (each_of (λ e. e.mark ≤ s.raid.number) (λ e. has_mark r (with_mark (m e) e) ≡ (has_mark s.raid e && not (has_older_copy found e))) old.entries (λ e _. keeps e) fits.marks.most)));
@@ -319,7 +330,8 @@ done_fits setup part sprig s at unmarked fits = record {
   entries = entries_alike setup part sprig s (after_step setup (done_part part) s) (λ digest _. record { top = refl; cover = refl; place = refl }) refl fits.entries;
   marks = record {
     most = fits.marks.most;
-    marked = none ∙ none_pass (has_mark (after_step setup (done_part part) s).raid) sprig.entries (each_of (λ e. has_mark s.raid e ≡ false) (λ e. has_mark (after_step setup (done_part part) s).raid e ≡ false) sprig.entries still unmarked);
+    marked = none ∙ none_pass (has_mark (after_step setup (done_part part) s).raid) sprig.entries
+        (each_of (λ e. has_mark s.raid e ≡ false) (λ e. has_mark (after_step setup (done_part part) s).raid e ≡ false) sprig.entries still unmarked);
     turn = λ _. none;
     begun = λ _. fits.marks.begun (ap is_running at);
     last = fits.marks.last;

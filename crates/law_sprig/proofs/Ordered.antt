@@ -160,7 +160,8 @@ among_entries test d (e ∷ es) order = by (test e) refl (same_digest d e.digest
 
 below_filtered : (test : Entry → Bool) (d : Digest) (es : List Entry) → IsBelowAll d (digests_in es) → IsBelowAll d (digests_in (filter test es))
 below_filtered test d [] below = tt
-below_filtered test d (e ∷ es) below = cond_both (test e) (e ∷ filter test es) (filter test es) (λ l. IsBelowAll d (digests_in l)) (λ _. (below.0, below_filtered test d es below.1)) (λ _. below_filtered test d es below.1)
+below_filtered test d (e ∷ es) below = cond_both (test e) (e ∷ filter test es) (filter test es) (λ l. IsBelowAll d (digests_in l)) (λ _. (below.0, below_filtered test d es below.1))
+    (λ _. below_filtered test d es below.1)
 
 pub order-filtered : (test : Entry → Bool) (es : List Entry) → IsInDigestOrder es → IsInDigestOrder (filter test es)
 unfolding IsStrictlySortedBy

@@ -16,14 +16,16 @@ use Rattle.law_sprig.proofs.Showing.{expired_is}
 
 module _ (setup : Setup) (part : ℕ) (told : Bool) where
   -- its sprig fits on
-  pub fits_along : (s : State) (faults : ℕ) (events : List Event) (sprig : SprigState) → AllByRecursion (λ e. part_named setup e.call ≢ Some part) events → IsLegal setup told s faults events → FitsPart setup part sprig s
+  pub fits_along : (s : State) (faults : ℕ) (events : List Event) (sprig : SprigState) → AllByRecursion (λ e. part_named setup e.call ≢ Some part) events → IsLegal setup told s faults events
+      → FitsPart setup part sprig s
       → FitsPart setup part sprig (after_events setup events s)
   fits_along s faults [] sprig apart legal fits = fits
   fits_along s faults (e ∷ events) sprig apart legal fits =
       fits_along (after_event setup e s) e.faults_after events sprig apart.1 legal.1 (fits_on setup part told s e sprig apart.0 legal.0.allowed fits)
 
   -- and shows the same entries
-  pub expired_stay : (now : ℕ) (s : State) (faults : ℕ) (events : List Event) (sprigs : List SprigState) → part < part_total setup → AllByRecursion (λ e. part_named setup e.call ≢ Some part) events → IsLegal setup told s faults events
+  pub expired_stay : (now : ℕ) (s : State) (faults : ℕ) (events : List Event) (sprigs : List SprigState) → part < part_total setup
+      → AllByRecursion (λ e. part_named setup e.call ≢ Some part) events → IsLegal setup told s faults events
       → FitsParts setup sprigs s → expired_in setup now part (after_events setup events s) ≡ expired_in setup now part s
   expired_stay now s faults events sprigs below apart legal fits =
       let at = some_at sprigs part (subst (λ (n : ℕ). part < n) (sym fits.count) below) in

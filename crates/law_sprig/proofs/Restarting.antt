@@ -65,7 +65,8 @@ all_older v n [] le all = tt
 all_older v n (w ∷ older) le all = (let one = later_time v.stamp w.stamp all.0 in omega (arith, one, le), all_older v n older le all.1)
 
 -- where the newest write is no later than this, no write is, if they fall
-falling_times : (pending : Pending) (n : ℕ) (kept : List Item) → ends_well pending kept ≡ true → IsFalling (writes_of (without_numbers kept)) → IfSome (last_write kept) (λ v. v.stamp.lut ≤ n) → TimesUpTo n (without_numbers kept)
+falling_times : (pending : Pending) (n : ℕ) (kept : List Item) → ends_well pending kept ≡ true → IsFalling (writes_of (without_numbers kept))
+    → IfSome (last_write kept) (λ v. v.stamp.lut ≤ n) → TimesUpTo n (without_numbers kept)
 falling_times pending n [] ends falling le = tt
 falling_times pending n (write v numbers ∷ older) ends falling le = (le, times_under n (without_numbers older) (all_older v n (writes_of (without_numbers older)) le falling.0))
 falling_times pending n (dropped ∷ older) ends falling le = absurd (false≢true ends)
@@ -133,7 +134,8 @@ module _ (setup : Setup) (s new : State) (image : List ℕ) (r : Restarts setup 
   copy_within part c there mine =
       by (cold_copy c.digest copies) refl (filter_there (λ (x : Copy). same_digest c.digest x.digest) copies c (same_digest_refl c.digest) there) (latest_is (copies_named c.digest copies))
     where
-      by : (o : Option Copy) → cold_copy c.digest copies ≡ o → Contains (copies_named c.digest copies) c → IfSome (cold_copy c.digest copies) (IsNewest (copies_named c.digest copies)) → c.version.stamp.lut ≤ high_time setup part new.log
+      by : (o : Option Copy) → cold_copy c.digest copies ≡ o → Contains (copies_named c.digest copies) c → IfSome (cold_copy c.digest copies) (IsNewest (copies_named c.digest copies))
+          → c.version.stamp.lut ≤ high_time setup part new.log
       by None is named newest = absurd (no_copy (copies_named c.digest copies) c named is)
       by (Some x) is named newest =
           let last = (subst (λ (o : Option Copy). IfSome o (IsNewest (copies_named c.digest copies))) is newest).last in
@@ -149,7 +151,8 @@ module _ (setup : Setup) (s new : State) (image : List ℕ) (r : Restarts setup 
     place = λ d. ap (λ (b : Book). live_of d b.live) r.book ∙ start_live setup r.bodies d;
     high = λ part.
         let up = part_within setup part (copies_high setup part copies) new.log (history_within part) in
-        let down = high_within setup part (high_time setup part new.log) copies (all_from (λ c. part_of setup c.digest ≡ part → c.version.stamp.lut ≤ high_time setup part new.log) copies (λ c there mine. copy_within part c there mine)) in
+        let down = high_within setup part (high_time setup part new.log) copies
+        (all_from (λ c. part_of setup c.digest ≡ part → c.version.stamp.lut ≤ high_time setup part new.log) copies (λ c there mine. copy_within part c there mine)) in
         omega (arith, up, down);
     raid = r.raid;
   }

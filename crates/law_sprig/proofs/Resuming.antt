@@ -18,7 +18,8 @@ use Rattle.law_sprig.proofs.Device.{each_with}
 -- ---- histories
 
 -- the items of one digest in front of a log are those of its history
-items_named : (digest d : Digest) (items : List Item) (log : Log) (b : Bool) → same_digest digest d ≡ b → history_of digest (items_of d items ++ log) ≡ cond b (items ++ history_of digest log) (history_of digest log)
+items_named : (digest d : Digest) (items : List Item) (log : Log) (b : Bool) → same_digest digest d ≡ b
+    → history_of digest (items_of d items ++ log) ≡ cond b (items ++ history_of digest log) (history_of digest log)
 items_named digest d [] log true is = refl
 items_named digest d [] log false is = refl
 items_named digest d (item ∷ items) log true is =
@@ -38,7 +39,8 @@ module _ (kept : Digest → List Item) where
   resumed_history digest (e ∷ log) = by (same_digest digest e.0) refl (is_nothing (history_of e.0 log)) refl (resumed_history digest log)
     where
       by : (s : Bool) → same_digest digest e.0 ≡ s → (n : Bool) → is_nothing (history_of e.0 log) ≡ n → history_of digest (resumed_log kept log) ≡ kept_if digest (history_of digest log)
-          → history_of digest (cond n (items_of e.0 (without_numbers (kept e.0)) ++ resumed_log kept log) (resumed_log kept log)) ≡ kept_if digest (cond s (e.1 ∷ history_of digest log) (history_of digest log))
+          → history_of digest (cond n (items_of e.0 (without_numbers (kept e.0)) ++ resumed_log kept log) (resumed_log kept log))
+          ≡ kept_if digest (cond s (e.1 ∷ history_of digest log) (history_of digest log))
       by true same true none rest =
           let key = same_digest_is digest e.0 same in
           let nothing = rest ∙ cond-true (is_nothing (history_of digest log)) [] (without_numbers (kept digest)) (ap (λ (d : Digest). is_nothing (history_of d log)) key ∙ none) in
@@ -80,7 +82,8 @@ each_resumed : (kept : Digest → List Item) (P : Digest → Type 0) (log : Log)
 each_resumed kept P [] all = tt
 each_resumed kept P (e ∷ log) all = let parts = each_without P e.0 (logged log) all in by (is_nothing (history_of e.0 log)) parts.0 (each_resumed kept P log parts.1)
   where
-    by : (n : Bool) → P e.0 → AllByRecursion P (logged (resumed_log kept log)) → AllByRecursion P (logged (cond n (items_of e.0 (without_numbers (kept e.0)) ++ resumed_log kept log) (resumed_log kept log)))
+    by : (n : Bool) → P e.0 → AllByRecursion P (logged (resumed_log kept log))
+        → AllByRecursion P (logged (cond n (items_of e.0 (without_numbers (kept e.0)) ++ resumed_log kept log) (resumed_log kept log)))
     by true here rest = each_items P e.0 (without_numbers (kept e.0)) (resumed_log kept log) here rest
     by false here rest = rest
 

@@ -13,7 +13,8 @@ use Rattle.rec_format.specs.Places.{digest_cmp, same_digest}
 use Rattle.rec_format.specs.Versions.{is_tomb_kind, is_put, is_tombstone, is_expired, is_expired_put, is_live_put}
 use Rattle.model_device.specs.Histories.{Item, write, dropped, rid, cleared, top_of, is_covered, if_live}
 use Rattle.model_device.specs.Book.{Setup}
-use Rattle.model_device.specs.Device.{State, Log, history, history_of, entry, entry_is_covered, entry_passes, seen, part_of, digests_of as logged, in_part, expired_in, is_eligible, eligible_in, is_old_enough}
+use Rattle.model_device.specs.Device.{State, Log, history, history_of, entry, entry_is_covered, entry_passes, seen, part_of, digests_of as logged, in_part}
+use Rattle.model_device.specs.Device.{expired_in, is_eligible, eligible_in, is_old_enough}
 use Rattle.model_device.specs.Legal.{marked_in}
 use Rattle.sprig_tree.specs.Entries.{digests_in, entry_of}
 use Rattle.sprig_tree.specs.State.{SprigState}
@@ -163,7 +164,8 @@ module _ (setup : Setup) (part : ℕ) (sprig : SprigState) (s : State) (h : HasE
       shows e v n is true live = (v, is ∙ cond-true (is_live_entry now e) (Some v) None live, n)
       shows e v n is false gone = is ∙ cond-false (is_live_entry now e) (Some v) None gone
 
-      by : (o : Option Entry) → Says setup part s d o → MatchOption o (seen s now d ≡ None) (λ e. MatchBool (is_live_entry now e) ((v : Version) × (seen s now d ≡ Some v) × Names e v) (seen s now d ≡ None))
+      by : (o : Option Entry) → Says setup part s d o → MatchOption o (seen s now d ≡ None)
+          (λ e. MatchBool (is_live_entry now e) ((v : Version) × (seen s now d ≡ Some v) × Names e v) (seen s now d ≡ None))
       by None says = ap (if_live now) (says mine).top
       by (Some e) says =
           let is = says.1 in

@@ -11,8 +11,11 @@ use Rattle.rec_format.specs.Places.{same_digest}
 use Rattle.rec_format.specs.Versions.{version_units, top_number}
 use Rattle.model_device.specs.Histories.{Item, write, dropped, rid, cleared, top_of, is_covered}
 use Rattle.model_device.specs.Book.{Setup, Book, Live, client, defrag, live_of, placing_number, placed, dropped_live, with_seal, with_gate_begun, with_flushed, with_first_passed, refreshed}
-use Rattle.model_device.specs.Device.{State, RaidState, Turn, mark_turn, scan_turn, apply_turn, drop_turn, finished, history, entry, stamp_of, part_of, high_time, digests_of as logged, eligible_in, is_eligible}
-use Rattle.model_device.specs.Steps.{Step, wrote, moved, removed, rid_of, uncovered, sealed_stream, gate_begun, flushed_buffer, closing_failed, raid_begun, raid_given_up, marked_part, scanned_block, compared_part, done_part, after_step, after_steps, with_item, without_mark, moved_state, raised, raid_at_begin, raid_at_end, after_scan, turn_with, first_part, has_older, is_older_than, part_total}
+use Rattle.model_device.specs.Device.{State, RaidState, Turn, mark_turn, scan_turn, apply_turn, drop_turn, finished, history, entry, stamp_of, part_of}
+use Rattle.model_device.specs.Device.{high_time, digests_of as logged, eligible_in, is_eligible}
+use Rattle.model_device.specs.Steps.{Step, wrote, moved, removed, rid_of, uncovered, sealed_stream, gate_begun, flushed_buffer, closing_failed, raid_begun}
+use Rattle.model_device.specs.Steps.{raid_given_up, marked_part, scanned_block, compared_part, done_part, after_step, after_steps, with_item, without_mark}
+use Rattle.model_device.specs.Steps.{moved_state, raised, raid_at_begin, raid_at_end, after_scan, turn_with, first_part, has_older, is_older_than, part_total}
 use Rattle.rec_format.proofs.Laws.{same_digest_is}
 use Rattle.sprig_tree.specs.Entries.{digests_in}
 use Rattle.sprig_tree.specs.State.{SprigState}
@@ -34,7 +37,8 @@ stays_on setup part raid = record { number = refl; runs = refl; marks = refl; tu
 
 -- ---- steps of the book alone
 
-pub fits_booked : (setup : Setup) (part : ℕ) (sprig : SprigState) (s : State) (book : Book) → book.live ≡ s.book.live → FitsPart setup part sprig s → FitsPart setup part sprig (record s { book = book })
+pub fits_booked : (setup : Setup) (part : ℕ) (sprig : SprigState) (s : State) (book : Book) → book.live ≡ s.book.live → FitsPart setup part sprig s
+    → FitsPart setup part sprig (record s { book = book })
 fits_booked setup part sprig s book live fits =
     fits_alike setup part sprig s (record s { book = book }) (λ digest _. record { top = refl; cover = refl; place = ap (live_of digest) live }) refl (stays_on setup part s.raid) fits
 
@@ -85,7 +89,8 @@ fits_moved setup part sprig s digest (Some copy) other fits =
 
 -- ---- a raid
 
-fits_raid : (setup : Setup) (part : ℕ) (sprig : SprigState) (s : State) (raid : RaidState) → HasMarks setup part sprig.entries raid → FitsPart setup part sprig s → FitsPart setup part sprig (record s { raid = raid })
+fits_raid : (setup : Setup) (part : ℕ) (sprig : SprigState) (s : State) (raid : RaidState) → HasMarks setup part sprig.entries raid → FitsPart setup part sprig s
+    → FitsPart setup part sprig (record s { raid = raid })
 fits_raid setup part sprig s raid marks fits = record {
   exists = fits.exists;
   entries = entries_alike setup part sprig s (record s { raid = raid }) (λ digest _. record { top = refl; cover = refl; place = refl }) refl fits.entries;
@@ -152,7 +157,8 @@ scan_open setup part scanned found = by (first_part setup found)
     by (Some first) = refl
     by None = next (nat_lt scanned setup.blocks)
 
-part_kept : (setup : Setup) (part other : ℕ) (xs : List Digest) → other ≢ part → filter (λ d. part_of setup d == part) (filter (λ d. not (part_of setup d == other)) xs) ≡ filter (λ d. part_of setup d == part) xs
+part_kept : (setup : Setup) (part other : ℕ) (xs : List Digest) → other ≢ part
+    → filter (λ d. part_of setup d == part) (filter (λ d. not (part_of setup d == other)) xs) ≡ filter (λ d. part_of setup d == part) xs
 part_kept setup part other xs apart = same_filter (λ d. part_of setup d == part) (λ d. not (part_of setup d == other)) xs (λ x out. gone x (part_of setup x == other) refl out)
   where
     gone : (x : Digest) (b : Bool) → (part_of setup x == other) ≡ b → not b ≡ false → (part_of setup x == part) ≡ false
@@ -175,7 +181,8 @@ none_of_part setup part other test (x ∷ xs) apart = by (part_of setup x == oth
     by true is false rest = rest
     by false is b rest = rest
 
-marked_on : (setup : Setup) (part other now : ℕ) (s : State) → part < part_total setup → other ≢ part → s.raid.next ≡ mark_turn other → RaidGoesOn setup part s.raid (after_step setup (marked_part other now) s).raid
+marked_on : (setup : Setup) (part other now : ℕ) (s : State) → part < part_total setup → other ≢ part → s.raid.next ≡ mark_turn other
+    → RaidGoesOn setup part s.raid (after_step setup (marked_part other now) s).raid
 unfolding after_step
 marked_on setup part other now s exists apart at = record {
   number = refl;
@@ -195,7 +202,8 @@ marked_on setup part other now s exists apart at = record {
     turn true off = le-ltb part other (let le = ltb-false part (other + 1) off in omega (arith, le))
     turn false off = absurd (false≢true (sym off))
 
-scanned_on : (setup : Setup) (part block : ℕ) (copies : List (Digest × Stamp)) (s : State) → s.raid.next ≡ scan_turn block → RaidGoesOn setup part s.raid (after_step setup (scanned_block copies) s).raid
+scanned_on : (setup : Setup) (part block : ℕ) (copies : List (Digest × Stamp)) (s : State) → s.raid.next ≡ scan_turn block
+    → RaidGoesOn setup part s.raid (after_step setup (scanned_block copies) s).raid
 unfolding after_step
 scanned_on setup part block copies s at = record {
   number = refl;
@@ -236,7 +244,8 @@ compared_on setup part other s apart at = record {
 
     gone : (x : Digest) (b : Bool) → (part_of setup x == part) ≡ b → not (has_older s mine x) ≡ false → b ≡ false
     gone x false is out = refl
-    gone x true is out = absurd (both_ways (not (has_older s mine x)) out (not_from_false (has_older s mine x) (none_found setup part other s s.raid.found x apart (eqb-true (part_of setup x) part is))))
+    gone x true is out = absurd (both_ways (not (has_older s mine x)) out
+        (not_from_false (has_older s mine x) (none_found setup part other s s.raid.found x apart (eqb-true (part_of setup x) part is))))
 
 -- the last part's end ends the raid: then each part has had its drop turn
 done_marks : (setup : Setup) (part other : ℕ) (es : List Entry) (s : State) → part < part_total setup → other ≢ part → s.raid.next ≡ drop_turn other → HasMarks setup part es s.raid
@@ -258,7 +267,8 @@ done_marks setup part other es s exists apart at h = by (nat_lt (other + 1) (par
         let none = h.turn (was ∙ lt-leb other part (omega (arith, ltb-false (other + 1) (part_total setup) is, exists, apart))) in
         record {
           most = h.most;
-          marked = none ∙ none_pass (has_mark (record s.raid { next = finished })) es (each_of (λ e. e.mark ≤ s.raid.number) (λ e. has_mark (record s.raid { next = finished }) e ≡ false) es (λ e le. refl) h.most);
+          marked = none ∙ none_pass (has_mark (record s.raid { next = finished })) es
+              (each_of (λ e. e.mark ≤ s.raid.number) (λ e. has_mark (record s.raid { next = finished }) e ≡ false) es (λ e le. refl) h.most);
           turn = λ _. none;
           begun = λ runs. absurd (false≢true runs);
           last = h.last;
@@ -282,7 +292,8 @@ spared setup part sprig s closing_failed other fits = fits_booked setup part spr
 spared setup part sprig s raid_begun below fits = fits_raid setup part sprig s (raid_at_begin s.raid) (begun_marks setup part sprig.entries s.raid below fits.marks) fits
 spared setup part sprig s raid_given_up other fits = fits_raid setup part sprig s (raid_at_end s.raid) (given_up_marks setup part sprig.entries s.raid fits.marks) fits
 spared setup part sprig s (marked_part p now) other fits =
-    fits_raid setup part sprig s (after_step setup (marked_part p now) s).raid (marks_alike setup part sprig.entries s.raid _ (marked_on setup part p now s fits.exists other.0 other.1) fits.marks) fits
+    fits_raid setup part sprig s (after_step setup (marked_part p now) s).raid
+    (marks_alike setup part sprig.entries s.raid _ (marked_on setup part p now s fits.exists other.0 other.1) fits.marks) fits
 spared setup part sprig s (scanned_block copies) scan fits =
     fits_raid setup part sprig s (after_step setup (scanned_block copies) s).raid (marks_alike setup part sprig.entries s.raid _ (scanned_on setup part scan.0 copies s scan.1) fits.marks) fits
 spared setup part sprig s (compared_part p) other fits =
@@ -290,6 +301,7 @@ spared setup part sprig s (compared_part p) other fits =
 spared setup part sprig s (done_part p) other fits =
     fits_raid setup part sprig s (after_step setup (done_part p) s).raid (done_marks setup part p sprig.entries s fits.exists other.0 other.1 fits.marks) fits
 
-pub all_spared : (setup : Setup) (part : ℕ) (sprig : SprigState) (s : State) (steps : List Step) → AllSpare setup part s steps → FitsPart setup part sprig s → FitsPart setup part sprig (after_steps setup steps s)
+pub all_spared : (setup : Setup) (part : ℕ) (sprig : SprigState) (s : State) (steps : List Step) → AllSpare setup part s steps → FitsPart setup part sprig s
+    → FitsPart setup part sprig (after_steps setup steps s)
 all_spared setup part sprig s [] spares fits = fits
 all_spared setup part sprig s (step ∷ steps) spares fits = all_spared setup part sprig (after_step setup step s) steps spares.1 (spared setup part sprig s step spares.0 fits)

@@ -63,17 +63,20 @@ high_more setup part (x ∷ copies) c = by (part_of setup x.digest == part) (par
     by false false rest = rest
 
 -- a copy of another part changes nothing
-pub other_copy : (setup : Setup) (part : ℕ) (copies : List Copy) (c : Copy) (sprig : SprigState) → part_of setup c.digest ≢ part → HasLatest setup part copies sprig → HasLatest setup part (copies ++ c ∷ []) sprig
+pub other_copy : (setup : Setup) (part : ℕ) (copies : List Copy) (c : Copy) (sprig : SprigState) → part_of setup c.digest ≢ part → HasLatest setup part copies sprig
+    → HasLatest setup part (copies ++ c ∷ []) sprig
 other_copy setup part copies c sprig other h = record {
   order = h.order;
   shown = λ d. h.shown d ∙ by d (part_of setup d == part) refl;
-  high = h.high ∙ sym (high_more setup part copies c ∙ cond-false (part_of setup c.digest == part) (max (copies_high setup part copies) c.version.stamp.lut) (copies_high setup part copies) (ne_eqb (part_of setup c.digest) part other));
+  high = h.high ∙ sym (high_more setup part copies c ∙ cond-false (part_of setup c.digest == part) (max (copies_high setup part copies) c.version.stamp.lut) (copies_high setup part copies)
+      (ne_eqb (part_of setup c.digest) part other));
 }
   where
     by : (d : Digest) (b : Bool) → (part_of setup d == part) ≡ b → cond b (option_map entry_for (cold_copy d copies)) None ≡ cond b (option_map entry_for (cold_copy d (copies ++ c ∷ []))) None
     by d false is = refl
     by d true is =
-        ap (option_map entry_for) (sym (cold_copy_more d copies c ∙ cond-false (same_digest d c.digest) (Some (later_one (cold_copy d copies) c)) (cold_copy d copies) (apart (same_digest d c.digest) refl)))
+        ap (option_map entry_for) (sym (cold_copy_more d copies c
+        ∙ cond-false (same_digest d c.digest) (Some (later_one (cold_copy d copies) c)) (cold_copy d copies) (apart (same_digest d c.digest) refl)))
       where
         apart : (s : Bool) → same_digest d c.digest ≡ s → s ≡ false
         apart false differs = refl
@@ -120,17 +123,21 @@ module _ (setup : Setup) (part : ℕ) (copies : List Copy) (c : Copy) (old new :
       → entry_of d new.entries ≡ entry_chosen setup part (λ x. cold_copy x (copies ++ c ∷ [])) d
   shown_more d is = is ∙ by (same_digest d c.digest) refl
     where
-      by : (s : Bool) → same_digest d c.digest ≡ s → cond s (option_map entry_for (Some (later_one (cold_copy c.digest copies) c))) (entry_of d old.entries) ≡ entry_chosen setup part (λ x. cold_copy x (copies ++ c ∷ [])) d
+      by : (s : Bool) → same_digest d c.digest ≡ s → cond s (option_map entry_for (Some (later_one (cold_copy c.digest copies) c))) (entry_of d old.entries)
+          ≡ entry_chosen setup part (λ x. cold_copy x (copies ++ c ∷ [])) d
       by true same =
           let key = same_digest_is d c.digest same in
           sym (cond-true (part_of setup d == part) (option_map entry_for (cold_copy d (copies ++ c ∷ []))) None (eq-eqb (part_of setup d) part (ap (part_of setup) key ∙ mine))
-          ∙ ap (option_map entry_for) (cold_copy_more d copies c ∙ cond-true (same_digest d c.digest) (Some (later_one (cold_copy d copies) c)) (cold_copy d copies) same ∙ ap (λ (x : Digest). Some (later_one (cold_copy x copies) c)) key))
+          ∙ ap (option_map entry_for) (cold_copy_more d copies c ∙ cond-true (same_digest d c.digest) (Some (later_one (cold_copy d copies) c)) (cold_copy d copies) same
+          ∙ ap (λ (x : Digest). Some (later_one (cold_copy x copies) c)) key))
       by false other =
           h.shown d
-          ∙ ap (λ (o : Option Copy). cond (part_of setup d == part) (option_map entry_for o) None) (sym (cold_copy_more d copies c ∙ cond-false (same_digest d c.digest) (Some (later_one (cold_copy d copies) c)) (cold_copy d copies) other))
+          ∙ ap (λ (o : Option Copy). cond (part_of setup d == part) (option_map entry_for o) None)
+          (sym (cold_copy_more d copies c ∙ cond-false (same_digest d c.digest) (Some (later_one (cold_copy d copies) c)) (cold_copy d copies) other))
 
   high_here : copies_high setup part (copies ++ c ∷ []) ≡ max (copies_high setup part copies) c.version.stamp.lut
-  high_here = high_more setup part copies c ∙ cond-true (part_of setup c.digest == part) (max (copies_high setup part copies) c.version.stamp.lut) (copies_high setup part copies) (eq-eqb (part_of setup c.digest) part mine)
+  high_here = high_more setup part copies c ∙ cond-true (part_of setup c.digest == part) (max (copies_high setup part copies) c.version.stamp.lut) (copies_high setup part copies)
+      (eq-eqb (part_of setup c.digest) part mine)
 
   -- no entry has a time above the high time
   below_high : (d : Digest) (e : Entry) → entry_of d old.entries ≡ Some e → e.stamp.lut ≤ old.hw
@@ -152,8 +159,10 @@ module _ (setup : Setup) (part : ℕ) (copies : List Copy) (c : Copy) (old new :
     high = takes.high ∙ ap (λ (n : ℕ). max n c.version.stamp.lut) h.high ∙ sym high_here;
   }
     where
-      by : (d : Digest) (s : Bool) → same_digest d c.digest ≡ s → entry_of d (with_put (entry_for c) old.entries) ≡ cond s (Some (entry_for (later_one (cold_copy c.digest copies) c))) (entry_of d old.entries)
-      by d true same = ap (λ (x : Digest). entry_of x (with_put (entry_for c) old.entries)) (same_digest_is d c.digest same) ∙ put_here (entry_for c) old.entries ∙ ap (λ (x : Copy). Some (entry_for x)) (sym is)
+      by : (d : Digest) (s : Bool) → same_digest d c.digest ≡ s
+          → entry_of d (with_put (entry_for c) old.entries) ≡ cond s (Some (entry_for (later_one (cold_copy c.digest copies) c))) (entry_of d old.entries)
+      by d true same = ap (λ (x : Digest). entry_of x (with_put (entry_for c) old.entries)) (same_digest_is d c.digest same) ∙ put_here (entry_for c) old.entries
+          ∙ ap (λ (x : Copy). Some (entry_for x)) (sym is)
       by d false other = put_other (entry_for c) old.entries d other
 
   -- One copy more of the part.
@@ -164,7 +173,8 @@ module _ (setup : Setup) (part : ℕ) (copies : List Copy) (c : Copy) (old new :
       stays x is none below same = record {
         order = subst (λ (s : SprigState). IsInDigestOrder s.entries) (sym same) h.order;
         shown = λ d. shown_more d (ap (λ (s : SprigState). entry_of d s.entries) same ∙ shows d (same_digest d c.digest) refl);
-        high = ap (λ (s : SprigState). s.hw) same ∙ h.high ∙ sym (high_here ∙ kept (copies_high setup part copies) c.version.stamp.lut (let le = no_later_time c.version.stamp x.version.stamp none in omega (arith, le, below, h.high)));
+        high = ap (λ (s : SprigState). s.hw) same ∙ h.high ∙ sym
+            (high_here ∙ kept (copies_high setup part copies) c.version.stamp.lut (let le = no_later_time c.version.stamp x.version.stamp none in omega (arith, le, below, h.high)));
       }
         where
           kept : (a b : ℕ) → b ≤ a → max a b ≡ a
@@ -179,11 +189,14 @@ module _ (setup : Setup) (part : ℕ) (copies : List Copy) (c : Copy) (old new :
       later : (x : Copy) → cold_copy c.digest copies ≡ Some x → is_later c.version x.version ≡ true → later_one (cold_copy c.digest copies) c ≡ c
       later x is is_later_one = ap (λ (o : Option Copy). later_one o c) is ∙ cond-true (is_later c.version x.version) c x is_later_one
 
-      compared : (x : Copy) → cold_copy c.digest copies ≡ Some x → x.version.stamp.lut ≤ old.hw → (b : Bool) → is_later c.version x.version ≡ b → MatchBool b (TakesEntry (entry_for c) old new) (new ≡ old) → HasLatest setup part (copies ++ c ∷ []) new
+      compared : (x : Copy) → cold_copy c.digest copies ≡ Some x → x.version.stamp.lut ≤ old.hw → (b : Bool) → is_later c.version x.version ≡ b
+          → MatchBool b (TakesEntry (entry_for c) old new) (new ≡ old) → HasLatest setup part (copies ++ c ∷ []) new
       compared x is below true is_later_one t = takes_found (later x is is_later_one) t
       compared x is below false none same = stays x is none below same
 
-      by : (o : Option Entry) → entry_of c.digest old.entries ≡ o → MatchOption o (TakesEntry (entry_for c) old new) (λ e. MatchBool (is_later_stamp c.version.stamp e.stamp) (TakesEntry (entry_for c) old new) (new ≡ old)) → HasLatest setup part (copies ++ c ∷ []) new
+      by : (o : Option Entry) → entry_of c.digest old.entries ≡ o
+          → MatchOption o (TakesEntry (entry_for c) old new) (λ e. MatchBool (is_later_stamp c.version.stamp e.stamp) (TakesEntry (entry_for c) old new) (new ≡ old))
+          → HasLatest setup part (copies ++ c ∷ []) new
       by None is t = takes_found (ap (λ (o : Option Copy). later_one o c) (chosen_none (cold_copy c.digest copies) (sym found_here ∙ is))) t
       by (Some e) is t =
           let x = chosen_some (cold_copy c.digest copies) e (sym found_here ∙ is) in
@@ -218,7 +231,8 @@ unmarked_fit setup part es none = record {
   last = omega arith;
 }
 
-pub chosen_fits : (setup : Setup) (part : ℕ) (chosen : Digest → Option Copy) (copies : List Copy) (sprig : SprigState) (s : State) → part < part_total setup → HasChosen setup part chosen copies sprig → ShowsChosen setup chosen copies s
+pub chosen_fits : (setup : Setup) (part : ℕ) (chosen : Digest → Option Copy) (copies : List Copy) (sprig : SprigState) (s : State) → part < part_total setup
+    → HasChosen setup part chosen copies sprig → ShowsChosen setup chosen copies s
     → FitsPart setup part sprig s
 chosen_fits setup part chosen copies sprig s exists h shows = record {
   exists = exists;
@@ -227,7 +241,8 @@ chosen_fits setup part chosen copies sprig s exists h shows = record {
     shown = λ d. subst (Says setup part s d) (sym (h.shown d)) (says d (part_of setup d == part) refl);
     high = h.high ∙ sym (shows.high part);
   };
-  marks = subst (HasMarks setup part sprig.entries) (sym shows.raid) (unmarked_fit setup part sprig.entries (each_entry (λ e. e.mark ≡ 0) sprig.entries h.order (λ d e found. no_mark_of d e (part_of setup d == part) (sym (h.shown d) ∙ found))));
+  marks = subst (HasMarks setup part sprig.entries) (sym shows.raid)
+      (unmarked_fit setup part sprig.entries (each_entry (λ e. e.mark ≡ 0) sprig.entries h.order (λ d e found. no_mark_of d e (part_of setup d == part) (sym (h.shown d) ∙ found))));
 }
   where
     no_mark_of : (d : Digest) (e : Entry) (b : Bool) → cond b (option_map entry_for (chosen d)) None ≡ Some e → e.mark ≡ 0
@@ -267,7 +282,8 @@ start_shows setup image bodies sound = record {
 }
 
 -- The sprig that has the latest of the part's copies fits the state after a start from a sound image.
-pub start_fits : (setup : Setup) (image : List ℕ) (bodies : List Body) (part : ℕ) (sprig : SprigState) → IsSound setup image bodies → part < part_total setup → HasLatest setup part (copies_of bodies) sprig
+pub start_fits : (setup : Setup) (image : List ℕ) (bodies : List Body) (part : ℕ) (sprig : SprigState) → IsSound setup image bodies → part < part_total setup
+    → HasLatest setup part (copies_of bodies) sprig
     → FitsPart setup part sprig (start_state setup bodies)
 start_fits setup image bodies part sprig sound exists h =
     chosen_fits setup part (λ d. cold_copy d (copies_of bodies)) (copies_of bodies) sprig (start_state setup bodies) exists h (start_shows setup image bodies sound)
@@ -279,7 +295,8 @@ first_top d [] = refl
 first_top d (c ∷ found) = by (same_digest d c.digest) (first_top d found)
   where
     by : (b : Bool) → top_of (history_of d (map (λ c. (c.digest, write c.version [])) found)) ≡ version_of (first_named found d)
-        → top_of (cond b (write c.version [] ∷ history_of d (map (λ c. (c.digest, write c.version [])) found)) (history_of d (map (λ c. (c.digest, write c.version [])) found))) ≡ version_of (cond b (Some c) (first_named found d))
+        → top_of (cond b (write c.version [] ∷ history_of d (map (λ c. (c.digest, write c.version [])) found)) (history_of d (map (λ c. (c.digest, write c.version [])) found)))
+        ≡ version_of (cond b (Some c) (first_named found d))
     by true rest = refl
     by false rest = rest
 
@@ -288,7 +305,8 @@ first_covered d [] = refl
 first_covered d (c ∷ found) = by (same_digest d c.digest) (first_covered d found)
   where
     by : (b : Bool) → is_covered (history_of d (map (λ c. (c.digest, write c.version [])) found)) ≡ cover_of (version_of (first_named found d))
-        → is_covered (cond b (write c.version [] ∷ history_of d (map (λ c. (c.digest, write c.version [])) found)) (history_of d (map (λ c. (c.digest, write c.version [])) found))) ≡ cover_of (version_of (cond b (Some c) (first_named found d)))
+        → is_covered (cond b (write c.version [] ∷ history_of d (map (λ c. (c.digest, write c.version [])) found)) (history_of d (map (λ c. (c.digest, write c.version [])) found)))
+        ≡ cover_of (version_of (cond b (Some c) (first_named found d)))
     by true rest = refl
     by false rest = rest
 

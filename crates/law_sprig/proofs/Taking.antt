@@ -17,7 +17,9 @@ use Rattle.rec_format.proofs.Laws.{same_digest_is}
 use Rattle.model_device.proofs.Laws.{history_hit, TimesUpTo, times_of_part}
 use Rattle.sprig_tree.specs.Entries.{digests_in, IsInDigestOrder, entry_of, with_entry, with_replaced, without_digest}
 use Rattle.sprig_tree.specs.State.{SprigState}
-use Rattle.sprig_tree.proofs.Laws.{entry_of-with_entry_same, entry_of-with_entry_other, entry_of-with_replaced_same, entry_of-with_replaced_other, entry_of-without_digest_same, entry_of-without_digest_other, entry_of-digest, order-with_entry, order-with_replaced, order-without_digest}
+use Rattle.sprig_tree.proofs.Laws.{entry_of-with_entry_same, entry_of-with_entry_other, entry_of-with_replaced_same, entry_of-with_replaced_other}
+use Rattle.sprig_tree.proofs.Laws.{entry_of-without_digest_same, entry_of-without_digest_other, entry_of-digest, order-with_entry, order-with_replaced}
+use Rattle.sprig_tree.proofs.Laws.{order-without_digest}
 use Rattle.law_sprig.specs.Fits.{IsShown, HasNone, HasEntries, is_running, has_mark, marks_of, HasMarks, FitsPart}
 use Rattle.law_sprig.specs.Becoming.{with_put, TakesEntry, Replaces, Loses, moved_to, without_cover}
 use Rattle.rec_format.specs.Entries.{entry_at}
@@ -59,7 +61,8 @@ module _ (e : Entry) (es : List Entry) where
 
 -- an entry is put that the state shows, and of other digests the same is said as before
 pub entries_take : (setup : Setup) (part : ℕ) (old new : SprigState) (s t : State) (e : Entry) → TakesEntry e old new → part_of setup e.digest ≡ part → IsShown t e.digest e
-    → ((d : Digest) → same_digest d e.digest ≡ false → SaysSame s t d) → high_time setup part t.log ≡ max (high_time setup part s.log) e.stamp.lut → HasEntries setup part old s → HasEntries setup part new t
+    → ((d : Digest) → same_digest d e.digest ≡ false → SaysSame s t d) → high_time setup part t.log ≡ max (high_time setup part s.log) e.stamp.lut → HasEntries setup part old s
+    → HasEntries setup part new t
 entries_take setup part old new s t e takes mine is others high h = record {
   order = subst IsInDigestOrder (sym takes.entries) (put_order e old.entries h.order);
   shown = λ d. subst (λ (l : List Entry). Says setup part t d (entry_of d l)) (sym takes.entries) (says d (same_digest d e.digest) refl);
@@ -137,7 +140,8 @@ item_same s digest item book live d other =
 item_high : (setup : Setup) (part : ℕ) (s : State) (digest : Digest) (item : Item) (book : Book) → part_of setup digest ≡ part
     → high_time setup part (with_item digest item book s).log ≡ max (high_time setup part s.log) (item_time item)
 item_high setup part s digest item book mine =
-    cond-true (part_of setup digest == part) (max (item_time item) (high_time setup part s.log)) (high_time setup part s.log) (eq-eqb (part_of setup digest) part mine) ∙ turned (item_time item) (high_time setup part s.log)
+    cond-true (part_of setup digest == part) (max (item_time item) (high_time setup part s.log)) (high_time setup part s.log) (eq-eqb (part_of setup digest) part mine)
+    ∙ turned (item_time item) (high_time setup part s.log)
   where
     turned : (a b : ℕ) → max a b ≡ max b a
     turned a b = omega arith
@@ -222,7 +226,8 @@ top_time high (rid ∷ older) v times top = absurd cc
 top_time high (cleared ∷ older) v times top = top_time high older v times top
 
 -- what is found is of the part, and shown
-pub found_shown : (setup : Setup) (part : ℕ) (sprig : SprigState) (s : State) (d : Digest) (e : Entry) → HasEntries setup part sprig s → entry_of d sprig.entries ≡ Some e → (part_of setup d ≡ part) × IsShown s d e
+pub found_shown : (setup : Setup) (part : ℕ) (sprig : SprigState) (s : State) (d : Digest) (e : Entry) → HasEntries setup part sprig s → entry_of d sprig.entries ≡ Some e
+    → (part_of setup d ≡ part) × IsShown s d e
 found_shown setup part sprig s d e h found = subst (Says setup part s d) found (h.shown d)
 
 -- no entry has a time above the high time
@@ -236,7 +241,11 @@ pub times_below : (setup : Setup) (part : ℕ) (sprig : SprigState) (s : State) 
 times_below setup part sprig s h = each_entry (λ e. e.stamp.lut ≤ sprig.hw) sprig.entries h.order (λ d e found. time_below setup part sprig s d e h found)
 
 replaces_takes : (e : Entry) (old new : SprigState) → is_some (entry_of e.digest old.entries) ≡ true → Replaces e old new → TakesEntry e old new
-replaces_takes e old new there r = record { entries = r.entries ∙ sym (cond-true (is_some (entry_of e.digest old.entries)) (with_replaced e old.entries) (with_entry e old.entries) there); high = r.high }
+replaces_takes e old new there r = record {
+  entries = r.entries
+      ∙ sym (cond-true (is_some (entry_of e.digest old.entries)) (with_replaced e old.entries) (with_entry e old.entries) there);
+  high = r.high;
+}
 
 no_higher : (a b : ℕ) → b ≤ a → a ≡ max a b
 no_higher a b le = omega arith
@@ -303,7 +312,8 @@ moved_fits setup part old new s digest e block unit found place replaces fits = 
   exists = fits.exists;
   entries = entries_take setup part old new s t to (replaces_takes to old new (there_is (entry_of e.digest old.entries) e found_too) replaces) (ap (part_of setup) name ∙ is.0)
       (subst (λ (d : Digest). IsShown t d to) (sym name) shown)
-      (λ d other. record { top = m.top d; cover = m.cover d; place = m.place d (ap (same_digest d) (sym name) ∙ other) }) (m.high ∙ no_higher (high_time setup part s.log) e.stamp.lut below) fits.entries;
+      (λ d other. record { top = m.top d; cover = m.cover d; place = m.place d (ap (same_digest d) (sym name) ∙ other) })
+      (m.high ∙ no_higher (high_time setup part s.log) e.stamp.lut below) fits.entries;
   marks = subst (λ (r : RaidState). HasMarks setup part new.entries r) (sym m.raid)
       (subst (λ (l : List Entry). HasMarks setup part l s.raid) (sym replaces.entries)
       (record {

@@ -40,13 +40,16 @@ module _ (front rest : List Entry) (e : Entry) (order : IsInDigestOrder (front +
   -- The next entry behind this one is the first of the rest, whatever stands below it.
   pub next_is : (done : List Entry) → AllBelow e.digest done → (entry_after (Some e.digest) (done ++ rest) ≡ slice_get rest 0)
   next_is done below =
-      find_behind (λ x. digest_before e.digest x.digest) done rest (weaker (λ x. digest_cmp x.digest e.digest ≡ Less) (λ x. digest_before e.digest x.digest ≡ false) (λ x less. not_before_below x.digest e.digest less) done below)
+      find_behind (λ x. digest_before e.digest x.digest) done rest
+      (weaker (λ x. digest_cmp x.digest e.digest ≡ Less) (λ x. digest_before e.digest x.digest ≡ false) (λ x less. not_before_below x.digest e.digest less) done below)
       ∙ entry_after_above e.digest rest (sides front rest e order).1
 
   pub next_with : (done : List Entry) (to : Entry) → AllBelow e.digest done → to.digest ≡ e.digest → entry_after (Some e.digest) (done ++ to ∷ rest) ≡ slice_get rest 0
   next_with done to below name =
-      find_behind (λ x. digest_before e.digest x.digest) done (to ∷ rest) (weaker (λ x. digest_cmp x.digest e.digest ≡ Less) (λ x. digest_before e.digest x.digest ≡ false) (λ x less. not_before_below x.digest e.digest less) done below)
-      ∙ cond-false (digest_before e.digest to.digest) (Some to) (entry_after (Some e.digest) rest) (not_before_at to.digest e.digest (ap (λ (k : Digest). digest_cmp k e.digest) name ∙ itself e.digest))
+      find_behind (λ x. digest_before e.digest x.digest) done (to ∷ rest)
+      (weaker (λ x. digest_cmp x.digest e.digest ≡ Less) (λ x. digest_before e.digest x.digest ≡ false) (λ x less. not_before_below x.digest e.digest less) done below)
+      ∙ cond-false (digest_before e.digest to.digest) (Some to) (entry_after (Some e.digest) rest)
+      (not_before_at to.digest e.digest (ap (λ (k : Digest). digest_cmp k e.digest) name ∙ itself e.digest))
       ∙ entry_after_above e.digest rest (sides front rest e order).1
 
   -- an entry of the same digest in its place
@@ -151,11 +154,13 @@ module _ (old : List Entry) (i : ℕ) (e : Entry) (at : slice_get old i ≡ Some
 
   pub goes_at : (raid : RaidState) → ended_entry raid e ≡ None → without_digest e.digest (raid_ended raid front ++ drop i old) ≡ raid_ended raid (take (i + 1) old) ++ rest
   goes_at raid goes =
-      ap (λ (l : List Entry). without_digest e.digest (raid_ended raid front ++ l)) dropped_at ∙ end_goes front rest e parted_at raid goes ∙ ap (λ (l : List Entry). raid_ended raid l ++ rest) (sym taken_at)
+      ap (λ (l : List Entry). without_digest e.digest (raid_ended raid front ++ l)) dropped_at ∙ end_goes front rest e parted_at raid goes
+      ∙ ap (λ (l : List Entry). raid_ended raid l ++ rest) (sym taken_at)
 
   pub becomes_at : (raid : RaidState) (to : Entry) → ended_entry raid e ≡ Some to → with_replaced to (raid_ended raid front ++ drop i old) ≡ raid_ended raid (take (i + 1) old) ++ rest
   becomes_at raid to is =
-      ap (λ (l : List Entry). with_replaced to (raid_ended raid front ++ l)) dropped_at ∙ end_becomes front rest e parted_at raid to is ∙ ap (λ (l : List Entry). raid_ended raid l ++ rest) (sym taken_at)
+      ap (λ (l : List Entry). with_replaced to (raid_ended raid front ++ l)) dropped_at ∙ end_becomes front rest e parted_at raid to is
+      ∙ ap (λ (l : List Entry). raid_ended raid l ++ rest) (sym taken_at)
 
   pub left_at : (raid : RaidState) → ended_entry raid e ≡ Some e → raid_ended raid front ++ drop i old ≡ raid_ended raid (take (i + 1) old) ++ rest
   left_at raid is = ap (λ (l : List Entry). raid_ended raid front ++ l) dropped_at ∙ end_stays front rest e parted_at raid is ∙ ap (λ (l : List Entry). raid_ended raid l ++ rest) (sym taken_at)
@@ -168,7 +173,8 @@ module _ (old : List Entry) (i : ℕ) (e : Entry) (at : slice_get old i ≡ Some
 
       by : (o : Option Entry) → ended_entry raid e ≡ o → entry_after (Some e.digest) (raid_ended raid (front ++ e ∷ []) ++ rest) ≡ slice_get rest 0
       by None is =
-          ap (λ (l : List Entry). entry_after (Some e.digest) (l ++ rest)) (ended_more front rest e parted_at raid None is ∙ append-nil (raid_ended raid front)) ∙ next_is front rest e parted_at (raid_ended raid front) below
+          ap (λ (l : List Entry). entry_after (Some e.digest) (l ++ rest)) (ended_more front rest e parted_at raid None is ∙ append-nil (raid_ended raid front))
+          ∙ next_is front rest e parted_at (raid_ended raid front) below
       by (Some to) is =
           ap (λ (l : List Entry). entry_after (Some e.digest) (l ++ rest)) (ended_more front rest e parted_at raid (Some to) is)
           ∙ ap (entry_after (Some e.digest)) (append_assoc (raid_ended raid front) (to ∷ []) rest)

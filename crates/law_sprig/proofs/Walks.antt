@@ -80,7 +80,8 @@ same_lookups xs ys first second same =
     ∙ sym (among_entries (λ e. true) d ys second) ∙ ap (λ (l : List Entry). has_digest (digests_in l) d) (all_pass ys)))
 
 -- a list whose look-ups find other marks is that list with other marks
-pub remarked_by : (m : Entry → ℕ) (old new : List Entry) → IsInDigestOrder old → IsInDigestOrder new → ((d : Digest) → entry_of d new ≡ option_map (λ (e : Entry). with_mark (m e) e) (entry_of d old)) → new ≡ remarked m old
+pub remarked_by : (m : Entry → ℕ) (old new : List Entry) → IsInDigestOrder old → IsInDigestOrder new
+    → ((d : Digest) → entry_of d new ≡ option_map (λ (e : Entry). with_mark (m e) e) (entry_of d old)) → new ≡ remarked m old
 remarked_by m old new first second finds =
     same_lookups new (remarked m old) second (subst (λ (l : List Digest). AreInOrder l) (sym (digests_remarked m old)) first) (λ d. finds d ∙ sym (remarked_of m d old))
 
@@ -122,7 +123,8 @@ ended_of raid d [] order = refl
 ended_of raid d (e ∷ es) order = by (ended_entry raid e) refl (same_digest d e.digest) refl (ended_of raid d es order.1)
   where
     gone : same_digest d e.digest ≡ true → entry_of d (raid_ended raid es) ≡ None
-    gone same = none_before d (raid_ended raid es) (subst (λ (k : Digest). IsBelowAll k (digests_in (raid_ended raid es))) (sym (same_digest_is d e.digest same)) (below_ended raid e.digest es order.0))
+    gone same = none_before d (raid_ended raid es) (subst (λ (k : Digest). IsBelowAll k (digests_in (raid_ended raid es))) (sym (same_digest_is d e.digest same))
+        (below_ended raid e.digest es order.0))
 
     by : (o : Option Entry) → ended_entry raid e ≡ o → (b : Bool) → same_digest d e.digest ≡ b → entry_of d (raid_ended raid es) ≡ left_of raid (entry_of d es)
         → entry_of d (cons_option o (raid_ended raid es)) ≡ left_of raid (cond b (Some e) (entry_of d es))
@@ -139,10 +141,12 @@ ended_by raid old new first second finds = same_lookups new (raid_ended raid old
 
 module _ (setup : Setup) (part : ℕ) (sprig : SprigState) (s : State) where
   -- the expired entries of the part behind a digest
-  pub expired_behind_is : (now : ℕ) (last : Option Digest) → HasEntries setup part sprig s → expired_behind setup part now last s ≡ digests_in (filter (λ e. is_expired_entry now e && is_behind last e.digest) sprig.entries)
+  pub expired_behind_is : (now : ℕ) (last : Option Digest) → HasEntries setup part sprig s
+      → expired_behind setup part now last s ≡ digests_in (filter (λ e. is_expired_entry now e && is_behind last e.digest) sprig.entries)
   expired_behind_is now last h =
       ap (filter (is_behind last)) (expired_is setup part sprig s h now)
-      ∙ digests_filtered (is_behind last) (λ e. is_behind last e.digest) (is_expired_entry now) sprig.entries (each_entry (λ e. is_behind last e.digest ≡ is_behind last e.digest) sprig.entries h.order (λ d e found. refl))
+      ∙ digests_filtered (is_behind last) (λ e. is_behind last e.digest) (is_expired_entry now) sprig.entries
+      (each_entry (λ e. is_behind last e.digest ≡ is_behind last e.digest) sprig.entries h.order (λ d e found. refl))
 
   -- how many entries are marked, and how many of those are tombstones
   pub marked_count_is : FitsPart setup part sprig s → length (marked_in setup part s) ≡ count_by (has_mark s.raid) sprig.entries

@@ -6,7 +6,8 @@ use Rattle.rec_format.specs.declared.version.Version.{Version}
 use Rattle.rec_format.specs.Versions.{version_units}
 use Rattle.model_device.specs.Book.{Setup, client, live_of, placing_number, live_of_entry}
 use Rattle.model_device.specs.Device.{State, part_of}
-use Rattle.model_device.specs.Steps.{Step, wrote, moved, removed, rid_of, uncovered, sealed_stream, gate_begun, flushed_buffer, closing_failed, raid_begun, raid_given_up, marked_part, scanned_block, compared_part, done_part, after_step, after_steps}
+use Rattle.model_device.specs.Steps.{Step, wrote, moved, removed, rid_of, uncovered, sealed_stream, gate_begun, flushed_buffer, closing_failed, raid_begun}
+use Rattle.model_device.specs.Steps.{raid_given_up, marked_part, scanned_block, compared_part, done_part, after_step, after_steps}
 use Rattle.model_device.specs.Events.{Event, Answer, after_event}
 use Rattle.model_device.specs.Legal.{WriteEnds, commit_seal, commit_flush}
 use Rattle.sprig_tree.specs.State.{SprigState}
@@ -41,12 +42,15 @@ book_fits setup part sprig s [] are fits = fits
 book_fits setup part sprig s (step ∷ steps) are fits = book_fits setup part sprig (after_step setup step s) steps are.1 (spared setup part sprig s step (book_spares setup part s step are.0) fits)
 
 -- An event without steps, or with steps of the book alone, leaves the sprig fitting.
-pub untouched_fits : (setup : Setup) (part : ℕ) (sprig : SprigState) (s : State) (event : Event) → AreOfBook event.steps → FitsPart setup part sprig s → FitsPart setup part sprig (after_event setup event s)
+pub untouched_fits : (setup : Setup) (part : ℕ) (sprig : SprigState) (s : State) (event : Event) → AreOfBook event.steps → FitsPart setup part sprig s
+    → FitsPart setup part sprig (after_event setup event s)
 untouched_fits setup part sprig s event are fits = book_fits setup part sprig s event.steps are fits
 
 -- A version is written, and then the book alone changes.
-pub writing_fits : (setup : Setup) (part : ℕ) (old new : SprigState) (s : State) (event : Event) (digest : Digest) (v : Version) (block unit : ℕ) (rest : List Step) → event.steps ≡ wrote digest v ∷ rest → AreOfBook rest
-    → part_of setup digest ≡ part → live_of digest (after_step setup (wrote digest v) s).book.live ≡ Some (live_of_entry (entry_at digest v block unit)) → TakesEntry (entry_at digest v block unit) old new
+pub writing_fits : (setup : Setup) (part : ℕ) (old new : SprigState) (s : State) (event : Event) (digest : Digest) (v : Version) (block unit : ℕ) (rest : List Step)
+    → event.steps ≡ wrote digest v ∷ rest → AreOfBook rest
+    → part_of setup digest ≡ part → live_of digest (after_step setup (wrote digest v) s).book.live ≡ Some (live_of_entry (entry_at digest v block unit))
+    → TakesEntry (entry_at digest v block unit) old new
     → FitsPart setup part old s → FitsPart setup part new (after_event setup event s)
 writing_fits setup part old new s event digest v block unit rest made are mine place takes fits =
     subst (λ (l : List Step). FitsPart setup part new (after_steps setup l s)) (sym made)

@@ -241,7 +241,11 @@ named_hit digest c (d ∷ copies) same order =
         ∙ cond-true (same_stamp c.version d.version) (d.version ∷ behind) (cond (is_later c.version d.version) (c.version ∷ d.version ∷ behind) (d.version ∷ with_version c.version behind)) both.1)
     by false true there e rest =
         cond-true (same_digest digest c.digest) (c.version ∷ here) here same
-        ∙ sym (in_front c.version here (all_named (λ w. is_later c.version w ≡ true) digest (d ∷ copies) (e, all_map (λ x. is_later x.version d.version ≡ false) (λ x. is_later c.version x.version ≡ true) copies (λ x no_later. later_than_behind c.version.stamp d.version.stamp x.version.stamp e no_later) order.0)))
+        ∙ sym (in_front c.version here (all_named (λ w. is_later c.version w ≡ true) digest (d ∷ copies) (
+          e,
+          all_map (λ x. is_later x.version d.version ≡ false) (λ x. is_later c.version x.version ≡ true) copies
+              (λ x no_later. later_than_behind c.version.stamp d.version.stamp x.version.stamp e no_later) order.0,
+        )))
     by false false there e rest =
         ap (λ (l : List Version). cond (same_digest digest d.digest) (d.version ∷ l) l) rest ∙ passes (same_digest digest d.digest) refl there e
 

@@ -49,7 +49,8 @@ module _ (setup : Setup) (part : ℕ) where
   high_below limit [] all = omega arith
   high_below limit (c ∷ copies) all = by (part_of setup c.digest == part) refl (high_below limit copies all.1)
     where
-      by : (b : Bool) → (part_of setup c.digest == part) ≡ b → copies_high setup part copies ≤ limit → cond b (max c.version.stamp.lut (copies_high setup part copies)) (copies_high setup part copies) ≤ limit
+      by : (b : Bool) → (part_of setup c.digest == part) ≡ b → copies_high setup part copies ≤ limit
+          → cond b (max c.version.stamp.lut (copies_high setup part copies)) (copies_high setup part copies) ≤ limit
       by true is rest = let here : c.version.stamp.lut ≤ limit = all.0 (eqb-true _ _ is) in omega (arith, here, rest)
       by false is rest = rest
 

@@ -40,5 +40,6 @@ bare_verdict = refl
 covered_verdict : verdict one_device (copy 0 (at 1 false (170 ∷ [])) ∷ copy 1 (a_tombstone (record { lut = 1000; gen_ = 2 })) ∷ copy 2 (at 3 true (187 ∷ [])) ∷ []) ≡ all_sound
 covered_verdict = refl
 
-stray_verdict : verdict (record one_device { devices = 2 }) ((record { digest = record { 0 = replicate 20 255 }; version = at 1 false []; block = 0; unit = 0 }) ∷ []) ≡ stray (record { 0 = replicate 20 255 })
+stray_verdict : verdict (record one_device { devices = 2 }) ((record { digest = record { 0 = replicate 20 255 }; version = at 1 false []; block = 0; unit = 0 }) ∷ [])
+    ≡ stray (record { 0 = replicate 20 255 })
 stray_verdict = refl

@@ -38,7 +38,8 @@ module _ (number : ℕ) (old new : Pending) (only : (m : ℕ) → is_pending new
       here (inl left) = inl (or_left (not (is_pending old n)) _ (not_from_false (is_pending old n) left))
       here (inr same) = inr (or_left (n == number) _ (eq-eqb n number same))
 
-      behind : (list_any (λ m. not (is_pending old m)) numbers ≡ true) ⊎ (list_any (λ m. m == number) numbers ≡ true) → (list_any (λ m. not (is_pending old m)) (n ∷ numbers) ≡ true) ⊎ (list_any (λ m. m == number) (n ∷ numbers) ≡ true)
+      behind : (list_any (λ m. not (is_pending old m)) numbers ≡ true) ⊎ (list_any (λ m. m == number) numbers ≡ true) → (list_any (λ m. not (is_pending old m)) (n ∷ numbers) ≡ true)
+          ⊎ (list_any (λ m. m == number) (n ∷ numbers) ≡ true)
       behind (inl left) = inl (or_right (not (is_pending old n)) _ left)
       behind (inr same) = inr (or_right (n == number) _ same)
 
@@ -53,10 +54,12 @@ module _ (number : ℕ) (old new : Pending) (only : (m : ℕ) → is_pending new
   newly_flushed (n ∷ numbers) done = newly_left (n ∷ numbers) done
 
   -- it was flushed before, or went to the buffer of this number
-  flushed_were : (P : Version → Type 0) (items : List Item) → AllByRecursion P (flushed_versions old items) → AllByRecursion P (versions_to number items) → AllByRecursion P (flushed_versions new items)
+  flushed_were : (P : Version → Type 0) (items : List Item) → AllByRecursion P (flushed_versions old items) → AllByRecursion P (versions_to number items)
+      → AllByRecursion P (flushed_versions new items)
   flushed_were P [] before went = tt
   flushed_were P (write v numbers ∷ items) before went =
-      let rest = flushed_were P items (all_behind P v (flushed_versions old items) (is_flushed old numbers) before) (all_behind P v (versions_to number items) (list_any (λ m. m == number) numbers) went) in
+      let rest = flushed_were P items (all_behind P v (flushed_versions old items) (is_flushed old numbers) before)
+      (all_behind P v (versions_to number items) (list_any (λ m. m == number) numbers) went) in
       cond_both (is_flushed new numbers) (v ∷ flushed_versions new items) (flushed_versions new items) (AllByRecursion P)
       (λ done. (
         ⊎_elim (λ was. all_first P v (flushed_versions old items) (is_flushed old numbers) was before)
@@ -72,7 +75,8 @@ module _ (number : ℕ) (old new : Pending) (only : (m : ℕ) → is_pending new
 module _ (setup : Setup) (number : ℕ) (book : Book) where
   flushed_is_further : IsFurther (pending_of book) (pending_of (with_flushed setup number book))
   flushed_is_further = record {
-    pending = λ m is. ⊎_elim (λ (e : m ≡ number). absurd (both_ways (is_pending (pending_of (with_flushed setup number book)) m) (gone m e) is)) (λ apart. sym (apart_pending setup number book m apart) ∙ is) (cases_eq m number);
+    pending = λ m is. ⊎_elim (λ (e : m ≡ number). absurd (both_ways (is_pending (pending_of (with_flushed setup number book)) m) (gone m e) is))
+        (λ apart. sym (apart_pending setup number book m apart) ∙ is) (cases_eq m number);
     begun = λ m is. ⊎_elim (λ (e : m ≡ number). inr (gone m e)) (λ apart. inl (apart_begun setup number book m apart ∙ is)) (cases_eq m number);
   }
     where

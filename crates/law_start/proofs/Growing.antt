@@ -1,7 +1,8 @@
 -- Histories that grow by one write stay orderly.
 use Rattle.std.proofs.Common.{◌≡◌, ◌⊎◌, inl, inr, ⊎_elim, ℕ, ◌+◌, ◌<◌, ◌≤◌, Bool, true, false, not, ◌&&◌, List, [], ◌∷◌, refl, sym, ◌∙◌, ap, arith}
 use Rattle.std.proofs.lemmas.Bool.{and_parts, and_from, both_ways}
-use Rattle.std.proofs.lemmas.List.Elements.{All-from_recursion, recursion_from_All, All-contains, All-weaker, All-contains_itself, Contains-append_left, Contains-append_cases, Contains-push, Contains-push_cases}
+use Rattle.std.proofs.lemmas.List.Elements.{All-from_recursion, recursion_from_All, All-contains, All-weaker, All-contains_itself, Contains-append_left}
+use Rattle.std.proofs.lemmas.List.Elements.{Contains-append_cases, Contains-push, Contains-push_cases}
 use Rattle.std.specs.Prelude.{Contains, IsTrue}
 use Rattle.std.specs.List.{AllByRecursion}
 use Rattle.rec_format.specs.declared.version.Stamp.{Stamp}
@@ -58,17 +59,20 @@ all_buried a tomb put b =
 
 pub cons_cases : {X : Type 0} (x : X) (xs : List X) (y : X) → Contains (x ∷ xs) y → (x ≡ y) ⊎ Contains xs y
 cons_cases x xs y there =
-    ⊎_elim (λ (first : Contains (x ∷ []) y). ⊎_elim (λ (none : Contains [] y). absurd (omega (arith, none.1))) (λ (e : x ≡ y). inl e) (Contains-push_cases [] x y first)) (λ (rest : Contains xs y). inr rest)
+    ⊎_elim (λ (first : Contains (x ∷ []) y). ⊎_elim (λ (none : Contains [] y). absurd (omega (arith, none.1))) (λ (e : x ≡ y). inl e) (Contains-push_cases [] x y first))
+    (λ (rest : Contains xs y). inr rest)
     (Contains-append_cases (x ∷ []) xs y there)
 
 pub bare_at : (versions : List Version) (a tomb put : Version) → NoBareVersions versions → Contains versions a → Contains versions tomb → Contains versions put → IsBuried a tomb put → put.cover ≡ true
 bare_at versions a tomb put none in_a in_tomb in_put b =
     all_at (λ p. IsTrue (is_tombstone tomb && is_put p && is_later tomb a && is_later p tomb) → p.cover ≡ true) versions put
     (all_at (λ t. AllByRecursion (λ p. IsTrue (is_tombstone t && is_put p && is_later t a && is_later p t) → p.cover ≡ true) versions) versions tomb
-    (all_at (λ a. AllByRecursion (λ t. AllByRecursion (λ p. IsTrue (is_tombstone t && is_put p && is_later t a && is_later p t) → p.cover ≡ true) versions) versions) versions a none in_a) in_tomb) in_put
+    (all_at (λ a. AllByRecursion (λ t. AllByRecursion (λ p. IsTrue (is_tombstone t && is_put p && is_later t a && is_later p t) → p.cover ≡ true) versions) versions) versions a none in_a)
+    in_tomb) in_put
     (all_buried a tomb put b)
 
-none_bare : (versions : List Version) → ((a tomb put : Version) → Contains versions a → Contains versions tomb → Contains versions put → IsBuried a tomb put → put.cover ≡ true) → NoBareVersions versions
+none_bare : (versions : List Version) → ((a tomb put : Version) → Contains versions a → Contains versions tomb → Contains versions put → IsBuried a tomb put → put.cover ≡ true)
+    → NoBareVersions versions
 none_bare versions each =
     all_from (λ a. AllByRecursion (λ t. AllByRecursion (λ p. IsTrue (is_tombstone t && is_put p && is_later t a && is_later p t) → p.cover ≡ true) versions) versions) versions
     (λ a in_a. all_from (λ t. AllByRecursion (λ p. IsTrue (is_tombstone t && is_put p && is_later t a && is_later p t) → p.cover ≡ true) versions) versions
@@ -105,7 +109,8 @@ numbers_rise n m (dropped ∷ items) up below = numbers_rise n m items up below
 numbers_rise n m (rid ∷ items) up below = numbers_rise n m items up below
 numbers_rise n m (cleared ∷ items) up below = numbers_rise n m items up below
 
-module _ (n : ℕ) (items : List Item) (v : Version) (h : IsOrderlyHistory n items) (version : IsVersion v) (put : is_put v ≡ true) (later : AllByRecursion (λ w. is_later v w ≡ true) (writes_of items)) (cover : v.cover ≡ is_covered items) where
+module _ (n : ℕ) (items : List Item) (v : Version) (h : IsOrderlyHistory n items) (version : IsVersion v) (put : is_put v ≡ true)
+    (later : AllByRecursion (λ w. is_later v w ≡ true) (writes_of items)) (cover : v.cover ≡ is_covered items) where
   is_older : (w : Version) → Contains (writes_of items) w → is_later v w ≡ true
   is_older w there = all_at (λ u. is_later v u ≡ true) (writes_of items) w later there
 
@@ -120,6 +125,7 @@ module _ (n : ℕ) (items : List Item) (v : Version) (h : IsOrderlyHistory n ite
     writes = h.writes;
     falling = (later, h.falling);
     numbers = ((omega arith, tt), numbers_rise n (n + 1) items (omega arith) h.numbers);
-    covered = none_bare (v ∷ writes_of items) (λ a tomb p in_a in_tomb in_p b. cover_of a tomb p (cons_cases v (writes_of items) a in_a) (cons_cases v (writes_of items) tomb in_tomb) (cons_cases v (writes_of items) p in_p) b);
+    covered = none_bare (v ∷ writes_of items) (λ a tomb p in_a in_tomb in_p b. cover_of a tomb p (cons_cases v (writes_of items) a in_a) (cons_cases v (writes_of items) tomb in_tomb)
+        (cons_cases v (writes_of items) p in_p) b);
     versions = (version, h.versions);
   }

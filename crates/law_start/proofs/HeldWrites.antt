@@ -52,7 +52,8 @@ unfolding after_step
 wrote_history setup s digest v e = refl
 
 -- what holds of the history with the write, or of that of another digest, holds of the history after it
-pub wrote_case : (setup : Setup) (s : State) (digest : Digest) (v : Version) (e : Digest) (P : List Item → Type 0) → (same_digest e digest ≡ true → P (written_item setup s v ∷ history s e)) → (same_digest e digest ≡ false → P (history s e))
+pub wrote_case : (setup : Setup) (s : State) (digest : Digest) (v : Version) (e : Digest) (P : List Item → Type 0) → (same_digest e digest ≡ true → P (written_item setup s v ∷ history s e))
+    → (same_digest e digest ≡ false → P (history s e))
     → P (history (after_step setup (wrote digest v) s) e)
 wrote_case setup s digest v e P more other =
     subst P (sym (wrote_history setup s digest v e)) (cond_both (same_digest e digest) (written_item setup s v ∷ history s e) (history s e) P more other)

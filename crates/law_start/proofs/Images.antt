@@ -108,7 +108,8 @@ pub record Parted (g : Geometry) (image front back : List ℕ) (bodies : List Bo
   pub in_front : HasBodies g image front before
   pub in_back : HasBodies g image back behind
 
-parted_at : (g : Geometry) (image : List ℕ) (block : ℕ) (blocks back : List ℕ) (bodies : List Body) → ((others : List Body) → HasBodies g image (blocks ++ back) others → Parted g image blocks back others)
+parted_at : (g : Geometry) (image : List ℕ) (block : ℕ) (blocks back : List ℕ) (bodies : List Body)
+    → ((others : List Body) → HasBodies g image (blocks ++ back) others → Parted g image blocks back others)
     → HasBodies g image (block ∷ blocks ++ back) bodies → Parted g image (block ∷ blocks) back bodies
 parted_at g image block blocks back bodies rest (inl h) =
     let r = rest bodies h.1 in
@@ -127,15 +128,18 @@ bodies_parted : (g : Geometry) (image front back : List ℕ) (bodies : List Body
 bodies_parted g image [] back bodies has = record { before = []; behind = bodies; parts = refl; in_front = refl; in_back = has }
 bodies_parted g image (block ∷ blocks) back bodies has = parted_at g image block blocks back bodies (λ others h. bodies_parted g image blocks back others h) has
 
-joined_at : (g : Geometry) (image : List ℕ) (block : ℕ) (blocks back : List ℕ) (before behind : List Body) → ((others : List Body) → HasBodies g image blocks others → HasBodies g image (blocks ++ back) (others ++ behind))
+joined_at : (g : Geometry) (image : List ℕ) (block : ℕ) (blocks back : List ℕ) (before behind : List Body)
+    → ((others : List Body) → HasBodies g image blocks others → HasBodies g image (blocks ++ back) (others ++ behind))
     → HasBodies g image (block ∷ blocks) before → HasBodies g image (block ∷ blocks ++ back) (before ++ behind)
 joined_at g image block blocks back before behind rest (inl h) = inl (h.0, rest before h.1)
 joined_at g image block blocks back before behind rest (inr h) =
     inr (h.0, h.1, h.2 ++ behind, h.3, h.4, ap (λ (l : List Body). l ++ behind) h.5, rest h.2 h.6)
 
-bodies_joined : (g : Geometry) (image front back : List ℕ) (before behind : List Body) → HasBodies g image front before → HasBodies g image back behind → HasBodies g image (front ++ back) (before ++ behind)
+bodies_joined : (g : Geometry) (image front back : List ℕ) (before behind : List Body) → HasBodies g image front before → HasBodies g image back behind
+    → HasBodies g image (front ++ back) (before ++ behind)
 bodies_joined g image [] back before behind in_front in_back = subst (λ (l : List Body). HasBodies g image back (l ++ behind)) (sym in_front) in_back
-bodies_joined g image (block ∷ blocks) back before behind in_front in_back = joined_at g image block blocks back before behind (λ others h. bodies_joined g image blocks back others behind h in_back) in_front
+bodies_joined g image (block ∷ blocks) back before behind in_front in_back =
+    joined_at g image block blocks back before behind (λ others h. bodies_joined g image blocks back others behind h in_back) in_front
 
 -- ---- a change within one block
 
@@ -174,7 +178,8 @@ module _ (g : Geometry) (block : ℕ) (old new : List ℕ) (differs : DiffersIn 
         behind = p.behind;
         parts = p.parts;
         readable = readable_with bodies (p.before ++ body ∷ p.behind) r (subst (λ (l : List ℕ). HasBodies g new l (p.before ++ body ∷ p.behind)) (sym (blocks_parted g block lt))
-            (bodies_joined g new (range_with_len 0 block) (block ∷ blocks_behind g block) p.before (body ∷ p.behind) (in_front p.before p.in_front) (inr (is_open, body, p.behind, is_body, placed, refl, in_back p.behind p.in_back))));
+            (bodies_joined g new (range_with_len 0 block) (block ∷ blocks_behind g block) p.before (body ∷ p.behind) (in_front p.before p.in_front)
+            (inr (is_open, body, p.behind, is_body, placed, refl, in_back p.behind p.in_back))));
       }
     where
       in_front : (others : List Body) → HasBodies g old (range_with_len 0 block) others → HasBodies g new (range_with_len 0 block) others

@@ -12,15 +12,18 @@ put_in_next setup digest units book None = refl
 put_in_next setup digest units book (Some b) = refl
 
 -- the buffer that a placing uses has a number below the next
-pub placing_below : (setup : Setup) (stream : Stream) (digest : Digest) (units : ℕ) (book : Book) → HasRisingNumbers book → placing_number setup stream units book < (placed setup stream digest units book).next_number
+pub placing_below : (setup : Setup) (stream : Stream) (digest : Digest) (units : ℕ) (book : Book) → HasRisingNumbers book
+    → placing_number setup stream units book < (placed setup stream digest units book).next_number
 unfolding placed
 placing_below setup stream digest units book counted =
-    subst (λ (n : ℕ). placing_number setup stream units book < n) (put_in_next setup digest units (with_room setup stream units book) (filling_buffer stream (with_room setup stream units book).buffers))
+    subst (λ (n : ℕ). placing_number setup stream units book < n)
+    (put_in_next setup digest units (with_room setup stream units book) (filling_buffer stream (with_room setup stream units book).buffers))
     (by (has_room setup stream units book) (some_room setup.capacity units (filling_buffer stream book.buffers)))
   where
     by : (c : Bool) → (c ≡ true → (b : Buffer) × (filling_buffer stream book.buffers ≡ Some b))
         → cond c (number_or book.next_number (filling_buffer stream book.buffers)) book.next_number < (cond c book (with_new_buffer stream book)).next_number
     by true some =
         let b = some refl in
-        subst (λ (o : Option Buffer). number_or book.next_number o < book.next_number) (sym b.1) (found_is (λ x. x.number < book.next_number) (λ x. same_stream stream x.stream && is_filling x.phase) book.buffers b.0 counted.below b.1).0
+        subst (λ (o : Option Buffer). number_or book.next_number o < book.next_number) (sym b.1)
+        (found_is (λ x. x.number < book.next_number) (λ x. same_stream stream x.stream && is_filling x.phase) book.buffers b.0 counted.below b.1).0
     by false some = omega arith

@@ -4,7 +4,8 @@ use Rattle.std.proofs.lemmas.Bool.{and_parts, and_from, or_cases, or_left, or_ri
 use Rattle.std.specs.Prelude.{◌==◌, filter}
 use Rattle.std.specs.List.{list_any}
 use Rattle.model_device.specs.Histories.{is_pending, is_begun}
-use Rattle.model_device.specs.Book.{Setup, Buffer, Book, Phase, Stream, filling, sealed, opening, is_opening, same_stream, sealed_if, seal_stream, used_more, opened_if, with_gate_begun, with_flushed, refreshed, pending_of}
+use Rattle.model_device.specs.Book.{Setup, Buffer, Book, Phase, Stream, filling, sealed, opening, is_opening, same_stream, sealed_if, seal_stream, used_more}
+use Rattle.model_device.specs.Book.{opened_if, with_gate_begun, with_flushed, refreshed, pending_of}
 
 -- ---- tests of lists
 
@@ -62,7 +63,8 @@ begun_pending number book m = by book.buffers
 
     by : (buffers : List Buffer) → is_pending (map shown (map (λ b. opened_if (b.number == number) b) buffers)) m ≡ is_pending (map shown buffers) m
     by [] = refl
-    by (b ∷ buffers) = ap (λ (c : Bool). c || is_pending (map shown (map (λ b. opened_if (b.number == number) b) buffers)) m) (head (b.number == number) b) ∙ ap (λ (c : Bool). (b.number == m) || c) (by buffers)
+    by (b ∷ buffers) = ap (λ (c : Bool). c || is_pending (map shown (map (λ b. opened_if (b.number == number) b) buffers)) m) (head (b.number == number) b)
+        ∙ ap (λ (c : Bool). (b.number == m) || c) (by buffers)
 
 -- what has begun stays so
 pub begun_stays : (number : ℕ) (book : Book) (m : ℕ) → is_begun (pending_of book) m ≡ true → is_begun (pending_of (with_gate_begun number book)) m ≡ true

@@ -80,7 +80,8 @@ of_body g image block blocks body c is_open placed is_body there =
       within = omega (arith, lies.within, is_body.units);
     }
 
-stands_at : (g : Geometry) (image : List ℕ) (block : ℕ) (blocks : List ℕ) (bodies : List Body) (c : Copy) → ((others : List Body) → HasBodies g image blocks others → Contains (copies_of others) c → CopyStands g image blocks c)
+stands_at : (g : Geometry) (image : List ℕ) (block : ℕ) (blocks : List ℕ) (bodies : List Body) (c : Copy)
+    → ((others : List Body) → HasBodies g image blocks others → Contains (copies_of others) c → CopyStands g image blocks c)
     → HasBodies g image (block ∷ blocks) bodies → Contains (copies_of bodies) c → CopyStands g image (block ∷ blocks) c
 stands_at g image block blocks bodies c rest (inl h) there = later_listed g image block blocks c (rest bodies h.1 there)
 stands_at g image block blocks bodies c rest (inr h) there =

@@ -8,7 +8,9 @@ use Rattle.std.specs.Prelude.{Option, Some, None, ◌==◌, find}
 use Rattle.std.specs.List.{AllByRecursion, list_any}
 use Rattle.rec_format.specs.declared.version.Digest.{Digest}
 use Rattle.model_device.specs.Histories.{Pending, is_pending, is_begun}
-use Rattle.model_device.specs.Book.{Setup, Buffer, Book, Phase, Stream, client, defrag, filling, sealed, opening, is_filling, is_opening, same_stream, seal_stream, first_block, filling_buffer, fits_in, has_room, with_new_buffer, with_room, put_in, placed, number_or, placing_number, refreshed, pending_of}
+use Rattle.model_device.specs.Book.{Setup, Buffer, Book, Phase, Stream, client, defrag, filling, sealed, opening, is_filling, is_opening, same_stream}
+use Rattle.model_device.specs.Book.{seal_stream, first_block, filling_buffer, fits_in, has_room, with_new_buffer, with_room, put_in, placed, number_or}
+use Rattle.model_device.specs.Book.{placing_number, refreshed, pending_of}
 use Rattle.law_start.specs.Holding.{AreRising, HasRisingNumbers}
 use Rattle.law_start.specs.Awaited.{IsAwaited}
 use Rattle.law_start.proofs.Each.{all_map}
@@ -48,7 +50,8 @@ filling_alone stream (x ∷ buffers) b rising found = by (same_stream stream x.s
     first : is_filling x.phase ≡ true → IsAlone x.number (x ∷ buffers)
     first fills = record {
       waits = or_left (x.number == x.number) (list_any (λ b. b.number == x.number) buffers) (eq-eqb x.number x.number refl);
-      unbegun = or_from (x.number == x.number && is_opening x.phase) (list_any (λ b. b.number == x.number && is_opening b.phase) buffers) (and_right (x.number == x.number) (is_opening x.phase) (filling_unopened x.phase fills))
+      unbegun = or_from (x.number == x.number && is_opening x.phase) (list_any (λ b. b.number == x.number && is_opening b.phase) buffers)
+          (and_right (x.number == x.number) (is_opening x.phase) (filling_unopened x.phase fills))
           (any_none (λ b. b.number == x.number && is_opening b.phase) buffers
           (all_map (λ c. x.number < c.number) (λ c. (c.number == x.number && is_opening c.phase) ≡ false) buffers
           (λ c lt. and_left (c.number == x.number) (is_opening c.phase) (ne_eqb c.number x.number (λ e. less_apart x.number c.number lt (sym e)))) rising.0));
@@ -63,7 +66,8 @@ filling_alone stream (x ∷ buffers) b rising found = by (same_stream stream x.s
               (and_left (x.number == b.number) (is_opening x.phase) (ne_eqb x.number b.number (less_apart x.number b.number lt))) rest.unbegun;
         }
 
-    by : (c : Bool) → (same_stream stream x.stream && is_filling x.phase) ≡ c → cond c (Some x) (filling_buffer stream buffers) ≡ Some b → (filling_buffer stream buffers ≡ Some b → IsAlone b.number buffers) → IsAlone b.number (x ∷ buffers)
+    by : (c : Bool) → (same_stream stream x.stream && is_filling x.phase) ≡ c → cond c (Some x) (filling_buffer stream buffers) ≡ Some b
+        → (filling_buffer stream buffers ≡ Some b → IsAlone b.number buffers) → IsAlone b.number (x ∷ buffers)
     by true is found rest =
         let same : x ≡ b = cc in
         subst (λ (c : Buffer). IsAlone c.number (x ∷ buffers)) same (first (and_parts (same_stream stream x.stream) (is_filling x.phase) is).1)
@@ -76,7 +80,8 @@ some_room capacity units (Some b) fits = (b, refl)
 -- ---- the buffer that a placing finds
 
 -- where a new buffer begins no other of its stream takes records
-new_found : (stream : Stream) (buffers : List Buffer) (new : Buffer) → (same_stream stream new.stream && is_filling new.phase) ≡ true → filling_buffer stream (seal_stream stream buffers ++ new ∷ []) ≡ Some new
+new_found : (stream : Stream) (buffers : List Buffer) (new : Buffer) → (same_stream stream new.stream && is_filling new.phase) ≡ true
+    → filling_buffer stream (seal_stream stream buffers ++ new ∷ []) ≡ Some new
 new_found stream [] new is = rw is refl
 new_found stream (x ∷ buffers) new is = at_head (same_stream stream x.stream) (is_filling x.phase) refl refl (new_found stream buffers new is)
   where
@@ -125,7 +130,8 @@ module _ (stream : Stream) (book : Book) (counted : HasRisingNumbers book) where
 
   new_awaited : IsAwaited book.next_number book.next_number (pending_of book) (pending_of (with_new_buffer stream book))
   new_awaited = record {
-    waits = one_more (λ p. p.0 == book.next_number) ∙ or_right (is_pending (pending_of book) book.next_number) ((book.next_number == book.next_number) || false) (or_left (book.next_number == book.next_number) false (eq-eqb book.next_number book.next_number refl));
+    waits = one_more (λ p. p.0 == book.next_number) ∙ or_right (is_pending (pending_of book) book.next_number) ((book.next_number == book.next_number) || false)
+        (or_left (book.next_number == book.next_number) false (eq-eqb book.next_number book.next_number refl));
     unbegun = one_more (λ p. p.0 == book.next_number && p.1) ∙ or_from (is_begun (pending_of book) book.next_number) (((book.next_number == book.next_number) && false) || false)
         (any_map (λ p. p.0 == book.next_number && p.1) shown book.buffers
         ∙ any_none (λ b. b.number == book.next_number && is_opening b.phase) book.buffers
@@ -154,11 +160,13 @@ unfolding refreshed
 put_in_pending setup digest units book None = refl
 put_in_pending setup digest units book (Some b) = use_shown b.number units book.buffers
 
-room_awaited : (setup : Setup) (stream : Stream) (units : ℕ) (book : Book) → HasRisingNumbers book → IsAwaited (placing_number setup stream units book) book.next_number (pending_of book) (pending_of (with_room setup stream units book))
+room_awaited : (setup : Setup) (stream : Stream) (units : ℕ) (book : Book) → HasRisingNumbers book
+    → IsAwaited (placing_number setup stream units book) book.next_number (pending_of book) (pending_of (with_room setup stream units book))
 room_awaited setup stream units book counted = by (has_room setup stream units book) (some_room setup.capacity units (filling_buffer stream book.buffers))
   where
     by : (c : Bool) → (c ≡ true → (b : Buffer) × (filling_buffer stream book.buffers ≡ Some b))
-        → IsAwaited (cond c (number_or book.next_number (filling_buffer stream book.buffers)) book.next_number) book.next_number (pending_of book) (pending_of (cond c book (with_new_buffer stream book)))
+        → IsAwaited (cond c (number_or book.next_number (filling_buffer stream book.buffers)) book.next_number) book.next_number (pending_of book)
+        (pending_of (cond c book (with_new_buffer stream book)))
     by true some =
         let b = some refl in
         let alone = filling_alone stream book.buffers b.0 counted.rising b.1 in

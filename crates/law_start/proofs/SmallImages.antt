@@ -74,7 +74,19 @@ can_record = record {
       lit< tt,
       (
         lit< tt,
-        (lit< tt, (lit< tt, (lit< tt, (lit< tt, (lit< tt, (lit< tt, (lit< tt, (lit< tt, (lit< tt, (lit< tt, (lit< tt, (lit< tt, (lit< tt, (lit< tt, (lit< tt, (lit< tt, (lit< tt, (lit< tt, tt)))))))))))))))))),
+        (
+          lit< tt,
+          (
+            lit< tt,
+            (
+              lit< tt,
+              (
+                lit< tt,
+                (lit< tt, (lit< tt, (lit< tt, (lit< tt, (lit< tt, (lit< tt, (lit< tt, (lit< tt, (lit< tt, (lit< tt, (lit< tt, (lit< tt, (lit< tt, (lit< tt, tt)))))))))))))),
+              ),
+            ),
+          ),
+        ),
       ),
     );
   };
@@ -115,7 +127,8 @@ written_sound = record {
 abbrev flushed_state : State
 flushed_state = after_steps setup (wrote d1 v1 ∷ sealed_stream client ∷ gate_begun 1 ∷ flushed_buffer 1 ∷ []) (start_state setup [])
 
-kept_by : (b : Bool) → (kept : List Item) × Keeps [] (cond b (write v1 (1 ∷ []) ∷ []) []) kept × (version_of (latest (cond b ((record { digest = d1; version = v1; block = 0; unit = 0 }) ∷ []) [])) ≡ last_write kept)
+kept_by : (b : Bool) → (kept : List Item) × Keeps [] (cond b (write v1 (1 ∷ []) ∷ []) []) kept
+    × (version_of (latest (cond b ((record { digest = d1; version = v1; block = 0; unit = 0 }) ∷ []) [])) ≡ last_write kept)
 kept_by true = (write v1 (1 ∷ []) ∷ [], record { lost = []; parts = refl; end = refl; durable = λ h. refl; tombstones = refl }, refl)
 kept_by false = ([], record { lost = []; parts = refl; end = refl; durable = λ h. refl; tombstones = refl }, refl)
 

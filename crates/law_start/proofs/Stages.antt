@@ -48,7 +48,8 @@ module _ (old new : Pending) (further : IsFurther old new) where
       here (inl is) = inr (or_left (is_begun new n) _ is)
       here (inr left) = inl (or_left (not (is_pending new n)) _ (not_from_false (is_pending new n) left))
 
-      behind : (list_any (λ m. not (is_pending new m)) numbers ≡ true) ⊎ (list_any (is_begun new) numbers ≡ true) → (list_any (λ m. not (is_pending new m)) (n ∷ numbers) ≡ true) ⊎ (list_any (is_begun new) (n ∷ numbers) ≡ true)
+      behind : (list_any (λ m. not (is_pending new m)) numbers ≡ true) ⊎ (list_any (is_begun new) numbers ≡ true) → (list_any (λ m. not (is_pending new m)) (n ∷ numbers) ≡ true)
+          ⊎ (list_any (is_begun new) (n ∷ numbers) ≡ true)
       behind (inl left) = inl (or_right (not (is_pending new n)) _ left)
       behind (inr is) = inr (or_right (is_begun new n) _ is)
 
@@ -72,10 +73,12 @@ module _ (old new : Pending) (further : IsFurther old new) where
   begun_further [] v there = there
   begun_further (write u numbers ∷ items) v there = by (is_waiting (stage_of old numbers)) refl there (begun_further items v)
     where
-      by : (b : Bool) → is_waiting (stage_of old numbers) ≡ b → Contains (cond b (begun_versions old items) (u ∷ begun_versions old items)) v → (Contains (begun_versions old items) v → Contains (begun_versions new items) v)
+      by : (b : Bool) → is_waiting (stage_of old numbers) ≡ b → Contains (cond b (begun_versions old items) (u ∷ begun_versions old items)) v
+          → (Contains (begun_versions old items) v → Contains (begun_versions new items) v)
           → Contains (cond (is_waiting (stage_of new numbers)) (begun_versions new items) (u ∷ begun_versions new items)) v
       by true is there rest =
-          cond_both (is_waiting (stage_of new numbers)) (begun_versions new items) (u ∷ begun_versions new items) (λ (l : List Version). Contains l v) (λ _. rest there) (λ _. rest_there u (begun_versions new items) v (rest there))
+          cond_both (is_waiting (stage_of new numbers)) (begun_versions new items) (u ∷ begun_versions new items) (λ (l : List Version). Contains l v) (λ _. rest there)
+          (λ _. rest_there u (begun_versions new items) v (rest there))
       by false is there rest =
           subst (λ (l : List Version). Contains l v) (sym (cond-false (is_waiting (stage_of new numbers)) (begun_versions new items) (u ∷ begun_versions new items) (stage_stays numbers is)))
           (⊎_elim (λ (e : u ≡ v). subst (λ (w : Version). Contains (u ∷ begun_versions new items) w) e (first_there u (begun_versions new items)))

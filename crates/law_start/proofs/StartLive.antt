@@ -101,7 +101,8 @@ find_cold digest copies (e ∷ names) there = by (same_digest digest e) refl the
     fewer : same_digest digest e ≡ false → (cold_copy digest copies ≡ None) ⊎ Contains (e ∷ names) digest → (cold_copy digest copies ≡ None) ⊎ Contains names digest
     fewer other (inl none) = inl none
     fewer other (inr more) =
-        ⊎_elim (λ (same : e ≡ digest). absurd (both_ways (same_digest digest e) other (ap (same_digest digest) same ∙ same_digest_refl digest))) (λ (rest : Contains names digest). inr rest) (cons_cases e names digest more)
+        ⊎_elim (λ (same : e ≡ digest). absurd (both_ways (same_digest digest e) other (ap (same_digest digest) same ∙ same_digest_refl digest))) (λ (rest : Contains names digest). inr rest)
+        (cons_cases e names digest more)
 
     by : (b : Bool) → same_digest digest e ≡ b → (cold_copy digest copies ≡ None) ⊎ Contains (e ∷ names) digest
         → ((cold_copy digest copies ≡ None) ⊎ Contains names digest → find_named digest others ≡ cold_copy digest copies)

@@ -51,7 +51,8 @@ seal_low_flushing setup book =
     all_joined IsFlushing (seal_if (is_due setup book client) client) (seal_if (is_due setup book defrag) defrag)
     (seal_is_flushing (is_due setup book client) client) (seal_is_flushing (is_due setup book defrag) defrag)
 
-one_flushing : (number block : ℕ) (stream : Stream) (used : ℕ) (phase : Phase) → AllByRecursion IsFlushing (flush_of (record { number = number; block = block; stream = stream; used = used; phase = phase }))
+one_flushing : (number block : ℕ) (stream : Stream) (used : ℕ) (phase : Phase)
+    → AllByRecursion IsFlushing (flush_of (record { number = number; block = block; stream = stream; used = used; phase = phase }))
 one_flushing number block stream used filling = tt
 one_flushing number block stream used sealed = (tt, (tt, tt))
 one_flushing number block stream used opening = (tt, tt)
@@ -69,7 +70,8 @@ module _ (setup : Setup) (part : ℕ) (sprig : SprigState) (s : State) (steps : 
   pub sprig_stays : SprigStands setup part sprig s → SprigStands setup part sprig (after_steps setup steps s)
   sprig_stays stands = record { fits = book_fits setup part sprig s steps (flushing_are_of_book steps all) stands.fits; times = stands.times }
 
-  pub together_on : {D : Type 0} (new : ShelfView D) → SprigStands setup part sprig s → ShelfStands setup new (after_steps setup steps s) → StandTogether setup part sprig new (after_steps setup steps s)
+  pub together_on : {D : Type 0} (new : ShelfView D) → SprigStands setup part sprig s → ShelfStands setup new (after_steps setup steps s)
+      → StandTogether setup part sprig new (after_steps setup steps s)
   together_on new stands shelf = record { sprig_stands = sprig_stays stands; shelf_stands = shelf }
 
 -- ---- the event

@@ -31,13 +31,15 @@ module _ (s : State) (records : Records) (booked : IsBooked s.book) (before behi
   pub free_body_goes : Contains s.book.free body.block → IsTrailed s records (before ++ body ∷ behind) → IsTrailed s records (before ++ behind)
   free_body_goes free trailed =
       bodies_kept s records (before ++ body ∷ behind) (before ++ behind) booked
-      (λ x there none used. ⊎_elim (λ (same : body ≡ x). absurd (all_at (λ b. b ≢ x.block) s.book.free body.block used free (ap (λ (y : Body). y.block) same))) (λ (more : Contains (before ++ behind) x). more) (others_there x there)) trailed
+      (λ x there none used. ⊎_elim (λ (same : body ≡ x). absurd (all_at (λ b. b ≢ x.block) s.book.free body.block used free (ap (λ (y : Body). y.block) same)))
+      (λ (more : Contains (before ++ behind) x). more) (others_there x there)) trailed
 
   -- the body of a pending buffer goes
   pub pending_body_goes : has_buffer s.book body.block ≡ true → IsTrailed s records (before ++ body ∷ behind) → IsTrailed s records (before ++ behind)
   pending_body_goes pending trailed =
       bodies_kept s records (before ++ body ∷ behind) (before ++ behind) booked
-      (λ x there none used. ⊎_elim (λ (same : body ≡ x). absurd (both_ways (has_buffer s.book x.block) none (subst (λ (y : Body). has_buffer s.book y.block ≡ true) same pending))) (λ (more : Contains (before ++ behind) x). more) (others_there x there)) trailed
+      (λ x there none used. ⊎_elim (λ (same : body ≡ x). absurd (both_ways (has_buffer s.book x.block) none (subst (λ (y : Body). has_buffer s.book y.block ≡ true) same pending)))
+      (λ (more : Contains (before ++ behind) x). more) (others_there x there)) trailed
 
   -- a body comes
   pub body_comes : IsTrailed s records (before ++ behind) → IsTrailed s records (before ++ body ∷ behind)
@@ -47,7 +49,8 @@ module _ (s : State) (records : Records) (booked : IsBooked s.book) (before behi
 
 module _ (book : Book) (records : Records) (bodies : List Body) (digest : Digest) (booked : IsBooked book) where
   -- no block of a trail from one that isn't free is free
-  pub trail_not_free : {block : ℕ} {items : List Item} (trail : Trail book records bodies digest block items) → NotFree book block → AllByRecursion (NotFree book) (blocks_of book records bodies digest trail)
+  pub trail_not_free : {block : ℕ} {items : List Item} (trail : Trail book records bodies digest block items) → NotFree book block
+      → AllByRecursion (NotFree book) (blocks_of book records bodies digest trail)
   trail_not_free (stored none is) used = (used, tt)
   trail_not_free (first waits none) used = (used, tt)
   trail_not_free (replaced {number = number} {before = before} waits held rest) used = (used, trail_not_free rest (held_not_free book number before booked held))

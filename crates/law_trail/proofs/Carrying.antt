@@ -9,7 +9,8 @@ use Rattle.model_device.specs.Book.{Book, Live, has_buffer, live_of}
 use Rattle.model_device.specs.Device.{State, history}
 use Rattle.block_format.specs.Layout.{Body}
 use Rattle.law_start.proofs.Growing.{all_at}
-use Rattle.law_trail.specs.Trail.{Records, places_of, StoredIn, WaitsIn, Trail, stored, first, replaced, moved, moved_found, uncovered_since, LeadsOn, IsTrailed, IsBooked, NotFree, KeepsRecords, KeepsBodies}
+use Rattle.law_trail.specs.Trail.{Records, places_of, StoredIn, WaitsIn, Trail, stored, first, replaced, moved, moved_found, uncovered_since, LeadsOn}
+use Rattle.law_trail.specs.Trail.{IsTrailed, IsBooked, NotFree, KeepsRecords, KeepsBodies}
 use Rattle.law_trail.proofs.Books.{held_not_free, live_not_free}
 
 pub record CarriesTrails (old new : Book) (old_records new_records : Records) (old_bodies new_bodies : List Body) : Type 0 where
@@ -19,7 +20,8 @@ pub record CarriesTrails (old new : Book) (old_records new_records : Records) (o
   pub records : KeepsRecords old old_records new_records
   pub bodies : KeepsBodies old old_bodies new_bodies
 
-module _ (old new : Book) (old_records new_records : Records) (old_bodies new_bodies : List Body) (booked : IsBooked old) (carries : CarriesTrails old new old_records new_records old_bodies new_bodies) (digest : Digest) where
+module _ (old new : Book) (old_records new_records : Records) (old_bodies new_bodies : List Body) (booked : IsBooked old)
+    (carries : CarriesTrails old new old_records new_records old_bodies new_bodies) (digest : Digest) where
   stored_on : (block : ℕ) (v : Version) → has_buffer old block ≡ false → NotFree old block → StoredIn old_bodies block digest v → StoredIn new_bodies block digest v
   stored_on block v none used is = record {
     body = is.body;
@@ -45,7 +47,8 @@ module _ (old new : Book) (old_records new_records : Records) (old_bodies new_bo
       moved_found (waits_on number block v waits) (carries.holds (number, before) held) (carried rest (held_not_free old number before booked held))
   carried (uncovered_since rest) used = uncovered_since (carried rest used)
 
-  pub lead_carried : (items : List Item) (live : Option Live) → live_of digest old.live ≡ live → LeadsOn old old_records old_bodies digest live items → LeadsOn new new_records new_bodies digest live items
+  pub lead_carried : (items : List Item) (live : Option Live) → live_of digest old.live ≡ live → LeadsOn old old_records old_bodies digest live items
+      → LeadsOn new new_records new_bodies digest live items
   lead_carried items None is leads = leads
   lead_carried items (Some l) is leads = carried leads (live_not_free old digest l booked is)
 

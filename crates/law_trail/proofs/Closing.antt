@@ -19,12 +19,14 @@ module _ (g : Geometry) (block : ℕ) (old new : List ℕ) (differs : DiffersIn 
   abbrev IsLeft : List ℕ → Type 0
   IsLeft blocks = (bodies : List Body) → HasBodies g old blocks bodies → HasBodies g new blocks (without_body block bodies)
 
-  left_at : (k : ℕ) (blocks : List ℕ) (bodies : List Body) → k < g.blocks → (k ≡ block) ⊎ (k ≢ block) → IsLeft blocks → HasBodies g old (k ∷ blocks) bodies → HasBodies g new (k ∷ blocks) (without_body block bodies)
+  left_at : (k : ℕ) (blocks : List ℕ) (bodies : List Body) → k < g.blocks → (k ≡ block) ⊎ (k ≢ block) → IsLeft blocks → HasBodies g old (k ∷ blocks) bodies
+      → HasBodies g new (k ∷ blocks) (without_body block bodies)
   left_at k blocks bodies lt (inl same) rest (inl h) = inl (subst (λ (b : ℕ). IsClosed (gate_sector g b new)) (sym same) closed, rest bodies h.1)
   left_at k blocks bodies lt (inl same) rest (inr h) = inl (
     subst (λ (b : ℕ). IsClosed (gate_sector g b new)) (sym same) closed,
     subst (HasBodies g new blocks)
-        (sym (ap (without_body block) h.5 ∙ cond-false (not (h.1.block == block)) (h.1 ∷ without_body block h.2) (without_body block h.2) (not_from_true (h.1.block == block) (eq-eqb h.1.block block (h.4 ∙ same))))) (rest h.2 h.6),
+        (sym (ap (without_body block) h.5 ∙ cond-false (not (h.1.block == block)) (h.1 ∷ without_body block h.2) (without_body block h.2)
+        (not_from_true (h.1.block == block) (eq-eqb h.1.block block (h.4 ∙ same))))) (rest h.2 h.6),
   )
   left_at k blocks bodies lt (inr apart) rest (inl h) = inl (subst IsClosed (sym (differs.gates k lt apart)) h.0, rest bodies h.1)
   left_at k blocks bodies lt (inr apart) rest (inr h) = inr (
@@ -51,7 +53,8 @@ module _ (g : Geometry) (block : ℕ) (old new : List ℕ) (differs : DiffersIn 
   }
 
 -- the body of a free block goes
-pub closed_trailed : (s : State) (records : Records) (bodies : List Body) (block : ℕ) → IsBooked s.book → Contains s.book.free block → IsTrailed s records bodies → IsTrailed s records (without_body block bodies)
+pub closed_trailed : (s : State) (records : Records) (bodies : List Body) (block : ℕ) → IsBooked s.book → Contains s.book.free block → IsTrailed s records bodies
+    → IsTrailed s records (without_body block bodies)
 closed_trailed s records bodies block booked free trailed =
     bodies_kept s records bodies (without_body block bodies) booked
     (λ body there none used. filter_there (λ (b : Body). not (b.block == block)) bodies body

@@ -5,14 +5,16 @@ use Rattle.rec_format.specs.declared.version.Digest.{Digest}
 use Rattle.rec_format.specs.declared.version.Version.{Version}
 use Rattle.model_device.specs.Book.{Setup, Live, defrag, live_of, placing_number}
 use Rattle.model_device.specs.Device.{State, entry}
-use Rattle.model_device.specs.Steps.{Step, wrote, moved, removed, rid_of, uncovered, sealed_stream, gate_begun, flushed_buffer, closing_failed, raid_begun, raid_given_up, marked_part, scanned_block, compared_part, done_part, after_step}
+use Rattle.model_device.specs.Steps.{Step, wrote, moved, removed, rid_of, uncovered, sealed_stream, gate_begun, flushed_buffer, closing_failed, raid_begun}
+use Rattle.model_device.specs.Steps.{raid_given_up, marked_part, scanned_block, compared_part, done_part, after_step}
 use Rattle.block_format.specs.Layout.{Body}
 use Rattle.law_trail.specs.Trail.{Records, IsTrailed, IsBooked, CanPlace}
 use Rattle.law_trail.specs.Needs.{HasRoomFor, IsBacked}
 use Rattle.law_trail.proofs.Writing.{wrote_booked, wrote_trailed}
 use Rattle.law_trail.proofs.Moving.{moved_booked, moved_trailed}
 use Rattle.law_trail.proofs.Flushing.{flushed_booked, flushed_trailed}
-use Rattle.law_trail.proofs.Others.{removed_booked, rid_booked, sealed_booked, begun_booked, passed_booked, removed_trailed, rid_trailed, uncovered_trailed, sealed_trailed, begun_trailed, passed_trailed}
+use Rattle.law_trail.proofs.Others.{removed_booked, rid_booked, sealed_booked, begun_booked, passed_booked, removed_trailed, rid_trailed, uncovered_trailed}
+use Rattle.law_trail.proofs.Others.{sealed_trailed, begun_trailed, passed_trailed}
 
 module _ (setup : Setup) (s : State) (booked : IsBooked s.book) where
   -- a move of what isn't live does nothing
@@ -20,7 +22,8 @@ module _ (setup : Setup) (s : State) (booked : IsBooked s.book) where
   unfolding after_step
   unmoved digest none = rw none refl
 
-  move_booked : (digest : Digest) (live : Option Live) → live_of digest s.book.live ≡ live → MatchOption live (Unit {0}) (λ copy. CanPlace setup defrag copy.units s.book) → IsBooked (after_step setup (moved digest) s).book
+  move_booked : (digest : Digest) (live : Option Live) → live_of digest s.book.live ≡ live → MatchOption live (Unit {0}) (λ copy. CanPlace setup defrag copy.units s.book)
+      → IsBooked (after_step setup (moved digest) s).book
   move_booked digest None is can = rw (unmoved digest is) booked
   move_booked digest (Some copy) is can = moved_booked setup s booked digest copy is can
 

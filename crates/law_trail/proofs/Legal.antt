@@ -9,9 +9,16 @@ use Rattle.rec_format.specs.declared.version.Version.{Version}
 use Rattle.rec_format.specs.Versions.{version_units, is_tombstone, is_expired_put, units_for, a_tombstone, top_number}
 use Rattle.model_device.specs.Book.{Setup, Buffer, Book, Live, Stream, client, defrag, Phase, filling, sealed, opening, is_filling, has_room, placing_number, live_of, filling_buffer}
 use Rattle.model_device.specs.Device.{State, Turn, mark_turn, scan_turn, apply_turn, drop_turn, finished, entry, entry_passes, entry_is_covered, seen, next_stamp_of}
-use Rattle.model_device.specs.Steps.{Step, wrote, moved, removed, rid_of, uncovered, sealed_stream, gate_begun, flushed_buffer, closing_failed, raid_begun, raid_given_up, marked_part, scanned_block, compared_part, done_part, after_step, after_steps}
-use Rattle.model_device.specs.Events.{Call, put_call, bury_call, delete_call, expire_call, get_call, flush_call, flush_sealed_call, flush_next_call, choose_call, move_call, begin_call, turn_call, Cause, too_big, Answer, happened, stamp_given, raid_numbered, refused, no_memory, stale, Event, after_event, after_events}
-use Rattle.model_device.specs.Legal.{seal_if, seal_all, is_due, seal_low, flush_of, flush_between, flush_all, first_sealed, flush_first, StopsIn, FlushEnds, put_reserve, tombstone_reserve, move_reserve, no_place, no_write, commit_seal, commit_flush, WriteEnds, Only, NoMemory, Unless, the_stamp, Entombs, first_cause, not_expected, seen_generation, put_refusal, new_put, Removes, WhereReads, DamageFound, DiskFails, is_in_block, live_units, drop_step, marked_in, drop_steps, TurnEnds, same_turn, queue_front, Allowed, Follows, IsLegal}
+use Rattle.model_device.specs.Steps.{Step, wrote, moved, removed, rid_of, uncovered, sealed_stream, gate_begun, flushed_buffer, closing_failed, raid_begun}
+use Rattle.model_device.specs.Steps.{raid_given_up, marked_part, scanned_block, compared_part, done_part, after_step, after_steps}
+use Rattle.model_device.specs.Events.{Call, put_call, bury_call, delete_call, expire_call, get_call, flush_call, flush_sealed_call, flush_next_call}
+use Rattle.model_device.specs.Events.{choose_call, move_call, begin_call, turn_call, Cause, too_big, Answer, happened, stamp_given, raid_numbered, refused}
+use Rattle.model_device.specs.Events.{no_memory, stale, Event, after_event, after_events}
+use Rattle.model_device.specs.Legal.{seal_if, seal_all, is_due, seal_low, flush_of, flush_between, flush_all, first_sealed, flush_first, StopsIn, FlushEnds}
+use Rattle.model_device.specs.Legal.{put_reserve, tombstone_reserve, move_reserve, no_place, no_write, commit_seal, commit_flush, WriteEnds, Only, NoMemory}
+use Rattle.model_device.specs.Legal.{Unless, the_stamp, Entombs, first_cause, not_expected, seen_generation, put_refusal, new_put, Removes, WhereReads}
+use Rattle.model_device.specs.Legal.{DamageFound, DiskFails, is_in_block, live_units, drop_step, marked_in, drop_steps, TurnEnds, same_turn, queue_front}
+use Rattle.model_device.specs.Legal.{Allowed, Follows, IsLegal}
 use Rattle.law_start.proofs.Opening.{all_joined, all_parted}
 use Rattle.law_trail.specs.Trail.{IsBooked, CanPlace}
 use Rattle.law_trail.specs.Needs.{HasRoomFor, HasRoomThrough}
@@ -238,7 +245,8 @@ module _ (setup : Setup) (s : State) (event : Event) where
   turn_ends told (scan_turn block) now (inr (inr (inl fails))) = none_steps (raid_given_up ∷ []) fails.1 (refl, tt)
   turn_ends told (scan_turn block) now (inr (inr (inr memory))) = none_steps (raid_given_up ∷ []) memory.1 (refl, tt)
   turn_ends told (apply_turn part) now is = none_steps (compared_part part ∷ []) is.1 (refl, tt)
-  turn_ends told (drop_turn part) now is = none_steps (drop_steps setup part s) is.1 (both_none (map (drop_step s) (marked_in setup part s)) (done_part part ∷ []) (drops_none s (marked_in setup part s)) (refl, tt))
+  turn_ends told (drop_turn part) now is = none_steps (drop_steps setup part s) is.1
+      (both_none (map (drop_step s) (marked_in setup part s)) (done_part part ∷ []) (drops_none s (marked_in setup part s)) (refl, tt))
   turn_ends told finished now is = none_steps [] is.1 tt
 
   turn_room : (told : Bool) (number : ℕ) (turn : Turn) (now : ℕ) (b : Bool) → MatchBool b (TurnEnds setup told s event turn now) (Only event (refused (stale s.raid.number s.raid.next))) → IsRoomy

@@ -56,9 +56,11 @@ module _ (setup : Setup) (s : State) (booked : IsBooked s.book) (digest : Digest
     own_moved : Trail new records bodies digest p.copy.block (with_number number (history s digest))
     own_moved =
         let leads = subst (λ (o : Option Live). LeadsOn s.book records bodies digest o (history s digest)) live (trailed digest) in
-        let trail = carried s.book new records records bodies bodies booked (placed_carries digest number s.book new p booked records bodies) digest leads (live_not_free s.book digest copy booked live) in
+        let trail = carried s.book new records records bodies bodies booked (placed_carries digest number s.book new p booked records bodies) digest leads
+        (live_not_free s.book digest copy booked live) in
         let top = trail_entry s.book records bodies digest leads in
-        move_leads digest number s.book new p booked records bodies copy.block (history s digest) top.0 top.1 (has top.0 top.1) (holds_old digest number s.book new p booked records bodies copy live) trail
+        move_leads digest number s.book new p booked records bodies copy.block (history s digest) top.0 top.1 (has top.0 top.1)
+        (holds_old digest number s.book new p booked records bodies copy live) trail
 
     each_moved : (e : Digest) → LeadsOn new records bodies e (live_of e new.live) (history_of e (log_with_number digest number s.log))
     each_moved e = by (same_digest e digest) refl

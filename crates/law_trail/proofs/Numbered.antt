@@ -8,9 +8,12 @@ use Rattle.rec_format.specs.declared.version.Version.{Version}
 use Rattle.rec_format.specs.Places.{same_digest}
 use Rattle.rec_format.specs.Versions.{version_units}
 use Rattle.model_device.specs.Histories.{Item, write, dropped, rid, cleared, with_number}
-use Rattle.model_device.specs.Book.{Setup, Buffer, Book, Live, Stream, client, defrag, filling, same_stream, sealed_if, seal_stream, first_block, used_more, opened_if, filling_buffer, has_room, with_new_buffer, with_room, put_in, placed, placing_number, refreshed, dropped_live, with_seal, with_gate_begun, with_flushed, live_of}
+use Rattle.model_device.specs.Book.{Setup, Buffer, Book, Live, Stream, client, defrag, filling, same_stream, sealed_if, seal_stream, first_block, used_more}
+use Rattle.model_device.specs.Book.{opened_if, filling_buffer, has_room, with_new_buffer, with_room, put_in, placed, placing_number, refreshed, dropped_live}
+use Rattle.model_device.specs.Book.{with_seal, with_gate_begun, with_flushed, live_of}
 use Rattle.model_device.specs.Device.{State, history, history_of, log_with_number}
-use Rattle.model_device.specs.Steps.{Step, wrote, moved, removed, rid_of, uncovered, sealed_stream, gate_begun, flushed_buffer, closing_failed, raid_begun, raid_given_up, marked_part, scanned_block, compared_part, done_part, with_item, moved_state, after_step}
+use Rattle.model_device.specs.Steps.{Step, wrote, moved, removed, rid_of, uncovered, sealed_stream, gate_begun, flushed_buffer, closing_failed, raid_begun}
+use Rattle.model_device.specs.Steps.{raid_given_up, marked_part, scanned_block, compared_part, done_part, with_item, moved_state, after_step}
 use Rattle.model_device.proofs.Laws.{KeepsNumber}
 use Rattle.rec_format.proofs.Laws.{same_digest_is}
 use Rattle.model_device.proofs.Numbers.{history_with_number, next_number_rises}
@@ -47,7 +50,8 @@ rising_fewer test [] rising = tt
 rising_fewer test (b ∷ bs) rising =
     let rest = rising_fewer test bs rising.1 in cond_both (test b) (b ∷ filter test bs) (filter test bs) AreRising (λ _. (all_fewer (λ c. b.number < c.number) test bs rising.0, rest)) (λ _. rest)
 
-changed_counted : (change : Buffer → Buffer) → KeepsNumber change → (old new : Book) → new.buffers ≡ map change old.buffers → new.next_number ≡ old.next_number → HasRisingNumbers old → HasRisingNumbers new
+changed_counted : (change : Buffer → Buffer) → KeepsNumber change → (old new : Book) → new.buffers ≡ map change old.buffers → new.next_number ≡ old.next_number
+    → HasRisingNumbers old → HasRisingNumbers new
 changed_counted change keeps old new buffers next counted = record {
   rising = subst AreRising (sym buffers) (rising_changed change keeps old.buffers counted.rising);
   below = subst (λ (n : ℕ). AllByRecursion (λ b. b.number < n) new.buffers) (sym next)
@@ -70,7 +74,8 @@ new_counted stream book counted =
     record {
       rising = rising_joined (seal_stream stream book.buffers) (record { number = book.next_number; block = first_block book.free; stream = stream; used = 0; phase = filling })
           (rising_changed seals (keeps_sealed stream) book.buffers counted.rising) below;
-      below = all_joined (λ b. b.number < book.next_number + 1) (seal_stream stream book.buffers) ((record { number = book.next_number; block = first_block book.free; stream = stream; used = 0; phase = filling }) ∷ [])
+      below = all_joined (λ b. b.number < book.next_number + 1) (seal_stream stream book.buffers)
+          ((record { number = book.next_number; block = first_block book.free; stream = stream; used = 0; phase = filling }) ∷ [])
           (all_map (λ b. b.number < book.next_number) (λ b. b.number < book.next_number + 1) (seal_stream stream book.buffers) (λ b lt. omega arith) below) (omega arith, tt);
     }
 
@@ -137,7 +142,8 @@ module _ (setup : Setup) (s : State) (numbered : HasNumbers s) where
           (number_below limit number (history s digest) (placing_below setup defrag digest copy.units s.book numbered.counted) (up digest)))
       by e false other = subst (NumbersBelow limit) (sym (other_history digest e number s.log other)) (up e)
 
-  item_numbered : (digest : Digest) (item : Item) → ((items : List Item) → NumbersBelow s.book.next_number items → NumbersBelow s.book.next_number (item ∷ items)) → (book : Book) → HasRisingNumbers book → s.book.next_number ≡ book.next_number
+  item_numbered : (digest : Digest) (item : Item) → ((items : List Item) → NumbersBelow s.book.next_number items → NumbersBelow s.book.next_number (item ∷ items)) → (book : Book)
+      → HasRisingNumbers book → s.book.next_number ≡ book.next_number
       → HasNumbers (with_item digest item book s)
   item_numbered digest item more book counted next = record {
     counted = counted;

@@ -6,7 +6,8 @@ use Rattle.std.specs.List.{AllByRecursion, list_any}
 use Rattle.rec_format.specs.declared.version.Digest.{Digest}
 use Rattle.rec_format.specs.Places.{same_digest}
 use Rattle.model_device.specs.Histories.{Item, dropped, rid, cleared, top_of}
-use Rattle.model_device.specs.Book.{Setup, Book, Live, Stream, has_buffer, is_held, use_of, may_be_free, refreshed, dropped_live, live_of, without_live, with_seal, opened_if, with_gate_begun, first_to_back, with_first_passed}
+use Rattle.model_device.specs.Book.{Setup, Book, Live, Stream, has_buffer, is_held, use_of, may_be_free, refreshed, dropped_live, live_of, without_live}
+use Rattle.model_device.specs.Book.{with_seal, opened_if, with_gate_begun, first_to_back, with_first_passed}
 use Rattle.model_device.specs.Device.{State, history}
 use Rattle.model_device.specs.Steps.{removed, rid_of, uncovered, sealed_stream, gate_begun, closing_failed, with_item, after_step}
 use Rattle.rec_format.proofs.Laws.{same_digest_is}

@@ -7,7 +7,9 @@ use Rattle.std.proofs.lemmas.List.Elements.{Contains-append_left, Contains-appen
 use Rattle.std.specs.Prelude.{Option, Some, ◌==◌, find, Contains}
 use Rattle.std.specs.List.{AllByRecursion, list_any}
 use Rattle.rec_format.specs.declared.version.Digest.{Digest}
-use Rattle.model_device.specs.Book.{Setup, Buffer, Book, Live, Stream, Phase, filling, sealed, opening, is_filling, same_stream, sealed_if, seal_stream, first_block, filling_buffer, has_buffer, has_room, with_new_buffer, with_room, used_more, opened_if, with_hold, put_in, placed, placing_number, refreshed, live_of, without_live}
+use Rattle.model_device.specs.Book.{Setup, Buffer, Book, Live, Stream, Phase, filling, sealed, opening, is_filling, same_stream, sealed_if, seal_stream}
+use Rattle.model_device.specs.Book.{first_block, filling_buffer, has_buffer, has_room, with_new_buffer, with_room, used_more, opened_if, with_hold, put_in}
+use Rattle.model_device.specs.Book.{placed, placing_number, refreshed, live_of, without_live}
 use Rattle.law_start.proofs.Growing.{all_at, cons_cases}
 use Rattle.law_start.proofs.Members.{first_there, rest_there, map_there}
 use Rattle.law_start.proofs.Pending.{map_shows}
@@ -159,7 +161,8 @@ module _ (setup : Setup) (stream : Stream) (digest : Digest) (units : ℕ) (book
         own = refl;
         live = ap (λ (l : List Live). copy ∷ without_live digest l) is.live;
         placed_in = subst (λ (l : List (ℕ × ℕ)). Contains l (number, b.block)) (sym (put_places b))
-            (subst (λ (n : ℕ). Contains (places_of ready) (n, b.block)) same (map_there place ready.buffers b (find_there (λ c. same_stream stream c.stream && is_filling c.phase) ready.buffers b found)));
+            (subst (λ (n : ℕ). Contains (places_of ready) (n, b.block)) same
+            (map_there place ready.buffers b (find_there (λ c. same_stream stream c.stream && is_filling c.phase) ready.buffers b found)));
         holds = ap (λ (n : ℕ). with_hold n (live_of digest ready.live) ready.holds) same
             ∙ ap (λ (l : List Live). with_hold number (live_of digest l) ready.holds) is.live ∙ ap (with_hold number (live_of digest book.live)) is.holds;
         places = λ p there. subst (λ (l : List (ℕ × ℕ)). Contains l p) (sym (put_places b)) (is.places p there);
@@ -197,5 +200,6 @@ placed_places setup stream digest units book p there = by (has_room setup stream
     by true there = inl there
     by false there =
         ⊎_elim (λ (old : Contains (places_of book) p). inl old) (λ (new : Contains ((book.next_number, first_block book.free) ∷ []) p).
-        ⊎_elim (λ (e : (book.next_number, first_block book.free) ≡ p). inr (refl, sym e)) (λ (none : Contains [] p). absurd (omega (arith, none.1))) (cons_cases (book.next_number, first_block book.free) [] p new))
+        ⊎_elim (λ (e : (book.next_number, first_block book.free) ≡ p). inr (refl, sym e)) (λ (none : Contains [] p). absurd (omega (arith, none.1)))
+        (cons_cases (book.next_number, first_block book.free) [] p new))
         (Contains-append_cases (places_of book) ((book.next_number, first_block book.free) ∷ []) p (subst (λ (l : List (ℕ × ℕ)). Contains l p) (new_places stream book) there))

@@ -103,7 +103,8 @@ module _ (book : Book) (records : Records) (bodies : List Body) (digest : Digest
       }
 
   -- or is flushed as it was
-  found_alike : (v : Version) (numbers fewer : List ℕ) (older : List Item) → is_flushed pending numbers ≡ is_flushed pending fewer → (is_durable pending (write v fewer ∷ older) ≡ true → IsFound (write v fewer ∷ older))
+  found_alike : (v : Version) (numbers fewer : List ℕ) (older : List Item) → is_flushed pending numbers ≡ is_flushed pending fewer
+      → (is_durable pending (write v fewer ∷ older) ≡ true → IsFound (write v fewer ∷ older))
       → is_durable pending (write v numbers ∷ older) ≡ true → IsFound (write v numbers ∷ older)
   found_alike v numbers fewer older same rest durable =
       let found = rest (sym (ap (λ (b : Bool). b || is_durable pending older) same) ∙ durable) in
@@ -129,7 +130,8 @@ module _ (book : Book) (records : Records) (bodies : List Body) (digest : Digest
   trail_reaches (uncovered_since rest) falling durable = let found = trail_reaches rest falling durable in record { version = found.version; there = found.there; last = found.last }
 
 -- Where a history is durable the bodies have a copy that no flushed version of it is later than.
-pub reaches : (s : State) (records : Records) (bodies : List Body) (digest : Digest) → IsTrailed s records bodies → IsFalling (writes_of (history s digest)) → is_durable (pending_of s.book) (history s digest) ≡ true
+pub reaches : (s : State) (records : Records) (bodies : List Body) (digest : Digest) → IsTrailed s records bodies → IsFalling (writes_of (history s digest))
+    → is_durable (pending_of s.book) (history s digest) ≡ true
     → IsReached (pending_of s.book) (history s digest) (versions_in digest bodies)
 reaches s records bodies digest trailed falling durable = by (live_of digest s.book.live) (trailed digest)
   where

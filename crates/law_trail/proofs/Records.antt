@@ -10,7 +10,8 @@ use Rattle.rec_format.specs.Versions.{version_units}
 use Rattle.model_device.specs.Histories.{Item, write, dropped, rid, cleared, Pending, is_begun, is_flushed, is_waiting, stage_of, top_of, with_number}
 use Rattle.model_device.specs.Book.{Setup, Book, Live, client, defrag, placing_number, live_of, dropped_live, pending_of}
 use Rattle.model_device.specs.Device.{State, history, history_of, entry, log_with_number}
-use Rattle.model_device.specs.Steps.{Step, wrote, moved, removed, rid_of, uncovered, sealed_stream, gate_begun, flushed_buffer, closing_failed, raid_begun, raid_given_up, marked_part, scanned_block, compared_part, done_part, with_item, moved_state, after_step}
+use Rattle.model_device.specs.Steps.{Step, wrote, moved, removed, rid_of, uncovered, sealed_stream, gate_begun, flushed_buffer, closing_failed, raid_begun}
+use Rattle.model_device.specs.Steps.{raid_given_up, marked_part, scanned_block, compared_part, done_part, with_item, moved_state, after_step}
 use Rattle.rec_format.proofs.Laws.{same_digest_is, same_digest_refl}
 use Rattle.model_device.proofs.Numbers.{history_with_number}
 use Rattle.law_start.specs.Holding.{begun_versions}
@@ -63,9 +64,11 @@ more_for number dropped items v there = there
 more_for number rid items v there = there
 more_for number cleared items v there = there
 
-newest_for : (number : ℕ) (v : Version) (numbers : List ℕ) (older : List Item) → (was_found numbers || list_any (λ n. n == number) numbers) ≡ true → Contains (versions_for number (write v numbers ∷ older)) v
+newest_for : (number : ℕ) (v : Version) (numbers : List ℕ) (older : List Item) → (was_found numbers || list_any (λ n. n == number) numbers) ≡ true
+    → Contains (versions_for number (write v numbers ∷ older)) v
 newest_for number v numbers older is =
-    subst (λ (l : List Version). Contains l v) (sym (cond-true (was_found numbers || list_any (λ n. n == number) numbers) (v ∷ versions_for number older) (versions_for number older) is)) (first_there v (versions_for number older))
+    subst (λ (l : List Version). Contains l v) (sym (cond-true (was_found numbers || list_any (λ n. n == number) numbers) (v ∷ versions_for number older) (versions_for number older) is))
+    (first_there v (versions_for number older))
 
 its_own : (number : ℕ) (ns : List ℕ) → list_any (λ n. n == number) (number ∷ ns) ≡ true
 its_own number ns = or_left (number == number) (list_any (λ n. n == number) ns) (eq-eqb number number refl)
@@ -105,11 +108,13 @@ written_none s t old new grows none written n =
     all_from (λ r. Contains (versions_for n (history t r.0)) r.1) (new n)
     (λ r there. grows r.0 n r.1 (all_at (λ r. Contains (versions_for n (history s r.0)) r.1) (old n) r (written n) (none n r there)))
 
-written_one : (s t : State) (old new : Records) (number : ℕ) (digest : Digest) (v : Version) → Grows s t → Contains (versions_for number (history t digest)) v → AddsOnly number digest v old new → RecordsWritten s old → RecordsWritten t new
+written_one : (s t : State) (old new : Records) (number : ℕ) (digest : Digest) (v : Version) → Grows s t → Contains (versions_for number (history t digest)) v
+    → AddsOnly number digest v old new → RecordsWritten s old → RecordsWritten t new
 written_one s t old new number digest v grows own only written n =
     all_from (λ r. Contains (versions_for n (history t r.0)) r.1) (new n)
     (λ r there. ⊎_elim (λ (was : Contains (old n) r). grows r.0 n r.1 (all_at (λ r. Contains (versions_for n (history s r.0)) r.1) (old n) r (written n) was))
-    (λ (is : (n ≡ number) × (r ≡ (digest, v))). subst (λ (x : Digest × Version). Contains (versions_for n (history t x.0)) x.1) (sym is.1) (subst (λ (k : ℕ). Contains (versions_for k (history t digest)) v) (sym is.0) own)) (only n r there))
+    (λ (is : (n ≡ number) × (r ≡ (digest, v))). subst (λ (x : Digest × Version). Contains (versions_for n (history t x.0)) x.1) (sym is.1)
+    (subst (λ (k : ℕ). Contains (versions_for k (history t digest)) v) (sym is.0) own)) (only n r there))
 
 module _ (setup : Setup) (s : State) (old new : Records) (written : RecordsWritten s old) where
   item_grows : (digest : Digest) (item : Item) (book : Book) → Grows s (with_item digest item book s)
@@ -120,14 +125,16 @@ module _ (setup : Setup) (s : State) (old new : Records) (written : RecordsWritt
   wrote_written digest v only =
       written_one s (after_step setup (wrote digest v) s) old new number digest v
       (λ e n w there. wrote_case setup s digest v e (λ l. Contains (versions_for n l) w) (λ _. more_for n (written_item setup s v) (history s e) w there) (λ _. there))
-      (wrote_case setup s digest v digest (λ l. Contains (versions_for number l) v) (λ _. newest_for number v (number ∷ []) (history s digest) (its_own number [])) (λ other. absurd (false≢true (sym other ∙ same_digest_refl digest))))
+      (wrote_case setup s digest v digest (λ l. Contains (versions_for number l) v) (λ _. newest_for number v (number ∷ []) (history s digest) (its_own number []))
+      (λ other. absurd (false≢true (sym other ∙ same_digest_refl digest))))
       only written
     where
       number : ℕ
       number = placing_number setup client (version_units v) s.book
 
   moved_written : (digest : Digest) (live : Option Live)
-      → MatchOption live (AddsNone old new) (λ copy. (v : Version) × (entry s digest ≡ Some v) × AddsOnly (placing_number setup defrag copy.units s.book) digest v old new) → RecordsWritten (moved_state setup digest live s) new
+      → MatchOption live (AddsNone old new) (λ copy. (v : Version) × (entry s digest ≡ Some v) × AddsOnly (placing_number setup defrag copy.units s.book) digest v old new)
+      → RecordsWritten (moved_state setup digest live s) new
   moved_written digest None none = written_none s s old new (λ e n v there. there) none written
   moved_written digest (Some copy) one =
       written_one s (moved_state setup digest (Some copy) s) old new number digest one.0 grows
@@ -155,7 +162,8 @@ module _ (setup : Setup) (s : State) (old new : Records) (written : RecordsWritt
   unfolding after_step
   step_written (wrote digest v) only = wrote_written digest v only
   step_written (moved digest) one = moved_written digest (live_of digest s.book.live) one
-  step_written (removed digest) none = written_none s (with_item digest dropped (dropped_live setup digest s.book) s) old new (item_grows digest dropped (dropped_live setup digest s.book)) none written
+  step_written (removed digest) none = written_none s (with_item digest dropped (dropped_live setup digest s.book) s) old new
+      (item_grows digest dropped (dropped_live setup digest s.book)) none written
   step_written (rid_of digest) none = written_none s (with_item digest rid (dropped_live setup digest s.book) s) old new (item_grows digest rid (dropped_live setup digest s.book)) none written
   step_written (uncovered digest) none = written_none s (with_item digest cleared s.book s) old new (item_grows digest cleared s.book) none written
   step_written (sealed_stream stream) none = same_written none

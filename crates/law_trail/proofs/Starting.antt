@@ -49,7 +49,8 @@ pub copy_stored : (bodies : List Body) (c : Copy) → Contains (copies_of bodies
 copy_stored [] c there = absurd (omega (arith, there.1))
 copy_stored (b ∷ bodies) c there = by (Contains-append_cases (copies_from b.block 0 b.records) (copies_of bodies) c there) (copy_stored bodies c)
   where
-    by : Contains (copies_from b.block 0 b.records) c ⊎ Contains (copies_of bodies) c → (Contains (copies_of bodies) c → StoredIn bodies c.block c.digest c.version) → StoredIn (b ∷ bodies) c.block c.digest c.version
+    by : Contains (copies_from b.block 0 b.records) c ⊎ Contains (copies_of bodies) c → (Contains (copies_of bodies) c → StoredIn bodies c.block c.digest c.version)
+        → StoredIn (b ∷ bodies) c.block c.digest c.version
     by (inl own) rest = let is = copy_of_body b.block 0 b.records c own in record { body = b; there = first_there b bodies; placed = sym is.0; has = is.1 }
     by (inr other) rest = let is = rest other in record { body = is.body; there = rest_there b bodies is.body is.there; placed = is.placed; has = is.has }
 

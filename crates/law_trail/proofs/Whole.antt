@@ -10,7 +10,8 @@ use Rattle.rec_format.specs.Versions.{version_units}
 use Rattle.model_device.specs.Histories.{Item, write, dropped, rid, cleared, Pending, is_pending, top_of, with_number}
 use Rattle.model_device.specs.Book.{Setup, Book, Live, client, defrag, placed, placing_number, live_of, dropped_live, with_flushed, pending_of, refreshed, cold_book}
 use Rattle.model_device.specs.Device.{State, history, history_of, entry, log_with_number}
-use Rattle.model_device.specs.Steps.{Step, wrote, moved, removed, rid_of, uncovered, sealed_stream, gate_begun, flushed_buffer, closing_failed, raid_begun, raid_given_up, marked_part, scanned_block, compared_part, done_part, with_item, moved_state, after_step}
+use Rattle.model_device.specs.Steps.{Step, wrote, moved, removed, rid_of, uncovered, sealed_stream, gate_begun, flushed_buffer, closing_failed, raid_begun}
+use Rattle.model_device.specs.Steps.{raid_given_up, marked_part, scanned_block, compared_part, done_part, with_item, moved_state, after_step}
 use Rattle.rec_format.proofs.Laws.{same_digest_is}
 use Rattle.model_device.proofs.Numbers.{history_with_number}
 use Rattle.block_format.specs.Layout.{Body}
@@ -52,7 +53,8 @@ number_more P m number [] all own = tt
 number_more P m number (write v [] ∷ older) all own = all
 number_more P m number (write v (n ∷ ns) ∷ older) all own = by (number == m) refl (list_any (λ k. k == m) (n ∷ ns)) all
   where
-    by : (a : Bool) → (number == m) ≡ a → (b : Bool) → AllByRecursion P (cond b (v ∷ versions_to m older) (versions_to m older)) → AllByRecursion P (cond (a || b) (v ∷ versions_to m older) (versions_to m older))
+    by : (a : Bool) → (number == m) ≡ a → (b : Bool) → AllByRecursion P (cond b (v ∷ versions_to m older) (versions_to m older))
+        → AllByRecursion P (cond (a || b) (v ∷ versions_to m older) (versions_to m older))
     by true is true all = all
     by true is false all = (own (sym (eqb-true number m is)) v refl, all)
     by false is b all = all
@@ -72,7 +74,8 @@ module _ (setup : Setup) (s : State) (records : Records) (numbered : HasNumbers 
   fewer_whole t pending same number is digest = same number digest (all number (pending number is) digest)
 
   -- what went to a buffer that is pending in a book with one more
-  still_those : (number : ℕ) (new : Pending) → IsAwaited number s.book.next_number (pending_of s.book) new → (m : ℕ) → is_pending new m ≡ true → (digest : Digest) → HasThose m digest (history s digest)
+  still_those : (number : ℕ) (new : Pending) → IsAwaited number s.book.next_number (pending_of s.book) new → (m : ℕ) → is_pending new m ≡ true → (digest : Digest)
+      → HasThose m digest (history s digest)
   still_those number new awaited m is digest = by (cases_lt m s.book.next_number)
     where
       by : (m < s.book.next_number) ⊎ (s.book.next_number ≤ m) → HasThose m digest (history s digest)
@@ -85,7 +88,8 @@ module _ (setup : Setup) (s : State) (records : Records) (numbered : HasNumbers 
   unfolding after_step
   wrote_whole digest v has m is e =
       subst (AllByRecursion (λ w. Contains (records m) (e, w))) (sym (wrote_versions setup s digest v e m))
-      (cond_both (same_digest e digest && m == number) (v ∷ versions_to m (history s e)) (versions_to m (history s e)) (AllByRecursion (λ w. Contains (records m) (e, w))) (λ both. (own both, those)) (λ _. those))
+      (cond_both (same_digest e digest && m == number) (v ∷ versions_to m (history s e)) (versions_to m (history s e)) (AllByRecursion (λ w. Contains (records m) (e, w)))
+      (λ both. (own both, those)) (λ _. those))
     where
       number : ℕ
       number = placing_number setup client (version_units v) s.book
@@ -99,7 +103,8 @@ module _ (setup : Setup) (s : State) (records : Records) (numbered : HasNumbers 
           subst (λ (d : Digest). Contains (records m) (d, v)) (sym (same_digest_is e digest parts.0)) (subst (λ (k : ℕ). Contains (records k) (digest, v)) (sym (eqb-true m number parts.1)) has)
 
   moved_whole : (digest : Digest) (live : Option Live)
-      → MatchOption live (Unit {0}) (λ copy. (v : Version) → entry s digest ≡ Some v → Contains (records (placing_number setup defrag copy.units s.book)) (digest, v)) → RecordsWhole (moved_state setup digest live s) records
+      → MatchOption live (Unit {0}) (λ copy. (v : Version) → entry s digest ≡ Some v → Contains (records (placing_number setup defrag copy.units s.book)) (digest, v))
+      → RecordsWhole (moved_state setup digest live s) records
   moved_whole digest None has m is e = all m is e
   moved_whole digest (Some copy) has m is e = by (same_digest e digest) refl
     where
@@ -133,7 +138,8 @@ module _ (setup : Setup) (s : State) (records : Records) (numbered : HasNumbers 
     where
       by : (b : Bool) → (m == number) ≡ b → is_pending (pending_of s.book) m ≡ true
       by true same =
-          absurd (both_ways (is_pending (pending_of (with_flushed setup number s.book)) m) (ap (is_pending (pending_of (with_flushed setup number s.book))) (eqb-true m number same) ∙ none_pending setup number s.book) is)
+          absurd (both_ways (is_pending (pending_of (with_flushed setup number s.book)) m) (ap (is_pending (pending_of (with_flushed setup number s.book))) (eqb-true m number same)
+          ∙ none_pending setup number s.book) is)
       by false apart = sym (apart_pending setup number s.book m (λ e. eqb-false m number apart e)) ∙ is
 
   -- a flush asks nothing
@@ -184,18 +190,21 @@ newest_went pending v numbers older some =
       number = one.0;
       waits = one.2;
       went = subst (λ (l : List Version). Contains l v)
-          (sym (cond-true (list_any (λ n. n == one.0) numbers) (v ∷ versions_to one.0 older) (versions_to one.0 older) (any_there (λ n. n == one.0) numbers one.0 one.1 (eq-eqb one.0 one.0 refl)))) (first_there v (versions_to one.0 older));
+          (sym (cond-true (list_any (λ n. n == one.0) numbers) (v ∷ versions_to one.0 older) (versions_to one.0 older)
+          (any_there (λ n. n == one.0) numbers one.0 one.1 (eq-eqb one.0 one.0 refl)))) (first_there v (versions_to one.0 older));
     }
 
 pending_went : (pending : Pending) (items : List Item) (v : Version) → Contains (pending_versions pending items) v → WentTo pending items v
 pending_went pending [] v there = absurd (omega (arith, there.1))
 pending_went pending (write w numbers ∷ older) v there = by (list_any (is_pending pending) numbers) refl there (pending_went pending older v)
   where
-    first_or : list_any (is_pending pending) numbers ≡ true → (w ≡ v) ⊎ Contains (pending_versions pending older) v → (Contains (pending_versions pending older) v → WentTo pending older v) → WentTo pending (write w numbers ∷ older) v
+    first_or : list_any (is_pending pending) numbers ≡ true → (w ≡ v) ⊎ Contains (pending_versions pending older) v → (Contains (pending_versions pending older) v → WentTo pending older v)
+        → WentTo pending (write w numbers ∷ older) v
     first_or some (inl same) rest = subst (WentTo pending (write w numbers ∷ older)) same (newest_went pending w numbers older some)
     first_or some (inr more) rest = older_went pending w numbers older v (rest more)
 
-    by : (b : Bool) → list_any (is_pending pending) numbers ≡ b → Contains (cond b (w ∷ pending_versions pending older) (pending_versions pending older)) v → (Contains (pending_versions pending older) v → WentTo pending older v)
+    by : (b : Bool) → list_any (is_pending pending) numbers ≡ b → Contains (cond b (w ∷ pending_versions pending older) (pending_versions pending older)) v
+        → (Contains (pending_versions pending older) v → WentTo pending older v)
         → WentTo pending (write w numbers ∷ older) v
     by true some there rest = first_or some (cons_cases w (pending_versions pending older) v there) rest
     by false none there rest = older_went pending w numbers older v (rest there)

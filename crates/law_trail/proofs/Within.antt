@@ -7,9 +7,12 @@ use Rattle.rec_format.specs.declared.version.Digest.{Digest}
 use Rattle.rec_format.specs.Places.{same_digest}
 use Rattle.rec_format.specs.Versions.{version_units}
 use Rattle.rec_format.specs.declared.version.Version.{Version}
-use Rattle.model_device.specs.Book.{Setup, Buffer, Book, Live, Stream, client, defrag, same_stream, is_filling, with_hold, may_be_free, is_in, all_blocks, refreshed, has_room, with_new_buffer, with_room, first_block, filling_buffer, put_in, placed, used_more, dropped_live, without_live, with_flushed, first_to_back, live_of, cold_book}
+use Rattle.model_device.specs.Book.{Setup, Buffer, Book, Live, Stream, client, defrag, same_stream, is_filling, with_hold, may_be_free, is_in, all_blocks}
+use Rattle.model_device.specs.Book.{refreshed, has_room, with_new_buffer, with_room, first_block, filling_buffer, put_in, placed, used_more, dropped_live}
+use Rattle.model_device.specs.Book.{without_live, with_flushed, first_to_back, live_of, cold_book}
 use Rattle.model_device.specs.Device.{State}
-use Rattle.model_device.specs.Steps.{Step, wrote, moved, removed, rid_of, uncovered, sealed_stream, gate_begun, flushed_buffer, closing_failed, raid_begun, raid_given_up, marked_part, scanned_block, compared_part, done_part, moved_state, after_step}
+use Rattle.model_device.specs.Steps.{Step, wrote, moved, removed, rid_of, uncovered, sealed_stream, gate_begun, flushed_buffer, closing_failed, raid_begun}
+use Rattle.model_device.specs.Steps.{raid_given_up, marked_part, scanned_block, compared_part, done_part, moved_state, after_step}
 use Rattle.block_format.specs.Layout.{Body}
 use Rattle.block_format.specs.Copies.{Copy, copies_from, copies_of, copies_named, latest, cold_copy}
 use Rattle.law_start.specs.Start.{live_copy, names_of_copies, cold_copies, greatest_number, start_state}
@@ -38,7 +41,8 @@ free_kept : (setup : Setup) (book : Book) → AllByRecursion (λ b. b < setup.bl
 unfolding refreshed
 free_kept setup book free =
     all_joined (λ b. b < setup.blocks) (filter (may_be_free book) book.free) (filter (λ b. may_be_free book b && not (is_in book.free b)) (all_blocks setup))
-    (all_fewer (λ b. b < setup.blocks) (may_be_free book) book.free free) (all_fewer (λ b. b < setup.blocks) (λ b. may_be_free book b && not (is_in book.free b)) (all_blocks setup) (device_blocks setup))
+    (all_fewer (λ b. b < setup.blocks) (may_be_free book) book.free free)
+    (all_fewer (λ b. b < setup.blocks) (λ b. may_be_free book b && not (is_in book.free b)) (all_blocks setup) (device_blocks setup))
 
 pub refreshed_within : (setup : Setup) (book : Book) → IsWithin setup book → IsWithin setup (refreshed setup book)
 unfolding refreshed
@@ -113,7 +117,8 @@ module _ (setup : Setup) (s : State) (within : IsWithin setup s.book) where
     flushed_numbers = s.book.flushed_numbers ++ number ∷ [];
   }) (record {
     free = within.free;
-    places = subst (AllByRecursion (λ p. p.1 < setup.blocks)) (sym (map_kept place (λ p. not (p.0 == number)) s.book.buffers)) (all_fewer (λ (p : ℕ × ℕ). p.1 < setup.blocks) (λ p. not (p.0 == number)) (places_of s.book) within.places);
+    places = subst (AllByRecursion (λ p. p.1 < setup.blocks)) (sym (map_kept place (λ p. not (p.0 == number)) s.book.buffers))
+        (all_fewer (λ (p : ℕ × ℕ). p.1 < setup.blocks) (λ p. not (p.0 == number)) (places_of s.book) within.places);
     live = within.live;
   })
 
@@ -129,7 +134,12 @@ module _ (setup : Setup) (s : State) (within : IsWithin setup s.book) where
   step_within (removed digest) can = gone_within digest
   step_within (rid_of digest) can = gone_within digest
   step_within (uncovered digest) can = within
-  step_within (sealed_stream stream) can = record { free = within.free; places = subst (AllByRecursion (λ p. p.1 < setup.blocks)) (sym (seal_places stream s.book.buffers)) within.places; live = within.live }
+  step_within (sealed_stream stream) can = record {
+    free = within.free;
+    places =
+        subst (AllByRecursion (λ p. p.1 < setup.blocks)) (sym (seal_places stream s.book.buffers)) within.places;
+    live = within.live;
+  }
   step_within (gate_begun number) can = record { free = within.free; places = subst (AllByRecursion (λ p. p.1 < setup.blocks)) (sym (open_places number s.book)) within.places; live = within.live }
   step_within (flushed_buffer number) can = flushed_within number
   step_within closing_failed can = record { free = back_within setup.blocks s.book.free within.free; places = within.places; live = within.live }
@@ -166,7 +176,8 @@ found_within limit copies (d ∷ names) all = by (cold_copy d copies) (named_wit
     others : List Copy
     others = filter_map (λ digest. cold_copy digest copies) names
 
-    by : (o : Option Copy) → IfSome o (λ c. c.block < limit) → AllByRecursion (λ l. l.block < limit) (map live_copy others) → AllByRecursion (λ l. l.block < limit) (map live_copy (cons_option o others))
+    by : (o : Option Copy) → IfSome o (λ c. c.block < limit) → AllByRecursion (λ l. l.block < limit) (map live_copy others)
+        → AllByRecursion (λ l. l.block < limit) (map live_copy (cons_option o others))
     by None is rest = rest
     by (Some c) is rest = (is, rest)
 

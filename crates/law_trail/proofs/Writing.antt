@@ -46,7 +46,8 @@ module _ (digest : Digest) (number : ℕ) (book new : Book) (p : PlacesCopy dige
       ∙ others_live digest e book.live other
 
   -- the trails of other digests lead on
-  pub others_lead : (e : Digest) (items : List Item) → same_digest e digest ≡ false → LeadsOn book records bodies e (live_of e book.live) items → LeadsOn new records bodies e (live_of e new.live) items
+  pub others_lead : (e : Digest) (items : List Item) → same_digest e digest ≡ false → LeadsOn book records bodies e (live_of e book.live) items
+      → LeadsOn new records bodies e (live_of e new.live) items
   others_lead e items other leads =
       subst (λ (o : Option Live). LeadsOn new records bodies e o items) (sym (other_live e other))
       (lead_carried book new records records bodies bodies booked placed_carries e items (live_of e book.live) refl leads)
@@ -81,7 +82,8 @@ module _ (digest : Digest) (number : ℕ) (book new : Book) (p : PlacesCopy dige
   move_leads block (cleared ∷ older) v top has held trail = uncovered_since (move_leads block older v top has held (behind_cleared trail))
 
 -- a trail begins with the entry
-pub trail_entry : (book : Book) (records : Records) (bodies : List Body) (digest : Digest) {block : ℕ} {items : List Item} → Trail book records bodies digest block items → (v : Version) × (top_of items ≡ Some v)
+pub trail_entry : (book : Book) (records : Records) (bodies : List Body) (digest : Digest) {block : ℕ} {items : List Item} → Trail book records bodies digest block items → (v : Version)
+    × (top_of items ≡ Some v)
 trail_entry book records bodies digest (stored {v = v} none is) = (v, refl)
 trail_entry book records bodies digest (first {v = v} waits none) = (v, refl)
 trail_entry book records bodies digest (replaced {v = v} waits held rest) = (v, refl)
@@ -99,7 +101,8 @@ module _ (setup : Setup) (s : State) (booked : IsBooked s.book) where
   unfolding after_step
   wrote_booked digest v can = (placed_is setup client digest (version_units v) s.book (takes_room v) booked can).booked
 
-  pub wrote_trailed : (records : Records) (bodies : List Body) (digest : Digest) (v : Version) → CanPlace setup client (version_units v) s.book → Contains (records (placing_number setup client (version_units v) s.book)) (digest, v)
+  pub wrote_trailed : (records : Records) (bodies : List Body) (digest : Digest) (v : Version) → CanPlace setup client (version_units v) s.book
+      → Contains (records (placing_number setup client (version_units v) s.book)) (digest, v)
       → IsTrailed s records bodies → IsTrailed (after_step setup (wrote digest v) s) records bodies
   unfolding after_step
   wrote_trailed records bodies digest v can has trailed e = by (same_digest e digest) refl

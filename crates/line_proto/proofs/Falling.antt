@@ -33,7 +33,8 @@ falls_over bytes lines rest falls = record {
 }
 
 -- a piece more goes on where the bytes before it fell
-pub falls_further : (bytes piece : List ℕ) (lines : List (List ℕ)) (rest : List ℕ) (more : List (List ℕ)) (after : List ℕ) → FallInto bytes lines rest → FallInto (rest ++ piece) more after → FallInto (bytes ++ piece) (lines ++ more) after
+pub falls_further : (bytes piece : List ℕ) (lines : List (List ℕ)) (rest : List ℕ) (more : List (List ℕ)) (after : List ℕ) → FallInto bytes lines rest → FallInto (rest ++ piece) more after
+    → FallInto (bytes ++ piece) (lines ++ more) after
 falls_further bytes piece lines rest more after one two = record {
   whole =
       ap (λ (l : List ℕ). l ++ piece) one.whole ∙ append_assoc (flat_map ended lines) rest piece
@@ -94,11 +95,13 @@ stands_over kept bytes stands = record {
 }
 
 -- the open line, the line feed, and what bytes alone come to
-joined : (kept more : Kept) (bytes piece : List ℕ) → StandsFresh kept bytes → KeepsBytes more piece → KeepsBytes (record { ready = kept.ready ++ more.ready; partial = more.partial; size = more.size }) (bytes ++ piece)
+joined : (kept more : Kept) (bytes piece : List ℕ) → StandsFresh kept bytes → KeepsBytes more piece
+    → KeepsBytes (record { ready = kept.ready ++ more.ready; partial = more.partial; size = more.size }) (bytes ++ piece)
 joined kept more bytes piece was next = record {
   lines = was.stands.lines ++ next.lines;
   rest = next.rest;
-  falls = falls_further bytes piece was.stands.lines was.stands.rest next.lines next.rest was.stands.falls (subst (λ (l : List ℕ). FallInto (l ++ piece) next.lines next.rest) (sym was.fresh) next.falls);
+  falls = falls_further bytes piece was.stands.lines was.stands.rest next.lines next.rest was.stands.falls
+      (subst (λ (l : List ℕ). FallInto (l ++ piece) next.lines next.rest) (sym was.fresh) next.falls);
   are_ready = (λ i. was.stands.are_ready i ++ next.are_ready i) ∙ sym (map-append line_end was.stands.lines next.lines);
   counted = next.counted;
   is_partial = next.is_partial;
@@ -144,7 +147,9 @@ none_ready bytes (line ∷ lines) rest falls none = cc
 pub no_line : (kept : Kept) (bytes : List ℕ) → KeepsBytes kept bytes → kept.ready ≡ [] → IsOneLine bytes
 no_line kept bytes stands none = none_ready bytes stands.lines stands.rest stands.falls (sym none ∙ stands.are_ready)
 
-begins : (bytes : List ℕ) (lines : List (List ℕ)) (rest : List ℕ) (end : LineEnd) (more : List LineEnd) (partial : List ℕ) (size : ℕ) → FallInto bytes lines rest → end ∷ more ≡ map line_end lines → size ≡ min (length rest) (2 ^ 64 - 1) → (length rest ≤ line_limit → partial ≡ rest) → BeginsWithLine bytes end (record { ready = more; partial = partial; size = size })
+begins : (bytes : List ℕ) (lines : List (List ℕ)) (rest : List ℕ) (end : LineEnd) (more : List LineEnd) (partial : List ℕ) (size : ℕ) → FallInto bytes lines rest
+    → end ∷ more ≡ map line_end lines → size ≡ min (length rest) (2 ^ 64 - 1) → (length rest ≤ line_limit → partial ≡ rest)
+    → BeginsWithLine bytes end (record { ready = more; partial = partial; size = size })
 begins bytes [] rest end more partial size falls ready counted is_partial = cc
 begins bytes (line ∷ lines) rest end more partial size falls ready counted is_partial = record {
   line = line;
@@ -156,5 +161,6 @@ begins bytes (line ∷ lines) rest end more partial size falls ready counted is_
 }
 
 -- the first line that is ready is the first of the bytes
-pub first_line : (kept : Kept) (bytes : List ℕ) (end : LineEnd) (more : List LineEnd) → KeepsBytes kept bytes → kept.ready ≡ end ∷ more → BeginsWithLine bytes end (record { ready = more; partial = kept.partial; size = kept.size })
+pub first_line : (kept : Kept) (bytes : List ℕ) (end : LineEnd) (more : List LineEnd) → KeepsBytes kept bytes → kept.ready ≡ end ∷ more
+    → BeginsWithLine bytes end (record { ready = more; partial = kept.partial; size = kept.size })
 first_line kept bytes end more stands ready = begins bytes stands.lines stands.rest end more kept.partial kept.size stands.falls (sym ready ∙ stands.are_ready) stands.counted stands.is_partial

@@ -31,7 +31,8 @@ expect_spelled text (Some g) is = ((refl, is.1), ap length (sym is.0))
 two_long : (w a b : List ℕ) → length b ≡ length a → length (w ++ 32 ∷ b) ≡ length (w ++ 32 ∷ a)
 two_long w a b same = omega (arith, length-append w (32 ∷ a), length-append w (32 ∷ b))
 
-printed_digest : (line word : List ℕ) (digest : Digest) → IsDigestLine line word digest → IsDigestLine (words_line (word ∷ digest_text digest ∷ [])) word digest × (length (words_line (word ∷ digest_text digest ∷ [])) ≡ length line)
+printed_digest : (line word : List ℕ) (digest : Digest) → IsDigestLine line word digest → IsDigestLine (words_line (word ∷ digest_text digest ∷ [])) word digest
+    × (length (words_line (word ∷ digest_text digest ∷ [])) ≡ length line)
 printed_digest line word digest is =
     let spelled = digest_spelled is.text digest is.is_digest in
     (record { text = digest_text digest; is_digest = spelled.0; line_is = refl }, two_long word is.text (digest_text digest) spelled.1 ∙ ap length (sym is.line_is))

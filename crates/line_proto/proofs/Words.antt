@@ -81,7 +81,8 @@ pub record Reads (a b c d : List ℕ) (digest : Digest) (ttl : ℕ) (expect : Op
   pub is_expect : IsExpectText c expect
   pub is_data : IsDataText d payload
 
-pub four_of_put : (text : List ℕ) (digest : Digest) (ttl : ℕ) (expect : Option ℕ) (payload : List ℕ) → (put : IsPut text digest ttl expect payload) → IsFour text put.digest_text (decimal ttl) put.expect_text put.data_text
+pub four_of_put : (text : List ℕ) (digest : Digest) (ttl : ℕ) (expect : Option ℕ) (payload : List ℕ) → (put : IsPut text digest ttl expect payload)
+    → IsFour text put.digest_text (decimal ttl) put.expect_text put.data_text
 four_of_put text digest ttl expect payload put = record {
   spelled = put.spelled;
   one = word_of_digest put.digest_text digest put.is_digest;
@@ -89,7 +90,8 @@ four_of_put text digest ttl expect payload put = record {
   three = word_of_expect put.expect_text expect put.is_expect;
 }
 
-pub reads_of : (text a b c d : List ℕ) (digest : Digest) (ttl : ℕ) (expect : Option ℕ) (payload : List ℕ) → IsFour text a b c d → IsPut text digest ttl expect payload → Reads a b c d digest ttl expect payload
+pub reads_of : (text a b c d : List ℕ) (digest : Digest) (ttl : ℕ) (expect : Option ℕ) (payload : List ℕ) → IsFour text a b c d → IsPut text digest ttl expect payload
+    → Reads a b c d digest ttl expect payload
 reads_of text a b c d digest ttl expect payload four put =
     let other = four_of_put text digest ttl expect payload put in
     let first = one_cut put.digest_text a _ _ other.one four.one (sym put.spelled ∙ four.spelled) in
@@ -103,7 +105,8 @@ reads_of text a b c d digest ttl expect payload four put =
     }
 
 -- where some part can't be read, there is no such command
-pub none_of : (text a b c d : List ℕ) → IsFour text a b c d → ((digest : Digest) (ttl : ℕ) (expect : Option ℕ) (payload : List ℕ) → Reads a b c d digest ttl expect payload → ⊥) → (command : Command) → (None ≡ Some command) ↔ IsPutCommand text command
+pub none_of : (text a b c d : List ℕ) → IsFour text a b c d → ((digest : Digest) (ttl : ℕ) (expect : Option ℕ) (payload : List ℕ) → Reads a b c d digest ttl expect payload → ⊥)
+    → (command : Command) → (None ≡ Some command) ↔ IsPutCommand text command
 none_of text a b c d four never (Put digest ttl expect payload) = (λ is. cc, λ put. absurd (never digest ttl expect payload (reads_of text a b c d digest ttl expect payload four put)))
 none_of text a b c d four never _ = (λ is. cc, λ wrong. absurd wrong)
 
@@ -113,7 +116,8 @@ none_at_all text never _ = (λ is. cc, λ wrong. absurd wrong)
 
 -- where each part is read, the command is that of the parts
 pub some_of : (text a b c d : List ℕ) (digest : Digest) (ttl : ℕ) (expect : Option ℕ) (payload : List ℕ) → IsFour text a b c d
-    → ((x : Digest) → (Some digest ≡ Some x) ↔ IsDigestText a x) → ((x : ℕ) → (Some ttl ≡ Some x) ↔ ((x ≤ 315360000) × (b ≡ decimal x))) → ((x : Option ℕ) → (Some expect ≡ Some x) ↔ IsExpectText c x) → ((x : List ℕ) → (Some payload ≡ Some x) ↔ IsDataText d x)
+    → ((x : Digest) → (Some digest ≡ Some x) ↔ IsDigestText a x) → ((x : ℕ) → (Some ttl ≡ Some x) ↔ ((x ≤ 315360000) × (b ≡ decimal x)))
+    → ((x : Option ℕ) → (Some expect ≡ Some x) ↔ IsExpectText c x) → ((x : List ℕ) → (Some payload ≡ Some x) ↔ IsDataText d x)
     → (command : Command) → (Some (Put digest ttl expect payload) ≡ Some command) ↔ IsPutCommand text command
 some_of text a b c d digest ttl expect payload four of_digest of_ttl of_expect of_data command = (to, from command)
   where
@@ -152,7 +156,8 @@ pub no_second : (text first rest : List ℕ) → (text ≡ first ++ 32 ∷ rest)
 no_second text first rest parted word a b c d four =
     let at = one_cut first a rest _ parted.1 four.one (sym parted.0 ∙ four.spelled) in no_cut b _ (subst IsWord at.1 word)
 
-pub no_third : (text first rest second after : List ℕ) → (text ≡ first ++ 32 ∷ rest) × IsWord first → (rest ≡ second ++ 32 ∷ after) × IsWord second → IsWord after → (a b c d : List ℕ) → IsFour text a b c d → ⊥
+pub no_third : (text first rest second after : List ℕ) → (text ≡ first ++ 32 ∷ rest) × IsWord first → (rest ≡ second ++ 32 ∷ after) × IsWord second → IsWord after → (a b c d : List ℕ)
+    → IsFour text a b c d → ⊥
 no_third text first rest second after parted again word a b c d four =
     let at = one_cut first a rest _ parted.1 four.one (sym parted.0 ∙ four.spelled) in
     let more = one_cut second b after _ again.1 four.two (sym again.0 ∙ at.1) in
@@ -188,7 +193,8 @@ digest_line line word text w digest parted is_word = (
 )
 
 -- a line whose first word isn't `put` is the command of one digest that its parts are
-digest_command : (line word text : List ℕ) → length line ≤ line_limit → (line ≡ word ++ 32 ∷ text) × IsWord word → (word ≡ codes "put" → ⊥) → (c : Command) → IsDigestCommand word text c ↔ IsCommandLine line c
+digest_command : (line word text : List ℕ) → length line ≤ line_limit → (line ≡ word ++ 32 ∷ text) × IsWord word → (word ≡ codes "put" → ⊥) → (c : Command)
+    → IsDigestCommand word text c ↔ IsCommandLine line c
 digest_command line word text fits parted no_put (Put digest ttl expect payload) = (
   λ wrong. absurd wrong,
   λ other. absurd (no_put (one_cut word (codes "put") _ _ parted.1 (word_by (codes "put") refl) (sym parted.0 ∙ other.spells.line_is)).0),
@@ -206,7 +212,8 @@ digest_command line word text fits parted no_put Restart = (λ wrong. absurd wro
 digest_command line word text fits parted no_put Quit = (λ wrong. absurd wrong, λ other. absurd (not_alone line word text (codes "quit") parted.0 (word_by (codes "quit") refl) other.spells))
 
 -- a line whose first word is `put` is of no other word
-no_put : (line word text w : List ℕ) (digest : Digest) → (line ≡ word ++ 32 ∷ text) × IsWord word → word ≡ codes "put" → (slice_index (codes "put") 0 == slice_index w 0) ≡ false → IsWord w → IsDigestLine line w digest → ⊥
+no_put : (line word text w : List ℕ) (digest : Digest) → (line ≡ word ++ 32 ∷ text) × IsWord word → word ≡ codes "put" → (slice_index (codes "put") 0 == slice_index w 0) ≡ false → IsWord w
+    → IsDigestLine line w digest → ⊥
 no_put line word text w digest parted is_put differs is_word spelled =
     apart (codes "put") w differs (sym is_put ∙ (one_cut word w text spelled.text parted.1 is_word (sym parted.0 ∙ spelled.line_is)).0)
 
@@ -240,10 +247,14 @@ put_command line word text fits parted is_put (Put digest ttl expect payload) = 
         spelled = (one_cut word (codes "put") text _ parted.1 (word_by (codes "put") refl) (sym parted.0 ∙ put.line_is)).1;
       },
 )
-put_command line word text fits parted is_put (Get digest) = (λ wrong. absurd wrong, λ other. absurd (no_put line word text (codes "get") digest parted is_put refl (word_by (codes "get") refl) other.spells))
-put_command line word text fits parted is_put (Meta digest) = (λ wrong. absurd wrong, λ other. absurd (no_put line word text (codes "meta") digest parted is_put refl (word_by (codes "meta") refl) other.spells))
-put_command line word text fits parted is_put (Del digest) = (λ wrong. absurd wrong, λ other. absurd (no_put line word text (codes "del") digest parted is_put refl (word_by (codes "del") refl) other.spells))
-put_command line word text fits parted is_put (Bury digest) = (λ wrong. absurd wrong, λ other. absurd (no_put line word text (codes "bury") digest parted is_put refl (word_by (codes "bury") refl) other.spells))
+put_command line word text fits parted is_put (Get digest) =
+    (λ wrong. absurd wrong, λ other. absurd (no_put line word text (codes "get") digest parted is_put refl (word_by (codes "get") refl) other.spells))
+put_command line word text fits parted is_put (Meta digest) =
+    (λ wrong. absurd wrong, λ other. absurd (no_put line word text (codes "meta") digest parted is_put refl (word_by (codes "meta") refl) other.spells))
+put_command line word text fits parted is_put (Del digest) =
+    (λ wrong. absurd wrong, λ other. absurd (no_put line word text (codes "del") digest parted is_put refl (word_by (codes "del") refl) other.spells))
+put_command line word text fits parted is_put (Bury digest) =
+    (λ wrong. absurd wrong, λ other. absurd (no_put line word text (codes "bury") digest parted is_put refl (word_by (codes "bury") refl) other.spells))
 put_command line word text fits parted is_put Flush = (λ wrong. absurd wrong, λ other. absurd (not_alone line word text (codes "flush") parted.0 (word_by (codes "flush") refl) other.spells))
 put_command line word text fits parted is_put Defrag = (λ wrong. absurd wrong, λ other. absurd (not_alone line word text (codes "defrag") parted.0 (word_by (codes "defrag") refl) other.spells))
 put_command line word text fits parted is_put Expire = (λ wrong. absurd wrong, λ other. absurd (not_alone line word text (codes "expire") parted.0 (word_by (codes "expire") refl) other.spells))
@@ -280,7 +291,8 @@ alone_command line fits is_word Stat = short_line line Stat _ fits (λ is. is, �
 alone_command line fits is_word Restart = short_line line Restart _ fits (λ is. is, λ is. is)
 alone_command line fits is_word Quit = short_line line Quit _ fits (λ is. is, λ is. is)
 
-pub line_of_alone : (line : List ℕ) (read : Option Command) → length line ≤ line_limit → IsWord line → ((c : Command) → (read ≡ Some c) ↔ IsAlone line c) → (c : Command) → (read ≡ Some c) ↔ IsCommandLine line c
+pub line_of_alone : (line : List ℕ) (read : Option Command) → length line ≤ line_limit → IsWord line → ((c : Command) → (read ≡ Some c) ↔ IsAlone line c) → (c : Command)
+    → (read ≡ Some c) ↔ IsCommandLine line c
 line_of_alone line read fits is_word reads c =
     let both = alone_command line fits is_word c in
     (λ r. both.0 ((reads c).0 r), λ is. (reads c).1 (both.1 is))

@@ -8,15 +8,20 @@ use Rattle.std.specs.List.{list_any}
 use Rattle.rec_format.specs.declared.version.Digest.{Digest}
 use Rattle.rec_format.specs.declared.version.Stamp.{Stamp}
 use Rattle.rec_format.specs.declared.version.Version.{Version}
-use Rattle.model_device.specs.Histories.{Item, write, dropped, rid, cleared, Pending, is_pending, is_flushed, has_flushed, has_flushed_tombstone, is_durable, ends_well, is_nothing, Keeps, may_keep, choices_after, choices}
+use Rattle.model_device.specs.Histories.{Item, write, dropped, rid, cleared, Pending, is_pending, is_flushed, has_flushed, has_flushed_tombstone, is_durable}
+use Rattle.model_device.specs.Histories.{ends_well, is_nothing, Keeps, may_keep, choices_after, choices}
 use Rattle.std.specs.List.{AllByRecursion}
 use Rattle.rec_format.specs.Places.{same_digest}
 use Rattle.rec_format.proofs.Laws.{later_fact, later_test, later_trans, stamp_after_later, same_digest_refl, same_digest_is}
 use Rattle.rec_format.specs.Versions.{is_later_stamp, stamp_after, first_stamp, wanted_stamp, top_number, version_units}
 use Rattle.model_device.specs.Histories.{top_of}
 use Rattle.model_device.specs.Device.{State, Log, history, history_of, entry, stamp_of, next_stamp_of, part_of, high_time, item_time}
-use Rattle.model_device.specs.Steps.{Step, wrote, moved, removed, rid_of, uncovered, sealed_stream, gate_begun, flushed_buffer, closing_failed, raid_begun, raid_given_up, marked_part, scanned_block, compared_part, done_part, after_step, moved_state}
-use Rattle.model_device.specs.Book.{Setup, Book, Buffer, Live, Stream, client, defrag, filling, sealed, seal_stream, opened_if, used_more, with_new_buffer, with_room, has_room, filling_buffer, first_block, put_in, placed, dropped_live, with_flushed, live_of, may_be_free, may_be_queued, updated, is_in, all_blocks, refreshed, use_of, has_buffer, is_held, pending_of, with_seal, sealed_if, same_stream, is_filling, is_opening}
+use Rattle.model_device.specs.Steps.{Step, wrote, moved, removed, rid_of, uncovered, sealed_stream, gate_begun, flushed_buffer, closing_failed, raid_begun}
+use Rattle.model_device.specs.Steps.{raid_given_up, marked_part, scanned_block, compared_part, done_part, after_step, moved_state}
+use Rattle.model_device.specs.Book.{Setup, Book, Buffer, Live, Stream, client, defrag, filling, sealed, seal_stream, opened_if, used_more, with_new_buffer}
+use Rattle.model_device.specs.Book.{with_room, has_room, filling_buffer, first_block, put_in, placed, dropped_live, with_flushed, live_of, may_be_free}
+use Rattle.model_device.specs.Book.{may_be_queued, updated, is_in, all_blocks, refreshed, use_of, has_buffer, is_held, pending_of, with_seal, sealed_if}
+use Rattle.model_device.specs.Book.{same_stream, is_filling, is_opening}
 
 -- ---- what may be kept
 
@@ -108,7 +113,8 @@ older_lost p newer older kept v ns buried k lost =
 filter_step : (q t : ℕ → Bool) (x : ℕ) (xs : List ℕ) → (list_any t (filter q xs) ≡ true → list_any (λ y. q y && t y) xs ≡ true)
     → (b : Bool) → q x ≡ b → list_any t (cond b (x ∷ filter q xs) (filter q xs)) ≡ true → ((q x && t x) || list_any (λ y. q y && t y) xs) ≡ true
 filter_step q t x xs rest true is e =
-    ⊎_elim (λ h. or_left (q x && t x) (list_any (λ y. q y && t y) xs) (and_from (q x) (t x) is h)) (λ r. or_right (q x && t x) (list_any (λ y. q y && t y) xs) (rest r)) (or_cases (t x) (list_any t (filter q xs)) e)
+    ⊎_elim (λ h. or_left (q x && t x) (list_any (λ y. q y && t y) xs) (and_from (q x) (t x) is h)) (λ r. or_right (q x && t x) (list_any (λ y. q y && t y) xs) (rest r))
+    (or_cases (t x) (list_any t (filter q xs)) e)
 filter_step q t x xs rest false is e = or_right (q x && t x) (list_any (λ y. q y && t y) xs) (rest e)
 
 any_filter : (q t : ℕ → Bool) (xs : List ℕ) → list_any t (filter q xs) ≡ true → list_any (λ x. q x && t x) xs ≡ true
@@ -289,7 +295,8 @@ times_of_part setup d [] = tt
 times_of_part setup d (e ∷ log) = times_step setup d e log (times_of_part setup d log) (same_digest d e.0) (part_of setup e.0 == part_of setup d) refl refl
 
 -- so a version with the next stamp of its digest keeps the stamps rising
-pub legal_write_rises : (setup : Setup) (s : State) (now : ℕ) (d : Digest) (v : Version) (ns : List ℕ) → Rises (history s d) → next_stamp_of setup s now d ≡ Some v.stamp → Rises (write v ns ∷ history s d)
+pub legal_write_rises : (setup : Setup) (s : State) (now : ℕ) (d : Digest) (v : Version) (ns : List ℕ) → Rises (history s d) → next_stamp_of setup s now d ≡ Some v.stamp
+    → Rises (write v ns ∷ history s d)
 legal_write_rises setup s now d v ns r e =
     write_rises (history s d) (high_time setup (part_of setup d) s.log) now v ns r (times_of_part setup d s.log)
     (given (wanted_stamp (stamp_of (entry s d)) (high_time setup (part_of setup d) s.log) now) v.stamp e)

@@ -6,9 +6,11 @@ use Rattle.rec_format.specs.declared.version.Digest.{Digest}
 use Rattle.rec_format.specs.Places.{same_digest}
 use Rattle.rec_format.specs.Versions.{version_units}
 use Rattle.model_device.specs.Histories.{Item, write, dropped, rid, cleared, with_number}
-use Rattle.model_device.specs.Book.{Setup, Book, Buffer, Live, Stream, client, defrag, has_room, with_new_buffer, with_room, put_in, filling_buffer, placed, dropped_live, with_flushed, refreshed, live_of}
+use Rattle.model_device.specs.Book.{Setup, Book, Buffer, Live, Stream, client, defrag, has_room, with_new_buffer, with_room, put_in, filling_buffer, placed}
+use Rattle.model_device.specs.Book.{dropped_live, with_flushed, refreshed, live_of}
 use Rattle.model_device.specs.Device.{State, Log, history_of, stops_search, item_with_number, log_with_number}
-use Rattle.model_device.specs.Steps.{Step, wrote, moved, removed, rid_of, uncovered, sealed_stream, gate_begun, flushed_buffer, closing_failed, raid_begun, raid_given_up, marked_part, scanned_block, compared_part, done_part, after_step, moved_state}
+use Rattle.model_device.specs.Steps.{Step, wrote, moved, removed, rid_of, uncovered, sealed_stream, gate_begun, flushed_buffer, closing_failed, raid_begun}
+use Rattle.model_device.specs.Steps.{raid_given_up, marked_part, scanned_block, compared_part, done_part, after_step, moved_state}
 
 -- ---- a move and the histories
 
@@ -38,7 +40,8 @@ at_go : (d x : Digest) (n : ℕ) (item : Item) (log : Log) → history_of d (log
 at_go d x n item log rest same go =
     let h = history_of d log in
     let h' = history_of d (log_with_number d n log) in
-    ap (history_of d) (cond-false (same_digest d x && stops_search item) ((x, item_with_number n item) ∷ log) ((x, item) ∷ log_with_number d n log) (and_right (same_digest d x) (stops_search item) go))
+    ap (history_of d) (cond-false (same_digest d x && stops_search item) ((x, item_with_number n item) ∷ log) ((x, item) ∷ log_with_number d n log)
+    (and_right (same_digest d x) (stops_search item) go))
     ∙ cond-true (same_digest d x) (item ∷ h') h' same ∙ ap (λ (l : List Item). item ∷ l) rest ∙ sym (goes_with n item h go)
     ∙ ap (with_number n) (sym (cond-true (same_digest d x) (item ∷ h) h same))
 
@@ -47,7 +50,8 @@ at_other : (d x : Digest) (n : ℕ) (item : Item) (log : Log) → history_of d (
 at_other d x n item log rest other =
     let h = history_of d log in
     let h' = history_of d (log_with_number d n log) in
-    ap (history_of d) (cond-false (same_digest d x && stops_search item) ((x, item_with_number n item) ∷ log) ((x, item) ∷ log_with_number d n log) (and_left (same_digest d x) (stops_search item) other))
+    ap (history_of d) (cond-false (same_digest d x && stops_search item) ((x, item_with_number n item) ∷ log) ((x, item) ∷ log_with_number d n log)
+    (and_left (same_digest d x) (stops_search item) other))
     ∙ cond-false (same_digest d x) (item ∷ h') h' other ∙ rest ∙ ap (with_number n) (sym (cond-false (same_digest d x) (item ∷ h) h other))
 
 by_tests : (d x : Digest) (n : ℕ) (item : Item) (log : Log) → history_of d (log_with_number d n log) ≡ with_number n (history_of d log)

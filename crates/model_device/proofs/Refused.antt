@@ -65,7 +65,8 @@ unfolding refreshed dropped_live placed with_flushed cold_book after_step
 no_fault_unqueued h = ⊎_elim (λ o. cc (o.0)) (λ m. ⊎_elim (λ n. cc (n.0)) (λ f. f) m) h
 
 -- a put whose stamp is the clock's time alone
-no_clock_stamp : Legal one_put (event (put_call d1 0 None (187 ∷ []) 500) (stamp_given (record { lut = 500; gen_ = 2 })) (wrote d1 (a_put (record { lut = 500; gen_ = 2 }) 0 false (187 ∷ [])) ∷ [])) → ⊥
+no_clock_stamp : Legal one_put (event (put_call d1 0 None (187 ∷ []) 500) (stamp_given (record { lut = 500; gen_ = 2 }))
+    (wrote d1 (a_put (record { lut = 500; gen_ = 2 }) 0 false (187 ∷ [])) ∷ [])) → ⊥
 unfolding refreshed dropped_live placed with_flushed cold_book after_step
 no_clock_stamp h = ⊎_elim (λ m. cc (m.0)) (λ w. ⊎_elim (λ o. absurd (omega (arith, ap time o.0))) (λ f. cc (f.0)) w) h
   where

@@ -31,7 +31,8 @@ module _ (setup : Setup) where
   before d [] ys later = in_front d ys later
   before d (x ∷ xs) ys later = by (nat_le (part_of setup d) (part_of setup x)) (before d xs ys later)
     where
-      by : (b : Bool) → into_parts setup d (xs ++ ys) ≡ into_parts setup d xs ++ ys → cond b (d ∷ x ∷ (xs ++ ys)) (x ∷ into_parts setup d (xs ++ ys)) ≡ cond b (d ∷ x ∷ xs) (x ∷ into_parts setup d xs) ++ ys
+      by : (b : Bool) → into_parts setup d (xs ++ ys) ≡ into_parts setup d xs ++ ys
+          → cond b (d ∷ x ∷ (xs ++ ys)) (x ∷ into_parts setup d (xs ++ ys)) ≡ cond b (d ∷ x ∷ xs) (x ∷ into_parts setup d xs) ++ ys
       by true rest = refl
       by false rest = ap (λ (l : List Digest). x ∷ l) rest
 
@@ -50,7 +51,8 @@ module _ (setup : Setup) where
     of_one_part n [] = tt
     of_one_part n (d ∷ ds) = by (part_of setup d == n) refl (test d) (of_one_part n ds)
       where
-        by : (a : Bool) → (part_of setup d == n) ≡ a → (b : Bool) → AllByRecursion (λ x. part_of setup x ≡ n) (filter (mine n) ds) → AllByRecursion (λ x. part_of setup x ≡ n) (cond (a && b) (d ∷ filter (mine n) ds) (filter (mine n) ds))
+        by : (a : Bool) → (part_of setup d == n) ≡ a → (b : Bool) → AllByRecursion (λ x. part_of setup x ≡ n) (filter (mine n) ds)
+            → AllByRecursion (λ x. part_of setup x ≡ n) (cond (a && b) (d ∷ filter (mine n) ds) (filter (mine n) ds))
         by true is true rest = (eqb-true (part_of setup d) n is, rest)
         by true is false rest = rest
         by false is b rest = rest
@@ -58,7 +60,8 @@ module _ (setup : Setup) where
     all_below : (n : ℕ) (ds : List Digest) → AllByRecursion (λ d. part_of setup d < n) (below_part n ds)
     all_below zero ds = tt
     all_below (suc n) ds =
-        all_joined (λ d. part_of setup d < suc n) (below_part n ds) (filter (mine n) ds) (all_map (λ d. part_of setup d < n) (λ d. part_of setup d < suc n) (below_part n ds) (λ d lt. omega arith) (all_below n ds))
+        all_joined (λ d. part_of setup d < suc n) (below_part n ds) (filter (mine n) ds)
+        (all_map (λ d. part_of setup d < n) (λ d. part_of setup d < suc n) (below_part n ds) (λ d lt. omega arith) (all_below n ds))
         (all_map (λ d. part_of setup d ≡ n) (λ d. part_of setup d < suc n) (filter (mine n) ds) (λ d is. omega (arith, is)) (of_one_part n ds))
 
     -- one that is in none of them
@@ -78,13 +81,15 @@ module _ (setup : Setup) where
         rest : List Digest
         rest = filter (mine n) ds
 
-        by : (b : Bool) → (part_of setup d == n) ≡ b → (part_of setup d < n → into_parts setup d (below_part n ds) ≡ below_part n (d ∷ ds)) → into_parts setup d (below_part n ds ++ rest) ≡ below_part n (d ∷ ds) ++ cond (mine n d) (d ∷ rest) rest
+        by : (b : Bool) → (part_of setup d == n) ≡ b → (part_of setup d < n → into_parts setup d (below_part n ds) ≡ below_part n (d ∷ ds))
+            → into_parts setup d (below_part n ds ++ rest) ≡ below_part n (d ∷ ds) ++ cond (mine n d) (d ∷ rest) rest
         by true is earlier =
             let here : part_of setup d ≡ n = eqb-true (part_of setup d) n is in
             passed d (below_part n ds) rest (all_map (λ x. part_of setup x < n) (λ x. part_of setup x < part_of setup d) (below_part n ds) (λ x less. omega (arith, here, less)) (all_below n ds))
             ∙ ap (λ (l : List Digest). below_part n ds ++ l)
             (in_front d rest (all_map (λ x. part_of setup x ≡ n) (λ x. part_of setup d ≤ part_of setup x) rest (λ x same. omega (arith, here, same)) (of_one_part n ds)))
-            ∙ (λ i. sym (skipped n d ds (λ k less. ap (λ (c : Bool). c && test d) (ne_eqb (part_of setup d) k (λ e. absurd (omega (arith, here, e, less)))))) i ++ sym (cond-true (mine n d) (d ∷ rest) rest (both (part_of setup d == n) (test d) is passes)) i)
+            ∙ (λ i. sym (skipped n d ds (λ k less. ap (λ (c : Bool). c && test d) (ne_eqb (part_of setup d) k (λ e. absurd (omega (arith, here, e, less)))))) i ++ sym
+            (cond-true (mine n d) (d ∷ rest) rest (both (part_of setup d == n) (test d) is passes)) i)
         by false is earlier =
             let other = eqb-false (part_of setup d) n is in
             let less : part_of setup d < n = omega (arith, lt, other) in

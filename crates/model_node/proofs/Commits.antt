@@ -10,7 +10,8 @@ use Rattle.rec_format.specs.declared.version.Version.{Version}
 use Rattle.rec_format.specs.Versions.{version_units, a_tombstone, is_expired_put}
 use Rattle.model_device.specs.Device.{State, seen, entry, entry_is_covered, entry_passes, next_stamp_of}
 use Rattle.model_device.specs.Steps.{Step, wrote, removed}
-use Rattle.model_device.specs.Events.{Cause, Answer, stamp_given, happened, found_version, counted, block_chosen, raid_numbered, marks_made, block_scanned, marks_undone, part_ended, raid_over, refused, Event, put_call, delete_call, expire_call, get_call, after_event}
+use Rattle.model_device.specs.Events.{Cause, Answer, stamp_given, happened, found_version, counted, block_chosen, raid_numbered, marks_made, block_scanned}
+use Rattle.model_device.specs.Events.{marks_undone, part_ended, raid_over, refused, Event, put_call, delete_call, expire_call, get_call, after_event}
 use Rattle.model_device.specs.Legal.{Follows, Allowed, Only, Unless, WriteEnds, Entombs, Removes, WhereReads, no_write, the_stamp, tombstone_reserve, put_refusal, new_put}
 use Rattle.model_device.specs.Vacating.{Outcome, did, stopped, IfRefused}
 use Rattle.line_proto.proofs.Falling.{all_append}
@@ -160,7 +161,8 @@ place_other zero (suc m) change (x ∷ node) other = refl
 place_other (suc n) zero change (x ∷ node) other = refl
 place_other (suc n) (suc m) change (x ∷ node) other = place_other n m change node (λ same. other (ap suc same))
 
-flushed_on : (s t : State) (steps : List Step) → ((d : Digest) → top_is_flushed s d ≡ true → top_is_flushed t d ≡ true) → AllByRecursion (flushed_if_wrote s) steps → AllByRecursion (flushed_if_wrote t) steps
+flushed_on : (s t : State) (steps : List Step) → ((d : Digest) → top_is_flushed s d ≡ true → top_is_flushed t d ≡ true) → AllByRecursion (flushed_if_wrote s) steps
+    → AllByRecursion (flushed_if_wrote t) steps
 flushed_on s t steps keeps all = all_map (flushed_if_wrote s) (flushed_if_wrote t) steps one all
   where
     one : (step : Step) → flushed_if_wrote s step → flushed_if_wrote t step
@@ -177,7 +179,8 @@ pub record KeepsFlushed (device : ℕ) (slot : Slot) (work : List NodeEvent) (no
   pub keeps : (d : Digest) → top_is_flushed slot.state d ≡ true → top_is_flushed after.state d ≡ true
   pub flushed : AllByRecursion (flushed_if_wrote after.state) (steps_on device work)
 
-removals_keep : (told : Bool) (device : ℕ) (work : List NodeEvent) (node : Node) (slot : Slot) → slice_get node device ≡ Some slot → HasNumbers slot.state → slot.setup.commit ≡ true → AllByRecursion HasRemovedOn work
+removals_keep : (told : Bool) (device : ℕ) (work : List NodeEvent) (node : Node) (slot : Slot) → slice_get node device ≡ Some slot → HasNumbers slot.state → slot.setup.commit ≡ true
+    → AllByRecursion HasRemovedOn work
     → IsLegalOn told node work → KeepsFlushed device slot work node
 removals_keep told device [] node slot at numbers commit all legal = record { after = slot; there = at; keeps = λ d is. is; flushed = tt }
 removals_keep told device (e ∷ work) node slot at numbers commit all legal =
@@ -199,7 +202,8 @@ removals_keep told device (e ∷ work) node slot at numbers commit all legal =
         let follows = subst (λ (o : Option Slot). MatchOption o ⊥ (λ (x : Slot). Follows x.setup told x.state x.faults e.event)) mine legal.0 in
         let allowed : Allowed slot.setup told slot.state e.event (expire_call call.0 call.1) = subst (Allowed slot.setup told slot.state e.event) call.2 follows.allowed in
         let after = slot_after e.event slot in
-        let rest = rest_of after (subst (λ (k : ℕ). slice_get next k ≡ Some after) same (place_here e.device (slot_after e.event) node slot mine)) (steps_numbered slot.setup e.event.steps slot.state numbers) commit in
+        let rest = rest_of after (subst (λ (k : ℕ). slice_get next k ≡ Some after) same (place_here e.device (slot_after e.event) node slot mine))
+        (steps_numbered slot.setup e.event.steps slot.state numbers) commit in
         let mine_flushed = expire_commits slot told e.event call.0 call.1 allowed commit (none_failed e.event.answer all.0.1) in
         record {
           after = rest.after;
@@ -282,7 +286,8 @@ does_commit told node command.Raid now work r numbers does legal device = unwrit
 does_commit told node command.Stat now work r numbers does legal device = no_work (is_failed r) node work does.0 (node_after work node) device
 does_commit told node command.Restart now work r numbers does legal device = absurd does
 
-answer_commits : (left : ImagesLeft) (told : Bool) (node : Node) (line : Option (List ℕ)) (served : Served) → AreNumbered node → AnswersLine left told node line served → IsLegalOn told node served.work → CommitsAt node served
+answer_commits : (left : ImagesLeft) (told : Bool) (node : Node) (line : Option (List ℕ)) (served : Served) → AreNumbered node → AnswersLine left told node line served
+    → IsLegalOn told node served.work → CommitsAt node served
 answer_commits left told node None served numbers (inl refuses) legal device = no_work _ node served.work refuses.2 (node_at_reply served node) device
 answer_commits left told node None served numbers (inr lacks) legal device = no_work _ node served.work lacks.1 (node_at_reply served node) device
 answer_commits left told node (Some line) served numbers (inr (inl refuses)) legal device = no_work _ node served.work refuses.1.2 (node_at_reply served node) device

@@ -2,7 +2,8 @@
 use Rattle.std.proofs.Common.{◌≡◌, ℕ, ◌+◌, List, [], ◌∷◌, ◌++◌, sym, ap, subst, arith}
 use Rattle.std.specs.List.{AllByRecursion}
 use Rattle.rec_format.specs.declared.version.Digest.{Digest}
-use Rattle.model_device.specs.Events.{Event, expire_call, Cause, Answer, stamp_given, happened, found_version, counted, block_chosen, raid_numbered, marks_made, block_scanned, marks_undone, part_ended, raid_over, refused}
+use Rattle.model_device.specs.Events.{Event, expire_call, Cause, Answer, stamp_given, happened, found_version, counted, block_chosen, raid_numbered, marks_made}
+use Rattle.model_device.specs.Events.{block_scanned, marks_undone, part_ended, raid_over, refused}
 use Rattle.model_device.specs.Vacating.{Outcome, did, stopped, IfRefused}
 use Rattle.model_device.specs.Expiring.{ExpiresEach}
 
@@ -38,7 +39,8 @@ refused_so raid_over R S E F one other is = other is
 
 module _ (now : ℕ) where
   -- some were removed, and then others
-  pub then_others : (xs ys : List Digest) (a n m : ℕ) (es fs : List Event) (outcome : Outcome) → ExpiresEach now xs a es (did n m) → ExpiresEach now ys n fs outcome → ExpiresEach now (xs ++ ys) a (es ++ fs) outcome
+  pub then_others : (xs ys : List Digest) (a n m : ℕ) (es fs : List Event) (outcome : Outcome) → ExpiresEach now xs a es (did n m) → ExpiresEach now ys n fs outcome
+      → ExpiresEach now (xs ++ ys) a (es ++ fs) outcome
   then_others [] ys a n m es fs outcome first then =
       let same : n ≡ a = cc in
       subst (λ (l : List Event). ExpiresEach now ys a (l ++ fs) outcome) (sym first.0) (subst (λ (k : ℕ). ExpiresEach now ys k fs outcome) same then)
@@ -47,7 +49,8 @@ module _ (now : ℕ) where
     rest ++ fs,
     ap (λ (l : List Event). l ++ fs) is,
     call,
-    refused_so event.answer (λ cause. (rest ≡ []) × (did n m ≡ stopped cause)) (λ cause. (rest ++ fs ≡ []) × (outcome ≡ stopped cause)) (ExpiresEach now xs (a + 1) rest (did n m)) (ExpiresEach now (xs ++ ys) (a + 1) (rest ++ fs) outcome)
+    refused_so event.answer (λ cause. (rest ≡ []) × (did n m ≡ stopped cause)) (λ cause. (rest ++ fs ≡ []) × (outcome ≡ stopped cause)) (ExpiresEach now xs (a + 1) rest (did n m))
+        (ExpiresEach now (xs ++ ys) (a + 1) (rest ++ fs) outcome)
         (λ cause ends. let never : did n m ≡ stopped cause = ends.1 in absurd cc) (λ more. then_others xs ys (a + 1) n m rest fs outcome more then) how,
   )
 
@@ -59,7 +62,8 @@ module _ (now : ℕ) where
     rest,
     is,
     call,
-    refused_so event.answer (λ why. (rest ≡ []) × (stopped cause ≡ stopped why)) (λ why. (rest ≡ []) × (stopped cause ≡ stopped why)) (ExpiresEach now xs (a + 1) rest (stopped cause)) (ExpiresEach now (xs ++ ys) (a + 1) rest (stopped cause))
+    refused_so event.answer (λ why. (rest ≡ []) × (stopped cause ≡ stopped why)) (λ why. (rest ≡ []) × (stopped cause ≡ stopped why)) (ExpiresEach now xs (a + 1) rest (stopped cause))
+        (ExpiresEach now (xs ++ ys) (a + 1) rest (stopped cause))
         (λ why ends. ends) (λ more. not_come_to xs ys (a + 1) rest cause more) how,
   )
 
@@ -75,7 +79,8 @@ module _ (now : ℕ) where
     rest,
     is,
     call,
-    refused_so event.answer (λ cause. (rest ≡ []) × (outcome ≡ stopped cause)) (λ cause. (rest ≡ []) × (counted_on k outcome ≡ stopped cause)) (ExpiresEach now xs (a + 1) rest outcome) (ExpiresEach now xs (k + a + 1) rest (counted_on k outcome))
+    refused_so event.answer (λ cause. (rest ≡ []) × (outcome ≡ stopped cause)) (λ cause. (rest ≡ []) × (counted_on k outcome ≡ stopped cause)) (ExpiresEach now xs (a + 1) rest outcome)
+        (ExpiresEach now xs (k + a + 1) rest (counted_on k outcome))
         (λ cause ends. (ends.0, ap (counted_on k) ends.1))
         (λ more. let next : k + (a + 1) ≡ k + a + 1 = omega arith in subst (λ (n : ℕ). ExpiresEach now xs n rest (counted_on k outcome)) next (behind k xs (a + 1) rest outcome more)) how,
   )
@@ -83,12 +88,14 @@ module _ (now : ℕ) where
   -- ---- the events
 
   -- each removes the entry of one of the digests
-  pub calls_are : (P : Digest → Type 0) (ds : List Digest) (a : ℕ) (es : List Event) (outcome : Outcome) → AllByRecursion P ds → ExpiresEach now ds a es outcome → AllByRecursion (λ e. (d : Digest) × (e.call ≡ expire_call d now) × P d) es
+  pub calls_are : (P : Digest → Type 0) (ds : List Digest) (a : ℕ) (es : List Event) (outcome : Outcome) → AllByRecursion P ds → ExpiresEach now ds a es outcome
+      → AllByRecursion (λ e. (d : Digest) × (e.call ≡ expire_call d now) × P d) es
   calls_are P [] a es outcome all none = subst (AllByRecursion (λ e. (d : Digest) × (e.call ≡ expire_call d now) × P d)) (sym none.0) tt
   calls_are P (x ∷ xs) a es outcome all (event, rest, is, call, how) =
       subst (AllByRecursion (λ e. (d : Digest) × (e.call ≡ expire_call d now) × P d)) (sym is) (
         (x, call, all.0),
-        if_refused event.answer (λ cause. (rest ≡ []) × (outcome ≡ stopped cause)) (ExpiresEach now xs (a + 1) rest outcome) (AllByRecursion (λ e. (d : Digest) × (e.call ≡ expire_call d now) × P d) rest)
+        if_refused event.answer (λ cause. (rest ≡ []) × (outcome ≡ stopped cause)) (ExpiresEach now xs (a + 1) rest outcome)
+            (AllByRecursion (λ e. (d : Digest) × (e.call ≡ expire_call d now) × P d) rest)
             (λ cause ends. subst (AllByRecursion (λ e. (d : Digest) × (e.call ≡ expire_call d now) × P d)) (sym ends.0) tt) (λ more. calls_are P xs (a + 1) rest outcome all.1 more) how,
       )
 
@@ -103,7 +110,8 @@ all_removed now (x ∷ xs) a n m es (event, rest, is, call, how) =
     subst (AllByRecursion HasRemoved) (sym is) (
       (
         (x, now, call),
-        refused_so event.answer (λ cause. (rest ≡ []) × (did n m ≡ stopped cause)) (λ cause. ⊥) (ExpiresEach now xs (a + 1) rest (did n m)) (Unit {0}) (λ cause ends. let never : did n m ≡ stopped cause = ends.1 in absurd cc) (λ more. tt) how,
+        refused_so event.answer (λ cause. (rest ≡ []) × (did n m ≡ stopped cause)) (λ cause. ⊥) (ExpiresEach now xs (a + 1) rest (did n m)) (Unit {0})
+            (λ cause ends. let never : did n m ≡ stopped cause = ends.1 in absurd cc) (λ more. tt) how,
       ),
       if_refused event.answer (λ cause. (rest ≡ []) × (did n m ≡ stopped cause)) (ExpiresEach now xs (a + 1) rest (did n m)) (AllByRecursion HasRemoved rest)
           (λ cause ends. let never : did n m ≡ stopped cause = ends.1 in absurd cc) (λ more. all_removed now xs (a + 1) n m rest more) how,

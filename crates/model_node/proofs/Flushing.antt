@@ -7,7 +7,8 @@ use Rattle.rec_format.specs.declared.version.Digest.{Digest}
 use Rattle.rec_format.specs.declared.version.Version.{Version}
 use Rattle.rec_format.specs.Versions.{version_units}
 use Rattle.model_device.specs.Histories.{Item, write, is_pending}
-use Rattle.model_device.specs.Book.{Setup, Book, Buffer, Phase, Stream, client, filling, sealed, opening, is_filling, is_opening, same_stream, filling_buffer, sealed_if, seal_stream, with_room, used_more, put_in, placed, refreshed, placing_number, with_seal, opened_if, with_flushed}
+use Rattle.model_device.specs.Book.{Setup, Book, Buffer, Phase, Stream, client, filling, sealed, opening, is_filling, is_opening, same_stream, filling_buffer}
+use Rattle.model_device.specs.Book.{sealed_if, seal_stream, with_room, used_more, put_in, placed, refreshed, placing_number, with_seal, opened_if, with_flushed}
 use Rattle.model_device.specs.Device.{State, history_of}
 use Rattle.model_device.specs.Steps.{Step, wrote, sealed_stream, gate_begun, flushed_buffer, wrote_state, after_step, after_steps}
 use Rattle.model_device.specs.Legal.{flush_of, flush_between, commit_seal, commit_flush}
@@ -104,7 +105,8 @@ steps_log : (setup : Setup) (steps : List Step) (s : State) → AllByRecursion F
 steps_log setup [] s all = refl
 steps_log setup (step ∷ steps) s all = steps_log setup steps (after_step setup step s) all.1 ∙ step_log setup step s all.0
 
-flush_steps : (number block : ℕ) (stream : Stream) (used : ℕ) (phase : Phase) → AllByRecursion FlushStep (flush_of (record { number = number; block = block; stream = stream; used = used; phase = phase }))
+flush_steps : (number block : ℕ) (stream : Stream) (used : ℕ) (phase : Phase)
+    → AllByRecursion FlushStep (flush_of (record { number = number; block = block; stream = stream; used = used; phase = phase }))
 flush_steps number block stream used filling = tt
 flush_steps number block stream used sealed = (tt, (tt, tt))
 flush_steps number block stream used opening = (tt, tt)
@@ -137,11 +139,13 @@ between_flushes first n (b ∷ bs) up has = elim (or_cases (is_ready n b) (list_
   | inr later ↦ passed (in_range first n b) (between_flushes first n bs up later)
 ]
   where
-    taken : (c : Bool) → c ≡ true → list_any (flushes n) (flush_of b) ≡ true → list_any (flushes n) (flat_map flush_of (cond c (b ∷ filter (in_range first n) bs) (filter (in_range first n) bs))) ≡ true
+    taken : (c : Bool) → c ≡ true → list_any (flushes n) (flush_of b) ≡ true
+        → list_any (flushes n) (flat_map flush_of (cond c (b ∷ filter (in_range first n) bs) (filter (in_range first n) bs))) ≡ true
     taken true is here = list_any-append (flushes n) (flush_of b) (flat_map flush_of (filter (in_range first n) bs)) ∙ or_left _ _ here
     taken false is here = absurd (false≢true is)
 
-    passed : (c : Bool) → list_any (flushes n) (flat_map flush_of (filter (in_range first n) bs)) ≡ true → list_any (flushes n) (flat_map flush_of (cond c (b ∷ filter (in_range first n) bs) (filter (in_range first n) bs))) ≡ true
+    passed : (c : Bool) → list_any (flushes n) (flat_map flush_of (filter (in_range first n) bs)) ≡ true
+        → list_any (flushes n) (flat_map flush_of (cond c (b ∷ filter (in_range first n) bs) (filter (in_range first n) bs))) ≡ true
     passed true later = list_any-append (flushes n) (flush_of b) (flat_map flush_of (filter (in_range first n) bs)) ∙ or_right _ _ later
     passed false later = later
 

@@ -63,7 +63,8 @@ unstarted served node none numbers = subst (λ (o : Option Node). AreNumbered (n
 anew : (served : Served) (node new : Node) → served.restarted ≡ Some new → AreNumbered new → AreNumbered (node_or (node_after served.work node) served.restarted)
 anew served node new is numbers = subst (λ (o : Option Node). AreNumbered (node_or (node_after served.work node) o)) (sym is) numbers
 
-answer_numbered : (left : ImagesLeft) (node : Node) (line : Option (List ℕ)) (served : Served) → AnswersLine left true node line served → AreNumbered node → AreNumbered (node_or (node_after served.work node) served.restarted)
+answer_numbered : (left : ImagesLeft) (node : Node) (line : Option (List ℕ)) (served : Served) → AnswersLine left true node line served → AreNumbered node
+    → AreNumbered (node_or (node_after served.work node) served.restarted)
 answer_numbered left node None served (inl refuses) numbers = unstarted served node refuses.1 numbers
 answer_numbered left node None served (inr lacks) numbers = unstarted served node lacks.0 numbers
 answer_numbered left node (Some line) served (inr (inl refuses)) numbers = unstarted served node refuses.1.1 numbers

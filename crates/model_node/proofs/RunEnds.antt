@@ -13,7 +13,8 @@ use Rattle.model_device.specs.Book.{Setup, Buffer, client, defrag, filling_buffe
 use Rattle.model_device.specs.Device.{State, seen, entry_is_covered, next_stamp_of}
 use Rattle.model_device.specs.Steps.{Step, removed, after_steps}
 use Rattle.model_device.specs.Events.{Cause, Answer, stamp_given, happened, Call, Event, put_call, bury_call, delete_call, get_call}
-use Rattle.model_device.specs.Legal.{FlushEnds, StopsIn, seal_if, seal_all, flush_of, flush_all, Only, Unless, WriteEnds, Entombs, Removes, WhereReads, no_write, the_stamp, tombstone_reserve, put_refusal, new_put, Allowed, Follows}
+use Rattle.model_device.specs.Legal.{FlushEnds, StopsIn, seal_if, seal_all, flush_of, flush_all, Only, Unless, WriteEnds, Entombs, Removes, WhereReads}
+use Rattle.model_device.specs.Legal.{no_write, the_stamp, tombstone_reserve, put_refusal, new_put, Allowed, Follows}
 use Rattle.line_proto.specs.declared.command.Command.{Command}
 use Rattle.line_proto.specs.declared.command.Command.TheVariants as command
 use Rattle.line_proto.specs.declared.reply.Reply.{Reply}
@@ -21,7 +22,8 @@ use Rattle.line_proto.specs.Lines.{IsCommandLine}
 use Rattle.line_proto.specs.Stream.{ended}
 use Rattle.model_node.specs.declared.run_end.RunEnd.{RunEnd}
 use Rattle.model_node.specs.declared.run_end.RunEnd.TheVariants as end
-use Rattle.model_node.specs.Commands.{Slot, Node, NodeEvent, IsLegalOn, node_after, on_device, found_reply, meta_reply, seen_on, answer_reply, flushed_reply, defragged_reply, expired_reply, raided_reply, Does}
+use Rattle.model_node.specs.Commands.{Slot, Node, NodeEvent, IsLegalOn, node_after, on_device, found_reply, meta_reply, seen_on, answer_reply, flushed_reply}
+use Rattle.model_node.specs.Commands.{defragged_reply, expired_reply, raided_reply, Does}
 use Rattle.model_device.specs.Vacating.{Outcome, did, stopped}
 use Rattle.model_node.specs.Run.{ImagesLeft, Served, AnswersLine, ServesAll, IsRun, ClosesEach, halts, is_halted, node_after_line, last_node}
 use Rattle.model_node.specs.Outside.{Outside, TakesLines, rest_line}
@@ -41,7 +43,8 @@ meta_goes : (found : Option Version) → halts (meta_reply found) ≡ false
 meta_goes None = refl
 meta_goes (Some v) = refl
 
-write_goes : (setup : Setup) (s : State) (event : Event) (digest : Digest) (v : Version) (ok : Answer) → halts (answer_reply ok) ≡ false → WriteEnds setup s event digest v ok → halts (answer_reply event.answer) ≡ false
+write_goes : (setup : Setup) (s : State) (event : Event) (digest : Digest) (v : Version) (ok : Answer) → halts (answer_reply ok) ≡ false → WriteEnds setup s event digest v ok
+    → halts (answer_reply event.answer) ≡ false
 write_goes setup s event digest v ok goes (inl done) = answer_goes event.answer _ done.0 goes
 write_goes setup s event digest v ok goes (inr fault) = answer_goes event.answer _ fault.0 refl
 

@@ -66,7 +66,8 @@ module _ (setup : Setup) (d : Digest) where
   step_stays : (s : State) (step : Step) → HasNumbers s → WritesOther d step → top_is_flushed s d ≡ true → top_is_flushed (after_step setup step s) d ≡ true
   step_stays s step numbers other is =
       sym (same_newest s step other)
-      ∙ newest_stays s.book.next_number (pending_of s.book) (pending_of (after_step setup step s).book) (λ ns below flushed. step_keeps_flushed setup step s ns below flushed) (history s d) (numbers.below d) is
+      ∙ newest_stays s.book.next_number (pending_of s.book) (pending_of (after_step setup step s).book) (λ ns below flushed. step_keeps_flushed setup step s ns below flushed)
+      (history s d) (numbers.below d) is
 
   steps_stay : (s : State) (steps : List Step) → HasNumbers s → AllByRecursion (WritesOther d) steps → top_is_flushed s d ≡ true → top_is_flushed (after_steps setup steps s) d ≡ true
   steps_stay s [] numbers other is = is
@@ -92,7 +93,8 @@ module _ (setup : Setup) (d : Digest) where
     flushes_other false t = tt
 
     -- with its commit
-    unfoldable entombed_stays : HasNumbers s → (steps : List Step) → steps ≡ (wrote digest v ∷ commit_seal setup) ++ commit_flush setup number (after_steps setup (wrote digest v ∷ commit_seal setup) s) → top_is_flushed s d ≡ true
+    unfoldable entombed_stays : HasNumbers s → (steps : List Step)
+        → steps ≡ (wrote digest v ∷ commit_seal setup) ++ commit_flush setup number (after_steps setup (wrote digest v ∷ commit_seal setup) s) → top_is_flushed s d ≡ true
         → top_is_flushed (after_steps setup steps s) d ≡ true
     entombed_stays numbers steps is flushed = by (same_digest d digest) refl
       where
@@ -102,7 +104,8 @@ module _ (setup : Setup) (d : Digest) where
         head : (xs : List Step) → xs ≡ steps → AllByRecursion (flushed_if_wrote (after_steps setup xs s)) xs → top_is_flushed (after_steps setup xs s) digest ≡ true
         head [] same all = let never : [] ≡ wrote digest v ∷ (commit_seal setup ++ commit_flush setup number (after_steps setup (wrote digest v ∷ commit_seal setup) s)) = same ∙ flat in absurd cc
         head (x ∷ xs) same all =
-            let one : x ≡ wrote digest v = (let e : x ∷ xs ≡ wrote digest v ∷ (commit_seal setup ++ commit_flush setup number (after_steps setup (wrote digest v ∷ commit_seal setup) s)) = same ∙ flat in cc) in
+            let one : x ≡ wrote digest v = (let e : x ∷ xs ≡ wrote digest v ∷ (commit_seal setup ++ commit_flush setup number (after_steps setup (wrote digest v ∷ commit_seal setup) s)) =
+            same ∙ flat in cc) in
             subst (flushed_if_wrote (after_steps setup (x ∷ xs) s)) one all.0
 
         by : (b : Bool) → same_digest d digest ≡ b → top_is_flushed (after_steps setup steps s) d ≡ true

@@ -6,9 +6,11 @@ use Rattle.rec_format.specs.declared.version.Digest.{Digest}
 use Rattle.rec_format.specs.Versions.{is_tombstone, top_number}
 use Rattle.model_device.specs.Book.{Setup, Book, Stream, client, defrag, filling_buffer, has_room, live_of}
 use Rattle.model_device.specs.Device.{State, Turn, mark_turn, scan_turn, apply_turn, drop_turn, finished, entry, entry_passes}
-use Rattle.model_device.specs.Steps.{Step, wrote, moved, rid_of, uncovered, gate_begun, flushed_buffer, closing_failed, raid_begun, raid_given_up, marked_part, scanned_block, compared_part, done_part, after_steps}
+use Rattle.model_device.specs.Steps.{Step, wrote, moved, rid_of, uncovered, gate_begun, flushed_buffer, closing_failed, raid_begun, raid_given_up, marked_part}
+use Rattle.model_device.specs.Steps.{scanned_block, compared_part, done_part, after_steps}
 use Rattle.model_device.specs.Events.{Event, Call, flush_call, choose_call, move_call, begin_call, turn_call, Cause, stale, happened, block_chosen, raid_numbered, refused, after_event, after_events}
-use Rattle.model_device.specs.Legal.{Follows, Allowed, FlushEnds, NoMemory, Only, Unless, DamageFound, DiskFails, TurnEnds, same_turn, drop_step, marked_in, WhereReads, is_in_block, live_units, move_reserve, no_place, queue_front, seal_if, seal_all, flush_all}
+use Rattle.model_device.specs.Legal.{Follows, Allowed, FlushEnds, NoMemory, Only, Unless, DamageFound, DiskFails, TurnEnds, same_turn, drop_step, marked_in}
+use Rattle.model_device.specs.Legal.{WhereReads, is_in_block, live_units, move_reserve, no_place, queue_front, seal_if, seal_all, flush_all}
 use Rattle.model_node.specs.Commands.{Slot, Node, NodeEvent, at_place, slot_after, on_device, IsLegalOn, EachDevice, Flushes, Defragments, TakesTurns, removed_by, cleared_by, Raids}
 use Rattle.model_device.specs.Vacating.{Outcome, did, stopped, moved_by, MovesOut, Vacates, VacatesUpTo}
 use Rattle.line_proto.proofs.Falling.{all_append}
@@ -107,7 +109,8 @@ move_unwritten slot told event digest block = by (is_in_block block (live_of dig
     unless None rest = moves rest
     unless (Some cause) only = none_made event only.1
 
-    by : (here : Bool) → MatchBool here (NoMemory event ⊎ Unless event (no_place slot.setup defrag move_reserve (live_units (live_of digest slot.state.book.live)) slot.state.book) (MoveEnds told slot event digest)) (Only event (happened false))
+    by : (here : Bool) → MatchBool here (NoMemory event ⊎ Unless event (no_place slot.setup defrag move_reserve (live_units (live_of digest slot.state.book.live)) slot.state.book)
+        (MoveEnds told slot event digest)) (Only event (happened false))
         → AllByRecursion WritesNone event.steps
     by false only = none_made event only.1
     by true (inl no_memory) = none_made event no_memory.1
@@ -116,7 +119,8 @@ move_unwritten slot told event digest block = by (is_in_block block (live_of dig
 begin_unwritten : (slot : Slot) (told : Bool) (event : Event) → Allowed slot.setup told slot.state event begin_call → AllByRecursion WritesNone event.steps
 begin_unwritten slot told event = by (nat_le top_number slot.state.raid.number)
   where
-    by : (last : Bool) → MatchBool last (Only event (raid_numbered None)) ((event.answer ≡ raid_numbered (Some (slot.state.raid.number + 1))) × (event.steps ≡ raid_begun ∷ [])) → AllByRecursion WritesNone event.steps
+    by : (last : Bool) → MatchBool last (Only event (raid_numbered None)) ((event.answer ≡ raid_numbered (Some (slot.state.raid.number + 1))) × (event.steps ≡ raid_begun ∷ []))
+        → AllByRecursion WritesNone event.steps
     by true only = none_made event only.1
     by false begun = step_made event raid_begun tt begun.1
 
@@ -141,19 +145,24 @@ turn_ends_unwritten setup told s event (drop_turn part) now ends =
     (all_append WritesNone (map (drop_step s) (marked_in setup part s)) (done_part part ∷ []) (drops_unwritten s (marked_in setup part s)) (tt, tt))
 turn_ends_unwritten setup told s event finished now only = none_made event only.1
 
-turn_unwritten : (slot : Slot) (told : Bool) (event : Event) (number : ℕ) (turn : Turn) (now : ℕ) → Allowed slot.setup told slot.state event (turn_call number turn now) → AllByRecursion WritesNone event.steps
+turn_unwritten : (slot : Slot) (told : Bool) (event : Event) (number : ℕ) (turn : Turn) (now : ℕ) → Allowed slot.setup told slot.state event (turn_call number turn now)
+    → AllByRecursion WritesNone event.steps
 turn_unwritten slot told event number turn now = by ((number == slot.state.raid.number) && same_turn turn slot.state.raid.next)
   where
-    by : (next : Bool) → MatchBool next (TurnEnds slot.setup told slot.state event turn now) (Only event (refused (stale slot.state.raid.number slot.state.raid.next))) → AllByRecursion WritesNone event.steps
+    by : (next : Bool) → MatchBool next (TurnEnds slot.setup told slot.state event turn now) (Only event (refused (stale slot.state.raid.number slot.state.raid.next)))
+        → AllByRecursion WritesNone event.steps
     by true ends = turn_ends_unwritten slot.setup told slot.state event turn now ends
     by false only = none_made event only.1
 
-call_unwritten : (slot : Slot) (told : Bool) (event : Event) → Follows slot.setup told slot.state slot.faults event → (call : Call) → event.call ≡ call → IsUnwriting call → AllByRecursion WritesNone event.steps
+call_unwritten : (slot : Slot) (told : Bool) (event : Event) → Follows slot.setup told slot.state slot.faults event → (call : Call) → event.call ≡ call → IsUnwriting call
+    → AllByRecursion WritesNone event.steps
 call_unwritten slot told event follows flush_call is unwriting = flush_unwritten slot told event follows is
 call_unwritten slot told event follows choose_call is unwriting = choose_unwritten slot told event (subst (λ (c : Call). Allowed slot.setup told slot.state event c) is follows.allowed)
-call_unwritten slot told event follows (move_call digest block) is unwriting = move_unwritten slot told event digest block (subst (λ (c : Call). Allowed slot.setup told slot.state event c) is follows.allowed)
+call_unwritten slot told event follows (move_call digest block) is unwriting =
+    move_unwritten slot told event digest block (subst (λ (c : Call). Allowed slot.setup told slot.state event c) is follows.allowed)
 call_unwritten slot told event follows begin_call is unwriting = begin_unwritten slot told event (subst (λ (c : Call). Allowed slot.setup told slot.state event c) is follows.allowed)
-call_unwritten slot told event follows (turn_call number turn now) is unwriting = turn_unwritten slot told event number turn now (subst (λ (c : Call). Allowed slot.setup told slot.state event c) is follows.allowed)
+call_unwritten slot told event follows (turn_call number turn now) is unwriting =
+    turn_unwritten slot told event number turn now (subst (λ (c : Call). Allowed slot.setup told slot.state event c) is follows.allowed)
 call_unwritten slot told event follows call is unwriting = absurd unwriting
 
 -- ---- the events of a vacating
@@ -251,11 +260,13 @@ all_defrags node work outcome each =
 pub all_raids : (now : ℕ) (node : Node) (work : List NodeEvent) (outcome : Outcome) → EachDevice (Raids now) 0 node 0 0 work outcome → AllByRecursion IsUnwritingOn work
 all_raids now node work outcome each = all_unwriting (Raids now) (raids_unwriting now) 0 node 0 0 work outcome each
 
-on_one : (told : Bool) (o : Option Slot) (event : Event) → MatchOption o ⊥ (λ slot. Follows slot.setup told slot.state slot.faults event) → IsUnwriting event.call → AllByRecursion WritesNone event.steps
+on_one : (told : Bool) (o : Option Slot) (event : Event) → MatchOption o ⊥ (λ slot. Follows slot.setup told slot.state slot.faults event) → IsUnwriting event.call
+    → AllByRecursion WritesNone event.steps
 on_one told None event follows is = absurd follows
 on_one told (Some slot) event follows is = call_unwritten slot told event follows event.call refl is
 
-pub calls_write_nothing : (told : Bool) (node : Node) (work : List NodeEvent) → AllByRecursion IsUnwritingOn work → IsLegalOn told node work → (device : ℕ) → AllByRecursion WritesNone (steps_on device work)
+pub calls_write_nothing : (told : Bool) (node : Node) (work : List NodeEvent) → AllByRecursion IsUnwritingOn work → IsLegalOn told node work → (device : ℕ)
+    → AllByRecursion WritesNone (steps_on device work)
 calls_write_nothing told node [] all legal device = tt
 calls_write_nothing told node (e ∷ work) all legal device =
     chosen (e.device == device) (calls_write_nothing told (at_place e.device (slot_after e.event) node) work all.1 legal.1 device)

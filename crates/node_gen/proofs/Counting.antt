@@ -1,5 +1,6 @@
 -- How bytes fall into lines one by one, and how the lines are counted.
-use Rattle.std.proofs.Common.{◌≡◌, ◌≢◌, ℕ, zero, suc, ◌+◌, ◌<◌, ◌≤◌, Bool, true, false, cond, List, [], ◌∷◌, ◌++◌, length, take, refl, sym, ap, subst, inl, inr, ◌∙◌, arith, append_assoc, length-append, lit<}
+use Rattle.std.proofs.Common.{◌≡◌, ◌≢◌, ℕ, zero, suc, ◌+◌, ◌<◌, ◌≤◌, Bool, true, false, cond, List, [], ◌∷◌, ◌++◌, length, take, refl, sym, ap, subst, inl, inr}
+use Rattle.std.proofs.Common.{◌∙◌, arith, append_assoc, length-append, lit<}
 use Rattle.std.specs.Prelude.{◌==◌, ◌&&◌, ◌⊎◌, codes, bytes_eq}
 use Rattle.std.specs.List.{count_by}
 use Rattle.std.proofs.lemmas.Bool.{cases_Bool}
@@ -101,7 +102,8 @@ counts_push lines line =
 
 -- ---- what is kept, after one byte more
 
-pub counted_line : (written head head' : List ℕ) (counts counts' : ReplyCounts) → IsCounted written head counts → head' ≡ [] → counts' ≡ one_more_of (first_word head) counts → IsCounted (written ++ 10 ∷ []) head' counts'
+pub counted_line : (written head head' : List ℕ) (counts counts' : ReplyCounts) → IsCounted written head counts → head' ≡ [] → counts' ≡ one_more_of (first_word head) counts
+    → IsCounted (written ++ 10 ∷ []) head' counts'
 counted_line written head head' counts counts' was none more =
     let now = with_bytes-push (record { lines = []; rest = [] }) written 10 in
     record {
@@ -128,7 +130,8 @@ front_grows rest byte room =
 front_stays : (rest : List ℕ) (byte : ℕ) → length (take 5 rest) ≡ 5 → take 5 rest ≡ take 5 (rest ++ byte ∷ [])
 front_stays rest byte full = sym (take-append-le 5 rest (byte ∷ []) (omega (arith, length-take 5 rest)))
 
-pub counted_kept : (written head head' : List ℕ) (counts : ReplyCounts) (byte : ℕ) → IsCounted written head counts → byte ≢ 10 → length head < 5 → head' ≡ head ++ byte ∷ [] → IsCounted (written ++ byte ∷ []) head' counts
+pub counted_kept : (written head head' : List ℕ) (counts : ReplyCounts) (byte : ℕ) → IsCounted written head counts → byte ≢ 10 → length head < 5 → head' ≡ head ++ byte ∷ []
+    → IsCounted (written ++ byte ∷ []) head' counts
 counted_kept written head head' counts byte was other room longer =
     let now = goes_on written byte other in
     let rest = (fallen written).rest in

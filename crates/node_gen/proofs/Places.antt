@@ -55,7 +55,8 @@ place_behind before opened n place opens fits =
     (reads before opened n place opens).whole
 
 -- the next n bytes, of which the buffer has as many as the line has left and fit
-pub takes : (before opened : Cursor) (out buffer : List ℕ) (n : ℕ) → IsPlace before → OpensLine before opened → n ≡ min (length out) (length (drop opened.at opened.line.bytes)) → 0 < length out → length buffer ≡ length out → take n buffer ≡ take n (drop opened.at opened.line.bytes)
+pub takes : (before opened : Cursor) (out buffer : List ℕ) (n : ℕ) → IsPlace before → OpensLine before opened → n ≡ min (length out) (length (drop opened.at opened.line.bytes))
+    → 0 < length out → length buffer ≡ length out → take n buffer ≡ take n (drop opened.at opened.line.bytes)
     → Takes (taken_of before) (taken_of (behind opened n)) (Some (left_of before)) (Some (left_of (behind opened n))) buffer n
 takes before opened out buffer n place opens count room same_length same =
     let read = reads before opened n place opens in

@@ -41,7 +41,8 @@ module _ {T : Type 0} (acts : T → Command → ℕ → Reply → T → Type 0) 
   collected_sent lines waiting rest written written' new later result was sends is = record {
     output = was.output ++ sends.sent;
     serves =
-        let text : was.output ++ waiting ≡ (was.output ++ sends.sent) ++ rest = ap (λ (l : List ℕ). was.output ++ l) (sends.parts ∙ ap (λ (l : List ℕ). sends.sent ++ l) is) ∙ sym (append_assoc was.output sends.sent rest) in
+        let text : was.output ++ waiting ≡ (was.output ++ sends.sent) ++ rest = ap (λ (l : List ℕ). was.output ++ l) (sends.parts ∙ ap (λ (l : List ℕ). sends.sent ++ l) is)
+        ∙ sym (append_assoc was.output sends.sent rest) in
         subst (λ (l : List ℕ). HasTurns acts tends lines old times l new later) text was.serves;
     extends = extends_on first written written' was.output sends.sent was.extends sends.extends;
   }
@@ -53,7 +54,8 @@ module _ {T : Type 0} (acts : T → Command → ℕ → Reply → T → Type 0) 
       extends_on first written written' was.output waiting was.extends (all_sent waiting rest waiting written written' result sends none refl)
 
   -- the session stops at the next line
-  pub stops_collected : (ready lines after : List LineEnd) (waiting : List ℕ) (written : Option (List ℕ)) (mid : T) (then : Times) (line : LineEnd) (last more : List ℕ) (new : T) (later : Times) (stop : Stop)
+  pub stops_collected : (ready lines after : List LineEnd) (waiting : List ℕ) (written : Option (List ℕ)) (mid : T) (then : Times) (line : LineEnd) (last more : List ℕ) (new : T)
+      (later : Times) (stop : Stop)
       → (was : Collected lines waiting written mid then) → ready ≡ lines ++ line ∷ after → StopsAtLine acts tends line mid then last new later stop → more ≡ waiting ++ last
       → StopsAmong acts tends ready (length lines) old times (was.output ++ more) new later stop
   stops_collected ready lines after waiting written mid then line last more new later stop was parts stops is = record {

@@ -35,7 +35,8 @@ shortens_end first second third bytes piece none one two = subst (λ (l : List �
 
 module _ {T : Type 0} (acts : T → Command → ℕ → Reply → T → Type 0) (tends : T → T → Type 0) where
   pub finish_whole : (bytes : List ℕ) (left : Option (List ℕ)) (lines : List (List ℕ)) (rest : List ℕ) (n : ℕ) (old : T) (times : Times) (output : List ℕ) (new : T) (later : Times)
-      → FallInto bytes lines rest → length rest ≡ 0 → IsAtEnd left → n ≡ length lines → HasTurns acts tends (map line_end lines) old times output new later → HasAllTurns acts tends bytes left n old times output new later
+      → FallInto bytes lines rest → length rest ≡ 0 → IsAtEnd left → n ≡ length lines → HasTurns acts tends (map line_end lines) old times output new later
+      → HasAllTurns acts tends bytes left n old times output new later
   finish_whole bytes left lines [] n old times output new later falls none ends counts serves = record {
     lines = lines;
     rest = [];
@@ -46,8 +47,10 @@ module _ {T : Type 0} (acts : T → Command → ℕ → Reply → T → Type 0) 
   }
   finish_whole bytes left lines (byte ∷ rest) n old times output new later falls none ends counts serves = absurd (omega arith)
 
-  pub finish_rest : (bytes : List ℕ) (left : Option (List ℕ)) (lines : List (List ℕ)) (rest : List ℕ) (n : ℕ) (old : T) (times : Times) (output : List ℕ) (mid : T) (then : Times) (reply : Reply) (new : T) (later : Times)
-      → FallInto bytes lines rest → 0 < length rest → IsAtEnd left → n ≡ length lines + 1 → HasTurns acts tends (map line_end lines) old times output mid then → WholeTurn acts tends TooLong mid then reply new later → HasAllTurns acts tends bytes left n old times (output ++ reply_text reply) new later
+  pub finish_rest : (bytes : List ℕ) (left : Option (List ℕ)) (lines : List (List ℕ)) (rest : List ℕ) (n : ℕ) (old : T) (times : Times) (output : List ℕ) (mid : T) (then : Times)
+      (reply : Reply) (new : T) (later : Times)
+      → FallInto bytes lines rest → 0 < length rest → IsAtEnd left → n ≡ length lines + 1 → HasTurns acts tends (map line_end lines) old times output mid then
+      → WholeTurn acts tends TooLong mid then reply new later → HasAllTurns acts tends bytes left n old times (output ++ reply_text reply) new later
   finish_rest bytes left lines [] n old times output mid then reply new later falls some ends counts serves turn = absurd (omega arith)
   finish_rest bytes left lines (byte ∷ rest) n old times output mid then reply new later falls some ends counts serves turn = record {
     lines = lines;
@@ -58,8 +61,10 @@ module _ {T : Type 0} (acts : T → Command → ℕ → Reply → T → Type 0) 
     serves = serves_on acts tends (map line_end lines) (TooLong ∷ []) old times output (reply_text reply) mid then new later serves (serves_one acts tends TooLong mid then reply new later turn);
   }
 
-  pub stop_rest : (bytes : List ℕ) (left : Option (List ℕ)) (lines : List (List ℕ)) (rest : List ℕ) (n : ℕ) (old : T) (times : Times) (output : List ℕ) (mid : T) (then : Times) (last : List ℕ) (new : T) (later : Times) (stop : Stop)
-      → FallInto bytes lines rest → 0 < length rest → IsAtEnd left → n ≡ length lines → HasTurns acts tends (map line_end lines) old times output mid then → StopsAtLine acts tends TooLong mid then last new later stop → StopsAfter acts tends bytes left n old times (output ++ last) new later stop
+  pub stop_rest : (bytes : List ℕ) (left : Option (List ℕ)) (lines : List (List ℕ)) (rest : List ℕ) (n : ℕ) (old : T) (times : Times) (output : List ℕ) (mid : T) (then : Times)
+      (last : List ℕ) (new : T) (later : Times) (stop : Stop)
+      → FallInto bytes lines rest → 0 < length rest → IsAtEnd left → n ≡ length lines → HasTurns acts tends (map line_end lines) old times output mid then
+      → StopsAtLine acts tends TooLong mid then last new later stop → StopsAfter acts tends bytes left n old times (output ++ last) new later stop
   stop_rest bytes left lines rest n old times output mid then last new later stop falls some ends counts serves stops = record {
     lines = lines;
     rest = rest;
@@ -78,15 +83,19 @@ module _ {T : Type 0} (acts : T → Command → ℕ → Reply → T → Type 0) 
   }
 
   -- a stop is the session's end
-  pub ends_of : (limit : ℕ) (bytes : List ℕ) (left : Option (List ℕ)) (n : ℕ) (old : T) (times : Times) (output : List ℕ) (new : T) (later : Times) (stop : Stop) → StopsAfter acts tends bytes left n old times output new later stop → EndsSo acts tends limit bytes left old times output new later (ended_of stop n)
+  pub ends_of : (limit : ℕ) (bytes : List ℕ) (left : Option (List ℕ)) (n : ℕ) (old : T) (times : Times) (output : List ℕ) (new : T) (later : Times) (stop : Stop)
+      → StopsAfter acts tends bytes left n old times output new later stop → EndsSo acts tends limit bytes left old times output new later (ended_of stop n)
   ends_of limit bytes left n old times output new later QuitStop stops = (n, refl, stops)
   ends_of limit bytes left n old times output new later MemoryStop stops = inr (n, stops)
   ends_of limit bytes left n old times output new later HaltStop stops = (n, stops)
 
   -- a rest without LF is the last line, whether its reply is handed on or not
-  module _ (limit : ℕ) (bytes : List ℕ) (left : Option (List ℕ)) (lines : List (List ℕ)) (rest : List ℕ) (answered : ℕ) (old : T) (times : Times) (output : List ℕ) (mid : T) (then : Times) (text : List ℕ) (new : T) (later : Times) (ended : Ended)
-      (falls : FallInto bytes lines rest) (some : 0 < length rest) (ends : IsAtEnd left) (counts : answered ≡ length lines) (serves : HasTurns acts tends (map line_end lines) old times output mid then) where
-    rest_whole : (reply : Reply) → WholeTurn acts tends TooLong mid then reply new later → text ≡ reply_text reply → HasAllTurns acts tends bytes left (answered + 1) old times (output ++ text) new later
+  module _ (limit : ℕ) (bytes : List ℕ) (left : Option (List ℕ)) (lines : List (List ℕ)) (rest : List ℕ) (answered : ℕ) (old : T) (times : Times) (output : List ℕ) (mid : T) (then : Times)
+      (text : List ℕ) (new : T) (later : Times) (ended : Ended)
+      (falls : FallInto bytes lines rest) (some : 0 < length rest) (ends : IsAtEnd left) (counts : answered ≡ length lines)
+      (serves : HasTurns acts tends (map line_end lines) old times output mid then) where
+    rest_whole : (reply : Reply) → WholeTurn acts tends TooLong mid then reply new later → text ≡ reply_text reply
+        → HasAllTurns acts tends bytes left (answered + 1) old times (output ++ text) new later
     rest_whole reply turn is =
         subst (λ (l : List ℕ). HasAllTurns acts tends bytes left (answered + 1) old times (output ++ l) new later) (sym is)
         (finish_rest bytes left lines rest (answered + 1) old times output mid then reply new later falls some ends (omega (arith, counts)) serves turn)

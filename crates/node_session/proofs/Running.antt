@@ -27,7 +27,8 @@ module _ {T : Type 0} (acts : T → Command → ℕ → Reply → T → Type 0) 
     told = (λ i. one.told i ++ two.told i) ∙ sym (flat_map-append reply_text one.replies two.replies);
   }
 
-  pub serves_one : (line : LineEnd) (old : T) (times : Times) (reply : Reply) (new : T) (later : Times) → WholeTurn acts tends line old times reply new later → HasTurns acts tends (line ∷ []) old times (reply_text reply) new later
+  pub serves_one : (line : LineEnd) (old : T) (times : Times) (reply : Reply) (new : T) (later : Times) → WholeTurn acts tends line old times reply new later
+      → HasTurns acts tends (line ∷ []) old times (reply_text reply) new later
   serves_one line old times reply new later turn = record {
     replies = reply ∷ [];
     turns = (new, later, turn, (refl, refl));

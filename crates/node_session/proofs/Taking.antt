@@ -33,7 +33,8 @@ no_lf : (line more : List ℕ) → IsOneLine (line ++ 10 ∷ more) → ⊥
 no_lf [] more one = one.0 refl
 no_lf (byte ∷ line) more one = no_lf line more one.1
 
-open_size : (bytes : List ℕ) (lines : List (List ℕ)) (rest : List ℕ) (size : ℕ) → FallInto bytes lines rest → IsOneLine bytes → size ≡ min (length rest) (2 ^ 64 - 1) → size ≡ min (length bytes) (2 ^ 64 - 1)
+open_size : (bytes : List ℕ) (lines : List (List ℕ)) (rest : List ℕ) (size : ℕ) → FallInto bytes lines rest → IsOneLine bytes → size ≡ min (length rest) (2 ^ 64 - 1)
+    → size ≡ min (length bytes) (2 ^ 64 - 1)
 open_size bytes [] rest size falls one is = is ∙ ap (λ (l : List ℕ). min (length l) (2 ^ 64 - 1)) (sym falls.whole)
 open_size bytes (line ∷ lines) rest size falls one is =
     let begins : bytes ≡ line ++ 10 ∷ (flat_map ended lines ++ rest) =
@@ -98,7 +99,8 @@ all_at P [] y ys all = all.0
 all_at P (x ∷ xs) y ys all = all_at P xs y ys all.1
 
 -- what the turns of one more piece leave
-pub record Further {T : Type 0} (acts : T → Command → ℕ → Reply → T → Type 0) (tends : T → T → Type 0) (bytes : List ℕ) (kept : Kept) (count : ℕ) (old : T) (times : Times) (output : List ℕ) (new : T) (later : Times) : Type 0 where
+pub record Further {T : Type 0} (acts : T → Command → ℕ → Reply → T → Type 0) (tends : T → T → Type 0) (bytes : List ℕ) (kept : Kept) (count : ℕ) (old : T) (times : Times) (output : List ℕ)
+    (new : T) (later : Times) : Type 0 where
   pub lines : List (List ℕ)
   pub rest : List ℕ
   pub falls : FallInto bytes lines rest
@@ -106,20 +108,33 @@ pub record Further {T : Type 0} (acts : T → Command → ℕ → Reply → T �
   pub stands : KeepsBytes (record { ready = []; partial = kept.partial; size = kept.size }) rest
   pub counted : count ≡ length lines
 
-module _ {T : Type 0} (acts : T → Command → ℕ → Reply → T → Type 0) (tends : T → T → Type 0) (bytes piece : List ℕ) (lines : List (List ℕ)) (rest : List ℕ) (falls : FallInto bytes lines rest) (kept : Kept) (stands : KeepsBytes kept (rest ++ piece)) (old : T) (times : Times) (told : List ℕ) (mid : T) (then : Times) (serves : HasTurns acts tends (map line_end lines) old times told mid then) where
-  pub further : (output : List ℕ) (new : T) (later : Times) (count : ℕ) → HasTurns acts tends kept.ready mid then output new later → count ≡ length lines + length kept.ready → Further acts tends (bytes ++ piece) kept count old times (told ++ output) new later
+module _ {T : Type 0} (acts : T → Command → ℕ → Reply → T → Type 0) (tends : T → T → Type 0) (bytes piece : List ℕ) (lines : List (List ℕ)) (rest : List ℕ)
+    (falls : FallInto bytes lines rest) (kept : Kept) (stands : KeepsBytes kept (rest ++ piece)) (old : T) (times : Times) (told : List ℕ) (mid : T) (then : Times)
+    (serves : HasTurns acts tends (map line_end lines) old times told mid then) where
+  pub further : (output : List ℕ) (new : T) (later : Times) (count : ℕ) → HasTurns acts tends kept.ready mid then output new later → count ≡ length lines + length kept.ready
+      → Further acts tends (bytes ++ piece) kept count old times (told ++ output) new later
   further output new later count more counts = record {
     lines = lines ++ stands.lines;
     rest = stands.rest;
     falls = falls_further bytes piece lines rest stands.lines stands.rest falls stands.falls;
     serves =
-        let ends : map line_end lines ++ kept.ready ≡ map line_end (lines ++ stands.lines) = ap (λ (l : List LineEnd). map line_end lines ++ l) stands.are_ready ∙ sym (map-append line_end lines stands.lines) in
-        subst (λ (l : List LineEnd). HasTurns acts tends l old times (told ++ output) new later) ends (serves_on acts tends (map line_end lines) kept.ready old times told output mid then new later serves more);
-    stands = record { lines = []; rest = stands.rest; falls = record { whole = refl; each = tt; open_line = stands.falls.open_line }; are_ready = refl; counted = stands.counted; is_partial = stands.is_partial };
+        let ends : map line_end lines ++ kept.ready ≡ map line_end (lines ++ stands.lines) = ap (λ (l : List LineEnd). map line_end lines ++ l) stands.are_ready
+        ∙ sym (map-append line_end lines stands.lines) in
+        subst (λ (l : List LineEnd). HasTurns acts tends l old times (told ++ output) new later) ends
+        (serves_on acts tends (map line_end lines) kept.ready old times told output mid then new later serves more);
+    stands = record {
+      lines = [];
+      rest = stands.rest;
+      falls = record { whole = refl; each = tt; open_line = stands.falls.open_line };
+      are_ready = refl;
+      counted = stands.counted;
+      is_partial = stands.is_partial;
+    };
     counted = omega (arith, counts, ap length stands.are_ready, length-map line_end stands.lines, length-append lines stands.lines);
   }
 
-  pub stops_after : (left : Option (List ℕ)) (output : List ℕ) (new : T) (later : Times) (count : ℕ) (stop : Stop) → StopsAmong acts tends kept.ready count mid then output new later stop → StopsAfter acts tends (bytes ++ piece) left (length lines + count) old times (told ++ output) new later stop
+  pub stops_after : (left : Option (List ℕ)) (output : List ℕ) (new : T) (later : Times) (count : ℕ) (stop : Stop) → StopsAmong acts tends kept.ready count mid then output new later stop
+      → StopsAfter acts tends (bytes ++ piece) left (length lines + count) old times (told ++ output) new later stop
   stops_after left output new later count stop stops =
       let at = parted stands.lines stops.before stops.line stops.after (sym stands.are_ready ∙ stops.parts) in
       let whole : bytes ++ piece ≡ flat_map ended (lines ++ stands.lines) ++ stands.rest = (falls_further bytes piece lines rest stands.lines stands.rest falls stands.falls).whole in
@@ -141,8 +156,10 @@ module _ {T : Type 0} (acts : T → Command → ℕ → Reply → T → Type 0) 
         mid = stops.mid;
         then = stops.then;
         serves =
-            let ends : map line_end lines ++ stops.before ≡ map line_end (lines ++ at.first) = ap (λ (l : List LineEnd). map line_end lines ++ l) (sym at.of_first) ∙ sym (map-append line_end lines at.first) in
-            subst (λ (l : List LineEnd). HasTurns acts tends l old times (told ++ stops.told) stops.mid stops.then) ends (serves_on acts tends (map line_end lines) stops.before old times told stops.told mid then stops.mid stops.then serves stops.serves);
+            let ends : map line_end lines ++ stops.before ≡ map line_end (lines ++ at.first) = ap (λ (l : List LineEnd). map line_end lines ++ l) (sym at.of_first)
+            ∙ sym (map-append line_end lines at.first) in
+            subst (λ (l : List LineEnd). HasTurns acts tends l old times (told ++ stops.told) stops.mid stops.then) ends
+            (serves_on acts tends (map line_end lines) stops.before old times told stops.told mid then stops.mid stops.then serves stops.serves);
         line = stops.line;
         takes_up = record { how = inl (at.text, after, refl, all_at IsOneLine at.first at.text at.last each_more, at.of_text) };
         last = stops.last;
@@ -151,21 +168,25 @@ module _ {T : Type 0} (acts : T → Command → ℕ → Reply → T → Type 0) 
       }
 
   -- the first of the lines that are ready had their turns
-  first_turns : (output : List ℕ) (new : T) (later : Times) → GoesThrough acts tends kept.ready mid then output new later → HasFirstTurns acts tends (bytes ++ piece) old times (told ++ output) new later
+  first_turns : (output : List ℕ) (new : T) (later : Times) → GoesThrough acts tends kept.ready mid then output new later
+      → HasFirstTurns acts tends (bytes ++ piece) old times (told ++ output) new later
   first_turns output new later through =
       let at = halved stands.lines through.before through.after (sym stands.are_ready ∙ through.parts) in
       let falls_all = falls_further bytes piece lines rest stands.lines stands.rest falls stands.falls in
       let order : lines ++ stands.lines ≡ (lines ++ at.first) ++ at.last = ap (λ (l : List (List ℕ)). lines ++ l) at.parts ∙ sym (append_assoc lines at.first at.last) in
-      let ends : map line_end lines ++ through.before ≡ map line_end (lines ++ at.first) = ap (λ (l : List LineEnd). map line_end lines ++ l) (sym at.of_first) ∙ sym (map-append line_end lines at.first) in
+      let ends : map line_end lines ++ through.before ≡ map line_end (lines ++ at.first) = ap (λ (l : List LineEnd). map line_end lines ++ l) (sym at.of_first)
+      ∙ sym (map-append line_end lines at.first) in
       record {
         lines = lines ++ at.first;
         rest = flat_map ended at.last ++ stands.rest;
         whole = falls_all.whole ∙ ap (λ (l : List (List ℕ)). flat_map ended l ++ stands.rest) order ∙ ap (λ (l : List ℕ). l ++ stands.rest) (flat_map-append ended (lines ++ at.first) at.last)
             ∙ append_assoc (flat_map ended (lines ++ at.first)) (flat_map ended at.last) stands.rest;
         each = all_first IsOneLine (lines ++ at.first) at.last (subst (AllByRecursion IsOneLine) order falls_all.each);
-        serves = subst (λ (l : List LineEnd). HasTurns acts tends l old times (told ++ output) new later) ends (serves_on acts tends (map line_end lines) through.before old times told output mid then new later serves through.serves);
+        serves = subst (λ (l : List LineEnd). HasTurns acts tends l old times (told ++ output) new later) ends
+            (serves_on acts tends (map line_end lines) through.before old times told output mid then new later serves through.serves);
       }
 
-  pub some_turns : (left : Option (List ℕ)) (output : List ℕ) (new : T) (later : Times) → ServesSome acts tends kept.ready mid then output new later → HasSomeTurns acts tends (bytes ++ piece) left old times (told ++ output) new later
+  pub some_turns : (left : Option (List ℕ)) (output : List ℕ) (new : T) (later : Times) → ServesSome acts tends kept.ready mid then output new later
+      → HasSomeTurns acts tends (bytes ++ piece) left old times (told ++ output) new later
   some_turns left output new later (inl through) = inl (first_turns output new later through)
   some_turns left output new later (inr stopped) = inr (inr (length lines + stopped.0, stopped.1, stops_after left output new later stopped.0 stopped.1 stopped.2))

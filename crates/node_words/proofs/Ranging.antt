@@ -53,7 +53,8 @@ job_in pairs (Generate count shape tuning) counted has =
     (counted.0, counted.1, shape_in pairs shape parts.0, tuning_in pairs tuning parts.1)
 
 -- what was read is in range
-pub read_in : (words : List Text) (read : Option Request) → ((job : Job) (names : List Text) → (asked_for read ≡ Some (job, names)) ↔ Asks words job names) → IfSome read (λ request. IsInRange request.job)
+pub read_in : (words : List Text) (read : Option Request) → ((job : Job) (names : List Text) → (asked_for read ≡ Some (job, names)) ↔ Asks words job names)
+    → IfSome read (λ request. IsInRange request.job)
 read_in words None exact = tt
 read_in words (Some request) exact =
     let asks = (exact request.job (map string_bytes request.names.now)).0 refl in job_in asks.pairs request.job asks.counted asks.options.values

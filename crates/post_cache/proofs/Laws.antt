@@ -28,7 +28,8 @@ without_block-absent b (k ∷ ks) absent =
     ∙ ap (λ l. k ∷ l) (without_block-absent b ks (absent_rest b k ks absent))
 
 -- a block that isn't kept yet is put behind all others
-pub with_body-absent : {B : Type 0} → (limit b : ℕ) (body : B) (ks : List (KeptBody B)) → kept_at b ks ≡ None → with_kept_body limit b body ks ≡ within_limit limit (ks ++ (record { block = b; body = body }) ∷ [])
+pub with_body-absent : {B : Type 0} → (limit b : ℕ) (body : B) (ks : List (KeptBody B)) → kept_at b ks ≡ None
+    → with_kept_body limit b body ks ≡ within_limit limit (ks ++ (record { block = b; body = body }) ∷ [])
 with_body-absent limit b body ks absent = ap (λ l. within_limit limit (l ++ (record { block = b; body = body }) ∷ [])) (without_block-absent b ks absent)
 
 kept_at-push_same : {B : Type 0} → (k : KeptBody B) (ks : List (KeptBody B)) → kept_at k.block ks ≡ None → kept_at k.block (ks ++ k ∷ []) ≡ Some k
@@ -38,7 +39,8 @@ kept_at-push_same {B = B} k ks absent =
     ∙ cond-true (eqb k.block k.block) (Some k) None (eq-eqb k.block k.block refl)
 
 -- it is the newest, so it is still there when the oldest went
-kept_at-newest : {B : Type 0} → (k : KeptBody B) (limit : ℕ) (ks : List (KeptBody B)) → 0 < limit → kept_at k.block ks ≡ None → limit < length (ks ++ k ∷ []) → kept_at k.block (drop 1 (ks ++ k ∷ [])) ≡ Some k
+kept_at-newest : {B : Type 0} → (k : KeptBody B) (limit : ℕ) (ks : List (KeptBody B)) → 0 < limit → kept_at k.block ks ≡ None → limit < length (ks ++ k ∷ [])
+    → kept_at k.block (drop 1 (ks ++ k ∷ [])) ≡ Some k
 kept_at-newest k limit [] some absent many =
     let one : length (k ∷ []) ≡ 1 = refl in
     absurd (omega arith)

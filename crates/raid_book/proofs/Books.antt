@@ -35,8 +35,11 @@ least_found count (c ∷ found) m e below = after (λ k is. least_found count fo
 
     after : ((k : ℕ) → least_part found ≡ Some k → All (λ d. k ≤ d.part) found × (k < count)) → (o : Option ℕ) → least_part found ≡ o → All (λ d. m ≤ d.part) (c ∷ found) × (m < count)
     after earlier None is =
-        let own : c.part ≡ m = same_value c.part m (ap (λ (o : Option ℕ). Some (least o c.part)) (sym is) ∙ e) in
-        (All-cons (λ (d : FoundCopy). m ≤ d.part) c found (omega arith) (subst (All (λ (d : FoundCopy). m ≤ d.part)) (sym (none_found found is)) (All-nil (λ (d : FoundCopy). m ≤ d.part))), omega (arith, here))
+        let own : c.part ≡ m = same_value c.part m (ap (λ (o : Option ℕ). Some (least o c.part)) (sym is) ∙ e) in (
+          All-cons (λ (d : FoundCopy). m ≤ d.part) c found (omega arith)
+              (subst (All (λ (d : FoundCopy). m ≤ d.part)) (sym (none_found found is)) (All-nil (λ (d : FoundCopy). m ≤ d.part))),
+          omega (arith, here),
+        )
     after earlier (Some k) is =
         let own : cond (ltb k c.part) k c.part ≡ m = same_value (least (Some k) c.part) m (ap (λ (o : Option ℕ). Some (least o c.part)) (sym is) ∙ e) in
         let rest = earlier k is in

@@ -33,7 +33,8 @@ least_part-falls (c ∷ xs) falls =
     let cut : ys ≡ take n ys ++ x ∷ [] = sym (take_all (n + 1) ys (omega arith)) ∙ take_more ys n c within in
     let last : slice_get ys (length ys - 1) ≡ Some x = ap (slice_get ys) (omega arith) ∙ slice_get-get_or ys n c within in
     ap (option_map (λ (d : FoundCopy). d.part)) last
-    ∙ sym (least_part-last (take n ys) x (All-front (λ d. x.part ≤ d.part) ys n (omega arith) (λ k d le lt. subst (λ (e : FoundCopy). e.part ≤ (get_or ys k d).part) (get_or_default ys n d c within) (falls k n d lt within))))
+    ∙ sym (least_part-last (take n ys) x (All-front (λ d. x.part ≤ d.part) ys n (omega arith)
+    (λ k d le lt. subst (λ (e : FoundCopy). e.part ≤ (get_or ys k d).part) (get_or_default ys n d c within) (falls k n d lt within))))
     ∙ ap least_part (sym cut)
 
 -- ---- the least key of a list
@@ -90,7 +91,8 @@ in_model setup [] = refl
 in_model setup (f ∷ found) = ap (λ (o : Option ℕ). Some (least o (part_of setup f.0))) (in_model setup found)
 
 -- rows with the same copies of each part have the same least part
-pub least_part-same : (setup : Setup) (xs : List FoundCopy) (found : List (Digest × Stamp)) → ((part : ℕ) → copies_for part xs ≡ filter (λ f. part_of setup f.0 == part) found) → least_part xs ≡ first_part setup found
+pub least_part-same : (setup : Setup) (xs : List FoundCopy) (found : List (Digest × Stamp)) → ((part : ℕ) → copies_for part xs ≡ filter (λ f. part_of setup f.0 == part) found)
+    → least_part xs ≡ first_part setup found
 unfolding having
 least_part-same setup xs found same =
     let mine = λ (c : FoundCopy). c.part in

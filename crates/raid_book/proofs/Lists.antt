@@ -31,7 +31,8 @@ filter_none p (x ∷ xs) all =
 -- what another test lets through
 pub filter_out : {X : Type 0} (p : X → Bool) (xs : List X) → filter p (filter (λ x. not (p x)) xs) ≡ []
 filter_out p xs =
-    filter_none p (filter (λ x. not (p x)) xs) (All-weaker (λ x. not (p x) ≡ true) (λ x. p x ≡ false) (λ x passes. not-true (p x) passes) (filter (λ x. not (p x)) xs) (filter_passes (λ x. not (p x)) xs))
+    filter_none p (filter (λ x. not (p x)) xs) (All-weaker (λ x. not (p x) ≡ true) (λ x. p x ≡ false) (λ x passes. not-true (p x) passes) (filter (λ x. not (p x)) xs)
+    (filter_passes (λ x. not (p x)) xs))
 
 pub filter_twice : {X : Type 0} (p q : X → Bool) → ((x : X) → p x ≡ true → q x ≡ true) → (xs : List X) → filter p (filter q xs) ≡ filter p xs
 filter_twice p q within [] = refl

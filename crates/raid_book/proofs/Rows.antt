@@ -1,5 +1,6 @@
 -- Rows of found copies whose parts fall: where a part ends, and what is left when a copy or a part goes.
-use Rattle.std.proofs.Common.{◌≡◌, ℕ, zero, suc, ◌+◌, ◌<◌, ◌≤◌, Bool, true, false, not, ◌&&◌, eqb, ltb, leb, List, [], ◌∷◌, ◌++◌, length, take, drop, get_or, refl, sym, ap, subst, ◌∙◌, ⊎_elim, add-one, arith}
+use Rattle.std.proofs.Common.{◌≡◌, ℕ, zero, suc, ◌+◌, ◌<◌, ◌≤◌, Bool, true, false, not, ◌&&◌, eqb, ltb, leb, List, [], ◌∷◌, ◌++◌, length, take, drop, get_or}
+use Rattle.std.proofs.Common.{refl, sym, ap, subst, ◌∙◌, ⊎_elim, add-one, arith}
 use Rattle.std.specs.Prelude.{filter, map}
 use Rattle.std.specs.List.{All, remove}
 use Rattle.std.specs.List.Sorted.{IsPartitionedBy, IsPartitionPoint, IsSortedBy, IsStableBy, ties}
@@ -41,7 +42,8 @@ pub parted_above : (part : ℕ) (xs : List FoundCopy) → Falls xs → IsPartiti
 parted_above part xs falls i j d le lt passes = lt-ltb _ _ (omega (arith, ltb-true _ _ passes, falls_to xs falls i j d le lt))
 
 -- the first part's copies are at the end
-pub without_first : (part : ℕ) (xs : List FoundCopy) (at : ℕ) → at ≤ length xs → All (λ c. part ≤ c.part) xs → IsPartitionPoint (λ c. ltb part c.part ≡ true) (λ c. ltb part c.part ≡ false) xs at → take at xs ≡ without_part part xs
+pub without_first : (part : ℕ) (xs : List FoundCopy) (at : ℕ) → at ≤ length xs → All (λ c. part ≤ c.part) xs
+    → IsPartitionPoint (λ c. ltb part c.part ≡ true) (λ c. ltb part c.part ≡ false) xs at → take at xs ≡ without_part part xs
 without_first part xs at bound first point =
     let others = λ (c : FoundCopy). not (eqb c.part part) in
     let kept = All-front (λ c. others c ≡ true) xs at bound (λ k d le lt. not_from_false _ (ne_eqb _ _ (λ same. omega (arith, same, ltb-true _ _ (point.0 k d le lt))))) in
@@ -121,11 +123,13 @@ copies_sorted xs ys stable part =
 -- ---- records with their parts
 
 pub with_parts_more : (found : List Found) (parts : List ℕ) (i : ℕ) (f : Found) → i < length found → i < length parts
-    → with_parts (take (i + 1) found) (take (i + 1) parts) ≡ with_parts (take i found) (take i parts) ++ (record { part = get_or parts i 0; digest = (get_or found i f).head.digest; stamp = (get_or found i f).head.stamp }) ∷ []
+    → with_parts (take (i + 1) found) (take (i + 1) parts) ≡ with_parts (take i found) (take i parts) ++
+    (record { part = get_or parts i 0; digest = (get_or found i f).head.digest; stamp = (get_or found i f).head.stamp }) ∷ []
 with_parts_more found parts i f a b = ap (λ (n : ℕ). with_parts (take n found) (take n parts)) (add-one i) ∙ one_more found parts i f a b
   where
     one_more : (found : List Found) (parts : List ℕ) (i : ℕ) (f : Found) → i < length found → i < length parts
-        → with_parts (take (suc i) found) (take (suc i) parts) ≡ with_parts (take i found) (take i parts) ++ (record { part = get_or parts i 0; digest = (get_or found i f).head.digest; stamp = (get_or found i f).head.stamp }) ∷ []
+        → with_parts (take (suc i) found) (take (suc i) parts)
+        ≡ with_parts (take i found) (take i parts) ++ (record { part = get_or parts i 0; digest = (get_or found i f).head.digest; stamp = (get_or found i f).head.stamp }) ∷ []
     one_more [] parts i f a b = absurd (omega arith)
     one_more (x ∷ found) [] i f a b = absurd (omega arith)
     one_more (x ∷ found) (p ∷ parts) zero f a b = refl

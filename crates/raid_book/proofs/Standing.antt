@@ -60,7 +60,8 @@ with_parts-model setup (f ∷ found) part =
     let rest = of_part setup part (found_copies found) in
     ⊎_elim
     (λ same. copies_for-own part copy row same ∙ ap (λ l. copy_in copy ∷ l) (with_parts-model setup found part) ∙ sym (cond-true (eqb place part) (copy_in copy ∷ rest) rest (eq-eqb place part same)))
-    (λ differ. copies_for-other part copy row differ ∙ with_parts-model setup found part ∙ sym (cond-false (eqb place part) (copy_in copy ∷ rest) rest (ne_eqb place part differ))) (cases_eq place part)
+    (λ differ. copies_for-other part copy row differ ∙ with_parts-model setup found part
+    ∙ sym (cond-false (eqb place part) (copy_in copy ∷ rest) rest (ne_eqb place part differ))) (cases_eq place part)
 
 -- another part than the one that goes
 differing : {X : Type 0} (part_for : X → ℕ) (part other : ℕ) → (other ≡ part → ⊥) → (x : X) → eqb (part_for x) other ≡ true → not (eqb (part_for x) part) ≡ true
@@ -80,7 +81,8 @@ without_part-same setup part row found same other =
 -- ---- the turns
 
 -- the book and the raid went on alike
-went_on : (setup : Setup) (b : BookState) (row : List FoundCopy) (next : RaidNext) (old new : RaidState) → TurnsStand setup b old → new.number ≡ old.number → new.scanned ≡ old.scanned → turn_of next ≡ new.next
+went_on : (setup : Setup) (b : BookState) (row : List FoundCopy) (next : RaidNext) (old new : RaidState) → TurnsStand setup b old → new.number ≡ old.number → new.scanned ≡ old.scanned
+    → turn_of next ≡ new.next
     → TurnsStand setup (record b { next = next; found = row }) new
 went_on setup b row next old new turns number scanned same = record {
   number = turns.number ∙ sym number;
@@ -90,7 +92,8 @@ went_on setup b row next old new turns number scanned same = record {
   blocks = turns.blocks;
 }
 
-pub marked_stands : (setup : Setup) (s : State) (b : BookState) (part now : ℕ) → RaidStands setup b s.raid → RaidStands setup (record b { next = after_mark b.parts part }) (after_step setup (marked_part part now) s).raid
+pub marked_stands : (setup : Setup) (s : State) (b : BookState) (part now : ℕ) → RaidStands setup b s.raid
+    → RaidStands setup (record b { next = after_mark b.parts part }) (after_step setup (marked_part part now) s).raid
 unfolding after_step
 marked_stands setup s b part now stands = record {
   turns = went_on setup b b.found (after_mark b.parts part) s.raid (after_step setup (marked_part part now) s).raid stands.turns refl refl (after_mark-same setup b.parts part stands.turns.parts);
@@ -98,7 +101,8 @@ marked_stands setup s b part now stands = record {
 }
 
 pub scanned_stands : (setup : Setup) (s : State) (b : BookState) (row : List FoundCopy) (found : List Found) → b.found ≡ [] → RaidStands setup b s.raid
-    → ((part : ℕ) → copies_for part row ≡ copies_for part (with_parts found (found_parts setup found))) → RaidStands setup (with_scan row b) (after_step setup (scanned_block (found_copies found)) s).raid
+    → ((part : ℕ) → copies_for part row ≡ copies_for part (with_parts found (found_parts setup found)))
+    → RaidStands setup (with_scan row b) (after_step setup (scanned_block (found_copies found)) s).raid
 unfolding after_step
 scanned_stands setup s b row found none stands copies =
     let same = λ (part : ℕ).
@@ -117,7 +121,8 @@ scanned_stands setup s b row found none stands copies =
       copies = same;
     }
 
-pub compared_stands : (setup : Setup) (s : State) (b : BookState) (part : ℕ) → RaidStandsBut part setup b s.raid → RaidStands setup (after_turn (Apply part) part b) (after_step setup (compared_part part) s).raid
+pub compared_stands : (setup : Setup) (s : State) (b : BookState) (part : ℕ) → RaidStandsBut part setup b s.raid
+    → RaidStands setup (after_turn (Apply part) part b) (after_step setup (compared_part part) s).raid
 unfolding after_step
 compared_stands setup s b part stands =
     let row = without_part part b.found in
@@ -129,7 +134,8 @@ compared_stands setup s b part stands =
       copies = same;
     }
 
-pub ended_stands : (setup : Setup) (s : State) (b : BookState) (part : ℕ) → RaidStands setup b s.raid → RaidStands setup (record b { next = after_drop b.parts part }) (after_step setup (done_part part) s).raid
+pub ended_stands : (setup : Setup) (s : State) (b : BookState) (part : ℕ) → RaidStands setup b s.raid
+    → RaidStands setup (record b { next = after_drop b.parts part }) (after_step setup (done_part part) s).raid
 unfolding after_step
 ended_stands setup s b part stands = record {
   turns = went_on setup b b.found (after_drop b.parts part) s.raid (after_step setup (done_part part) s).raid stands.turns refl refl (after_drop-same setup b.parts part stands.turns.parts);

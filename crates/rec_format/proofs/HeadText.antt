@@ -1,5 +1,6 @@
 -- The head of a record and its 48 bytes: each gives the other.
-use Rattle.std.proofs.Common.{◌≡◌, ℕ, zero, suc, ◌+◌, ◌^◌, ◌<◌, ◌≤◌, Bool, true, false, not, cond, ◌&&◌, ◌||◌, ◌==◌, List, [], ◌∷◌, ◌++◌, length, take, drop, refl, sym, ap, ◌∙◌, subst, ⊎_elim, arith, lit<}
+use Rattle.std.proofs.Common.{◌≡◌, ℕ, zero, suc, ◌+◌, ◌^◌, ◌<◌, ◌≤◌, Bool, true, false, not, cond, ◌&&◌, ◌||◌, ◌==◌, List, [], ◌∷◌, ◌++◌, length, take, drop}
+use Rattle.std.proofs.Common.{refl, sym, ap, ◌∙◌, subst, ⊎_elim, arith, lit<}
 use Rattle.std.proofs.lemmas.List.{take_at, length-take-le, length-drop, get_or-take, drop_more, append-nil}
 use Rattle.std.proofs.lemmas.Bool.{or_parts, or_from, or_cases, and_parts, not-false, eqb-true, eqb-false, ne_eqb, ltb-false, le-ltb, false≢true}
 use Rattle.std.proofs.Math.Seq.{take-add}
@@ -111,7 +112,18 @@ bytes_back4 xs fit long =
 pub bytes_back8 : (xs : List ℕ) → AreBytes xs → 8 ≤ length xs → to_le_bytes w64 (from_le_bytes w64 xs) ≡ take 8 xs
 bytes_back8 xs fit long =
     le_bytes_8 (take 8 xs) (from_le_bytes w64 xs) (length-take-le 8 xs long) (byte_at_fits (take 8 xs) (bytes_in_front 8 xs fit))
-    (omega (arith, get_or-take 8 xs 0 0 (lit< tt), get_or-take 8 xs 1 0 (lit< tt), get_or-take 8 xs 2 0 (lit< tt), get_or-take 8 xs 3 0 (lit< tt), get_or-take 8 xs 4 0 (lit< tt), get_or-take 8 xs 5 0 (lit< tt), get_or-take 8 xs 6 0 (lit< tt), get_or-take 8 xs 7 0 (lit< tt)))
+    (omega (
+      arith,
+      get_or-take 8 xs 0 0 (lit< tt),
+      get_or-take 8 xs 1 0 (lit< tt),
+      get_or-take 8 xs 2 0 (lit< tt),
+      get_or-take 8 xs 3 0 (lit< tt),
+      get_or-take 8 xs 4 0
+          (lit< tt),
+      get_or-take 8 xs 5 0 (lit< tt),
+      get_or-take 8 xs 6 0 (lit< tt),
+      get_or-take 8 xs 7 0 (lit< tt),
+    ))
 
 -- two fronts, one behind the other
 pub join : (n m : ℕ) (xs : List ℕ) → take n xs ++ take m (drop n xs) ≡ take (n + m) xs
@@ -191,7 +203,18 @@ bound4 xs fit = omega (arith, byte_at_fits xs fit 0, byte_at_fits xs fit 1, byte
 
 bound8 : (xs : List ℕ) → AreBytes xs → from_le_bytes w64 xs < 2 ^ 64
 bound8 xs fit =
-    omega (arith, byte_at_fits xs fit 0, byte_at_fits xs fit 1, byte_at_fits xs fit 2, byte_at_fits xs fit 3, byte_at_fits xs fit 4, byte_at_fits xs fit 5, byte_at_fits xs fit 6, byte_at_fits xs fit 7)
+    omega (
+      arith,
+      byte_at_fits xs fit 0,
+      byte_at_fits xs fit 1,
+      byte_at_fits xs fit 2,
+      byte_at_fits xs fit 3,
+      byte_at_fits xs fit 4,
+      byte_at_fits xs fit 5,
+      byte_at_fits xs fit
+          6,
+      byte_at_fits xs fit 7,
+    )
 
 above_zero : (n : ℕ) → (n == 0) ≡ false → 1 ≤ n
 above_zero zero e = absurd (eqb-false 0 0 e refl)

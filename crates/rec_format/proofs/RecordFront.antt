@@ -11,7 +11,9 @@ use Rattle.rec_format.specs.declared.version.Kind.TheVariants.{Put, Tomb}
 use Rattle.rec_format.specs.declared.version.Version.{Version}
 use Rattle.rec_format.specs.Versions.{IsVersion, a_tombstone, is_tomb_kind, units_for, version_units}
 use Rattle.rec_format.specs.RecordText.{BeginsWith, BeginsWithHead, BeginsWithNone, CanBeHead, CanBeRecorded, NoTextBeginsAnother, head_of, head_text, record_head, record_text}
-use Rattle.rec_format.specs.RecordFlaws.{Flaw, cover_in, cut_short, has_wrong_flags, has_wrong_length, has_wrong_magic, has_wrong_padding, has_wrong_stamp, head_in, is_cut_short, kind_in, payload_length_in, record_flaw, void_in, wrong_flags, wrong_length, wrong_magic, wrong_padding, wrong_stamp}
+use Rattle.rec_format.specs.RecordFlaws.{Flaw, cover_in, cut_short, has_wrong_flags, has_wrong_length, has_wrong_magic, has_wrong_padding, has_wrong_stamp}
+use Rattle.rec_format.specs.RecordFlaws.{head_in, is_cut_short, kind_in, payload_length_in, record_flaw, void_in, wrong_flags, wrong_length, wrong_magic}
+use Rattle.rec_format.specs.RecordFlaws.{wrong_padding, wrong_stamp}
 use Rattle.rec_format.proofs.BytesFit.{AreBytes, bytes_behind, bytes_in_front}
 use Rattle.rec_format.proofs.HeadText.{flags_right, head_back, head_from, join, magic_right, stamp_right, text_from}
 

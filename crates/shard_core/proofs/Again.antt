@@ -61,7 +61,8 @@ map_none [] same = refl
 map_none (b ∷ bs) same = absurd cc
 
 -- A shard that stands behind a start from an image stands so behind a restart from it.
-module _ {D : Type 0} (view : D → DiskView) (shard : ShardView D) (s new : State) (image : List ℕ) (r : Restarts (setup_of shard) s image new) (behind : BeginsBehind view shard.shelf.disk r.bodies shard)
+module _ {D : Type 0} (view : D → DiskView) (shard : ShardView D) (s new : State) (image : List ℕ) (r : Restarts (setup_of shard) s image new)
+    (behind : BeginsBehind view shard.shelf.disk r.bodies shard)
     (records : Records) (was : ℕ → Gate) (before : Images) (holds : HoldsGates (setup_of shard) shard.shelf.geometry s records was before) (left : before image)
     (honest : IsHonest (view shard.shelf.disk)) (only : IsOnly image (view shard.shelf.disk).may_leave) (own : AreOwn (setup_of shard) new) where
   abbrev setup : Setup
@@ -158,7 +159,8 @@ module _ {D : Type 0} (view : D → DiskView) (shard : ShardView D) (s new : Sta
 
 -- ---- from the disk of a shard
 
-module _ {D : Type 0} (view : D → DiskView) (disk : D) (asked : Asked) (old : ShardView D) (s : State) (disk_was : old.shelf.disk ≡ disk) (device : old.shelf.geometry.device ≡ asked.device) (devices : old.shelf.geometry.devices ≡ asked.devices)
+module _ {D : Type 0} (view : D → DiskView) (disk : D) (asked : Asked) (old : ShardView D) (s : State) (disk_was : old.shelf.disk ≡ disk) (device : old.shelf.geometry.device ≡ asked.device)
+    (devices : old.shelf.geometry.devices ≡ asked.devices)
     (honest : IsHonest (view disk)) (safe : IsSafe view old s) where
   abbrev bytes : List ℕ
   bytes = (view disk).seen
@@ -207,7 +209,8 @@ module _ {D : Type 0} (view : D → DiskView) (disk : D) (asked : Asked) (old : 
   no_refusal Fault why = tt
 
   -- from what was read
-  module _ (now : D) (g : Geometry) (set : Settings) (finding : Finding) (bodies : List Body) (shard : ShardView D) (set_was : old.set ≡ set) (begins : BeginsOver now g set finding shard) (behind : BeginsBehind view now bodies shard)
+  module _ (now : D) (g : Geometry) (set : Settings) (finding : Finding) (bodies : List Body) (shard : ShardView D) (set_was : old.set ≡ set) (begins : BeginsOver now g set finding shard)
+      (behind : BeginsBehind view now bodies shard)
       (passes : Passes asked bytes g bodies) (honest_now : IsHonest (view now)) (only : IsOnly bytes (view now).may_leave) (agrees : Agrees old s) where
     same_shape : shard.shelf.geometry ≡ shape
     same_shape = begins.geometry_is ∙ this_shape g passes.is_asked.header
@@ -255,6 +258,8 @@ module _ {D : Type 0} (view : D → DiskView) (disk : D) (asked : Asked) (old : 
       left = bytes_left;
       state = new;
       restarts = from_old;
-      agrees = agrees_again view shard s new bytes from_same begins_here (records_of old.shelf.buffers) (gate_at old.shelf.gates) (view old.shelf.disk).may_leave held_here bytes_left honest_here only_here own_here;
-      safe = safe_again view shard s new bytes from_same begins_here (records_of old.shelf.buffers) (gate_at old.shelf.gates) (view old.shelf.disk).may_leave held_here bytes_left honest_here only_here own_here;
+      agrees = agrees_again view shard s new bytes from_same begins_here (records_of old.shelf.buffers) (gate_at old.shelf.gates)
+          (view old.shelf.disk).may_leave held_here bytes_left honest_here only_here own_here;
+      safe = safe_again view shard s new bytes from_same begins_here (records_of old.shelf.buffers) (gate_at old.shelf.gates)
+          (view old.shelf.disk).may_leave held_here bytes_left honest_here only_here own_here;
     }

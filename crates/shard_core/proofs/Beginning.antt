@@ -43,17 +43,21 @@ use Rattle.shard_core.proofs.Showing.{found_entry, sound_own}
 -- ---- from a shelf that begins
 
 -- what is known of a shelf that begins with these live copies
-pub record ShelfBegins {D : Type 0} (view : D → DiskView) (disk : D) (g : Geometry) (limits : ShelfLimits) (gates : List Gate) (live : List (Digest × Place)) (next : ℕ) (new : ShelfView D) : Type 0 where
+pub record ShelfBegins {D : Type 0} (view : D → DiskView) (disk : D) (g : Geometry) (limits : ShelfLimits) (gates : List Gate) (live : List (Digest × Place)) (next : ℕ)
+    (new : ShelfView D) : Type 0 where
   pub starts : StartsWith disk g limits gates live next new
   pub entries : (setup : Setup) (found : List Copy) → IsSetupOf setup new → AreLive live found
       → shelf.StandsFor setup new (entries_state setup found next) × shelf.BooksStand setup new (entries_state setup found next)
-  pub image : (setup : Setup) (image : List ℕ) (bodies : List Body) → IsSetupOf setup new → IsSound setup image bodies → AreLive live (cold_copies (copies_of bodies)) → next ≡ greatest_number bodies + 1
+  pub image : (setup : Setup) (image : List ℕ) (bodies : List Body) → IsSetupOf setup new → IsSound setup image bodies → AreLive live (cold_copies (copies_of bodies))
+      → next ≡ greatest_number bodies + 1
       → shelf.StandsFor setup new (start_state setup bodies) × shelf.BooksStand setup new (start_state setup bodies)
   pub placed : (setup : Setup) (found : List Copy) → AllHave g (view disk).may_leave found → shelf.IsPlaced view new (entries_state setup found next)
-  pub safe : IsHonest (view disk) → AreSure g (gate_at gates) → (setup : Setup) (image : List ℕ) (bodies : List Body) → IsSetupOf setup new → IsSound setup image bodies → IsOnly image (view disk).may_leave
+  pub safe : IsHonest (view disk) → AreSure g (gate_at gates) → (setup : Setup) (image : List ℕ) (bodies : List Body) → IsSetupOf setup new → IsSound setup image bodies
+      → IsOnly image (view disk).may_leave
       → shelf.IsPlaced view new (start_state setup bodies) × shelf.ImagesHold setup view new (start_state setup bodies)
 
-module _ {D : Type 0} (view : D → DiskView) (disk : D) (g : Geometry) (gates : List Gate) (set : Settings) (finding : Finding) (is_shape : IsGeometry g) (settings : IsSettings set) (count : length gates ≡ g.blocks)
+module _ {D : Type 0} (view : D → DiskView) (disk : D) (g : Geometry) (gates : List Gate) (set : Settings) (finding : Finding) (is_shape : IsGeometry g) (settings : IsSettings set)
+    (count : length gates ≡ g.blocks)
     (sure : AllByRecursion IsSure gates) (shard : ShardView D) (set_is : shard.set ≡ set) (sprigs_are : shard.sprigs ≡ finding.sprigs.items)
     (begins : ShelfBegins view disk g (limits_of set) gates (live_places (all_entries finding.sprigs.items)) (finding.greatest + 1) shard.shelf) where
   abbrev live : List (Digest × Place)
@@ -93,7 +97,8 @@ module _ {D : Type 0} (view : D → DiskView) (disk : D) (g : Geometry) (gates :
     live_here = subst (λ (h : Geometry). AreLive live (latest_copies h bodies)) (sym geometry_is) (live_are g set gates bodies finding found some_devices some_sprigs)
 
     -- sprigs and shelf of one state
-    agrees_with : (state : Setup → State) → FitsParts (setup_for g set) finding.sprigs.items (state (setup_for g set)) → shelf.StandsFor setup shard.shelf (state setup) × shelf.BooksStand setup shard.shelf (state setup) → Agrees shard (state setup)
+    agrees_with : (state : Setup → State) → FitsParts (setup_for g set) finding.sprigs.items (state (setup_for g set)) → shelf.StandsFor setup shard.shelf (state setup)
+        × shelf.BooksStand setup shard.shelf (state setup) → Agrees shard (state setup)
     agrees_with state fits both = record {
       sprigs = subst (λ (l : List SprigState). FitsParts setup l (state setup)) (sym sprigs_are) (subst (λ (x : Setup). FitsParts x finding.sprigs.items (state x)) setup_is fits);
       times = subst (AllByRecursion HasTimes) (sym sprigs_are) (found_times g set gates bodies finding found);
@@ -103,7 +108,8 @@ module _ {D : Type 0} (view : D → DiskView) (disk : D) (g : Geometry) (gates :
     found_agrees : Agrees shard (found_state setup bodies)
     found_agrees =
         agrees_with (λ x. found_state x bodies) (found_parts g set gates bodies finding found)
-        (subst (λ (n : ℕ). shelf.StandsFor setup shard.shelf (entries_state setup latest (n + 1)) × shelf.BooksStand setup shard.shelf (entries_state setup latest (n + 1))) found.number (begins.entries setup latest is_setup live_here))
+        (subst (λ (n : ℕ). shelf.StandsFor setup shard.shelf (entries_state setup latest (n + 1)) × shelf.BooksStand setup shard.shelf (entries_state setup latest (n + 1))) found.number
+        (begins.entries setup latest is_setup live_here))
 
     start_agrees : (image : List ℕ) → IsSound setup image bodies → Agrees shard (start_state setup bodies)
     start_agrees image sound =
@@ -135,7 +141,8 @@ module _ {D : Type 0} (view : D → DiskView) (disk : D) (g : Geometry) (gates :
 -- ---- over what was read
 
 -- each image of a disk that has one has the latest copies
-all_have : (g : Geometry) (bytes : List ℕ) (images : Images) (bodies : List Body) → HasBodies g bytes (range_with_len 0 g.blocks) bodies → IsOnly bytes images → AllHave g images (latest_copies g bodies)
+all_have : (g : Geometry) (bytes : List ℕ) (images : Images) (bodies : List Body) → HasBodies g bytes (range_with_len 0 g.blocks) bodies → IsOnly bytes images
+    → AllHave g images (latest_copies g bodies)
 all_have g bytes images bodies has only c there image left =
     subst (λ (b : List ℕ). IsRecordAt (body_bytes g c.block b) (32 + 16 * c.unit) c.digest c.version) (sym (only.alone image left))
     (copy_stands g bytes (range_with_len 0 g.blocks) bodies has c (latest_there g bodies c there).0).there
@@ -162,7 +169,8 @@ module _ {D : Type 0} (view : D → DiskView) (disk : D) (g : Geometry) (set : S
 
   module _ (bytes : List ℕ) (passes : Passes asked bytes g bodies) where
     these : (all : List Body) → IsSound (setup_of shard) bytes all → bodies ≡ all
-    these all sound = same_bodies (setup_of shard) shard.shelf.geometry asked bytes bodies all (record { capacity = refl; blocks = refl; device = refl; devices = refl }) (passes_here bytes passes) sound
+    these all sound = same_bodies (setup_of shard) shard.shelf.geometry asked bytes bodies all (record { capacity = refl; blocks = refl; device = refl; devices = refl })
+        (passes_here bytes passes) sound
 
     sound_agrees : (all : List Body) → IsSound (setup_of shard) bytes all → Agrees shard (start_state (setup_of shard) all)
     sound_agrees all sound =
@@ -174,8 +182,10 @@ module _ {D : Type 0} (view : D → DiskView) (disk : D) (g : Geometry) (set : S
       bodies = bodies;
       passes = passes_here bytes passes;
       entries = λ d.
-          subst (λ (l : List SprigState). held (setup_of shard) d l ≡ option_map entry_for (cold_copy d (own_copies shard.shelf.geometry.device shard.shelf.geometry.devices (copies_of bodies)))) (sym begins.sprigs_are)
-          (subst (λ (x : Setup). held x d finding.sprigs.items ≡ option_map entry_for (cold_copy d (own_copies x.device x.devices (copies_of bodies)))) (λ i. setup_for (sym begins.geometry_is i) (sym begins.set_is i))
+          subst (λ (l : List SprigState). held (setup_of shard) d l
+          ≡ option_map entry_for (cold_copy d (own_copies shard.shelf.geometry.device shard.shelf.geometry.devices (copies_of bodies)))) (sym begins.sprigs_are)
+          (subst (λ (x : Setup). held x d finding.sprigs.items ≡ option_map entry_for (cold_copy d (own_copies x.device x.devices (copies_of bodies))))
+          (λ i. setup_for (sym begins.geometry_is i) (sym begins.set_is i))
           (held_is g set gates bodies finding found (omega (arith, is_shape.device)) (omega (arith, settings.sprigs.0)) d));
       free = behind.free;
       next = begins.next ∙ ap (λ (n : ℕ). n + 1) found.number;

@@ -37,10 +37,12 @@ record SealedFrom (buffers : List BufferState) (b : Buffer) : Type 0 where
   pub there : Contains buffers buffer
   pub is : book_buffer buffer ≡ sealed_if (same_stream client b.stream) b
 
-module _ {D : Type 0} (view : D → DiskView) (setup : Setup) (old mid : ShelfView D) (s : State) (b : Buffer) (stands : StandsFor setup old s) (found : filling_buffer client s.book.buffers ≡ Some b) where
+module _ {D : Type 0} (view : D → DiskView) (setup : Setup) (old mid : ShelfView D) (s : State) (b : Buffer) (stands : StandsFor setup old s)
+    (found : filling_buffer client s.book.buffers ≡ Some b) where
   -- it is one of the shelf's
   pub written_there : (x : BufferState) × Contains old.buffers x × (book_buffer x ≡ b)
-  written_there = map_from book_buffer old.buffers b (subst (λ (l : List Buffer). Contains l b) stands.buffers (find_there (λ c. same_stream client c.stream && is_filling c.phase) s.book.buffers b found))
+  written_there = map_from book_buffer old.buffers b (subst (λ (l : List Buffer). Contains l b) stands.buffers
+      (find_there (λ c. same_stream client c.stream && is_filling c.phase) s.book.buffers b found))
 
   -- so its block has a buffer
   pub has_buffer : (block : ℕ) → b.block ≡ block → AllByRecursion (λ c. c.block ≢ block) old.buffers → ⊥
@@ -91,7 +93,8 @@ module _ {D : Type 0} (view : D → DiskView) (setup : Setup) (old mid : ShelfVi
 
       pub number_is : n ≡ b.number
       number_is =
-          sym asked.3 ∙ sym (ap (λ (c : Buffer). c.number) other.is ∙ sealed_number (same_stream client (book_buffer asked.0).stream) (book_buffer asked.0)) ∙ ap (λ (c : BufferState). c.number) same ∙ own_number
+          sym asked.3 ∙ sym (ap (λ (c : Buffer). c.number) other.is ∙ sealed_number (same_stream client (book_buffer asked.0).stream) (book_buffer asked.0))
+          ∙ ap (λ (c : BufferState). c.number) same ∙ own_number
 
       pub ends_there : EndsRight n mid.buffers
       ends_there = inr (own.buffer, own.there, own_number ∙ sym number_is, own_sealed)

@@ -26,7 +26,8 @@ each_behind block unit (r ∷ records) c there = by (cons_cases first (copies_fr
     first : Copy
     first = record { digest = r.0; version = r.1; block = block; unit = unit }
 
-    by : (first ≡ c) ⊎ Contains (copies_from block (unit + version_units r.1) records) c → (Contains (copies_from block (unit + version_units r.1) records) c → LiesFrom block (unit + version_units r.1) c) → LiesFrom block unit c
+    by : (first ≡ c) ⊎ Contains (copies_from block (unit + version_units r.1) records) c
+        → (Contains (copies_from block (unit + version_units r.1) records) c → LiesFrom block (unit + version_units r.1) c) → LiesFrom block unit c
     by (inl same) rest = subst (LiesFrom block unit) same (record { block_is = refl; from = omega arith })
     by (inr more) rest = let lies = rest more in record { block_is = lies.block_is; from = omega (arith, lies.from) }
 

@@ -34,7 +34,8 @@ module _ (setup : Setup) (s : State) (digest : Digest) (now : ℕ) where
 
   -- ---- the removal of what is expired
 
-  pub expires_none : (told : Bool) (event : Event) → event.answer ≡ happened false → event.steps ≡ [] → entry_passes (is_expired_put now) (entry s digest) ≡ false → Allowed setup told s event (expire_call digest now)
+  pub expires_none : (told : Bool) (event : Event) → event.answer ≡ happened false → event.steps ≡ [] → entry_passes (is_expired_put now) (entry s digest) ≡ false
+      → Allowed setup told s event (expire_call digest now)
   expires_none told event answer steps none = subst (λ (b : Bool). MatchBool b (Removes setup s event digest now) (Only event (happened false))) (sym none) (answer, steps)
 
   pub expires : entry_passes (is_expired_put now) (entry s digest) ≡ true → IsRemoving setup s (expire_call digest now) digest now
@@ -50,7 +51,8 @@ module _ (setup : Setup) (s : State) (digest : Digest) (now : ℕ) where
     pub removes_covered : entry_is_covered s digest ≡ true → IsEntombing setup s call digest now (λ stamp. happened true)
     removes_covered covered told event is ends = removing told event is (subst (RemovesSo event) (sym covered) ends)
 
-    removes_bare : (told : Bool) (event : Event) → event.call ≡ call → entry_is_covered s digest ≡ false → event.answer ≡ happened true → event.steps ≡ removed digest ∷ [] → Allowed setup told s event call
+    removes_bare : (told : Bool) (event : Event) → event.call ≡ call → entry_is_covered s digest ≡ false → event.answer ≡ happened true → event.steps ≡ removed digest ∷ []
+        → Allowed setup told s event call
     removes_bare told event is bare answer steps = removing told event is (subst (RemovesSo event) (sym bare) (answer, steps))
 
     -- of one that isn't covered the entry goes, and its copy is no longer live

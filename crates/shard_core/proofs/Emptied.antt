@@ -28,7 +28,8 @@ copy_of : (digest : Digest) (live : List Live) (m : Live) → same_digest digest
 copy_of digest [] m same there = absurd (omega (arith, there.1))
 copy_of digest (x ∷ live) m same there = by (same_digest digest x.digest) refl (cons_cases x live m there) (copy_of digest live m same)
   where
-    by : (b : Bool) → same_digest digest x.digest ≡ b → (x ≡ m) ⊎ Contains live m → (Contains live m → (l : Live) × (live_of digest live ≡ Some l)) → (l : Live) × (cond b (Some x) (live_of digest live) ≡ Some l)
+    by : (b : Bool) → same_digest digest x.digest ≡ b → (x ≡ m) ⊎ Contains live m → (Contains live m → (l : Live) × (live_of digest live ≡ Some l)) → (l : Live)
+        × (cond b (Some x) (live_of digest live) ≡ Some l)
     by true is place rest = (x, refl)
     by false is (inl e) rest = absurd (both_ways (same_digest digest x.digest) is (ap (λ (y : Live). same_digest digest y.digest) e ∙ same))
     by false is (inr more) rest = rest more
@@ -145,7 +146,8 @@ module _ (setup : Setup) (block : ℕ) (digest : Digest) (s : State) (booked : I
                 → LiesBehind
             room (Some cause) against only = absurd (let clash : happened b ≡ refused cause = sym answer ∙ only.0 in cc)
             room None none (inl done) =
-                subst (λ (steps : List Step). LiesAmong left block (after_steps setup steps s).book) (sym done.1) (lie_behind copy live is (place_there setup defrag move_reserve copy.units s.book none) left lie)
+                subst (λ (steps : List Step). LiesAmong left block (after_steps setup steps s).book) (sym done.1)
+                (lie_behind copy live is (place_there setup defrag move_reserve copy.units s.book none) left lie)
             room None none (inr (inl damage)) = absurd (let clash : happened b ≡ refused damaged = sym answer ∙ damage.1 in cc)
             room None none (inr (inr (inl fails))) = absurd (let clash : happened b ≡ refused disk_fault = sym answer ∙ fails.0 in cc)
             room None none (inr (inr (inr closing))) = absurd (let clash : happened b ≡ refused disk_fault = sym answer ∙ closing.1.0 in cc)

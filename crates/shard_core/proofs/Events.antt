@@ -5,7 +5,8 @@ use Rattle.disk_model.specs.Runs.{OneOf, Leaves, leaves_then, leaves_more}
 use Rattle.model_device.specs.Book.{Setup}
 use Rattle.model_device.specs.Device.{State}
 use Rattle.model_device.specs.Steps.{Step, after_step, after_steps, states_through}
-use Rattle.model_device.specs.Events.{Event, Call, Answer, Cause, stamp_given, happened, found_version, counted, block_chosen, raid_numbered, marks_made, block_scanned, marks_undone, part_ended, raid_over, refused, after_event, after_events, steps_of, states_of}
+use Rattle.model_device.specs.Events.{Event, Call, Answer, Cause, stamp_given, happened, found_version, counted, block_chosen, raid_numbered, marks_made}
+use Rattle.model_device.specs.Events.{block_scanned, marks_undone, part_ended, raid_over, refused, after_event, after_events, steps_of, states_of}
 use Rattle.model_device.specs.Legal.{IsLegal, last_faults}
 use Rattle.model_device.specs.Vacating.{IfRefused}
 use Rattle.law_start.specs.Surviving.{Survives}
@@ -20,7 +21,8 @@ use Rattle.shard_core.specs.Vacating.{MakesEvents}
 
 -- ---- whether an event was refused
 
-pub if_refused : (answer : Answer) (Refused Still : Cause → Type 0) (Else Then : Type 0) → ((cause : Cause) → Refused cause → Still cause) → (Else → Then) → IfRefused answer Refused Else → IfRefused answer Still Then
+pub if_refused : (answer : Answer) (Refused Still : Cause → Type 0) (Else Then : Type 0) → ((cause : Cause) → Refused cause → Still cause) → (Else → Then) → IfRefused answer Refused Else
+    → IfRefused answer Still Then
 if_refused (stamp_given s) Refused Still Else Then one other is = other is
 if_refused (happened b) Refused Still Else Then one other is = other is
 if_refused (found_version v) Refused Still Else Then one other is = other is
@@ -109,7 +111,8 @@ module _ {D : Type 0} (view : D → DiskView) (setup : Setup) where
     leaves = λ honest safe. stays view setup shelf s is_disk (OneOf (Survives setup) (s ∷ [])) (λ c here. inl here) safe.safe;
   }
 
-  pub runs_one : (call : Call) (answer : Answer) (old new : ShelfView D) (s : State) (Stands : State → Type 0) → (made : MakesEvent view setup call answer old s new Stands) → RunsBy view setup old s new Stands (made.event ∷ [])
+  pub runs_one : (call : Call) (answer : Answer) (old new : ShelfView D) (s : State) (Stands : State → Type 0) → (made : MakesEvent view setup call answer old s new Stands)
+      → RunsBy view setup old s new Stands (made.event ∷ [])
   runs_one call answer old new s Stands made = record {
     legal = (made.follows, tt);
     told = λ honest safe. (made.told honest safe, tt);
@@ -134,7 +137,8 @@ module _ {D : Type 0} (view : D → DiskView) (setup : Setup) where
           (leaves_more (λ c there. of_others setup (Survives setup) xs ys s c there) (then.leaves (honest_on honest) (first.safe honest safe)));
     }
       where
-        joined : (told : Bool) → IsLegal setup told s (view old.disk).faults xs → IsLegal setup told (after_events setup xs s) (view mid.disk).faults ys → IsLegal setup told s (view old.disk).faults (xs ++ ys)
+        joined : (told : Bool) → IsLegal setup told s (view old.disk).faults xs → IsLegal setup told (after_events setup xs s) (view mid.disk).faults ys
+            → IsLegal setup told s (view old.disk).faults (xs ++ ys)
         joined told one two = legal_joined setup told xs ys s (view old.disk).faults one (subst (λ (n : ℕ). IsLegal setup told (after_events setup xs s) n ys) (sym first.counted) two)
 
 -- ---- a shard

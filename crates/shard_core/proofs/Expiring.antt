@@ -60,7 +60,8 @@ MayRefuse (Some cause) = EndsRemoval (refused cause)
 -- what may stand against a tombstone
 may_refuse : (setup : Setup) (kept units : ℕ) (stamp : Option Stamp) (s : State) → MayRefuse (no_write setup kept units stamp s)
 may_refuse setup kept units None s = tt
-may_refuse setup kept units (Some stamp) s = by (has_room setup client units s.book) (nat_lt _ s.book.next_number) (nat_le setup.pending_limit (length s.book.buffers)) (nat_le (length s.book.free) kept)
+may_refuse setup kept units (Some stamp) s = by (has_room setup client units s.book) (nat_lt _ s.book.next_number) (nat_le setup.pending_limit (length s.book.buffers))
+    (nat_le (length s.book.free) kept)
   where
     by : (a b c d : Bool) → MayRefuse (cond a None (cond b (Some spent) (cond c (Some (overload (length s.book.buffers))) (cond d (Some (no_space (length s.book.free))) None))))
     by true b c d = tt
@@ -95,7 +96,8 @@ removal_ends setup s event digest now ends = by (entry_is_covered s digest) ends
     by false ends = subst EndsRemoval (sym ends.0) tt
 
 -- of an entry that is expired
-expiry_ends : (setup : Setup) (told : Bool) (s : State) (event : Event) (digest : Digest) (now : ℕ) → entry_passes (is_expired_put now) (entry s digest) ≡ true → Allowed setup told s event (expire_call digest now)
+expiry_ends : (setup : Setup) (told : Bool) (s : State) (event : Event) (digest : Digest) (now : ℕ) → entry_passes (is_expired_put now) (entry s digest) ≡ true
+    → Allowed setup told s event (expire_call digest now)
     → EndsRemoval event.answer
 expiry_ends setup told s event digest now expired allowed =
     removal_ends setup s event digest now (subst (λ (b : Bool). MatchBool b (Removes setup s event digest now) (Only event (happened false))) expired allowed)
@@ -115,7 +117,8 @@ of_removal write.Fault ends = tt
 
 -- ---- the events
 
-each_then : (now : ℕ) (xs ys : List Digest) (before between : ℕ) (events more : List Event) (outcome : Outcome) → ExpiresEach now xs before events (did between 0) → ExpiresEach now ys between more outcome
+each_then : (now : ℕ) (xs ys : List Digest) (before between : ℕ) (events more : List Event) (outcome : Outcome) → ExpiresEach now xs before events (did between 0)
+    → ExpiresEach now ys between more outcome
     → ExpiresEach now (xs ++ ys) before (events ++ more) outcome
 each_then now [] ys before between events more outcome first then =
     let both : did between 0 ≡ did before 0 = first.1 in
@@ -279,7 +282,8 @@ module _ {D : Type 0} (part now : ℕ) (mid : ShardView D) (below : part < part_
           let after : expired_left new part now (Some digest) ≡ expired_behind (setup_of mid) part now (Some digest) u =
           left_is new part now t (subst (λ (x : Setup). part < part_total x) (setup_same mid new same) below) made.stands (Some digest)
           ∙ ap (λ (x : Setup). expired_behind x part now (Some digest) t) (sym (setup_same mid new same))
-          ∙ expired_alike (setup_of mid) part now (Some digest) u t (λ d is. others_stay (setup_of mid) false u made.event digest (ap digest_named made.is_call) made.follows.allowed d (later_other digest d is)) in
+          ∙ expired_alike (setup_of mid) part now (Some digest) u t
+          (λ d is. others_stay (setup_of mid) false u made.event digest (ap digest_named made.is_call) made.follows.allowed d (later_other digest d is)) in
           let before : expired_left mid part now last ≡ digest ∷ expired_behind (setup_of mid) part now (Some digest) u = left_is mid part now u below whole.stands.1 last ∙ next.rest in
           omega (arith, ap length after, ap length before)
 
@@ -399,7 +403,8 @@ module _ {D : Type 0} (view : D → DiskView) (part now : ℕ) (old : ShardView 
                 ) runs
 
           -- by what is told of the call from each state
-          pub goes_on : (b : Bool) → ((v : State) → Agrees mid v → Makes view (expire_call digest now) (happened b) mid v new) → MakesEvents view (HaveExpired setup part now s (n + 1) (Some digest)) old s new
+          pub goes_on : (b : Bool) → ((v : State) → Agrees mid v → Makes view (expire_call digest now) (happened b) mid v new)
+              → MakesEvents view (HaveExpired setup part now s (n + 1) (Some digest)) old s new
           goes_on b each = let step = each t made.stands in one_more (happened b) step (ap happened (removed_one b (answered (happened b) step)))
 
           pub goes_no_further : (refusal : WriteRefusal) → ((v : State) → Agrees mid v → Makes view (expire_call digest now) (refused (cause_of_write refusal)) mid v new)

@@ -26,7 +26,8 @@ use Rattle.block_shelf.proofs.Blocks.{at_most}
 use Rattle.block_shelf.proofs.Going.{after_joined, goes_then}
 use Rattle.shard_core.specs.Calls.{FlushesAll}
 use Rattle.shard_core.specs.Writing.{EndsRight}
-use Rattle.shard_core.proofs.FlushSteps.{up_to, flushes, all_up_to, none_up_to, first_then, last_then, last_left, comes_to, still_most, still_ends, flush_is_one, count_both, stops_in_front, stops_behind}
+use Rattle.shard_core.proofs.FlushSteps.{up_to, flushes, all_up_to, none_up_to, first_then, last_then, last_left, comes_to, still_most, still_ends}
+use Rattle.shard_core.proofs.FlushSteps.{flush_is_one, count_both, stops_in_front, stops_behind}
 
 -- ---- how many there are
 
@@ -117,8 +118,12 @@ module _ {D : Type 0} (view : D → DiskView) where
         let one = stepped setup t is went.goes.stands in
         let rest : List Step = flushes last (stays.first.front ++ stays.first.behind) in
         let here : StopsIn (flush_between 0 last t.book) one.0 =
-        subst (λ (x : List Step). StopsIn x one.0) (sym (first_of stays.first (comes_to mid.buffers kept.order stays.first last ends))) (stops_in_front (flush_first t.book) one.0 rest one.1) in
-        (went.steps ++ one.0, subst (λ (x : List Step). StopsIn x (went.steps ++ one.0)) (sym went.left) (stops_behind went.steps (flush_between 0 last t.book) one.0 here), goes_then view setup went.steps one.0 old mid new s honest went.goes one.2)
+        subst (λ (x : List Step). StopsIn x one.0) (sym (first_of stays.first (comes_to mid.buffers kept.order stays.first last ends))) (stops_in_front (flush_first t.book) one.0 rest one.1) in (
+          went.steps ++ one.0,
+          subst (λ (x : List Step). StopsIn x (went.steps ++ one.0)) (sym went.left)
+              (stops_behind went.steps (flush_between 0 last t.book) one.0 here),
+          goes_then view setup went.steps one.0 old mid new s honest went.goes one.2,
+        )
 
   -- behind the buffer of the last number it ends
   pub went_through : (setup : Setup) (last count n : ℕ) (E : Type 0) (old mid new : ShelfView D) (s : State) → IsShelf view mid → FirstLeaves n mid new → last ≤ n → Went setup last count old s new
@@ -138,7 +143,8 @@ numbers_most view shelf kept = all_map (IsBufferOf shelf.geometry shelf.next_num
     below : (n : ℕ) → n < shelf.next_number → n ≤ 2 ^ 62
     below n lt = omega (arith, lt, kept.number.1)
 
-pub flush_is_all : {D : Type 0} (setup : Setup) (last : ℕ) (shelf : ShelfView D) (s : State) → StandsFor setup shelf s → AllByRecursion (λ b. b.number ≤ last) shelf.buffers → flush_between 0 last s.book ≡ flush_all s.book
+pub flush_is_all : {D : Type 0} (setup : Setup) (last : ℕ) (shelf : ShelfView D) (s : State) → StandsFor setup shelf s → AllByRecursion (λ b. b.number ≤ last) shelf.buffers
+    → flush_between 0 last s.book ≡ flush_all s.book
 flush_is_all setup last shelf s stands most = all_up_to last s.book.buffers (subst (AllByRecursion (λ b. b.number ≤ last)) (sym stands.buffers) (mapped shelf.buffers most))
   where
     mapped : (bs : List BufferState) → AllByRecursion (λ b. b.number ≤ last) bs → AllByRecursion (λ b. b.number ≤ last) (map book_buffer bs)
@@ -183,7 +189,8 @@ module _ {D : Type 0} (view : D → DiskView) (last n : ℕ) (old new : ShelfVie
   ends_on lt ends = record { right = subst (EndsRight last) (sym leaves.left) (still_ends old.buffers kept.order leaves.first last (subst (λ (k : ℕ). k < last) (sym leaves.own) lt) ends.right) }
 
   pub all_gone : last ≤ n → AreUpTo last old → AllByRecursion (λ b. is_unsealed b.phase ≡ true) new.buffers
-  all_gone le up = subst (AllByRecursion (λ b. is_unsealed b.phase ≡ true)) (sym leaves.left) (last_left old.buffers kept.order leaves.first last (subst (λ (k : ℕ). last ≤ k) (sym leaves.own) le) up.most)
+  all_gone le up = subst (AllByRecursion (λ b. is_unsealed b.phase ≡ true)) (sym leaves.left)
+      (last_left old.buffers kept.order leaves.first last (subst (λ (k : ℕ). last ≤ k) (sym leaves.own) le) up.most)
 
 -- after a fault the buffer is left, and none takes records that didn't
 pub stays_some : {D : Type 0} (old new : ShelfView D) → FirstStays old new → new.buffers ≢ []

@@ -78,7 +78,8 @@ module _ (last : ℕ) where
 
 -- ---- the first sealed one
 
-front_passed : (front : List BufferState) (bs : List BufferState) → AllByRecursion (λ b. is_unsealed b.phase ≡ true) front → first_sealed (map book_buffer (front ++ bs)) ≡ first_sealed (map book_buffer bs)
+front_passed : (front : List BufferState) (bs : List BufferState) → AllByRecursion (λ b. is_unsealed b.phase ≡ true) front
+    → first_sealed (map book_buffer (front ++ bs)) ≡ first_sealed (map book_buffer bs)
 front_passed [] bs all = refl
 front_passed (b ∷ front) bs all =
     cond-true (is_filling (book_phase b.phase)) (first_sealed (map book_buffer (front ++ bs))) (flush_of (book_buffer b)) (phase_fills b.phase ∙ all.0) ∙ front_passed front bs all.1
@@ -104,7 +105,8 @@ module _ (buffers : List BufferState) (order : StandInOrder buffers) (first : Fi
   pub first_then : (last : ℕ) → first.buffer.number ≤ last → flushes last buffers ≡ first_sealed (map book_buffer buffers) ++ flushes last rest
   first_then last le =
       ap (flushes last) first.parts ∙ front_skipped last first.front (first.buffer ∷ first.behind) first.filling ∙ taken last first.buffer first.behind le
-      ∙ ap (λ (l : List Step). l ++ flushes last first.behind) (sym first_is) ∙ ap (λ (l : List Step). first_sealed (map book_buffer buffers) ++ l) (sym (front_skipped last first.front first.behind first.filling))
+      ∙ ap (λ (l : List Step). l ++ flushes last first.behind) (sym first_is)
+      ∙ ap (λ (l : List Step). first_sealed (map book_buffer buffers) ++ l) (sym (front_skipped last first.front first.behind first.filling))
 
   -- behind the last one nothing is left to flush
   pub last_then : (last : ℕ) → last ≤ first.buffer.number → flushes last rest ≡ []
@@ -114,7 +116,8 @@ module _ (buffers : List BufferState) (order : StandInOrder buffers) (first : Fi
 
   -- and where none has a greater number only those that take records are left
   pub last_left : (last : ℕ) → last ≤ first.buffer.number → AllByRecursion (λ b. b.number ≤ last) buffers → AllByRecursion (λ b. is_unsealed b.phase ≡ true) rest
-  last_left last le most = all_joined (λ b. is_unsealed b.phase ≡ true) first.front first.behind first.filling (none first.behind above (all_parted (λ b. b.number ≤ last) first.front (first.buffer ∷ first.behind) (subst (AllByRecursion (λ b. b.number ≤ last)) first.parts most)).1.1)
+  last_left last le most = all_joined (λ b. is_unsealed b.phase ≡ true) first.front first.behind first.filling
+      (none first.behind above (all_parted (λ b. b.number ≤ last) first.front (first.buffer ∷ first.behind) (subst (AllByRecursion (λ b. b.number ≤ last)) first.parts most)).1.1)
     where
       none : (bs : List BufferState) → AllByRecursion (λ c. first.buffer.number < c.number) bs → AllByRecursion (λ b. b.number ≤ last) bs → AllByRecursion (λ b. is_unsealed b.phase ≡ true) bs
       none [] all_above all = tt

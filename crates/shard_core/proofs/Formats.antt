@@ -26,7 +26,8 @@ pub gates_apart : (g : Geometry) (k block : ℕ) → IsGeometry g → k < block 
 gates_apart g k block is lt = omega (arith, (size_bounds g is).0, mul-le-mul_right {m = k + 1} {n = block} g.block_size (omega arith))
 
 -- a write over one block's gate sector, or over the header, leaves the other gates as they were
-pub stays_closed : (g : Geometry) (old new : List ℕ) (place : ℕ) (k : ℕ) → Torn place 4096 old new → Apart (block_place g k) 4096 place 4096 → IsClosed (gate_sector g k old) → IsClosed (gate_sector g k new)
+pub stays_closed : (g : Geometry) (old new : List ℕ) (place : ℕ) (k : ℕ) → Torn place 4096 old new → Apart (block_place g k) 4096 place 4096 → IsClosed (gate_sector g k old)
+    → IsClosed (gate_sector g k new)
 stays_closed g old new place k torn away closed = subst IsClosed (sym (torn.apart (block_place g k) 4096 away)) closed
 
 no_bodies : (g : Geometry) (bytes : List ℕ) (a n : ℕ) → ((k : ℕ) → k < a + n → IsClosed (gate_sector g k bytes)) → HasBodies g bytes (range_with_len a n) []
@@ -34,7 +35,8 @@ no_bodies g bytes a zero closed = refl
 no_bodies g bytes a (suc n) closed = inl (closed a (omega arith), no_bodies g bytes (a + 1) n (λ k lt. closed k (omega arith)))
 
 -- the bytes of a written gate, at their block
-pub gate_written : (g : Geometry) (block : ℕ) (old new gate : List ℕ) (place : ℕ) → gate ≡ closed_sector → place ≡ block_place g block → Written place gate old new → Written (block_place g block) closed_sector old new
+pub gate_written : (g : Geometry) (block : ℕ) (old new gate : List ℕ) (place : ℕ) → gate ≡ closed_sector → place ≡ block_place g block → Written place gate old new
+    → Written (block_place g block) closed_sector old new
 gate_written g block old new gate place zeros is write =
     subst (λ (p : ℕ). Written p closed_sector old new) is (subst (λ (l : List ℕ). Written place l old new) zeros write)
 
@@ -58,7 +60,8 @@ module _ (old mid new : DiskView) (is : IsDisk mid) where
   leaves_same P run time images = leaves_then run (record { time = time; each = λ c left. leaves_now is run c (images c left) })
 
   -- a write behind the header
-  pub header_stays : (before : Images) (place n : ℕ) → 4096 ≤ place → Leaves (HasHeaderOf before) old mid → Advances mid new → TornFrom place n mid.may_leave (meanwhile mid new) → Leaves (HasHeaderOf before) old new
+  pub header_stays : (before : Images) (place n : ℕ) → 4096 ≤ place → Leaves (HasHeaderOf before) old mid → Advances mid new → TornFrom place n mid.may_leave (meanwhile mid new)
+      → Leaves (HasHeaderOf before) old new
   header_stays before place n behind run time images =
       leaves_then run (record {
         time = time;
@@ -77,7 +80,8 @@ module _ (old mid new : DiskView) (is : IsDisk mid) where
         time = time;
         each = λ c left.
             let from = images c left in
-            inr (λ k lt. stays_closed g from.0 c 0 k (subst (λ (m : ℕ). Torn 0 m from.0 c) size from.2) (inr (gate_behind g k)) (subst (λ (l : List ℕ). IsClosed (gate_sector g k l)) (sym (only.alone from.0 from.1)) (closed k lt)));
+            inr (λ k lt. stays_closed g from.0 c 0 k (subst (λ (m : ℕ). Torn 0 m from.0 c) size from.2) (inr (gate_behind g k))
+            (subst (λ (l : List ℕ). IsClosed (gate_sector g k l)) (sym (only.alone from.0 from.1)) (closed k lt)));
       })
     where
       gate_behind : (g : Geometry) (k : ℕ) → 0 + 4096 ≤ block_place g k

@@ -54,7 +54,14 @@ module _ (setup : Setup) (s : State) (now : ℕ) (digest : Digest) (sprig : Spri
           live : (a b : Bool) → is_live_put now says.1.version ≡ b → a ≡ b → cond a (Some x) None ≡ Some e → SeenIs s now digest sprig.entries e
           live true true put same here =
               let one : x ≡ e = cc in
-              subst (SeenIs s now digest sprig.entries) one (record { version = says.1.version; found_is = is; entry_is = says.1.top; names = says.1.names; seen = ap (if_live now) says.1.top ∙ ap (λ (b : Bool). cond b (Some says.1.version) None) put })
+              subst (SeenIs s now digest sprig.entries) one (record {
+                version = says.1.version;
+                found_is = is;
+                entry_is = says.1.top;
+                names = says.1.names;
+                seen = ap (if_live now) says.1.top
+                    ∙ ap (λ (b : Bool). cond b (Some says.1.version) None) put;
+              })
           live true false put same here = absurd (cc)
           live false b put same here = absurd (cc)
 

@@ -87,7 +87,8 @@ latest_there g bodies c there =
 abbrev placed : Entry → Digest × Place
 placed e = (e.digest, place_of e)
 
-two_places : (es : List Entry) → HaveOwnDigests es → ((e f : Entry) → Contains es e → Contains es f → same_digest e.digest f.digest ≡ false → e.block ≡ f.block → Apart e.unit e.units f.unit f.units) → AreEachTwo (live_places es)
+two_places : (es : List Entry) → HaveOwnDigests es → ((e f : Entry) → Contains es e → Contains es f → same_digest e.digest f.digest ≡ false → e.block ≡ f.block
+    → Apart e.unit e.units f.unit f.units) → AreEachTwo (live_places es)
 two_places [] own apart = tt
 two_places (e ∷ es) own apart = (all_from (AreTwo (placed e)) (live_places es) two, two_places es own.1 (λ a b in_a in_b. apart a b (rest_there e es a in_a) (rest_there e es b in_b)))
   where
@@ -136,7 +137,8 @@ module _ (g : Geometry) (set : Settings) (gates : List Gate) (bodies : List Body
       each_entry (λ e. IsLatestOne e × (part_of setup e.digest ≡ part)) s.entries h.order
       (λ d e is. by d e (part_of setup d == part) refl (cold_copy d own) refl (sym (h.shown d) ∙ is) (entry_of-digest d s.entries e is))
     where
-      by : (d : Digest) (e : Entry) (b : Bool) → (part_of setup d == part) ≡ b → (o : Option Copy) → cold_copy d own ≡ o → cond b (option_map entry_for o) None ≡ Some e → e.digest ≡ d → IsLatestOne e × (part_of setup e.digest ≡ part)
+      by : (d : Digest) (e : Entry) (b : Bool) → (part_of setup d == part) ≡ b → (o : Option Copy) → cold_copy d own ≡ o → cond b (option_map entry_for o) None ≡ Some e → e.digest ≡ d
+          → IsLatestOne e × (part_of setup e.digest ≡ part)
       by d e false mine o cold never named = absurd cc
       by d e true mine None cold never named = absurd cc
       by d e true mine (Some c) cold is named =
@@ -174,7 +176,8 @@ module _ (g : Geometry) (set : Settings) (gates : List Gate) (bodies : List Body
 
   pub sound_parts : (image : List ℕ) → IsSound setup image bodies → FitsParts setup sprigs (start_state setup bodies)
   sound_parts image sound =
-      start_parts setup image bodies sprigs sound found.latest.parts (λ part s at. subst (λ (l : List Copy). HasLatest setup part l s) (sound_own setup image bodies sound) (found.latest.each part s at))
+      start_parts setup image bodies sprigs sound found.latest.parts
+      (λ part s at. subst (λ (l : List Copy). HasLatest setup part l s) (sound_own setup image bodies sound) (found.latest.each part s at))
 
   -- ---- what is held of a digest
 
@@ -187,7 +190,8 @@ module _ (g : Geometry) (set : Settings) (gates : List Gate) (bodies : List Body
         let mine = ap (device_number g.devices) key ∙ (own_there g.device g.devices copies c there.0).1 in
         by (part_exists setup d some_devices some_sprigs mine) (slice_get_cases sprigs (part_of setup d)).1
       where
-        by : part_of setup d < part_total setup → ((x : SprigState) × (part_of setup d < length sprigs) × (slice_get sprigs (part_of setup d) ≡ Some x) × (get_or sprigs (part_of setup d) x ≡ x)) ⊎ ((length sprigs ≤ part_of setup d) × (slice_get sprigs (part_of setup d) ≡ None)) → ⊥
+        by : part_of setup d < part_total setup → ((x : SprigState) × (part_of setup d < length sprigs) × (slice_get sprigs (part_of setup d) ≡ Some x)
+            × (get_or sprigs (part_of setup d) x ≡ x)) ⊎ ((length sprigs ≤ part_of setup d) × (slice_get sprigs (part_of setup d) ≡ None)) → ⊥
         by lt (inl there) = let never : Some there.0 ≡ None = sym there.2 ∙ none in absurd cc
         by lt (inr past) = omega (arith, lt, past.0, found.latest.parts)
 
@@ -216,7 +220,8 @@ module _ (g : Geometry) (set : Settings) (gates : List Gate) (bodies : List Body
 
     -- the blocks in which none of them lies
     pub free_are : blocks_without (live_places index) g.blocks ≡ blocks_behind g.blocks latest
-    free_are = filter_alike (λ b. not (list_any (in_block b) (live_places index))) (λ b. not (list_any (copy_in b) latest)) (λ b. ap not (same_tests (list_any (in_block b) (live_places index)) (list_any (copy_in b) latest) (to b) (back b))) (range_with_len 0 g.blocks)
+    free_are = filter_alike (λ b. not (list_any (in_block b) (live_places index))) (λ b. not (list_any (copy_in b) latest))
+        (λ b. ap not (same_tests (list_any (in_block b) (live_places index)) (list_any (copy_in b) latest) (to b) (back b))) (range_with_len 0 g.blocks)
       where
         in_block : ℕ → Digest × Place → Bool
         in_block b x = x.1.block == b
@@ -253,7 +258,8 @@ module _ (g : Geometry) (set : Settings) (gates : List Gate) (bodies : List Body
         by c.0 d.0 c.2 d.2 (copies_apart bodies (subst AreApart (sym found.opened) (opened_apart 0 (take g.blocks gates))) c.0 d.0 in_c in_d same_block)
       where
         by : (c d : Copy) → entry_for c ≡ e → entry_for d ≡ f → AreOneOrApart c d → Apart e.unit e.units f.unit f.units
-        by c d is_e is_f (inl one) = absurd (both_ways (same_digest e.digest f.digest) other (ap (λ (x : Entry). same_digest e.digest x.digest) (sym is_f ∙ ap entry_for (sym one) ∙ is_e) ∙ same_digest_refl e.digest))
+        by c d is_e is_f (inl one) = absurd (both_ways (same_digest e.digest f.digest) other (ap (λ (x : Entry). same_digest e.digest x.digest) (sym is_f ∙ ap entry_for (sym one) ∙ is_e)
+            ∙ same_digest_refl e.digest))
         by c d is_e is_f (inr apart) =
             subst (λ (x : Entry). Apart x.unit x.units f.unit f.units) is_e (subst (λ (x : Entry). Apart c.unit (version_units c.version) x.unit x.units) is_f apart)
 

@@ -27,7 +27,8 @@ each_sprig P [] each = tt
 each_sprig P (x ∷ sprigs) each = (each 0 x refl, each_sprig P sprigs (λ k sprig at. each (suc k) sprig at))
 
 -- what holds of the entries of each sprig holds of all entries
-pub each_among : (P : Entry → Type 0) (sprigs : List SprigState) → ((k : ℕ) (sprig : SprigState) → slice_get sprigs k ≡ Some sprig → AllByRecursion P sprig.entries) → AllByRecursion P (all_entries sprigs)
+pub each_among : (P : Entry → Type 0) (sprigs : List SprigState) → ((k : ℕ) (sprig : SprigState) → slice_get sprigs k ≡ Some sprig → AllByRecursion P sprig.entries)
+    → AllByRecursion P (all_entries sprigs)
 each_among P [] each = tt
 each_among P (x ∷ sprigs) each = all_joined P x.entries (all_entries sprigs) (each 0 x refl) (each_among P sprigs (λ k sprig at. each (suc k) sprig at))
 

@@ -25,7 +25,8 @@ module _ (copies : List Copy) where
   apart digest [] all = tt
   apart digest (e ∷ names) all = by (cold_copy e copies) refl (apart digest names all.1)
     where
-      by : (o : Option Copy) → cold_copy e copies ≡ o → AllByRecursion (λ c. same_digest digest c.digest ≡ false) (found_for names) → AllByRecursion (λ c. same_digest digest c.digest ≡ false) (cons_option o (found_for names))
+      by : (o : Option Copy) → cold_copy e copies ≡ o → AllByRecursion (λ c. same_digest digest c.digest ≡ false) (found_for names)
+          → AllByRecursion (λ c. same_digest digest c.digest ≡ false) (cons_option o (found_for names))
       by None is rest = rest
       by (Some c) is rest = (ap (same_digest digest) (sym (same_digest_is e c.digest (chosen_there e copies c is).1)) ∙ ap is_eq all.0, rest)
 
@@ -34,9 +35,14 @@ module _ (copies : List Copy) where
   once_of [] order = tt
   once_of (d ∷ names) order = by (cold_copy d copies) refl (once_of names order.1)
     where
-      by : (o : Option Copy) → cold_copy d copies ≡ o → IsDistinct (λ c e. same_digest c.digest e.digest) (found_for names) → IsDistinct (λ c e. same_digest c.digest e.digest) (cons_option o (found_for names))
+      by : (o : Option Copy) → cold_copy d copies ≡ o → IsDistinct (λ c e. same_digest c.digest e.digest) (found_for names)
+          → IsDistinct (λ c e. same_digest c.digest e.digest) (cons_option o (found_for names))
       by None is rest = rest
-      by (Some c) is rest = (subst (λ (x : Digest). AllByRecursion (λ e. same_digest x e.digest ≡ false) (found_for names)) (same_digest_is d c.digest (chosen_there d copies c is).1) (apart d names order.0), rest)
+      by (Some c) is rest = (
+        subst (λ (x : Digest). AllByRecursion (λ e. same_digest x e.digest ≡ false) (found_for names)) (same_digest_is d c.digest (chosen_there d copies c is).1)
+            (apart d names order.0),
+        rest,
+      )
 
   pub found_once : IsDistinct (λ c d. same_digest c.digest d.digest) (cold_copies copies)
   found_once = once_of (names_of_copies copies) (names_order copies)

@@ -45,7 +45,8 @@ abbrev pub shown : Result Version ReadRefusal → Result (Option Version) ReadRe
 shown (Ok v) = Ok (Some v)
 shown (Err refusal) = Err refusal
 
-module _ {D : Type 0} (view : D → DiskView) (setup : Setup) (digest : Digest) (sprig : SprigState) (old new : ShelfView D) (s : State) (now : ℕ) (stand : StandTogether setup (part_of setup digest) sprig old s) where
+module _ {D : Type 0} (view : D → DiskView) (setup : Setup) (digest : Digest) (sprig : SprigState) (old new : ShelfView D) (s : State) (now : ℕ)
+    (stand : StandTogether setup (part_of setup digest) sprig old s) where
   abbrev part : ℕ
   part = part_of setup digest
 
@@ -57,7 +58,14 @@ module _ {D : Type 0} (view : D → DiskView) (setup : Setup) (digest : Digest) 
       (goes_none view setup old s has_now stand.shelf_stands.stands) (may false) (λ honest safe. may true) stand
     where
       unseen : (told : Bool) → device.seen s now digest ≡ None
-          → Allowed setup told s (record { call = get_call digest now; answer = found_version None; steps = []; faults_before = (view old.disk).faults; faults_after = (view old.disk).faults }) (get_call digest now)
+          → Allowed setup told s (record {
+            call = get_call digest now;
+            answer = found_version None;
+            steps = [];
+            faults_before = (view old.disk).faults;
+            faults_after =
+                (view old.disk).faults;
+          }) (get_call digest now)
       unseen told nothing = inl (None, refl, refl, subst (λ (o : Option Version). Reads told o None) (sym nothing) refl)
 
   module _ (e : Entry) (is : SeenIs s now digest sprig.entries e) (result : Result Version ReadRefusal) (same : new ≡ record old { disk = new.disk })
@@ -85,7 +93,8 @@ module _ {D : Type 0} (view : D → DiskView) (setup : Setup) (digest : Digest) 
           sprig_stands = stand.sprig_stands;
           shelf_stands = record {
             stands = subst (λ (x : ShelfView D). StandsFor setup x s) (sym same) (stands_over setup old new.disk s stand.shelf_stands.stands);
-            queue = subst (λ (x : ShelfView D). BooksStand setup x s) (sym same) (record { same = stand.shelf_stands.queue.same; all = stand.shelf_stands.queue.all; raid = stand.shelf_stands.queue.raid });
+            queue = subst (λ (x : ShelfView D). BooksStand setup x s) (sym same)
+                (record { same = stand.shelf_stands.queue.same; all = stand.shelf_stands.queue.all; raid = stand.shelf_stands.queue.raid });
           };
         })
 
@@ -119,7 +128,8 @@ shown_got e bytes (Ok v) is = is
 shown_got e bytes (Err refusal) is = is
 
 -- a client's buffer has what was put
-pub shown_is : (o : Option Version) (v : Version) (stream : Stream) (Q : ReadRefusal → Type 0) (r : Result Version ReadRefusal) → stream ≡ Client → o ≡ Some v → MatchResult r (IsCopyIn stream v) Q → MatchResult (shown r) (λ found. found ≡ o) Q
+pub shown_is : (o : Option Version) (v : Version) (stream : Stream) (Q : ReadRefusal → Type 0) (r : Result Version ReadRefusal) → stream ≡ Client → o ≡ Some v
+    → MatchResult r (IsCopyIn stream v) Q → MatchResult (shown r) (λ found. found ≡ o) Q
 shown_is o v Client Q (Ok w) client some is = ap Some is ∙ sym some
 shown_is o v Defrag Q (Ok w) client some is = absurd cc
 shown_is o v stream Q (Err refusal) client some q = q

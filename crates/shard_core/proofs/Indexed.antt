@@ -64,9 +64,11 @@ module _ (own chosen : List Copy) (are : AreChosen own chosen) where
   module _ (setup : Setup) (part : ℕ) where
     -- a copy has a latest of its digest, which isn't earlier
     no_later : (c : Copy) → Contains own c → part_of setup c.digest ≡ part → c.version.stamp.lut ≤ copies_high setup part chosen
-    no_later c there mine = by (cold_copy c.digest own) refl (filter_there (λ (x : Copy). same_digest c.digest x.digest) own c (same_digest_refl c.digest) there) (latest_is (copies_named c.digest own))
+    no_later c there mine = by (cold_copy c.digest own) refl (filter_there (λ (x : Copy). same_digest c.digest x.digest) own c (same_digest_refl c.digest) there)
+        (latest_is (copies_named c.digest own))
       where
-        by : (o : Option Copy) → cold_copy c.digest own ≡ o → Contains (copies_named c.digest own) c → IfSome (cold_copy c.digest own) (IsNewest (copies_named c.digest own)) → c.version.stamp.lut ≤ copies_high setup part chosen
+        by : (o : Option Copy) → cold_copy c.digest own ≡ o → Contains (copies_named c.digest own) c → IfSome (cold_copy c.digest own) (IsNewest (copies_named c.digest own))
+            → c.version.stamp.lut ≤ copies_high setup part chosen
         by None is named newest = absurd (no_copy (copies_named c.digest own) c named is)
         by (Some x) is named newest =
             let last = (subst (λ (o : Option Copy). IfSome o (IsNewest (copies_named c.digest own))) is newest).last in
@@ -77,8 +79,10 @@ module _ (own chosen : List Copy) (are : AreChosen own chosen) where
     high_same : copies_high setup part chosen ≡ copies_high setup part own
     high_same =
         let up = high_within setup part (copies_high setup part own) chosen
-        (all_map (λ c. cold_copy c.digest own ≡ Some c) (λ c. part_of setup c.digest ≡ part → c.version.stamp.lut ≤ copies_high setup part own) chosen (λ c is mine. time_of_copy setup part own c (chosen_there c.digest own c is).0 mine) are.each) in
-        let down = high_within setup part (copies_high setup part chosen) own (all_from (λ c. part_of setup c.digest ≡ part → c.version.stamp.lut ≤ copies_high setup part chosen) own (λ c there mine. no_later c there mine)) in
+        (all_map (λ c. cold_copy c.digest own ≡ Some c) (λ c. part_of setup c.digest ≡ part → c.version.stamp.lut ≤ copies_high setup part own) chosen
+        (λ c is mine. time_of_copy setup part own c (chosen_there c.digest own c is).0 mine) are.each) in
+        let down = high_within setup part (copies_high setup part chosen) own
+        (all_from (λ c. part_of setup c.digest ≡ part → c.version.stamp.lut ≤ copies_high setup part chosen) own (λ c there mine. no_later c there mine)) in
         omega (arith, up, down)
 
     latest_same : (sprig : SprigState) → HasLatest setup part chosen sprig → HasLatest setup part own sprig
@@ -89,15 +93,19 @@ module _ (own chosen : List Copy) (are : AreChosen own chosen) where
     }
 
 -- they belong to the device
-chosen_own : (setup : Setup) (copies chosen : List Copy) → AllByRecursion (λ c. cold_copy c.digest (own_copies setup.device setup.devices copies) ≡ Some c) chosen → own_copies setup.device setup.devices chosen ≡ chosen
+chosen_own : (setup : Setup) (copies chosen : List Copy) → AllByRecursion (λ c. cold_copy c.digest (own_copies setup.device setup.devices copies) ≡ Some c) chosen
+    → own_copies setup.device setup.devices chosen ≡ chosen
 chosen_own setup copies chosen each =
     all_own setup chosen (all_map (λ c. cold_copy c.digest (own_copies setup.device setup.devices copies) ≡ Some c) (λ c. device_number setup.devices c.digest ≡ setup.device) chosen
-    (λ c is. eqb-true _ _ (filter_from (λ (x : Copy). device_number setup.devices x.digest == setup.device) copies c (chosen_there c.digest (own_copies setup.device setup.devices copies) c is).0).1) each)
+    (λ c is. eqb-true _ _ (filter_from (λ (x : Copy). device_number setup.devices x.digest == setup.device) copies c
+    (chosen_there c.digest (own_copies setup.device setup.devices copies) c is).0).1) each)
 
-pub chosen_latest : (setup : Setup) (copies chosen : List Copy) (sprigs : List SprigState) → AreChosen (own_copies setup.device setup.devices copies) chosen → AreLatest setup chosen sprigs → AreLatest setup copies sprigs
+pub chosen_latest : (setup : Setup) (copies chosen : List Copy) (sprigs : List SprigState) → AreChosen (own_copies setup.device setup.devices copies) chosen → AreLatest setup chosen sprigs
+    → AreLatest setup copies sprigs
 chosen_latest setup copies chosen sprigs are latest = record {
   parts = latest.parts;
-  each = λ part sprig at. latest_same (own_copies setup.device setup.devices copies) chosen are setup part sprig (subst (λ (l : List Copy). HasLatest setup part l sprig) (chosen_own setup copies chosen are.each) (latest.each part sprig at));
+  each = λ part sprig at. latest_same (own_copies setup.device setup.devices copies) chosen are setup part sprig
+      (subst (λ (l : List Copy). HasLatest setup part l sprig) (chosen_own setup copies chosen are.each) (latest.each part sprig at));
 }
 
 -- ---- the copies of a map
@@ -127,7 +135,8 @@ chosen_each : (own : List Copy) (es : List (Digest × Kept)) (all : AllByRecursi
 chosen_each own [] all = tt
 chosen_each own (e ∷ es) all = (ap (λ (d : Digest). cold_copy d own) (sym (key_is own e all.0)) ∙ all.0.1, chosen_each own es all.1)
 
-chosen_at : (own : List Copy) (es : List (Digest × Kept)) (all : AllByRecursion (IsOne own) es) (i : ℕ) (e : Digest × Kept) → slice_get es i ≡ Some e → (c : Copy) × Contains (chosen_of own es all) c × (cold_copy e.0 own ≡ Some c)
+chosen_at : (own : List Copy) (es : List (Digest × Kept)) (all : AllByRecursion (IsOne own) es) (i : ℕ) (e : Digest × Kept) → slice_get es i ≡ Some e → (c : Copy)
+    × Contains (chosen_of own es all) c × (cold_copy e.0 own ≡ Some c)
 chosen_at own [] all i e at = absurd cc
 chosen_at own (x ∷ es) all zero e at =
     let same : x ≡ e = cc in
@@ -160,7 +169,8 @@ module _ (g : Geometry) (copies : List Copy) (m : BTreeMap Digest Kept) (has : H
 -- ---- one after another
 
 -- a key comes after all keys before it
-pub key_apart : (ys : List (Digest × Kept)) (e : Digest × Kept) (zs : List (Digest × Kept)) → IsDistinct (eq_by_cmp digest_cmp) (keys_of (ys ++ e ∷ zs)) → AllByRecursion (λ y. same_digest e.0 y.0 ≡ false) ys
+pub key_apart : (ys : List (Digest × Kept)) (e : Digest × Kept) (zs : List (Digest × Kept)) → IsDistinct (eq_by_cmp digest_cmp) (keys_of (ys ++ e ∷ zs))
+    → AllByRecursion (λ y. same_digest e.0 y.0 ≡ false) ys
 key_apart [] e zs apart = tt
 key_apart (y ∷ ys) e zs apart = (
   same_turned e.0 y.0 ∙ at_key ys (IsDistinct-head (eq_by_cmp digest_cmp) y.0 (keys_of (ys ++ e ∷ zs)) apart),
@@ -172,11 +182,13 @@ key_apart (y ∷ ys) e zs apart = (
     at_key (x ∷ xs) all = at_key xs all.1
 
 -- no copy before it is of its digest
-chosen_apart : (own : List Copy) (d : Digest) (es : List (Digest × Kept)) (all : AllByRecursion (IsOne own) es) → AllByRecursion (λ y. same_digest d y.0 ≡ false) es → AllByRecursion (λ c. same_digest d c.digest ≡ false) (chosen_of own es all)
+chosen_apart : (own : List Copy) (d : Digest) (es : List (Digest × Kept)) (all : AllByRecursion (IsOne own) es) → AllByRecursion (λ y. same_digest d y.0 ≡ false) es
+    → AllByRecursion (λ c. same_digest d c.digest ≡ false) (chosen_of own es all)
 chosen_apart own d [] all apart = tt
 chosen_apart own d (e ∷ es) all apart = (ap (same_digest d) (sym (key_is own e all.0)) ∙ apart.0, chosen_apart own d es all.1 apart.1)
 
-none_held : (setup : Setup) (copies : List Copy) (sprigs : List SprigState) (d : Digest) → AreLatest setup copies sprigs → AllByRecursion (λ c. same_digest d c.digest ≡ false) copies → held setup d sprigs ≡ None
+none_held : (setup : Setup) (copies : List Copy) (sprigs : List SprigState) (d : Digest) → AreLatest setup copies sprigs → AllByRecursion (λ c. same_digest d c.digest ≡ false) copies
+    → held setup d sprigs ≡ None
 none_held setup copies sprigs d latest apart = by (slice_get sprigs (part_of setup d)) refl
   where
     own : List Copy
@@ -196,7 +208,8 @@ none_held setup copies sprigs d latest apart = by (slice_get sprigs (part_of set
     by : (o : Option SprigState) → slice_get sprigs (part_of setup d) ≡ o → entry_in d o ≡ None
     by None at = refl
     by (Some s) at =
-        (latest.each (part_of setup d) s at).shown d ∙ none_in (part_of setup d == part_of setup d) (option_map entry_for (cold_copy d (own_copies setup.device setup.devices copies))) (none_of (cold_copy d (own_copies setup.device setup.devices copies)) refl)
+        (latest.each (part_of setup d) s at).shown d ∙ none_in (part_of setup d == part_of setup d) (option_map entry_for (cold_copy d (own_copies setup.device setup.devices copies)))
+        (none_of (cold_copy d (own_copies setup.device setup.devices copies)) refl)
 
 -- the sprigs have the copies of these entries of a map
 abbrev pub HaveThese : Setup → List Copy → List (Digest × Kept) → List SprigState → Type 0
@@ -207,12 +220,14 @@ all_push : (own : List Copy) (es : List (Digest × Kept)) (e : Digest × Kept) �
 all_push own [] e all one = (one, tt)
 all_push own (x ∷ es) e all one = (all.0, all_push own es e all.1 one)
 
-chosen_push : (own : List Copy) (es : List (Digest × Kept)) (e : Digest × Kept) (all : AllByRecursion (IsOne own) es) (one : IsOne own e) → chosen_of own (es ++ e ∷ []) (all_push own es e all one) ≡ chosen_of own es all ++ one.0 ∷ []
+chosen_push : (own : List Copy) (es : List (Digest × Kept)) (e : Digest × Kept) (all : AllByRecursion (IsOne own) es) (one : IsOne own e)
+    → chosen_of own (es ++ e ∷ []) (all_push own es e all one) ≡ chosen_of own es all ++ one.0 ∷ []
 unfolding all_push
 chosen_push own [] e all one = refl
 chosen_push own (x ∷ es) e all one = ap (λ (l : List Copy). all.0.0 ∷ l) (chosen_push own es e all.1 one)
 
-pub these_more : (setup : Setup) (own : List Copy) (es : List (Digest × Kept)) (e : Digest × Kept) (old new : List SprigState) → HaveThese setup own es old → IsOne own e → KeepsOne setup (entry_kept e.1) old new → HaveThese setup own (es ++ e ∷ []) new
+pub these_more : (setup : Setup) (own : List Copy) (es : List (Digest × Kept)) (e : Digest × Kept) (old new : List SprigState) → HaveThese setup own es old → IsOne own e
+    → KeepsOne setup (entry_kept e.1) old new → HaveThese setup own (es ++ e ∷ []) new
 these_more setup own es e old new these one keeps = (
   all_push own es e these.0 one,
   subst (λ (l : List Copy). AreLatest setup l new) (sym (chosen_push own es e these.0 one))
@@ -220,7 +235,8 @@ these_more setup own es e old new these one keeps = (
 )
 
 -- its digest has none yet
-pub these_none : (setup : Setup) (own : List Copy) (es : List (Digest × Kept)) (e : Digest × Kept) (sprigs : List SprigState) → HaveThese setup own es sprigs → IsOne own e → AllByRecursion (λ y. same_digest e.0 y.0 ≡ false) es
+pub these_none : (setup : Setup) (own : List Copy) (es : List (Digest × Kept)) (e : Digest × Kept) (sprigs : List SprigState) → HaveThese setup own es sprigs → IsOne own e
+    → AllByRecursion (λ y. same_digest e.0 y.0 ≡ false) es
     → held setup e.1.head.digest sprigs ≡ None
 these_none setup own es e sprigs these one apart =
     let named : e.1.head.digest ≡ e.0 = ap (λ (k : Kept). k.head.digest) (sym one.2) ∙ sym (key_is own e one) in
@@ -249,9 +265,11 @@ module _ (g : Geometry) (copies : List Copy) (m : BTreeMap Digest Kept) (has : H
       key_apart ys e zs (subst (λ (l : List (Digest × Kept)). IsDistinct (eq_by_cmp digest_cmp) (keys_of l)) (sym splits) (IsDistinct-from_sorted digest_cmp (keys_of m.entries) has.ordered))
 
   -- the sprigs that have all entries of the map have the latest of all copies
-  pub these_all : (setup : Setup) → setup.device ≡ g.device → setup.devices ≡ g.devices → (es : List (Digest × Kept)) (sprigs : List SprigState) → es ≡ m.entries → HaveThese setup (own_copies g.device g.devices copies) es sprigs
+  pub these_all : (setup : Setup) → setup.device ≡ g.device → setup.devices ≡ g.devices → (es : List (Digest × Kept)) (sprigs : List SprigState) → es ≡ m.entries
+      → HaveThese setup (own_copies g.device g.devices copies) es sprigs
       → AreLatest setup copies sprigs
   these_all setup device devices es sprigs whole these =
       let all = subst (λ (l : List (Digest × Kept)). HaveThese setup (own_copies g.device g.devices copies) l sprigs) whole these in
       chosen_latest setup copies (chosen_of (own_copies g.device g.devices copies) m.entries all.0) sprigs
-      (subst (λ (l : List Copy). AreChosen l (chosen_of (own_copies g.device g.devices copies) m.entries all.0)) (λ i. own_copies (sym device i) (sym devices i) copies) (are_chosen g copies m has all.0)) all.1
+      (subst (λ (l : List Copy). AreChosen l (chosen_of (own_copies g.device g.devices copies) m.entries all.0)) (λ i. own_copies (sym device i) (sym devices i) copies)
+      (are_chosen g copies m has all.0)) all.1

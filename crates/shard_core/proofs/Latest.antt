@@ -49,11 +49,13 @@ module _ (setup : Setup) (copies : List Copy) (c : Copy) (old new : List SprigSt
   latest_one = by (device_number setup.devices c.digest == setup.device) own_more keeps
     where
       by : (b : Bool) → own_copies setup.device setup.devices (copies ++ c ∷ []) ≡ own ++ cond b (c ∷ []) []
-          → MatchBool b ((before : SprigState) × (after : SprigState) × (slice_get old (part_of setup c.digest) ≡ Some before) × TakesLater (entry_for c) before after × (new ≡ set old (part_of setup c.digest) after)) (new ≡ old)
+          → MatchBool b ((before : SprigState) × (after : SprigState) × (slice_get old (part_of setup c.digest) ≡ Some before) × TakesLater (entry_for c) before after
+          × (new ≡ set old (part_of setup c.digest) after)) (new ≡ old)
           → AreLatest setup (copies ++ c ∷ []) new
       by true more takes = record {
         parts = ap length takes.4 ∙ length-set old (part_of setup c.digest) takes.1 ∙ latest.parts;
-        each = subst (λ (l : List Copy). AllHaveLatest setup l new) (sym more) (subst (AllHaveLatest setup (own ++ c ∷ [])) (sym takes.4) (all_take setup own c old takes.0 takes.1 takes.2 takes.3 latest.each));
+        each = subst (λ (l : List Copy). AllHaveLatest setup l new) (sym more)
+            (subst (AllHaveLatest setup (own ++ c ∷ [])) (sym takes.4) (all_take setup own c old takes.0 takes.1 takes.2 takes.3 latest.each));
       }
       by false more same = record {
         parts = ap length same ∙ latest.parts;

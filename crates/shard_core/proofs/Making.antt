@@ -107,7 +107,8 @@ module _ {D : Type 0} (view : D → DiskView) (part : ℕ) (old new : ShardView 
       behind = after_event (setup_of old) made.event s
 
 -- So is one over the sprig of a digest's part.
-module _ {D : Type 0} (view : D → DiskView) (digest : Digest) (old new : ShardView D) (k : ℕ) (before after : SprigState) (shape : SameSetup old new) (place : k ≡ part_of (setup_of old) digest) (there : k < length old.sprigs)
+module _ {D : Type 0} (view : D → DiskView) (digest : Digest) (old new : ShardView D) (k : ℕ) (before after : SprigState) (shape : SameSetup old new)
+    (place : k ≡ part_of (setup_of old) digest) (there : k < length old.sprigs)
     (at : before ≡ get_or old.sprigs k before) (becomes : new.sprigs ≡ set old.sprigs k after) where
   abbrev pub part : ℕ
   part = part_of (setup_of old) digest
@@ -126,7 +127,8 @@ module _ {D : Type 0} (view : D → DiskView) (digest : Digest) (old new : Shard
   lifted call answer names named s agrees made = part_lifted view part old new k before after shape place there at becomes call answer names named s agrees made
 
 -- What the shelf alone makes of itself is a call of the shard that names no part.
-abbrev pub shelf_lifted : {D : Type 0} (view : D → DiskView) (old new : ShardView D) → SameSetup old new → new.sprigs ≡ old.sprigs → (call : Call) (answer : Answer) → NamesOwn (setup_of old) call → part_named (setup_of old) call ≡ None
+abbrev pub shelf_lifted : {D : Type 0} (view : D → DiskView) (old new : ShardView D) → SameSetup old new → new.sprigs ≡ old.sprigs → (call : Call) (answer : Answer)
+    → NamesOwn (setup_of old) call → part_named (setup_of old) call ≡ None
     → (s : State) → Agrees old s → MakesEvent view (setup_of old) call answer old.shelf s new.shelf (StandOn (setup_of old) new.shelf s) → Makes view call answer old s new
 shelf_lifted view old new shape sprigs call answer names named s agrees made =
     let behind = after_event (setup_of old) made.event s in
@@ -139,7 +141,8 @@ shelf_lifted view old new shape sprigs call answer names named s agrees made =
       counted = made.counted;
       stands = record {
         sprigs = subst (λ (x : Setup). FitsParts x new.sprigs behind) (setup_same old new shape) (subst (λ (l : List SprigState). FitsParts (setup_of old) l behind) (sym sprigs)
-            (parts_fit_on (setup_of old) false s made.event old.sprigs made.follows.allowed (subst (NamesOwn (setup_of old)) (sym made.is_call) names) agrees.sprigs (ap (part_named (setup_of old)) made.is_call ∙ named)));
+            (parts_fit_on (setup_of old) false s made.event old.sprigs made.follows.allowed (subst (NamesOwn (setup_of old)) (sym made.is_call) names) agrees.sprigs
+            (ap (part_named (setup_of old)) made.is_call ∙ named)));
         times = subst (AllByRecursion HasTimes) (sym sprigs) agrees.times;
         shelf = shelf_over old new shape behind made.stands.shelf_stands;
       };
@@ -161,9 +164,11 @@ module _ {D : Type 0} (view : D → DiskView) (old new : ShardView D) (s : State
       → Makes view call (flush_answer result) old s new
   makes_flush result call first steps first_flushing flushes rose names none allowed goes =
       let event : Event = event_of view (setup_of old) old.shelf new.shelf s call (flush_answer result) (first ++ steps) in
-      let may = λ (told : Bool). allowed event told (flush_ends result call (view old.shelf.disk).faults (view new.shelf.disk).faults first (flush_all (after_steps (setup_of old) first s).book) steps flushes rose) in
+      let may = λ (told : Bool). allowed event told (flush_ends result call (view old.shelf.disk).faults (view new.shelf.disk).faults first
+      (flush_all (after_steps (setup_of old) first s).book) steps flushes rose) in
       makes_by view (setup_of old) old.shelf new.shelf s call (flush_answer result) (first ++ steps) (Agrees new) up goes (may false) (λ honest safe. may true) (record {
-        sprigs = subst (λ (x : Setup). FitsParts x new.sprigs (after_event (setup_of old) event s)) (setup_same old new shape) (subst (λ (l : List SprigState). FitsParts (setup_of old) l (after_event (setup_of old) event s)) (sym sprigs)
+        sprigs = subst (λ (x : Setup). FitsParts x new.sprigs (after_event (setup_of old) event s)) (setup_same old new shape)
+            (subst (λ (l : List SprigState). FitsParts (setup_of old) l (after_event (setup_of old) event s)) (sym sprigs)
             (parts_fit_on (setup_of old) false s event old.sprigs (may false) names agrees.sprigs none));
         times = subst (AllByRecursion HasTimes) (sym sprigs) agrees.times;
         shelf = shelf_over old new shape (after_steps (setup_of old) (first ++ steps) s) (record { stands = goes.stands; queue = goes.queued agrees.shelf.queue });

@@ -5,7 +5,8 @@ use Rattle.rec_format.specs.declared.version.Digest.{Digest}
 use Rattle.rec_format.specs.declared.version.Version.{Version}
 use Rattle.rec_format.specs.Places.{same_digest}
 use Rattle.rec_format.specs.Versions.{version_units}
-use Rattle.model_device.specs.Book.{Setup, Book, Buffer, Live, client, is_filling, same_stream, filling_buffer, has_room, with_new_buffer, with_room, used_more, put_in, placed, refreshed, placing_number, live_of, without_live}
+use Rattle.model_device.specs.Book.{Setup, Book, Buffer, Live, client, is_filling, same_stream, filling_buffer, has_room, with_new_buffer, with_room, used_more}
+use Rattle.model_device.specs.Book.{put_in, placed, refreshed, placing_number, live_of, without_live}
 use Rattle.model_device.specs.Device.{State}
 use Rattle.model_device.specs.Steps.{wrote, after_step}
 use Rattle.rec_format.proofs.Laws.{same_digest_refl}
@@ -35,7 +36,8 @@ used_found : (n units : ℕ) (bs : List Buffer) (b : Buffer) → filling_buffer 
 used_found n units [] b found = absurd (cc)
 used_found n units (x ∷ xs) b found = by (takes x) refl found (used_found n units xs b)
   where
-    by : (c : Bool) → takes x ≡ c → cond c (Some x) (filling_buffer client xs) ≡ Some b → (filling_buffer client xs ≡ Some b → filling_buffer client (map (used_more n units) xs) ≡ Some (used_more n units b))
+    by : (c : Bool) → takes x ≡ c → cond c (Some x) (filling_buffer client xs) ≡ Some b
+        → (filling_buffer client xs ≡ Some b → filling_buffer client (map (used_more n units) xs) ≡ Some (used_more n units b))
         → filling_buffer client (map (used_more n units) (x ∷ xs)) ≡ Some (used_more n units b)
     by true is here rest =
         let same : x ≡ b = cc in

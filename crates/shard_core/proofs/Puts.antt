@@ -54,7 +54,8 @@ fine (Some e) high now stamp timed is =
     let top : (wanted_stamp (Some e.stamp) high now).lut ≤ top_number = leb-true _ _ given.0 in
     subst IsFine given.1 (by (nat_lt e.stamp.gen_ 65535) (ltb-true e.stamp.gen_ 65535) top)
   where
-    by : (c : Bool) → (c ≡ true → e.stamp.gen_ < 65535) → (let w : Stamp = cond c (record { lut = max now e.stamp.lut; gen_ = e.stamp.gen_ + 1 }) (record { lut = max now (e.stamp.lut + 1); gen_ = 1 }) in w.lut) ≤ top_number
+    by : (c : Bool) → (c ≡ true → e.stamp.gen_ < 65535)
+        → (let w : Stamp = cond c (record { lut = max now e.stamp.lut; gen_ = e.stamp.gen_ + 1 }) (record { lut = max now (e.stamp.lut + 1); gen_ = 1 }) in w.lut) ≤ top_number
         → IsFine (cond c (record { lut = max now e.stamp.lut; gen_ = e.stamp.gen_ + 1 }) (record { lut = max now (e.stamp.lut + 1); gen_ = 1 }))
     by true small top = let lt : e.stamp.gen_ < 65535 = small refl in record { time = (omega arith, top); generation = (omega arith, omega arith) }
     by false small top = record { time = (omega arith, top); generation = (omega arith, omega arith) }
@@ -108,10 +109,12 @@ module _ (setup : Setup) (digest : Digest) (sprig : SprigState) (s : State) (sta
     fits_in capacity same le = le-ltb setup.capacity units (subst (λ (n : ℕ). units ≤ n) same le)
 
     -- what stands against it before it is written
-    pub unfit_refusal : (capacity : ℕ) → capacity ≡ setup.capacity → (refusal : WriteRefusal) → IsUnfit (length payload) capacity expect generation refusal → put_refusal setup s digest expect payload now ≡ Some (cause_of_write refusal)
+    pub unfit_refusal : (capacity : ℕ) → capacity ≡ setup.capacity → (refusal : WriteRefusal) → IsUnfit (length payload) capacity expect generation refusal
+        → put_refusal setup s digest expect payload now ≡ Some (cause_of_write refusal)
     unfit_refusal capacity same (write.Big n most) is =
         refusal_is _ refl
-        ∙ ap (λ (b : Bool). refusal_of b generation (new_stamp (stamp_found found) sprig.hw now)) (lt-ltb setup.capacity units (subst (λ (k : ℕ). k < units) same (subst (λ (k : ℕ). capacity < k) is.0 is.2)))
+        ∙ ap (λ (b : Bool). refusal_of b generation (new_stamp (stamp_found found) sprig.hw now))
+        (lt-ltb setup.capacity units (subst (λ (k : ℕ). k < units) same (subst (λ (k : ℕ). capacity < k) is.0 is.2)))
         ∙ ap (λ (k : ℕ). Some (too_big k setup.capacity)) (sym is.0) ∙ ap (λ (k : ℕ). Some (too_big n k)) (sym (is.1 ∙ same))
     unfit_refusal capacity same (write.Gen g) is =
         refusal_is _ refl
@@ -138,7 +141,8 @@ module _ (setup : Setup) (digest : Digest) (sprig : SprigState) (s : State) (sta
         version = a_put stamp (void_time ttl now) (cover_of found) payload
 
         version_is : new_put setup s digest ttl payload now ≡ version
-        version_is = new_put_is setup (part_of setup digest) sprig s stands.fits.entries digest refl ttl payload now ∙ ap (λ (o : Option Stamp). a_put (the_stamp o) (void_time ttl now) (cover_of found) payload) given
+        version_is = new_put_is setup (part_of setup digest) sprig s stands.fits.entries digest refl ttl payload now
+            ∙ ap (λ (o : Option Stamp). a_put (the_stamp o) (void_time ttl now) (cover_of found) payload) given
 
         shelf_refusal : put_refusal setup s digest expect payload now ≡ append_refusal setup class.Put units s.book
         shelf_refusal = fit_refusal (Some stamp) given ∙ sym (ap (λ (b : Bool). first_cause (big_if b) (no_place setup client put_reserve units s.book)) (fits_in capacity same fit.units))
@@ -162,7 +166,8 @@ module _ (setup : Setup) (digest : Digest) (sprig : SprigState) (s : State) (sta
   -- ---- a tombstone
 
   module _ (call : Call) (ok : Stamp → Answer) (entombs : IsEntombing setup s call digest now ok) where
-    pub spent_entombs : (event : Event) (told : Bool) → event.call ≡ call → event.answer ≡ refused spent → event.steps ≡ [] → new_stamp (stamp_found found) sprig.hw now ≡ None → Allowed setup told s event call
+    pub spent_entombs : (event : Event) (told : Bool) → event.call ≡ call → event.answer ≡ refused spent → event.steps ≡ [] → new_stamp (stamp_found found) sprig.hw now ≡ None
+        → Allowed setup told s event call
     spent_entombs event told is answer none given = entombs told event is (inr (subst Spends (sym (next_is None given)) (answer, none)))
       where
         Spends : Option Stamp → Type 0
@@ -194,7 +199,8 @@ module _ (setup : Setup) (s : State) (told : Bool) (digest : Digest) (ttl : ℕ)
   abbrev WritesSo : Option Cause → Type 0
   WritesSo o = NoMemory event ⊎ Unless event o (let v = new_put setup s digest ttl payload now in WriteEnds setup s event digest v (stamp_given v.stamp))
 
-  pub stands_against : (cause : Cause) → event.answer ≡ refused cause → event.steps ≡ [] → put_refusal setup s digest expect payload now ≡ Some cause → Allowed setup told s event (put_call digest ttl expect payload now)
+  pub stands_against : (cause : Cause) → event.answer ≡ refused cause → event.steps ≡ [] → put_refusal setup s digest expect payload now ≡ Some cause
+      → Allowed setup told s event (put_call digest ttl expect payload now)
   stands_against cause answer none is = subst WritesSo (sym is) (inr (answer, none))
 
   pub memory_wants : event.answer ≡ refused no_memory → event.steps ≡ [] → Allowed setup told s event (put_call digest ttl expect payload now)
@@ -203,16 +209,19 @@ module _ (setup : Setup) (s : State) (told : Bool) (digest : Digest) (ttl : ℕ)
 -- ---- a call that writes nothing
 
 -- sprig and shelf stay, and the event has no step
-pub makes_nothing : {D : Type 0} (view : D → DiskView) (setup : Setup) (digest : Digest) (sprig : SprigState) (shelf : ShelfView D) (s : State) (call : Call) (answer : Answer) → IsDisk (view shelf.disk)
+pub makes_nothing : {D : Type 0} (view : D → DiskView) (setup : Setup) (digest : Digest) (sprig : SprigState) (shelf : ShelfView D) (s : State) (call : Call) (answer : Answer)
+    → IsDisk (view shelf.disk)
     → StandTogether setup (part_of setup digest) sprig shelf s
     → ((told : Bool) (event : Event) → event.call ≡ call → event.answer ≡ answer → event.steps ≡ [] → Allowed setup told s event call)
     → StepMakes view setup (part_of setup digest) call answer shelf s sprig shelf
 makes_nothing view setup digest sprig shelf s call answer has_now stand may =
-    makes_by view setup shelf shelf s call answer [] (StandTogether setup (part_of setup digest) sprig shelf) (le_refl (view shelf.disk).faults) (goes_none view setup shelf s has_now stand.shelf_stands.stands)
+    makes_by view setup shelf shelf s call answer [] (StandTogether setup (part_of setup digest) sprig shelf) (le_refl (view shelf.disk).faults)
+    (goes_none view setup shelf s has_now stand.shelf_stands.stands)
     (may false _ refl refl refl) (λ honest safe. may true _ refl refl refl) stand
 
 -- a put that doesn't fit leaves everything as it was
-pub unfit_left : {D : Type 0} (sprig : SprigState) (shelf : ShelfView D) (size capacity : ℕ) (expect : Option ℕ) (seen : ℕ) (refusal : WriteRefusal) → IsUnfit size capacity expect seen refusal → IsRefusedStep sprig sprig shelf shelf refusal
+pub unfit_left : {D : Type 0} (sprig : SprigState) (shelf : ShelfView D) (size capacity : ℕ) (expect : Option ℕ) (seen : ℕ) (refusal : WriteRefusal)
+    → IsUnfit size capacity expect seen refusal → IsRefusedStep sprig sprig shelf shelf refusal
 unfit_left sprig shelf size capacity expect seen (write.Big n most) unfit = record { sprig = record { entries = refl; high = refl }; shelf = refl }
 unfit_left sprig shelf size capacity expect seen (write.Gen other) unfit = record { sprig = record { entries = refl; high = refl }; shelf = refl }
 unfit_left sprig shelf size capacity expect seen write.Spent unfit = absurd unfit

@@ -61,10 +61,12 @@ pub possible_then : (p q r : Possible) → SamePossible p q → SamePossible q r
 possible_then p q r first then block digest v = ((λ h. (then block digest v).0 ((first block digest v).0 h)), (λ h. (first block digest v).1 ((then block digest v).1 h)))
 
 -- The book of the raid, and all of a state but its blocks, are aside.
-pub possible_aside : {D : Type 0} (view : D → DiskView) (old new : ShelfView D) (raid : BookState) (s t : State) → new ≡ record old { raid = raid } → t.book ≡ s.book → SamePossible (possible_copies view old s) (possible_copies view new t)
+pub possible_aside : {D : Type 0} (view : D → DiskView) (old new : ShelfView D) (raid : BookState) (s t : State) → new ≡ record old { raid = raid } → t.book ≡ s.book
+    → SamePossible (possible_copies view old s) (possible_copies view new t)
 possible_aside {D} view old new raid s t is same =
     subst (λ (v : ShelfView D). SamePossible (possible_copies view old s) (possible_copies view v t)) (sym is)
-    (subst (λ (b : Book). SamePossible (possible_copies view old s) (possible_in old.geometry b (records_of old.buffers) (loosened old.geometry (gate_at old.gates) (view old.disk).may_leave))) (sym same)
+    (subst (λ (b : Book). SamePossible (possible_copies view old s)
+    (possible_in old.geometry b (records_of old.buffers) (loosened old.geometry (gate_at old.gates) (view old.disk).may_leave))) (sym same)
     (possible_alike (possible_copies view old s)))
 
 -- what is looked for in a block is the same
@@ -138,16 +140,20 @@ next_is shard s next agrees at = sym agrees.shelf.queue.raid.turns.next ∙ ap t
 -- ---- a turn of a part
 
 -- What a turn over the sprig of a part and the shelf, of which the disk is no part, makes of the shard.
-module _ {D : Type 0} (view : D → DiskView) (next : RaidNext) (old new : ShardView D) (part k : ℕ) (before after : SprigState) (shape : SameSetup old new) (place : k ≡ part) (there : k < length old.sprigs)
-    (at : before ≡ get_or old.sprigs k before) (becomes : new.sprigs ≡ set old.sprigs k after) (comes : old.shelf.raid.next ≡ next) (named : turn_part (turn_of next) ≡ Some part) (no_scan : (block : ℕ) → turn_of next ≢ scan_turn block)
+module _ {D : Type 0} (view : D → DiskView) (next : RaidNext) (old new : ShardView D) (part k : ℕ) (before after : SprigState) (shape : SameSetup old new) (place : k ≡ part)
+    (there : k < length old.sprigs)
+    (at : before ≡ get_or old.sprigs k before) (becomes : new.sprigs ≡ set old.sprigs k after) (comes : old.shelf.raid.next ≡ next) (named : turn_part (turn_of next) ≡ Some part)
+    (no_scan : (block : ℕ) → turn_of next ≢ scan_turn block)
     (now : ℕ) (did : RaidDid)
-    (step : (s : State) → StandTogether (setup_of old) part before old.shelf s → StepMakes view (setup_of old) part (turn_call old.shelf.raid.number (turn_of next) now) (did_answer did) old.shelf s after new.shelf) where
+    (step : (s : State) → StandTogether (setup_of old) part before old.shelf s
+    → StepMakes view (setup_of old) part (turn_call old.shelf.raid.number (turn_of next) now) (did_answer did) old.shelf s after new.shelf) where
   pub turn_made : (s : State) → Agrees old s → Makes view (turn_call old.shelf.raid.number (turn_of next) now) (did_answer did) old s new
   turn_made s agrees =
       part_lifted view part old new k before after shape place there at becomes (turn_call old.shelf.raid.number (turn_of next) now) (did_answer did) tt named s agrees
       (step s (part_stands view part old new k before after shape place there at becomes s agrees))
 
-  module _ (is_did : IsDidOf next did) (more : did ≢ Done) (is_disk : IsDisk (view old.shelf.disk)) (disk : new.shelf.disk ≡ old.shelf.disk) (gates : new.shelf.gates ≡ old.shelf.gates) (number : new.shelf.raid.number ≡ old.shelf.raid.number)
+  module _ (is_did : IsDidOf next did) (more : did ≢ Done) (is_disk : IsDisk (view old.shelf.disk)) (disk : new.shelf.disk ≡ old.shelf.disk) (gates : new.shelf.gates ≡ old.shelf.gates)
+      (number : new.shelf.raid.number ≡ old.shelf.raid.number)
       (nearer : turns_left new.shelf.raid < turns_left old.shelf.raid) (few : AreFewEnds (turns_left old.shelf.raid) did)
       (alike : IsNoDrop next → (s t : State) → t.book ≡ s.book → SamePossible (possible_copies view old.shelf s) (possible_copies view new.shelf t)) where
     pub turn_taken : TakesTurn view next now (Ok did) old new
@@ -159,7 +165,8 @@ module _ {D : Type 0} (view : D → DiskView) (next : RaidNext) (old new : Shard
             all = λ sure honest safe. no_scan_all s (possible_copies view old.shelf s) made.event (turn_of next) (next_is old s next agrees comes) no_scan;
             only = λ sure honest safe. no_scan_only s (possible_copies view old.shelf s) made.event (turn_of next) (next_is old s next agrees comes) no_scan;
             alike = λ sure honest safe still. alike still s (after_event (setup_of old) made.event s)
-                (blocks_stay (setup_of old) false s made.event old.shelf.raid.number now next still (subst (λ (c : Call). Allowed (setup_of old) false s made.event c) made.is_call made.follows.allowed));
+                (blocks_stay (setup_of old) false s made.event old.shelf.raid.number now next still
+                (subst (λ (c : Call). Allowed (setup_of old) false s made.event c) made.is_call made.follows.allowed));
           };
       of_turn = tt;
       did = is_did;
@@ -192,7 +199,8 @@ module _ {D : Type 0} (view : D → DiskView) (block now : ℕ) (old new : Shard
   StaysPossible = (s : State) → AreSure old.shelf.gates → IsHonest (view old.shelf.disk) → ShelfStands (setup_of old) old.shelf s → ImagesHold (setup_of old) view old.shelf s
       → SamePossible (possible_copies view old.shelf s) (possible_copies view new.shelf s)
 
-  abbrev pub scan_made : (result : Result ℕ RaidRefusal) → ScansSo result → (s : State) → Agrees old s → Makes view (turn_call old.shelf.raid.number (scan_turn block) now) (scan_answer result) old s new
+  abbrev pub scan_made : (result : Result ℕ RaidRefusal) → ScansSo result → (s : State) → Agrees old s
+      → Makes view (turn_call old.shelf.raid.number (scan_turn block) now) (scan_answer result) old s new
   scan_made result scans s agrees = shelf_lifted view old new shape sprigs (turn_call old.shelf.raid.number (scan_turn block) now) (scan_answer result) tt refl s agrees (scans s agrees.shelf).makes
 
   pub scan_whole : (result : Result ℕ RaidRefusal) → ScansSo result → IsWhole old → new.shelf.limits ≡ old.shelf.limits → IsWhole new
@@ -211,8 +219,10 @@ module _ {D : Type 0} (view : D → DiskView) (block now : ℕ) (old new : Shard
   turns_by : (result : Result ℕ RaidRefusal) (scans : ScansSo result) → StaysPossible → (s : State) (agrees : Agrees old s) → TurnMakes view raid now (scan_did result) old s new
   turns_by (Ok other) scans alike s agrees = record {
     makes = scan_made (Ok other) scans s agrees;
-    all = λ sure honest safe. scans_all_as s (possible_copies view old.shelf s) (possible_copies view new.shelf s) (scan_made (Ok other) scans s agrees).event (alike s sure honest agrees.shelf safe.safe) ((scans s agrees.shelf).finds honest safe.safe);
-    only = λ sure honest safe. scans_only_as s (possible_copies view old.shelf s) (possible_copies view new.shelf s) (scan_made (Ok other) scans s agrees).event (alike s sure honest agrees.shelf safe.safe) ((scans s agrees.shelf).only honest safe.safe);
+    all = λ sure honest safe. scans_all_as s (possible_copies view old.shelf s) (possible_copies view new.shelf s) (scan_made (Ok other) scans s agrees).event
+        (alike s sure honest agrees.shelf safe.safe) ((scans s agrees.shelf).finds honest safe.safe);
+    only = λ sure honest safe. scans_only_as s (possible_copies view old.shelf s) (possible_copies view new.shelf s) (scan_made (Ok other) scans s agrees).event
+        (alike s sure honest agrees.shelf safe.safe) ((scans s agrees.shelf).only honest safe.safe);
     alike = λ sure honest safe still.
         let behind = after_event (setup_of old) (scan_made (Ok other) scans s agrees).event s in
         possible_then (possible_copies view old.shelf s) (possible_copies view new.shelf s) (possible_copies view new.shelf behind) (alike s sure honest agrees.shelf safe.safe)
@@ -220,17 +230,21 @@ module _ {D : Type 0} (view : D → DiskView) (block now : ℕ) (old new : Shard
   }
   turns_by (Err refusal) scans alike s agrees = record {
     makes = scan_made (Err refusal) scans s agrees;
-    all = λ sure honest safe. scans_all_as s (possible_copies view old.shelf s) (possible_copies view new.shelf s) (scan_made (Err refusal) scans s agrees).event (alike s sure honest agrees.shelf safe.safe) ((scans s agrees.shelf).finds honest safe.safe);
-    only = λ sure honest safe. scans_only_as s (possible_copies view old.shelf s) (possible_copies view new.shelf s) (scan_made (Err refusal) scans s agrees).event (alike s sure honest agrees.shelf safe.safe) ((scans s agrees.shelf).only honest safe.safe);
+    all = λ sure honest safe. scans_all_as s (possible_copies view old.shelf s) (possible_copies view new.shelf s) (scan_made (Err refusal) scans s agrees).event
+        (alike s sure honest agrees.shelf safe.safe) ((scans s agrees.shelf).finds honest safe.safe);
+    only = λ sure honest safe. scans_only_as s (possible_copies view old.shelf s) (possible_copies view new.shelf s) (scan_made (Err refusal) scans s agrees).event
+        (alike s sure honest agrees.shelf safe.safe) ((scans s agrees.shelf).only honest safe.safe);
     alike = λ sure honest safe still.
         let behind = after_event (setup_of old) (scan_made (Err refusal) scans s agrees).event s in
         possible_then (possible_copies view old.shelf s) (possible_copies view new.shelf s) (possible_copies view new.shelf behind) (alike s sure honest agrees.shelf safe.safe)
         (possible_aside view new.shelf new.shelf new.shelf.raid s behind refl (stays_behind (Err refusal) scans s agrees));
   }
 
-  module _ (comes : old.shelf.raid.next ≡ Scan block) (alike : StaysPossible) (sure : AreSure old.shelf.gates → new.shelf.gates ≡ old.shelf.gates) (later : IsLater (view old.shelf.disk) (view new.shelf.disk)) (honest : IsHonest (view old.shelf.disk) → IsHonest (view new.shelf.disk)) where
+  module _ (comes : old.shelf.raid.next ≡ Scan block) (alike : StaysPossible) (sure : AreSure old.shelf.gates → new.shelf.gates ≡ old.shelf.gates)
+      (later : IsLater (view old.shelf.disk) (view new.shelf.disk)) (honest : IsHonest (view old.shelf.disk) → IsHonest (view new.shelf.disk)) where
     -- it was scanned
-    pub scan_taken : ScansSo (Ok block) → FitsTurn old.shelf.raid.next old.shelf.raid → new.shelf.raid ≡ with_scan new.shelf.raid.found old.shelf.raid → TakesTurn view (Scan block) now (Ok (Scanned block)) old new
+    pub scan_taken : ScansSo (Ok block) → FitsTurn old.shelf.raid.next old.shelf.raid → new.shelf.raid ≡ with_scan new.shelf.raid.found old.shelf.raid
+        → TakesTurn view (Scan block) now (Ok (Scanned block)) old new
     scan_taken scans fits turned = record {
       makes = turns_by (Ok block) scans alike;
       of_turn = tt;
@@ -355,7 +369,8 @@ module _ {D : Type 0} (view : D → DiskView) (is_disk : (disk : D) → IsDisk (
       turns = agrees.shelf.queue.raid.turns
 
       by : (told b : Bool) → ((raid.number == s.raid.number) && same_turn (turn_of raid.next) s.raid.next) ≡ b
-          → MatchBool b (TurnEnds (setup_of old) told s (alone raid (Err (Stale old.shelf.raid.number old.shelf.raid.next)) s agrees) (turn_of raid.next) now) (Only (alone raid (Err (Stale old.shelf.raid.number old.shelf.raid.next)) s agrees) (refused (stale s.raid.number s.raid.next)))
+          → MatchBool b (TurnEnds (setup_of old) told s (alone raid (Err (Stale old.shelf.raid.number old.shelf.raid.next)) s agrees) (turn_of raid.next) now)
+          (Only (alone raid (Err (Stale old.shelf.raid.number old.shelf.raid.next)) s agrees) (refused (stale s.raid.number s.raid.next)))
       by told true is =
           let parts = and_parts (raid.number == s.raid.number) (same_turn (turn_of raid.next) s.raid.next) is in
           let same = same_turn_is (turn_of raid.next) s.raid.next parts.1 in
@@ -380,7 +395,8 @@ fewer_of p q (e ∷ es) = by (p e) (q e) (sum_by-cons (λ x. cond (p x && q x) 1
     by false false one two less = omega (arith, one, two, less)
 
 -- At the end of a part, of which these entries were counted.
-pub few_ends : {D : Type 0} (view : D → DiskView) (shard : ShardView D) (s : State) (is : IsShelf view shard.shelf) (whole : IsWhole shard) (agrees : Agrees shard s) (part parts number removed cleared : ℕ) (sprig : SprigState)
+pub few_ends : {D : Type 0} (view : D → DiskView) (shard : ShardView D) (s : State) (is : IsShelf view shard.shelf) (whole : IsWhole shard) (agrees : Agrees shard s)
+    (part parts number removed cleared : ℕ) (sprig : SprigState)
     → slice_get shard.sprigs part ≡ Some sprig → shard.shelf.raid.next ≡ Drop part → parts ≡ part_total (setup_of shard) → parts ≤ 2 ^ 20
     → removed ≡ count_by (λ e. is_marked_by number e && is_tomb_entry e) sprig.entries → cleared ≡ count_by (λ e. is_marked_by number e && is_put_entry e) sprig.entries
     → AreFewEnds (turns_left shard.shelf.raid) (Dropped removed cleared)

@@ -16,7 +16,8 @@ before_next : (n next greatest : ℕ) → n ≡ next - 1 → next ≡ greatest +
 before_next n next greatest one more = omega arith
 
 pub is_finding : {D : Type 0} (found : scanned.Finding D) (set : Settings) (bodies : List Body) (new : Finding) → HasFound found bodies → length found.gates.items ≡ found.geometry.blocks
-    → AreLatest (setup_for found.geometry set) (copies_of bodies) new.sprigs.items → new.greatest ≡ found.next_number - 1 → IsFinding found.geometry set found.gates.items found.geometry.blocks bodies new
+    → AreLatest (setup_for found.geometry set) (copies_of bodies) new.sprigs.items → new.greatest ≡ found.next_number - 1
+    → IsFinding found.geometry set found.gates.items found.geometry.blocks bodies new
 is_finding found set bodies new has count latest number =
     let greatest = before_next new.greatest found.next_number (greatest_number bodies) number has.next in
     record {

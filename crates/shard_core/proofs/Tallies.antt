@@ -120,7 +120,11 @@ module _ {D : Type 0} (view : D → DiskView) (shard : ShardView D) (s : State) 
       (omega (arith, puts, few_puts, one), omega (arith, tombs, few_tombstones, two))
 
   -- The tally of a shard tells how many records, tombstones and covered records the state has.
-  pub tally_tells : record { records : (tally_sum shard.sprigs).records ≡ put_count s; tombstones : (tally_sum shard.sprigs).tombstones ≡ tombstone_count s; covered : (tally_sum shard.sprigs).covered ≡ covered_count s }
+  pub tally_tells : record {
+    records : (tally_sum shard.sprigs).records ≡ put_count s;
+    tombstones : (tally_sum shard.sprigs).tombstones ≡ tombstone_count s;
+    covered : (tally_sum shard.sprigs).covered ≡ covered_count s;
+  }
   tally_tells = record {
     records = unturned (put_count s) _ (puts_sum (setup_of shard) shard.sprigs s some_devices some_sprigs agrees.sprigs) few_puts;
     tombstones = unturned (tombstone_count s) _ (tombstones_sum (setup_of shard) shard.sprigs s some_devices some_sprigs agrees.sprigs) few_tombstones;

@@ -31,7 +31,8 @@ module _ {D : Type 0} (view : D → DiskView) (old mid new : ShardView D) (same 
   setup = setup_of old
 
   -- what was due is sealed and flushed, and then a block is vacated where that can gain room
-  pub tends_vacating : (result : Result (Option Vacated) DefragRefusal) → (s : State) → (flushed : MakesAny view flush_sealed_call old s mid) → can_gain (after_event setup flushed.1.event s).book ≡ true
+  pub tends_vacating : (result : Result (Option Vacated) DefragRefusal) → (s : State) → (flushed : MakesAny view flush_sealed_call old s mid)
+      → can_gain (after_event setup flushed.1.event s).book ≡ true
       → ((t : State) → Agrees mid t → MakesEvents view (IsVacating mid t result) mid t new) → MakesEvents view (Tends setup s) old s new
   tends_vacating result s flushed gains vacates =
       let first : Event = flushed.1.event in
@@ -60,13 +61,18 @@ module _ {D : Type 0} (view : D → DiskView) (old mid new : ShardView D) (same 
       (runs_one view setup flush_sealed_call flushed.0 old.shelf mid.shelf s (Agrees mid) flushed.1)
 
 -- a tending gains room, where it can
-pub tends_well : {D : Type 0} (view : D → DiskView) (old new : ShardView D) (s : State) → IsShelf view old.shelf → IsWhole old → Agrees old s → MakesEvents view (Tends (setup_of old) s) old s new → MakesEvents view (TendsWell (setup_of old) s) old s new
+pub tends_well : {D : Type 0} (view : D → DiskView) (old new : ShardView D) (s : State) → IsShelf view old.shelf → IsWhole old → Agrees old s
+    → MakesEvents view (Tends (setup_of old) s) old s new → MakesEvents view (TendsWell (setup_of old) s) old s new
 tends_well view old new s is whole agrees made =
     let setup : Setup = setup_of old in
     let tidy = tidy_for view old.shelf is setup (setup_is old whole) s agrees.shelf.stands agrees.shelf.queue in
     let lwm = whole.settings.lwm in
-    makes_events view old new s (TendsWell setup s) made.events
-    (made.works, gains setup false s (view old.shelf.disk).faults made.events tidy made.legal made.works, finds setup false s (view old.shelf.disk).faults made.events tidy (omega (arith, lwm)) made.legal made.works)
+    makes_events view old new s (TendsWell setup s) made.events (
+      made.works,
+      gains setup false s (view old.shelf.disk).faults made.events tidy made.legal made.works,
+      finds setup false s (view old.shelf.disk).faults made.events tidy
+          (omega (arith, lwm)) made.legal made.works,
+    )
     (runs_made view old new s (Tends setup s) made)
 
 -- what it gains aside

@@ -49,7 +49,8 @@ one_fills stream (b ∷ bs) order = by (shelf_view.fills stream b) refl (one_fil
         let same = counted stream b bs ∙ ap (λ (t : Bool). cond t 1 0 + count stream bs) is in
         omega (arith, same, rest)
 
-pub tidy_for : {D : Type 0} (view : D → DiskView) (shelf : ShelfView D) → IsShelf view shelf → (setup : Setup) → IsSetupOf setup shelf → (s : State) → StandsFor setup shelf s → BooksStand setup shelf s → IsTidy setup s.book
+pub tidy_for : {D : Type 0} (view : D → DiskView) (shelf : ShelfView D) → IsShelf view shelf → (setup : Setup) → IsSetupOf setup shelf → (s : State) → StandsFor setup shelf s
+    → BooksStand setup shelf s → IsTidy setup s.book
 tidy_for {D} view shelf is setup set s stands books = record {
   booked = stands.order.booked;
   within = stands.order.within;

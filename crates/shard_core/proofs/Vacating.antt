@@ -73,7 +73,8 @@ module _ {D : Type 0} (view : D → DiskView) (block : ℕ) (old : ShardView D) 
       makes_events view old old s (HaveMoved setup block s 0 digests) [] (record { moves = tt; count = refl; lie = lie }) (runs_none view setup old.shelf s (Agrees old) is_disk agrees)
 
   -- nothing is left
-  pub all_moved : (new : ShardView D) (moved : ℕ) → MakesEvents view (HaveMoved setup block s moved []) old s new → MakesEvents view (IsMovedOut setup block s (Ok (record { block = block; moved = moved }))) old s new
+  pub all_moved : (new : ShardView D) (moved : ℕ) → MakesEvents view (HaveMoved setup block s moved []) old s new
+      → MakesEvents view (IsMovedOut setup block s (Ok (record { block = block; moved = moved }))) old s new
   all_moved new moved made =
       let unused : use_of (after_events setup made.events s).book block ≡ 0 = none_used (setup_of new) (after_events setup made.events s).book block made.stands.shelf.stands.listed
       (λ digest is. absurd (omega (arith, (made.works.lie.told digest is).1))) in
@@ -101,7 +102,8 @@ module _ {D : Type 0} (view : D → DiskView) (block : ℕ) (old : ShardView D) 
             (((digest, here.is_call), subst (λ (a : Answer). IfRefused a (λ cause. ⊥) (Unit {0})) (sym (here.is_answer ∙ is)) tt), tt);
         count = omega (arith, made.works.count, counts_joined made.events (here.event ∷ []), counts_one here.event [], ap moved_by (here.is_answer ∙ is));
         lie = subst (λ (u : State). LiesAmong left block u.book) (sym (after_all setup made.events (here.event ∷ []) s))
-            (lies_on setup block digest t made.stands.shelf.stands.order.booked made.works.lie.unbuffered false here.event (subst (λ (c : Call). Allowed setup false t here.event c) here.is_call here.follows.allowed) left made.works.lie b (here.is_answer ∙ is));
+            (lies_on setup block digest t made.stands.shelf.stands.order.booked made.works.lie.unbuffered false here.event
+            (subst (λ (c : Call). Allowed setup false t here.event c) here.is_call here.follows.allowed) left made.works.lie b (here.is_answer ∙ is));
       }) runs
 
       -- it was refused

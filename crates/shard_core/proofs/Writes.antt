@@ -43,10 +43,12 @@ use Rattle.shard_core.proofs.Placed.{copy_in, wrote_filling}
 -- ---- a copy that was appended and entered
 
 -- what clients write is written
-pub takes_write : {D : Type 0} (view : D → DiskView) (setup : Setup) (digest : Digest) (v : Version) (place : Place) (old : ShelfView D) (s : State) (new : ShelfView D) (kind : Class) → stream_of kind ≡ Client
+pub takes_write : {D : Type 0} (view : D → DiskView) (setup : Setup) (digest : Digest) (v : Version) (place : Place) (old : ShelfView D) (s : State) (new : ShelfView D) (kind : Class)
+    → stream_of kind ≡ Client
     → TakesIn view setup kind digest v old s new place → TakesIn view setup class.Put digest v old s new place
 takes_write view setup digest v place old s new class.Put is takes = takes
-takes_write view setup digest v place old s new class.Tomb is takes = record { live = takes.live; stands = takes.stands; queued = takes.queued; placed = takes.placed; safe = takes.safe; leaves = takes.leaves }
+takes_write view setup digest v place old s new class.Tomb is takes =
+    record { live = takes.live; stands = takes.stands; queued = takes.queued; placed = takes.placed; safe = takes.safe; leaves = takes.leaves }
 takes_write view setup digest v place old s new class.Move is takes = absurd cc
 
 -- and may be any version
@@ -56,7 +58,8 @@ copy_of class.Tomb is s digest v = tt
 copy_of class.Move is s digest v = absurd cc
 
 module _ {D : Type 0} (view : D → DiskView) (setup : Setup) (s : State) (kind : Class) (digest : Digest) (v : Version) (place : Place) (old new : ShelfView D) (before after : SprigState)
-    (client_is : stream_of kind ≡ Client) (stand : StandTogether setup (part_of setup digest) before old s) (kept : IsShelf view old) (taken : TakesIn view setup kind digest v old s new place) (none : append_refusal setup kind (version_units v) s.book ≡ None)
+    (client_is : stream_of kind ≡ Client) (stand : StandTogether setup (part_of setup digest) before old s) (kept : IsShelf view old)
+    (taken : TakesIn view setup kind digest v old s new place) (none : append_refusal setup kind (version_units v) s.book ≡ None)
     (units : place.units ≡ version_units v) (time : 1 ≤ v.stamp.lut) (enters : TakesEntry (entry_at digest v place.block place.unit) before after) where
   abbrev behind : State
   behind = after_step setup (wrote digest v) s
@@ -70,7 +73,8 @@ module _ {D : Type 0} (view : D → DiskView) (setup : Setup) (s : State) (kind 
   sprig_behind : SprigStands setup (part_of setup digest) after behind
   sprig_behind = record {
     fits = wrote_fits setup (part_of setup digest) before after s digest v place.block place.unit refl lives_there enters stand.sprig_stands.fits;
-    times = subst (AllByRecursion (λ e. 1 ≤ e.stamp.lut)) (sym enters.entries) (put_each (entry_at digest v place.block place.unit) before.entries (λ e. 1 ≤ e.stamp.lut) time stand.sprig_stands.times);
+    times = subst (AllByRecursion (λ e. 1 ≤ e.stamp.lut)) (sym enters.entries)
+        (put_each (entry_at digest v place.block place.unit) before.entries (λ e. 1 ≤ e.stamp.lut) time stand.sprig_stands.times);
   }
 
   block_of : {a b : Live} → Some a ≡ Some b → a.block ≡ b.block
@@ -129,14 +133,22 @@ module _ {D : Type 0} (view : D → DiskView) (setup : Setup) (s : State) (call 
 
   module _ (new : ShelfView D) (up : (view old.disk).faults ≤ (view new.disk).faults) where
     abbrev unwritten_event : PutRefusal → Event
-    unwritten_event why = record { call = call; answer = refused (cause_of_write (write_of why)); steps = refused_steps why; faults_before = (view old.disk).faults; faults_after = (view new.disk).faults }
+    unwritten_event why = record {
+      call = call;
+      answer = refused (cause_of_write (write_of why));
+      steps = refused_steps why;
+      faults_before = (view old.disk).faults;
+      faults_after =
+          (view new.disk).faults;
+    }
 
     stands_against : (told : Bool) (why : PutRefusal) (cause : Cause) → append_refusal setup kind (version_units v) s.book ≡ Some cause
         → (unwritten_event why).answer ≡ refused cause → (unwritten_event why).steps ≡ [] → Allowed setup told s (unwritten_event why) call
     stands_against told why cause at answer none =
         may.allowed told (unwritten_event why) refl (inr (subst (λ (o : Option Cause). Unless (unwritten_event why) o (WriteEnds setup s (unwritten_event why) digest v ok)) (sym at) (answer, none)))
 
-    may_be_unwritten : (told : Bool) (why : PutRefusal) → IsAppendRefusal (append_refusal setup kind (version_units v) s.book) why → (why ≡ put.Fault → has_room setup client (version_units v) s.book ≡ false)
+    may_be_unwritten : (told : Bool) (why : PutRefusal) → IsAppendRefusal (append_refusal setup kind (version_units v) s.book) why
+        → (why ≡ put.Fault → has_room setup client (version_units v) s.book ≡ false)
         → (why ≡ put.Fault → Rose (view old.disk).faults (view new.disk).faults) → Allowed setup told s (unwritten_event why) call
     may_be_unwritten told (put.Big units capacity) cause closing rose = stands_against told (put.Big units capacity) (too_big units capacity) cause refl refl
     may_be_unwritten told put.Spent cause closing rose = stands_against told put.Spent spent cause refl refl
@@ -145,12 +157,14 @@ module _ {D : Type 0} (view : D → DiskView) (setup : Setup) (s : State) (call 
     may_be_unwritten told put.Memory cause closing rose = may.allowed told (unwritten_event put.Memory) refl (inl (refl, refl))
     may_be_unwritten told put.Fault cause closing rose = allowed_by told (unwritten_event put.Fault) refl cause (inr (refl, rose refl, inl (closing refl, refl)))
 
-    pub makes_unwritten : BooksStand setup old s → (refusal : WriteRefusal) → IsUnwritten view setup s kind digest v refusal old sprig new → (refusal ≡ write_refusals.Fault → Rose (view old.disk).faults (view new.disk).faults)
+    pub makes_unwritten : BooksStand setup old s → (refusal : WriteRefusal) → IsUnwritten view setup s kind digest v refusal old sprig new
+        → (refusal ≡ write_refusals.Fault → Rose (view old.disk).faults (view new.disk).faults)
         → MakesWrite (refused (cause_of_write refusal)) new
     makes_unwritten queue refusal un rose =
         let may_be = λ (told : Bool). may_be_unwritten told un.why un.cause un.closing (λ fault. rose (un.is_for ∙ ap write_of fault)) in
         subst (λ (r : WriteRefusal). MakesWrite (refused (cause_of_write r)) new) (sym un.is_for)
-        (makes_by view setup old new s call (refused (cause_of_write (write_of un.why))) (refused_steps un.why) (StandTogether setup part sprig new) up un.goes (may_be false) (λ honest safe. may_be true)
+        (makes_by view setup old new s call (refused (cause_of_write (write_of un.why))) (refused_steps un.why) (StandTogether setup part sprig new) up un.goes (may_be false)
+        (λ honest safe. may_be true)
         (together_on setup part sprig s (refused_steps un.why) (refused_flushing un.why) new un.sprig_stands (record { stands = un.goes.stands; queue = un.goes.queued queue })))
 
   -- ---- a write
@@ -196,7 +210,8 @@ module _ {D : Type 0} (view : D → DiskView) (setup : Setup) (s : State) (call 
 
       stands_all : StandTogether setup part sprig new (after_steps setup all_steps s)
       stands_all =
-          together_on setup part sprig written_state (sealed_stream client ∷ steps) (tt, commits_flushing r 0 it.buffer.number (after_step setup (sealed_stream client) written_state).book steps commits) new
+          together_on setup part sprig written_state (sealed_stream client ∷ steps)
+          (tt, commits_flushing r 0 it.buffer.number (after_step setup (sealed_stream client) written_state).book steps commits) new
           it.stands.sprig_stands (record { stands = goes.stands; queue = goes.queued it.stands.shelf_stands.queue })
 
       whole : flush_between 0 it.buffer.number (after_step setup (sealed_stream client) written_state).book ≡ rest_if true
@@ -216,7 +231,8 @@ module _ {D : Type 0} (view : D → DiskView) (setup : Setup) (s : State) (call 
         ap (λ (x : List Step). wrote digest v ∷ sealed_stream client ∷ x) (done ∙ whole) ∙ ap (λ (b : Bool). first_if b ++ rest_if b) (sym on),
       ))
 
-      pub ends_faulted : StopsIn (flush_between 0 it.buffer.number (after_step setup (sealed_stream client) written_state).book) steps → Rose (view old.disk).faults (view new.disk).faults → MakesWrite (refused disk_fault) new
+      pub ends_faulted : StopsIn (flush_between 0 it.buffer.number (after_step setup (sealed_stream client) written_state).book) steps → Rose (view old.disk).faults (view new.disk).faults
+          → MakesWrite (refused disk_fault) new
       ends_faulted stops rose = makes_ended (refused disk_fault) (inr (
         refl,
         rose,

@@ -38,7 +38,8 @@ mark_is number e next runs = ap (λ (b : Bool). b && (e.mark == number)) runs �
     by true zero true mark c is = refl
     by true zero false mark true is = let some : (e.mark == 0) ≡ true = eq-eqb e.mark 0 (eqb-true e.mark number is ∙ eqb-true number 0 zero) in let never : true ≡ false = sym some ∙ mark in absurd cc
     by true zero false mark false is = refl
-    by false some true mark true is = let zero : (number == 0) ≡ true = eq-eqb number 0 (sym (eqb-true e.mark number is) ∙ eqb-true e.mark 0 mark) in let never : true ≡ false = sym zero ∙ some in absurd cc
+    by false some true mark true is = let zero : (number == 0) ≡ true = eq-eqb number 0 (sym (eqb-true e.mark number is) ∙ eqb-true e.mark 0 mark) in let never : true ≡ false =
+        sym zero ∙ some in absurd cc
     by false some true mark false is = refl
     by false some false mark c is = refl
 
@@ -112,7 +113,8 @@ module _ (taken : List (Digest × Stamp)) (f : Digest × Stamp) (es : List Entry
   unmarked_more : with_unmarked (if_later f.1 (entry_of f.0 so_far)) so_far ≡ remarked (mark_left (f ∷ taken)) es
   unmarked_more = unmarked_next ∙ ap (λ (m : Entry → ℕ). remarked m es) (λ i e. cond (swapped f taken e i) 0 e.mark)
 
-  counted_more : (number : ℕ) → count_by (is_undone number (f ∷ taken)) es ≡ count_by (is_undone number taken) es + one_if (passes_test (λ e. is_marked_by number e && is_later_stamp e.stamp f.1) (entry_of f.0 so_far))
+  counted_more : (number : ℕ) → count_by (is_undone number (f ∷ taken)) es
+      ≡ count_by (is_undone number taken) es + one_if (passes_test (λ e. is_marked_by number e && is_later_stamp e.stamp f.1) (entry_of f.0 so_far))
   counted_more number =
       ap (λ (p : Entry → Bool). count_by p es) (λ i e. sym (has_mark_is number e) i && sym (swapped f taken e) i)
       ∙ undone_more (raid_of number) taken f es order (no_mark number)
@@ -121,7 +123,8 @@ module _ (taken : List (Digest × Stamp)) (f : Digest × Stamp) (es : List Entry
 -- ---- one copy
 
 -- The entry is later than the copy.
-pub unmarks_later : (digest : Digest) (stamp : Stamp) (number : ℕ) (old new : SprigState) (told : Bool) (e x : Entry) → entry_of digest old.entries ≡ Some e → is_later_stamp e.stamp stamp ≡ true → x ≡ with_mark 0 e
+pub unmarks_later : (digest : Digest) (stamp : Stamp) (number : ℕ) (old new : SprigState) (told : Bool) (e x : Entry) → entry_of digest old.entries ≡ Some e
+    → is_later_stamp e.stamp stamp ≡ true → x ≡ with_mark 0 e
     → new ≡ record old { entries = with_replaced x old.entries; hw = max old.hw x.stamp.lut } → told ≡ is_marked_by number e → Unmarks digest stamp number old new told
 unmarks_later digest stamp number old new told e x found later is put marked = record {
   entries = ap (λ (v : SprigState). v.entries) put ∙ ap (λ (y : Entry). with_replaced y old.entries) is
@@ -158,11 +161,13 @@ begins number found old = record {
 
 module _ (number : ℕ) (found left : List (Digest × Stamp)) (old mid : SprigState) (undone : ℕ) (order : IsInDigestOrder old.entries) (compared : HasCompared number found left old mid undone) where
   -- one more copy
-  module _ (less : List (Digest × Stamp)) (f : Digest × Stamp) (last : left ≡ less ++ f ∷ []) (new : SprigState) (told : Bool) (unmarks : Unmarks f.0 f.1 number mid new told) (n : ℕ) (n_is : n ≡ undone + one_if told) where
+  module _ (less : List (Digest × Stamp)) (f : Digest × Stamp) (last : left ≡ less ++ f ∷ []) (new : SprigState) (told : Bool) (unmarks : Unmarks f.0 f.1 number mid new told) (n : ℕ)
+      (n_is : n ≡ undone + one_if told) where
     count_more : undone + one_if told ≡ count_by (is_undone number (f ∷ compared.taken)) old.entries
     count_more =
         (λ i. compared.count i + one_if (unmarks.told_is i))
-        ∙ ap (λ (es : List Entry). count_by (is_undone number compared.taken) old.entries + one_if (passes_test (λ e. is_marked_by number e && is_later_stamp e.stamp f.1) (entry_of f.0 es))) compared.entries
+        ∙ ap (λ (es : List Entry). count_by (is_undone number compared.taken) old.entries + one_if (passes_test (λ e. is_marked_by number e && is_later_stamp e.stamp f.1) (entry_of f.0 es)))
+        compared.entries
         ∙ sym (counted_more compared.taken f old.entries order number)
 
     mid_high : HasHighTime old → HasHighTime mid
@@ -208,7 +213,9 @@ rest_on {D} old mid new first then = then ∙ ap (λ (v : ShelfView D). record v
 
 -- the copies of other parts stay
 pub others_stay : (part other : ℕ) (row : List FoundCopy) → other ≢ part → copies_for other (without_part part row) ≡ copies_for other row
-others_stay part other row apart = ap (map copy_in) (filter_twice (λ c. c.part == other) (λ c. not (c.part == part)) (λ c is. not_from_false (c.part == part) (ne_eqb c.part part (λ same. apart (sym (eqb-true c.part other is) ∙ same)))) row)
+others_stay part other row apart =
+    ap (map copy_in) (filter_twice (λ c. c.part == other) (λ c. not (c.part == part))
+    (λ c is. not_from_false (c.part == part) (ne_eqb c.part part (λ same. apart (sym (eqb-true c.part other is) ∙ same)))) row)
 
 pub none_left : (part : ℕ) (row : List FoundCopy) → copies_for part (without_part part row) ≡ []
 none_left part row = ap (map copy_in) (filter_out (λ c. c.part == part) row)

@@ -98,9 +98,11 @@ module _ {D : Type 0} (setup : Setup) (part : ℕ) (was : SprigState) (old : She
 
   -- ---- what is spared
 
-  pub spares_older : (view : D → DiskView) (sprig : SprigState) → EndsMarked old.raid.number was sprig → ImagesHold setup view old s → SparesOlder s (possible_copies view old s) was.entries sprig.entries
+  pub spares_older : (view : D → DiskView) (sprig : SprigState) → EndsMarked old.raid.number was sprig → ImagesHold setup view old s
+      → SparesOlder s (possible_copies view old s) was.entries sprig.entries
   spares_older view sprig ends safe d =
-      ⊎_elim (λ same. inl (ap (entry_of d) ends.entries ∙ same)) (λ marked. inr (none_older_than setup part was old s stand view d marked.0 marked.1 marked.2 safe)) (marked_or_same old.raid.number d was.entries)
+      ⊎_elim (λ same. inl (ap (entry_of d) ends.entries ∙ same)) (λ marked. inr (none_older_than setup part was old s stand view d marked.0 marked.1 marked.2 safe))
+      (marked_or_same old.raid.number d was.entries)
 
   -- ---- the event
 
@@ -118,7 +120,8 @@ module _ {D : Type 0} (setup : Setup) (part : ℕ) (was : SprigState) (old : She
     goes_done : Goes view setup (done_part part ∷ []) mid t behind
     unfolding after_step
     goes_done = goes_by_turn view setup mid behind.raid t (after_step setup (done_part part) t).raid (done_part part) refl refl (is_disk mid.disk)
-        (λ honest safe. drop_comes setup part sprig mid t (stand_on view setup part walked was old s sprig mid rest.shape stand go)) (λ books. ended_stands setup t mid.raid part books.raid) go.goes.stands
+        (λ honest safe. drop_comes setup part sprig mid t (stand_on view setup part walked was old s sprig mid rest.shape stand go))
+        (λ books. ended_stands setup t mid.raid part books.raid) go.goes.stands
 
     goes_all : Goes view setup (drop_steps setup part s) old s behind
     goes_all =
@@ -126,7 +129,8 @@ module _ {D : Type 0} (setup : Setup) (part : ℕ) (was : SprigState) (old : She
         (goes_then view setup walked (done_part part ∷ []) old mid behind s (λ honest. subst (λ (d : D). IsHonest (view d)) (sym rest.disk) honest) go.goes goes_done)
 
     entries_are : sprig.entries ≡ raid_ended s.raid was.entries
-    entries_are = ends.entries ∙ ap (λ (f : Entry → Option Entry). filter_map f was.entries) (λ i e. cond (sym (marks_are setup part was old s stand e) i) (cond (is_tombstone_entry e) None (Some (without_cover e))) (Some e))
+    entries_are = ends.entries ∙ ap (λ (f : Entry → Option Entry). filter_map f was.entries)
+        (λ i e. cond (sym (marks_are setup part was old s stand e) i) (cond (is_tombstone_entry e) None (Some (without_cover e))) (Some e))
 
     sprig_ended : SprigStands setup part sprig (after_steps setup (drop_steps setup part s) s)
     sprig_ended = record {
@@ -139,7 +143,8 @@ module _ {D : Type 0} (setup : Setup) (part : ℕ) (was : SprigState) (old : She
     makes_ended now removed cleared removed_is cleared_is new put =
         subst (λ (v : ShelfView D). StepMakes view setup part (turn_call old.raid.number (drop_turn part) now) (part_ended removed cleared) old s sprig v)
         (sym (put ∙ ap (λ (n : RaidNext). record mid { raid = after_turn n part mid.raid }) (ap (λ b. b.next) rest.shape.raid ∙ stand.turn)))
-        (makes_turn view setup old s (is_disk old.disk) part was sprig stand.together (Drop part) (drop_turn part) (drop_steps setup part s) (part_ended removed cleared) now behind stand.turn refl (eq-eqb part part refl) goes_all
+        (makes_turn view setup old s (is_disk old.disk) part was sprig stand.together (Drop part) (drop_turn part) (drop_steps setup part s)
+        (part_ended removed cleared) now behind stand.turn refl (eq-eqb part part refl) goes_all
         (λ told. (λ i. part_ended ((removed_is ∙ removed_are) i) ((cleared_is ∙ cleared_are) i), refl)) same_faults sprig_ended)
       where
         same_faults : (view old.disk).faults ≤ (view behind.disk).faults

@@ -1,5 +1,6 @@
 -- The walk that ends a raid for the entries of a part: what was gone over is ended, and the others are as they were.
-use Rattle.std.proofs.Common.{◌≡◌, ◌⊎◌, inl, inr, ℕ, ◌+◌, ◌<◌, ◌≤◌, Bool, true, false, cond, ◌&&◌, List, [], ◌∷◌, ◌++◌, length, take, drop, get_or, Option, Some, None, refl, sym, ◌∙◌, ap, subst, arith}
+use Rattle.std.proofs.Common.{◌≡◌, ◌⊎◌, inl, inr, ℕ, ◌+◌, ◌<◌, ◌≤◌, Bool, true, false, cond, ◌&&◌, List, [], ◌∷◌, ◌++◌, length, take, drop, get_or, Option}
+use Rattle.std.proofs.Common.{Some, None, refl, sym, ◌∙◌, ap, subst, arith}
 use Rattle.std.specs.Prelude.{slice_get, count_by, flat_map}
 use Rattle.std.specs.List.{filter_map, cons_option}
 use Rattle.std.proofs.lemmas.Bool.{cond-true, cond-false, cond_both}
@@ -88,7 +89,8 @@ module _ {D : Type 0} (view : D → DiskView) (is_disk : (d : D) → IsDisk (vie
       pub all_ended : EndsMarked number old mid
       all_ended = record {
         entries = ended.entries
-            ∙ (λ i. raid_ended (raid_of number) (whole i) ++ drop_all ended.at old.entries (past_all old.entries ended.at (sym ended.next_is ∙ none)) i) ∙ append-nil (raid_ended (raid_of number) old.entries)
+            ∙ (λ i. raid_ended (raid_of number) (whole i) ++ drop_all ended.at old.entries (past_all old.entries ended.at (sym ended.next_is ∙ none)) i)
+            ∙ append-nil (raid_ended (raid_of number) old.entries)
             ∙ ap (λ (f : Entry → Option Entry). filter_map f old.entries) (λ i e. left_is number e i);
         high = ended.high;
       }
@@ -103,7 +105,8 @@ module _ {D : Type 0} (view : D → DiskView) (is_disk : (d : D) → IsDisk (vie
       all_gone_over setup s part stand = subst (λ (es : List Entry). GoTogether view setup part (flat_map (end_steps number) es) was s mid is) whole (ended.goes setup s part stand)
 
     -- both stand at the end of the part again
-    pub stand_now : (setup : Setup) (s : State) (part : ℕ) → StandAtEnd setup part old was s → StandAtEnd setup part mid is (after_steps setup (flat_map (end_steps number) (take ended.at old.entries)) s)
+    pub stand_now : (setup : Setup) (s : State) (part : ℕ) → StandAtEnd setup part old was s
+        → StandAtEnd setup part mid is (after_steps setup (flat_map (end_steps number) (take ended.at old.entries)) s)
     stand_now setup s part stand = stand_on view setup part (flat_map (end_steps number) (take ended.at old.entries)) old was s mid is ended.rest.shape stand (ended.goes setup s part stand)
 
     module _ (e : Entry) (is_next : next ≡ Some e) where
@@ -120,7 +123,8 @@ module _ {D : Type 0} (view : D → DiskView) (is_disk : (d : D) → IsDisk (vie
       found = ap (entry_of e.digest) ended.entries ∙ end_found old.entries ended.at e there order (raid_of number)
 
       one_more : (test : Entry → Bool) (n k : ℕ) → n ≡ count_by test (take ended.at old.entries) → k ≡ one_if (test e) → n + k ≡ count_by test (take (ended.at + 1) old.entries)
-      one_more test n k so_far one = (λ i. so_far i + one i) ∙ sym (sum_by_more (λ x. one_if (test x)) old.entries ended.at e within ∙ ap (λ (x : Entry). count_by test (take ended.at old.entries) + one_if (test x)) read)
+      one_more test n k so_far one = (λ i. so_far i + one i) ∙ sym (sum_by_more (λ x. one_if (test x)) old.entries ended.at e within
+          ∙ ap (λ (x : Entry). count_by test (take ended.at old.entries) + one_if (test x)) read)
 
       few : (test : Entry → Bool) (n k : ℕ) → n ≡ count_by test (take ended.at old.entries) → k ≡ one_if (test e) → n + k ≤ length old.entries
       few test n k so_far one =
@@ -142,9 +146,11 @@ module _ {D : Type 0} (view : D → DiskView) (is_disk : (d : D) → IsDisk (vie
             left b marked t tomb = left_is number e ∙ (λ i. cond (marked i) (cond (tomb i) None (Some (without_cover e))) (Some e))
 
             by : (b : Bool) → is_marked_by number e ≡ b → (t : Bool) → is_tombstone_entry e ≡ t
-                → cond b (cond t (without_digest e.digest mid.entries) (with_replaced (without_cover e) mid.entries)) mid.entries ≡ raid_ended (raid_of number) (take (ended.at + 1) old.entries) ++ drop (ended.at + 1) old.entries
+                → cond b (cond t (without_digest e.digest mid.entries) (with_replaced (without_cover e) mid.entries)) mid.entries
+                ≡ raid_ended (raid_of number) (take (ended.at + 1) old.entries) ++ drop (ended.at + 1) old.entries
             by true marked true tomb = ap (without_digest e.digest) ended.entries ∙ goes_at old.entries ended.at e there order (raid_of number) (left true marked true tomb)
-            by true marked false put = ap (with_replaced (without_cover e)) ended.entries ∙ becomes_at old.entries ended.at e there order (raid_of number) (without_cover e) (left true marked false put)
+            by true marked false put = ap (with_replaced (without_cover e)) ended.entries
+                ∙ becomes_at old.entries ended.at e there order (raid_of number) (without_cover e) (left true marked false put)
             by false unmarked t kind = ended.entries ∙ left_at old.entries ended.at e there order (raid_of number) (left false unmarked t kind)
 
         after_is : after ≡ slice_get old.entries (ended.at + 1)
@@ -188,7 +194,8 @@ module _ {D : Type 0} (view : D → DiskView) (is_disk : (d : D) → IsDisk (vie
 -- ---- what a digest has then
 
 -- Its entry stays as it was, or had the mark.
-pub marked_or_same : (number : ℕ) (d : Digest) (es : List Entry) → (entry_of d (filter_map (left_by number) es) ≡ entry_of d es) ⊎ ((e : Entry) × (entry_of d es ≡ Some e) × (is_marked_by number e ≡ true))
+pub marked_or_same : (number : ℕ) (d : Digest) (es : List Entry) → (entry_of d (filter_map (left_by number) es) ≡ entry_of d es)
+    ⊎ ((e : Entry) × (entry_of d es ≡ Some e) × (is_marked_by number e ≡ true))
 marked_or_same number d [] = inl refl
 marked_or_same number d (x ∷ xs) = by (is_marked_by number x) refl (is_tombstone_entry x) (same_digest d x.digest) refl (marked_or_same number d xs)
   where

@@ -31,7 +31,8 @@ later_part part (c ∷ found) above q is = by (c.part == part) refl is (later_pa
         one true is same = let it : m ≡ q = cc in omega (arith, rest m refl, it)
         one false is same = let it : c.part ≡ q = cc in omega (arith, first, it, λ (e : part ≡ c.part). apart (sym e))
 
-    by : (b : Bool) → (c.part == part) ≡ b → least_part (cond (not b) (c ∷ without_part part found) (without_part part found)) ≡ Some q → ((n : ℕ) → least_part (without_part part found) ≡ Some n → part < n) → part < q
+    by : (b : Bool) → (c.part == part) ≡ b → least_part (cond (not b) (c ∷ without_part part found) (without_part part found)) ≡ Some q
+        → ((n : ℕ) → least_part (without_part part found) ≡ Some n → part < n) → part < q
     by true same is rest = rest q is
     by false other is rest = among (λ same. absurd (let yes = eq-eqb c.part part same in let never : true ≡ false = sym yes ∙ other in cc)) (least_part (without_part part found)) rest is
 
@@ -76,11 +77,13 @@ module _ (old : BookState) where
   compared : (part : ℕ) → part < old.parts → All (λ c. part ≤ c.part) old.found → turns_left (after_turn (Apply part) part old) < (blocks - old.scanned) * (old.parts + 1) + (old.parts - part) + parts
   compared part below above = by (least_part (without_part part old.found)) (later_part part old.found above)
     where
-      next : (b : Bool) → turns_left (record old { found = without_part part old.found; next = cond b (Scan old.scanned) (Drop 0) }) < (blocks - old.scanned) * (old.parts + 1) + (old.parts - part) + parts
+      next : (b : Bool) → turns_left (record old { found = without_part part old.found; next = cond b (Scan old.scanned) (Drop 0) }) < (blocks - old.scanned) * (old.parts + 1) +
+          (old.parts - part) + parts
       next true = omega (arith, below)
       next false = omega (arith, below)
 
-      by : (o : Option ℕ) → ((q : ℕ) → o ≡ Some q → part < q) → turns_left (record old { found = without_part part old.found; next = turn_with old.blocks old.scanned o }) < (blocks - old.scanned) * (old.parts + 1) + (old.parts - part) + parts
+      by : (o : Option ℕ) → ((q : ℕ) → o ≡ Some q → part < q)
+          → turns_left (record old { found = without_part part old.found; next = turn_with old.blocks old.scanned o }) < (blocks - old.scanned) * (old.parts + 1) + (old.parts - part) + parts
       by (Some q) later = omega (arith, below, later q refl)
       by None later = next (nat_lt old.scanned old.blocks)
 
@@ -119,7 +122,8 @@ module _ (old : BookState) (fits : FitsTurn old.next old) where
       (let is : FitsTurn (Scan block) old = subst (λ (n : RaidNext). FitsTurn n old) at fits in scanned old block is.0 found is.1)
 
 -- where copies of the part were taken out before
-pub compared_nearer : {D : Type 0} (old mid new : ShelfView D) (part : ℕ) → old.raid.next ≡ Apply part → mid ≡ record old { raid = record old.raid { found = mid.raid.found } } → FitsTurn mid.raid.next mid.raid
+pub compared_nearer : {D : Type 0} (old mid new : ShelfView D) (part : ℕ) → old.raid.next ≡ Apply part → mid ≡ record old { raid = record old.raid { found = mid.raid.found } }
+    → FitsTurn mid.raid.next mid.raid
     → new ≡ record mid { raid = after_turn mid.raid.next part mid.raid } → turns_left new.raid < turns_left old.raid
 compared_nearer {D} old mid new part at rest fits put =
     let is : mid.raid ≡ record old.raid { found = mid.raid.found } = ap (λ (v : ShelfView D). v.raid) rest in

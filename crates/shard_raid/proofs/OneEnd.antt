@@ -40,7 +40,8 @@ use Rattle.shard_raid.specs.Ends.{StandAtEnd, GoTogether}
 use Rattle.shard_raid.proofs.Comparing.{mark_is}
 
 -- behind steps that leave the shape and the book they stand at the end of the part again
-pub stand_on : {D : Type 0} (view : D → DiskView) (setup : Setup) (part : ℕ) (steps : List Step) (before : SprigState) (old : ShelfView D) (s : State) (sprig : SprigState) (new : ShelfView D) → SameShape old new
+pub stand_on : {D : Type 0} (view : D → DiskView) (setup : Setup) (part : ℕ) (steps : List Step) (before : SprigState) (old : ShelfView D) (s : State) (sprig : SprigState)
+    (new : ShelfView D) → SameShape old new
     → StandAtEnd setup part before old s → GoTogether view setup part steps old s sprig new → StandAtEnd setup part sprig new (after_steps setup steps s)
 stand_on view setup part steps before old s sprig new same stand go = record {
   turn = ap (λ b. b.next) same.raid ∙ stand.turn;
@@ -66,12 +67,14 @@ module _ {D : Type 0} (setup : Setup) (part : ℕ) (sprig : SprigState) (shelf :
   marks_are e = mark_is s.raid.number e s.raid.next runs ∙ ap (λ (n : ℕ). is_marked_by n e) (sym books.turns.number)
 
   -- no possible copy is older than a marked entry
-  pub none_older_than : (view : D → DiskView) (d : Digest) (e : Entry) → entry_of d sprig.entries ≡ Some e → is_marked_by shelf.raid.number e ≡ true → ImagesHold setup view shelf s → NoneOlder s (possible_copies view shelf s) d
+  pub none_older_than : (view : D → DiskView) (d : Digest) (e : Entry) → entry_of d sprig.entries ≡ Some e → is_marked_by shelf.raid.number e ≡ true → ImagesHold setup view shelf s
+      → NoneOlder s (possible_copies view shelf s) d
   none_older_than view d e found marked safe = none_older setup s (possible_copies view shelf s) d part drop_comes there safe.held.facts
     where
       among : has_digest (marks_of setup part s.raid) d ≡ true
       among =
-          ap (λ (l : List Digest). has_digest l d) fits.marks.marked ∙ among_entries (has_mark s.raid) d sprig.entries fits.entries.order ∙ ap (passes_test (has_mark s.raid)) found ∙ marks_are e ∙ marked
+          ap (λ (l : List Digest). has_digest l d) fits.marks.marked ∙ among_entries (has_mark s.raid) d sprig.entries fits.entries.order
+          ∙ ap (passes_test (has_mark s.raid)) found ∙ marks_are e ∙ marked
 
       there : Contains s.raid.marked d
       there = (filter_from (λ x. part_of setup x == part) s.raid.marked d (Contains-from_any same_digest_is d (marks_of setup part s.raid) among)).0
@@ -97,7 +100,8 @@ module _ {D : Type 0} (setup : Setup) (part : ℕ) (sprig : SprigState) (shelf :
     lies_below = (stand.together.shelf_stands.stands.entries (live_of_entry e) is_live).lies.block
 
     -- it is removed
-    pub go_removed : (view : D → DiskView) (after : SprigState) (new : ShelfView D) → Loses e.digest sprig after → Goes view setup (rid_of e.digest ∷ []) shelf s new → GoTogether view setup part (rid_of e.digest ∷ []) shelf s after new
+    pub go_removed : (view : D → DiskView) (after : SprigState) (new : ShelfView D) → Loses e.digest sprig after → Goes view setup (rid_of e.digest ∷ []) shelf s new
+        → GoTogether view setup part (rid_of e.digest ∷ []) shelf s after new
     go_removed view after new loses goes = record {
       goes = goes;
       together = record {
@@ -118,7 +122,8 @@ module _ {D : Type 0} (setup : Setup) (part : ℕ) (sprig : SprigState) (shelf :
         sprig_stands = record {
           fits = uncovered_fits setup part sprig after s e.digest e found (record { entries = ap (λ (v : SprigState). v.entries) put; high = ap (λ (v : SprigState). v.hw) put }) fits;
           times = subst (λ (v : SprigState). AllByRecursion (λ x. 1 ≤ x.stamp.lut) v.entries) (sym put)
-              (each_replaced (λ x. 1 ≤ x.stamp.lut) (without_cover e) sprig.entries (at_entry (λ x. 1 ≤ x.stamp.lut) e.digest sprig.entries e stand.together.sprig_stands.times found) stand.together.sprig_stands.times);
+              (each_replaced (λ x. 1 ≤ x.stamp.lut) (without_cover e) sprig.entries
+              (at_entry (λ x. 1 ≤ x.stamp.lut) e.digest sprig.entries e stand.together.sprig_stands.times found) stand.together.sprig_stands.times);
         };
         shelf_stands = record { stands = goes.stands; queue = goes.queued stand.together.shelf_stands.queue };
       };

@@ -55,7 +55,8 @@ module _ {D : Type 0} (view : D → DiskView) (setup : Setup) (block now : ℕ) 
       subst (λ (b : Bool). MatchBool b (TurnEnds setup told s (event answer step) (scan_turn block) now) (Only (event answer step) (refused (stale s.raid.number s.raid.next)))) (sym is_next) ends
 
   -- A shelf that goes by a step that spares each part makes the event of the turn. The event is built here, since what it finds is told of it.
-  makes_step : (result : Result ℕ RaidRefusal) (step : Step) → Goes view setup (step ∷ []) old s new → ((part : ℕ) → Spares setup part s step) → TurnEnds setup false s (event (scan_answer result) step) (scan_turn block) now
+  makes_step : (result : Result ℕ RaidRefusal) (step : Step) → Goes view setup (step ∷ []) old s new → ((part : ℕ) → Spares setup part s step)
+      → TurnEnds setup false s (event (scan_answer result) step) (scan_turn block) now
       → (IsHonest (view old.disk) → ImagesHold setup view old s → TurnEnds setup true s (event (scan_answer result) step) (scan_turn block) now)
       → (IsHonest (view old.disk) → ImagesHold setup view old s → ScansAll s (possible_copies view new s) (event (scan_answer result) step))
       → (IsHonest (view old.disk) → ImagesHold setup view old s → ScansOnly s (possible_copies view new s) (event (scan_answer result) step)) → ScanMakes view setup block now result old s new
@@ -113,7 +114,8 @@ module _ {D : Type 0} (view : D → DiskView) (setup : Setup) (block now : ℕ) 
     ends told = inl (refl, scans.copies, refl)
 
     makes_here : ScanMakes view setup block now (Ok block) old s new
-    makes_here = makes_step (Ok block) (scanned_block scans.copies) scans.goes (λ part. (block, scan_comes)) (ends false) (λ honest hold. ends true) (λ honest hold. found (scans.all honest hold)) (λ honest hold. nothing_else (scans.only honest hold))
+    makes_here = makes_step (Ok block) (scanned_block scans.copies) scans.goes (λ part. (block, scan_comes)) (ends false) (λ honest hold. ends true)
+        (λ honest hold. found (scans.all honest hold)) (λ honest hold. nothing_else (scans.only honest hold))
 
   pub makes_scanned : (told : ℕ) → old.raid.next ≡ Scan told → Scans view setup told old s new → ScanMakes view setup block now (Ok told) old s new
   makes_scanned told there = subst (λ (b : ℕ). Scans view setup b old s new → ScanMakes view setup block now (Ok b) old s new) same makes_here
@@ -130,7 +132,8 @@ module _ {D : Type 0} (view : D → DiskView) (setup : Setup) (block now : ℕ) 
   pub makes_given_up : Goes view setup (raid_given_up ∷ []) old s new → (refusal : VacateRefusal) → (refusal ≡ vacate.Fault → Rose (view old.disk).faults (view new.disk).faults)
       → (IsHonest (view old.disk) → ImagesHold setup view old s → IsSound refusal) → ScanMakes view setup block now (Err (refusal_to_scan refusal)) old s new
   makes_given_up goes refusal rose sound =
-      makes_step (Err (refusal_to_scan refusal)) raid_given_up goes (λ part. tt) (ends false refusal rose (λ no. absurd (false≢true no))) (λ honest hold. ends true refusal rose (λ yes. sound honest hold)) (λ honest hold. none_found) (λ honest hold. none_else)
+      makes_step (Err (refusal_to_scan refusal)) raid_given_up goes (λ part. tt) (ends false refusal rose (λ no. absurd (false≢true no)))
+      (λ honest hold. ends true refusal rose (λ yes. sound honest hold)) (λ honest hold. none_found) (λ honest hold. none_else)
     where
       none_else : ScansOnly s (possible_copies view new s) (event (scan_answer (Err (refusal_to_scan refusal))) raid_given_up)
       none_else other row comes steps = absurd cc

@@ -52,12 +52,14 @@ with_compared part row shelf = record shelf { raid = after_turn (Apply part) par
 pub compared_is : {D : Type 0} (part : ℕ) (old mid new : ShelfView D) → old.raid.next ≡ Apply part → mid ≡ record old { raid = record old.raid { found = mid.raid.found } }
     → new ≡ record mid { raid = after_turn mid.raid.next part mid.raid } → new ≡ with_compared part mid.raid.found old
 compared_is {D} part old mid new at taken ended =
-    ended ∙ ap (λ (v : ShelfView D). record v { raid = after_turn v.raid.next part v.raid }) taken ∙ ap (λ (n : RaidNext). record old { raid = after_turn n part (record old.raid { found = mid.raid.found }) }) at
+    ended ∙ ap (λ (v : ShelfView D). record v { raid = after_turn v.raid.next part v.raid }) taken
+    ∙ ap (λ (n : RaidNext). record old { raid = after_turn n part (record old.raid { found = mid.raid.found }) }) at
 
 pub book_told : {D : Type 0} (part : ℕ) (row : List FoundCopy) (old new : ShelfView D) → new ≡ with_compared part row old
     → new ≡ record old { raid = record old.raid { found = new.raid.found; next = turn_with old.raid.blocks old.raid.scanned (least_part new.raid.found) } }
 book_told {D} part row old new put =
-    put ∙ ap (λ (found : List FoundCopy). record old { raid = record old.raid { found = found; next = turn_with old.raid.blocks old.raid.scanned (least_part found) } }) (sym (ap (λ (v : ShelfView D). v.raid.found) put))
+    put ∙ ap (λ (found : List FoundCopy). record old { raid = record old.raid { found = found; next = turn_with old.raid.blocks old.raid.scanned (least_part found) } })
+    (sym (ap (λ (v : ShelfView D). v.raid.found) put))
 
 -- ---- the events
 
@@ -70,7 +72,8 @@ module _ {D : Type 0} (view : D → DiskView) (setup : Setup) (old : ShelfView D
 
     -- the last number was given
     pub makes_spent : old.raid.number ≡ top_number → MakesEvent view setup begin_call (raid_numbered None) old s old (StandOn setup old s)
-    makes_spent top = makes_by view setup old old s begin_call (raid_numbered None) [] (StandOn setup old s) (omega arith) (goes_none view setup old s is_disk stand.stands) (allowed false) (λ honest safe. allowed true)
+    makes_spent top = makes_by view setup old old s begin_call (raid_numbered None) [] (StandOn setup old s) (omega arith) (goes_none view setup old s is_disk stand.stands) (allowed false)
+        (λ honest safe. allowed true)
         (record { shelf_stands = stand; sprigs = λ part sprig stands. stands })
       where
         e : Event
@@ -81,7 +84,8 @@ module _ {D : Type 0} (view : D → DiskView) (setup : Setup) (old : ShelfView D
             subst (λ (b : Bool). MatchBool b (Only e (raid_numbered None)) ((e.answer ≡ raid_numbered (Some (s.raid.number + 1))) × (e.steps ≡ raid_begun ∷ [])))
             (sym (le-leb top_number s.raid.number (omega (arith, top, number_is)))) (refl, refl)
 
-    pub makes_begun : old.raid.number < top_number → MakesEvent view setup begin_call (raid_numbered (Some (old.raid.number + 1))) old s (record old { raid = begun old.raid }) (StandOn setup (record old { raid = begun old.raid }) s)
+    pub makes_begun : old.raid.number < top_number → MakesEvent view setup begin_call (raid_numbered (Some (old.raid.number + 1))) old s (record old { raid = begun old.raid })
+        (StandOn setup (record old { raid = begun old.raid }) s)
     makes_begun below = makes_by view setup old new s begin_call answer steps (StandOn setup new s) (omega arith) goes (allowed false) (λ honest safe. allowed true) (record {
       shelf_stands = record { stands = goes.stands; queue = goes.queued stand.queue };
       sprigs = λ part sprig stands. record { fits = spared setup part sprig s raid_begun (omega (arith, below, number_is)) stands.fits; times = stands.times };
@@ -119,7 +123,8 @@ module _ {D : Type 0} (view : D → DiskView) (setup : Setup) (old : ShelfView D
             (subst (λ (o : Option ℕ). MakesEvent view setup begin_call (raid_numbered o) old s old (StandOn setup old s)) (sym answer) (makes_spent (eqb-true old.raid.number top_number top)))
         by false below answer put =
             subst (λ (v : ShelfView D). MakesEvent view setup begin_call (raid_numbered told) old s v (StandOn setup v s)) (sym put)
-            (subst (λ (o : Option ℕ). MakesEvent view setup begin_call (raid_numbered o) old s (record old { raid = begun old.raid }) (StandOn setup (record old { raid = begun old.raid }) s)) (sym answer)
+            (subst (λ (o : Option ℕ). MakesEvent view setup begin_call (raid_numbered o) old s (record old { raid = begun old.raid })
+            (StandOn setup (record old { raid = begun old.raid }) s)) (sym answer)
             (makes_begun (omega (arith, book.number, λ (same : old.raid.number ≡ top_number). both_ways (old.raid.number == top_number) below (eq-eqb old.raid.number top_number same)))))
 
   -- ---- a turn of a part
@@ -137,7 +142,8 @@ module _ {D : Type 0} (view : D → DiskView) (setup : Setup) (old : ShelfView D
     timed mark_for entries = subst (AllByRecursion (λ e. 1 ≤ e.stamp.lut)) (sym entries) (times_remarked (λ n. 1 ≤ n) mark_for was.entries stand.sprig_stands.times)
 
     -- A shelf that goes by the steps of its next turn makes the event of that turn.
-    pub makes_turn : (next : RaidNext) (turn : Turn) (steps : List Step) (answer : Answer) (now : ℕ) (new : ShelfView D) → old.raid.next ≡ next → turn_of next ≡ turn → same_turn turn turn ≡ true → Goes view setup steps old s new
+    pub makes_turn : (next : RaidNext) (turn : Turn) (steps : List Step) (answer : Answer) (now : ℕ) (new : ShelfView D) → old.raid.next ≡ next → turn_of next ≡ turn
+        → same_turn turn turn ≡ true → Goes view setup steps old s new
         → ((told : Bool) → TurnEnds setup told s (event_of view setup old new s (turn_call old.raid.number turn now) answer steps) turn now) → (view old.disk).faults ≤ (view new.disk).faults
         → SprigStands setup part is (after_steps setup steps s) → StepMakes view setup part (turn_call old.raid.number turn now) answer old s is new
     makes_turn next turn steps answer now new at same itself goes ends up sprig_stands =
@@ -151,7 +157,8 @@ module _ {D : Type 0} (view : D → DiskView) (setup : Setup) (old : ShelfView D
         allowed told = subst (λ (b : Bool). MatchBool b (TurnEnds setup told s e turn now) (Only e (refused (stale s.raid.number s.raid.next)))) (sym (is_next next turn at same itself)) (ends told)
 
     -- The part is marked.
-    module _ (at : old.raid.next ≡ Mark part) (age now marked : ℕ) (aged : setup.raid_age ≡ age) (marks : HasMarksBy (mark_given age now old.raid.number) was is) (count : marked ≡ count_by (is_eligible_entry age now) was.entries) where
+    module _ (at : old.raid.next ≡ Mark part) (age now marked : ℕ) (aged : setup.raid_age ≡ age) (marks : HasMarksBy (mark_given age now old.raid.number) was is)
+        (count : marked ≡ count_by (is_eligible_entry age now) was.entries) where
       abbrev to : ShelfView D
       to = record old { raid = record old.raid { next = after_mark old.raid.parts part } }
 
@@ -165,21 +172,25 @@ module _ {D : Type 0} (view : D → DiskView) (setup : Setup) (old : ShelfView D
 
       sprig_marked : SprigStands setup part is (after_step setup (marked_part part now) s)
       sprig_marked = record {
-        fits = marked_fits setup part now was is s mark_comes (marks.entries ∙ (λ i. remarked (mark_given (sym aged i) now (books.raid.turns.number i)) was.entries)) (marks.high (times_below setup part was s stand.sprig_stands.fits.entries)) stand.sprig_stands.fits;
+        fits = marked_fits setup part now was is s mark_comes (marks.entries ∙ (λ i. remarked (mark_given (sym aged i) now (books.raid.turns.number i)) was.entries))
+            (marks.high (times_below setup part was s stand.sprig_stands.fits.entries)) stand.sprig_stands.fits;
         times = timed (mark_given age now old.raid.number) marks.entries;
       }
 
       made_are : marked ≡ length (eligible_in setup now part s)
       made_are = count ∙ ap (λ (n : ℕ). count_by (is_eligible_entry n now) was.entries) (sym aged) ∙ sym (marks_made_are setup part now was s stand.sprig_stands.fits.entries)
 
-      pub makes_marked : (new : ShelfView D) → new ≡ record old { raid = after_turn old.raid.next part old.raid } → StepMakes view setup part (turn_call old.raid.number (mark_turn part) now) (marks_made marked) old s is new
+      pub makes_marked : (new : ShelfView D) → new ≡ record old { raid = after_turn old.raid.next part old.raid }
+          → StepMakes view setup part (turn_call old.raid.number (mark_turn part) now) (marks_made marked) old s is new
       makes_marked new put =
           subst (λ (v : ShelfView D). StepMakes view setup part (turn_call old.raid.number (mark_turn part) now) (marks_made marked) old s is v)
           (sym (put ∙ ap (λ (n : RaidNext). record old { raid = after_turn n part old.raid }) at))
-          (makes_turn (Mark part) (mark_turn part) (marked_part part now ∷ []) (marks_made marked) now to at refl (eq-eqb part part refl) goes_marked (λ told. (ap (λ (n : ℕ). marks_made n) made_are, refl)) (omega arith) sprig_marked)
+          (makes_turn (Mark part) (mark_turn part) (marked_part part now ∷ []) (marks_made marked) now to at refl (eq-eqb part part refl) goes_marked
+          (λ told. (ap (λ (n : ℕ). marks_made n) made_are, refl)) (omega arith) sprig_marked)
 
     -- Its found copies are compared.
-    module _ (at : old.raid.next ≡ Apply part) (now undone : ℕ) (marks : HasMarksBy (mark_left (copies_for part old.raid.found)) was is) (count : undone ≡ count_by (is_undone old.raid.number (copies_for part old.raid.found)) was.entries)
+    module _ (at : old.raid.next ≡ Apply part) (now undone : ℕ) (marks : HasMarksBy (mark_left (copies_for part old.raid.found)) was is)
+        (count : undone ≡ count_by (is_undone old.raid.number (copies_for part old.raid.found)) was.entries)
         (row : List FoundCopy) (others : (other : ℕ) → other ≢ part → copies_for other row ≡ copies_for other old.raid.found) where
       abbrev behind : ShelfView D
       behind = with_compared part row old
@@ -203,7 +214,8 @@ module _ {D : Type 0} (view : D → DiskView) (setup : Setup) (old : ShelfView D
 
       sprig_compared : SprigStands setup part is (after_step setup (compared_part part) s)
       sprig_compared = record {
-        fits = compared_fits setup part was is s apply_comes (marks.entries ∙ ap (λ (l : List (Digest × Stamp)). remarked (mark_left l) was.entries) copies_are) (marks.high (times_below setup part was s stand.sprig_stands.fits.entries)) stand.sprig_stands.fits;
+        fits = compared_fits setup part was is s apply_comes (marks.entries ∙ ap (λ (l : List (Digest × Stamp)). remarked (mark_left l) was.entries) copies_are)
+            (marks.high (times_below setup part was s stand.sprig_stands.fits.entries)) stand.sprig_stands.fits;
         times = timed (mark_left (copies_for part old.raid.found)) marks.entries;
       }
 
@@ -220,4 +232,5 @@ module _ {D : Type 0} (view : D → DiskView) (setup : Setup) (old : ShelfView D
       pub makes_compared : (new : ShelfView D) → new ≡ behind → StepMakes view setup part (turn_call old.raid.number (apply_turn part) now) (marks_undone undone) old s is new
       makes_compared new put =
           subst (λ (v : ShelfView D). StepMakes view setup part (turn_call old.raid.number (apply_turn part) now) (marks_undone undone) old s is v) (sym put)
-          (makes_turn (Apply part) (apply_turn part) (compared_part part ∷ []) (marks_undone undone) now behind at refl (eq-eqb part part refl) goes_compared (λ told. (ap (λ (n : ℕ). marks_undone n) undone_are, refl)) (omega arith) sprig_compared)
+          (makes_turn (Apply part) (apply_turn part) (compared_part part ∷ []) (marks_undone undone) now behind at refl (eq-eqb part part refl) goes_compared
+          (λ told. (ap (λ (n : ℕ). marks_undone n) undone_are, refl)) (omega arith) sprig_compared)

@@ -39,7 +39,8 @@ past_all es i none = by (slice_get_cases es i).1
     by (inr past) = past.0
 
 -- fewer are left from one behind an entry than from the entry
-pub fewer_left : (es : List Entry) (at : ℕ) (e : Entry) (after : Option Entry) → IsInDigestOrder es → slice_get es at ≡ Some e → after ≡ slice_get es (at + 1) → length (left_from after es) < length (left_from (Some e) es)
+pub fewer_left : (es : List Entry) (at : ℕ) (e : Entry) (after : Option Entry) → IsInDigestOrder es → slice_get es at ≡ Some e → after ≡ slice_get es (at + 1)
+    → length (left_from after es) < length (left_from (Some e) es)
 fewer_left es at e after order there after_is =
     let behind_it : length (left_from after es) ≡ length (behind (λ x. x.digest) (Some e.digest) es) =
     ap (λ (o : Option Entry). length (left_from o es)) (after_is ∙ sym (entry_after-at es at e order there)) ∙ ap length (sym (entries_behind (Some e.digest) es order)) in
@@ -90,7 +91,8 @@ module _ (mark age now : ℕ) (old : SprigState) (order : IsInDigestOrder old.en
       found = ap (entry_of e.digest) walked.entries ∙ mark_found old.entries walked.at e there order m
 
       -- The entry after this one is the next of all.
-      after_is : (es : List Entry) (after : Option Entry) → es ≡ remarked m (take (walked.at + 1) old.entries) ++ drop (walked.at + 1) old.entries → after ≡ entry_after (Some e.digest) es → after ≡ slice_get old.entries (walked.at + 1)
+      after_is : (es : List Entry) (after : Option Entry) → es ≡ remarked m (take (walked.at + 1) old.entries) ++ drop (walked.at + 1) old.entries → after ≡ entry_after (Some e.digest) es
+          → after ≡ slice_get old.entries (walked.at + 1)
       after_is es after entries is = is ∙ ap (entry_after (Some e.digest)) entries ∙ next_at old.entries walked.at e there order m
 
       fewer : (after : Option Entry) → after ≡ slice_get old.entries (walked.at + 1) → length (left_from after old.entries) < length (left_from next old.entries)
@@ -103,7 +105,9 @@ module _ (mark age now : ℕ) (old : SprigState) (order : IsInDigestOrder old.en
       few = omega (arith, within, walked.count, count_by-le-length test (take walked.at old.entries), length-take walked.at old.entries)
 
       -- an entry that may go is marked
-      module _ (may : test e ≡ true) (x : Entry) (made : x ≡ with_mark mark e) (new : SprigState) (put : new ≡ record mid { entries = with_replaced x mid.entries; hw = max mid.hw x.stamp.lut }) (n : ℕ) (one : n ≡ marked + 1) (after : Option Entry) (after_new : after ≡ entry_after (Some e.digest) new.entries) where
+      module _ (may : test e ≡ true) (x : Entry) (made : x ≡ with_mark mark e) (new : SprigState)
+          (put : new ≡ record mid { entries = with_replaced x mid.entries; hw = max mid.hw x.stamp.lut }) (n : ℕ) (one : n ≡ marked + 1) (after : Option Entry)
+          (after_new : after ≡ entry_after (Some e.digest) new.entries) where
         entries_marked : new.entries ≡ remarked m (take (walked.at + 1) old.entries) ++ drop (walked.at + 1) old.entries
         entries_marked =
             ap (λ (s : SprigState). s.entries) put

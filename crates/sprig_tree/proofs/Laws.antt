@@ -39,7 +39,8 @@ entry_of-with_entry_same entry [] absent = cond-true (same_digest entry.digest e
 entry_of-with_entry_same entry (e ∷ es) absent =
     cond_both (digest_before entry.digest e.digest) (entry ∷ e ∷ es) (e ∷ with_entry entry es) (λ l. entry_of entry.digest l ≡ Some entry)
     (λ _. cond-true (same_digest entry.digest entry.digest) (Some entry) (entry_of entry.digest (e ∷ es)) (same_digest_refl entry.digest))
-    (λ _. cond-false (same_digest entry.digest e.digest) (Some e) (entry_of entry.digest (with_entry entry es)) (absent_first entry.digest e es absent) ∙ entry_of-with_entry_same entry es (absent_rest entry.digest e es absent))
+    (λ _. cond-false (same_digest entry.digest e.digest) (Some e) (entry_of entry.digest (with_entry entry es)) (absent_first entry.digest e es absent)
+    ∙ entry_of-with_entry_same entry es (absent_rest entry.digest e es absent))
 
 pub entry_of-with_entry_other : (d : Digest) (entry : Entry) (es : List Entry) → same_digest d entry.digest ≡ false → entry_of d (with_entry entry es) ≡ entry_of d es
 entry_of-with_entry_other d entry [] other = cond-false (same_digest d entry.digest) (Some entry) None other
@@ -135,7 +136,8 @@ order-with_replaced = order_replaced
 
 kept_above : (d q : Digest) (es : List Entry) → AllAbove d es → AllAbove d (without_digest q es)
 kept_above d q [] above = tt
-kept_above d q (e ∷ es) above = cond_both (not (same_digest q e.digest)) (e ∷ without_digest q es) (without_digest q es) (AllAbove d) (λ _. (above.0, kept_above d q es above.1)) (λ _. kept_above d q es above.1)
+kept_above d q (e ∷ es) above = cond_both (not (same_digest q e.digest)) (e ∷ without_digest q es) (without_digest q es) (AllAbove d) (λ _. (above.0, kept_above d q es above.1))
+    (λ _. kept_above d q es above.1)
 
 pub order-without_digest : (d : Digest) (es : List Entry) → IsInDigestOrder es → IsInDigestOrder (without_digest d es)
 order-without_digest d [] order = order

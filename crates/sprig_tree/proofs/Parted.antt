@@ -58,7 +58,8 @@ module _ (digest : Digest) (rest : List Entry) (above : AllAbove digest rest) wh
   entry_of_above = find_nothing (λ e. same_digest digest e.digest) rest others_above
 
   pub without_digest_above : without_digest digest rest ≡ rest
-  without_digest_above = filter_all (λ e. not (same_digest digest e.digest)) rest (weaker (λ e. same_digest digest e.digest ≡ false) (λ e. not (same_digest digest e.digest) ≡ true) (λ e other. not_from_false (same_digest digest e.digest) other) rest others_above)
+  without_digest_above = filter_all (λ e. not (same_digest digest e.digest)) rest
+      (weaker (λ e. same_digest digest e.digest ≡ false) (λ e. not (same_digest digest e.digest) ≡ true) (λ e other. not_from_false (same_digest digest e.digest) other) rest others_above)
 
 pub entry_after_above : (digest : Digest) (rest : List Entry) → AllAbove digest rest → entry_after (Some digest) rest ≡ slice_get rest 0
 entry_after_above digest [] above = refl
@@ -95,7 +96,8 @@ module _ (entry : Entry) where
   with_replaced-between front rest e below equal above =
       let f = λ (x : Entry). cond (same_digest entry.digest x.digest) entry x in
       map-append f front (e ∷ rest)
-      ∙ (λ i. replaced_others front (others_in_front entry.digest front rest below) i ++ (cond-true (same_digest entry.digest e.digest) entry e (same_at e.digest entry.digest equal) i ∷ replaced_others rest (others_above entry.digest rest above) i))
+      ∙ (λ i. replaced_others front (others_in_front entry.digest front rest below) i ++
+      (cond-true (same_digest entry.digest e.digest) entry e (same_at e.digest entry.digest equal) i ∷ replaced_others rest (others_above entry.digest rest above) i))
 
 pub entry_after-start : (es : List Entry) → entry_after None es ≡ slice_get es 0
 entry_after-start [] = refl

@@ -42,7 +42,8 @@ same_test a b = same_from_decides (pointwise eqb a.0 b.0) (same_digest a b) (byt
     (λ e. ap (λ (d : Digest). d.0) (same_digest_is a b e), λ e. let one : a ≡ b = λ i. record { 0 = e i } in subst (λ (d : Digest). same_digest a d ≡ true) one (same_digest_refl a))
 
 -- a record in front of those so far
-pub one_named : (digest : Digest) (r : Digest × Version) (records : List (Digest × Version)) → true ≡ pointwise eqb digest.0 r.0.0 → Some (later_version r.1 (latest_of digest records)) ≡ latest_of digest (r ∷ records)
+pub one_named : (digest : Digest) (r : Digest × Version) (records : List (Digest × Version)) → true ≡ pointwise eqb digest.0 r.0.0
+    → Some (later_version r.1 (latest_of digest records)) ≡ latest_of digest (r ∷ records)
 one_named digest r records named = sym (cond-true (same_digest digest r.0) _ _ (sym (named ∙ same_test digest r.0)))
 
 pub one_other : (digest : Digest) (r : Digest × Version) (records : List (Digest × Version)) → false ≡ pointwise eqb digest.0 r.0.0 → latest_of digest records ≡ latest_of digest (r ∷ records)

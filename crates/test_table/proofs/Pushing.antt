@@ -39,12 +39,15 @@ counts o events before log fits =
     }
 
 -- the same, of values that are known by equations
-pub pushes_as : (o : Opening) (events : List Event) (pile value answer before : ℕ) (log items log' items' : List ℕ) → answer ≡ length items → log' ≡ log ++ value ∷ [] → items' ≡ items ++ value ∷ [] → LogFits o events before log → PileFits o events pile items
+pub pushes_as : (o : Opening) (events : List Event) (pile value answer before : ℕ) (log items log' items' : List ℕ) → answer ≡ length items → log' ≡ log ++ value ∷ []
+    → items' ≡ items ++ value ∷ [] → LogFits o events before log → PileFits o events pile items
     → IsPush o events pile value answer before log' items' (pushed pile value answer)
 pushes_as o events pile value answer before log items log' items' a l i log_fits pile_fits =
-    subst (λ (t : ℕ × (List ℕ × List ℕ)). IsPush o events pile value t.0 before t.1.0 t.1.1 (pushed pile value t.0)) (λ j. (sym a j, (sym l j, sym i j))) (pushes o events pile value before log items log_fits pile_fits)
+    subst (λ (t : ℕ × (List ℕ × List ℕ)). IsPush o events pile value t.0 before t.1.0 t.1.1 (pushed pile value t.0)) (λ j. (sym a j, (sym l j, sym i j)))
+    (pushes o events pile value before log items log_fits pile_fits)
 
-pub counts_as : (o : Opening) (events : List Event) (answer before : ℕ) (log : List ℕ) → answer ≡ before + length log → LogFits o events before log → IsCount o events answer before log (counted answer)
+pub counts_as : (o : Opening) (events : List Event) (answer before : ℕ) (log : List ℕ) → answer ≡ before + length log → LogFits o events before log
+    → IsCount o events answer before log (counted answer)
 counts_as o events answer before log a fits = subst (λ (n : ℕ). IsCount o events n before log (counted n)) (sym a) (counts o events before log fits)
 
 -- what is there for the opening is there for the one that the pass has
@@ -52,10 +55,12 @@ pub for_opening : {O E : Type 0} (opening : Option O) (o : O) (Q : O → E → T
 for_opening opening o Q is q = (q.0, subst (λ w. IsSomeAnd w (λ p. Q p q.0)) (sym is) q.1)
 
 -- a pile that was taken and not changed fits when the hub was given back
-pub unchanged : (o : Opening) (v w x : View (Noted Event) Opening) (pile : ℕ) (items items' : List ℕ) → v.part ≡ Some pile → w ≡ with_hub w.seen (having_found_out w.found_out v) → x ≡ without_hub w → items' ≡ items → PileFits o (values (events w.seen)) pile items
+pub unchanged : (o : Opening) (v w x : View (Noted Event) Opening) (pile : ℕ) (items items' : List ℕ) → v.part ≡ Some pile → w ≡ with_hub w.seen (having_found_out w.found_out v)
+    → x ≡ without_hub w → items' ≡ items → PileFits o (values (events w.seen)) pile items
     → IsSomeAnd x.part (λ k. PileFits o (values (events x.seen)) k items')
 unchanged o v w x pile items items' held two three same fits =
-    subst (λ (h : Option ℕ). IsSomeAnd h (λ k. PileFits o (values (events x.seen)) k items')) (sym (ap (λ (y : View (Noted Event) Opening). y.part) three ∙ ap (λ (y : View (Noted Event) Opening). y.part) two ∙ held))
+    subst (λ (h : Option ℕ). IsSomeAnd h (λ k. PileFits o (values (events x.seen)) k items'))
+    (sym (ap (λ (y : View (Noted Event) Opening). y.part) three ∙ ap (λ (y : View (Noted Event) Opening). y.part) two ∙ held))
     (subst (λ (t : List _ × List ℕ). PileFits o (values (events t.0)) pile t.1) (λ i. (ap (λ (y : View (Noted Event) Opening). y.seen) (sym three) i, sym same i)) fits)
 
 -- each pile of a table that is opened fits its opening

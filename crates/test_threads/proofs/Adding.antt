@@ -18,7 +18,8 @@ amount_of-push k (x ∷ xs) amount = let r = amount_of-push k xs amount in let n
 held_is : (held : Option ℕ) (Q : ℕ → Type 0) (k : ℕ) → held ≡ Some k → Q k → IsSomeAnd held Q
 held_is held Q k is q = subst (λ h. IsSomeAnd h Q) (sym is) q
 
-module _ {O : Type 0} (v1 v2 v3 : View (ℕ × ℕ) O) (part counter : ℕ) (held : v1.part ≡ Some part) (two : v2 ≡ with_hub v2.seen (having_found_out v2.found_out v1)) (fits : counter ≡ amount_of part (events v2.seen)) where
+module _ {O : Type 0} (v1 v2 v3 : View (ℕ × ℕ) O) (part counter : ℕ) (held : v1.part ≡ Some part) (two : v2 ≡ with_hub v2.seen (having_found_out v2.found_out v1))
+    (fits : counter ≡ amount_of part (events v2.seen)) where
   pub added : (amount counter' : ℕ) → v3 ≡ with_event (part, amount) v2 → counter' ≡ counter + amount → IsSomeAnd v3.part (λ k. counter' ≡ amount_of k (events v3.seen))
   added amount counter' three sum =
       held_is v3.part (λ k. counter' ≡ amount_of k (events v3.seen)) part (ap (λ v. v.part) three ∙ ap (λ v. v.part) two ∙ held)

@@ -33,7 +33,8 @@ module _ {E O : Type 0} where
   -- the numbers after a change of one view
   pub numbers_in-set : (views : List (View E O)) (id : ℕ) (v w : View E O) → get_elem? views id ≡ some v → w.own ≡ v.own → w.joined ≡ v.joined → numbers_in (set views id w) ≡ numbers_in views
   numbers_in-set [] id v w at a b = refl
-  numbers_in-set (u ∷ us) zero v w at a b = let same : u ≡ v = maybe.some-injective u v at in ap (λ (t : ℕ). t + numbers_in us) (λ i. (a ∙ ap (λ (y : View E O). y.own) (sym same)) i + (b ∙ ap (λ (y : View E O). y.joined) (sym same)) i)
+  numbers_in-set (u ∷ us) zero v w at a b = let same : u ≡ v =
+      maybe.some-injective u v at in ap (λ (t : ℕ). t + numbers_in us) (λ i. (a ∙ ap (λ (y : View E O). y.own) (sym same)) i + (b ∙ ap (λ (y : View E O). y.joined) (sym same)) i)
   numbers_in-set (u ∷ us) (suc id) v w at a b = ap (λ t. u.own + u.joined + t) (numbers_in-set us id v w at a b)
 
   -- the numbers after a change of one view's numbers
@@ -53,11 +54,14 @@ module _ {E O : Type 0} where
   numbers_of_one (u ∷ us) (suc id) v at = let r = numbers_of_one us id v at in omega arith
 
   -- and so are those of two
-  pub numbers_of_two : (views : List (View E O)) (i j : ℕ) (v w : View E O) → ¬ (i ≡ j) → get_elem? views i ≡ some v → get_elem? views j ≡ some w → v.own + v.joined + (w.own + w.joined) ≤ numbers_in views
+  pub numbers_of_two : (views : List (View E O)) (i j : ℕ) (v w : View E O) → ¬ (i ≡ j) → get_elem? views i ≡ some v → get_elem? views j ≡ some w
+      → v.own + v.joined + (w.own + w.joined) ≤ numbers_in views
   numbers_of_two [] i j v w n a b = absurd (maybe.some-ne-none v (sym a))
   numbers_of_two (u ∷ us) zero zero v w n a b = absurd (n refl)
-  numbers_of_two (u ∷ us) zero (suc j) v w n a b = let same : u ≡ v = maybe.some-injective u v a in let x = ap (λ (y : View E O). y.own) same in let y = ap (λ (y : View E O). y.joined) same in let r = numbers_of_one us j w b in omega arith
-  numbers_of_two (u ∷ us) (suc i) zero v w n a b = let same : u ≡ w = maybe.some-injective u w b in let x = ap (λ (y : View E O). y.own) same in let y = ap (λ (y : View E O). y.joined) same in let r = numbers_of_one us i v a in omega arith
+  numbers_of_two (u ∷ us) zero (suc j) v w n a b = let same : u ≡ v = maybe.some-injective u v a in let x = ap (λ (y : View E O). y.own) same in let y =
+      ap (λ (y : View E O). y.joined) same in let r = numbers_of_one us j w b in omega arith
+  numbers_of_two (u ∷ us) (suc i) zero v w n a b = let same : u ≡ w = maybe.some-injective u w b in let x = ap (λ (y : View E O). y.own) same in let y =
+      ap (λ (y : View E O). y.joined) same in let r = numbers_of_one us i v a in omega arith
   numbers_of_two (u ∷ us) (suc i) (suc j) v w n a b = let r = numbers_of_two us i j v w (λ e. n (ap suc e)) a b in omega arith
 
 module _ {H P E O : Type 0} (hub_fits : O → List E → H → Type 0) (part_fits : O → List E → ℕ → P → Type 0) (may_follow : O → List E → E → Type 0) (part_named : E → Option ℕ) (o : O) where
@@ -141,7 +145,8 @@ module _ {H P E O : Type 0} (hub_fits : O → List E → H → Type 0) (part_fit
         turned p q (inl a) = inr a
         turned p q (inr a) = inl a
 
-        apart_still : (i j : ℕ) (p q : View E O) → ¬ (i ≡ j) → ((i ≡ id) × (w ≡ p)) ⊎ ((i ≢ id) × (get_elem? s.views i ≡ some p)) → ((j ≡ id) × (w ≡ q)) ⊎ ((j ≢ id) × (get_elem? s.views j ≡ some q)) → AreApart p q
+        apart_still : (i j : ℕ) (p q : View E O) → ¬ (i ≡ j) → ((i ≡ id) × (w ≡ p)) ⊎ ((i ≢ id) × (get_elem? s.views i ≡ some p)) → ((j ≡ id) × (w ≡ q))
+            ⊎ ((j ≢ id) × (get_elem? s.views j ≡ some q)) → AreApart p q
         apart_still i j p q ne (inl a) (inl e) = absurd (ne (a.0 ∙ sym e.0))
         apart_still i j p q ne (inl a) (inr e) = subst (λ y. AreApart y q) a.1 (apart_from q (kept.apart id j v q (λ z. e.0 (sym z)) at e.1))
         apart_still i j p q ne (inr a) (inl e) = subst (AreApart p) e.1 (turned w p (apart_from p (kept.apart id i v p (λ z. a.0 (sym z)) at a.1)))

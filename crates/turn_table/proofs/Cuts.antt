@@ -1,5 +1,6 @@
 -- Splitting a pass and joining two keep the rule, and a look changes nothing.
-use Rattle.std.proofs.Common.{◌≡◌, ◌≢◌, ℕ, zero, suc, ◌+◌, ◌-◌, ◌<◌, ◌≤◌, Bool, true, false, cond, List, [], ◌∷◌, ◌++◌, length, get_or, set, Option, Some, None, nat_lt, refl, sym, ap, ◌∙◌, subst, arith, inl, inr, ⊎_elim, ◌⊎◌, append-nil}
+use Rattle.std.proofs.Common.{◌≡◌, ◌≢◌, ℕ, zero, suc, ◌+◌, ◌-◌, ◌<◌, ◌≤◌, Bool, true, false, cond, List, [], ◌∷◌, ◌++◌, length, get_or, set, Option, Some, None}
+use Rattle.std.proofs.Common.{nat_lt, refl, sym, ap, ◌∙◌, subst, arith, inl, inr, ⊎_elim, ◌⊎◌, append-nil}
 use Rattle.std.proofs.lemmas.List.{length-set, set-get_or}
 use Rattle.std.proofs.lemmas.Bool.Decides.{nat_tests}
 use mathlib.Core.Option.{some, none}
@@ -54,7 +55,8 @@ module _ {A : Type 0} where
   at_push (x ∷ xs) a b zero e = inl e
   at_push (x ∷ xs) a b (suc j) e = ⊎_elim (λ (q : get_elem? xs j ≡ some b). inl q) (λ (q : (j ≡ length xs) × (a ≡ b)). inr (ap suc q.0, q.1)) (at_push xs a b j e)
 
-module _ {H P E O : Type 0} (hub_fits : O → List E → H → Type 0) (part_fits : O → List E → ℕ → P → Type 0) (may_follow : O → List E → E → Type 0) (part_named : E → Option ℕ) (law : FitsOn part_fits may_follow part_named) (o : O) where
+module _ {H P E O : Type 0} (hub_fits : O → List E → H → Type 0) (part_fits : O → List E → ℕ → P → Type 0) (may_follow : O → List E → E → Type 0) (part_named : E → Option ℕ)
+    (law : FitsOn part_fits may_follow part_named) (o : O) where
   abbrev Kept : State (Place H P E) (View E O) → Type 0
   Kept s = IsKept hub_fits part_fits may_follow part_named o s
 
@@ -75,7 +77,13 @@ module _ {H P E O : Type 0} (hub_fits : O → List E → H → Type 0) (part_fit
         keeps,
         tt,
         subst Kept (λ i. record { words = sym words_stay i; homes = s.homes; views = sym views_stay i }) kept,
-        (refl, t.told, omega (arith, one, all), (λ some_own. sees_more hub_fits part_fits may_follow part_named law o (length s.homes) kept.log kept.place id m.0 m.0 some_own (refl, (refl, refl)) t kept.legal ([], append-nil m.0.seen) t.begins)),
+        (
+          refl,
+          t.told,
+          omega (arith, one, all),
+          (λ some_own. sees_more hub_fits part_fits may_follow part_named law o (length s.homes) kept.log kept.place id m.0 m.0 some_own
+              (refl, (refl, refl)) t kept.legal ([], append-nil m.0.seen) t.begins),
+        ),
       )
 
   -- the views of other indexes, and where slots are out, are as they were
@@ -175,7 +183,18 @@ module _ {H P E O : Type 0} (hub_fits : O → List E → H → Type 0) (part_fit
         seen_whole = dite (ℕ_discrete kept.seen_whole.0 id)
             (λ e. let same_view : kept.seen_whole.1.0 ≡ v = maybe.some-injective _ v (sym kept.seen_whole.1.1.0 ∙ ap (get_elem? s.views) e ∙ at) in
             (id, (left, (left_there, omega arith, ap (λ (q : View E O). q.seen) (sym same_view) ∙ kept.seen_whole.1.1.2))))
-            (λ ne. (kept.seen_whole.0, (kept.seen_whole.1.0, (at_longer mid (right ∷ []) kept.seen_whole.0 kept.seen_whole.1.0 (set_else s.views id kept.seen_whole.0 left ne ∙ kept.seen_whole.1.1.0), kept.seen_whole.1.1.1, kept.seen_whole.1.1.2))));
+            (λ ne. (
+              kept.seen_whole.0,
+              (
+                kept.seen_whole.1.0,
+                (
+                  at_longer mid (right ∷ []) kept.seen_whole.0 kept.seen_whole.1.0
+                      (set_else s.views id kept.seen_whole.0 left ne ∙ kept.seen_whole.1.1.0),
+                  kept.seen_whole.1.1.1,
+                  kept.seen_whole.1.1.2,
+                ),
+              ),
+            ));
       }
     where
       holds_none : (k : ℕ) → ¬ (HasTaken (length s.homes) k (last_share share v))
@@ -198,7 +217,8 @@ module _ {H P E O : Type 0} (hub_fits : O → List E → H → Type 0) (part_fit
           front_empty [] ys e = refl
           front_empty (x ∷ xs) ys e = absurd (cc e)
 
-      moved : (j k : ℕ) (u : View E O) → get_elem? s.views j ≡ some u → HasTaken (length s.homes) k u → (w : View E O) × ((get_elem? (set s.views id (first_share share v) ++ last_share share v ∷ []) j ≡ some w) × HasTaken (length s.homes) k w)
+      moved : (j k : ℕ) (u : View E O) → get_elem? s.views j ≡ some u → HasTaken (length s.homes) k u → (w : View E O)
+          × ((get_elem? (set s.views id (first_share share v) ++ last_share share v ∷ []) j ≡ some w) × HasTaken (length s.homes) k w)
       moved j k u is has = dite (ℕ_discrete j id)
           (λ e. let same_view : u ≡ v = maybe.some-injective u v (sym is ∙ ap (get_elem? s.views) e ∙ at) in
           absurd (⊎_elim
@@ -214,7 +234,8 @@ module _ {H P E O : Type 0} (hub_fits : O → List E → H → Type 0) (part_fit
       apart_still i j p q ne (inr (inl a)) (inr (inl e)) = absurd (ne (a.0 ∙ sym e.0))
       apart_still i j p q ne (inr (inl a)) (inr (inr e)) = subst (λ (y : View E O × View E O). AreApart y.0 y.1) (λ i. (a.1 i, e.1 i)) (first_then_last share v)
       apart_still i j p q ne (inr (inr a)) (inl e) = subst (λ y. AreApart y q) a.1 (turned q (last_share share v) (in_last share v q less (kept.apart j id q v e.0 e.1 at)))
-      apart_still i j p q ne (inr (inr a)) (inr (inl e)) = subst (λ (y : View E O × View E O). AreApart y.0 y.1) (λ i. (a.1 i, e.1 i)) (turned (first_share share v) (last_share share v) (first_then_last share v))
+      apart_still i j p q ne (inr (inr a)) (inr (inl e)) = subst (λ (y : View E O × View E O). AreApart y.0 y.1) (λ i. (a.1 i, e.1 i))
+          (turned (first_share share v) (last_share share v) (first_then_last share v))
       apart_still i j p q ne (inr (inr a)) (inr (inr e)) = absurd (ne (a.0 ∙ sym e.0))
 
   pub joins : (id : ℕ) (v : View E O) (other : ℕ) (w : View E O) → 0 < v.own → v.part ≡ None → v.hub ≡ false → w.part ≡ None → w.hub ≡ false → Joins Kept id v other w (joined_view v w) nobody
@@ -255,7 +276,18 @@ module _ {H P E O : Type 0} (hub_fits : O → List E → H → Type 0) (part_fit
             (λ d. dite (ℕ_discrete kept.seen_whole.0 other)
             (λ e. let same_view : kept.seen_whole.1.0 ≡ w = maybe.some-injective _ w (sym kept.seen_whole.1.1.0 ∙ ap (get_elem? s.views) e ∙ w_at) in
             (id, (both, (both_there, some_own, whole_still w.seen (longer v.seen w.seen) kept.log lengths.1.0 lengths.1.1 (ap (λ (q : View E O). q.seen) (sym same_view) ∙ kept.seen_whole.1.1.2)))))
-            (λ f. (kept.seen_whole.0, (kept.seen_whole.1.0, (set_else mid other kept.seen_whole.0 nobody f ∙ set_else s.views id kept.seen_whole.0 both d ∙ kept.seen_whole.1.1.0, kept.seen_whole.1.1.1, kept.seen_whole.1.1.2)))));
+            (λ f. (
+              kept.seen_whole.0,
+              (
+                kept.seen_whole.1.0,
+                (
+                  set_else mid other kept.seen_whole.0 nobody f ∙ set_else s.views id kept.seen_whole.0 both d
+                      ∙ kept.seen_whole.1.1.0,
+                  kept.seen_whole.1.1.1,
+                  kept.seen_whole.1.1.2,
+                ),
+              ),
+            )));
       }
     where
       origin : (j : ℕ) (y : View E O) → get_elem? (set (set s.views id (joined_view v w)) other nobody) j ≡ some y → After s.views id v other w j y
@@ -282,11 +314,14 @@ module _ {H P E O : Type 0} (hub_fits : O → List E → H → Type 0) (part_fit
         whole = λ e. absurd (cc e);
       }
 
-      moved : get_elem? s.views other ≡ some w → (j k : ℕ) (y : View E O) → get_elem? s.views j ≡ some y → HasTaken (length s.homes) k y → (z : View E O) × ((get_elem? (set (set s.views id (joined_view v w)) other nobody) j ≡ some z) × HasTaken (length s.homes) k z)
+      moved : get_elem? s.views other ≡ some w → (j k : ℕ) (y : View E O) → get_elem? s.views j ≡ some y → HasTaken (length s.homes) k y → (z : View E O)
+          × ((get_elem? (set (set s.views id (joined_view v w)) other nobody) j ≡ some z) × HasTaken (length s.homes) k z)
       moved w_at j k y is has = dite (ℕ_discrete j id)
-          (λ e. let same_view : y ≡ v = maybe.some-injective y v (sym is ∙ ap (get_elem? s.views) e ∙ at) in absurd (free_holds (length s.homes) k v no_part no_hub (subst (HasTaken (length s.homes) k) same_view has)))
+          (λ e. let same_view : y ≡ v = maybe.some-injective y v (sym is ∙ ap (get_elem? s.views) e ∙ at) in absurd
+          (free_holds (length s.homes) k v no_part no_hub (subst (HasTaken (length s.homes) k) same_view has)))
           (λ d. dite (ℕ_discrete j other)
-          (λ e. let same_view : y ≡ w = maybe.some-injective y w (sym is ∙ ap (get_elem? s.views) e ∙ w_at) in absurd (free_holds (length s.homes) k w other_part other_hub (subst (HasTaken (length s.homes) k) same_view has)))
+          (λ e. let same_view : y ≡ w = maybe.some-injective y w (sym is ∙ ap (get_elem? s.views) e ∙ w_at) in absurd
+          (free_holds (length s.homes) k w other_part other_hub (subst (HasTaken (length s.homes) k) same_view has)))
           (λ f. (y, (set_else (set s.views id (joined_view v w)) other j nobody f ∙ set_else s.views id j (joined_view v w) d ∙ is, has))))
 
       apart_still : (i j : ℕ) (p q : View E O) → ¬ (i ≡ j) → After s.views id v other w i p → After s.views id v other w j q → AreApart p q

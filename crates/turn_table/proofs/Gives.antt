@@ -31,7 +31,8 @@ module _ {H P E : Type 0} where
   head_said [] d = d
   head_said (x ∷ xs) d = place_said x.1 d
 
-module _ {H P E O : Type 0} (hub_fits : O → List E → H → Type 0) (part_fits : O → List E → ℕ → P → Type 0) (may_follow : O → List E → E → Type 0) (part_named : E → Option ℕ) (law : FitsOn part_fits may_follow part_named) (o : O) where
+module _ {H P E O : Type 0} (hub_fits : O → List E → H → Type 0) (part_fits : O → List E → ℕ → P → Type 0) (may_follow : O → List E → E → Type 0) (part_named : E → Option ℕ)
+    (law : FitsOn part_fits may_follow part_named) (o : O) where
   abbrev Kept : State (Place H P E) (View E O) → Type 0
   Kept s = IsKept hub_fits part_fits may_follow part_named o s
 
@@ -75,7 +76,8 @@ module _ {H P E O : Type 0} (hub_fits : O → List E → H → Type 0) (part_fit
               quiet = λ j e. absurd (cc e);
               whole = t.whole;
             }
-            (λ j u ne there_is t'. other_still hub_fits part_fits may_follow part_named law o (length s.homes) kept.log kept.place k (home v.seen) j u (λ e. let same : id ≡ j = cc (out_here, e) in ne (sym same)) t')
+            (λ j u ne there_is t'. other_still hub_fits part_fits may_follow part_named law o (length s.homes) kept.log kept.place k (home v.seen) j u
+            (λ e. let same : id ≡ j = cc (out_here, e) in ne (sym same)) t')
             (seen_still s kept id v w at some_own refl refl),
         (refl, sees_same hub_fits part_fits may_follow part_named law o (length s.homes) kept.log kept.place id v w some_own (refl, (refl, refl)) refl t kept.legal),
       )
@@ -84,7 +86,8 @@ module _ {H P E O : Type 0} (hub_fits : O → List E → H → Type 0) (part_fit
       has_still j ne (inl q) = let same : k ≡ j = cc (has_part, q.0) in absurd (ne (sym same))
       has_still j ne (inr q) = inr q
 
-  pub gives_back : (n id k : ℕ) (v : View E O) (h : H) (said : Snapshot (Option E)) (c : List (ℕ × Place H P E)) → 0 < v.own → suc k ≡ n → v.hub ≡ true → v.opening ≡ Some o → hub_fits o (events v.seen) h
+  pub gives_back : (n id k : ℕ) (v : View E O) (h : H) (said : Snapshot (Option E)) (c : List (ℕ × Place H P E)) → 0 < v.own → suc k ≡ n → v.hub ≡ true → v.opening ≡ Some o
+      → hub_fits o (events v.seen) h
       → Allows Kept n id (v, (k, Hub h said) ∷ c) k (λ _. 1) (λ _. gave_back hub_fits part_fits may_follow part_named (v, (k, Hub h said) ∷ c))
   gives_back n id k v h said c some_own last has_hub opened fit s kept long at fits =
       let t = kept.true_view id v at in
@@ -95,8 +98,10 @@ module _ {H P E O : Type 0} (hub_fits : O → List E → H → Type 0) (part_fit
         w,
         gives,
         tt,
-        changes hub_fits part_fits may_follow part_named o s kept id v at k within w (home kept.log) 1 (some (Hub h said)) kept.log (refl, (refl, refl)) kept.legal
-            (get_or-set_same s.words k 1 0 (subst (λ m. k < m) (sym kept.wide) within), (Hub h said, (set_here s.homes k (some (Hub h said)) within, (here, subst (λ l. hub_fits o (events l) h) (t.whole has_hub) fit))))
+        changes hub_fits part_fits may_follow part_named o s kept id v at k within w (home kept.log) 1 (some (Hub h said)) kept.log (refl, (refl, refl)) kept.legal (
+          get_or-set_same s.words k 1 0 (subst (λ m. k < m) (sym kept.wide) within),
+          (Hub h said, (set_here s.homes k (some (Hub h said)) within, (here, subst (λ l. hub_fits o (events l) h) (t.whole has_hub) fit))),
+        )
             (λ j ne e y at_home f. f)
             (λ j ne has. has_still j ne has)
             record {
@@ -113,7 +118,8 @@ module _ {H P E O : Type 0} (hub_fits : O → List E → H → Type 0) (part_fit
               quiet = t.quiet;
               whole = λ e. absurd (cc e);
             }
-            (λ j u ne there_is t'. other_still hub_fits part_fits may_follow part_named law o (length s.homes) kept.log kept.place k (home kept.log) j u (λ e. let same : id ≡ j = cc (out_here, e) in ne (sym same)) t')
+            (λ j u ne there_is t'. other_still hub_fits part_fits may_follow part_named law o (length s.homes) kept.log kept.place k (home kept.log) j u
+            (λ e. let same : id ≡ j = cc (out_here, e) in ne (sym same)) t')
             (seen_still s kept id v w at some_own refl refl),
         (refl, sees_same hub_fits part_fits may_follow part_named law o (length s.homes) kept.log kept.place id v w some_own (refl, (refl, refl)) refl t kept.legal),
       )
@@ -122,7 +128,8 @@ module _ {H P E O : Type 0} (hub_fits : O → List E → H → Type 0) (part_fit
       has_still j ne (inl q) = inl q
       has_still j ne (inr q) = absurd (ne (omega (arith, q.1, last, long)))
 
-  pub gives_with : (n id k : ℕ) (v : View E O) (h : H) (said : Snapshot (Option E)) (e : E) (c : List (ℕ × Place H P E)) → 0 < v.own → suc k ≡ n → v.hub ≡ true → v.opening ≡ Some o → said.value ≡ Some e
+  pub gives_with : (n id k : ℕ) (v : View E O) (h : H) (said : Snapshot (Option E)) (e : E) (c : List (ℕ × Place H P E)) → 0 < v.own → suc k ≡ n → v.hub ≡ true
+      → v.opening ≡ Some o → said.value ≡ Some e
       → hub_fits o (events v.seen ++ e ∷ []) h → may_follow o (events v.seen) e → ((j : ℕ) → part_named e ≡ Some j → v.part ≡ Some j)
       → Allows Kept n id (v, (k, Hub h said) ∷ c) k (λ _. 1) (λ _. gave_with hub_fits part_fits may_follow part_named (v, (k, Hub h said) ∷ c))
   gives_with n id k v h said e c some_own last has_hub opened says fit may names s kept long at fits =
@@ -139,7 +146,8 @@ module _ {H P E O : Type 0} (hub_fits : O → List E → H → Type 0) (part_fit
       let longer_is : v.seen ++ x ∷ [] ≡ log = ap (λ l. l ++ x ∷ []) whole in
       let more : SeesMore may_follow v w = record {
         begins = (x ∷ [], refl);
-        legal = λ o' is. let one : o ≡ o' = cc (opened, is) in subst (λ (z : O). IsLegal may_follow z (events (v.seen ++ x ∷ []))) one (subst (λ l. IsLegal may_follow o (events l)) (sym longer_is) (legal_push may_follow o kept.log x kept.legal may_here));
+        legal = λ o' is. let one : o ≡ o' = cc (opened, is) in subst (λ (z : O). IsLegal may_follow z (events (v.seen ++ x ∷ []))) one
+            (subst (λ l. IsLegal may_follow o (events l)) (sym longer_is) (legal_push may_follow o kept.log x kept.legal may_here));
         own_events = events_by-push_same v.first v.seen e ∙ ap (λ l. l ++ e ∷ []) (t.has_seen some_own);
       } in (
         w,
@@ -175,7 +183,9 @@ module _ {H P E O : Type 0} (hub_fits : O → List E → H → Type 0) (part_fit
       has_still j ne (inl q) = inl q
       has_still j ne (inr q) = absurd (ne (omega (arith, q.1, last, long)))
 
-      home_still : True (length s.homes) kept.log kept.place id v → (j : ℕ) → j ≢ k → (early : List (Entry E)) (y : Place H P E) → kept.place j ≡ home early → IsAtHome hub_fits part_fits may_follow part_named o (length s.homes) kept.log j early y → IsAtHome hub_fits part_fits may_follow part_named o (length s.homes) (kept.log ++ entry v.first e ∷ []) j early y
+      home_still : True (length s.homes) kept.log kept.place id v → (j : ℕ) → j ≢ k → (early : List (Entry E)) (y : Place H P E) → kept.place j ≡ home early
+          → IsAtHome hub_fits part_fits may_follow part_named o (length s.homes) kept.log j early y
+          → IsAtHome hub_fits part_fits may_follow part_named o (length s.homes) (kept.log ++ entry v.first e ∷ []) j early y
       home_still t j ne early (Hub h' said') at_home f = absurd (ne (omega (arith, f.0, last, long)))
       home_still t j ne early (Part p) at_home f = (f.0, f.1, quiet_push part_named j early kept.log (entry v.first e) f.2 (λ named. cc ((t.holds j (inl (names j named, f.0))).0, at_home)))
       home_still t j ne early Away at_home f = f
@@ -191,7 +201,11 @@ module _ {H P E O : Type 0} (hub_fits : O → List E → H → Type 0) (part_fit
             entered = λ z. events_by-push_other u.first v.first kept.log e (λ i. outside elsewhere z i) ∙ t'.entered z;
             has_seen = t'.has_seen;
             numbered = first_only-push u.first u.own kept.log x t'.numbered (λ a b. absurd (beyond elsewhere a b));
-            holds = λ i has. let h' = t'.holds i has in (placed_else kept.place k (home (kept.log ++ x ∷ [])) i (λ same. let one : id ≡ j = cc (out_here, ap kept.place same, h'.0) in ne (sym one)) ∙ h'.0, h'.1);
+            holds = λ i has. let h' = t'.holds i has in (
+              placed_else kept.place k (home (kept.log ++ x ∷ [])) i
+                  (λ same. let one : id ≡ j = cc (out_here, ap kept.place same, h'.0) in ne (sym one)) ∙ h'.0,
+              h'.1,
+            );
             quiet = λ i is. let q = t'.quiet i is in (
               q.0,
               quiet_push part_named i u.seen kept.log x q.1 (λ named.
@@ -209,15 +223,22 @@ module _ {H P E O : Type 0} (hub_fits : O → List E → H → Type 0) (part_fit
           beyond (inr a) z i = omega arith
 
   -- the same, of a seat that is known by an equation
-  pub gives_part_as : (n id k : ℕ) (m : Me (Place H P E) (View E O)) (v : View E O) (p : P) (c : List (ℕ × Place H P E)) → m ≡ (v, (k, Part p) ∷ c) → 0 < v.own → suc k < n → v.part ≡ Some k → v.opening ≡ Some o → part_fits o (events v.seen) k p
+  pub gives_part_as : (n id k : ℕ) (m : Me (Place H P E) (View E O)) (v : View E O) (p : P) (c : List (ℕ × Place H P E)) → m ≡ (v, (k, Part p) ∷ c) → 0 < v.own → suc k < n → v.part ≡ Some k
+      → v.opening ≡ Some o → part_fits o (events v.seen) k p
       → Allows Kept n id m k (λ _. 1) (λ _. gave_part hub_fits part_fits may_follow part_named m)
-  gives_part_as n id k m v p c is a b d e f = subst (λ (x : Me (Place H P E) (View E O)). Allows Kept n id x k (λ _. 1) (λ _. gave_part hub_fits part_fits may_follow part_named x)) (sym is) (gives_part n id k v p c a b d e f)
+  gives_part_as n id k m v p c is a b d e f = subst (λ (x : Me (Place H P E) (View E O)). Allows Kept n id x k (λ _. 1) (λ _. gave_part hub_fits part_fits may_follow part_named x)) (sym is)
+      (gives_part n id k v p c a b d e f)
 
-  pub gives_back_as : (n id k : ℕ) (m : Me (Place H P E) (View E O)) (v : View E O) (h : H) (said : Snapshot (Option E)) (c : List (ℕ × Place H P E)) → m ≡ (v, (k, Hub h said) ∷ c) → 0 < v.own → suc k ≡ n → v.hub ≡ true → v.opening ≡ Some o → hub_fits o (events v.seen) h
+  pub gives_back_as : (n id k : ℕ) (m : Me (Place H P E) (View E O)) (v : View E O) (h : H) (said : Snapshot (Option E)) (c : List (ℕ × Place H P E)) → m ≡ (v, (k, Hub h said) ∷ c)
+      → 0 < v.own → suc k ≡ n → v.hub ≡ true → v.opening ≡ Some o → hub_fits o (events v.seen) h
       → Allows Kept n id m k (λ _. 1) (λ _. gave_back hub_fits part_fits may_follow part_named m)
-  gives_back_as n id k m v h said c is a b d e f = subst (λ (x : Me (Place H P E) (View E O)). Allows Kept n id x k (λ _. 1) (λ _. gave_back hub_fits part_fits may_follow part_named x)) (sym is) (gives_back n id k v h said c a b d e f)
+  gives_back_as n id k m v h said c is a b d e f = subst (λ (x : Me (Place H P E) (View E O)). Allows Kept n id x k (λ _. 1) (λ _. gave_back hub_fits part_fits may_follow part_named x))
+      (sym is) (gives_back n id k v h said c a b d e f)
 
-  pub gives_with_as : (n id k : ℕ) (m : Me (Place H P E) (View E O)) (v : View E O) (h : H) (said : Snapshot (Option E)) (e : E) (c : List (ℕ × Place H P E)) → m ≡ (v, (k, Hub h said) ∷ c) → 0 < v.own → suc k ≡ n → v.hub ≡ true → v.opening ≡ Some o → said.value ≡ Some e
+  pub gives_with_as : (n id k : ℕ) (m : Me (Place H P E) (View E O)) (v : View E O) (h : H) (said : Snapshot (Option E)) (e : E) (c : List (ℕ × Place H P E)) → m ≡ (v, (k, Hub h said) ∷ c)
+      → 0 < v.own → suc k ≡ n → v.hub ≡ true → v.opening ≡ Some o → said.value ≡ Some e
       → hub_fits o (events v.seen ++ e ∷ []) h → may_follow o (events v.seen) e → ((j : ℕ) → part_named e ≡ Some j → v.part ≡ Some j)
       → Allows Kept n id m k (λ _. 1) (λ _. gave_with hub_fits part_fits may_follow part_named m)
-  gives_with_as n id k m v h said e c is a b d f g i j l = subst (λ (x : Me (Place H P E) (View E O)). Allows Kept n id x k (λ _. 1) (λ _. gave_with hub_fits part_fits may_follow part_named x)) (sym is) (gives_with n id k v h said e c a b d f g i j l)
+  gives_with_as n id k m v h said e c is a b d f g i j l = subst
+      (λ (x : Me (Place H P E) (View E O)). Allows Kept n id x k (λ _. 1) (λ _. gave_with hub_fits part_fits may_follow part_named x)) (sym is)
+      (gives_with n id k v h said e c a b d f g i j l)

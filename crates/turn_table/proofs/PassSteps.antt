@@ -23,8 +23,10 @@ pub some_is : {j k : ℕ} → Some j ≡ Some k → j ≡ k
 some_is e = cc e
 
 module _ {M H P E O : Type 0} where
-  pub pass_after : (t : Table M H P E O) (p q : Pass M H P E O) → IsPassOf t p → q.seat.table_id ≡ p.seat.table_id → (view q).opening ≡ (view p).opening → (view q).own ≡ (view p).own → (view q).joined ≡ (view p).joined
-      → q.own ≡ p.own → q.joined ≡ p.joined → q.part ≡ (view q).part → q.hub ≡ (view q).hub → q.seat.me.1 ≡ slots_out t.parts (view q).part (view q).hub → ((k : ℕ) → (view q).part ≡ Some k → k < t.parts) → IsPassOf t q
+  pub pass_after : (t : Table M H P E O) (p q : Pass M H P E O) → IsPassOf t p → q.seat.table_id ≡ p.seat.table_id → (view q).opening ≡ (view p).opening → (view q).own ≡ (view p).own
+      → (view q).joined ≡ (view p).joined
+      → q.own ≡ p.own → q.joined ≡ p.joined → q.part ≡ (view q).part → q.hub ≡ (view q).hub → q.seat.me.1 ≡ slots_out t.parts (view q).part (view q).hub
+      → ((k : ℕ) → (view q).part ≡ Some k → k < t.parts) → IsPassOf t q
   pass_after t p q of table opening own joined own_field joined_field part hub slots below = record {
     below = below;
     same_table = table ∙ of.same_table;
@@ -38,9 +40,11 @@ module _ {M H P E O : Type 0} where
     bounded = omega (arith, own_field, joined_field, of.bounded);
   }
 
-module _ {M H P E O : Type 0} (hub_fits : O → List E → H → Type 0) (part_fits : O → List E → ℕ → P → Type 0) (may_follow : O → List E → E → Type 0) (part_named : E → Option ℕ) (t : Table M H P E O) (p : Pass M H P E O) (of : IsPassOf t p) where
+module _ {M H P E O : Type 0} (hub_fits : O → List E → H → Type 0) (part_fits : O → List E → ℕ → P → Type 0) (may_follow : O → List E → E → Type 0) (part_named : E → Option ℕ)
+    (t : Table M H P E O) (p : Pass M H P E O) (of : IsPassOf t p) where
   pub took_part_pass : (one two : Seat (Place H P E) (View E O)) (k : ℕ) → (view p).part ≡ None → (view p).hub ≡ false
-      → one.table_id ≡ p.seat.table_id → TookPart hub_fits part_fits may_follow part_named k p.seat.me one.me → two.table_id ≡ one.table_id → two.me ≡ (one.me.0, (k, Away) ∷ rest one.me.1) → k < t.parts
+      → one.table_id ≡ p.seat.table_id → TookPart hub_fits part_fits may_follow part_named k p.seat.me one.me → two.table_id ≡ one.table_id
+      → two.me ≡ (one.me.0, (k, Away) ∷ rest one.me.1) → k < t.parts
       → IsPassOf t record { seat = two; own = p.own; joined = p.joined; part = Some k; hub = p.hub }
   took_part_pass one two k no_part no_hub a took b e less =
       let is : two.me.0 ≡ with_part k one.me.0.seen p.seat.me.0 = ap (λ m. m.0) e ∙ took.2 in
@@ -101,16 +105,20 @@ module _ {M H P E O : Type 0} (hub_fits : O → List E → H → Type 0) (part_f
 pub front_is : {S : Type 0} (l c : List (ℕ × S)) (k : ℕ) (y : S) → l ≡ (k, y) ∷ c → l ≡ (k, y) ∷ rest l
 front_is l c k y e = e ∙ ap (λ t. (k, y) ∷ t) (ap rest (sym e))
 
-pub held_fits : {P E O : Type 0} (part_fits : O → List E → ℕ → P → Type 0) (o : O) (es : List E) (p : P) (held : Option ℕ) (k : ℕ) → held ≡ Some k → IsSomeAnd held (λ j. part_fits o es j p) → part_fits o es k p
+pub held_fits : {P E O : Type 0} (part_fits : O → List E → ℕ → P → Type 0) (o : O) (es : List E) (p : P) (held : Option ℕ) (k : ℕ) → held ≡ Some k
+    → IsSomeAnd held (λ j. part_fits o es j p) → part_fits o es k p
 held_fits part_fits o es p held k is f = let g : IsSomeAnd (Some k) (λ j. part_fits o es j p) = subst (λ h. IsSomeAnd h (λ j. part_fits o es j p)) is f in g
 
-module _ {M H P E O : Type 0} (hub_fits : O → List E → H → Type 0) (part_fits : O → List E → ℕ → P → Type 0) (may_follow : O → List E → E → Type 0) (part_named : E → Option ℕ) (law : FitsOn part_fits may_follow part_named) where
+module _ {M H P E O : Type 0} (hub_fits : O → List E → H → Type 0) (part_fits : O → List E → ℕ → P → Type 0) (may_follow : O → List E → E → Type 0) (part_named : E → Option ℕ)
+    (law : FitsOn part_fits may_follow part_named) where
   -- the part in hand fits on, over what was newly seen
-  pub hub_still : (t : Table M H P E O) (p : Pass M H P E O) (one two : Me (Place H P E) (View E O)) (c : List (ℕ × Place H P E)) → IsPassOf t p → TookHub hub_fits part_fits may_follow part_named t.parts p.seat.me one → two ≡ (one.0, c)
+  pub hub_still : (t : Table M H P E O) (p : Pass M H P E O) (one two : Me (Place H P E) (View E O)) (c : List (ℕ × Place H P E)) → IsPassOf t p
+      → TookHub hub_fits part_fits may_follow part_named t.parts p.seat.me one → two ≡ (one.0, c)
       → (k : ℕ) (x : P) → (view p).part ≡ Some k → part_fits (opening_of t) (events (view p).seen) k x → part_fits (opening_of t) (events two.0.seen) k x
   hub_still t p one two c of took is k x held fit =
       subst (λ (l : List (Entry E)). part_fits (opening_of t) (events l) k x) (ap (λ m. m.0.seen) (sym is))
-      (fits_since part_fits may_follow part_named law (opening_of t) k x (view p).seen one.0.seen (took.2.legal (opening_of t) (ap (λ (y : View E O). y.opening) took.1 ∙ of.opened)) (took.5 k held) fit)
+      (fits_since part_fits may_follow part_named law (opening_of t) k x (view p).seen one.0.seen
+      (took.2.legal (opening_of t) (ap (λ (y : View E O). y.opening) took.1 ∙ of.opened)) (took.5 k held) fit)
 
 module _ {E O : Type 0} where
   -- one more exchange that found the slot out

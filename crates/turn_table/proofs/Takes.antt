@@ -1,5 +1,6 @@
 -- A step that takes a slot, or finds it out, keeps the rule.
-use Rattle.std.proofs.Common.{◌≡◌, ℕ, zero, suc, ◌+◌, ◌<◌, ◌≤◌, Bool, true, false, cond, List, [], ◌∷◌, length, get_or, set, Option, Some, None, nat_lt, refl, sym, ap, ◌∙◌, subst, arith, inl, inr, ⊎_elim, append-nil, length-append}
+use Rattle.std.proofs.Common.{◌≡◌, ℕ, zero, suc, ◌+◌, ◌<◌, ◌≤◌, Bool, true, false, cond, List, [], ◌∷◌, length, get_or, set, Option, Some, None, nat_lt, refl}
+use Rattle.std.proofs.Common.{sym, ap, ◌∙◌, subst, arith, inl, inr, ⊎_elim, append-nil, length-append}
 use Rattle.std.proofs.lemmas.List.{get_or-set_same}
 use Rattle.std.proofs.lemmas.Bool.Decides.{nat_tests}
 use mathlib.Core.Option.{some, none}
@@ -39,7 +40,8 @@ module _ {E : Type 0} where
 
 -- what a step owes of one state
 abbrev pub Goes : {S V : Type 0} → (State S V → Type 0) → State S V → ℕ → Me S V → ℕ → (ℕ → ℕ) → (ℕ → Me S V → Type 0) → Type 0
-Goes {S} {V} holds s id me i f then = (w : V) × (a : Act S) × Valid s.homes me.1 a × holds (stepped s i (f (slice_index s.words i)) id me.1 w a) × then (slice_index s.words i) (w, carried_after me.1 a)
+Goes {S} {V} holds s id me i f then = (w : V) × (a : Act S) × Valid s.homes me.1 a × holds (stepped s i (f (slice_index s.words i)) id me.1 w a)
+    × then (slice_index s.words i) (w, carried_after me.1 a)
 
 module _ {A : Type 0} where
   pub at_within : (l : List A) (i : ℕ) (a : A) → get_elem? l i ≡ some a → i < length l
@@ -52,7 +54,8 @@ module _ {A : Type 0} where
   some_there (y ∷ ys) zero less = (y, refl)
   some_there (y ∷ ys) (suc i) less = some_there ys i (omega arith)
 
-module _ {H P E O : Type 0} (hub_fits : O → List E → H → Type 0) (part_fits : O → List E → ℕ → P → Type 0) (may_follow : O → List E → E → Type 0) (part_named : E → Option ℕ) (law : FitsOn part_fits may_follow part_named) (o : O) where
+module _ {H P E O : Type 0} (hub_fits : O → List E → H → Type 0) (part_fits : O → List E → ℕ → P → Type 0) (may_follow : O → List E → E → Type 0) (part_named : E → Option ℕ)
+    (law : FitsOn part_fits may_follow part_named) (o : O) where
   abbrev Kept : State (Place H P E) (View E O) → Type 0
   Kept s = IsKept hub_fits part_fits may_follow part_named o s
 
@@ -60,7 +63,8 @@ module _ {H P E O : Type 0} (hub_fits : O → List E → H → Type 0) (part_fit
   True n log place j v = IsTrueView hub_fits part_fits may_follow part_named o n log place j v
 
   -- a view stays true where the slot that moved was not out to it
-  pub other_still : (n : ℕ) (log : List (Entry E)) (place : ℕ → Where E) (k : ℕ) (x : Where E) (j : ℕ) (u : View E O) → ¬ (place k ≡ out j) → True n log place j u → True n log (placed_at place k x) j u
+  pub other_still : (n : ℕ) (log : List (Entry E)) (place : ℕ → Where E) (k : ℕ) (x : Where E) (j : ℕ) (u : View E O) → ¬ (place k ≡ out j) → True n log place j u
+      → True n log (placed_at place k x) j u
   other_still n log place k x j u apart t = record {
     begins = t.begins;
     told = t.told;
@@ -74,21 +78,25 @@ module _ {H P E O : Type 0} (hub_fits : O → List E → H → Type 0) (part_fit
   }
 
   -- what a view learns when its list grows within the longest
-  pub sees_more : (n : ℕ) (log : List (Entry E)) (place : ℕ → Where E) (j : ℕ) (v w : View E O) → 0 < v.own → (w.opening ≡ v.opening) × ((w.first ≡ v.first) × (w.mine ≡ v.mine)) → True n log place j v → IsLegal may_follow o (events log)
+  pub sees_more : (n : ℕ) (log : List (Entry E)) (place : ℕ → Where E) (j : ℕ) (v w : View E O) → 0 < v.own → (w.opening ≡ v.opening) × ((w.first ≡ v.first) × (w.mine ≡ v.mine))
+      → True n log place j v → IsLegal may_follow o (events log)
       → IsPrefix v.seen w.seen → IsPrefix w.seen log → SeesMore may_follow v w
   sees_more n log place j v w some_own same t legal a b = record {
     begins = a;
-    legal = λ o' is. let one : o ≡ o' = cc (t.opened some_own, same.0, is) in subst (λ (z : O). IsLegal may_follow z (events w.seen)) one (legal_begin may_follow o w.seen b.0 (subst (λ l. IsLegal may_follow o (events l)) (sym b.1) legal));
+    legal = λ o' is. let one : o ≡ o' = cc (t.opened some_own, same.0, is) in subst (λ (z : O). IsLegal may_follow z (events w.seen)) one
+        (legal_begin may_follow o w.seen b.0 (subst (λ l. IsLegal may_follow o (events l)) (sym b.1) legal));
     own_events = ap (λ (m : ℕ). events_by m w.seen) same.1.0 ∙ events_by_between v.first v.mine v.seen w.seen log a b (t.has_seen some_own) (t.entered some_own) ∙ sym same.1.1;
   }
 
   -- the same, of a view whose list stays
-  pub sees_same : (n : ℕ) (log : List (Entry E)) (place : ℕ → Where E) (j : ℕ) (v w : View E O) → 0 < v.own → (w.opening ≡ v.opening) × ((w.first ≡ v.first) × (w.mine ≡ v.mine)) → w.seen ≡ v.seen → True n log place j v → IsLegal may_follow o (events log) → SeesMore may_follow v w
+  pub sees_same : (n : ℕ) (log : List (Entry E)) (place : ℕ → Where E) (j : ℕ) (v w : View E O) → 0 < v.own → (w.opening ≡ v.opening) × ((w.first ≡ v.first) × (w.mine ≡ v.mine))
+      → w.seen ≡ v.seen → True n log place j v → IsLegal may_follow o (events log) → SeesMore may_follow v w
   sees_same n log place j v w some_own same seen_is t legal =
       sees_more n log place j v w some_own same t legal ([], append-nil v.seen ∙ sym seen_is) (subst (λ l. IsPrefix l log) (sym seen_is) t.begins)
 
   -- a view stays true where its slot and its place are as they were
-  same_still : (n : ℕ) (log : List (Entry E)) (place : ℕ → Where E) (k : ℕ) (x : Where E) (j : ℕ) (u w : View E O) → place k ≡ x → w ≡ record u { found_out = w.found_out } → True n log place j u → True n log (placed_at place k x) j w
+  same_still : (n : ℕ) (log : List (Entry E)) (place : ℕ → Where E) (k : ℕ) (x : Where E) (j : ℕ) (u w : View E O) → place k ≡ x → w ≡ record u { found_out = w.found_out }
+      → True n log place j u → True n log (placed_at place k x) j w
   same_still n log place k x j u w same is t = subst (True n log (placed_at place k x) j) (sym is) record {
     begins = t.begins;
     told = t.told;
@@ -104,7 +112,8 @@ module _ {H P E O : Type 0} (hub_fits : O → List E → H → Type 0) (part_fit
   -- where the slot is out, the view learns this alone, and there is another view
   pub finds_out : (s : State (Place H P E) (View E O)) (kept : Kept s) (id k : ℕ) (v : View E O) → k < length s.homes → get_elem? s.views id ≡ some v → ¬ (HasTaken (length s.homes) k v)
       → (j : ℕ) (u : View E O) → kept.place k ≡ out j → get_elem? s.views j ≡ some u → HasTaken (length s.homes) k u → get_or s.words k 0 ≡ 0
-      → 0 < v.own → Kept record { words = set s.words k 0; homes = s.homes; views = set s.views id (with_found_out k v) } × ((v.own + v.joined < all_numbers) × SeesMore may_follow v (with_found_out k v))
+      → 0 < v.own → Kept record { words = set s.words k 0; homes = s.homes; views = set s.views id (with_found_out k v) }
+      × ((v.own + v.joined < all_numbers) × SeesMore may_follow v (with_found_out k v))
   finds_out s kept id k v within at not_mine j u place_is is has word own_some =
       let other : ¬ (id ≡ j) = λ e. not_mine (subst (HasTaken (length s.homes) k) (maybe.some-injective u v (sym is ∙ ap (get_elem? s.views) (sym e) ∙ at)) has) in
       let some_own = ((kept.true_view j u is).holds k has).1 in
@@ -123,8 +132,10 @@ module _ {H P E O : Type 0} (hub_fits : O → List E → H → Type 0) (part_fit
       (dite (ℕ_discrete kept.seen_whole.0 id)
       (λ e. let same_view : kept.seen_whole.1.0 ≡ v = maybe.some-injective _ v (sym kept.seen_whole.1.1.0 ∙ ap (get_elem? s.views) e ∙ at) in
       (id, (w, (w_there, subst (λ (q : View E O). 0 < q.own) same_view kept.seen_whole.1.1.1, ap (λ (q : View E O). q.seen) (sym same_view) ∙ kept.seen_whole.1.1.2))))
-      (λ ne. (kept.seen_whole.0, (kept.seen_whole.1.0, (set_else s.views id kept.seen_whole.0 w ne ∙ kept.seen_whole.1.1.0, kept.seen_whole.1.1.1, kept.seen_whole.1.1.2))))) in
-      (subst (λ l. Kept record { words = set s.words k 0; homes = l; views = set s.views id w }) homes_stay new, (omega (arith, two, all, some_own), sees_same (length s.homes) kept.log kept.place id v w own_some (refl, (refl, refl)) refl (kept.true_view id v at) kept.legal))
+      (λ ne. (kept.seen_whole.0, (kept.seen_whole.1.0, (set_else s.views id kept.seen_whole.0 w ne ∙ kept.seen_whole.1.1.0, kept.seen_whole.1.1.1, kept.seen_whole.1.1.2))))) in (
+        subst (λ l. Kept record { words = set s.words k 0; homes = l; views = set s.views id w }) homes_stay new,
+        (omega (arith, two, all, some_own), sees_same (length s.homes) kept.log kept.place id v w own_some (refl, (refl, refl)) refl (kept.true_view id v at) kept.legal),
+      )
     where
       has_still : (i : ℕ) → HasTaken (length s.homes) i v → HasTaken (length s.homes) i (with_found_out k v)
       has_still i (inl q) = inl q
@@ -141,7 +152,9 @@ module _ {H P E O : Type 0} (hub_fits : O → List E → H → Type 0) (part_fit
       holds_none m (inl t) = cc (t.0, no_part)
       holds_none m (inr t) = cc (t.0, no_hub)
 
-      by_home : (early : List (Entry E)) → kept.place k ≡ home early → get_or s.words k 0 ≡ 1 → (y : Place H P E) → get_elem? s.homes k ≡ some (some y) → IsAtHome hub_fits part_fits may_follow part_named o (length s.homes) kept.log k early y → Goes Kept s id (v, []) k (λ _. 0) (took_part hub_fits part_fits may_follow part_named (step n k 0 0 none) (v, []))
+      by_home : (early : List (Entry E)) → kept.place k ≡ home early → get_or s.words k 0 ≡ 1 → (y : Place H P E) → get_elem? s.homes k ≡ some (some y)
+          → IsAtHome hub_fits part_fits may_follow part_named o (length s.homes) kept.log k early y
+          → Goes Kept s id (v, []) k (λ _. 0) (took_part hub_fits part_fits may_follow part_named (step n k 0 0 none) (v, []))
       by_home early is word (Hub h said) there fit = absurd (omega (arith, fit.0))
       by_home early is word Away there fit = absurd fit
       by_home early is word (Part p) there fit =
@@ -166,16 +179,28 @@ module _ {H P E O : Type 0} (hub_fits : O → List E → H → Type 0) (part_fit
                   has_seen = λ z. events_by_between v.first v.mine v.seen new kept.log lengths.0 lengths.1.1 (t.has_seen z) (t.entered z);
                   numbered = t.numbered;
                   holds = λ j has. ⊎_elim
-                      (λ (q : (Some k ≡ Some j) × (suc j < length s.homes)). let same : k ≡ j = cc q.0 in (subst (λ m. placed_at kept.place k (out id) m ≡ out id) same (placed_here kept.place k (out id)), some_own))
+                      (λ (q : (Some k ≡ Some j) × (suc j < length s.homes)). let same : k ≡ j =
+                      cc q.0 in (subst (λ m. placed_at kept.place k (out id) m ≡ out id) same (placed_here kept.place k (out id)), some_own))
                       (λ (q : (v.hub ≡ true) × (suc j ≡ length s.homes)). absurd (holds_none j (inr q)))
                       has;
-                  quiet = λ j e. let same : k ≡ j = cc e in subst (λ m. (suc m < length s.homes) × IsQuietSince part_named m new kept.log) same (here, quiet_later part_named k early new kept.log lengths.1.0 lengths.1.1 fit.2);
+                  quiet = λ j e. let same : k ≡ j = cc e in subst (λ m. (suc m < length s.homes) × IsQuietSince part_named m new kept.log) same
+                      (here, quiet_later part_named k early new kept.log lengths.1.0 lengths.1.1 fit.2);
                   whole = λ e. absurd (cc (e, no_hub));
                 }
                 (λ j u ne there_is t'. other_still (length s.homes) kept.log kept.place k (out id) j u (λ e. cc (is, e)) t')
                 (dite (ℕ_discrete kept.seen_whole.0 id)
-                (λ e. let same_view : kept.seen_whole.1.0 ≡ v = maybe.some-injective _ v (sym kept.seen_whole.1.1.0 ∙ ap (get_elem? s.views) e ∙ at) in
-                (id, (w, (set_here s.views id w (at_within s.views id v at), some_own, whole_still v.seen new kept.log lengths.0 lengths.1.1 (ap (λ (q : View E O). q.seen) (sym same_view) ∙ kept.seen_whole.1.1.2)))))
+                (λ e. let same_view : kept.seen_whole.1.0 ≡ v = maybe.some-injective _ v (sym kept.seen_whole.1.1.0 ∙ ap (get_elem? s.views) e ∙ at) in (
+                  id,
+                  (
+                    w,
+                    (
+                      set_here s.views id w (at_within s.views id v at),
+                      some_own,
+                      whole_still v.seen new kept.log lengths.0 lengths.1.1
+                          (ap (λ (q : View E O). q.seen) (sym same_view) ∙ kept.seen_whole.1.1.2),
+                    ),
+                  ),
+                ))
                 (λ ne. (kept.seen_whole.0, (kept.seen_whole.1.0, (set_else s.views id kept.seen_whole.0 w ne ∙ kept.seen_whole.1.1.0, kept.seen_whole.1.1.1, kept.seen_whole.1.1.2))))),
             (
               (λ _. (
@@ -192,7 +217,8 @@ module _ {H P E O : Type 0} (hub_fits : O → List E → H → Type 0) (part_fit
             ),
           )
 
-      by_place : (x : Where E) → kept.place k ≡ x → IsPlaced hub_fits part_fits may_follow part_named o (length s.homes) kept.log s.words s.homes s.views k x → Goes Kept s id (v, []) k (λ _. 0) (took_part hub_fits part_fits may_follow part_named (step n k 0 0 none) (v, []))
+      by_place : (x : Where E) → kept.place k ≡ x → IsPlaced hub_fits part_fits may_follow part_named o (length s.homes) kept.log s.words s.homes s.views k x
+          → Goes Kept s id (v, []) k (λ _. 0) (took_part hub_fits part_fits may_follow part_named (step n k 0 0 none) (v, []))
       by_place (home early) is p = by_home early is p.0 p.1.0 p.1.1.0 p.1.1.1
       by_place (out j) is p =
           let r = finds_out s kept id k v within at (holds_none k) j p.1.0 is p.1.1.0 p.1.1.1 p.0 some_own in
@@ -209,7 +235,9 @@ module _ {H P E O : Type 0} (hub_fits : O → List E → H → Type 0) (part_fit
       not_here (inl t) = absurd (omega (arith, t.1, last, long))
       not_here (inr t) = cc (t.0, no_hub)
 
-      by_home : (early : List (Entry E)) → kept.place k ≡ home early → get_or s.words k 0 ≡ 1 → (y : Place H P E) → get_elem? s.homes k ≡ some (some y) → IsAtHome hub_fits part_fits may_follow part_named o (length s.homes) kept.log k early y → Goes Kept s id (v, c) k (λ _. 0) (took_hub hub_fits part_fits may_follow part_named (step n k 0 0 none) (v, c))
+      by_home : (early : List (Entry E)) → kept.place k ≡ home early → get_or s.words k 0 ≡ 1 → (y : Place H P E) → get_elem? s.homes k ≡ some (some y)
+          → IsAtHome hub_fits part_fits may_follow part_named o (length s.homes) kept.log k early y
+          → Goes Kept s id (v, c) k (λ _. 0) (took_hub hub_fits part_fits may_follow part_named (step n k 0 0 none) (v, c))
       by_home early is word (Part p) there fit = absurd (omega (arith, fit.0, last, long))
       by_home early is word Away there fit = absurd fit
       by_home early is word (Hub h said) there fit =
@@ -233,7 +261,8 @@ module _ {H P E O : Type 0} (hub_fits : O → List E → H → Type 0) (part_fit
                   numbered = t.numbered;
                   holds = λ j has. ⊎_elim
                       (λ (q : (v.part ≡ Some j) × (suc j < length s.homes)). (placed_else kept.place k (out id) j (λ e. absurd (omega (arith, q.1, here, e))) ∙ (t.holds j (inl q)).0, some_own))
-                      (λ (q : (true ≡ true) × (suc j ≡ length s.homes)). let same : k ≡ j = omega (arith, q.1, here) in (subst (λ m. placed_at kept.place k (out id) m ≡ out id) same (placed_here kept.place k (out id)), some_own))
+                      (λ (q : (true ≡ true) × (suc j ≡ length s.homes)). let same : k ≡ j =
+                      omega (arith, q.1, here) in (subst (λ m. placed_at kept.place k (out id) m ≡ out id) same (placed_here kept.place k (out id)), some_own))
                       has;
                   quiet = λ j e. ((t.quiet j e).0, quiet_none part_named j kept.log);
                   whole = λ e. refl;
@@ -257,7 +286,8 @@ module _ {H P E O : Type 0} (hub_fits : O → List E → H → Type 0) (part_fit
           has_still j (inl q) = inl q
           has_still j (inr q) = cc (q.0, no_hub)
 
-      by_place : (x : Where E) → kept.place k ≡ x → IsPlaced hub_fits part_fits may_follow part_named o (length s.homes) kept.log s.words s.homes s.views k x → Goes Kept s id (v, c) k (λ _. 0) (took_hub hub_fits part_fits may_follow part_named (step n k 0 0 none) (v, c))
+      by_place : (x : Where E) → kept.place k ≡ x → IsPlaced hub_fits part_fits may_follow part_named o (length s.homes) kept.log s.words s.homes s.views k x
+          → Goes Kept s id (v, c) k (λ _. 0) (took_hub hub_fits part_fits may_follow part_named (step n k 0 0 none) (v, c))
       by_place (home early) is p = by_home early is p.0 p.1.0 p.1.1.0 p.1.1.1
       by_place (out j) is p =
           let r = finds_out s kept id k v within at not_here j p.1.0 is p.1.1.0 p.1.1.1 p.0 some_own in
@@ -267,4 +297,5 @@ module _ {H P E O : Type 0} (hub_fits : O → List E → H → Type 0) (part_fit
   pub takes_part_as : (n id k : ℕ) (m : Me (Place H P E) (View E O)) → suc k < n → 0 < m.0.own → m.0.part ≡ None → m.0.hub ≡ false → m.1 ≡ []
       → Allows Kept n id m k (λ _. 0) (took_part hub_fits part_fits may_follow part_named (step n k 0 0 none) m)
   takes_part_as n id k m less some_own no_part no_hub empty =
-      subst (λ c. Allows Kept n id (m.0, c) k (λ _. 0) (took_part hub_fits part_fits may_follow part_named (step n k 0 0 none) (m.0, c))) (sym empty) (takes_part n id k m.0 less some_own no_part no_hub)
+      subst (λ c. Allows Kept n id (m.0, c) k (λ _. 0) (took_part hub_fits part_fits may_follow part_named (step n k 0 0 none) (m.0, c))) (sym empty)
+      (takes_part n id k m.0 less some_own no_part no_hub)

@@ -19,13 +19,15 @@ own n (c ∷ cs) =
 others : (n b : ℕ) (cs : List LiveCopy) → n < b → filter (λ (l : Live). eqb l.block b) (map (live_in_block n) cs) ≡ []
 others n b [] lt = refl
 others n b (c ∷ cs) lt =
-    cond-false (eqb n b) (live_in_block n c ∷ filter (λ (l : Live). eqb l.block b) (map (live_in_block n) cs)) (filter (λ (l : Live). eqb l.block b) (map (live_in_block n) cs)) (ne_eqb n b (λ (e : n ≡ b). omega arith))
+    cond-false (eqb n b) (live_in_block n c ∷ filter (λ (l : Live). eqb l.block b) (map (live_in_block n) cs)) (filter (λ (l : Live). eqb l.block b) (map (live_in_block n) cs))
+    (ne_eqb n b (λ (e : n ≡ b). omega arith))
     ∙ others n b cs lt
 
 earlier : (n b : ℕ) (cs : List LiveCopy) → b < n → filter (λ (l : Live). eqb l.block b) (map (live_in_block n) cs) ≡ []
 earlier n b [] lt = refl
 earlier n b (c ∷ cs) lt =
-    cond-false (eqb n b) (live_in_block n c ∷ filter (λ (l : Live). eqb l.block b) (map (live_in_block n) cs)) (filter (λ (l : Live). eqb l.block b) (map (live_in_block n) cs)) (ne_eqb n b (λ (e : n ≡ b). omega arith))
+    cond-false (eqb n b) (live_in_block n c ∷ filter (λ (l : Live). eqb l.block b) (map (live_in_block n) cs)) (filter (λ (l : Live). eqb l.block b) (map (live_in_block n) cs))
+    (ne_eqb n b (λ (e : n ≡ b). omega arith))
     ∙ earlier n b cs lt
 
 none_before : (n b : ℕ) (rolls : List BlockRoll) → b < n → filter (λ (l : Live). eqb l.block b) (live_from n rolls) ≡ []

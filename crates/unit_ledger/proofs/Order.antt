@@ -4,7 +4,8 @@ use Rattle.std.specs.Prelude.{nat_lt, Contains}
 use Rattle.std.specs.List.{AllByRecursion, IsDistinct}
 use Rattle.std.specs.List.Sorted.{IsPermutation, IsNonDecreasingBy}
 use Rattle.std.proofs.lemmas.Bool.{eqb-false, ne_eqb, ltb-true, ltb-false}
-use Rattle.std.proofs.lemmas.List.Elements.{All-contains, All-from_recursion, recursion_from_All, Contains-append_left, Contains-append_right, Contains-append_cases, Contains-push, Contains-push_cases}
+use Rattle.std.proofs.lemmas.List.Elements.{All-contains, All-from_recursion, recursion_from_All, Contains-append_left, Contains-append_right}
+use Rattle.std.proofs.lemmas.List.Elements.{Contains-append_cases, Contains-push, Contains-push_cases}
 use Rattle.std.proofs.lemmas.Cmp.{nat_eq_equiv}
 use Rattle.std.proofs.lemmas.Map.Keys.{IsDistinct-cons, IsDistinct-head, IsDistinct-tail, IsDistinct-IsPermutation}
 use Rattle.std.proofs.lemmas.List.Sorted.{IsPermutation-map, IsPermutation-refl, IsPermutation-sym, IsPermutation-trans, IsPermutation-cons, IsPermutation-middle, Contains-permutation}
@@ -17,7 +18,8 @@ use Rattle.unit_ledger.proofs.Copies.{absent_first, absent_rest}
 
 cons_cases : (x : LiveCopy) (xs : List LiveCopy) (y : LiveCopy) → Contains (x ∷ xs) y → (x ≡ y) ⊎ Contains xs y
 cons_cases x xs y there =
-    ⊎_elim (λ (first : Contains (x ∷ []) y). ⊎_elim (λ (none : Contains [] y). absurd (omega (arith, none.1))) (λ (e : x ≡ y). inl e) (Contains-push_cases [] x y first)) (λ (rest : Contains xs y). inr rest)
+    ⊎_elim (λ (first : Contains (x ∷ []) y). ⊎_elim (λ (none : Contains [] y). absurd (omega (arith, none.1))) (λ (e : x ≡ y). inl e) (Contains-push_cases [] x y first))
+    (λ (rest : Contains xs y). inr rest)
     (Contains-append_cases (x ∷ []) xs y there)
 
 first_there : (x : LiveCopy) (xs : List LiveCopy) → Contains (x ∷ xs) x

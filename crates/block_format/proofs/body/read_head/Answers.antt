@@ -8,7 +8,8 @@ use Rattle.block_format.proofs.body.read_head.Goals as goal
 same_text : {n n' r r' u u' : ℕ} (block : ℕ) → n ≡ n' → r ≡ r' → u ≡ u' → body_head_text n r u block ≡ body_head_text n' r' u' block
 same_text block en er eu = λ i. body_head_text (en i) (er i) (eu i) block
 
-same_head : {n n' r r' u u' : ℕ} → n ≡ n' → r ≡ r' → u ≡ u' → let a : BodyHead = record { number = n; records = r; units = u } in let b : BodyHead = record { number = n'; records = r'; units = u' } in a ≡ b
+same_head : {n n' r r' u u' : ℕ} → n ≡ n' → r ≡ r' → u ≡ u' → let a : BodyHead = record { number = n; records = r; units = u } in let b : BodyHead =
+    record { number = n'; records = r'; units = u' } in a ≡ b
 same_head en er eu = λ i. record { number = en i; records = er i; units = eu i }
 
 same_some : {a b : BodyHead} → ◌≡◌ {A = Option BodyHead} (Some a) (Some b) → a ≡ b

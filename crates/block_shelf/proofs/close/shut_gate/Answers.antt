@@ -22,5 +22,6 @@ returns-in-Err-clause-stands g c honest =
     let ask = asked c.args.geometry.now old.may_leave c.args.block (gate_at c.args.gates.now c.args.block) old.seen (c.requires.stands was) unshut was.image in
     let since = λ (image : List ℕ) (left : new.may_leave image).
     (g.met.D.Disk.is_disk c.close_gate.new.disk).now_since old.moment image (call.time.stays old.moment (g.met.D.Disk.is_disk c.args.disk.now).now_had) left in
-    subst (GateStands c.args.geometry.now new.may_leave c.args.block) (sym (get_or-set_same c.args.gates.now c.args.block Unsure Shut (subst (λ (n : ℕ). c.args.block < n) (sym c.requires.gates) c.requires.block)))
+    subst (GateStands c.args.geometry.now new.may_leave c.args.block)
+    (sym (get_or-set_same c.args.gates.now c.args.block Unsure Shut (subst (λ (n : ℕ). c.args.block < n) (sym c.requires.gates) c.requires.block)))
     (_, record { one = λ image left. c.close_gate.ensures.settled was image (since image left); is_body = ask.1 })

@@ -6,7 +6,9 @@ use Rattle.block_shelf.specs.LetGo.{IsLetGo}
 use Rattle.block_shelf.proofs.Freeing.{freed_more, freed_same, freed_fits}
 use Rattle.block_shelf.proofs.NextOf.{of_below, freed_at, freed_end}
 use Rattle.block_shelf.proofs.let_go.free_let_go.Goals as goal
-use Rattle.block_shelf.proofs.let_go.free_let_go.Goals.{then-not-held_besides+then-is_bare, else-not-held_besides, else-not-held_besides-via-then-not-held_besides+else-is_bare, else-not-held_besides-via-else-not-held_besides}
+use Rattle.block_shelf.proofs.let_go.free_let_go.Goals.{then-not-held_besides+then-is_bare, else-not-held_besides}
+use Rattle.block_shelf.proofs.let_go.free_let_go.Goals.{else-not-held_besides-via-then-not-held_besides+else-is_bare}
+use Rattle.block_shelf.proofs.let_go.free_let_go.Goals.{else-not-held_besides-via-else-not-held_besides}
 
 pub unwrap-requires : goal.unwrap-requires
 unwrap-requires c =
@@ -15,8 +17,16 @@ unwrap-requires c =
     let Goes = IsLetGo c.args.number c.args.own c.args.holds.now.holds after c.args.buffers.now c.args.ledger.now in
     let block = c.in-Some.block in
     let lt : block < n = of_below n c.args.number c.args.own c.args.holds.now.holds block c.requires.own c.requires.held c.in-Some.ensures.is_of in
-    let are = freed_at c.args.number c.args.own c.args.holds.now.holds after c.args.buffers.now c.args.ledger.now n c.args.free.now.items c.loop-block.from c.loop-block.free.items c.loop-block.invariant.within c.loop-block.invariant.are block lt c.in-Some.ensures in
-    let go : Goes block = (c.in-Some.ensures.is_of, record { bare = c.if-is_bare.ensures; unheld = λ held. both_ways c.held_besides.result c.if-not-held_besides.true (c.held_besides.ensures.1 held) }) in
+    let are = freed_at c.args.number c.args.own c.args.holds.now.holds after c.args.buffers.now c.args.ledger.now n c.args.free.now.items c.loop-block.from c.loop-block.free.items
+    c.loop-block.invariant.within c.loop-block.invariant.are block lt c.in-Some.ensures in
+    let go : Goes block = (
+      c.in-Some.ensures.is_of,
+      record {
+        bare = c.if-is_bare.ensures;
+        unheld =
+            λ held. both_ways c.held_besides.result c.if-not-held_besides.true (c.held_besides.ensures.1 held);
+      },
+    ) in
     let fits = freed_fits n Goes c.args.free.now.items block c.loop-block.free.items lt are go in
     let room = c.loop-block.invariant.room in
     c.push_back-put.ensures.succeeds (omega (arith, fits, room))
@@ -29,7 +39,8 @@ loop-block-preserved c =
     let block = c.in-Some.block in
     let free = c.loop-block.free.items in
     let lt : block < n = of_below n c.args.number c.args.own c.args.holds.now.holds block c.requires.own c.requires.held c.in-Some.ensures.is_of in
-    let are = freed_at c.args.number c.args.own c.args.holds.now.holds after c.args.buffers.now c.args.ledger.now n c.args.free.now.items c.loop-block.from free c.loop-block.invariant.within c.loop-block.invariant.are block lt c.in-Some.ensures in
+    let are = freed_at c.args.number c.args.own c.args.holds.now.holds after c.args.buffers.now c.args.ledger.now n c.args.free.now.items c.loop-block.from free c.loop-block.invariant.within
+    c.loop-block.invariant.are block lt c.in-Some.ensures in
     let within : block + 1 ≤ n = omega (arith, lt) in
     elim c.if-not-held_besides.branch [
       | then-not-held_besides+then-is_bare w ↦
@@ -58,4 +69,5 @@ pub returns-clause-freed : goal.returns-clause-freed
 returns-clause-freed c =
     let n = length c.args.ledger.now in
     let after = without_buffer c.args.holds.now.holds c.args.number in
-    (freed_end c.args.number c.args.own c.args.holds.now.holds after c.args.buffers.now c.args.ledger.now n c.args.free.now.items c.loop-block.from c.loop-block.free.items c.loop-block.invariant.within c.loop-block.invariant.are c.in_default.ensures).freed
+    (freed_end c.args.number c.args.own c.args.holds.now.holds after c.args.buffers.now c.args.ledger.now n c.args.free.now.items c.loop-block.from c.loop-block.free.items
+    c.loop-block.invariant.within c.loop-block.invariant.are c.in_default.ensures).freed

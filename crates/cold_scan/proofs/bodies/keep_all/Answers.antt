@@ -9,5 +9,6 @@ pub loop-record-preserved : goal.loop-record-preserved
 loop-record-preserved c =
     let f = kept_found c.args.block in
     let front = take c.loop-record.record-index c.args.found.now in
-    subst (λ (l : List Kept). KeepsAll c.args.geometry.now l c.args.latest.now c.keep.new.latest) (sym (ap (map f) (take_more c.args.found.now c.loop-record.record-index _ c.loop-record-test.true) ∙ map-append f front _))
+    subst (λ (l : List Kept). KeepsAll c.args.geometry.now l c.args.latest.now c.keep.new.latest)
+    (sym (ap (map f) (take_more c.args.found.now c.loop-record.record-index _ c.loop-record-test.true) ∙ map-append f front _))
     (kept_more c.args.geometry.now (map f front) _ c.args.latest.now c.loop-record.latest c.keep.new.latest c.loop-record.invariant c.in_ok-keep.ensures)

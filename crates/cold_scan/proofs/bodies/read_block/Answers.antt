@@ -21,5 +21,9 @@ read_body-requires-clause-size g c =
 pub returns-in-Err-Bad-clause-bytes : goal.returns-in-Err-Bad-clause-bytes
 returns-in-Err-Bad-clause-bytes g c = λ told.
     let long : length c.read_at.new.out ≡ c.args.geometry.now.block_size - 4096 = search rules in
-    let refused = subst (λ (r : BodyRefusal). IsUnreadBy c.read_at.new.out c.args.block r) c.in-Err-Bad.field-0-is c.in-Err-Bad.ensures.refused in
-    (refl, stops_there c.args.geometry.now c.args.block c.in-Err-Bad.place c.read_at.new.out (g.D.Disk.view c.args.disk.now).seen long (body_read c.args.geometry.now c.args.block _ c.args.body.now c.read_at.new.out (g.D.Disk.view c.args.disk.now).seen (ap (λ (n : ℕ). n + 4096) c.start_of_block.ensures.place) c.requires.size (c.in-Ok.ensures.read told)) refused.0)
+    let refused = subst (λ (r : BodyRefusal). IsUnreadBy c.read_at.new.out c.args.block r) c.in-Err-Bad.field-0-is c.in-Err-Bad.ensures.refused in (
+      refl,
+      stops_there c.args.geometry.now c.args.block c.in-Err-Bad.place c.read_at.new.out (g.D.Disk.view c.args.disk.now).seen long
+          (body_read c.args.geometry.now c.args.block _ c.args.body.now c.read_at.new.out (g.D.Disk.view c.args.disk.now).seen
+          (ap (λ (n : ℕ). n + 4096) c.start_of_block.ensures.place) c.requires.size (c.in-Ok.ensures.read told)) refused.0,
+    )

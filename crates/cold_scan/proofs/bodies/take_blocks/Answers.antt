@@ -11,7 +11,8 @@ loop-block-init g c = record {
   read = search rules;
   size = c.requires.size;
   few = omega arith;
-  found = none_found c.args.geometry.now (g.D.Disk.view c.args.disk.now).tells (g.D.Disk.view c.args.disk.now).seen c.args.gates.now (record { latest = c.new.result; copies = 0; greatest = 0 }) c.new.ensures.empty c.new.ensures.ordered refl refl;
+  found = none_found c.args.geometry.now (g.D.Disk.view c.args.disk.now).tells (g.D.Disk.view c.args.disk.now).seen c.args.gates.now
+      (record { latest = c.new.result; copies = 0; greatest = 0 }) c.new.ensures.empty c.new.ensures.ordered refl refl;
 }
 
 pub loop-block-preserved-then-not-is_opened : goal.loop-block-preserved-then-not-is_opened
@@ -19,7 +20,8 @@ loop-block-preserved-then-not-is_opened g c = record {
   read = c.loop-block.invariant.read;
   size = c.loop-block.invariant.size;
   few = omega (arith, c.loop-block.invariant.few);
-  found = found_closed c.args.geometry.now (g.D.Disk.view c.args.disk.now).tells (g.D.Disk.view c.args.disk.now).seen c.args.gates.now c.loop-block.block c.loop-block.taken c.loop-block.invariant.found (c.is_opened.ensures ∙ ap Some c.if-not-is_opened.true);
+  found = found_closed c.args.geometry.now (g.D.Disk.view c.args.disk.now).tells
+      (g.D.Disk.view c.args.disk.now).seen c.args.gates.now c.loop-block.block c.loop-block.taken c.loop-block.invariant.found (c.is_opened.ensures ∙ ap Some c.if-not-is_opened.true);
 }
 
 pub loop-block-preserved : goal.loop-block-preserved
@@ -29,7 +31,9 @@ loop-block-preserved g c = record {
   few =
       let takes = c.in-Ok.ensures.taken in
       omega (arith, c.loop-block.invariant.few, takes.copies, takes.is_body.count);
-  found = found_open c.args.geometry.now (g.D.Disk.view c.args.disk.now).tells (g.D.Disk.view c.args.disk.now).seen c.take_open.new.body c.args.gates.now c.loop-block.block c.loop-block.taken c.take_open.new.taken c.loop-block.invariant.found (c.is_opened.ensures ∙ ap Some c.if-not-is_opened.false) c.in-Ok.ensures.taken
+  found = found_open c.args.geometry.now (g.D.Disk.view c.args.disk.now).tells
+      (g.D.Disk.view c.args.disk.now).seen c.take_open.new.body c.args.gates.now c.loop-block.block c.loop-block.taken c.take_open.new.taken c.loop-block.invariant.found
+      (c.is_opened.ensures ∙ ap Some c.if-not-is_opened.false) c.in-Ok.ensures.taken
       (λ t. let now = c.loop-block.invariant.read.bytes t in subst (λ (l : List ℕ). c.take_open.new.body ≡ body_bytes c.args.geometry.now c.loop-block.block l) now.1 (c.in-Ok.ensures.bytes now.0));
 }
 
@@ -39,5 +43,7 @@ returns-in-Err-clause-read g c = reads_on _ _ (g.D.Disk.view c.take_open.new.dis
 pub returns-in-Err-clause-stopped : goal.returns-in-Err-clause-stopped
 returns-in-Err-clause-stopped g c = λ t are.
     let now = c.loop-block.invariant.read.bytes t in
-    stopped_there c.args.geometry.now (g.D.Disk.view c.args.disk.now).tells (g.D.Disk.view c.args.disk.now).seen c.args.gates.now c.loop-block.block c.loop-block.taken c.in-Err.cause c.loop-block.invariant.found t are c.loop-block-test.true (c.is_opened.ensures ∙ ap Some c.if-not-is_opened.false)
+    stopped_there c.args.geometry.now (g.D.Disk.view c.args.disk.now).tells
+    (g.D.Disk.view c.args.disk.now).seen c.args.gates.now c.loop-block.block c.loop-block.taken c.in-Err.cause c.loop-block.invariant.found t are c.loop-block-test.true
+    (c.is_opened.ensures ∙ ap Some c.if-not-is_opened.false)
     (subst (λ (l : List ℕ). StopsOn c.args.geometry.now l c.loop-block.block c.in-Err.cause) now.1 (c.in-Err.ensures.bytes now.0))

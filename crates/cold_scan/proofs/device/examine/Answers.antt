@@ -28,7 +28,8 @@ returns-in-Ok-open_bodies-clause-found g c =
           record {
             is_asked = subst (λ (l : List ℕ). IsAsked c.args.asked.device c.args.asked.devices l shape) synced.1 (c.in-Ok-shape_of.ensures.bytes synced.0);
             blocks = subst (λ (l : List ℕ). HasBodies shape l (range_with_len 0 shape.blocks) found.0) (gated.1 ∙ shaped.1 ∙ synced.1)
-                (found.2 gated.0 (subst (λ (l : List ℕ). AreGates shape l c.deref.result.now) (sym gated.1) (subst (AreGates shape (g.D.Disk.view c.shape_of.new.disk).seen) (sym c.deref.ensures.value) (c.in-Ok-read_gates.ensures.gates shaped.0))));
+                (found.2 gated.0 (subst (λ (l : List ℕ). AreGates shape l c.deref.result.now) (sym gated.1)
+                (subst (AreGates shape (g.D.Disk.view c.shape_of.new.disk).seen) (sym c.deref.ensures.value) (c.in-Ok-read_gates.ensures.gates shaped.0))));
           };
     }
 
@@ -43,20 +44,23 @@ returns-in-Err-open_bodies-clause-read g c =
     reads_on (g.D.Disk.view c.args.disk.now) _ (g.D.Disk.view c.open_bodies.new.disk) (g.met.D.Disk.is_disk c.read_gates.new.disk)
     (reads_on _ _ (g.D.Disk.view c.read_gates.new.disk) (g.met.D.Disk.is_disk c.shape_of.new.disk)
     (reads_on _ _ (g.D.Disk.view c.shape_of.new.disk) (g.met.D.Disk.is_disk c.sync.new.self)
-    (read_synced (g.D.Disk.view c.args.disk.now) (g.D.Disk.view c.sync.new.self) c.sync.result c.sync.ensures.bytes c.sync.ensures.images c.sync.ensures.call) c.shape_of.ensures.read) c.read_gates.ensures.read) c.open_bodies.ensures.read
+    (read_synced (g.D.Disk.view c.args.disk.now) (g.D.Disk.view c.sync.new.self) c.sync.result c.sync.ensures.bytes c.sync.ensures.images c.sync.ensures.call) c.shape_of.ensures.read)
+    c.read_gates.ensures.read) c.open_bodies.ensures.read
 
 pub returns-in-Ok-open_bodies-clause-read : goal.returns-in-Ok-open_bodies-clause-read
 returns-in-Ok-open_bodies-clause-read g c =
     reads_on (g.D.Disk.view c.args.disk.now) _ (g.D.Disk.view c.open_bodies.new.disk) (g.met.D.Disk.is_disk c.read_gates.new.disk)
     (reads_on _ _ (g.D.Disk.view c.read_gates.new.disk) (g.met.D.Disk.is_disk c.shape_of.new.disk)
     (reads_on _ _ (g.D.Disk.view c.shape_of.new.disk) (g.met.D.Disk.is_disk c.sync.new.self)
-    (read_synced (g.D.Disk.view c.args.disk.now) (g.D.Disk.view c.sync.new.self) c.sync.result c.sync.ensures.bytes c.sync.ensures.images c.sync.ensures.call) c.shape_of.ensures.read) c.read_gates.ensures.read) c.open_bodies.ensures.read
+    (read_synced (g.D.Disk.view c.args.disk.now) (g.D.Disk.view c.sync.new.self) c.sync.result c.sync.ensures.bytes c.sync.ensures.images c.sync.ensures.call) c.shape_of.ensures.read)
+    c.read_gates.ensures.read) c.open_bodies.ensures.read
 
 pub returns-in-Err-read_gates-clause-read : goal.returns-in-Err-read_gates-clause-read
 returns-in-Err-read_gates-clause-read g c =
     reads_on (g.D.Disk.view c.args.disk.now) _ (g.D.Disk.view c.read_gates.new.disk) (g.met.D.Disk.is_disk c.shape_of.new.disk)
     (reads_on _ _ (g.D.Disk.view c.shape_of.new.disk) (g.met.D.Disk.is_disk c.sync.new.self)
-    (read_synced (g.D.Disk.view c.args.disk.now) (g.D.Disk.view c.sync.new.self) c.sync.result c.sync.ensures.bytes c.sync.ensures.images c.sync.ensures.call) c.shape_of.ensures.read) c.read_gates.ensures.read
+    (read_synced (g.D.Disk.view c.args.disk.now) (g.D.Disk.view c.sync.new.self) c.sync.result c.sync.ensures.bytes c.sync.ensures.images c.sync.ensures.call) c.shape_of.ensures.read)
+    c.read_gates.ensures.read
 
 pub returns-in-Err-clause-read : goal.returns-in-Err-clause-read
 returns-in-Err-clause-read g c =

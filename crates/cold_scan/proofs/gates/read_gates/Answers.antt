@@ -16,8 +16,10 @@ loop-block-preserved g c = record {
   gates = λ told.
       let now = c.loop-block.invariant.read.bytes told in
       let bytes = (g.D.Disk.view c.args.disk.now).seen in
-      let same = same_gate c.args.geometry.now c.loop-block.block bytes (g.D.Disk.view c.loop-block.disk).seen c.read_at.new.out c.start_of_block.result (c.in-Ok.ensures.read now.0) now.1 c.start_of_block.ensures.place in
-      gates_more c.args.geometry.now bytes c.loop-block.gates.items c.push.new.self.items c.gate_of.result c.loop-block.block c.in-Ok-push.ensures.items c.loop-block.invariant.count (c.loop-block.invariant.gates told)
+      let same = same_gate c.args.geometry.now c.loop-block.block bytes (g.D.Disk.view c.loop-block.disk).seen c.read_at.new.out c.start_of_block.result
+      (c.in-Ok.ensures.read now.0) now.1 c.start_of_block.ensures.place in
+      gates_more c.args.geometry.now bytes c.loop-block.gates.items c.push.new.self.items c.gate_of.result c.loop-block.block c.in-Ok-push.ensures.items c.loop-block.invariant.count
+      (c.loop-block.invariant.gates told)
       (c.gate_of.ensures.told (gate_sector c.args.geometry.now c.loop-block.block bytes) same);
 }
 

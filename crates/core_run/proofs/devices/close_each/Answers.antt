@@ -16,13 +16,15 @@ loop-device-preserved g c =
     let turn : FlushesOn g.D.Disk.view c.flush.result old c.flush.new.self =
     record { goes = record { shape = e.shape; later = e.later; honest = e.honest }; makes = e.makes; quiet = e.quiet; left = e.left } in
     let told : c.if-is_err.failed ≡ first_failed c.loop-device.device c.loop-device.failed c.flush.result = elim c.if-is_err.branch [
-      | then-is_err+then-is_none w ↦ w.failed-is ∙ failed_first c.loop-device.device c.loop-device.failed c.flush.result c.is_err.result w.is_none.result c.is_err.ensures.value w.is_none.ensures w.if-is_err.true w.if-is_none.true
+      | then-is_err+then-is_none w ↦ w.failed-is
+          ∙ failed_first c.loop-device.device c.loop-device.failed c.flush.result c.is_err.result w.is_none.result c.is_err.ensures.value w.is_none.ensures w.if-is_err.true w.if-is_none.true
       | else-is_err w ↦ w.failed-is ∙ (elim w.else-is_err.branch [
         | else-is_err-via-then-is_err+else-is_none w' ↦ failed_kept c.loop-device.device c.loop-device.failed c.flush.result w'.is_none.result w'.is_none.ensures w'.if-is_none.false
         | else-is_err-via-else-is_err w' ↦ failed_none c.loop-device.device c.loop-device.failed c.flush.result c.is_err.result c.is_err.ensures.value w'.if-is_err.false
       ])
     ] in
-    through_next (CloseTurn DiskFault g.D.Disk.view) c.loop-device.device (0, None) c.args.shards.now c.loop-device.shards (c.loop-device.device, c.loop-device.failed) c.index-shards-device.result c.flush.new.self
+    through_next (CloseTurn DiskFault g.D.Disk.view) c.loop-device.device (0, None) c.args.shards.now c.loop-device.shards
+    (c.loop-device.device, c.loop-device.failed) c.index-shards-device.result c.flush.new.self
     (c.loop-device.device + 1, c.if-is_err.failed) c.loop-device.invariant (subst (λ (n : ℕ). c.loop-device.device < n) (sym c.loop-device.auto.shards) c.loop-device-test.true)
     (c.flush.result, turn, λ i. (c.loop-device.device + 1, told i))
 

@@ -27,13 +27,15 @@ loop-vacated-preserved g c =
     let turn : GoesOn g.D.Disk.view c.loop-vacated.shard c.defrag_one.new.self = record { shape = e.shape; later = e.later; honest = e.honest } in
     let was_few = so_far.few in
     let few : c.in-Ok-Some.one.moved < 2 ^ 16 = subst (λ (done : Option Vacated). IfSome done (λ one. one.moved < 2 ^ 16)) c.in-Ok-Some.field-0-is e.few in
-    let makes = subst (λ (done : Option Vacated). (s : State) → Agrees c.loop-vacated.shard s → MakesEvents g.D.Disk.view (IsVacating c.loop-vacated.shard s (Ok done)) c.loop-vacated.shard s c.defrag_one.new.self) c.in-Ok-Some.field-0-is e.makes in
+    let makes = subst (λ (done : Option Vacated). (s : State) → Agrees c.loop-vacated.shard s
+    → MakesEvents g.D.Disk.view (IsVacating c.loop-vacated.shard s (Ok done)) c.loop-vacated.shard s c.defrag_one.new.self) c.in-Ok-Some.field-0-is e.makes in
     let same = c.from-moved.ensures in
     let there = c.loop-vacated-test.true in
     record {
       goes = goes_on_then g.D.Disk.view c.args.shard.now c.loop-vacated.shard c.defrag_one.new.self so_far.goes turn;
       far = subst (λ (n : ℕ). DefragsSoFar g.D.Disk.view c.counts-queued.result.queued (c.loop-vacated.moved + n) (c.loop-vacated.vacated + 1) c.args.shard.now c.defrag_one.new.self) (sym same)
-          (defrag_more g.D.Disk.view c.counts-queued.result.queued c.loop-vacated.moved c.loop-vacated.vacated c.args.shard.now c.loop-vacated.shard so_far.goes so_far.far c.defrag_one.new.self there c.in-Ok-Some.one makes);
+          (defrag_more g.D.Disk.view c.counts-queued.result.queued c.loop-vacated.moved c.loop-vacated.vacated c.args.shard.now c.loop-vacated.shard so_far.goes so_far.far
+          c.defrag_one.new.self there c.in-Ok-Some.one makes);
       few = omega (arith, was_few, few, same);
       most = omega (arith, there);
     }
@@ -46,7 +48,8 @@ returns-in-Err-clause-defrags g c =
     record {
       goes = goes_on_then g.D.Disk.view c.args.shard.now c.loop-vacated.shard c.defrag_one.new.self so_far.goes turn;
       makes = λ s agrees.
-          defrag_refused g.D.Disk.view c.counts-queued.result.queued c.loop-vacated.moved c.loop-vacated.vacated c.args.shard.now c.loop-vacated.shard so_far.goes so_far.far c.defrag_one.new.self c.loop-vacated-test.true
+          defrag_refused g.D.Disk.view c.counts-queued.result.queued c.loop-vacated.moved c.loop-vacated.vacated c.args.shard.now c.loop-vacated.shard so_far.goes so_far.far
+          c.defrag_one.new.self c.loop-vacated-test.true
           c.in-Err.refusal e.makes s agrees (ap (λ (n : Counts). n.queued) (c.counts-queued.ensures.state s agrees));
     }
 
@@ -66,10 +69,12 @@ returns-in-Ok-None-clause-defrags g c =
     let e = c.in-Ok-None.ensures {u = tt} in
     let so_far = c.loop-vacated.invariant in
     let turn : GoesOn g.D.Disk.view c.loop-vacated.shard c.defrag_one.new.self = record { shape = e.shape; later = e.later; honest = e.honest } in
-    let makes = subst (λ (done : Option Vacated). (s : State) → Agrees c.loop-vacated.shard s → MakesEvents g.D.Disk.view (IsVacating c.loop-vacated.shard s (Ok done)) c.loop-vacated.shard s c.defrag_one.new.self) c.in-Ok-None.field-0-is e.makes in
+    let makes = subst (λ (done : Option Vacated). (s : State) → Agrees c.loop-vacated.shard s
+    → MakesEvents g.D.Disk.view (IsVacating c.loop-vacated.shard s (Ok done)) c.loop-vacated.shard s c.defrag_one.new.self) c.in-Ok-None.field-0-is e.makes in
     record {
       goes = goes_on_then g.D.Disk.view c.args.shard.now c.loop-vacated.shard c.defrag_one.new.self so_far.goes turn;
       makes = λ s agrees.
-          defrag_none g.D.Disk.view c.counts-queued.result.queued c.loop-vacated.moved c.loop-vacated.vacated c.args.shard.now c.loop-vacated.shard so_far.goes so_far.far c.defrag_one.new.self c.loop-vacated-test.true
+          defrag_none g.D.Disk.view c.counts-queued.result.queued c.loop-vacated.moved c.loop-vacated.vacated c.args.shard.now c.loop-vacated.shard so_far.goes so_far.far
+          c.defrag_one.new.self c.loop-vacated-test.true
           makes s agrees (ap (λ (n : Counts). n.queued) (c.counts-queued.ensures.state s agrees));
     }

@@ -8,7 +8,8 @@ pub returns-in_err-one : goal.returns-in_err-one
 returns-in_err-one g c =
     let p = err_from_is_err_and c.from_residual.result c.from_residual.ensures.1 in
     rw (p.1, p.2)
-    (work_fails (DefragsOn g.D.Disk.view) plus_both c.in_err-one.field-0.0 c.loop-shard.shard-index (0, 0) c.args.shards.now c.loop-shard.shards (c.loop-shard.moved, c.loop-shard.vacated) c.shard-item.result c.defrag.new.shard
+    (work_fails (DefragsOn g.D.Disk.view) plus_both c.in_err-one.field-0.0 c.loop-shard.shard-index (0, 0) c.args.shards.now c.loop-shard.shards
+    (c.loop-shard.moved, c.loop-shard.vacated) c.shard-item.result c.defrag.new.shard
     c.loop-shard.invariant.turns (subst (λ (n : ℕ). c.loop-shard.shard-index < n) (sym c.loop-shard.auto.shards) c.loop-shard-test.true) (c.in_err-one.ensures {u = tt}).defrags)
 
 pub loop-shard-preserved : goal.loop-shard-preserved
@@ -19,8 +20,10 @@ loop-shard-preserved g c =
     let moved = so_far.few_moved in
     let vacated = so_far.few_vacated in
     record {
-      turns = through_next (WorkTurn (DefragsOn g.D.Disk.view) plus_both) c.loop-shard.shard-index (0, 0) c.args.shards.now c.loop-shard.shards (c.loop-shard.moved, c.loop-shard.vacated) c.shard-item.result c.defrag.new.shard
-          (c.loop-shard.moved + c.in_ok-one.one.0, c.loop-shard.vacated + c.in_ok-one.one.1) so_far.turns (subst (λ (n : ℕ). c.loop-shard.shard-index < n) (sym c.loop-shard.auto.shards) c.loop-shard-test.true)
+      turns = through_next (WorkTurn (DefragsOn g.D.Disk.view) plus_both) c.loop-shard.shard-index (0, 0) c.args.shards.now c.loop-shard.shards
+          (c.loop-shard.moved, c.loop-shard.vacated) c.shard-item.result c.defrag.new.shard
+          (c.loop-shard.moved + c.in_ok-one.one.0, c.loop-shard.vacated + c.in_ok-one.one.1) so_far.turns
+          (subst (λ (n : ℕ). c.loop-shard.shard-index < n) (sym c.loop-shard.auto.shards) c.loop-shard-test.true)
           (c.in_ok-one.one, e.defrags, refl);
       few_moved = omega (arith, few, moved);
       few_vacated = omega (arith, few, vacated);
@@ -29,7 +32,8 @@ loop-shard-preserved g c =
 pub returns : goal.returns
 returns g c =
     worked_all (DefragsOn g.D.Disk.view) plus_both (0, 0) c.args.shards.now c.loop-shard.shards (c.loop-shard.moved, c.loop-shard.vacated)
-    (through_all (WorkTurn (DefragsOn g.D.Disk.view) plus_both) c.loop-shard.shard-index (0, 0) c.args.shards.now c.loop-shard.shards (c.loop-shard.moved, c.loop-shard.vacated) c.loop-shard.invariant.turns
+    (through_all (WorkTurn (DefragsOn g.D.Disk.view) plus_both) c.loop-shard.shard-index (0, 0) c.args.shards.now c.loop-shard.shards
+    (c.loop-shard.moved, c.loop-shard.vacated) c.loop-shard.invariant.turns
     (λ there. let over = c.loop-shard-test.false in let same = c.loop-shard.auto.shards in omega (arith, over, same, there)))
 
 pub loop-shard-init : goal.loop-shard-init

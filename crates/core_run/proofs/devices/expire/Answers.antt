@@ -52,7 +52,8 @@ returns-clause-expires g c =
     let over = c.loop-part-test.false in
     let within = c.loop-part.auto.part-end in
     let all : c.parts-part-end.result ≡ c.loop-part.part = omega (arith, over, within) in
-    let each = subst (λ (n : ℕ). (digest : Digest) → device_number c.args.shard.now.shelf.geometry.devices digest ≡ c.args.shard.now.shelf.geometry.device → part_of (setup_of c.args.shard.now) digest < n) all
+    let each = subst (λ (n : ℕ). (digest : Digest) → device_number c.args.shard.now.shelf.geometry.devices digest ≡ c.args.shard.now.shelf.geometry.device
+    → part_of (setup_of c.args.shard.now) digest < n) all
     c.parts-part-end.ensures.all in
     record {
       goes = so_far.goes;

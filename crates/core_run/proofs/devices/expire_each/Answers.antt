@@ -8,7 +8,8 @@ pub returns-in_err-removed : goal.returns-in_err-removed
 returns-in_err-removed g c =
     let p = err_from_is_err_and c.from_residual.result c.from_residual.ensures.1 in
     rw (p.1, p.2)
-    (work_fails (ExpiresOn g.D.Disk.view c.args.now) plus_one c.in_err-removed.field-0.0 c.loop-shard.shard-index 0 c.args.shards.now c.loop-shard.shards c.loop-shard.removed c.shard-item.result c.expire.new.shard
+    (work_fails (ExpiresOn g.D.Disk.view c.args.now) plus_one c.in_err-removed.field-0.0 c.loop-shard.shard-index 0 c.args.shards.now c.loop-shard.shards c.loop-shard.removed
+    c.shard-item.result c.expire.new.shard
     c.loop-shard.invariant.turns (subst (λ (n : ℕ). c.loop-shard.shard-index < n) (sym c.loop-shard.auto.shards) c.loop-shard-test.true) (c.in_err-removed.ensures {u = tt}).expires)
 
 pub loop-shard-preserved : goal.loop-shard-preserved
@@ -18,7 +19,8 @@ loop-shard-preserved g c =
     let few = e.few in
     let less = so_far.few in
     record {
-      turns = through_next (WorkTurn (ExpiresOn g.D.Disk.view c.args.now) plus_one) c.loop-shard.shard-index 0 c.args.shards.now c.loop-shard.shards c.loop-shard.removed c.shard-item.result c.expire.new.shard
+      turns = through_next (WorkTurn (ExpiresOn g.D.Disk.view c.args.now) plus_one) c.loop-shard.shard-index 0 c.args.shards.now c.loop-shard.shards c.loop-shard.removed
+          c.shard-item.result c.expire.new.shard
           (c.loop-shard.removed + c.in_ok-removed.field-0) so_far.turns (subst (λ (n : ℕ). c.loop-shard.shard-index < n) (sym c.loop-shard.auto.shards) c.loop-shard-test.true)
           (c.in_ok-removed.field-0, e.expires, refl);
       few = omega (arith, few, less);

@@ -17,8 +17,10 @@ returns-in_err-flushed g c =
     let failed : FlushesOn {E = DiskFault} g.D.Disk.view (Err c.in_err-flushed.field-0.0) old c.flush.new.self =
     subst (λ (r : Result ℕ DiskFault). FlushesOn g.D.Disk.view r old c.flush.new.self) c.in_err-flushed.was turn in
     err_alone (λ r. FlushesEach g.D.Disk.view r c.args.shards.now (set c.loop-shard.shards c.loop-shard.shard-index c.flush.new.self)) c.from_residual.result c.from_residual.ensures.0
-    (λ fault. work_fails (FlushesOn {E = DiskFault} g.D.Disk.view) plus_one fault c.loop-shard.shard-index 0 c.args.shards.now c.loop-shard.shards c.loop-shard.flushed c.shard-item.result c.flush.new.self c.loop-shard.invariant.turns
-    (subst (λ (n : ℕ). c.loop-shard.shard-index < n) (sym c.loop-shard.auto.shards) c.loop-shard-test.true) (subst (λ (e : DiskFault). FlushesOn {E = DiskFault} g.D.Disk.view (Err e) old c.flush.new.self) (one_fault c.in_err-flushed.field-0.0 fault) failed))
+    (λ fault. work_fails (FlushesOn {E = DiskFault} g.D.Disk.view) plus_one fault c.loop-shard.shard-index 0 c.args.shards.now c.loop-shard.shards c.loop-shard.flushed c.shard-item.result
+    c.flush.new.self c.loop-shard.invariant.turns
+    (subst (λ (n : ℕ). c.loop-shard.shard-index < n) (sym c.loop-shard.auto.shards) c.loop-shard-test.true)
+    (subst (λ (e : DiskFault). FlushesOn {E = DiskFault} g.D.Disk.view (Err e) old c.flush.new.self) (one_fault c.in_err-flushed.field-0.0 fault) failed))
 
 pub overflow_add-flushed : goal.overflow_add-flushed
 overflow_add-flushed g c =
@@ -39,7 +41,8 @@ loop-shard-preserved g c =
     let few = c.in_ok-flushed.ensures.few in
     let so_far = c.loop-shard.invariant.few in
     record {
-      turns = through_next (WorkTurn (FlushesOn {E = DiskFault} g.D.Disk.view) plus_one) c.loop-shard.shard-index 0 c.args.shards.now c.loop-shard.shards c.loop-shard.flushed c.shard-item.result c.flush.new.self (c.loop-shard.flushed + c.in_ok-flushed.field-0)
+      turns = through_next (WorkTurn (FlushesOn {E = DiskFault} g.D.Disk.view) plus_one) c.loop-shard.shard-index 0 c.args.shards.now c.loop-shard.shards c.loop-shard.flushed
+          c.shard-item.result c.flush.new.self (c.loop-shard.flushed + c.in_ok-flushed.field-0)
           c.loop-shard.invariant.turns (subst (λ (n : ℕ). c.loop-shard.shard-index < n) (sym c.loop-shard.auto.shards) c.loop-shard-test.true) (c.in_ok-flushed.field-0, went, refl);
       few = omega (arith, few, so_far);
     }

@@ -19,22 +19,48 @@ returns-in_default-clause-refused g c = (
   stops g.D.Disk.view (shaped c.args.block_size c.args.blocks (length c.args.disks.now)) c.args.disks.now c.loop-index.disks c.loop-index.index _ c.format_disk.new.disk
       (slice_get-get_or c.loop-index.disks c.loop-index.index c.index-disks-index.result (omega arith))
       c.loop-index.invariant
-      (record { told = c.format_disk.ensures.told; honest = c.format_disk.ensures.honest; time = c.format_disk.ensures.time; ordered = c.format_disk.ensures.ordered; counts = c.format_disk.ensures.later; size = c.format_disk.ensures.len })
+      (record {
+        told = c.format_disk.ensures.told;
+        honest = c.format_disk.ensures.honest;
+        time = c.format_disk.ensures.time;
+        ordered = c.format_disk.ensures.ordered;
+        counts =
+            c.format_disk.ensures.later;
+        size = c.format_disk.ensures.len;
+      })
       c.in_default.ensures.cause,
 )
 
 pub returns-in_default-clause-goes : goal.returns-in_default-clause-goes
-returns-in_default-clause-goes g c = all_go g.D.Disk.view (shaped c.args.block_size c.args.blocks (length c.args.disks.now)) c.args.disks.now c.loop-index.disks c.loop-index.index _ c.format_disk.new.disk
+returns-in_default-clause-goes g c = all_go g.D.Disk.view (shaped c.args.block_size c.args.blocks (length c.args.disks.now)) c.args.disks.now c.loop-index.disks c.loop-index.index
+    _ c.format_disk.new.disk
     (slice_get-get_or c.loop-index.disks c.loop-index.index c.index-disks-index.result (omega arith))
     c.loop-index.invariant
-    (record { told = c.format_disk.ensures.told; honest = c.format_disk.ensures.honest; time = c.format_disk.ensures.time; ordered = c.format_disk.ensures.ordered; counts = c.format_disk.ensures.later; size = c.format_disk.ensures.len })
+    (record {
+      told = c.format_disk.ensures.told;
+      honest = c.format_disk.ensures.honest;
+      time = c.format_disk.ensures.time;
+      ordered = c.format_disk.ensures.ordered;
+      counts =
+          c.format_disk.ensures.later;
+      size = c.format_disk.ensures.len;
+    })
 
 pub loop-index-preserved : goal.loop-index-preserved
 loop-index-preserved g c = one_more g.D.Disk.view (shaped c.args.block_size c.args.blocks (length c.args.disks.now)) c.args.disks.now c.loop-index.disks c.loop-index.index _ c.format_disk.new.disk
     (slice_get-get_or c.loop-index.disks c.loop-index.index c.index-disks-index.result (omega arith))
     c.loop-index.invariant
-    (record { told = c.format_disk.ensures.told; honest = c.format_disk.ensures.honest; time = c.format_disk.ensures.time; ordered = c.format_disk.ensures.ordered; counts = c.format_disk.ensures.later; size = c.format_disk.ensures.len })
+    (record {
+      told = c.format_disk.ensures.told;
+      honest = c.format_disk.ensures.honest;
+      time = c.format_disk.ensures.time;
+      ordered = c.format_disk.ensures.ordered;
+      counts =
+          c.format_disk.ensures.later;
+      size = c.format_disk.ensures.len;
+    })
     (record { formatted = c.in-Ok.ensures.formatted; settled = c.in-Ok.ensures.durable })
 
 pub returns-clause-formatted : goal.returns-clause-formatted
-returns-clause-formatted g c = all_made g.D.Disk.view (shaped c.args.block_size c.args.blocks (length c.args.disks.now)) c.args.disks.now c.loop-index.disks c.loop-index.index c.loop-index.invariant c.loop-index-test.false
+returns-clause-formatted g c = all_made g.D.Disk.view (shaped c.args.block_size c.args.blocks (length c.args.disks.now)) c.args.disks.now c.loop-index.disks c.loop-index.index
+    c.loop-index.invariant c.loop-index-test.false

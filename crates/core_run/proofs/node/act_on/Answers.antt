@@ -19,7 +19,8 @@ returns-in-Put-clause-replies g c =
       (λ h. written_goes_on c.put.result (sym c.write_reply.ensures ∙ h)),
       λ s agrees.
           subst (λ (digest : Digest). Makes d.view (put_call digest c.in-Put.ttl c.in-Put.expect c.in-Put.payload c.args.now) (write_answer c.put.result) c.args.shard.now s c.put.new.self) same
-          (subst (λ (payload : List ℕ). Makes d.view (put_call c.args.digest.now c.in-Put.ttl c.in-Put.expect payload c.args.now) (write_answer c.put.result) c.args.shard.now s c.put.new.self) c.as_slice.ensures
+          (subst (λ (payload : List ℕ). Makes d.view (put_call c.args.digest.now c.in-Put.ttl c.in-Put.expect payload c.args.now)
+          (write_answer c.put.result) c.args.shard.now s c.put.new.self) c.as_slice.ensures
           (c.put.ensures.makes s agrees)),
     )
 

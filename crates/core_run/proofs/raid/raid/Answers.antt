@@ -47,7 +47,8 @@ returns-in-Err-clause-raids g c =
     let turn : GoesOn g.D.Disk.view c.loop-did.shard c.raid_step.new.self = record { shape = c.raid_step.ensures.shape; later = c.raid_step.ensures.later; honest = c.raid_step.ensures.honest } in
     subst (λ (f : LineFault). RaidsOn g.D.Disk.view c.args.now (Err f) old c.raid_step.new.self) (sym c.raid_fault.ensures) (record {
       goes = goes_on_then g.D.Disk.view old c.loop-did.shard c.raid_step.new.self so_far.goes turn;
-      makes = raid_refused g.D.Disk.view c.args.now c.in-Some.raid.number c.loop-did.removed c.loop-did.cleared old c.loop-did.shard so_far.goes so_far.far c.raid_step.new.self c.loop-did.raid so_far.next so_far.number c.in-Err.refusal c.in-Err.ensures.makes;
+      makes = raid_refused g.D.Disk.view c.args.now c.in-Some.raid.number c.loop-did.removed c.loop-did.cleared old c.loop-did.shard so_far.goes so_far.far c.raid_step.new.self
+          c.loop-did.raid so_far.next so_far.number c.in-Err.refusal c.in-Err.ensures.makes;
     })
 
 pub returns-in_default-ended_by-clause-raids : goal.returns-in_default-ended_by-clause-raids
@@ -59,7 +60,8 @@ returns-in_default-ended_by-clause-raids g c =
     let over = so_far.next.next in
     let next : c.loop-did.raid.next ≡ RaidNext.Finished = done_over c.loop-did.raid.next (subst (IsDidOf c.loop-did.raid.next) done took.did) in
     let same : c.raid_step.new.self ≡ c.loop-did.shard = took.over (ap (λ (d : RaidDid). Ok d) done) in
-    let each = subst (λ (n : ℕ). (digest : Digest) → device_number old.shelf.geometry.devices digest ≡ old.shelf.geometry.device → part_of (setup_of old) digest < n) c.parts-parts.ensures.total c.parts-parts.ensures.all in
+    let each = subst (λ (n : ℕ). (digest : Digest) → device_number old.shelf.geometry.devices digest ≡ old.shelf.geometry.device
+    → part_of (setup_of old) digest < n) c.parts-parts.ensures.total c.parts-parts.ensures.all in
     subst (RaidsOn g.D.Disk.view c.args.now (Ok (c.loop-did.removed, c.loop-did.cleared)) old) (sym same) (record {
       goes = so_far.goes;
       makes = raid_done g.D.Disk.view c.args.now c.in-Some.raid.number c.loop-did.removed c.loop-did.cleared old c.loop-did.shard so_far.goes so_far.far (sym over ∙ next) each;
@@ -80,7 +82,8 @@ loop-did-preserved g c =
       goes = goes_on_then g.D.Disk.view old c.loop-did.shard c.raid_step.new.self so_far.goes turn;
       next = follows.0;
       number = follows.1 ∙ so_far.number;
-      far = raid_more g.D.Disk.view c.args.now c.in-Some.raid.number c.loop-did.removed c.loop-did.cleared old c.loop-did.shard so_far.goes so_far.far c.raid_step.new.self c.loop-did.raid so_far.next so_far.number c.in-Ok.did gone bare took ended c.in-Ok.ensures.makes;
+      far = raid_more g.D.Disk.view c.args.now c.in-Some.raid.number c.loop-did.removed c.loop-did.cleared old c.loop-did.shard so_far.goes so_far.far c.raid_step.new.self c.loop-did.raid
+          so_far.next so_far.number c.in-Ok.did gone bare took ended c.in-Ok.ensures.makes;
       few_removed = (few_more c.in-Ok.did _ _ gone bare c.loop-did.removed ended took.few more so_far.few_removed).0;
       few_cleared = (few_more c.in-Ok.did _ _ gone bare c.loop-did.cleared ended took.few more so_far.few_cleared).1;
     }

@@ -8,7 +8,8 @@ pub returns-in_err-one : goal.returns-in_err-one
 returns-in_err-one g c =
     let p = err_from_is_err_and c.from_residual.result c.from_residual.ensures.1 in
     rw (p.1, p.2)
-    (work_fails (RaidsOn g.D.Disk.view c.args.now) plus_both c.in_err-one.field-0.0 c.loop-shard.shard-index (0, 0) c.args.shards.now c.loop-shard.shards (c.loop-shard.removed, c.loop-shard.cleared) c.shard-item.result c.raid.new.shard
+    (work_fails (RaidsOn g.D.Disk.view c.args.now) plus_both c.in_err-one.field-0.0 c.loop-shard.shard-index (0, 0) c.args.shards.now c.loop-shard.shards
+    (c.loop-shard.removed, c.loop-shard.cleared) c.shard-item.result c.raid.new.shard
     c.loop-shard.invariant.turns (subst (λ (n : ℕ). c.loop-shard.shard-index < n) (sym c.loop-shard.auto.shards) c.loop-shard-test.true) (c.in_err-one.ensures {u = tt}).raids)
 
 pub loop-shard-preserved : goal.loop-shard-preserved
@@ -19,8 +20,10 @@ loop-shard-preserved g c =
     let removed = so_far.few_removed in
     let cleared = so_far.few_cleared in
     record {
-      turns = through_next (WorkTurn (RaidsOn g.D.Disk.view c.args.now) plus_both) c.loop-shard.shard-index (0, 0) c.args.shards.now c.loop-shard.shards (c.loop-shard.removed, c.loop-shard.cleared) c.shard-item.result c.raid.new.shard
-          (c.loop-shard.removed + c.in_ok-one.one.0, c.loop-shard.cleared + c.in_ok-one.one.1) so_far.turns (subst (λ (n : ℕ). c.loop-shard.shard-index < n) (sym c.loop-shard.auto.shards) c.loop-shard-test.true)
+      turns = through_next (WorkTurn (RaidsOn g.D.Disk.view c.args.now) plus_both) c.loop-shard.shard-index (0, 0) c.args.shards.now c.loop-shard.shards
+          (c.loop-shard.removed, c.loop-shard.cleared) c.shard-item.result c.raid.new.shard
+          (c.loop-shard.removed + c.in_ok-one.one.0, c.loop-shard.cleared + c.in_ok-one.one.1) so_far.turns
+          (subst (λ (n : ℕ). c.loop-shard.shard-index < n) (sym c.loop-shard.auto.shards) c.loop-shard-test.true)
           (c.in_ok-one.one, e.raids, refl);
       few_removed = omega (arith, few, removed);
       few_cleared = omega (arith, few, cleared);
@@ -29,7 +32,8 @@ loop-shard-preserved g c =
 pub returns : goal.returns
 returns g c =
     worked_all (RaidsOn g.D.Disk.view c.args.now) plus_both (0, 0) c.args.shards.now c.loop-shard.shards (c.loop-shard.removed, c.loop-shard.cleared)
-    (through_all (WorkTurn (RaidsOn g.D.Disk.view c.args.now) plus_both) c.loop-shard.shard-index (0, 0) c.args.shards.now c.loop-shard.shards (c.loop-shard.removed, c.loop-shard.cleared) c.loop-shard.invariant.turns
+    (through_all (WorkTurn (RaidsOn g.D.Disk.view c.args.now) plus_both) c.loop-shard.shard-index (0, 0) c.args.shards.now c.loop-shard.shards
+    (c.loop-shard.removed, c.loop-shard.cleared) c.loop-shard.invariant.turns
     (λ there. let over = c.loop-shard-test.false in let same = c.loop-shard.auto.shards in omega (arith, over, same, there)))
 
 pub loop-shard-init : goal.loop-shard-init

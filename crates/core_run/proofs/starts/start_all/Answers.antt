@@ -19,11 +19,15 @@ pub returns-in-Err-clause-starts : goal.returns-in-Err-clause-starts
 returns-in-Err-clause-starts g c =
     let e = c.in-Err.ensures {u = tt} in
     let turned : reverse c.reverse.new.self.items ≡ c.args.disks.now.items = ap reverse c.reverse.ensures.items ∙ reverse-reverse c.args.disks.now.items in
-    let stops : StopsAt g.D.Disk.view c.args.set c.in-Err.why.0 0 (vec_len c.args.disks.now) c.in-Err.why.1 c.args.disks.now.items c.start_each.new.shards.items (reverse c.start_each.new.disks.items) =
-    subst (λ (d : List g.row.D.Denot). StopsAt g.D.Disk.view c.args.set c.in-Err.why.0 0 (vec_len c.args.disks.now) c.in-Err.why.1 d c.start_each.new.shards.items (reverse c.start_each.new.disks.items)) turned
-    (subst (λ (n : ℕ). StopsAt g.D.Disk.view c.args.set c.in-Err.why.0 0 n c.in-Err.why.1 (reverse c.reverse.new.self.items) c.start_each.new.shards.items (reverse c.start_each.new.disks.items)) c.len-devices.ensures e.starts) in (
+    let stops : StopsAt g.D.Disk.view c.args.set c.in-Err.why.0 0 (vec_len c.args.disks.now) c.in-Err.why.1 c.args.disks.now.items c.start_each.new.shards.items
+    (reverse c.start_each.new.disks.items) =
+    subst (λ (d : List g.row.D.Denot). StopsAt g.D.Disk.view c.args.set c.in-Err.why.0 0 (vec_len c.args.disks.now) c.in-Err.why.1 d c.start_each.new.shards.items
+    (reverse c.start_each.new.disks.items)) turned
+    (subst (λ (n : ℕ). StopsAt g.D.Disk.view c.args.set c.in-Err.why.0 0 n c.in-Err.why.1 (reverse c.reverse.new.self.items) c.start_each.new.shards.items
+    (reverse c.start_each.new.disks.items)) c.len-devices.ensures e.starts) in (
       subst (λ (d : List g.row.D.Denot). RefusesAt g.D.Disk.view c.args.set c.in-Err.why.0 0 (vec_len c.args.disks.now) c.in-Err.why.1 c.args.disks.now.items d) (sym c.stop_all.ensures.disks)
-          (stops_refuse g.D.Disk.view c.args.set (vec_len c.args.disks.now) c.in-Err.why.0 0 c.in-Err.why.1 c.args.disks.now.items c.start_each.new.shards.items (reverse c.start_each.new.disks.items) stops),
+          (stops_refuse g.D.Disk.view c.args.set (vec_len c.args.disks.now) c.in-Err.why.0 0 c.in-Err.why.1 c.args.disks.now.items c.start_each.new.shards.items
+          (reverse c.start_each.new.disks.items) stops),
       c.stop_all.ensures.none,
     )
 

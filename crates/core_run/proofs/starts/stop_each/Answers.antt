@@ -29,8 +29,10 @@ loop-shard-preserved g c =
     let longer = pushed.len in
     let as_much = pushed.capacity in
     record {
-      disks = ap (λ (items : List g.row.D.Denot). items ++ left) (pushed.items ∙ ap (λ (d : g.row.D.Denot). disks ++ (d ∷ [])) c.stop.ensures) ∙ append_assoc disks (c.in-Some.shard.shelf.disk ∷ []) left
-          ∙ ap (λ (items : List g.row.D.Denot). disks ++ items) (sym (ap (λ (s : List (ShardView g.row.D.Denot)). reverse (disks_served s)) popped.items ∙ served_turned c.pop.new.self.items c.in-Some.shard))
+      disks = ap (λ (items : List g.row.D.Denot). items ++ left) (pushed.items ∙ ap (λ (d : g.row.D.Denot). disks ++ (d ∷ [])) c.stop.ensures)
+          ∙ append_assoc disks (c.in-Some.shard.shelf.disk ∷ []) left
+          ∙ ap (λ (items : List g.row.D.Denot). disks ++ items)
+          (sym (ap (λ (s : List (ShardView g.row.D.Denot)). reverse (disks_served s)) popped.items ∙ served_turned c.pop.new.self.items c.in-Some.shard))
           ∙ c.loop-shard.invariant.disks;
       room = omega (arith, more, room, longer, as_much);
       shards_room = popped.capacity ∙ c.loop-shard.invariant.shards_room;

@@ -21,7 +21,8 @@ use Rattle.law_steps.specs.Events.{StepMakes}
 use Rattle.law_steps.proofs.Found.{entry_named, lies_found, prior_stands}
 use Rattle.defrag_pass.specs.declared.refusal.MoveRefusal.{MoveRefusal}
 use Rattle.defrag_pass.specs.Moves.{Answers}
-use Rattle.defrag_pass.proofs.Moved.{makes_elsewhere, makes_unread, makes_unappended, makes_moved, copy_is_read, stand_read, none_there, out_of, fits_here, prior_at, live_at, version_at, shown_here, prior_read, read_then_later, replaced_by, setup_read}
+use Rattle.defrag_pass.proofs.Moved.{makes_elsewhere, makes_unread, makes_unappended, makes_moved, copy_is_read, stand_read, none_there, out_of, fits_here}
+use Rattle.defrag_pass.proofs.Moved.{prior_at, live_at, version_at, shown_here, prior_read, read_then_later, replaced_by, setup_read}
 use Rattle.defrag_pass.proofs.moving.move_one.Goals as goal
 
 -- ---- no copy in the block
@@ -36,7 +37,8 @@ pub returns-then-entry-block-clause-makes : goal.returns-then-entry-block-clause
 returns-then-entry-block-clause-makes g c setup s is stand =
     let view = g.D.Disk.view in
     let found = sym c.find.ensures.value ∙ c.in-Some.is in
-    let out = out_of view setup c.args.digest.now c.args.block c.args.sprig.now c.args.shelf.now s stand c.in-Some.entry found false (ne_eqb c.in-Some.entry.block c.args.block c.if-entry-block.true) in
+    let out = out_of view setup c.args.digest.now c.args.block c.args.sprig.now c.args.shelf.now s stand c.in-Some.entry found false
+    (ne_eqb c.in-Some.entry.block c.args.block c.if-entry-block.true) in
     (happened false, refl, makes_elsewhere view setup c.args.digest.now c.args.block c.args.sprig.now c.args.shelf.now s stand (g.met.D.Disk.is_disk c.args.shelf.now.disk) out)
 
 -- ---- what the calls ask
@@ -66,7 +68,8 @@ append-requires-clause-prior g c =
     let r = c.requires.stand in
     let there = subst (λ (o : Option Entry). IsPriorIn c.args.shelf.now (option_map place_of o)) (sym c.find.ensures.value ∙ c.in-Some.is)
     (prior_stands r.0 c.args.digest.now c.args.sprig.now c.args.shelf.now r.1 r.3 g.D.Disk.view c.geometry.ensures.whole) in
-    prior_read c.place_of_entry-place.result c.args.shelf.now c.read_for.new.shelf c.read_for.ensures.same (subst (λ (p : Place). IsPriorIn c.args.shelf.now (Some p)) (sym c.place_of_entry-place.ensures) there)
+    prior_read c.place_of_entry-place.result c.args.shelf.now c.read_for.new.shelf c.read_for.ensures.same
+    (subst (λ (p : Place). IsPriorIn c.args.shelf.now (Some p)) (sym c.place_of_entry-place.ensures) there)
 
 pub replace-requires : goal.replace-requires
 replace-requires g c =
@@ -90,7 +93,8 @@ returns-in_err-version-clause-makes g c setup s is stand =
     let shown = shown_here view setup c.args.digest.now c.args.block c.args.sprig.now old s stand e found in
     let p = err_from_is_err_and c.from_residual.result c.from_residual.ensures.1 in
     let same : c.from_residual.result ≡ Err refusal = p.1 ∙ ap (λ (r : MoveRefusal). Err r) p.2 in
-    subst (λ (r : Result Bool MoveRefusal). (answer : Answer) × Answers r answer × StepMakes view setup (part_of setup c.args.digest.now) (move_call c.args.digest.now c.args.block) answer old s c.args.sprig.now mid) (sym same)
+    subst (λ (r : Result Bool MoveRefusal). (answer : Answer) × Answers r answer
+    × StepMakes view setup (part_of setup c.args.digest.now) (move_call c.args.digest.now c.args.block) answer old s c.args.sprig.now mid) (sym same)
     (makes_unread view setup c.args.digest.now c.args.block c.args.sprig.now old s stand e found c.if-entry-block.false mid got.same got.disk (g.met.D.Disk.is_disk mid.disk) refusal
     (got.asked setup s is stand.shelf_stands.stands) (λ fault. got.cause (ap (λ (r : MoveRefusal). Err r) fault))
     (λ honest placed. got.written honest setup s shown.version stand.shelf_stands.stands placed live version shown.names))
@@ -139,7 +143,8 @@ returns-clause-makes g c setup s is stand =
     let disk = g.met.D.Disk.is_disk mid.disk in
     let stands = stand_read view setup digest c.args.block c.args.sprig.now old s stand e found c.if-entry-block.false mid got.same got.disk disk in
     let told = c.in-Err.ensures.causes setup s (setup_read setup old mid got.same is) stands.shelf_stands.stands in
-    subst (λ (r : MoveRefusal). (answer : Answer) × Answers (Err r) answer × StepMakes view setup (part_of setup digest) (move_call digest c.args.block) answer old s c.args.sprig.now c.append.new.self)
+    subst (λ (r : MoveRefusal). (answer : Answer) × Answers (Err r) answer
+    × StepMakes view setup (part_of setup digest) (move_call digest c.args.block) answer old s c.args.sprig.now c.append.new.self)
     (sym c.append_refusal.ensures)
     (makes_unappended view setup digest c.args.block c.args.sprig.now old s stand e found c.if-entry-block.false mid got.same got.disk disk
     (fits_here view setup digest c.args.block c.args.sprig.now old s stand e found is) c.in_ok-version.version got.names (got.asked setup s is stand.shelf_stands.stands)

@@ -8,7 +8,8 @@ use Rattle.defrag_pass.proofs.moving.read_for.Goals as goal
 pub returns-in-Err-clause-asked : goal.returns-in-Err-clause-asked
 returns-in-Err-clause-asked g c setup s is stands =
     subst (IsUnread (no_place setup defrag move_reserve c.args.entry.now.units s.book)) (sym c.append_refusal.ensures)
-    (unread_for setup c.args.entry.now.units s.book (omega (arith, is.shape.capacity, c.requires.within, c.requires.units.0)) c.in-Err.refusal (c.in-Err.ensures.causes setup s is stands) c.in-Err.ensures.unfailed)
+    (unread_for setup c.args.entry.now.units s.book (omega (arith, is.shape.capacity, c.requires.within, c.requires.units.0)) c.in-Err.refusal
+    (c.in-Err.ensures.causes setup s is stands) c.in-Err.ensures.unfailed)
 
 pub returns-in-Err-read-clause-written : goal.returns-in-Err-read-clause-written
 returns-in-Err-read-clause-written g c honest setup s v stands placed live entry names =

@@ -21,10 +21,12 @@ loop-holder-preserved c =
     let ps = c.args.pairs.now in
     let i = c.loop-holder.holder-index in
     let p = get_or ps i (0, 0) in
-    let here : Lowered c.args.buffer ps (p ∷ drop (i + 1) ps) c.loop-holder.counts = subst (λ rest. Lowered c.args.buffer ps rest c.loop-holder.counts) (drop_more ps i (0, 0) c.loop-holder-test.true) c.loop-holder.invariant in
+    let here : Lowered c.args.buffer ps (p ∷ drop (i + 1) ps) c.loop-holder.counts =
+    subst (λ rest. Lowered c.args.buffer ps rest c.loop-holder.counts) (drop_more ps i (0, 0) c.loop-holder-test.true) c.loop-holder.invariant in
     elim c.if-holder-buffer.branch [
       | then-holder-buffer w ↦ subst (λ counts. Lowered c.args.buffer ps (drop (i + 1) ps) counts) (sym w.counts-is)
-          (lowered_one c.args.buffer ps p (drop (i + 1) ps) c.loop-holder.counts (eq-eqb p.0 c.args.buffer w.if-holder-buffer.true) here w.lower.new.counts w.lower.ensures.at w.lower.ensures.others w.lower.ensures.some)
+          (lowered_one c.args.buffer ps p (drop (i + 1) ps) c.loop-holder.counts
+          (eq-eqb p.0 c.args.buffer w.if-holder-buffer.true) here w.lower.new.counts w.lower.ensures.at w.lower.ensures.others w.lower.ensures.some)
       | else-holder-buffer w ↦ subst (λ counts. Lowered c.args.buffer ps (drop (i + 1) ps) counts) (sym w.counts-is)
           (lowered_past c.args.buffer ps p (drop (i + 1) ps) c.loop-holder.counts (ne_eqb p.0 c.args.buffer w.if-holder-buffer.false) here)
     ]

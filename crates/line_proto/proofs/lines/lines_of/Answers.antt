@@ -9,5 +9,6 @@ loop-line-preserved c =
     record {
       gone = was.gone ++ (line ++ 10 ∷ []);
       parts = next_parts c.args.bytes.now was.gone c.loop-line.rest.now line c.in-Some.after.now was.parts c.in-Some.ensures.0;
-      stands = next_stands c.loop-line.ready.items c.push_back.new.self.items c.end.result c.loop-line.tail c.go_on.new.self c.end.new.self was.gone line c.in_ok-push_back.ensures.items c.end.ensures.end (search rules) c.end.ensures.rest was.stands c.in-Some.ensures.1;
+      stands = next_stands c.loop-line.ready.items c.push_back.new.self.items c.end.result c.loop-line.tail c.go_on.new.self c.end.new.self was.gone line c.in_ok-push_back.ensures.items
+          c.end.ensures.end (search rules) c.end.ensures.rest was.stands c.in-Some.ensures.1;
     }

@@ -37,7 +37,8 @@ found line c is other = (
   λ also. sym (one_made line c is) ∙ one_made line other also,
 )
 
-lost : (line : List ℕ) → (line ≡ codes "quit" → ⊥) → (line ≡ codes "flush" → ⊥) → (line ≡ codes "stat" → ⊥) → (line ≡ codes "restart" → ⊥) → (line ≡ codes "defrag" → ⊥) → (line ≡ codes "expire" → ⊥) → (line ≡ codes "raid" → ⊥) → (c : Command) → (None ≡ Some c) ↔ IsAlone line c
+lost : (line : List ℕ) → (line ≡ codes "quit" → ⊥) → (line ≡ codes "flush" → ⊥) → (line ≡ codes "stat" → ⊥) → (line ≡ codes "restart" → ⊥) → (line ≡ codes "defrag" → ⊥)
+    → (line ≡ codes "expire" → ⊥) → (line ≡ codes "raid" → ⊥) → (c : Command) → (None ≡ Some c) ↔ IsAlone line c
 lost line no_quit no_flush no_stat no_restart no_defrag no_expire no_raid Flush = (λ is. cc, λ is. absurd (no_flush is))
 lost line no_quit no_flush no_stat no_restart no_defrag no_expire no_raid Stat = (λ is. cc, λ is. absurd (no_stat is))
 lost line no_quit no_flush no_stat no_restart no_defrag no_expire no_raid Restart = (λ is. cc, λ is. absurd (no_restart is))

@@ -19,7 +19,8 @@ pub returns-in_default-expect_of : goal.returns-in_default-expect_of
 returns-in_default-expect_of c = none_of c.args.text.now _ _ _ _ c.in-Some.ensures (λ digest ttl expect payload reads. no_none expect ((c.in_default-expect_of.ensures expect).1 reads.is_expect))
 
 pub returns-in_default-2 : goal.returns-in_default-2
-returns-in_default-2 c = none_of c.args.text.now _ _ _ _ c.in-Some.ensures (λ digest ttl expect payload reads. no_none payload (sym c.in_default-2.is ∙ (c.in_ok-payload.ensures payload).1 reads.is_data))
+returns-in_default-2 c = none_of c.args.text.now _ _ _ _ c.in-Some.ensures
+    (λ digest ttl expect payload reads. no_none payload (sym c.in_default-2.is ∙ (c.in_ok-payload.ensures payload).1 reads.is_data))
 
 pub overflow_cast-ttl : goal.overflow_cast-ttl
 overflow_cast-ttl c = let small = ((c.in-Some-number_of.ensures c.in-Some-number_of.ttl).0 refl).0 in search rules

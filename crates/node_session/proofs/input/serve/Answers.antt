@@ -34,7 +34,19 @@ serve_ready-requires g c =
     let was = c.loop-taken.invariant in
     let piece = c.in-Ok.ensures.piece in
     let ready = count_ready c.take_piece.new.lines (was.rest ++ piece.0) (piece.5.2 was.rest was.stands) in
-    omega (arith, c.ranges.limit.fits, c.min-room.ensures, length-take c.min-room.result c.loop-taken.buffer, ready, count_of_falls was.bytes was.whole was.rest was.falls, was.counted, was.size, piece.5.0, piece.3, length-append was.rest piece.0)
+    omega (
+      arith,
+      c.ranges.limit.fits,
+      c.min-room.ensures,
+      length-take c.min-room.result c.loop-taken.buffer,
+      ready,
+      count_of_falls was.bytes was.whole was.rest was.falls,
+      was.counted,
+      was.size,
+      piece.5.0,
+      piece.3,
+      length-append was.rest piece.0,
+    )
 
 pub returns-then-rest-eq0-clause-run : goal.returns-then-rest-eq0-clause-run
 returns-then-rest-eq0-clause-run g c =
@@ -51,7 +63,11 @@ returns-then-rest-eq0-clause-run g c =
       shortens = shortens_end _ _ _ was.bytes piece.0 none was.shortens piece.2;
       extends = extends_same _ _ _ was.output was.extends c.take_piece.ensures.written;
       within = omega (arith, was.size, was.within);
-      ends = (omega (arith, was.size, c.loop-taken-test.true), finish_whole g.T.Store.acts g.T.Store.tends was.bytes _ was.whole was.rest c.loop-taken.answered _ _ was.output _ _ was.falls no_rest (piece.5.1 c.if-count-eq0.true) was.counted was.serves);
+      ends = (
+        omega (arith, was.size, c.loop-taken-test.true),
+        finish_whole g.T.Store.acts g.T.Store.tends was.bytes _ was.whole was.rest c.loop-taken.answered _ _ was.output _ _ was.falls
+            no_rest (piece.5.1 c.if-count-eq0.true) was.counted was.serves,
+      );
     }
 
 -- a rest is there, so one more line fits the count
@@ -70,7 +86,24 @@ end_of-requires g c =
     let piece = c.in-Ok.ensures.piece in
     let ready = count_ready c.take_piece.new.lines (was.rest ++ piece.0) (piece.5.2 was.rest was.stands) in
     let stopped = c.in-Ok-Some.ensures.stopped c.in-Ok-Some.stop (ap Ok c.in-Ok-Some.field-0-is) in
-    omega (arith, c.ranges.limit.fits, c.min-room.ensures, length-take c.min-room.result c.loop-taken.buffer, ready, count_of_falls was.bytes was.whole was.rest was.falls, was.counted, was.size, piece.5.0, piece.3, length-append was.rest piece.0, stopped.4, stopped.2.counted, ap length stopped.2.parts, length-append stopped.2.before (stopped.2.line ∷ stopped.2.after))
+    omega (
+      arith,
+      c.ranges.limit.fits,
+      c.min-room.ensures,
+      length-take c.min-room.result c.loop-taken.buffer,
+      ready,
+      count_of_falls was.bytes was.whole was.rest was.falls,
+      was.counted,
+      was.size,
+      piece.5.0,
+      piece.3,
+      length-append was.rest piece.0,
+      stopped.4,
+      stopped.2.counted,
+      ap length stopped.2.parts,
+      length-append stopped.2.before
+          (stopped.2.line ∷ stopped.2.after),
+    )
 
 pub returns-in-Ok-Some-clause-run : goal.returns-in-Ok-Some-clause-run
 returns-in-Ok-Some-clause-run g c =
@@ -78,7 +111,8 @@ returns-in-Ok-Some-clause-run g c =
     let piece = c.in-Ok.ensures.piece in
     let stopped = c.in-Ok-Some.ensures.stopped c.in-Ok-Some.stop (ap Ok c.in-Ok-Some.field-0-is) in
     let kept = c.take_piece.new.lines in
-    let after = stops_after g.T.Store.acts g.T.Store.tends was.bytes piece.0 was.whole was.rest was.falls kept (piece.5.2 was.rest was.stands) _ _ was.output _ _ was.serves (g.L.Ends.left c.serve_ready.new.link) stopped.0 _ _ stopped.1 c.in-Ok-Some.stop stopped.2 in
+    let after = stops_after g.T.Store.acts g.T.Store.tends was.bytes piece.0 was.whole was.rest was.falls kept (piece.5.2 was.rest was.stands) _ _ was.output _ _ was.serves
+    (g.L.Ends.left c.serve_ready.new.link) stopped.0 _ _ stopped.1 c.in-Ok-Some.stop stopped.2 in
     let count : length was.whole + stopped.1 ≡ c.serve_ready.new.answered = omega (arith, was.counted, stopped.4) in
     rw c.end_of.ensures (record {
       bytes = was.bytes ++ piece.0;
@@ -88,7 +122,8 @@ returns-in-Ok-Some-clause-run g c =
       extends = extends_on _ _ _ was.output stopped.0 (extends_same _ _ _ was.output was.extends c.take_piece.ensures.written) stopped.3;
       within = omega (arith, c.min-room.ensures, length-take c.min-room.result c.loop-taken.buffer, was.size, piece.3, length-append was.bytes piece.0);
       ends = ends_of g.T.Store.acts g.T.Store.tends c.args.limit (was.bytes ++ piece.0) _ c.serve_ready.new.answered _ _ (was.output ++ stopped.0) _ _ c.in-Ok-Some.stop
-          (subst (λ n. StopsAfter g.T.Store.acts g.T.Store.tends (was.bytes ++ piece.0) (g.L.Ends.left c.serve_ready.new.link) n c.args.store.now (g.C.Clock.times c.args.clock.now) (was.output ++ stopped.0) c.serve_ready.new.store (g.C.Clock.times c.serve_ready.new.clock) c.in-Ok-Some.stop) count after);
+          (subst (λ n. StopsAfter g.T.Store.acts g.T.Store.tends (was.bytes ++ piece.0) (g.L.Ends.left c.serve_ready.new.link) n c.args.store.now (g.C.Clock.times c.args.clock.now)
+          (was.output ++ stopped.0) c.serve_ready.new.store (g.C.Clock.times c.serve_ready.new.clock) c.in-Ok-Some.stop) count after);
     })
 
 pub loop-taken-preserved : goal.loop-taken-preserved
@@ -97,7 +132,9 @@ loop-taken-preserved g c =
     let piece = c.in-Ok.ensures.piece in
     let done = c.in-Ok-None.ensures.done (ap Ok c.in-Ok-None.field-0-is) in
     let kept = c.take_piece.new.lines in
-    let on = further g.T.Store.acts g.T.Store.tends was.bytes piece.0 was.whole was.rest was.falls kept (piece.5.2 was.rest was.stands) _ _ was.output _ _ was.serves done.0 _ _ c.serve_ready.new.answered done.1 (omega (arith, was.counted, c.in-Ok-None.ensures.counted (ap Ok c.in-Ok-None.field-0-is))) in
+    let on = further g.T.Store.acts g.T.Store.tends was.bytes piece.0 was.whole was.rest was.falls kept
+    (piece.5.2 was.rest was.stands) _ _ was.output _ _ was.serves done.0 _ _ c.serve_ready.new.answered done.1
+    (omega (arith, was.counted, c.in-Ok-None.ensures.counted (ap Ok c.in-Ok-None.field-0-is))) in
     record {
       bytes = was.bytes ++ piece.0;
       whole = on.lines;
@@ -133,7 +170,8 @@ returns-then-count-eq0-clause-run g c =
       shortens = subst (λ l. Shortens (g.L.Ends.left c.args.link.now) l was.bytes) (sym c.serve_rest.ensures.left) (shortens_end _ _ _ was.bytes piece.0 none was.shortens piece.2);
       extends = extends_on _ _ _ was.output ends.1 (extends_same _ _ _ was.output was.extends c.take_piece.ensures.written) ends.4;
       within = omega (arith, was.size, was.within);
-      ends = rest_ends_so g.T.Store.acts g.T.Store.tends c.args.limit was.bytes _ was.whole was.rest c.loop-taken.answered _ _ was.output _ _ ends.0 _ _ ends.2 was.falls some at_end was.counted was.serves ends.1 c.serve_rest.result (omega (arith, was.size, c.loop-taken-test.true)) ends.3 ends.5;
+      ends = rest_ends_so g.T.Store.acts g.T.Store.tends c.args.limit was.bytes _ was.whole was.rest c.loop-taken.answered _ _ was.output _ _ ends.0 _ _ ends.2 was.falls some at_end
+          was.counted was.serves ends.1 c.serve_rest.result (omega (arith, was.size, c.loop-taken-test.true)) ends.3 ends.5;
     }
 
 pub returns-in-Err-clause-run : goal.returns-in-Err-clause-run
@@ -152,6 +190,7 @@ returns-in-Err-clause-run g c =
       ends = (
         was.output ++ failed.0,
         short_on was.output failed.0 failed.1 failed.2,
-        some_turns g.T.Store.acts g.T.Store.tends was.bytes piece.0 was.whole was.rest was.falls kept (piece.5.2 was.rest was.stands) _ _ was.output _ _ was.serves (g.L.Ends.left c.serve_ready.new.link) failed.0 _ _ failed.3,
+        some_turns g.T.Store.acts g.T.Store.tends was.bytes piece.0 was.whole was.rest was.falls kept (piece.5.2 was.rest was.stands) _ _ was.output _ _ was.serves
+            (g.L.Ends.left c.serve_ready.new.link) failed.0 _ _ failed.3,
       );
     }

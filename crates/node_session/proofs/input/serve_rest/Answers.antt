@@ -15,7 +15,8 @@ use Rattle.node_session.proofs.Stopping.{told_one}
 use Rattle.node_session.proofs.input.serve_rest.Goals as goal
 
 -- the rest had its turn, and the text of its reply waits
-record RestWaits {T : Type 0} (acts : T → Command → ℕ → Reply → T → Type 0) (tends : T → T → Type 0) (answered : ℕ) (old : T) (times : Times) (first waiting : List ℕ) (new : T) (later : Times) : Type 0 where
+record RestWaits {T : Type 0} (acts : T → Command → ℕ → Reply → T → Type 0) (tends : T → T → Type 0) (answered : ℕ) (old : T) (times : Times) (first waiting : List ℕ) (new : T)
+    (later : Times) : Type 0 where
   text : List ℕ
   last : Option Reply
   ended : Ended
@@ -23,7 +24,8 @@ record RestWaits {T : Type 0} (acts : T → Command → ℕ → Reply → T → 
   added : waiting ≡ first ++ text
   one : text ≡ text_if last
 
-rest_waits : {T : Type 0} (acts : T → Command → ℕ → Reply → T → Type 0) (tends : T → T → Type 0) (answered : ℕ) (old : T) (times : Times) (first waiting : List ℕ) (new : T) (later : Times) (stopped : Option Stop)
+rest_waits : {T : Type 0} (acts : T → Command → ℕ → Reply → T → Type 0) (tends : T → T → Type 0) (answered : ℕ) (old : T) (times : Times) (first waiting : List ℕ) (new : T)
+    (later : Times) (stopped : Option Stop)
     → IfNone stopped ((reply : Reply) × WholeTurn acts tends TooLong old times reply new later × (waiting ≡ first ++ reply_text reply))
     → IfSome stopped (λ stop. (last : List ℕ) × StopsAtLine acts tends TooLong old times last new later stop × (waiting ≡ first ++ last))
     → RestWaits acts tends answered old times first waiting new later
@@ -49,15 +51,33 @@ rest_waits acts tends answered old times first waiting new later (Some stop) don
 pub returns-then-is_err-clause-ends : goal.returns-then-is_err-clause-ends
 returns-then-is_err-clause-ends g c =
     let first = c.new-replies.result in
-    let waits = rest_waits g.T.Store.acts g.T.Store.tends c.args.answered c.args.store.now (g.C.Clock.times c.args.clock.now) first c.turn-stopped.new.replies c.turn-stopped.new.store (g.C.Clock.times c.turn-stopped.new.clock) c.turn-stopped.result c.turn-stopped.ensures.done c.turn-stopped.ensures.stopped in
+    let waits = rest_waits g.T.Store.acts g.T.Store.tends c.args.answered c.args.store.now (g.C.Clock.times c.args.clock.now) first c.turn-stopped.new.replies c.turn-stopped.new.store
+    (g.C.Clock.times c.turn-stopped.new.clock) c.turn-stopped.result c.turn-stopped.ensures.done c.turn-stopped.ensures.stopped in
     let waiting : c.turn-stopped.new.replies ≡ waits.text = waits.added ∙ ap (λ (l : List ℕ). l ++ waits.text) c.new-replies.ensures in
-    let sends = c.hand_on.ensures.bytes in
-    (waits.text, sends.sent, waits.ended, waits.ends, sends.extends, inr (refl, subst (λ (l : List ℕ). FallsShort l sends.sent) waiting (falls_short [] [] waits.last c.turn-stopped.new.replies c.hand_on.new.self _ _ _ sends (omega arith) (waiting ∙ waits.one))))
+    let sends = c.hand_on.ensures.bytes in (
+      waits.text,
+      sends.sent,
+      waits.ended,
+      waits.ends,
+      sends.extends,
+      inr (
+        refl,
+        subst (λ (l : List ℕ). FallsShort l sends.sent) waiting
+            (falls_short [] [] waits.last c.turn-stopped.new.replies c.hand_on.new.self _ _ _ sends (omega arith) (waiting ∙ waits.one)),
+      ),
+    )
 
 pub returns-clause-ends : goal.returns-clause-ends
 returns-clause-ends g c =
     let done = c.in-None.ensures.done in
     let sends = c.hand_on.ensures.bytes in
     let none : sends.unsent ≡ [] = search rules in
-    let waiting : c.turn-stopped.new.replies ≡ reply_text done.0 = done.2 ∙ ap (λ (l : List ℕ). l ++ reply_text done.0) c.new-replies.ensures in
-    (reply_text done.0, reply_text done.0, Finish (c.args.answered + 1), inl (done.0, done.1, refl, refl), all_sent (reply_text done.0) c.hand_on.new.self c.turn-stopped.new.replies _ _ _ sends none waiting, inl (refl, refl))
+    let waiting : c.turn-stopped.new.replies ≡ reply_text done.0 = done.2 ∙ ap (λ (l : List ℕ). l ++ reply_text done.0) c.new-replies.ensures in (
+      reply_text done.0,
+      reply_text done.0,
+      Finish (c.args.answered + 1),
+      inl (done.0, done.1, refl, refl),
+      all_sent
+          (reply_text done.0) c.hand_on.new.self c.turn-stopped.new.replies _ _ _ sends none waiting,
+      inl (refl, refl),
+    )

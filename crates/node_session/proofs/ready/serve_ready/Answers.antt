@@ -37,14 +37,16 @@ loop-line-preserved g c =
     let line = c.in-Some.line in
     let turned = c.in_default-turn.ensures.done in
     let handed = c.in_ok-make_room.ensures in
-    let collected = collected_more g.T.Store.acts g.T.Store.tends c.args.store.now (g.C.Clock.times c.args.clock.now) (g.L.Ends.written c.args.link.now) was.done c.loop-line.replies (g.L.Ends.written c.loop-line.link) c.loop-line.store (g.C.Clock.times c.loop-line.clock)
+    let collected = collected_more g.T.Store.acts g.T.Store.tends c.args.store.now (g.C.Clock.times c.args.clock.now) (g.L.Ends.written c.args.link.now) was.done c.loop-line.replies
+    (g.L.Ends.written c.loop-line.link) c.loop-line.store (g.C.Clock.times c.loop-line.clock)
     line turned.0 c.turn.new.replies c.turn.new.store (g.C.Clock.times c.turn.new.clock) was.collected turned.1 turned.2 in
     record {
       done = was.done ++ line ∷ [];
       parts = next_part _ was.done _ _ line was.parts c.in-Some.ensures.ready;
       others = same_others c.args.lines.now c.loop-line.lines c.next_line.new.self was.others c.in-Some.ensures.others;
       counted = omega (arith, was.counted, length-append was.done (line ∷ []));
-      collected = collected_sent g.T.Store.acts g.T.Store.tends c.args.store.now (g.C.Clock.times c.args.clock.now) (g.L.Ends.written c.args.link.now) (was.done ++ line ∷ []) c.turn.new.replies c.make_room.new.self
+      collected = collected_sent g.T.Store.acts g.T.Store.tends c.args.store.now (g.C.Clock.times c.args.clock.now) (g.L.Ends.written c.args.link.now)
+          (was.done ++ line ∷ []) c.turn.new.replies c.make_room.new.self
           (g.L.Ends.written c.loop-line.link) (g.L.Ends.written c.make_room.new.link) c.turn.new.store (g.C.Clock.times c.turn.new.clock) _ collected handed.bytes handed.bytes.all;
       room = handed.ok;
       later = omega (arith, was.later, handed.cause.later);
@@ -59,14 +61,16 @@ loop-line-preserved-in_ok-make_room g c =
     let line = c.in-Some.line in
     let turned = c.in_default-turn.ensures.done in
     let handed = c.in_ok-make_room.ensures in
-    let collected = collected_more g.T.Store.acts g.T.Store.tends c.args.store.now (g.C.Clock.times c.args.clock.now) (g.L.Ends.written c.args.link.now) was.done c.loop-line.replies (g.L.Ends.written c.loop-line.link) c.loop-line.store (g.C.Clock.times c.loop-line.clock)
+    let collected = collected_more g.T.Store.acts g.T.Store.tends c.args.store.now (g.C.Clock.times c.args.clock.now) (g.L.Ends.written c.args.link.now) was.done c.loop-line.replies
+    (g.L.Ends.written c.loop-line.link) c.loop-line.store (g.C.Clock.times c.loop-line.clock)
     line turned.0 c.turn.new.replies c.turn.new.store (g.C.Clock.times c.turn.new.clock) was.collected turned.1 turned.2 in
     record {
       done = was.done ++ line ∷ [];
       parts = next_part _ was.done _ _ line was.parts c.in-Some.ensures.ready;
       others = same_others c.args.lines.now c.loop-line.lines c.next_line.new.self was.others c.in-Some.ensures.others;
       counted = omega (arith, was.counted, length-append was.done (line ∷ []));
-      collected = collected_sent g.T.Store.acts g.T.Store.tends c.args.store.now (g.C.Clock.times c.args.clock.now) (g.L.Ends.written c.args.link.now) (was.done ++ line ∷ []) c.turn.new.replies c.make_room.new.self
+      collected = collected_sent g.T.Store.acts g.T.Store.tends c.args.store.now (g.C.Clock.times c.args.clock.now) (g.L.Ends.written c.args.link.now)
+          (was.done ++ line ∷ []) c.turn.new.replies c.make_room.new.self
           (g.L.Ends.written c.loop-line.link) (g.L.Ends.written c.make_room.new.link) c.turn.new.store (g.C.Clock.times c.turn.new.clock) _ collected handed.bytes handed.bytes.all;
       room = handed.ok;
       later = omega (arith, was.later, handed.cause.later);
@@ -81,7 +85,8 @@ returns-in_err-hand_on-clause-failed g c = λ _.
     let was = c.loop-line.invariant in
     let line = c.in-Some.line in
     let stops = c.in-Some-turn.ensures.stopped in
-    let one = told_one g.T.Store.acts g.T.Store.tends line c.loop-line.store (g.C.Clock.times c.loop-line.clock) stops.0 c.turn.new.store (g.C.Clock.times c.turn.new.clock) c.in-Some-turn.stop stops.1 in
+    let one = told_one g.T.Store.acts g.T.Store.tends line c.loop-line.store (g.C.Clock.times c.loop-line.clock) stops.0 c.turn.new.store
+    (g.C.Clock.times c.turn.new.clock) c.in-Some-turn.stop stops.1 in
     let sends = c.hand_on.ensures.bytes in
     let output = was.collected.output in (
       output ++ c.turn.new.replies,
@@ -90,8 +95,10 @@ returns-in_err-hand_on-clause-failed g c = λ _.
       inr (
         length was.done,
         c.in-Some-turn.stop,
-        stops_collected g.T.Store.acts g.T.Store.tends c.args.store.now (g.C.Clock.times c.args.clock.now) (g.L.Ends.written c.args.link.now) c.args.lines.now.ready was.done c.next_line.new.self.ready c.loop-line.replies (g.L.Ends.written c.loop-line.link)
-            c.loop-line.store (g.C.Clock.times c.loop-line.clock) line stops.0 c.turn.new.replies c.turn.new.store (g.C.Clock.times c.turn.new.clock) c.in-Some-turn.stop was.collected (was.parts ∙ ap (λ (l : List LineEnd). was.done ++ l) c.in-Some.ensures.ready) stops.1 stops.2,
+        stops_collected g.T.Store.acts g.T.Store.tends c.args.store.now (g.C.Clock.times c.args.clock.now)
+            (g.L.Ends.written c.args.link.now) c.args.lines.now.ready was.done c.next_line.new.self.ready c.loop-line.replies (g.L.Ends.written c.loop-line.link)
+            c.loop-line.store (g.C.Clock.times c.loop-line.clock) line stops.0 c.turn.new.replies c.turn.new.store (g.C.Clock.times c.turn.new.clock) c.in-Some-turn.stop was.collected
+            (was.parts ∙ ap (λ (l : List LineEnd). was.done ++ l) c.in-Some.ensures.ready) stops.1 stops.2,
       ),
       extends_on _ _ _ output sends.sent was.collected.extends sends.extends,
     )
@@ -105,11 +112,14 @@ returns-in-Some-turn-clause-stopped g c = λ stop is.
     let none : sends.unsent ≡ [] = sends.all ∙ c.in_ok-hand_on.ensures.ok in
     let output = was.collected.output in
     let same : c.in-Some-turn.stop ≡ stop = cc in
-    let among = stops_collected g.T.Store.acts g.T.Store.tends c.args.store.now (g.C.Clock.times c.args.clock.now) (g.L.Ends.written c.args.link.now) c.args.lines.now.ready was.done c.next_line.new.self.ready c.loop-line.replies (g.L.Ends.written c.loop-line.link)
-    c.loop-line.store (g.C.Clock.times c.loop-line.clock) line stops.0 c.turn.new.replies c.turn.new.store (g.C.Clock.times c.turn.new.clock) c.in-Some-turn.stop was.collected (was.parts ∙ ap (λ (l : List LineEnd). was.done ++ l) c.in-Some.ensures.ready) stops.1 stops.2 in (
+    let among = stops_collected g.T.Store.acts g.T.Store.tends c.args.store.now (g.C.Clock.times c.args.clock.now)
+    (g.L.Ends.written c.args.link.now) c.args.lines.now.ready was.done c.next_line.new.self.ready c.loop-line.replies (g.L.Ends.written c.loop-line.link)
+    c.loop-line.store (g.C.Clock.times c.loop-line.clock) line stops.0 c.turn.new.replies c.turn.new.store (g.C.Clock.times c.turn.new.clock) c.in-Some-turn.stop was.collected
+    (was.parts ∙ ap (λ (l : List LineEnd). was.done ++ l) c.in-Some.ensures.ready) stops.1 stops.2 in (
       output ++ c.turn.new.replies,
       length was.done,
-      subst (λ (s : Stop). StopsAmong g.T.Store.acts g.T.Store.tends c.args.lines.now.ready (length was.done) c.args.store.now (g.C.Clock.times c.args.clock.now) (output ++ c.turn.new.replies) c.turn.new.store (g.C.Clock.times c.turn.new.clock) s) same among,
+      subst (λ (s : Stop). StopsAmong g.T.Store.acts g.T.Store.tends c.args.lines.now.ready (length was.done) c.args.store.now (g.C.Clock.times c.args.clock.now)
+          (output ++ c.turn.new.replies) c.turn.new.store (g.C.Clock.times c.turn.new.clock) s) same among,
       extends_on _ _ _ output c.turn.new.replies was.collected.extends (all_sent c.turn.new.replies c.hand_on.new.self c.turn.new.replies _ _ _ sends none refl),
       was.counted,
     )
@@ -120,7 +130,8 @@ returns-in_err-make_room-clause-failed g c = λ _.
     let line = c.in-Some.line in
     let turned = c.in_default-turn.ensures.done in
     let sends = c.make_room.ensures.bytes in
-    let collected = collected_more g.T.Store.acts g.T.Store.tends c.args.store.now (g.C.Clock.times c.args.clock.now) (g.L.Ends.written c.args.link.now) was.done c.loop-line.replies (g.L.Ends.written c.loop-line.link) c.loop-line.store (g.C.Clock.times c.loop-line.clock)
+    let collected = collected_more g.T.Store.acts g.T.Store.tends c.args.store.now (g.C.Clock.times c.args.clock.now) (g.L.Ends.written c.args.link.now) was.done c.loop-line.replies
+    (g.L.Ends.written c.loop-line.link) c.loop-line.store (g.C.Clock.times c.loop-line.clock)
     line turned.0 c.turn.new.replies c.turn.new.store (g.C.Clock.times c.turn.new.clock) was.collected turned.1 turned.2 in (
       collected.output ++ c.turn.new.replies,
       collected.output ++ sends.sent,

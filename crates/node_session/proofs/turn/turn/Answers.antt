@@ -12,7 +12,8 @@ returns-then-is_err g c =
         [],
         (
           c.answer-reply.result.0,
-          turn_any g.T.Store.acts g.T.Store.tends c.answer-reply.result.1 c.args.line.now c.args.store.now (g.C.Clock.times c.args.clock.now) c.answer-reply.result.0 c.answer-reply.new.store c.tend_unless.new.store (g.C.Clock.times c.answer-reply.new.clock)
+          turn_any g.T.Store.acts g.T.Store.tends c.answer-reply.result.1 c.args.line.now c.args.store.now
+              (g.C.Clock.times c.args.clock.now) c.answer-reply.result.0 c.answer-reply.new.store c.tend_unless.new.store (g.C.Clock.times c.answer-reply.new.clock)
               c.answer-reply.ensures c.tend_unless.ensures c.in_default.not-Halted,
           refl,
         ),

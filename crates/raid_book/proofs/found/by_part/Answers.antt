@@ -30,4 +30,5 @@ returns-clause-copies c part =
 
 pub returns-clause-below : goal.returns-clause-below
 returns-clause-below c count below =
-    All-permutation (λ (x : FoundCopy). x.part < count) _ _ c.in_ok-sort_by.ensures.permutation (subst (λ (l : List FoundCopy). (k : ℕ) (d : FoundCopy) → k < length l → (get_or l k d).part < count) (sym (row c)) (with_parts-below count c.args.found.now c.args.parts.now below))
+    All-permutation (λ (x : FoundCopy). x.part < count) _ _ c.in_ok-sort_by.ensures.permutation
+    (subst (λ (l : List FoundCopy). (k : ℕ) (d : FoundCopy) → k < length l → (get_or l k d).part < count) (sym (row c)) (with_parts-below count c.args.found.now c.args.parts.now below))

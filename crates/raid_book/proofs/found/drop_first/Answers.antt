@@ -13,5 +13,6 @@ returns c =
     let parted = parted_above part _ (subst Falls (sym c.deref.ensures.value) c.requires.falls) in
     let point = IsPartitionPoint-from_clause (λ (x : FoundCopy). ltb part x.part) _ _ c.partition_point-kept.ensures.partitioned parted (λ a r q k. search rules) in
     c.truncate.ensures.items
-    ∙ without_first part c.args.row.now.items c.partition_point-kept.result (subst (λ (l : List FoundCopy). c.partition_point-kept.result ≤ length l) c.deref.ensures.value c.partition_point-kept.ensures.bound) c.requires.first
+    ∙ without_first part c.args.row.now.items c.partition_point-kept.result
+    (subst (λ (l : List FoundCopy). c.partition_point-kept.result ≤ length l) c.deref.ensures.value c.partition_point-kept.ensures.bound) c.requires.first
     (subst (λ (l : List FoundCopy). IsPartitionPoint (λ x. ltb part x.part ≡ true) (λ x. ltb part x.part ≡ false) l c.partition_point-kept.result) c.deref.ensures.value point)

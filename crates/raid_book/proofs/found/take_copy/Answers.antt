@@ -19,7 +19,8 @@ returns-then-index-part-clause-taken c none =
 
 -- the copy that is removed is of the part
 own : (c : goal.After-remove) → c.in_ok-at.at < length c.args.row.now.items → c.remove.result.part ≡ c.args.part
-own c within = ap (λ (x : FoundCopy). x.part) (get_or_read c.args.row.now.items c.in_ok-at.at c.remove.result within c.remove.ensures.value c.index.result.now ∙ sym c.index.ensures) ∙ c.if-index-part.false
+own c within = ap (λ (x : FoundCopy). x.part) (get_or_read c.args.row.now.items c.in_ok-at.at c.remove.result within c.remove.ensures.value c.index.result.now ∙ sym c.index.ensures)
+    ∙ c.if-index-part.false
 
 pub returns-clause-copies : goal.returns-clause-copies
 returns-clause-copies c =

@@ -33,7 +33,8 @@ returns-clause-text c =
 pub returns-clause-recordable : goal.returns-clause-recordable
 returns-clause-recordable c =
     let size = ap length (sym c.head_of.ensures.text) ∙ c.head_of.ensures.size in
-    text_fits _ (drop (16 * version_units c.args.version.now) c.args.out.now) c.args.digest.now c.args.version.now (returns-clause-text c) c.type_inv.out size c.requires.version (small c.requires.size)
+    text_fits _ (drop (16 * version_units c.args.version.now) c.args.out.now) c.args.digest.now c.args.version.now
+    (returns-clause-text c) c.type_inv.out size c.requires.version (small c.requires.size)
   where
     small : {n : ℕ} → n ≤ 2 ^ 31 → n < 2 ^ 32
     small h = omega arith

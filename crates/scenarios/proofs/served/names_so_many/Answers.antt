@@ -7,7 +7,8 @@ use Rattle.scenarios.proofs.served.names_so_many.Goals as goal
 
 pub returns-in-Some : goal.returns-in-Some
 returns-in-Some c so job names asks =
-    let names_is : map string_bytes c.in-Some.request.names.now ≡ names = one_list (map string_bytes c.args.words.now) c.in-Some.request.job (map string_bytes c.in-Some.request.names.now) c.in-Some.ensures.exact job names asks in
+    let names_is : map string_bytes c.in-Some.request.names.now ≡ names =
+    one_list (map string_bytes c.args.words.now) c.in-Some.request.job (map string_bytes c.in-Some.request.names.now) c.in-Some.ensures.exact job names asks in
     sym (eqb-true (length c.in-Some.request.names.now) c.args.count so) ∙ sym (length-map c.in-Some.request.names.now string_bytes) ∙ ap (λ (texts : List (List ℕ)). length texts) names_is
 
 pub returns-in-None : goal.returns-in-None

@@ -13,7 +13,9 @@ pub returns-clause-makes : goal.returns-clause-makes
 returns-clause-makes g c s stand = by c.entomb.result (c.entomb.ensures.makes s (bury_call c.args.digest.now c.args.now) stamp_given stand (λ told event is ends. ends))
   where
     by : (r : Result Stamp WriteRefusal)
-        → StepMakes g.D.Disk.view (setup_for c.args.shelf.now.geometry c.args.set.now) (part_of (setup_for c.args.shelf.now.geometry c.args.set.now) c.args.digest.now) (bury_call c.args.digest.now c.args.now) (entombed_answer stamp_given r) c.args.shelf.now s c.entomb.new.sprig c.entomb.new.shelf
-        → StepMakes g.D.Disk.view (setup_for c.args.shelf.now.geometry c.args.set.now) (part_of (setup_for c.args.shelf.now.geometry c.args.set.now) c.args.digest.now) (bury_call c.args.digest.now c.args.now) (write_answer r) c.args.shelf.now s c.entomb.new.sprig c.entomb.new.shelf
+        → StepMakes g.D.Disk.view (setup_for c.args.shelf.now.geometry c.args.set.now) (part_of (setup_for c.args.shelf.now.geometry c.args.set.now) c.args.digest.now)
+        (bury_call c.args.digest.now c.args.now) (entombed_answer stamp_given r) c.args.shelf.now s c.entomb.new.sprig c.entomb.new.shelf
+        → StepMakes g.D.Disk.view (setup_for c.args.shelf.now.geometry c.args.set.now) (part_of (setup_for c.args.shelf.now.geometry c.args.set.now) c.args.digest.now)
+        (bury_call c.args.digest.now c.args.now) (write_answer r) c.args.shelf.now s c.entomb.new.sprig c.entomb.new.shelf
     by (Ok stamp) made = made
     by (Err refusal) made = made

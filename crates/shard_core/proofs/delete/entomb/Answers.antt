@@ -29,8 +29,10 @@ returns-in_err-stamp-clause-makes g c s call ok stand entombs =
     let p = err_from_is_err_and c.from_residual.result c.from_residual.ensures.1 in
     let same : c.from_residual.result ≡ Err write.Spent = p.1 ∙ ap (λ (r : WriteRefusal). Err r) (p.2 ∙ e.0) in
     let given : new_stamp (stamp_found (entry_of c.args.digest.now c.args.sprig.now.entries)) c.args.sprig.now.hw c.args.now ≡ None =
-    ap (λ (o : Option Entry). new_stamp (stamp_found o) c.args.sprig.now.hw c.args.now) (sym c.requires.found) ∙ ap (λ (n : ℕ). new_stamp (stamp_found c.args.found) n c.args.now) (sym c.hw.ensures) ∙ e.1 in
-    subst (λ (r : Result Stamp WriteRefusal). StepMakes g.D.Disk.view setup (part_of setup c.args.digest.now) call (entombed_answer ok r) c.args.shelf.now s c.args.sprig.now c.args.shelf.now) (sym same)
+    ap (λ (o : Option Entry). new_stamp (stamp_found o) c.args.sprig.now.hw c.args.now) (sym c.requires.found)
+    ∙ ap (λ (n : ℕ). new_stamp (stamp_found c.args.found) n c.args.now) (sym c.hw.ensures) ∙ e.1 in
+    subst (λ (r : Result Stamp WriteRefusal). StepMakes g.D.Disk.view setup (part_of setup c.args.digest.now) call
+    (entombed_answer ok r) c.args.shelf.now s c.args.sprig.now c.args.shelf.now) (sym same)
     (makes_nothing g.D.Disk.view setup c.args.digest.now c.args.sprig.now c.args.shelf.now s call (refused spent) (g.met.D.Disk.is_disk c.args.shelf.now.disk) stand
     (λ told event is answer none. spent_entombs setup c.args.digest.now c.args.sprig.now s stand.sprig_stands c.args.now call ok entombs event told is answer none given))
 
@@ -39,7 +41,8 @@ write_step-requires-clause-version g c =
     let setup : Setup = setup_for c.args.shelf.now.geometry c.args.set.now in
     let stands = c.requires.stand in
     let given : new_stamp (stamp_found (entry_of c.args.digest.now c.args.sprig.now.entries)) c.args.sprig.now.hw c.args.now ≡ Some c.in_ok-stamp.stamp =
-    ap (λ (o : Option Entry). new_stamp (stamp_found o) c.args.sprig.now.hw c.args.now) (sym c.requires.found) ∙ ap (λ (n : ℕ). new_stamp (stamp_found c.args.found) n c.args.now) (sym c.hw.ensures) ∙ c.in_ok-stamp.ensures {u = tt} in
+    ap (λ (o : Option Entry). new_stamp (stamp_found o) c.args.sprig.now.hw c.args.now) (sym c.requires.found)
+    ∙ ap (λ (n : ℕ). new_stamp (stamp_found c.args.found) n c.args.now) (sym c.hw.ensures) ∙ c.in_ok-stamp.ensures {u = tt} in
     let f = stamp_fine setup c.args.digest.now c.args.sprig.now stands.0 stands.1.sprig_stands c.args.now c.in_ok-stamp.stamp given in
     subst IsVersion (sym c.tombstone-tombstone.ensures) (record { tombstone = λ tomb. refl; time = f.time; generation = f.generation; void = omega arith })
 
@@ -48,17 +51,22 @@ returns-clause-makes g c s call ok stand entombs =
     let setup : Setup = setup_for c.args.shelf.now.geometry c.args.set.now in
     let stamp : Stamp = c.in_ok-stamp.stamp in
     let given : new_stamp (stamp_found (entry_of c.args.digest.now c.args.sprig.now.entries)) c.args.sprig.now.hw c.args.now ≡ Some stamp =
-    ap (λ (o : Option Entry). new_stamp (stamp_found o) c.args.sprig.now.hw c.args.now) (sym c.requires.found) ∙ ap (λ (n : ℕ). new_stamp (stamp_found c.args.found) n c.args.now) (sym c.hw.ensures) ∙ c.in_ok-stamp.ensures {u = tt} in
+    ap (λ (o : Option Entry). new_stamp (stamp_found o) c.args.sprig.now.hw c.args.now) (sym c.requires.found)
+    ∙ ap (λ (n : ℕ). new_stamp (stamp_found c.args.found) n c.args.now) (sym c.hw.ensures) ∙ c.in_ok-stamp.ensures {u = tt} in
     let size = size_bounds c.args.shelf.now.geometry c.write_step.ensures.whole.geometry in
     let writes = entombing_writes setup c.args.digest.now c.args.sprig.now s stand.sprig_stands c.args.now call ok entombs stamp given (omega (arith, size.0)) c.requires.named in
-    let made = c.write_step.ensures.makes s call (ok stamp) stand (subst (λ (v : Version). IsWriteOf setup s call class.Tomb c.args.digest.now v (ok stamp)) (sym c.tombstone-tombstone.ensures) writes) in
+    let made = c.write_step.ensures.makes s call (ok stamp) stand
+    (subst (λ (v : Version). IsWriteOf setup s call class.Tomb c.args.digest.now v (ok stamp)) (sym c.tombstone-tombstone.ensures) writes) in
     by c.write_step.result c.write_step.ensures.stamp made
   where
     by : (r : Result Stamp WriteRefusal) → IfOk r (λ stamp. stamp ≡ c.tombstone-tombstone.result.stamp)
-        → StepMakes g.D.Disk.view (setup_for c.args.shelf.now.geometry c.args.set.now) (part_of (setup_for c.args.shelf.now.geometry c.args.set.now) c.args.digest.now) call (written_answer (ok c.in_ok-stamp.stamp) r) c.args.shelf.now s c.write_step.new.sprig c.write_step.new.shelf
-        → StepMakes g.D.Disk.view (setup_for c.args.shelf.now.geometry c.args.set.now) (part_of (setup_for c.args.shelf.now.geometry c.args.set.now) c.args.digest.now) call (entombed_answer ok r) c.args.shelf.now s c.write_step.new.sprig c.write_step.new.shelf
+        → StepMakes g.D.Disk.view (setup_for c.args.shelf.now.geometry c.args.set.now) (part_of (setup_for c.args.shelf.now.geometry c.args.set.now) c.args.digest.now) call
+        (written_answer (ok c.in_ok-stamp.stamp) r) c.args.shelf.now s c.write_step.new.sprig c.write_step.new.shelf
+        → StepMakes g.D.Disk.view (setup_for c.args.shelf.now.geometry c.args.set.now) (part_of (setup_for c.args.shelf.now.geometry c.args.set.now) c.args.digest.now) call
+        (entombed_answer ok r) c.args.shelf.now s c.write_step.new.sprig c.write_step.new.shelf
     by (Ok x) same made =
-        subst (λ (y : Stamp). StepMakes g.D.Disk.view (setup_for c.args.shelf.now.geometry c.args.set.now) (part_of (setup_for c.args.shelf.now.geometry c.args.set.now) c.args.digest.now) call (ok y) c.args.shelf.now s c.write_step.new.sprig c.write_step.new.shelf)
+        subst (λ (y : Stamp). StepMakes g.D.Disk.view (setup_for c.args.shelf.now.geometry c.args.set.now)
+        (part_of (setup_for c.args.shelf.now.geometry c.args.set.now) c.args.digest.now) call (ok y) c.args.shelf.now s c.write_step.new.sprig c.write_step.new.shelf)
         (sym (same ∙ ap (λ (v : Version). v.stamp) c.tombstone-tombstone.ensures)) made
     by (Err refusal) same made = made
 
@@ -75,7 +83,8 @@ pub returns-in_err-stamp-clause-refused : goal.returns-in_err-stamp-clause-refus
 returns-in_err-stamp-clause-refused g c =
     let p = err_from_is_err_and c.from_residual.result c.from_residual.ensures.1 in
     let same : c.from_residual.result ≡ Err write.Spent = p.1 ∙ ap (λ (r : WriteRefusal). Err r) (p.2 ∙ (c.in_err-stamp.ensures {u = tt}).0) in
-    subst (λ (r : Result Stamp WriteRefusal). IfErr r (λ e. ((e ≡ write.Fault) × (c.args.set.now.commit ≡ true)) ⊎ IsRefusedStep c.args.sprig.now c.args.sprig.now c.args.shelf.now c.args.shelf.now e)) (sym same)
+    subst (λ (r : Result Stamp WriteRefusal). IfErr r (λ e. ((e ≡ write.Fault) × (c.args.set.now.commit ≡ true))
+    ⊎ IsRefusedStep c.args.sprig.now c.args.sprig.now c.args.shelf.now c.args.shelf.now e)) (sym same)
     (inr (record { sprig = record { entries = refl; high = refl }; shelf = refl }))
 
 pub returns-clause-refused : goal.returns-clause-refused

@@ -9,7 +9,8 @@ use Rattle.block_shelf.specs.View.{ShelfView, is_unsealed}
 use Rattle.block_shelf.specs.Flushes.{FirstLeaves, FirstStays}
 use Rattle.block_shelf.proofs.Going.{goes_none}
 use Rattle.shard_core.proofs.Later.{later_none, later_then, shape_then}
-use Rattle.shard_core.proofs.FlushLoop.{Stepped, Fewer, fits_before, one_fewer, setup_stays, went_on, went_all, went_through, went_stopped, quiet_on, most_on, ends_on, all_gone, whole_still, stays_some, stays_quiet, where_err, where_ok, on_err, rose_since}
+use Rattle.shard_core.proofs.FlushLoop.{Stepped, Fewer, fits_before, one_fewer, setup_stays, went_on, went_all, went_through, went_stopped, quiet_on, most_on}
+use Rattle.shard_core.proofs.FlushLoop.{ends_on, all_gone, whole_still, stays_some, stays_quiet, where_err, where_ok, on_err, rose_since}
 use Rattle.shard_core.proofs.flush.flush_up_to.Goals as goal
 
 pub loop-number-init : goal.loop-number-init
@@ -68,7 +69,8 @@ returns-in_err-number-clause-few g c = where_ok c.from_residual.result (λ n. n 
 
 pub returns-in_err-number-clause-all : goal.returns-in_err-number-clause-all
 returns-in_err-number-clause-all g c =
-    where_ok c.from_residual.result (λ n. AllByRecursion (λ b. b.number ≤ c.args.last) c.args.shelf.now.buffers → AllByRecursion (λ b. is_unsealed b.phase ≡ true) c.flush_step.new.self.buffers) c.from_residual.ensures.0
+    where_ok c.from_residual.result (λ n. AllByRecursion (λ b. b.number ≤ c.args.last) c.args.shelf.now.buffers
+    → AllByRecursion (λ b. is_unsealed b.phase ≡ true) c.flush_step.new.self.buffers) c.from_residual.ensures.0
 
 pub returns-in_err-number-clause-cause : goal.returns-in_err-number-clause-cause
 returns-in_err-number-clause-cause g c =

@@ -11,17 +11,20 @@ pub loop-block-preserved : goal.loop-block-preserved
 loop-block-preserved g c = record {
   closed = λ told.
       let now = c.loop-block.invariant.told told in
-      let write = gate_written c.args.geometry.now c.loop-block.block _ _ c.write_closed.new.sector c.start_of_block.result c.write_closed.ensures c.start_of_block.ensures.place (c.in_ok-write_at.ensures.written now) in
+      let write = gate_written c.args.geometry.now c.loop-block.block _ _ c.write_closed.new.sector c.start_of_block.result c.write_closed.ensures c.start_of_block.ensures.place
+      (c.in_ok-write_at.ensures.written now) in
       below_more (λ (k : ℕ). IsClosed (gate_sector c.args.geometry.now k (g.D.Disk.view c.write_at.new.self).seen)) _
       (λ k lt. stays_closed c.args.geometry.now _ _ _ k write.torn (inl (gates_apart c.args.geometry.now k c.loop-block.block c.requires.geometry lt)) (c.loop-block.invariant.closed told k lt))
       (closes c.args.geometry.now c.loop-block.block _ write.there);
   told = λ told. (c.write_at.ensures.bytes (c.loop-block.invariant.told told)).0;
   honest = λ honest. c.write_at.ensures.call.honest (c.loop-block.invariant.honest honest);
-  header = header_stays _ _ _ (g.met.D.Disk.is_disk c.loop-block.disk) (g.D.Disk.view c.args.disk.now).may_leave _ _ (omega (arith, c.start_of_block.ensures.place)) c.loop-block.invariant.header c.write_at.ensures.call.time c.write_at.ensures.images;
+  header = header_stays _ _ _ (g.met.D.Disk.is_disk c.loop-block.disk) (g.D.Disk.view c.args.disk.now).may_leave _ _
+      (omega (arith, c.start_of_block.ensures.place)) c.loop-block.invariant.header c.write_at.ensures.call.time c.write_at.ensures.images;
   later = search rules;
   size = search rules;
 }
 
 pub returns-in_err-write_at-clause-header : goal.returns-in_err-write_at-clause-header
 returns-in_err-write_at-clause-header g c =
-    header_stays _ _ _ (g.met.D.Disk.is_disk c.loop-block.disk) (g.D.Disk.view c.args.disk.now).may_leave _ _ (omega (arith, c.start_of_block.ensures.place)) c.loop-block.invariant.header c.write_at.ensures.call.time c.write_at.ensures.images
+    header_stays _ _ _ (g.met.D.Disk.is_disk c.loop-block.disk) (g.D.Disk.view c.args.disk.now).may_leave _ _
+    (omega (arith, c.start_of_block.ensures.place)) c.loop-block.invariant.header c.write_at.ensures.call.time c.write_at.ensures.images

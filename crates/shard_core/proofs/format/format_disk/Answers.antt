@@ -21,13 +21,15 @@ returns-in_err-close_gates-clause-ordered g c = λ honest. leaves_more (λ image
 pub returns-in_err-sync-clause-ordered : goal.returns-in_err-sync-clause-ordered
 returns-in_err-sync-clause-ordered g c = λ honest.
     leaves_more (λ image has. inl has)
-    (leaves_same _ _ _ (g.met.D.Disk.is_disk c.close_gates.new.disk) (HasHeaderOf (g.D.Disk.view c.args.disk.now).may_leave) c.close_gates.ensures.header c.sync.ensures.call.time (c.sync.ensures.images (c.close_gates.ensures.honest honest)))
+    (leaves_same _ _ _ (g.met.D.Disk.is_disk c.close_gates.new.disk) (HasHeaderOf (g.D.Disk.view c.args.disk.now).may_leave) c.close_gates.ensures.header c.sync.ensures.call.time
+    (c.sync.ensures.images (c.close_gates.ensures.honest honest)))
 
 pub returns-clause-ordered : goal.returns-clause-ordered
 returns-clause-ordered g c = λ honest.
     let told = honest.told in
     let honest_closed = c.close_gates.ensures.honest honest in
-    let synced = leaves_same _ _ _ (g.met.D.Disk.is_disk c.close_gates.new.disk) (HasHeaderOf (g.D.Disk.view c.args.disk.now).may_leave) c.close_gates.ensures.header c.sync.ensures.call.time (c.sync.ensures.images honest_closed) in
+    let synced = leaves_same _ _ _ (g.met.D.Disk.is_disk c.close_gates.new.disk) (HasHeaderOf (g.D.Disk.view c.args.disk.now).may_leave) c.close_gates.ensures.header c.sync.ensures.call.time
+    (c.sync.ensures.images honest_closed) in
     header_comes _ _ _ (g.met.D.Disk.is_disk c.sync.new.self) c.args.geometry.now (g.D.Disk.view c.args.disk.now).may_leave (g.D.Disk.view c.close_gates.new.disk).seen _ c.write_header.array_long
     (c.in_ok-close_gates.ensures.closed told) (c.in_ok-sync.ensures.durable (c.close_gates.ensures.told told)) synced c.write_synced.ensures.call.time
     (c.write_synced.ensures.images (c.sync.ensures.call.honest honest_closed))

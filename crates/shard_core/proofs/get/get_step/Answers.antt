@@ -27,12 +27,15 @@ use Rattle.shard_core.proofs.get.get_step.Goals as goal
 
 pub returns-in_default-clause-makes : goal.returns-in_default-clause-makes
 returns-in_default-clause-makes g c s stand =
-    let none : seen_entry c.args.now (entry_of c.args.digest.now c.args.sprig.now.entries) ≡ None = ap (seen_entry c.args.now) (sym (c.as_ref.ensures.value ∙ c.find-found.ensures.value)) ∙ sym c.seen.ensures ∙ ap option_copied c.in_default.is in
-    makes_unseen g.D.Disk.view (setup_for c.args.shelf.now.geometry c.args.set.now) c.args.digest.now c.args.sprig.now c.args.shelf.now c.args.shelf.now s c.args.now stand (g.met.D.Disk.is_disk c.args.shelf.now.disk) none
+    let none : seen_entry c.args.now (entry_of c.args.digest.now c.args.sprig.now.entries) ≡ None = ap (seen_entry c.args.now) (sym (c.as_ref.ensures.value ∙ c.find-found.ensures.value))
+    ∙ sym c.seen.ensures ∙ ap option_copied c.in_default.is in
+    makes_unseen g.D.Disk.view (setup_for c.args.shelf.now.geometry c.args.set.now) c.args.digest.now c.args.sprig.now c.args.shelf.now c.args.shelf.now s c.args.now stand
+    (g.met.D.Disk.is_disk c.args.shelf.now.disk) none
 
 pub returns-in_default-clause-stored : goal.returns-in_default-clause-stored
 returns-in_default-clause-stored g c =
-    let none : seen_entry c.args.now (entry_of c.args.digest.now c.args.sprig.now.entries) ≡ None = ap (seen_entry c.args.now) (sym (c.as_ref.ensures.value ∙ c.find-found.ensures.value)) ∙ sym c.seen.ensures ∙ ap option_copied c.in_default.is in
+    let none : seen_entry c.args.now (entry_of c.args.digest.now c.args.sprig.now.entries) ≡ None = ap (seen_entry c.args.now) (sym (c.as_ref.ensures.value ∙ c.find-found.ensures.value))
+    ∙ sym c.seen.ensures ∙ ap option_copied c.in_default.is in
     record {
       remembered = λ s stand e b is there at client. sym (seen_none (setup_for c.args.shelf.now.geometry c.args.set.now) s c.args.now c.args.digest.now c.args.sprig.now stand.sprig_stands none);
       placed = λ told e is apart. let clash : Some e ≡ None = sym is ∙ none in absurd (cc);
@@ -42,7 +45,8 @@ pub read-requires-clause-block : goal.read-requires-clause-block
 read-requires-clause-block g c =
     let setup = setup_for c.args.shelf.now.geometry c.args.set.now in
     let e : Entry = c.in-Some.entry.now in
-    let seen : seen_entry c.args.now (entry_of c.args.digest.now c.args.sprig.now.entries) ≡ Some e = ap (seen_entry c.args.now) (sym (c.as_ref.ensures.value ∙ c.find-found.ensures.value)) ∙ sym c.seen.ensures ∙ ap option_copied c.in-Some.is in
+    let seen : seen_entry c.args.now (entry_of c.args.digest.now c.args.sprig.now.entries) ≡ Some e = ap (seen_entry c.args.now) (sym (c.as_ref.ensures.value ∙ c.find-found.ensures.value))
+    ∙ sym c.seen.ensures ∙ ap option_copied c.in-Some.is in
     let stands = c.requires.stand in
     let lies = lies_found setup c.args.digest.now c.args.sprig.now c.args.shelf.now stands.0 stands.1 e (seen_held c.args.now (entry_of c.args.digest.now c.args.sprig.now.entries) e seen) in
     omega (arith, lies.lies.block, ap (λ (p : Place). p.block) c.place_of_entry.ensures)
@@ -51,7 +55,8 @@ pub read-requires-clause-within : goal.read-requires-clause-within
 read-requires-clause-within g c =
     let setup = setup_for c.args.shelf.now.geometry c.args.set.now in
     let e : Entry = c.in-Some.entry.now in
-    let seen : seen_entry c.args.now (entry_of c.args.digest.now c.args.sprig.now.entries) ≡ Some e = ap (seen_entry c.args.now) (sym (c.as_ref.ensures.value ∙ c.find-found.ensures.value)) ∙ sym c.seen.ensures ∙ ap option_copied c.in-Some.is in
+    let seen : seen_entry c.args.now (entry_of c.args.digest.now c.args.sprig.now.entries) ≡ Some e = ap (seen_entry c.args.now) (sym (c.as_ref.ensures.value ∙ c.find-found.ensures.value))
+    ∙ sym c.seen.ensures ∙ ap option_copied c.in-Some.is in
     let stands = c.requires.stand in
     let lies = lies_found setup c.args.digest.now c.args.sprig.now c.args.shelf.now stands.0 stands.1 e (seen_held c.args.now (entry_of c.args.digest.now c.args.sprig.now.entries) e seen) in
     omega (arith, lies.lies.within, ap (λ (p : Place). p.unit) c.place_of_entry.ensures, ap (λ (p : Place). p.units) c.place_of_entry.ensures)
@@ -60,7 +65,8 @@ pub read-requires-clause-units : goal.read-requires-clause-units
 read-requires-clause-units g c =
     let setup = setup_for c.args.shelf.now.geometry c.args.set.now in
     let e : Entry = c.in-Some.entry.now in
-    let seen : seen_entry c.args.now (entry_of c.args.digest.now c.args.sprig.now.entries) ≡ Some e = ap (seen_entry c.args.now) (sym (c.as_ref.ensures.value ∙ c.find-found.ensures.value)) ∙ sym c.seen.ensures ∙ ap option_copied c.in-Some.is in
+    let seen : seen_entry c.args.now (entry_of c.args.digest.now c.args.sprig.now.entries) ≡ Some e = ap (seen_entry c.args.now) (sym (c.as_ref.ensures.value ∙ c.find-found.ensures.value))
+    ∙ sym c.seen.ensures ∙ ap option_copied c.in-Some.is in
     let stands = c.requires.stand in
     let lies = lies_found setup c.args.digest.now c.args.sprig.now c.args.shelf.now stands.0 stands.1 e (seen_held c.args.now (entry_of c.args.digest.now c.args.sprig.now.entries) e seen) in
     (sym (ap (λ (p : Place). p.units) c.place_of_entry.ensures), omega (arith, lies.lies.units, ap (λ (p : Place). p.units) c.place_of_entry.ensures))
@@ -69,33 +75,43 @@ pub returns-in-Ok-clause-makes : goal.returns-in-Ok-clause-makes
 returns-in-Ok-clause-makes g c s stand =
     let setup = setup_for c.args.shelf.now.geometry c.args.set.now in
     let e : Entry = c.in-Some.entry.now in
-    let seen : seen_entry c.args.now (entry_of c.args.digest.now c.args.sprig.now.entries) ≡ Some e = ap (seen_entry c.args.now) (sym (c.as_ref.ensures.value ∙ c.find-found.ensures.value)) ∙ sym c.seen.ensures ∙ ap option_copied c.in-Some.is in
+    let seen : seen_entry c.args.now (entry_of c.args.digest.now c.args.sprig.now.entries) ≡ Some e = ap (seen_entry c.args.now) (sym (c.as_ref.ensures.value ∙ c.find-found.ensures.value))
+    ∙ sym c.seen.ensures ∙ ap option_copied c.in-Some.is in
     let is = seen_some setup s c.args.now c.args.digest.now c.args.sprig.now stand.sprig_stands e seen in
     let live = live_is g.D.Disk.view setup c.args.digest.now c.args.sprig.now c.args.shelf.now c.read.new.self s c.args.now stand e c.place_of_entry.result is c.place_of_entry.ensures in
-    subst (λ (r : Result Version ReadRefusal). StepMakes g.D.Disk.view setup (part_of setup c.args.digest.now) (get_call c.args.digest.now c.args.now) (read_answer (shown r)) c.args.shelf.now s c.args.sprig.now c.read.new.self) c.in-Ok.is
-    (makes_read g.D.Disk.view setup c.args.digest.now c.args.sprig.now c.args.shelf.now c.read.new.self s c.args.now stand e is c.read.result c.read.ensures.same c.read.ensures.disk (g.met.D.Disk.is_disk c.read.new.self.disk)
+    subst (λ (r : Result Version ReadRefusal). StepMakes g.D.Disk.view setup (part_of setup c.args.digest.now) (get_call c.args.digest.now c.args.now)
+    (read_answer (shown r)) c.args.shelf.now s c.args.sprig.now c.read.new.self) c.in-Ok.is
+    (makes_read g.D.Disk.view setup c.args.digest.now c.args.sprig.now c.args.shelf.now c.read.new.self s c.args.now stand e is c.read.result c.read.ensures.same c.read.ensures.disk
+    (g.met.D.Disk.is_disk c.read.new.self.disk)
     c.read.ensures.names c.read.ensures.cause (λ honest placed. c.read.ensures.written honest setup s is.version stand.shelf_stands.stands placed live.live live.entry_is is.names))
 
 pub returns-in-Ok-clause-in_memory : goal.returns-in-Ok-clause-in_memory
 returns-in-Ok-clause-in_memory g c x b found there at =
     let setup = setup_for c.args.shelf.now.geometry c.args.set.now in
     let e : Entry = c.in-Some.entry.now in
-    let seen : seen_entry c.args.now (entry_of c.args.digest.now c.args.sprig.now.entries) ≡ Some e = ap (seen_entry c.args.now) (sym (c.as_ref.ensures.value ∙ c.find-found.ensures.value)) ∙ sym c.seen.ensures ∙ ap option_copied c.in-Some.is in
+    let seen : seen_entry c.args.now (entry_of c.args.digest.now c.args.sprig.now.entries) ≡ Some e = ap (seen_entry c.args.now) (sym (c.as_ref.ensures.value ∙ c.find-found.ensures.value))
+    ∙ sym c.seen.ensures ∙ ap option_copied c.in-Some.is in
     let stands = c.requires.stand in
     let is = seen_some setup stands.0 c.args.now c.args.digest.now c.args.sprig.now stands.1.sprig_stands e seen in
     let live = live_is g.D.Disk.view setup c.args.digest.now c.args.sprig.now c.args.shelf.now c.read.new.self stands.0 c.args.now stands.1 e c.place_of_entry.result is c.place_of_entry.ensures in
     let one : Some x ≡ Some e = sym found ∙ is.found_is in
     let same : x ≡ e = cc in
-    let got = c.read.ensures.in_memory setup stands.0 is.version b stands.1.shelf_stands.stands live.live live.entry_is is.names there (at ∙ ap (λ (y : Entry). y.block) same ∙ sym (ap (λ (p : Place). p.block) c.place_of_entry.ensures)) in
-    (got.0, subst (λ (r : Result Version ReadRefusal). IfErr (shown r) (λ refusal. refusal ≡ read.Memory)) c.in-Ok.is (shown_err (IsCopyIn b.stream is.version) (λ refusal. refusal ≡ read.Memory) c.read.result got.1))
+    let got = c.read.ensures.in_memory setup stands.0 is.version b stands.1.shelf_stands.stands live.live live.entry_is is.names there
+    (at ∙ ap (λ (y : Entry). y.block) same ∙ sym (ap (λ (p : Place). p.block) c.place_of_entry.ensures)) in (
+      got.0,
+      subst (λ (r : Result Version ReadRefusal). IfErr (shown r) (λ refusal. refusal ≡ read.Memory)) c.in-Ok.is
+          (shown_err (IsCopyIn b.stream is.version) (λ refusal. refusal ≡ read.Memory) c.read.result got.1),
+    )
 
 pub returns-in-Ok-clause-stored : goal.returns-in-Ok-clause-stored
 returns-in-Ok-clause-stored g c =
     let setup = setup_for c.args.shelf.now.geometry c.args.set.now in
     let e : Entry = c.in-Some.entry.now in
-    let seen : seen_entry c.args.now (entry_of c.args.digest.now c.args.sprig.now.entries) ≡ Some e = ap (seen_entry c.args.now) (sym (c.as_ref.ensures.value ∙ c.find-found.ensures.value)) ∙ sym c.seen.ensures ∙ ap option_copied c.in-Some.is in
+    let seen : seen_entry c.args.now (entry_of c.args.digest.now c.args.sprig.now.entries) ≡ Some e = ap (seen_entry c.args.now) (sym (c.as_ref.ensures.value ∙ c.find-found.ensures.value))
+    ∙ sym c.seen.ensures ∙ ap option_copied c.in-Some.is in
     let at_place = ap (λ (p : Place). p.block) c.place_of_entry.ensures in
-    subst (λ (r : Result Version ReadRefusal). ReadsStored g.D.Disk.view (StandTogether setup (part_of setup c.args.digest.now) c.args.sprig.now c.args.shelf.now) (entry_of c.args.digest.now c.args.sprig.now.entries) c.args.shelf.now c.args.digest.now c.args.now (shown r)) c.in-Ok.is
+    subst (λ (r : Result Version ReadRefusal). ReadsStored g.D.Disk.view (StandTogether setup (part_of setup c.args.digest.now) c.args.sprig.now c.args.shelf.now)
+    (entry_of c.args.digest.now c.args.sprig.now.entries) c.args.shelf.now c.args.digest.now c.args.now (shown r)) c.in-Ok.is
     (record {
       remembered = λ s stand x b found there at client.
           let is = seen_some setup s c.args.now c.args.digest.now c.args.sprig.now stand.sprig_stands e seen in
@@ -119,33 +135,43 @@ pub returns-in-Err-clause-makes : goal.returns-in-Err-clause-makes
 returns-in-Err-clause-makes g c s stand =
     let setup = setup_for c.args.shelf.now.geometry c.args.set.now in
     let e : Entry = c.in-Some.entry.now in
-    let seen : seen_entry c.args.now (entry_of c.args.digest.now c.args.sprig.now.entries) ≡ Some e = ap (seen_entry c.args.now) (sym (c.as_ref.ensures.value ∙ c.find-found.ensures.value)) ∙ sym c.seen.ensures ∙ ap option_copied c.in-Some.is in
+    let seen : seen_entry c.args.now (entry_of c.args.digest.now c.args.sprig.now.entries) ≡ Some e = ap (seen_entry c.args.now) (sym (c.as_ref.ensures.value ∙ c.find-found.ensures.value))
+    ∙ sym c.seen.ensures ∙ ap option_copied c.in-Some.is in
     let is = seen_some setup s c.args.now c.args.digest.now c.args.sprig.now stand.sprig_stands e seen in
     let live = live_is g.D.Disk.view setup c.args.digest.now c.args.sprig.now c.args.shelf.now c.read.new.self s c.args.now stand e c.place_of_entry.result is c.place_of_entry.ensures in
-    subst (λ (r : Result Version ReadRefusal). StepMakes g.D.Disk.view setup (part_of setup c.args.digest.now) (get_call c.args.digest.now c.args.now) (read_answer (shown r)) c.args.shelf.now s c.args.sprig.now c.read.new.self) c.in-Err.is
-    (makes_read g.D.Disk.view setup c.args.digest.now c.args.sprig.now c.args.shelf.now c.read.new.self s c.args.now stand e is c.read.result c.read.ensures.same c.read.ensures.disk (g.met.D.Disk.is_disk c.read.new.self.disk)
+    subst (λ (r : Result Version ReadRefusal). StepMakes g.D.Disk.view setup (part_of setup c.args.digest.now) (get_call c.args.digest.now c.args.now)
+    (read_answer (shown r)) c.args.shelf.now s c.args.sprig.now c.read.new.self) c.in-Err.is
+    (makes_read g.D.Disk.view setup c.args.digest.now c.args.sprig.now c.args.shelf.now c.read.new.self s c.args.now stand e is c.read.result c.read.ensures.same c.read.ensures.disk
+    (g.met.D.Disk.is_disk c.read.new.self.disk)
     c.read.ensures.names c.read.ensures.cause (λ honest placed. c.read.ensures.written honest setup s is.version stand.shelf_stands.stands placed live.live live.entry_is is.names))
 
 pub returns-in-Err-clause-in_memory : goal.returns-in-Err-clause-in_memory
 returns-in-Err-clause-in_memory g c x b found there at =
     let setup = setup_for c.args.shelf.now.geometry c.args.set.now in
     let e : Entry = c.in-Some.entry.now in
-    let seen : seen_entry c.args.now (entry_of c.args.digest.now c.args.sprig.now.entries) ≡ Some e = ap (seen_entry c.args.now) (sym (c.as_ref.ensures.value ∙ c.find-found.ensures.value)) ∙ sym c.seen.ensures ∙ ap option_copied c.in-Some.is in
+    let seen : seen_entry c.args.now (entry_of c.args.digest.now c.args.sprig.now.entries) ≡ Some e = ap (seen_entry c.args.now) (sym (c.as_ref.ensures.value ∙ c.find-found.ensures.value))
+    ∙ sym c.seen.ensures ∙ ap option_copied c.in-Some.is in
     let stands = c.requires.stand in
     let is = seen_some setup stands.0 c.args.now c.args.digest.now c.args.sprig.now stands.1.sprig_stands e seen in
     let live = live_is g.D.Disk.view setup c.args.digest.now c.args.sprig.now c.args.shelf.now c.read.new.self stands.0 c.args.now stands.1 e c.place_of_entry.result is c.place_of_entry.ensures in
     let one : Some x ≡ Some e = sym found ∙ is.found_is in
     let same : x ≡ e = cc in
-    let got = c.read.ensures.in_memory setup stands.0 is.version b stands.1.shelf_stands.stands live.live live.entry_is is.names there (at ∙ ap (λ (y : Entry). y.block) same ∙ sym (ap (λ (p : Place). p.block) c.place_of_entry.ensures)) in
-    (got.0, subst (λ (r : Result Version ReadRefusal). IfErr (shown r) (λ refusal. refusal ≡ read.Memory)) c.in-Err.is (shown_err (IsCopyIn b.stream is.version) (λ refusal. refusal ≡ read.Memory) c.read.result got.1))
+    let got = c.read.ensures.in_memory setup stands.0 is.version b stands.1.shelf_stands.stands live.live live.entry_is is.names there
+    (at ∙ ap (λ (y : Entry). y.block) same ∙ sym (ap (λ (p : Place). p.block) c.place_of_entry.ensures)) in (
+      got.0,
+      subst (λ (r : Result Version ReadRefusal). IfErr (shown r) (λ refusal. refusal ≡ read.Memory)) c.in-Err.is
+          (shown_err (IsCopyIn b.stream is.version) (λ refusal. refusal ≡ read.Memory) c.read.result got.1),
+    )
 
 pub returns-in-Err-clause-stored : goal.returns-in-Err-clause-stored
 returns-in-Err-clause-stored g c =
     let setup = setup_for c.args.shelf.now.geometry c.args.set.now in
     let e : Entry = c.in-Some.entry.now in
-    let seen : seen_entry c.args.now (entry_of c.args.digest.now c.args.sprig.now.entries) ≡ Some e = ap (seen_entry c.args.now) (sym (c.as_ref.ensures.value ∙ c.find-found.ensures.value)) ∙ sym c.seen.ensures ∙ ap option_copied c.in-Some.is in
+    let seen : seen_entry c.args.now (entry_of c.args.digest.now c.args.sprig.now.entries) ≡ Some e = ap (seen_entry c.args.now) (sym (c.as_ref.ensures.value ∙ c.find-found.ensures.value))
+    ∙ sym c.seen.ensures ∙ ap option_copied c.in-Some.is in
     let at_place = ap (λ (p : Place). p.block) c.place_of_entry.ensures in
-    subst (λ (r : Result Version ReadRefusal). ReadsStored g.D.Disk.view (StandTogether setup (part_of setup c.args.digest.now) c.args.sprig.now c.args.shelf.now) (entry_of c.args.digest.now c.args.sprig.now.entries) c.args.shelf.now c.args.digest.now c.args.now (shown r)) c.in-Err.is
+    subst (λ (r : Result Version ReadRefusal). ReadsStored g.D.Disk.view (StandTogether setup (part_of setup c.args.digest.now) c.args.sprig.now c.args.shelf.now)
+    (entry_of c.args.digest.now c.args.sprig.now.entries) c.args.shelf.now c.args.digest.now c.args.now (shown r)) c.in-Err.is
     (record {
       remembered = λ s stand x b found there at client.
           let is = seen_some setup s c.args.now c.args.digest.now c.args.sprig.now stand.sprig_stands e seen in
@@ -169,7 +195,8 @@ pub returns-in-Err-clause-undamaged : goal.returns-in-Err-clause-undamaged
 returns-in-Err-clause-undamaged g c honest s stand placed =
     let setup = setup_for c.args.shelf.now.geometry c.args.set.now in
     let e : Entry = c.in-Some.entry.now in
-    let seen : seen_entry c.args.now (entry_of c.args.digest.now c.args.sprig.now.entries) ≡ Some e = ap (seen_entry c.args.now) (sym (c.as_ref.ensures.value ∙ c.find-found.ensures.value)) ∙ sym c.seen.ensures ∙ ap option_copied c.in-Some.is in
+    let seen : seen_entry c.args.now (entry_of c.args.digest.now c.args.sprig.now.entries) ≡ Some e = ap (seen_entry c.args.now) (sym (c.as_ref.ensures.value ∙ c.find-found.ensures.value))
+    ∙ sym c.seen.ensures ∙ ap option_copied c.in-Some.is in
     let is = seen_some setup s c.args.now c.args.digest.now c.args.sprig.now stand.sprig_stands e seen in
     let live = live_is g.D.Disk.view setup c.args.digest.now c.args.sprig.now c.args.shelf.now c.read.new.self s c.args.now stand e c.place_of_entry.result is c.place_of_entry.ensures in
     subst (λ (r : Result Version ReadRefusal). IfErr (shown r) IsUndamaged) c.in-Err.is

@@ -29,37 +29,45 @@ pub returns-in_err-check_put-clause-makes : goal.returns-in_err-check_put-clause
 returns-in_err-check_put-clause-makes g c s stand =
     let setup : Setup = setup_for c.args.shelf.now.geometry c.args.set.now in
     let capacity : c.capacity.result ≡ setup.capacity = c.capacity.ensures ∙ ap (λ (x : Geometry). block_capacity x.block_size) c.geometry-block_size.ensures.shape in
-    let seen : generation_seen c.args.now (entry_of c.args.digest.now c.args.sprig.now.entries) ≡ c.generation_of.result = ap (generation_seen c.args.now) (sym c.find-found.ensures.value) ∙ sym c.generation_of.ensures in
+    let seen : generation_seen c.args.now (entry_of c.args.digest.now c.args.sprig.now.entries) ≡ c.generation_of.result = ap (generation_seen c.args.now) (sym c.find-found.ensures.value)
+    ∙ sym c.generation_of.ensures in
     let refusal : WriteRefusal = c.in_err-check_put.field-0.0 in
     let unfit = subst (λ (n : ℕ). IsUnfit (length c.args.payload.now) c.capacity.result c.args.expect n refusal) (sym seen) (c.in_err-check_put.ensures {u = tt}) in
     let p = err_from_is_err_and c.from_residual.result c.from_residual.ensures.1 in
     let same : c.from_residual.result ≡ Err refusal = p.1 ∙ ap (λ (r : WriteRefusal). Err r) p.2 in
     let cause = unfit_refusal setup c.args.digest.now c.args.sprig.now s stand.sprig_stands c.args.now c.args.ttl c.args.expect c.args.payload.now c.capacity.result capacity refusal unfit in
-    subst (λ (r : Result Stamp WriteRefusal). StepMakes g.D.Disk.view setup (part_of setup c.args.digest.now) (put_call c.args.digest.now c.args.ttl c.args.expect c.args.payload.now c.args.now) (write_answer r) c.args.shelf.now s c.args.sprig.now c.args.shelf.now) (sym same)
-    (makes_nothing g.D.Disk.view setup c.args.digest.now c.args.sprig.now c.args.shelf.now s (put_call c.args.digest.now c.args.ttl c.args.expect c.args.payload.now c.args.now) (refused (cause_of_write refusal)) (g.met.D.Disk.is_disk c.args.shelf.now.disk) stand
+    subst (λ (r : Result Stamp WriteRefusal). StepMakes g.D.Disk.view setup (part_of setup c.args.digest.now)
+    (put_call c.args.digest.now c.args.ttl c.args.expect c.args.payload.now c.args.now) (write_answer r) c.args.shelf.now s c.args.sprig.now c.args.shelf.now) (sym same)
+    (makes_nothing g.D.Disk.view setup c.args.digest.now c.args.sprig.now c.args.shelf.now s (put_call c.args.digest.now c.args.ttl c.args.expect c.args.payload.now c.args.now)
+    (refused (cause_of_write refusal)) (g.met.D.Disk.is_disk c.args.shelf.now.disk) stand
     (λ told event is answer steps. stands_against setup s told c.args.digest.now c.args.ttl c.args.expect c.args.payload.now c.args.now event (cause_of_write refusal) answer steps cause))
 
 pub returns-in_err-stamp-clause-makes : goal.returns-in_err-stamp-clause-makes
 returns-in_err-stamp-clause-makes g c s stand =
     let setup : Setup = setup_for c.args.shelf.now.geometry c.args.set.now in
     let capacity : c.capacity.result ≡ setup.capacity = c.capacity.ensures ∙ ap (λ (x : Geometry). block_capacity x.block_size) c.geometry-block_size.ensures.shape in
-    let seen : generation_seen c.args.now (entry_of c.args.digest.now c.args.sprig.now.entries) ≡ c.generation_of.result = ap (generation_seen c.args.now) (sym c.find-found.ensures.value) ∙ sym c.generation_of.ensures in
+    let seen : generation_seen c.args.now (entry_of c.args.digest.now c.args.sprig.now.entries) ≡ c.generation_of.result = ap (generation_seen c.args.now) (sym c.find-found.ensures.value)
+    ∙ sym c.generation_of.ensures in
     let fit : IsFit (length c.args.payload.now) c.capacity.result c.args.expect (generation_seen c.args.now (entry_of c.args.digest.now c.args.sprig.now.entries)) =
     subst (IsFit (length c.args.payload.now) c.capacity.result c.args.expect) (sym seen) (c.in_ok-check_put.ensures {u = tt}) in
     let e = c.in_err-stamp.ensures {u = tt} in
     let given : new_stamp (stamp_found (entry_of c.args.digest.now c.args.sprig.now.entries)) c.args.sprig.now.hw c.args.now ≡ None =
-    ap (λ (o : Option Entry). new_stamp (stamp_found o) c.args.sprig.now.hw c.args.now) (sym c.find-found.ensures.value) ∙ ap (λ (n : ℕ). new_stamp (stamp_found c.find-found.result) n c.args.now) (sym c.hw.ensures) ∙ e.1 in
+    ap (λ (o : Option Entry). new_stamp (stamp_found o) c.args.sprig.now.hw c.args.now) (sym c.find-found.ensures.value)
+    ∙ ap (λ (n : ℕ). new_stamp (stamp_found c.find-found.result) n c.args.now) (sym c.hw.ensures) ∙ e.1 in
     let p = err_from_is_err_and c.from_residual-in_err-stamp.result c.from_residual-in_err-stamp.ensures.1 in
     let same : c.from_residual-in_err-stamp.result ≡ Err write.Spent = p.1 ∙ ap (λ (r : WriteRefusal). Err r) (p.2 ∙ e.0) in
     let cause = spent_refusal setup c.args.digest.now c.args.sprig.now s stand.sprig_stands c.args.now c.args.ttl c.args.expect c.args.payload.now c.capacity.result capacity fit given in
-    subst (λ (r : Result Stamp WriteRefusal). StepMakes g.D.Disk.view setup (part_of setup c.args.digest.now) (put_call c.args.digest.now c.args.ttl c.args.expect c.args.payload.now c.args.now) (write_answer r) c.args.shelf.now s c.args.sprig.now c.args.shelf.now) (sym same)
-    (makes_nothing g.D.Disk.view setup c.args.digest.now c.args.sprig.now c.args.shelf.now s (put_call c.args.digest.now c.args.ttl c.args.expect c.args.payload.now c.args.now) (refused (cause_of_write write.Spent)) (g.met.D.Disk.is_disk c.args.shelf.now.disk) stand
+    subst (λ (r : Result Stamp WriteRefusal). StepMakes g.D.Disk.view setup (part_of setup c.args.digest.now)
+    (put_call c.args.digest.now c.args.ttl c.args.expect c.args.payload.now c.args.now) (write_answer r) c.args.shelf.now s c.args.sprig.now c.args.shelf.now) (sym same)
+    (makes_nothing g.D.Disk.view setup c.args.digest.now c.args.sprig.now c.args.shelf.now s (put_call c.args.digest.now c.args.ttl c.args.expect c.args.payload.now c.args.now)
+    (refused (cause_of_write write.Spent)) (g.met.D.Disk.is_disk c.args.shelf.now.disk) stand
     (λ told event is answer steps. stands_against setup s told c.args.digest.now c.args.ttl c.args.expect c.args.payload.now c.args.now event (cause_of_write write.Spent) answer steps cause))
 
 pub returns-in_default-clause-makes : goal.returns-in_default-clause-makes
 returns-in_default-clause-makes g c s stand =
     let setup : Setup = setup_for c.args.shelf.now.geometry c.args.set.now in
-    makes_nothing g.D.Disk.view setup c.args.digest.now c.args.sprig.now c.args.shelf.now s (put_call c.args.digest.now c.args.ttl c.args.expect c.args.payload.now c.args.now) (refused (cause_of_write write.Memory)) (g.met.D.Disk.is_disk c.args.shelf.now.disk) stand
+    makes_nothing g.D.Disk.view setup c.args.digest.now c.args.sprig.now c.args.shelf.now s (put_call c.args.digest.now c.args.ttl c.args.expect c.args.payload.now c.args.now)
+    (refused (cause_of_write write.Memory)) (g.met.D.Disk.is_disk c.args.shelf.now.disk) stand
     (λ told event is answer steps. memory_wants setup s told c.args.digest.now c.args.ttl c.args.expect c.args.payload.now c.args.now event answer steps)
 
 pub write_step-requires-clause-version : goal.write_step-requires-clause-version
@@ -67,7 +75,8 @@ write_step-requires-clause-version g c =
     let setup : Setup = setup_for c.args.shelf.now.geometry c.args.set.now in
     let stands = c.requires.stand in
     let given : new_stamp (stamp_found (entry_of c.args.digest.now c.args.sprig.now.entries)) c.args.sprig.now.hw c.args.now ≡ Some c.in_ok-stamp.stamp =
-    ap (λ (o : Option Entry). new_stamp (stamp_found o) c.args.sprig.now.hw c.args.now) (sym c.find-found.ensures.value) ∙ ap (λ (n : ℕ). new_stamp (stamp_found c.find-found.result) n c.args.now) (sym c.hw.ensures) ∙ c.in_ok-stamp.ensures {u = tt} in
+    ap (λ (o : Option Entry). new_stamp (stamp_found o) c.args.sprig.now.hw c.args.now) (sym c.find-found.ensures.value)
+    ∙ ap (λ (n : ℕ). new_stamp (stamp_found c.find-found.result) n c.args.now) (sym c.hw.ensures) ∙ c.in_ok-stamp.ensures {u = tt} in
     let f = stamp_fine setup c.args.digest.now c.args.sprig.now stands.0 stands.1.sprig_stands c.args.now c.in_ok-stamp.stamp given in
     subst IsVersion (sym (c.in-Ok.ensures {u = tt})) (record { tombstone = λ tomb. absurd (false≢true tomb); time = f.time; generation = f.generation; void = omega arith })
 
@@ -76,24 +85,34 @@ returns-clause-makes g c s stand =
     let setup : Setup = setup_for c.args.shelf.now.geometry c.args.set.now in
     let stamp : Stamp = c.in_ok-stamp.stamp in
     let given : new_stamp (stamp_found (entry_of c.args.digest.now c.args.sprig.now.entries)) c.args.sprig.now.hw c.args.now ≡ Some stamp =
-    ap (λ (o : Option Entry). new_stamp (stamp_found o) c.args.sprig.now.hw c.args.now) (sym c.find-found.ensures.value) ∙ ap (λ (n : ℕ). new_stamp (stamp_found c.find-found.result) n c.args.now) (sym c.hw.ensures) ∙ c.in_ok-stamp.ensures {u = tt} in
+    ap (λ (o : Option Entry). new_stamp (stamp_found o) c.args.sprig.now.hw c.args.now) (sym c.find-found.ensures.value)
+    ∙ ap (λ (n : ℕ). new_stamp (stamp_found c.find-found.result) n c.args.now) (sym c.hw.ensures) ∙ c.in_ok-stamp.ensures {u = tt} in
     let capacity : c.capacity.result ≡ setup.capacity = c.capacity.ensures ∙ ap (λ (x : Geometry). block_capacity x.block_size) c.geometry-block_size.ensures.shape in
-    let seen : generation_seen c.args.now (entry_of c.args.digest.now c.args.sprig.now.entries) ≡ c.generation_of.result = ap (generation_seen c.args.now) (sym c.find-found.ensures.value) ∙ sym c.generation_of.ensures in
+    let seen : generation_seen c.args.now (entry_of c.args.digest.now c.args.sprig.now.entries) ≡ c.generation_of.result = ap (generation_seen c.args.now) (sym c.find-found.ensures.value)
+    ∙ sym c.generation_of.ensures in
     let fit : IsFit (length c.args.payload.now) c.capacity.result c.args.expect (generation_seen c.args.now (entry_of c.args.digest.now c.args.sprig.now.entries)) =
     subst (IsFit (length c.args.payload.now) c.capacity.result c.args.expect) (sym seen) (c.in_ok-check_put.ensures {u = tt}) in
     let cover : c.cover_after.result ≡ cover_of (entry_of c.args.digest.now c.args.sprig.now.entries) = c.cover_after.ensures ∙ ap cover_of (c.as_ref.ensures.value ∙ c.find-found.ensures.value) in
     let version : c.in-Ok.version ≡ a_put stamp (void_time c.args.ttl c.args.now) (cover_of (entry_of c.args.digest.now c.args.sprig.now.entries)) c.args.payload.now =
-    c.in-Ok.ensures {u = tt} ∙ ap (λ (n : ℕ). a_put stamp n c.cover_after.result c.args.payload.now) c.void_of.ensures ∙ ap (λ (b : Bool). a_put stamp (void_time c.args.ttl c.args.now) b c.args.payload.now) cover in
-    let writes = put_writes setup c.args.digest.now c.args.sprig.now s stand.sprig_stands c.args.now c.args.ttl c.args.expect c.args.payload.now c.capacity.result capacity fit stamp given c.requires.named in
-    let made = c.write_step.ensures.makes s (put_call c.args.digest.now c.args.ttl c.args.expect c.args.payload.now c.args.now) (stamp_given stamp) stand (subst (λ (v : Version). IsWriteOf setup s (put_call c.args.digest.now c.args.ttl c.args.expect c.args.payload.now c.args.now) class.Put c.args.digest.now v (stamp_given stamp)) (sym version) writes) in
+    c.in-Ok.ensures {u = tt} ∙ ap (λ (n : ℕ). a_put stamp n c.cover_after.result c.args.payload.now) c.void_of.ensures
+    ∙ ap (λ (b : Bool). a_put stamp (void_time c.args.ttl c.args.now) b c.args.payload.now) cover in
+    let writes = put_writes setup c.args.digest.now c.args.sprig.now s stand.sprig_stands c.args.now c.args.ttl c.args.expect c.args.payload.now c.capacity.result capacity fit stamp
+    given c.requires.named in
+    let made = c.write_step.ensures.makes s (put_call c.args.digest.now c.args.ttl c.args.expect c.args.payload.now c.args.now) (stamp_given stamp) stand
+    (subst (λ (v : Version). IsWriteOf setup s (put_call c.args.digest.now c.args.ttl c.args.expect c.args.payload.now c.args.now) class.Put c.args.digest.now v (stamp_given stamp))
+    (sym version) writes) in
     by c.write_step.result c.write_step.ensures.stamp made (ap (λ (v : Version). v.stamp) version)
   where
     by : (r : Result Stamp WriteRefusal) → IfOk r (λ stamp. stamp ≡ c.in-Ok.version.stamp)
-        → StepMakes g.D.Disk.view (setup_for c.args.shelf.now.geometry c.args.set.now) (part_of (setup_for c.args.shelf.now.geometry c.args.set.now) c.args.digest.now) (put_call c.args.digest.now c.args.ttl c.args.expect c.args.payload.now c.args.now) (written_answer (stamp_given c.in_ok-stamp.stamp) r) c.args.shelf.now s c.write_step.new.sprig c.write_step.new.shelf
+        → StepMakes g.D.Disk.view (setup_for c.args.shelf.now.geometry c.args.set.now) (part_of (setup_for c.args.shelf.now.geometry c.args.set.now) c.args.digest.now)
+        (put_call c.args.digest.now c.args.ttl c.args.expect c.args.payload.now c.args.now)
+        (written_answer (stamp_given c.in_ok-stamp.stamp) r) c.args.shelf.now s c.write_step.new.sprig c.write_step.new.shelf
         → c.in-Ok.version.stamp ≡ c.in_ok-stamp.stamp
-        → StepMakes g.D.Disk.view (setup_for c.args.shelf.now.geometry c.args.set.now) (part_of (setup_for c.args.shelf.now.geometry c.args.set.now) c.args.digest.now) (put_call c.args.digest.now c.args.ttl c.args.expect c.args.payload.now c.args.now) (write_answer r) c.args.shelf.now s c.write_step.new.sprig c.write_step.new.shelf
+        → StepMakes g.D.Disk.view (setup_for c.args.shelf.now.geometry c.args.set.now) (part_of (setup_for c.args.shelf.now.geometry c.args.set.now) c.args.digest.now)
+        (put_call c.args.digest.now c.args.ttl c.args.expect c.args.payload.now c.args.now) (write_answer r) c.args.shelf.now s c.write_step.new.sprig c.write_step.new.shelf
     by (Ok x) same made stamped =
-        subst (λ (y : Stamp). StepMakes g.D.Disk.view (setup_for c.args.shelf.now.geometry c.args.set.now) (part_of (setup_for c.args.shelf.now.geometry c.args.set.now) c.args.digest.now) (put_call c.args.digest.now c.args.ttl c.args.expect c.args.payload.now c.args.now) (stamp_given y) c.args.shelf.now s c.write_step.new.sprig c.write_step.new.shelf)
+        subst (λ (y : Stamp). StepMakes g.D.Disk.view (setup_for c.args.shelf.now.geometry c.args.set.now) (part_of (setup_for c.args.shelf.now.geometry c.args.set.now) c.args.digest.now)
+        (put_call c.args.digest.now c.args.ttl c.args.expect c.args.payload.now c.args.now) (stamp_given y) c.args.shelf.now s c.write_step.new.sprig c.write_step.new.shelf)
         (sym (same ∙ stamped)) made
     by (Err refusal) same made stamped = made
 
@@ -182,14 +201,16 @@ returns-in_err-check_put-clause-refused g c =
     let refusal : WriteRefusal = c.in_err-check_put.field-0.0 in
     let p = err_from_is_err_and c.from_residual.result c.from_residual.ensures.1 in
     let same : c.from_residual.result ≡ Err refusal = p.1 ∙ ap (λ (r : WriteRefusal). Err r) p.2 in
-    subst (λ (r : Result Stamp WriteRefusal). IfErr r (λ e. ((e ≡ write.Fault) × (c.args.set.now.commit ≡ true)) ⊎ IsRefusedStep c.args.sprig.now c.args.sprig.now c.args.shelf.now c.args.shelf.now e)) (sym same)
+    subst (λ (r : Result Stamp WriteRefusal). IfErr r (λ e. ((e ≡ write.Fault) × (c.args.set.now.commit ≡ true))
+    ⊎ IsRefusedStep c.args.sprig.now c.args.sprig.now c.args.shelf.now c.args.shelf.now e)) (sym same)
     (inr (unfit_left c.args.sprig.now c.args.shelf.now (length c.args.payload.now) c.capacity.result c.args.expect c.generation_of.result refusal (c.in_err-check_put.ensures {u = tt})))
 
 pub returns-in_err-stamp-clause-refused : goal.returns-in_err-stamp-clause-refused
 returns-in_err-stamp-clause-refused g c =
     let p = err_from_is_err_and c.from_residual-in_err-stamp.result c.from_residual-in_err-stamp.ensures.1 in
     let same : c.from_residual-in_err-stamp.result ≡ Err write.Spent = p.1 ∙ ap (λ (r : WriteRefusal). Err r) (p.2 ∙ (c.in_err-stamp.ensures {u = tt}).0) in
-    subst (λ (r : Result Stamp WriteRefusal). IfErr r (λ e. ((e ≡ write.Fault) × (c.args.set.now.commit ≡ true)) ⊎ IsRefusedStep c.args.sprig.now c.args.sprig.now c.args.shelf.now c.args.shelf.now e)) (sym same) (inr (record { sprig = record { entries = refl; high = refl }; shelf = refl }))
+    subst (λ (r : Result Stamp WriteRefusal). IfErr r (λ e. ((e ≡ write.Fault) × (c.args.set.now.commit ≡ true))
+    ⊎ IsRefusedStep c.args.sprig.now c.args.sprig.now c.args.shelf.now c.args.shelf.now e)) (sym same) (inr (record { sprig = record { entries = refl; high = refl }; shelf = refl }))
 
 pub returns-in_default-clause-refused : goal.returns-in_default-clause-refused
 returns-in_default-clause-refused g c = inr (record { sprig = record { entries = refl; high = refl }; shelf = room_none c.args.shelf.now })

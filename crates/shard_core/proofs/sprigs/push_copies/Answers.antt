@@ -18,7 +18,8 @@ grown_by n m k le is = omega arith
 nothing_yet : (n : ℕ) → n - n ≡ 0
 nothing_yet n = omega arith
 
-pushed_more : (old live new : List (Digest × Place)) (es : List Entry) (k : ℕ) (e : Entry) (p : Place) → live ≡ old ++ live_places (take k es) → new ≡ live ++ (e.digest, p) ∷ [] → p ≡ place_of e → slice_get es k ≡ Some e
+pushed_more : (old live new : List (Digest × Place)) (es : List Entry) (k : ℕ) (e : Entry) (p : Place) → live ≡ old ++ live_places (take k es) → new ≡ live ++ (e.digest, p) ∷ []
+    → p ≡ place_of e → slice_get es k ≡ Some e
     → new ≡ old ++ live_places (take (k + 1) es)
 pushed_more old live new es k e p before push place at =
     let next = take_more es k e (slice_get_within es k e at) ∙ ap (λ (x : Entry). take k es ++ x ∷ []) (get_or_from_slice_get es k e e at) in
@@ -53,7 +54,8 @@ loop-next-preserved c =
     let more = grown_by (length old) (length c.loop-next.live.items) (length c.push.new.self.items) c.loop-next.invariant.grown long in
     record {
       grown = omega (arith, long, c.loop-next.invariant.grown);
-      pushed = pushed_more old c.loop-next.live.items c.push.new.self.items es k c.in-Some.entry c.place_of_entry.result c.loop-next.invariant.pushed c.in_ok-push.ensures.items c.place_of_entry.ensures at
+      pushed = pushed_more old c.loop-next.live.items c.push.new.self.items es k c.in-Some.entry c.place_of_entry.result c.loop-next.invariant.pushed c.in_ok-push.ensures.items
+          c.place_of_entry.ensures at
           ∙ ap (λ (n : ℕ). old ++ live_places (take n es)) (sym more);
       next = c.next_after-next-in-Some.ensures.value ∙ entry_after-at es k c.in-Some.entry c.next_after-next.ensures.sorted at ∙ ap (slice_get es) (sym more);
     }

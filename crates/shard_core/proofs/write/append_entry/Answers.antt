@@ -52,18 +52,21 @@ returns-in-Err-clause-wrote g c setup s is stand =
       is_for = c.write_refusal.ensures;
       cause = told.0;
       closing = λ fault. subst (λ (t : Stream). has_room setup (book_stream t) (version_units c.args.version.now) s.book ≡ false) c.requires.client (told.1 fault);
-      sprig_stands = same_stands setup (part_of setup c.args.digest.now) c.args.sprig.now c.reserve.new.self s (record { entries = c.reserve.ensures.entries; high = c.reserve.ensures.high }) stand.sprig_stands;
+      sprig_stands = same_stands setup (part_of setup c.args.digest.now) c.args.sprig.now c.reserve.new.self s
+          (record { entries = c.reserve.ensures.entries; high = c.reserve.ensures.high }) stand.sprig_stands;
       goes = told.2;
     }
 
 pub returns-in-Ok-append-clause-wrote : goal.returns-in-Ok-append-clause-wrote
 returns-in-Ok-append-clause-wrote g c setup s is stand =
-    let same = same_stands setup (part_of setup c.args.digest.now) c.args.sprig.now c.reserve.new.self s (record { entries = c.reserve.ensures.entries; high = c.reserve.ensures.high }) stand.sprig_stands in
+    let same = same_stands setup (part_of setup c.args.digest.now) c.args.sprig.now c.reserve.new.self s
+    (record { entries = c.reserve.ensures.entries; high = c.reserve.ensures.high }) stand.sprig_stands in
     let live = prior_is setup c.args.digest.now c.args.sprig.now c.args.shelf.now s stand
     ∙ ap (prior_live c.args.digest.now) (sym (c.prior_place-prior.ensures.place ∙ ap (option_map place_of) c.requires.found)) in
     wrote_by g.D.Disk.view setup s c.args.class c.args.digest.now c.args.version.now c.in-Ok-append.place c.args.shelf.now c.append.new.self c.reserve.new.self c.enter.new.sprig c.requires.client
     (record { sprig_stands = same; shelf_stands = stand.shelf_stands }) c.in-Ok-append.ensures.whole
-    (c.in-Ok-append.ensures.appended setup s is stand.shelf_stands.stands live (copy_of c.args.class c.requires.client s c.args.digest.now c.args.version.now)) (c.in-Ok-append.ensures.causes setup s is stand.shelf_stands.stands)
+    (c.in-Ok-append.ensures.appended setup s is stand.shelf_stands.stands live (copy_of c.args.class c.requires.client s c.args.digest.now c.args.version.now))
+    (c.in-Ok-append.ensures.causes setup s is stand.shelf_stands.stands)
     c.in-Ok-append.ensures.place.0 c.requires.version.time.0
     (subst (λ (e : Entry). TakesEntry e c.reserve.new.self c.enter.new.sprig) c.entry_at.ensures c.enter.ensures)
 

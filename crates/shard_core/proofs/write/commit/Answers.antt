@@ -20,10 +20,12 @@ returns-in-Ok-clause-committed g c setup s b is stands found at =
     let first = c.seal_for.ensures.sealed setup s client b is stands found at in
     let number = number_is g.D.Disk.view setup c.args.shelf.now c.seal_for.new.self s b stands found first.stands c.flush_up_to.ensures.whole c.args.block at c.in-Some.number c.in-Some.ensures in
     let ends = ends_there g.D.Disk.view setup c.args.shelf.now c.seal_for.new.self s b stands found first.stands c.flush_up_to.ensures.whole c.args.block at c.in-Some.number c.in-Some.ensures in
-    let then = c.flush_up_to.ensures.flushed setup (after_step setup (sealed_stream client) s) (setup_stays setup c.args.shelf.now c.seal_for.new.self c.seal_for.ensures.shape is) first.stands ends in (
+    let then = c.flush_up_to.ensures.flushed setup (after_step setup (sealed_stream client) s)
+    (setup_stays setup c.args.shelf.now c.seal_for.new.self c.seal_for.ensures.shape is) first.stands ends in (
       then.0,
       subst (λ (r : Result ℕ DiskFault). Commits (committed r) (flush_between 0 b.number (after_step setup (sealed_stream client) s).book) then.0) c.in-Ok.is
-          (subst (λ (n : ℕ). Commits (committed c.flush_up_to.result) (flush_between 0 n (after_step setup (sealed_stream client) s).book) then.0) number (commits_from c.flush_up_to.result _ then.0 then.1)),
+          (subst (λ (n : ℕ). Commits (committed c.flush_up_to.result) (flush_between 0 n (after_step setup (sealed_stream client) s).book) then.0) number
+          (commits_from c.flush_up_to.result _ then.0 then.1)),
       goes_then g.D.Disk.view setup (sealed_stream client ∷ []) then.0 c.args.shelf.now c.seal_for.new.self c.flush_up_to.new.shelf s
           (λ honest. subst (λ d. IsHonest (g.D.Disk.view d)) (sym c.seal_for.ensures.disk) honest) first then.2,
     )
@@ -33,10 +35,12 @@ returns-in-Err-clause-committed g c setup s b is stands found at =
     let first = c.seal_for.ensures.sealed setup s client b is stands found at in
     let number = number_is g.D.Disk.view setup c.args.shelf.now c.seal_for.new.self s b stands found first.stands c.flush_up_to.ensures.whole c.args.block at c.in-Some.number c.in-Some.ensures in
     let ends = ends_there g.D.Disk.view setup c.args.shelf.now c.seal_for.new.self s b stands found first.stands c.flush_up_to.ensures.whole c.args.block at c.in-Some.number c.in-Some.ensures in
-    let then = c.flush_up_to.ensures.flushed setup (after_step setup (sealed_stream client) s) (setup_stays setup c.args.shelf.now c.seal_for.new.self c.seal_for.ensures.shape is) first.stands ends in (
+    let then = c.flush_up_to.ensures.flushed setup (after_step setup (sealed_stream client) s)
+    (setup_stays setup c.args.shelf.now c.seal_for.new.self c.seal_for.ensures.shape is) first.stands ends in (
       then.0,
       subst (λ (r : Result ℕ DiskFault). Commits (committed r) (flush_between 0 b.number (after_step setup (sealed_stream client) s).book) then.0) c.in-Err.is
-          (subst (λ (n : ℕ). Commits (committed c.flush_up_to.result) (flush_between 0 n (after_step setup (sealed_stream client) s).book) then.0) number (commits_from c.flush_up_to.result _ then.0 then.1)),
+          (subst (λ (n : ℕ). Commits (committed c.flush_up_to.result) (flush_between 0 n (after_step setup (sealed_stream client) s).book) then.0) number
+          (commits_from c.flush_up_to.result _ then.0 then.1)),
       goes_then g.D.Disk.view setup (sealed_stream client ∷ []) then.0 c.args.shelf.now c.seal_for.new.self c.flush_up_to.new.shelf s
           (λ honest. subst (λ d. IsHonest (g.D.Disk.view d)) (sym c.seal_for.ensures.disk) honest) first then.2,
     )

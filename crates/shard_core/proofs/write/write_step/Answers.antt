@@ -31,8 +31,10 @@ returns-in_err-block-clause-makes g c s call ok stand may =
     let e = c.in_err-block.ensures {u = tt} in
     let p = err_from_is_err_and c.from_residual.result c.from_residual.ensures.1 in
     let same : c.from_residual.result ≡ Err refusal = p.1 ∙ ap (λ (r : WriteRefusal). Err r) p.2 in
-    subst (λ (r : Result Stamp WriteRefusal). StepMakes g.D.Disk.view setup (part_of setup c.args.digest.now) call (written_answer ok r) c.args.shelf.now s c.append_entry.new.sprig c.append_entry.new.shelf) (sym same)
-    (makes_unwritten g.D.Disk.view setup s call c.args.class c.args.digest.now c.args.version.now ok c.args.shelf.now c.append_entry.new.sprig may c.append_entry.new.shelf c.append_entry.ensures.later.count
+    subst (λ (r : Result Stamp WriteRefusal). StepMakes g.D.Disk.view setup (part_of setup c.args.digest.now) call
+    (written_answer ok r) c.args.shelf.now s c.append_entry.new.sprig c.append_entry.new.shelf) (sym same)
+    (makes_unwritten g.D.Disk.view setup s call c.args.class c.args.digest.now c.args.version.now ok c.args.shelf.now c.append_entry.new.sprig may c.append_entry.new.shelf
+    c.append_entry.ensures.later.count
     stand.shelf_stands.queue refusal (e.wrote setup s is stand) (λ fault. e.cause (ap (λ (r : WriteRefusal). Err r) fault)))
 
 pub returns-then-not-set-clause-makes : goal.returns-then-not-set-clause-makes
@@ -62,9 +64,12 @@ returns-in_err-commit-clause-makes g c s call ok stand may =
     let p = err_from_is_err_and c.from_residual-in_err-commit.result c.from_residual-in_err-commit.ensures.1 in
     let same : c.from_residual-in_err-commit.result ≡ Err write.Fault = p.1 ∙ ap (λ (r : WriteRefusal). Err r) (p.2 ∙ went.1.0) in
     let rose : Rose (g.D.Disk.view c.args.shelf.now.disk).faults (g.D.Disk.view c.commit.new.shelf.disk).faults =
-    rose_since (g.D.Disk.view c.args.shelf.now.disk).faults (g.D.Disk.view c.append_entry.new.shelf.disk).faults (g.D.Disk.view c.commit.new.shelf.disk).faults c.append_entry.ensures.later.count (c.in_err-commit.ensures {u = tt}).cause in
-    subst (λ (r : Result Stamp WriteRefusal). StepMakes g.D.Disk.view setup (part_of setup c.args.digest.now) call (written_answer ok r) c.args.shelf.now s c.append_entry.new.sprig c.commit.new.shelf) (sym same)
-    (ends_faulted g.D.Disk.view setup s call c.args.class c.args.digest.now c.args.version.now ok c.args.shelf.now c.append_entry.new.sprig may c.in_ok-block.block c.append_entry.new.shelf it c.append_entry.ensures.honest
+    rose_since (g.D.Disk.view c.args.shelf.now.disk).faults (g.D.Disk.view c.append_entry.new.shelf.disk).faults
+    (g.D.Disk.view c.commit.new.shelf.disk).faults c.append_entry.ensures.later.count (c.in_err-commit.ensures {u = tt}).cause in
+    subst (λ (r : Result Stamp WriteRefusal). StepMakes g.D.Disk.view setup (part_of setup c.args.digest.now) call
+    (written_answer ok r) c.args.shelf.now s c.append_entry.new.sprig c.commit.new.shelf) (sym same)
+    (ends_faulted g.D.Disk.view setup s call c.args.class c.args.digest.now c.args.version.now ok c.args.shelf.now c.append_entry.new.sprig may c.in_ok-block.block c.append_entry.new.shelf
+    it c.append_entry.ensures.honest
     c.if-not-set.false c.commit.new.shelf up (Err c.in_err-commit.field-0.0) went.0 went.1 went.2 went.1.1 rose)
 
 pub returns-clause-makes : goal.returns-clause-makes
@@ -78,7 +83,8 @@ returns-clause-makes g c s call ok stand may =
     × Goes g.D.Disk.view setup (sealed_stream client ∷ steps) c.append_entry.new.shelf t c.commit.new.shelf) c.in_ok-commit.was
     (c.commit.ensures.committed setup t it.buffer (setup_stays setup c.args.shelf.now c.append_entry.new.shelf c.append_entry.ensures.shape is) it.stands.shelf_stands.stands it.filling it.there) in
     let up = le_trans c.append_entry.ensures.later.count c.commit.ensures.later.count in
-    ends_done g.D.Disk.view setup s call c.args.class c.args.digest.now c.args.version.now ok c.args.shelf.now c.append_entry.new.sprig may c.in_ok-block.block c.append_entry.new.shelf it c.append_entry.ensures.honest
+    ends_done g.D.Disk.view setup s call c.args.class c.args.digest.now c.args.version.now ok c.args.shelf.now c.append_entry.new.sprig may c.in_ok-block.block c.append_entry.new.shelf it
+    c.append_entry.ensures.honest
     c.if-not-set.false c.commit.new.shelf up (Ok c.in_ok-commit.field-0) went.0 went.1 went.2 went.1
 
 -- ---- what stays
@@ -159,10 +165,12 @@ pub returns-in_err-block-clause-refused : goal.returns-in_err-block-clause-refus
 returns-in_err-block-clause-refused g c =
     let p = err_from_is_err_and c.from_residual.result c.from_residual.ensures.1 in
     let same : c.from_residual.result ≡ Err c.in_err-block.field-0.0 = p.1 ∙ ap (λ (r : WriteRefusal). Err r) p.2 in
-    subst (λ (r : Result Stamp WriteRefusal). IfErr r (λ e. ((e ≡ write.Fault) × (c.args.set.now.commit ≡ true)) ⊎ IsRefusedStep c.args.sprig.now c.append_entry.new.sprig c.args.shelf.now c.append_entry.new.shelf e)) (sym same) (inr (c.in_err-block.ensures {u = tt}).refused)
+    subst (λ (r : Result Stamp WriteRefusal). IfErr r (λ e. ((e ≡ write.Fault) × (c.args.set.now.commit ≡ true))
+    ⊎ IsRefusedStep c.args.sprig.now c.append_entry.new.sprig c.args.shelf.now c.append_entry.new.shelf e)) (sym same) (inr (c.in_err-block.ensures {u = tt}).refused)
 
 pub returns-in_err-commit-clause-refused : goal.returns-in_err-commit-clause-refused
 returns-in_err-commit-clause-refused g c =
     let p = err_from_is_err_and c.from_residual-in_err-commit.result c.from_residual-in_err-commit.ensures.1 in
     let same : c.from_residual-in_err-commit.result ≡ Err write.Fault = p.1 ∙ ap (λ (r : WriteRefusal). Err r) (p.2 ∙ (c.in_err-commit.ensures {u = tt}).fault) in
-    subst (λ (r : Result Stamp WriteRefusal). IfErr r (λ e. ((e ≡ write.Fault) × (c.args.set.now.commit ≡ true)) ⊎ IsRefusedStep c.args.sprig.now c.append_entry.new.sprig c.args.shelf.now c.commit.new.shelf e)) (sym same) (inl (refl, c.if-not-set.false))
+    subst (λ (r : Result Stamp WriteRefusal). IfErr r (λ e. ((e ≡ write.Fault) × (c.args.set.now.commit ≡ true))
+    ⊎ IsRefusedStep c.args.sprig.now c.append_entry.new.sprig c.args.shelf.now c.commit.new.shelf e)) (sym same) (inl (refl, c.if-not-set.false))

@@ -10,7 +10,8 @@ use Rattle.shard_raid.proofs.compare.raid_apply.Goals as goal
 
 pub returns-clause-makes : goal.returns-clause-makes
 returns-clause-makes g c setup s now is stand =
-    makes_compared g.D.Disk.view setup c.args.shelf.now s (g.met.D.Disk.is_disk c.args.shelf.now.disk) c.args.part c.args.sprig.now c.compare_found-undone.new.sprig stand c.requires.turn now c.compare_found-undone.result
+    makes_compared g.D.Disk.view setup c.args.shelf.now s (g.met.D.Disk.is_disk c.args.shelf.now.disk) c.args.part c.args.sprig.now c.compare_found-undone.new.sprig stand c.requires.turn now
+    c.compare_found-undone.result
     c.compare_found-undone.ensures.sprig c.compare_found-undone.ensures.count c.compare_found-undone.new.shelf.raid.found c.compare_found-undone.ensures.others c.end_turn.new.self
     (compared_is c.args.part c.args.shelf.now c.compare_found-undone.new.shelf c.end_turn.new.self c.requires.turn c.compare_found-undone.ensures.rest c.end_turn.ensures)
 

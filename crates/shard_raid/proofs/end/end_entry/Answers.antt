@@ -34,9 +34,11 @@ returns-in-Tomb-clause-goes g c setup s part stand =
     let step : Step = cond (is_tombstone_entry e) (rid_of e.digest) (uncovered e.digest) in
     let marked = sym c.is_marked_by.ensures ∙ c.if-not-is_marked_by.false in
     subst (λ (steps : List Step). GoTogether g.D.Disk.view setup part steps c.args.shelf.now s c.remove_entry.new.sprig c.remove_entry.new.shelf)
-    (sym (cond-true (is_marked_by c.args.number e) (step ∷ []) [] marked ∙ ap (λ (x : Step). x ∷ []) (cond-true (is_tombstone_entry e) (rid_of e.digest) (uncovered e.digest) (ap is_tomb_kind c.in-Tomb.is))))
+    (sym (cond-true (is_marked_by c.args.number e) (step ∷ []) [] marked
+    ∙ ap (λ (x : Step). x ∷ []) (cond-true (is_tombstone_entry e) (rid_of e.digest) (uncovered e.digest) (ap is_tomb_kind c.in-Tomb.is))))
     (c.remove_entry.ensures.goes setup s part stand
-    (λ honest safe. none_older_than setup part c.args.sprig.now c.args.shelf.now s stand g.D.Disk.view e.digest e c.requires.found (ap (λ (n : ℕ). is_marked_by n e) (sym c.requires.number) ∙ marked) safe))
+    (λ honest safe. none_older_than setup part c.args.sprig.now c.args.shelf.now s stand g.D.Disk.view e.digest e c.requires.found
+    (ap (λ (n : ℕ). is_marked_by n e) (sym c.requires.number) ∙ marked) safe))
 
 pub returns-in-Put-clause-goes : goal.returns-in-Put-clause-goes
 returns-in-Put-clause-goes g c setup s part stand =
@@ -44,8 +46,10 @@ returns-in-Put-clause-goes g c setup s part stand =
     let step : Step = cond (is_tombstone_entry e) (rid_of e.digest) (uncovered e.digest) in
     let marked = sym c.is_marked_by.ensures ∙ c.if-not-is_marked_by.false in
     subst (λ (steps : List Step). GoTogether g.D.Disk.view setup part steps c.args.shelf.now s c.replace.new.self c.args.shelf.now)
-    (sym (cond-true (is_marked_by c.args.number e) (step ∷ []) [] marked ∙ ap (λ (x : Step). x ∷ []) (cond-false (is_tombstone_entry e) (rid_of e.digest) (uncovered e.digest) (ap is_tomb_kind c.in-Put.is))))
-    (go_uncovered setup part c.args.sprig.now c.args.shelf.now s stand e c.requires.found g.D.Disk.view (g.met.D.Disk.is_disk c.args.shelf.now.disk) (ap (λ (n : ℕ). is_marked_by n e) (sym c.requires.number) ∙ marked)
+    (sym (cond-true (is_marked_by c.args.number e) (step ∷ []) [] marked
+    ∙ ap (λ (x : Step). x ∷ []) (cond-false (is_tombstone_entry e) (rid_of e.digest) (uncovered e.digest) (ap is_tomb_kind c.in-Put.is))))
+    (go_uncovered setup part c.args.sprig.now c.args.shelf.now s stand e c.requires.found g.D.Disk.view (g.met.D.Disk.is_disk c.args.shelf.now.disk)
+    (ap (λ (n : ℕ). is_marked_by n e) (sym c.requires.number) ∙ marked)
     c.replace.new.self (is_put c.args.sprig.now c.replace.new.self c.without_cover.result e c.replace.ensures c.without_cover.ensures))
 
 pub returns-in-Put-clause-sprig : goal.returns-in-Put-clause-sprig

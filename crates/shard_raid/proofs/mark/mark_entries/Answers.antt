@@ -17,29 +17,38 @@ replace-requires c =
 
 pub overflow_add-marked : goal.overflow_add-marked
 overflow_add-marked c =
-    let below = few c.args.mark c.args.age c.args.now c.args.sprig.now c.len-entries.ensures.sorted c.loop-next.sprig c.loop-next.next c.loop-next.marked c.loop-next.invariant c.in-Some.entry c.in-Some.is in
+    let below = few c.args.mark c.args.age c.args.now c.args.sprig.now c.len-entries.ensures.sorted c.loop-next.sprig c.loop-next.next c.loop-next.marked c.loop-next.invariant
+    c.in-Some.entry c.in-Some.is in
     omega (arith, below, c.len-entries.ensures.value)
 
 pub loop-next-smaller : goal.loop-next-smaller
 loop-next-smaller c =
     elim c.if-eligible.branch [
-      | then-eligible w ↦ fewer_marked c.args.mark c.args.age c.args.now c.args.sprig.now c.len-entries.ensures.sorted c.loop-next.sprig c.loop-next.next c.loop-next.marked c.loop-next.invariant c.in-Some.entry c.in-Some.is
-          (sym c.eligible.ensures ∙ w.if-eligible.true) w.with_mark.result w.with_mark.ensures c.if-eligible.sprig (w.sprig-is ∙ w.replace.ensures) c.if-eligible.marked w.marked-is c.next_after-next-in-Some.result c.next_after-next-in-Some.ensures.value
-      | else-eligible w ↦ fewer_passed c.args.mark c.args.age c.args.now c.args.sprig.now c.len-entries.ensures.sorted c.loop-next.sprig c.loop-next.next c.loop-next.marked c.loop-next.invariant c.in-Some.entry c.in-Some.is
+      | then-eligible w ↦ fewer_marked c.args.mark c.args.age c.args.now c.args.sprig.now c.len-entries.ensures.sorted c.loop-next.sprig c.loop-next.next c.loop-next.marked
+          c.loop-next.invariant c.in-Some.entry c.in-Some.is
+          (sym c.eligible.ensures ∙ w.if-eligible.true) w.with_mark.result w.with_mark.ensures c.if-eligible.sprig
+          (w.sprig-is ∙ w.replace.ensures) c.if-eligible.marked w.marked-is c.next_after-next-in-Some.result c.next_after-next-in-Some.ensures.value
+      | else-eligible w ↦ fewer_passed c.args.mark c.args.age c.args.now c.args.sprig.now c.len-entries.ensures.sorted c.loop-next.sprig c.loop-next.next c.loop-next.marked
+          c.loop-next.invariant c.in-Some.entry c.in-Some.is
           (sym c.eligible.ensures ∙ w.if-eligible.false) c.if-eligible.sprig w.sprig-is c.if-eligible.marked w.marked-is c.next_after-next-in-Some.result c.next_after-next-in-Some.ensures.value
     ]
 
 pub loop-next-preserved : goal.loop-next-preserved
 loop-next-preserved c =
     elim c.if-eligible.branch [
-      | then-eligible w ↦ marks c.args.mark c.args.age c.args.now c.args.sprig.now c.len-entries.ensures.sorted c.loop-next.sprig c.loop-next.next c.loop-next.marked c.loop-next.invariant c.in-Some.entry c.in-Some.is
-          (sym c.eligible.ensures ∙ w.if-eligible.true) w.with_mark.result w.with_mark.ensures c.if-eligible.sprig (w.sprig-is ∙ w.replace.ensures) c.if-eligible.marked w.marked-is c.next_after-next-in-Some.result c.next_after-next-in-Some.ensures.value
-      | else-eligible w ↦ passes c.args.mark c.args.age c.args.now c.args.sprig.now c.len-entries.ensures.sorted c.loop-next.sprig c.loop-next.next c.loop-next.marked c.loop-next.invariant c.in-Some.entry c.in-Some.is
+      | then-eligible w ↦ marks c.args.mark c.args.age c.args.now c.args.sprig.now c.len-entries.ensures.sorted c.loop-next.sprig c.loop-next.next c.loop-next.marked c.loop-next.invariant
+          c.in-Some.entry c.in-Some.is
+          (sym c.eligible.ensures ∙ w.if-eligible.true) w.with_mark.result w.with_mark.ensures c.if-eligible.sprig
+          (w.sprig-is ∙ w.replace.ensures) c.if-eligible.marked w.marked-is c.next_after-next-in-Some.result c.next_after-next-in-Some.ensures.value
+      | else-eligible w ↦ passes c.args.mark c.args.age c.args.now c.args.sprig.now c.len-entries.ensures.sorted c.loop-next.sprig c.loop-next.next c.loop-next.marked c.loop-next.invariant
+          c.in-Some.entry c.in-Some.is
           (sym c.eligible.ensures ∙ w.if-eligible.false) c.if-eligible.sprig w.sprig-is c.if-eligible.marked w.marked-is c.next_after-next-in-Some.result c.next_after-next-in-Some.ensures.value
     ]
 
 pub returns-clause-count : goal.returns-clause-count
-returns-clause-count c = all_counted c.args.mark c.args.age c.args.now c.args.sprig.now c.len-entries.ensures.sorted c.loop-next.sprig c.loop-next.next c.loop-next.marked c.loop-next.invariant c.in_default.is
+returns-clause-count c = all_counted c.args.mark c.args.age c.args.now c.args.sprig.now c.len-entries.ensures.sorted c.loop-next.sprig c.loop-next.next c.loop-next.marked
+    c.loop-next.invariant c.in_default.is
 
 pub returns-clause-sprig : goal.returns-clause-sprig
-returns-clause-sprig c = all_marked c.args.mark c.args.age c.args.now c.args.sprig.now c.len-entries.ensures.sorted c.loop-next.sprig c.loop-next.next c.loop-next.marked c.loop-next.invariant c.in_default.is
+returns-clause-sprig c = all_marked c.args.mark c.args.age c.args.now c.args.sprig.now c.len-entries.ensures.sorted c.loop-next.sprig c.loop-next.next c.loop-next.marked
+    c.loop-next.invariant c.in_default.is

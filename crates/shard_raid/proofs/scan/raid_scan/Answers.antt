@@ -8,12 +8,14 @@ use Rattle.shard_raid.proofs.scan.raid_scan.Goals as goal
 
 pub returns-in-Ok-clause-makes : goal.returns-in-Ok-clause-makes
 returns-in-Ok-clause-makes g c setup s now block at is stand =
-    makes_scanned g.D.Disk.view setup block now c.args.shelf.now s c.scan_step.new.self at stand c.scan_step.ensures.later.count c.in-Ok.block c.in-Ok.ensures.block (c.in-Ok.ensures.scanned setup s is stand.stands stand.queue)
+    makes_scanned g.D.Disk.view setup block now c.args.shelf.now s c.scan_step.new.self at stand c.scan_step.ensures.later.count c.in-Ok.block c.in-Ok.ensures.block
+    (c.in-Ok.ensures.scanned setup s is stand.stands stand.queue)
 
 pub returns-in-Err-clause-makes : goal.returns-in-Err-clause-makes
 returns-in-Err-clause-makes g c setup s now block at is stand =
     subst (λ (r : RaidRefusal). ScanMakes g.D.Disk.view setup block now (Err r) c.args.shelf.now s c.scan_step.new.self) (sym c.scan_refusal.ensures)
-    (makes_given_up g.D.Disk.view setup block now c.args.shelf.now s c.scan_step.new.self at stand c.scan_step.ensures.later.count (c.in-Err.ensures.scanned setup s is stand.stands stand.queue) c.in-Err.refusal
+    (makes_given_up g.D.Disk.view setup block now c.args.shelf.now s c.scan_step.new.self at stand c.scan_step.ensures.later.count
+    (c.in-Err.ensures.scanned setup s is stand.stands stand.queue) c.in-Err.refusal
     (λ fault. c.scan_step.ensures.cause (c.in-Err.is ∙ ap (λ (r : VacateRefusal). Err r) fault)) (λ honest hold. c.in-Err.ensures.sound setup s honest stand.stands hold))
 
 pub returns-in-Err-clause-damaged : goal.returns-in-Err-clause-damaged

@@ -18,5 +18,10 @@ loop-record-preserved c = λ b is heads.
 pub returns : goal.returns
 returns c =
     let r = c.in-Ok.ensures.read in
-    let heads = c.deref-record-items.ensures.value ∙ r.found_is in
-    (r.body, r.is_body, r.block_is, c.loop-record.invariant r.body r.is_body heads ∙ ap (λ (l : List Record). c.args.records.now.items ++ l) (as_many r.body c.deref-record-items.result.now heads c.loop-record.record-index c.loop-record-test.false))
+    let heads = c.deref-record-items.ensures.value ∙ r.found_is in (
+      r.body,
+      r.is_body,
+      r.block_is,
+      c.loop-record.invariant r.body r.is_body heads
+          ∙ ap (λ (l : List Record). c.args.records.now.items ++ l) (as_many r.body c.deref-record-items.result.now heads c.loop-record.record-index c.loop-record-test.false),
+    )

@@ -17,5 +17,6 @@ about-event-requires g c =
 pub give_part-requires-in-Err-clause-fits : goal.give_part-requires-in-Err-clause-fits
 give_part-requires-in-Err-clause-fits g c =
     let held = ap (λ v. v.part) c.take_part-values.ensures.pass.1 in
-    unchanged (opening_of c.args.table.now) (view c.take_part-values.new.pass) (view c.take_hub-log.new.pass) (view c.give_hub_back.new.pass) c.args.pile c.take_part-values.result.items c.place.new.values.items held
+    unchanged (opening_of c.args.table.now) (view c.take_part-values.new.pass) (view c.take_hub-log.new.pass)
+    (view c.give_hub_back.new.pass) c.args.pile c.take_part-values.result.items c.place.new.values.items held
     c.take_hub-log.ensures.pass.1 c.give_hub_back.ensures.pass.1 c.in-Err.ensures.err.2 (c.take_hub-log.ensures.still c.args.pile c.take_part-values.result held c.take_part-values.ensures.fits)

@@ -21,14 +21,30 @@ pub invariant_of-self : goal.invariant_of-self
 invariant_of-self g c =
     let d = g.D.Disk in
     let law = g.met.D.Disk in
-    let old : ShelfView g.row.D.Denot = record { disk = c.self.inside.disk; geometry = c.self.inside.geometry; limits = c.self.inside.limits; buffers = c.self.inside.buffers.items; gates = c.self.inside.gates.items; rolls = c.self.inside.ledger; holds = c.self.inside.holds; free = c.self.inside.free.items; queue = c.self.inside.queue; cache = c.self.inside.cache; raid = c.self.inside.raid; next_number = c.self.inside.next_number } in
+    let old : ShelfView g.row.D.Denot = record {
+      disk = c.self.inside.disk;
+      geometry = c.self.inside.geometry;
+      limits = c.self.inside.limits;
+      buffers = c.self.inside.buffers.items;
+      gates =
+          c.self.inside.gates.items;
+      rolls = c.self.inside.ledger;
+      holds = c.self.inside.holds;
+      free = c.self.inside.free.items;
+      queue = c.self.inside.queue;
+      cache = c.self.inside.cache;
+      raid = c.self.inside.raid;
+      next_number = c.self.inside.next_number;
+    } in
     let is : IsShelf d.view old = c.self.invariant.0 in
     let lt : c.args.block < old.geometry.blocks = subst (λ (v : ShelfView g.row.D.Denot). c.args.block < v.geometry.blocks) (sym c.self.view_is) c.requires.block in
-    let unbuffered : AllByRecursion (λ b. b.block ≢ c.args.block) old.buffers = subst (λ (v : ShelfView g.row.D.Denot). AllByRecursion (λ b. b.block ≢ c.args.block) v.buffers) (sym c.self.view_is) c.requires.unbuffered in
+    let unbuffered : AllByRecursion (λ b. b.block ≢ c.args.block) old.buffers =
+    subst (λ (v : ShelfView g.row.D.Denot). AllByRecursion (λ b. b.block ≢ c.args.block) v.buffers) (sym c.self.view_is) c.requires.unbuffered in
     let disk = c.shut_gate.new.disk in
     let e = c.in_default.ensures in
     let known : c.shut_gate.new.gates ≡ slice_set old.gates c.args.block Unsure = e.known ∙ ap (λ (l : List Gate). slice_set l c.args.block Unsure) c.deref_mut.ensures.value in
-    let gates : (with_items c.self.inside.gates c.shut_gate.new.gates).items ≡ c.shut_gate.new.gates = with_items_is c.self.inside.gates c.shut_gate.new.gates (c.shut_gate.auto.gates ∙ c.deref_mut.ensures.len) in (
+    let gates : (with_items c.self.inside.gates c.shut_gate.new.gates).items ≡ c.shut_gate.new.gates =
+    with_items_is c.self.inside.gates c.shut_gate.new.gates (c.shut_gate.auto.gates ∙ c.deref_mut.ensures.len) in (
       subst (λ (l : List Gate). IsShelf d.view (record old { disk = disk; gates = l })) (sym gates)
           (closed_shelf d.view law.is_disk old disk c.args.block is lt unbuffered e.later e.honest e.was_honest e.images c.shut_gate.new.gates e.stands Unsure known),
       c.self.invariant.1,
@@ -38,33 +54,68 @@ pub returns-in_default : goal.returns-in_default
 returns-in_default g c =
     let d = g.D.Disk in
     let law = g.met.D.Disk in
-    let old : ShelfView g.row.D.Denot = record { disk = c.self.inside.disk; geometry = c.self.inside.geometry; limits = c.self.inside.limits; buffers = c.self.inside.buffers.items; gates = c.self.inside.gates.items; rolls = c.self.inside.ledger; holds = c.self.inside.holds; free = c.self.inside.free.items; queue = c.self.inside.queue; cache = c.self.inside.cache; raid = c.self.inside.raid; next_number = c.self.inside.next_number } in
+    let old : ShelfView g.row.D.Denot = record {
+      disk = c.self.inside.disk;
+      geometry = c.self.inside.geometry;
+      limits = c.self.inside.limits;
+      buffers = c.self.inside.buffers.items;
+      gates =
+          c.self.inside.gates.items;
+      rolls = c.self.inside.ledger;
+      holds = c.self.inside.holds;
+      free = c.self.inside.free.items;
+      queue = c.self.inside.queue;
+      cache = c.self.inside.cache;
+      raid = c.self.inside.raid;
+      next_number = c.self.inside.next_number;
+    } in
     let is : IsShelf d.view old = c.self.invariant.0 in
     let lt : c.args.block < old.geometry.blocks = subst (λ (v : ShelfView g.row.D.Denot). c.args.block < v.geometry.blocks) (sym c.self.view_is) c.requires.block in
-    let unbuffered : AllByRecursion (λ b. b.block ≢ c.args.block) old.buffers = subst (λ (v : ShelfView g.row.D.Denot). AllByRecursion (λ b. b.block ≢ c.args.block) v.buffers) (sym c.self.view_is) c.requires.unbuffered in
+    let unbuffered : AllByRecursion (λ b. b.block ≢ c.args.block) old.buffers =
+    subst (λ (v : ShelfView g.row.D.Denot). AllByRecursion (λ b. b.block ≢ c.args.block) v.buffers) (sym c.self.view_is) c.requires.unbuffered in
     let disk = c.shut_gate.new.disk in
     let e = c.in_default.ensures in
     let known : c.shut_gate.new.gates ≡ slice_set old.gates c.args.block Unsure = e.known ∙ ap (λ (l : List Gate). slice_set l c.args.block Unsure) c.deref_mut.ensures.value in
-    let gates : (with_items c.self.inside.gates c.shut_gate.new.gates).items ≡ c.shut_gate.new.gates = with_items_is c.self.inside.gates c.shut_gate.new.gates (c.shut_gate.auto.gates ∙ c.deref_mut.ensures.len) in
-    let unsure : gate_at old.gates c.args.block ≡ Unsure = subst (λ (v : ShelfView g.row.D.Denot). gate_at v.gates c.args.block ≡ Unsure) (sym c.self.view_is) (grind (arith, c.if-ne.false, c.ne.ensures, c.gate.ensures)) in
+    let gates : (with_items c.self.inside.gates c.shut_gate.new.gates).items ≡ c.shut_gate.new.gates =
+    with_items_is c.self.inside.gates c.shut_gate.new.gates (c.shut_gate.auto.gates ∙ c.deref_mut.ensures.len) in
+    let unsure : gate_at old.gates c.args.block ≡ Unsure = subst (λ (v : ShelfView g.row.D.Denot). gate_at v.gates c.args.block ≡ Unsure) (sym c.self.view_is)
+    (grind (arith, c.if-ne.false, c.ne.ensures, c.gate.ensures)) in
     let closed = closed_shelf d.view law.is_disk old disk c.args.block is lt unbuffered e.later e.honest e.was_honest e.images c.shut_gate.new.gates e.stands Unsure known in
-    subst (λ (v : ShelfView g.row.D.Denot). ClosesUnsure d.view c.args.block v (record old { disk = disk; gates = (with_items c.self.inside.gates c.shut_gate.new.gates).items }) (Err Fault)) c.self.view_is
+    subst (λ (v : ShelfView g.row.D.Denot). ClosesUnsure d.view c.args.block v (record old { disk = disk; gates = (with_items c.self.inside.gates c.shut_gate.new.gates).items }) (Err Fault))
+    c.self.view_is
     (subst (λ (l : List Gate). ClosesUnsure d.view c.args.block old (record old { disk = disk; gates = l }) (Err Fault)) (sym gates)
     (fails_to_close d.view law.is_disk c.args.block old unsure disk c.shut_gate.new.gates closed
-    (λ setup s stands. goes_unclosed d.view law.is_disk old disk c.args.block is lt unbuffered e.later e.honest e.was_honest e.images c.shut_gate.new.gates e.stands unsure setup s stands known) e.later e.honest e.cause))
+    (λ setup s stands. goes_unclosed d.view law.is_disk old disk c.args.block is lt unbuffered e.later e.honest e.was_honest e.images c.shut_gate.new.gates e.stands unsure setup s stands
+    known) e.later e.honest e.cause))
 
 pub invariant_of-self-2 : goal.invariant_of-self-2
 invariant_of-self-2 g c =
     let d = g.D.Disk in
     let law = g.met.D.Disk in
-    let old : ShelfView g.row.D.Denot = record { disk = c.self.inside.disk; geometry = c.self.inside.geometry; limits = c.self.inside.limits; buffers = c.self.inside.buffers.items; gates = c.self.inside.gates.items; rolls = c.self.inside.ledger; holds = c.self.inside.holds; free = c.self.inside.free.items; queue = c.self.inside.queue; cache = c.self.inside.cache; raid = c.self.inside.raid; next_number = c.self.inside.next_number } in
+    let old : ShelfView g.row.D.Denot = record {
+      disk = c.self.inside.disk;
+      geometry = c.self.inside.geometry;
+      limits = c.self.inside.limits;
+      buffers = c.self.inside.buffers.items;
+      gates =
+          c.self.inside.gates.items;
+      rolls = c.self.inside.ledger;
+      holds = c.self.inside.holds;
+      free = c.self.inside.free.items;
+      queue = c.self.inside.queue;
+      cache = c.self.inside.cache;
+      raid = c.self.inside.raid;
+      next_number = c.self.inside.next_number;
+    } in
     let is : IsShelf d.view old = c.self.invariant.0 in
     let lt : c.args.block < old.geometry.blocks = subst (λ (v : ShelfView g.row.D.Denot). c.args.block < v.geometry.blocks) (sym c.self.view_is) c.requires.block in
-    let unbuffered : AllByRecursion (λ b. b.block ≢ c.args.block) old.buffers = subst (λ (v : ShelfView g.row.D.Denot). AllByRecursion (λ b. b.block ≢ c.args.block) v.buffers) (sym c.self.view_is) c.requires.unbuffered in
+    let unbuffered : AllByRecursion (λ b. b.block ≢ c.args.block) old.buffers =
+    subst (λ (v : ShelfView g.row.D.Denot). AllByRecursion (λ b. b.block ≢ c.args.block) v.buffers) (sym c.self.view_is) c.requires.unbuffered in
     let disk = c.shut_gate.new.disk in
     let e = c.in-Ok.ensures in
     let known : c.shut_gate.new.gates ≡ slice_set old.gates c.args.block Shut = e.known ∙ ap (λ (l : List Gate). slice_set l c.args.block Shut) c.deref_mut.ensures.value in
-    let gates : (with_items c.self.inside.gates c.shut_gate.new.gates).items ≡ c.shut_gate.new.gates = with_items_is c.self.inside.gates c.shut_gate.new.gates (c.shut_gate.auto.gates ∙ c.deref_mut.ensures.len) in (
+    let gates : (with_items c.self.inside.gates c.shut_gate.new.gates).items ≡ c.shut_gate.new.gates =
+    with_items_is c.self.inside.gates c.shut_gate.new.gates (c.shut_gate.auto.gates ∙ c.deref_mut.ensures.len) in (
       subst (λ (l : List Gate). IsShelf d.view (record old { disk = disk; gates = l })) (sym gates)
           (closed_shelf d.view law.is_disk old disk c.args.block is lt unbuffered e.later e.honest e.was_honest e.images c.shut_gate.new.gates e.stands Shut known),
       c.self.invariant.1,
@@ -74,18 +125,38 @@ pub returns : goal.returns
 returns g c =
     let d = g.D.Disk in
     let law = g.met.D.Disk in
-    let old : ShelfView g.row.D.Denot = record { disk = c.self.inside.disk; geometry = c.self.inside.geometry; limits = c.self.inside.limits; buffers = c.self.inside.buffers.items; gates = c.self.inside.gates.items; rolls = c.self.inside.ledger; holds = c.self.inside.holds; free = c.self.inside.free.items; queue = c.self.inside.queue; cache = c.self.inside.cache; raid = c.self.inside.raid; next_number = c.self.inside.next_number } in
+    let old : ShelfView g.row.D.Denot = record {
+      disk = c.self.inside.disk;
+      geometry = c.self.inside.geometry;
+      limits = c.self.inside.limits;
+      buffers = c.self.inside.buffers.items;
+      gates =
+          c.self.inside.gates.items;
+      rolls = c.self.inside.ledger;
+      holds = c.self.inside.holds;
+      free = c.self.inside.free.items;
+      queue = c.self.inside.queue;
+      cache = c.self.inside.cache;
+      raid = c.self.inside.raid;
+      next_number = c.self.inside.next_number;
+    } in
     let is : IsShelf d.view old = c.self.invariant.0 in
     let lt : c.args.block < old.geometry.blocks = subst (λ (v : ShelfView g.row.D.Denot). c.args.block < v.geometry.blocks) (sym c.self.view_is) c.requires.block in
-    let unbuffered : AllByRecursion (λ b. b.block ≢ c.args.block) old.buffers = subst (λ (v : ShelfView g.row.D.Denot). AllByRecursion (λ b. b.block ≢ c.args.block) v.buffers) (sym c.self.view_is) c.requires.unbuffered in
+    let unbuffered : AllByRecursion (λ b. b.block ≢ c.args.block) old.buffers =
+    subst (λ (v : ShelfView g.row.D.Denot). AllByRecursion (λ b. b.block ≢ c.args.block) v.buffers) (sym c.self.view_is) c.requires.unbuffered in
     let disk = c.shut_gate.new.disk in
     let e = c.in-Ok.ensures in
     let known : c.shut_gate.new.gates ≡ slice_set old.gates c.args.block Shut = e.known ∙ ap (λ (l : List Gate). slice_set l c.args.block Shut) c.deref_mut.ensures.value in
-    let gates : (with_items c.self.inside.gates c.shut_gate.new.gates).items ≡ c.shut_gate.new.gates = with_items_is c.self.inside.gates c.shut_gate.new.gates (c.shut_gate.auto.gates ∙ c.deref_mut.ensures.len) in
-    let unsure : gate_at old.gates c.args.block ≡ Unsure = subst (λ (v : ShelfView g.row.D.Denot). gate_at v.gates c.args.block ≡ Unsure) (sym c.self.view_is) (grind (arith, c.if-ne.false, c.ne.ensures, c.gate.ensures)) in
+    let gates : (with_items c.self.inside.gates c.shut_gate.new.gates).items ≡ c.shut_gate.new.gates =
+    with_items_is c.self.inside.gates c.shut_gate.new.gates (c.shut_gate.auto.gates ∙ c.deref_mut.ensures.len) in
+    let unsure : gate_at old.gates c.args.block ≡ Unsure = subst (λ (v : ShelfView g.row.D.Denot). gate_at v.gates c.args.block ≡ Unsure) (sym c.self.view_is)
+    (grind (arith, c.if-ne.false, c.ne.ensures, c.gate.ensures)) in
     let closed = closed_shelf d.view law.is_disk old disk c.args.block is lt unbuffered e.later e.honest e.was_honest e.images c.shut_gate.new.gates e.stands Shut known in
-    let shut : gate_at c.shut_gate.new.gates c.args.block ≡ Shut = ap (λ (l : List Gate). gate_at l c.args.block) known ∙ get_or-set_same old.gates c.args.block Shut Shut (subst (λ (n : ℕ). c.args.block < n) (sym is.gates) lt) in
-    subst (λ (v : ShelfView g.row.D.Denot). ClosesUnsure d.view c.args.block v (record old { disk = disk; gates = (with_items c.self.inside.gates c.shut_gate.new.gates).items }) (Ok tt)) c.self.view_is
+    let shut : gate_at c.shut_gate.new.gates c.args.block ≡ Shut = ap (λ (l : List Gate). gate_at l c.args.block) known
+    ∙ get_or-set_same old.gates c.args.block Shut Shut (subst (λ (n : ℕ). c.args.block < n) (sym is.gates) lt) in
+    subst (λ (v : ShelfView g.row.D.Denot). ClosesUnsure d.view c.args.block v (record old { disk = disk; gates = (with_items c.self.inside.gates c.shut_gate.new.gates).items }) (Ok tt))
+    c.self.view_is
     (subst (λ (l : List Gate). ClosesUnsure d.view c.args.block old (record old { disk = disk; gates = l }) (Ok tt)) (sym gates)
     (closes d.view law.is_disk c.args.block old unsure disk c.shut_gate.new.gates closed
-    (λ setup s stands. goes_closed d.view law.is_disk old disk c.args.block is lt unbuffered e.later e.honest e.was_honest e.images c.shut_gate.new.gates e.stands unsure setup s stands known) e.later e.honest shut))
+    (λ setup s stands. goes_closed d.view law.is_disk old disk c.args.block is lt unbuffered e.later e.honest e.was_honest e.images c.shut_gate.new.gates e.stands unsure setup s stands
+    known) e.later e.honest shut))

@@ -28,7 +28,8 @@ returns-then-is_unused-clause-dropped g c setup s digest is stands live uncovere
     let queued = c.requeue.ensures ∙ ap (with_requeued c.args.place.block) c.take_live.ensures.taken in
     let unused = subst (λ (v : ShelfView g.row.D.Denot). IsUnused v c.args.place.block) queued c.if-is_unused.ensures in
     subst (Goes d.view setup (removed digest ∷ []) c.args.self.now s) (sym (c.free_block.ensures ∙ ap (with_free c.args.place.block) queued))
-    (goes_freed d.view law.is_disk setup c.args.self.now s c.take_live.ensures.whole stands is digest c.args.place live c.requires.block dropped (removed digest) (drops setup s digest) refl (λ honest safe. uncovered) unused)
+    (goes_freed d.view law.is_disk setup c.args.self.now s c.take_live.ensures.whole stands is digest c.args.place live c.requires.block dropped (removed digest) (drops setup s digest) refl
+    (λ honest safe. uncovered) unused)
 
 pub returns-else-is_unused-clause-dropped : goal.returns-else-is_unused-clause-dropped
 returns-else-is_unused-clause-dropped g c setup s digest is stands live uncovered =
@@ -36,7 +37,8 @@ returns-else-is_unused-clause-dropped g c setup s digest is stands live uncovere
     let law = g.met.D.Disk in
     let queued = c.requeue.ensures ∙ ap (with_requeued c.args.place.block) c.take_live.ensures.taken in
     subst (Goes d.view setup (removed digest ∷ []) c.args.self.now s) (sym queued)
-    (goes_kept d.view law.is_disk setup c.args.self.now s c.take_live.ensures.whole stands is digest c.args.place live c.requires.block dropped (removed digest) (drops setup s digest) refl (λ honest safe. uncovered)
+    (goes_kept d.view law.is_disk setup c.args.self.now s c.take_live.ensures.whole stands is digest c.args.place live c.requires.block dropped (removed digest) (drops setup s digest) refl
+    (λ honest safe. uncovered)
     (λ unused. c.if-is_unused.ensures (subst (λ (v : ShelfView g.row.D.Denot). IsUnused v c.args.place.block) (sym queued) unused)))
 
 pub returns-then-is_unused-clause-rid : goal.returns-then-is_unused-clause-rid

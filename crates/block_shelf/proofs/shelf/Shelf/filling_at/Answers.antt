@@ -14,4 +14,5 @@ returns g c =
     let searched = IsFirst-from_position _ _ c.position.result (TakesThose stream) (λ b. TakesThose stream b → ⊥) c.position.ensures.ran (YieldsList-from_slice _ c.iter.ensures.rest)
     (λ x q k. search (rules, tests)) (λ x q k. search (rules, tests)) in
     subst (λ (v : ShelfView g.row.D.Denot). MatchOption c.position.result (AllByRecursion (λ b. fills stream b ≡ false) v.buffers) (λ at. FillsAt stream at v.buffers)) c.self.view_is
-    (subst (λ (l : List BufferState). MatchOption c.position.result (AllByRecursion (λ b. fills stream b ≡ false) l) (λ at. FillsAt stream at l)) c.deref.ensures.value (filling_told stream c.deref.result.now c.position.result searched))
+    (subst (λ (l : List BufferState). MatchOption c.position.result (AllByRecursion (λ b. fills stream b ≡ false) l) (λ at. FillsAt stream at l)) c.deref.ensures.value
+    (filling_told stream c.deref.result.now c.position.result searched))

@@ -18,9 +18,11 @@ use Rattle.block_shelf.proofs.shelf.Shelf.put_here.Goals as goal
 room_left : (block unit : ℕ) (rolls : List BlockRoll) (k : ℕ) → block < length rolls → spare_of k rolls ≤ spare_of k (rolls_without block unit rolls)
 room_left block unit rolls k lt =
     ⊎_elim (λ (e : k ≡ block).
-    let now : spare_of k (rolls_without block unit rolls) ≡ spare_of block rolls + 1 = ap (λ (j : ℕ). spare_of j (rolls_without block unit rolls)) e ∙ ap (λ (r : BlockRoll). r.spare) (get_or-set_same rolls block _ empty_roll lt) in
+    let now : spare_of k (rolls_without block unit rolls) ≡ spare_of block rolls + 1 = ap (λ (j : ℕ). spare_of j (rolls_without block unit rolls)) e
+    ∙ ap (λ (r : BlockRoll). r.spare) (get_or-set_same rolls block _ empty_roll lt) in
     let was : spare_of k rolls ≡ spare_of block rolls = ap (λ (j : ℕ). spare_of j rolls) e in omega (arith, now, was))
-    (λ (other : k ≢ block). let same : spare_of k (rolls_without block unit rolls) ≡ spare_of k rolls = ap (λ (r : BlockRoll). r.spare) (get_or-set_other rolls block k _ empty_roll other) in omega (arith, same)) (cases_eq k block)
+    (λ (other : k ≢ block). let same : spare_of k (rolls_without block unit rolls) ≡ spare_of k rolls =
+    ap (λ (r : BlockRoll). r.spare) (get_or-set_other rolls block k _ empty_roll other) in omega (arith, same)) (cases_eq k block)
 
 pub write-place-requires-clause-room : goal.write-place-requires-clause-room
 write-place-requires-clause-room g c =
@@ -28,7 +30,9 @@ write-place-requires-clause-room g c =
     let old = c.args.self.now in
     let can = c.requires.room in
     let there = subst (IsPriorIn old) c.in-Some.is c.requires.prior in
-    let lt : p.block < length old.rolls = subst (λ (n : ℕ). p.block < n) (sym (ap (λ (x : ShelfView g.row.D.Denot). length x.rolls) (sym c.self.view_is) ∙ c.self.invariant.0.rolls ∙ ap (λ (x : ShelfView g.row.D.Denot). x.geometry.blocks) c.self.view_is)) there.0 in
+    let lt : p.block < length old.rolls = subst (λ (n : ℕ). p.block < n)
+    (sym (ap (λ (x : ShelfView g.row.D.Denot). length x.rolls) (sym c.self.view_is) ∙ c.self.invariant.0.rolls ∙ ap (λ (x : ShelfView g.row.D.Denot). x.geometry.blocks) c.self.view_is))
+    there.0 in
     let spare = can.space in
     let more = room_left p.block p.unit old.rolls can.stands.buffer.block lt in
     subst (CanTake {D = g.row.D.Denot} c.args.units c.args.at) (sym c.replace.ensures.taken)
@@ -42,10 +46,14 @@ pub requeue-requires : goal.requeue-requires
 requeue-requires g c =
     let there = subst (IsPriorIn c.args.self.now) c.in-Some.is c.requires.prior in
     let written = c.write-place.ensures.written (stands_still c.args.self.now c.replace.new.self c.in-Some.before c.args.at c.replace.ensures.taken c.requires.room.stands) in
-    record { block = subst (λ (n : ℕ). c.in-Some.before.block < n) (sym (ap (λ (x : ShelfView g.row.D.Denot). x.geometry.blocks) (written.0) ∙ ap (λ (x : ShelfView g.row.D.Denot). x.geometry.blocks) c.replace.ensures.taken)) there.0 }
+    record {
+      block = subst (λ (n : ℕ). c.in-Some.before.block < n)
+          (sym (ap (λ (x : ShelfView g.row.D.Denot). x.geometry.blocks) (written.0) ∙ ap (λ (x : ShelfView g.row.D.Denot). x.geometry.blocks) c.replace.ensures.taken)) there.0;
+    }
 
 -- what the parts leave of the shelf
-all_is : {D : Type 0} (old replaced written new : ShelfView D) (p : Place) → replaced ≡ record (without_copy p old) { holds = replaced.holds } → (w : ShelfView D) → written ≡ record replaced { buffers = w.buffers; rolls = w.rolls } → new ≡ with_requeued p.block written
+all_is : {D : Type 0} (old replaced written new : ShelfView D) (p : Place) → replaced ≡ record (without_copy p old) { holds = replaced.holds } → (w : ShelfView D)
+    → written ≡ record replaced { buffers = w.buffers; rolls = w.rolls } → new ≡ with_requeued p.block written
     → new ≡ record old { buffers = w.buffers; rolls = w.rolls; holds = replaced.holds; queue = new.queue }
 all_is {D} old replaced written new p taken w was requeued =
     requeued ∙ ap (λ (x : ShelfView D). record x { queue = (with_requeued p.block written).queue }) (was ∙ ap (λ (x : ShelfView D). record x { buffers = w.buffers; rolls = w.rolls }) taken)
@@ -59,7 +67,8 @@ returns-in-Some g c =
     let p : Place = c.in-Some.before in
     let without : ShelfView g.row.D.Denot = record (without_copy p old) { holds = c.replace.new.self.holds } in
     let at_rest = stands_still old c.replace.new.self p c.args.at c.replace.ensures.taken c.requires.room.stands in
-    let all = all_is old c.replace.new.self c.write-place.new.self c.requeue.new.self p c.replace.ensures.taken (with_written digest v at_rest.front at_rest.buffer at_rest.behind c.replace.new.self) (c.write-place.ensures.written at_rest).0 c.requeue.ensures in
+    let all = all_is old c.replace.new.self c.write-place.new.self c.requeue.new.self p c.replace.ensures.taken
+    (with_written digest v at_rest.front at_rest.buffer at_rest.behind c.replace.new.self) (c.write-place.ensures.written at_rest).0 c.requeue.ensures in
     let rolls : c.requeue.new.self.rolls ≡ c.write-place.new.self.rolls = ap (λ (x : ShelfView g.row.D.Denot). x.rolls) c.requeue.ensures in
     record {
       put = λ s.
@@ -76,7 +85,12 @@ returns-in-Some g c =
           });
       there = subst (λ (x : Geometry). IsPlaceFor x c.args.units c.write-place.result) (ap (λ (x : ShelfView g.row.D.Denot). x.geometry) c.replace.ensures.taken) c.write-place.ensures.place;
       disk = ap (λ (x : ShelfView g.row.D.Denot). x.disk) all;
-      shape = record { geometry = ap (λ (x : ShelfView g.row.D.Denot). x.geometry) all; limits = ap (λ (x : ShelfView g.row.D.Denot). x.limits) all; raid = ap (λ (x : ShelfView g.row.D.Denot). x.raid) all };
+      shape = record {
+        geometry = ap (λ (x : ShelfView g.row.D.Denot). x.geometry) all;
+        limits = ap (λ (x : ShelfView g.row.D.Denot). x.limits) all;
+        raid =
+            ap (λ (x : ShelfView g.row.D.Denot). x.raid) all;
+      };
       whole = subst (IsShelf g.D.Disk.view) c.self.view_is c.self.invariant.0;
       each = λ block. subst (λ (l : List BlockRoll). IsRoll (copies_in block l)) (sym rolls) (c.write-place.ensures.each block);
     }
@@ -92,7 +106,12 @@ returns-in-None g c =
           (record { without = old; gone = refl; written = written.0; place_is = written.1 });
       there = c.write.ensures.place;
       disk = ap (λ (x : ShelfView g.row.D.Denot). x.disk) written;
-      shape = record { geometry = ap (λ (x : ShelfView g.row.D.Denot). x.geometry) written; limits = ap (λ (x : ShelfView g.row.D.Denot). x.limits) written; raid = ap (λ (x : ShelfView g.row.D.Denot). x.raid) written };
+      shape = record {
+        geometry = ap (λ (x : ShelfView g.row.D.Denot). x.geometry) written;
+        limits = ap (λ (x : ShelfView g.row.D.Denot). x.limits) written;
+        raid =
+            ap (λ (x : ShelfView g.row.D.Denot). x.raid) written;
+      };
       whole = subst (IsShelf g.D.Disk.view) c.self.view_is c.self.invariant.0;
       each = c.write.ensures.each;
     }

@@ -46,13 +46,43 @@ returns-in_default g c = block_unread g.D.Disk.view g.met.D.Disk.is_disk c.args.
 
 pub returns-in_default-read_at : goal.returns-in_default-read_at
 returns-in_default-read_at g c =
-    let old : ShelfView g.row.D.Denot = record { disk = c.self.inside.disk; geometry = c.self.inside.geometry; limits = c.self.inside.limits; buffers = c.self.inside.buffers.items; gates = c.self.inside.gates.items; rolls = c.self.inside.ledger; holds = c.self.inside.holds; free = c.self.inside.free.items; queue = c.self.inside.queue; cache = c.self.inside.cache; raid = c.self.inside.raid; next_number = c.self.inside.next_number } in
+    let old : ShelfView g.row.D.Denot = record {
+      disk = c.self.inside.disk;
+      geometry = c.self.inside.geometry;
+      limits = c.self.inside.limits;
+      buffers = c.self.inside.buffers.items;
+      gates =
+          c.self.inside.gates.items;
+      rolls = c.self.inside.ledger;
+      holds = c.self.inside.holds;
+      free = c.self.inside.free.items;
+      queue = c.self.inside.queue;
+      cache = c.self.inside.cache;
+      raid = c.self.inside.raid;
+      next_number = c.self.inside.next_number;
+    } in
     block_of old c.args.self.now c.self.view_is g.D.Disk.view c.args.block c.read_at.new.self _ (Err Fault)
-    (block_read g.D.Disk.view g.met.D.Disk.is_disk c.args.block old _ c.self.invariant.0 c.read_at.new.self (only_read (g.D.Disk.view old.disk) (g.D.Disk.view c.read_at.new.self) c.read_at.result c.read_at.ensures.call c.read_at.ensures.bytes c.read_at.ensures.images) (Err Fault) (λ told. tt) (λ same. c.in_default-read_at.ensures.call.cause.rose))
+    (block_read g.D.Disk.view g.met.D.Disk.is_disk c.args.block old _ c.self.invariant.0 c.read_at.new.self
+    (only_read (g.D.Disk.view old.disk) (g.D.Disk.view c.read_at.new.self) c.read_at.result c.read_at.ensures.call c.read_at.ensures.bytes c.read_at.ensures.images) (Err Fault)
+    (λ told. tt) (λ same. c.in_default-read_at.ensures.call.cause.rose))
 
 pub returns : goal.returns
 returns g c =
-    let old : ShelfView g.row.D.Denot = record { disk = c.self.inside.disk; geometry = c.self.inside.geometry; limits = c.self.inside.limits; buffers = c.self.inside.buffers.items; gates = c.self.inside.gates.items; rolls = c.self.inside.ledger; holds = c.self.inside.holds; free = c.self.inside.free.items; queue = c.self.inside.queue; cache = c.self.inside.cache; raid = c.self.inside.raid; next_number = c.self.inside.next_number } in
+    let old : ShelfView g.row.D.Denot = record {
+      disk = c.self.inside.disk;
+      geometry = c.self.inside.geometry;
+      limits = c.self.inside.limits;
+      buffers = c.self.inside.buffers.items;
+      gates =
+          c.self.inside.gates.items;
+      rolls = c.self.inside.ledger;
+      holds = c.self.inside.holds;
+      free = c.self.inside.free.items;
+      queue = c.self.inside.queue;
+      cache = c.self.inside.cache;
+      raid = c.self.inside.raid;
+      next_number = c.self.inside.next_number;
+    } in
     let geometry = c.self.inside.geometry in
     let s = sized geometry.block_size c.self.invariant.0.geometry.block_size in
     let many : length c.deref_mut.result.now ≡ geometry.block_size - 4096 = omega (arith, c.in-Ok.ensures.len, c.deref_mut.ensures.len) in
@@ -60,7 +90,8 @@ returns g c =
     let bytes = c.deref.ensures.value ∙ take_at c.read_at.new.out (drop (length c.read_at.new.out) c.in-Ok.body.items) c.in-Ok.body.len size in
     let long : length c.deref.result.now ≡ geometry.block_size - 4096 = omega (arith, c.in-Ok.ensures.len, c.deref_mut.ensures.len, c.deref.ensures.len) in
     block_of old c.args.self.now c.self.view_is g.D.Disk.view c.args.block c.read_at.new.self _ c.found_in.result
-    (block_read g.D.Disk.view g.met.D.Disk.is_disk c.args.block old _ c.self.invariant.0 c.read_at.new.self (only_read (g.D.Disk.view old.disk) (g.D.Disk.view c.read_at.new.self) c.read_at.result c.read_at.ensures.call c.read_at.ensures.bytes c.read_at.ensures.images) c.found_in.result
+    (block_read g.D.Disk.view g.met.D.Disk.is_disk c.args.block old _ c.self.invariant.0 c.read_at.new.self
+    (only_read (g.D.Disk.view old.disk) (g.D.Disk.view c.read_at.new.self) c.read_at.result c.read_at.ensures.call c.read_at.ensures.bytes c.read_at.ensures.images) c.found_in.result
     (λ told. subst (λ (t : List ℕ). MatchResult c.found_in.result (λ found. ReadsBody geometry t c.args.block found.items) (IsDamageOf geometry t c.args.block))
     (bytes ∙ read_there (g.D.Disk.view c.self.inside.disk).seen c.read_at.new.out _ _ _ _ (c.in-Ok-read_at.ensures.read told) (ap (λ (n : ℕ). n + 4096) c.start_of_block.ensures.place) many)
     (c.found_in.ensures.read geometry long))

@@ -25,16 +25,25 @@ returns-in-Some g c =
     let is = c.buffer_of.ensures.whole in
     let b : BufferState = c.in-Some.buffer.now in
     let bytes : List ℕ = bytes_of b in
-    let long : length c.body.result.now ≡ shelf.geometry.block_size - 4096 = c.body.ensures.size ∙ ap (λ (n : ℕ). 32 + 16 * n) c.in-Some.ensures.capacity.0 ∙ body_size shelf.geometry.block_size is.geometry.block_size in
-    let is_body : IsBody (block_capacity shelf.geometry.block_size) bytes (body_in b) = subst (λ (l : List ℕ). IsBody (block_capacity shelf.geometry.block_size) l (body_in b)) c.body.ensures.bytes (subst (λ (n : ℕ). IsBody n c.body.result.now (body_in b)) c.in-Some.ensures.capacity.0 c.body.ensures.body) in
+    let long : length c.body.result.now ≡ shelf.geometry.block_size - 4096 = c.body.ensures.size ∙ ap (λ (n : ℕ). 32 + 16 * n) c.in-Some.ensures.capacity.0
+    ∙ body_size shelf.geometry.block_size is.geometry.block_size in
+    let is_body : IsBody (block_capacity shelf.geometry.block_size) bytes (body_in b) =
+    subst (λ (l : List ℕ). IsBody (block_capacity shelf.geometry.block_size) l (body_in b)) c.body.ensures.bytes
+    (subst (λ (n : ℕ). IsBody n c.body.result.now (body_in b)) c.in-Some.ensures.capacity.0 c.body.ensures.body) in
     reads_memory g.D.Disk.view g.met.D.Disk.is_disk c.args.block shelf _ c.found_in.result c.found_in.ensures.quiet
-    (λ setup s honest stands safe. each_answer (λ found. ReadsBody shelf.geometry bytes c.args.block found.items) (λ found. ReadsAll g.D.Disk.view shelf s c.args.block found.items) (IsDamageOf shelf.geometry bytes c.args.block) IsSound c.found_in.result
-    (λ found reads. buffer_found g.D.Disk.view setup shelf s is stands honest safe c.args.block b c.in-Some.ensures.some.0 c.in-Some.ensures.some.1 c.found_in.ensures.one_body is_body found.items reads)
+    (λ setup s honest stands safe. each_answer (λ found. ReadsBody shelf.geometry bytes c.args.block found.items) (λ found. ReadsAll g.D.Disk.view shelf s c.args.block found.items)
+    (IsDamageOf shelf.geometry bytes c.args.block) IsSound c.found_in.result
+    (λ found reads. buffer_found g.D.Disk.view setup shelf s is stands honest safe c.args.block b c.in-Some.ensures.some.0 c.in-Some.ensures.some.1 c.found_in.ensures.one_body
+    is_body found.items reads)
     (λ refusal damage. no_damage shelf.geometry bytes c.args.block refusal (body_in b, is_body, c.in-Some.ensures.some.1) damage)
-    (subst (λ (t : List ℕ). MatchResult c.found_in.result (λ found. ReadsBody shelf.geometry t c.args.block found.items) (IsDamageOf shelf.geometry t c.args.block)) c.body.ensures.bytes (c.found_in.ensures.read shelf.geometry long)))
-    (λ told. only_err (λ found. ReadsBody shelf.geometry bytes c.args.block found.items) (IsDamageOf shelf.geometry bytes c.args.block) (IsDamageOf shelf.geometry (body_bytes shelf.geometry c.args.block (g.D.Disk.view shelf.disk).seen) c.args.block) c.found_in.result
-    (λ refusal damage. undamaged shelf.geometry (body_bytes shelf.geometry c.args.block (g.D.Disk.view shelf.disk).seen) c.args.block refusal (no_damage shelf.geometry bytes c.args.block refusal (body_in b, is_body, c.in-Some.ensures.some.1) damage))
-    (subst (λ (t : List ℕ). MatchResult c.found_in.result (λ found. ReadsBody shelf.geometry t c.args.block found.items) (IsDamageOf shelf.geometry t c.args.block)) c.body.ensures.bytes (c.found_in.ensures.read shelf.geometry long)))
+    (subst (λ (t : List ℕ). MatchResult c.found_in.result (λ found. ReadsBody shelf.geometry t c.args.block found.items) (IsDamageOf shelf.geometry t c.args.block)) c.body.ensures.bytes
+    (c.found_in.ensures.read shelf.geometry long)))
+    (λ told. only_err (λ found. ReadsBody shelf.geometry bytes c.args.block found.items) (IsDamageOf shelf.geometry bytes c.args.block)
+    (IsDamageOf shelf.geometry (body_bytes shelf.geometry c.args.block (g.D.Disk.view shelf.disk).seen) c.args.block) c.found_in.result
+    (λ refusal damage. undamaged shelf.geometry (body_bytes shelf.geometry c.args.block (g.D.Disk.view shelf.disk).seen) c.args.block refusal
+    (no_damage shelf.geometry bytes c.args.block refusal (body_in b, is_body, c.in-Some.ensures.some.1) damage))
+    (subst (λ (t : List ℕ). MatchResult c.found_in.result (λ found. ReadsBody shelf.geometry t c.args.block found.items) (IsDamageOf shelf.geometry t c.args.block)) c.body.ensures.bytes
+    (c.found_in.ensures.read shelf.geometry long)))
 
 pub returns-in_err-close_unsure : goal.returns-in_err-close_unsure
 returns-in_err-close_unsure g c =
@@ -53,4 +62,5 @@ returns g c =
     let none : AllByRecursion (λ b. b.block ≢ c.args.block) c.args.self.now.buffers = search rules in
     let unshut : gate_at c.close_unsure.new.self.gates c.args.block ≢ Shut = subst (λ (x : Gate). x ≢ Shut) c.gate.ensures (grind (arith, c.if-eq.false, c.eq.ensures)) in
     let e = c.read_block.ensures in
-    reads_disk g.D.Disk.view g.met.D.Disk.is_disk c.args.block c.args.self.now _ c.requires.block none c.close_unsure.new.self c.in_ok-close_unsure.ensures unshut c.read_block.new.self c.read_block.result e.read e.cause e.disk e.whole e.same
+    reads_disk g.D.Disk.view g.met.D.Disk.is_disk c.args.block c.args.self.now _ c.requires.block none c.close_unsure.new.self c.in_ok-close_unsure.ensures unshut c.read_block.new.self
+    c.read_block.result e.read e.cause e.disk e.whole e.same

@@ -11,7 +11,8 @@ returns-in-Some g c =
     let bs = c.self.inside.buffers.items in
     let same = ap (λ (v : ShelfView g.row.D.Denot). v.buffers) c.self.view_is in
     let found : FillsAt c.args.stream c.in-Some.at bs = subst (FillsAt c.args.stream c.in-Some.at) (sym same) c.in-Some.ensures in
-    subst (HasRoomAt c.args.stream c.args.units c.in-Some.at) same (room_is_there c.args.stream c.args.units bs c.in-Some.at found c.index.result.now c.index.ensures c.room.result c.room.ensures c.if-units-room.true)
+    subst (HasRoomAt c.args.stream c.args.units c.in-Some.at) same
+    (room_is_there c.args.stream c.args.units bs c.in-Some.at found c.index.result.now c.index.ensures c.room.result c.room.ensures c.if-units-room.true)
 
 pub returns-in_default : goal.returns-in_default
 returns-in_default g c has =
@@ -19,7 +20,8 @@ returns-in_default g c has =
     let bs = i.buffers.items in
     let same = ap (λ (v : ShelfView g.row.D.Denot). v.buffers) c.self.view_is in
     let shelf = c.self.invariant.0 in
-    room_is_less c.args.stream c.args.units bs c.in-Some.at (subst (FillsAt c.args.stream c.in-Some.at) (sym same) c.in-Some.ensures) c.index.result.now c.index.ensures c.room.result c.room.ensures c.if-units-room.false
+    room_is_less c.args.stream c.args.units bs c.in-Some.at (subst (FillsAt c.args.stream c.in-Some.at) (sym same) c.in-Some.ensures) c.index.result.now c.index.ensures c.room.result
+    c.room.ensures c.if-units-room.false
     shelf.order (block_capacity i.geometry.block_size) (all_map (IsBufferOf i.geometry i.next_number) (λ b. b.capacity ≡ block_capacity i.geometry.block_size) bs (λ b h. h.capacity) shelf.buffers)
     (subst (HasRoom c.args.stream c.args.units) (sym same) has)
 

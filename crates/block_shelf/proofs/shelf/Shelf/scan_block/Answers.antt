@@ -41,17 +41,51 @@ scanned-requires-clause-turn g c = ap (λ (v : ShelfView g.row.D.Denot). v.raid.
 
 pub invariant_of-self : goal.invariant_of-self
 invariant_of-self g c =
-    let here : ShelfView g.row.D.Denot = record { disk = c.self.inside.disk; geometry = c.self.inside.geometry; limits = c.self.inside.limits; buffers = c.self.inside.buffers.items; gates = c.self.inside.gates.items; rolls = c.self.inside.ledger; holds = c.self.inside.holds; free = c.self.inside.free.items; queue = c.self.inside.queue; cache = c.self.inside.cache; raid = c.self.inside.raid; next_number = c.self.inside.next_number } in
+    let here : ShelfView g.row.D.Denot = record {
+      disk = c.self.inside.disk;
+      geometry = c.self.inside.geometry;
+      limits = c.self.inside.limits;
+      buffers = c.self.inside.buffers.items;
+      gates =
+          c.self.inside.gates.items;
+      rolls = c.self.inside.ledger;
+      holds = c.self.inside.holds;
+      free = c.self.inside.free.items;
+      queue = c.self.inside.queue;
+      cache = c.self.inside.cache;
+      raid = c.self.inside.raid;
+      next_number = c.self.inside.next_number;
+    } in
     let was = c.self.invariant.0.raid in (
-      raided_shelf g.D.Disk.view here c.scanned.new.self c.self.invariant.0 (record { parts = ap (λ (b : BookState). b.parts) c.in_default-scanned.ensures.err ∙ was.parts; blocks = ap (λ (b : BookState). b.blocks) c.in_default-scanned.ensures.err ∙ was.blocks }),
+      raided_shelf g.D.Disk.view here c.scanned.new.self c.self.invariant.0
+          (record {
+            parts = ap (λ (b : BookState). b.parts) c.in_default-scanned.ensures.err
+                ∙ was.parts;
+            blocks = ap (λ (b : BookState). b.blocks) c.in_default-scanned.ensures.err ∙ was.blocks;
+          }),
       c.self.invariant.1,
     )
 
 pub invariant_of-self-2 : goal.invariant_of-self-2
 invariant_of-self-2 g c =
-    let here : ShelfView g.row.D.Denot = record { disk = c.self.inside.disk; geometry = c.self.inside.geometry; limits = c.self.inside.limits; buffers = c.self.inside.buffers.items; gates = c.self.inside.gates.items; rolls = c.self.inside.ledger; holds = c.self.inside.holds; free = c.self.inside.free.items; queue = c.self.inside.queue; cache = c.self.inside.cache; raid = c.self.inside.raid; next_number = c.self.inside.next_number } in
+    let here : ShelfView g.row.D.Denot = record {
+      disk = c.self.inside.disk;
+      geometry = c.self.inside.geometry;
+      limits = c.self.inside.limits;
+      buffers = c.self.inside.buffers.items;
+      gates =
+          c.self.inside.gates.items;
+      rolls = c.self.inside.ledger;
+      holds = c.self.inside.holds;
+      free = c.self.inside.free.items;
+      queue = c.self.inside.queue;
+      cache = c.self.inside.cache;
+      raid = c.self.inside.raid;
+      next_number = c.self.inside.next_number;
+    } in
     let was = c.self.invariant.0.raid in (
-      raided_shelf g.D.Disk.view here c.scanned.new.self c.self.invariant.0 (record { parts = ap (λ (b : BookState). b.parts) c.in-Ok-scanned.ensures.book ∙ was.parts; blocks = ap (λ (b : BookState). b.blocks) c.in-Ok-scanned.ensures.book ∙ was.blocks }),
+      raided_shelf g.D.Disk.view here c.scanned.new.self c.self.invariant.0
+          (record { parts = ap (λ (b : BookState). b.parts) c.in-Ok-scanned.ensures.book ∙ was.parts; blocks = ap (λ (b : BookState). b.blocks) c.in-Ok-scanned.ensures.book ∙ was.blocks }),
       c.self.invariant.1,
     )
 
@@ -69,15 +103,44 @@ scanned-requires-clause-below g c =
 
 pub returns-in_default-scanned : goal.returns-in_default-scanned
 returns-in_default-scanned g c =
-    let here : ShelfView g.row.D.Denot = record { disk = c.self.inside.disk; geometry = c.self.inside.geometry; limits = c.self.inside.limits; buffers = c.self.inside.buffers.items; gates = c.self.inside.gates.items; rolls = c.self.inside.ledger; holds = c.self.inside.holds; free = c.self.inside.free.items; queue = c.self.inside.queue; cache = c.self.inside.cache; raid = c.self.inside.raid; next_number = c.self.inside.next_number } in
-    subst (λ (v : ShelfView g.row.D.Denot). ScansIn g.D.Disk.view c.args.block c.args.self.now v (Err Memory)) (sym c.self.view_is ∙ ap (λ (b : BookState). record here { raid = b }) (sym c.in_default-scanned.ensures.err))
+    let here : ShelfView g.row.D.Denot = record {
+      disk = c.self.inside.disk;
+      geometry = c.self.inside.geometry;
+      limits = c.self.inside.limits;
+      buffers = c.self.inside.buffers.items;
+      gates =
+          c.self.inside.gates.items;
+      rolls = c.self.inside.ledger;
+      holds = c.self.inside.holds;
+      free = c.self.inside.free.items;
+      queue = c.self.inside.queue;
+      cache = c.self.inside.cache;
+      raid = c.self.inside.raid;
+      next_number = c.self.inside.next_number;
+    } in
+    subst (λ (v : ShelfView g.row.D.Denot). ScansIn g.D.Disk.view c.args.block c.args.self.now v (Err Memory))
+    (sym c.self.view_is ∙ ap (λ (b : BookState). record here { raid = b }) (sym c.in_default-scanned.ensures.err))
     (wanting_memory g.D.Disk.view g.met.D.Disk.is_disk c.args.block c.args.self.now _ c.records_in.new.self c.in_ok-found.found c.in_ok-found.ensures)
 
 pub returns : goal.returns
 returns g c =
     let view = g.D.Disk.view in
     let old = c.args.self.now in
-    let here : ShelfView g.row.D.Denot = record { disk = c.self.inside.disk; geometry = c.self.inside.geometry; limits = c.self.inside.limits; buffers = c.self.inside.buffers.items; gates = c.self.inside.gates.items; rolls = c.self.inside.ledger; holds = c.self.inside.holds; free = c.self.inside.free.items; queue = c.self.inside.queue; cache = c.self.inside.cache; raid = c.self.inside.raid; next_number = c.self.inside.next_number } in
+    let here : ShelfView g.row.D.Denot = record {
+      disk = c.self.inside.disk;
+      geometry = c.self.inside.geometry;
+      limits = c.self.inside.limits;
+      buffers = c.self.inside.buffers.items;
+      gates =
+          c.self.inside.gates.items;
+      rolls = c.self.inside.ledger;
+      holds = c.self.inside.holds;
+      free = c.self.inside.free.items;
+      queue = c.self.inside.queue;
+      cache = c.self.inside.cache;
+      raid = c.self.inside.raid;
+      next_number = c.self.inside.next_number;
+    } in
     taken_in view g.met.D.Disk.is_disk c.args.block old _ here c.in_ok-found.found c.scanned.new.self
     (reads_at view g.met.D.Disk.is_disk c.args.block old _ c.records_in.new.self here (Ok c.in_ok-found.found) (sym c.self.view_is) c.in_ok-found.ensures)
     (c.in-Ok-scanned.ensures.book ∙ ap (with_scan c.scanned.new.self.found) (ap (λ (v : ShelfView g.row.D.Denot). v.raid) (c.self.view_is ∙ c.records_in.ensures.rest)))
@@ -86,7 +149,8 @@ returns g c =
     let found : List Found = c.in_ok-found.found.items in
     let own : c.deref-3.result.now ≡ own_found here.geometry found = c.deref-3.ensures.value ∙ c.in-Ok.ensures ∙ ap (own_found here.geometry) c.deref.ensures.value in
     let copies : List (Digest × Stamp) = found_copies (own_found here.geometry found) in
-    let setup_here : IsSetupOf setup here = subst (IsSetupOf setup) (sym (c.self.view_is ∙ c.records_in.ensures.rest)) (record { shape = is.shape; pending = is.pending; lwm = is.lwm; sprigs = is.sprigs }) in
+    let setup_here : IsSetupOf setup here = subst (IsSetupOf setup) (sym (c.self.view_is ∙ c.records_in.ensures.rest))
+    (record { shape = is.shape; pending = is.pending; lwm = is.lwm; sprigs = is.sprigs }) in
     let shape_here : here.geometry.devices ≡ setup.devices = sym setup_here.shape.devices in
     let sprigs_here : here.limits.sprigs ≡ setup.sprigs = sym setup_here.sprigs in
     let raid_was : RaidStands setup here.raid s.raid = (went.queued books).raid in

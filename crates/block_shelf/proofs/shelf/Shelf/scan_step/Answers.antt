@@ -91,11 +91,13 @@ returns-in-Err-clause-sound g c setup s honest stands safe =
 
 pub returns-in-Err-clause-later : goal.returns-in-Err-clause-later
 returns-in-Err-clause-later g c =
-    subst (λ (disk : g.row.D.Denot). IsLater (g.D.Disk.view c.args.self.now.disk) (g.D.Disk.view disk)) (sym (ap (λ (v : ShelfView g.row.D.Denot). v.disk) c.give_up.ensures)) c.scan_block.ensures.later
+    subst (λ (disk : g.row.D.Denot). IsLater (g.D.Disk.view c.args.self.now.disk) (g.D.Disk.view disk))
+    (sym (ap (λ (v : ShelfView g.row.D.Denot). v.disk) c.give_up.ensures)) c.scan_block.ensures.later
 
 pub returns-in-Err-clause-honest : goal.returns-in-Err-clause-honest
 returns-in-Err-clause-honest g c =
-    subst (λ (disk : g.row.D.Denot). IsHonest (g.D.Disk.view c.args.self.now.disk) → IsHonest (g.D.Disk.view disk)) (sym (ap (λ (v : ShelfView g.row.D.Denot). v.disk) c.give_up.ensures)) c.scan_block.ensures.honest
+    subst (λ (disk : g.row.D.Denot). IsHonest (g.D.Disk.view c.args.self.now.disk) → IsHonest (g.D.Disk.view disk))
+    (sym (ap (λ (v : ShelfView g.row.D.Denot). v.disk) c.give_up.ensures)) c.scan_block.ensures.honest
 
 pub returns-in-Err-clause-damaged : goal.returns-in-Err-clause-damaged
 returns-in-Err-clause-damaged g c told block turn =

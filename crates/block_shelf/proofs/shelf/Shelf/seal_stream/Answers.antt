@@ -18,8 +18,24 @@ pub invariant_of-self : goal.invariant_of-self
 invariant_of-self g c =
     let d = g.D.Disk in
     let same : (with_items c.self.inside.buffers c.seal_each.new.buffers).items ≡ map (sealed_in c.args.stream) c.self.inside.buffers.items =
-    with_items_is c.self.inside.buffers c.seal_each.new.buffers (c.seal_each.auto.buffers ∙ c.deref_mut.ensures.len) ∙ c.seal_each.ensures ∙ ap (map (sealed_in c.args.stream)) c.deref_mut.ensures.value in (
-      subst (λ (bs : List BufferState). IsShelf {D = g.row.D.Denot} d.view (record { disk = c.self.inside.disk; geometry = c.self.inside.geometry; limits = c.self.inside.limits; buffers = bs; gates = c.self.inside.gates.items; rolls = c.self.inside.ledger; holds = c.self.inside.holds; free = c.self.inside.free.items; queue = c.self.inside.queue; cache = c.self.inside.cache; raid = c.self.inside.raid; next_number = c.self.inside.next_number }))
+    with_items_is c.self.inside.buffers c.seal_each.new.buffers (c.seal_each.auto.buffers ∙ c.deref_mut.ensures.len) ∙ c.seal_each.ensures
+    ∙ ap (map (sealed_in c.args.stream)) c.deref_mut.ensures.value in (
+      subst (λ (bs : List BufferState). IsShelf {D = g.row.D.Denot} d.view
+          (record {
+            disk = c.self.inside.disk;
+            geometry = c.self.inside.geometry;
+            limits = c.self.inside.limits;
+            buffers = bs;
+            gates = c.self.inside.gates.items;
+            rolls =
+                c.self.inside.ledger;
+            holds = c.self.inside.holds;
+            free = c.self.inside.free.items;
+            queue = c.self.inside.queue;
+            cache = c.self.inside.cache;
+            raid = c.self.inside.raid;
+            next_number = c.self.inside.next_number;
+          }))
           (sym same) (sealed_shelf (sealed_in c.args.stream) (seals_in c.args.stream) d.view _ c.self.invariant.0),
       c.self.invariant.1,
     )
@@ -27,8 +43,22 @@ invariant_of-self g c =
 pub returns-clause-is : goal.returns-clause-is
 returns-clause-is g c =
     let same : (with_items c.self.inside.buffers c.seal_each.new.buffers).items ≡ map (sealed_in c.args.stream) c.self.inside.buffers.items =
-    with_items_is c.self.inside.buffers c.seal_each.new.buffers (c.seal_each.auto.buffers ∙ c.deref_mut.ensures.len) ∙ c.seal_each.ensures ∙ ap (map (sealed_in c.args.stream)) c.deref_mut.ensures.value in
-    ap (λ (bs : List BufferState). record { disk = c.self.inside.disk; geometry = c.self.inside.geometry; limits = c.self.inside.limits; buffers = bs; gates = c.self.inside.gates.items; rolls = c.self.inside.ledger; holds = c.self.inside.holds; free = c.self.inside.free.items; queue = c.self.inside.queue; cache = c.self.inside.cache; raid = c.self.inside.raid; next_number = c.self.inside.next_number }) same
+    with_items_is c.self.inside.buffers c.seal_each.new.buffers (c.seal_each.auto.buffers ∙ c.deref_mut.ensures.len) ∙ c.seal_each.ensures
+    ∙ ap (map (sealed_in c.args.stream)) c.deref_mut.ensures.value in
+    ap (λ (bs : List BufferState). record {
+      disk = c.self.inside.disk;
+      geometry = c.self.inside.geometry;
+      limits = c.self.inside.limits;
+      buffers = bs;
+      gates = c.self.inside.gates.items;
+      rolls = c.self.inside.ledger;
+      holds = c.self.inside.holds;
+      free = c.self.inside.free.items;
+      queue = c.self.inside.queue;
+      cache = c.self.inside.cache;
+      raid = c.self.inside.raid;
+      next_number = c.self.inside.next_number;
+    }) same
     ∙ ap (with_sealed c.args.stream) c.self.view_is
 
 pub returns-clause-sealed : goal.returns-clause-sealed

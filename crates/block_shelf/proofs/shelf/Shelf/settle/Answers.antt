@@ -13,7 +13,8 @@ use Rattle.block_shelf.proofs.shelf.Shelf.settle.Goals as goal
 pub returns-in-Filling-clause-changed : goal.returns-in-Filling-clause-changed
 returns-in-Filling-clause-changed g c first =
     let unwritten = subst (λ (v : ShelfView g.row.D.Denot). (first : IsFirstAt c.args.at v.buffers) → is_written first.sealed.buffer.phase ≡ false) c.self.view_is
-    (λ first. ap (λ (b : BufferState). is_written b.phase) (sym (first_is c.args.at c.self.inside.buffers.items first c.index.result.now c.index.ensures)) ∙ ap (λ (p : Phase). is_written p) (sym c.phase.ensures)
+    (λ first. ap (λ (b : BufferState). is_written b.phase) (sym (first_is c.args.at c.self.inside.buffers.items first c.index.result.now c.index.ensures))
+    ∙ ap (λ (p : Phase). is_written p) (sym c.phase.ensures)
     ∙ ⊎_elim (λ (is : c.phase.result ≡ Filling). ap (λ (p : Phase). is_written p) is) (λ (is : c.phase.result ≡ Sealed). ap (λ (p : Phase). is_written p) is) c.in-Filling.is) in
     told_tried _ _ _ _ c.write_body_of.result (unwritten first) (c.write_body_of.ensures.changed first)
 

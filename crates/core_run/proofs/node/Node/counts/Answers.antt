@@ -8,7 +8,8 @@ use Rattle.core_run.proofs.node.Node.counts.Goals as goal
 
 pub counts_of-requires : goal.counts_of-requires
 counts_of-requires g c =
-    let few = few_served c.self.inside.set (vec_capacity c.self.inside.shards) (vec_capacity c.self.inside.disks) c.self.inside.shards.items c.self.inside.refused c.self.inside.disks.items c.self.invariant in
+    let few = few_served c.self.inside.set (vec_capacity c.self.inside.shards)
+    (vec_capacity c.self.inside.disks) c.self.inside.shards.items c.self.inside.refused c.self.inside.disks.items c.self.invariant in
     let same = ap length c.deref.ensures.value in
     record { few = omega (arith, few, same) }
 

@@ -7,7 +7,10 @@ use Rattle.core_run.proofs.node.Node.start.Goals as goal
 
 pub returns-in_default : goal.returns-in_default
 returns-in_default g c =
-    record { begun = lacks_memory g.D.Disk.view c.args.set (only_read g.D.Disk.view g.met.D.Disk.is_disk) 0 (vec_len c.args.disks) c.args.disks.items (subst (λ (n : ℕ). 1 ≤ n) c.args.disks.ok.0 c.requires.disks.0) }
+    record {
+      begun = lacks_memory g.D.Disk.view c.args.set (only_read g.D.Disk.view g.met.D.Disk.is_disk) 0 (vec_len c.args.disks) c.args.disks.items
+          (subst (λ (n : ℕ). 1 ≤ n) c.args.disks.ok.0 c.requires.disks.0);
+    }
 
 pub invariant_of-result : goal.invariant_of-result
 invariant_of-result g c =

@@ -9,8 +9,10 @@ use Rattle.core_run.proofs.node.Node.stop.Goals.{then-is_none, else-is_none}
 pub stop_all-requires : goal.stop_all-requires
 stop_all-requires g c =
     let none = none_by c.self.inside.refused c.is_none.result c.is_none.ensures c.if-is_none.true in
-    let fits = (devices_of c.self.inside.set (vec_capacity c.self.inside.shards) (vec_capacity c.self.inside.disks) c.self.inside.shards.items c.self.inside.refused c.self.inside.disks.items none c.self.invariant).2 in
-    let empty = ap length (no_disks c.self.inside.set (vec_capacity c.self.inside.shards) (vec_capacity c.self.inside.disks) c.self.inside.shards.items c.self.inside.refused c.self.inside.disks.items none c.self.invariant) in
+    let fits = (devices_of c.self.inside.set (vec_capacity c.self.inside.shards)
+    (vec_capacity c.self.inside.disks) c.self.inside.shards.items c.self.inside.refused c.self.inside.disks.items none c.self.invariant).2 in
+    let empty = ap length (no_disks c.self.inside.set (vec_capacity c.self.inside.shards)
+    (vec_capacity c.self.inside.disks) c.self.inside.shards.items c.self.inside.refused c.self.inside.disks.items none c.self.invariant) in
     let shards = c.self.inside.shards.ok.0 in
     let disks = c.self.inside.disks.ok.0 in
     record { room = omega (arith, fits, empty, shards, disks) }
@@ -28,5 +30,6 @@ returns g c =
           ∙ ap disks_of (sym (node_serves c.self.inside.set a b c.self.inside.shards.items c.self.inside.refused c.self.inside.disks.items none c.self.invariant) ∙ c.self.view_is)
       | else-is_none w ↦
           let some = some_by c.self.inside.refused c.is_none.result c.is_none.ensures w.if-is_none.false in
-          ap (λ v. v.items) w.disks-is ∙ ap disks_of (sym (node_halts c.self.inside.set a b c.self.inside.shards.items c.self.inside.refused c.self.inside.disks.items some.0 some.1 c.self.invariant) ∙ c.self.view_is)
+          ap (λ v. v.items) w.disks-is ∙ ap disks_of
+          (sym (node_halts c.self.inside.set a b c.self.inside.shards.items c.self.inside.refused c.self.inside.disks.items some.0 some.1 c.self.invariant) ∙ c.self.view_is)
     ]

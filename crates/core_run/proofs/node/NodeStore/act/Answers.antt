@@ -20,7 +20,8 @@ pub returns-then-is_some : goal.returns-then-is_some
 returns-then-is_some g c =
     let some = is_there c.self.inside.refused c.is_some.result c.is_some.ensures c.if-is_some.true in
     subst (λ (n : NodeView g.row.D.Denot). Acts g.D.Disk.view n c.args.command.now c.args.now reply.Halted n)
-    (sym (node_halts c.self.inside.set (vec_capacity c.self.inside.shards) (vec_capacity c.self.inside.disks) c.self.inside.shards.items c.self.inside.refused c.self.inside.disks.items some.0 some.1 c.self.invariant) ∙ c.self.view_is)
+    (sym (node_halts c.self.inside.set (vec_capacity c.self.inside.shards)
+    (vec_capacity c.self.inside.disks) c.self.inside.shards.items c.self.inside.refused c.self.inside.disks.items some.0 some.1 c.self.invariant) ∙ c.self.view_is)
     (acts_halted g.D.Disk.view g.met.D.Disk.is_disk some.0 c.self.inside.disks.items c.args.command.now c.args.now)
 
 -- ---- what the calls ask
@@ -30,17 +31,22 @@ few_of shards listed same few = subst (λ s. length s ≤ 16) (sym same) few
 
 pub overflow_cast-len : goal.overflow_cast-len
 overflow_cast-len g c =
-    let few = few_served c.self.inside.set (vec_capacity c.self.inside.shards) (vec_capacity c.self.inside.disks) c.self.inside.shards.items c.self.inside.refused c.self.inside.disks.items c.self.invariant in
+    let few = few_served c.self.inside.set (vec_capacity c.self.inside.shards)
+    (vec_capacity c.self.inside.disks) c.self.inside.shards.items c.self.inside.refused c.self.inside.disks.items c.self.invariant in
     let many = c.len.ensures ∙ c.self.inside.shards.ok.0 in
     omega (arith, few, many)
 
 pub device_of-device-requires-clause-some : goal.device_of-device-requires-clause-some
 device_of-device-requires-clause-some g c =
     let none = not_some c.self.inside.refused c.is_some.result c.is_some.ensures c.if-is_some.false in
-    subst (λ n. 1 ≤ n) (sym (c.len.ensures ∙ c.self.inside.shards.ok.0)) (devices_of c.self.inside.set (vec_capacity c.self.inside.shards) (vec_capacity c.self.inside.disks) c.self.inside.shards.items c.self.inside.refused c.self.inside.disks.items none c.self.invariant).0
+    subst (λ n. 1 ≤ n) (sym (c.len.ensures ∙ c.self.inside.shards.ok.0))
+    (devices_of c.self.inside.set (vec_capacity c.self.inside.shards)
+    (vec_capacity c.self.inside.disks) c.self.inside.shards.items c.self.inside.refused c.self.inside.disks.items none c.self.invariant).0
 
 pub device_of-device-requires-clause-most : goal.device_of-device-requires-clause-most
-device_of-device-requires-clause-most g c = subst (λ n. n ≤ 16) (sym (c.len.ensures ∙ c.self.inside.shards.ok.0)) (few_served c.self.inside.set (vec_capacity c.self.inside.shards) (vec_capacity c.self.inside.disks) c.self.inside.shards.items c.self.inside.refused c.self.inside.disks.items c.self.invariant)
+device_of-device-requires-clause-most g c = subst (λ n. n ≤ 16) (sym (c.len.ensures ∙ c.self.inside.shards.ok.0))
+    (few_served c.self.inside.set (vec_capacity c.self.inside.shards)
+    (vec_capacity c.self.inside.disks) c.self.inside.shards.items c.self.inside.refused c.self.inside.disks.items c.self.invariant)
 
 below : (from device len n : ℕ) → from ≡ device → device < len → len ≡ n → from < n
 below from device len n is less len_is = omega arith
@@ -58,22 +64,40 @@ pub act_on-requires-clause-on : goal.act_on-requires-clause-on
 act_on-requires-clause-on g c = sym c.digest_of.ensures ∙ ap (option_map (λ d. d.now)) c.in-Some.is
 
 pub flush_each-requires : goal.flush_each-requires
-flush_each-requires g c = record { few = few_of c.self.inside.shards.items c.deref_mut.result.now c.deref_mut.ensures.value (few_served c.self.inside.set (vec_capacity c.self.inside.shards) (vec_capacity c.self.inside.disks) c.self.inside.shards.items c.self.inside.refused c.self.inside.disks.items c.self.invariant) }
+flush_each-requires g c = record {
+  few = few_of c.self.inside.shards.items c.deref_mut.result.now c.deref_mut.ensures.value
+      (few_served c.self.inside.set (vec_capacity c.self.inside.shards)
+      (vec_capacity c.self.inside.disks) c.self.inside.shards.items c.self.inside.refused c.self.inside.disks.items c.self.invariant);
+}
 
 pub defrag_each-requires : goal.defrag_each-requires
-defrag_each-requires g c = record { few = few_of c.self.inside.shards.items c.deref_mut-in-Defrag.result.now c.deref_mut-in-Defrag.ensures.value (few_served c.self.inside.set (vec_capacity c.self.inside.shards) (vec_capacity c.self.inside.disks) c.self.inside.shards.items c.self.inside.refused c.self.inside.disks.items c.self.invariant) }
+defrag_each-requires g c = record {
+  few = few_of c.self.inside.shards.items c.deref_mut-in-Defrag.result.now c.deref_mut-in-Defrag.ensures.value
+      (few_served c.self.inside.set (vec_capacity c.self.inside.shards)
+      (vec_capacity c.self.inside.disks) c.self.inside.shards.items c.self.inside.refused c.self.inside.disks.items c.self.invariant);
+}
 
 pub expire_each-requires-clause-few : goal.expire_each-requires-clause-few
-expire_each-requires-clause-few g c = few_of c.self.inside.shards.items c.deref_mut-in-Expire.result.now c.deref_mut-in-Expire.ensures.value (few_served c.self.inside.set (vec_capacity c.self.inside.shards) (vec_capacity c.self.inside.disks) c.self.inside.shards.items c.self.inside.refused c.self.inside.disks.items c.self.invariant)
+expire_each-requires-clause-few g c = few_of c.self.inside.shards.items c.deref_mut-in-Expire.result.now c.deref_mut-in-Expire.ensures.value
+    (few_served c.self.inside.set (vec_capacity c.self.inside.shards)
+    (vec_capacity c.self.inside.disks) c.self.inside.shards.items c.self.inside.refused c.self.inside.disks.items c.self.invariant)
 
 pub expire_each-requires-clause-time : goal.expire_each-requires-clause-time
 expire_each-requires-clause-time g c = c.requires.now
 
 pub raid_each-requires : goal.raid_each-requires
-raid_each-requires g c = record { few = few_of c.self.inside.shards.items c.deref_mut-in-Raid.result.now c.deref_mut-in-Raid.ensures.value (few_served c.self.inside.set (vec_capacity c.self.inside.shards) (vec_capacity c.self.inside.disks) c.self.inside.shards.items c.self.inside.refused c.self.inside.disks.items c.self.invariant) }
+raid_each-requires g c = record {
+  few = few_of c.self.inside.shards.items c.deref_mut-in-Raid.result.now c.deref_mut-in-Raid.ensures.value
+      (few_served c.self.inside.set (vec_capacity c.self.inside.shards)
+      (vec_capacity c.self.inside.disks) c.self.inside.shards.items c.self.inside.refused c.self.inside.disks.items c.self.invariant);
+}
 
 pub counts_of-requires : goal.counts_of-requires
-counts_of-requires g c = record { few = few_of c.self.inside.shards.items c.deref.result.now c.deref.ensures.value (few_served c.self.inside.set (vec_capacity c.self.inside.shards) (vec_capacity c.self.inside.disks) c.self.inside.shards.items c.self.inside.refused c.self.inside.disks.items c.self.invariant) }
+counts_of-requires g c = record {
+  few = few_of c.self.inside.shards.items c.deref.result.now c.deref.ensures.value
+      (few_served c.self.inside.set (vec_capacity c.self.inside.shards)
+      (vec_capacity c.self.inside.disks) c.self.inside.shards.items c.self.inside.refused c.self.inside.disks.items c.self.invariant);
+}
 
 pub restart-requires : goal.restart-requires
 restart-requires g c =
@@ -88,9 +112,11 @@ device_there shards n len device from x len_is n_is below is value =
 pub act_on-requires-clause-place : goal.act_on-requires-clause-place
 act_on-requires-clause-place g c =
     let none = not_some c.self.inside.refused c.is_some.result c.is_some.ensures c.if-is_some.false in
-    let devices = devices_of c.self.inside.set (vec_capacity c.self.inside.shards) (vec_capacity c.self.inside.disks) c.self.inside.shards.items c.self.inside.refused c.self.inside.disks.items none c.self.invariant in
+    let devices = devices_of c.self.inside.set (vec_capacity c.self.inside.shards)
+    (vec_capacity c.self.inside.disks) c.self.inside.shards.items c.self.inside.refused c.self.inside.disks.items none c.self.invariant in
     let many : c.len.result ≡ length c.self.inside.shards.items = c.len.ensures ∙ c.self.inside.shards.ok.0 in
-    let at = device_there c.self.inside.shards.items (vec_len c.self.inside.shards) c.len.result c.device_of-device.result c.from.result c.index_mut.result.now c.len.ensures c.self.inside.shards.ok.0 c.device_of-device.ensures.below
+    let at = device_there c.self.inside.shards.items (vec_len c.self.inside.shards) c.len.result c.device_of-device.result c.from.result c.index_mut.result.now c.len.ensures
+    c.self.inside.shards.ok.0 c.device_of-device.ensures.below
     c.from.ensures c.index_mut.ensures.value in
     let mine = device_at c.self.inside.set 0 (length c.self.inside.shards.items) c.self.inside.shards.items c.from.result c.index_mut.result.now devices.3 at in
     let named = mine.0 in
@@ -101,12 +127,14 @@ act_on-requires-clause-place g c =
 
 there : (g : Over) (c : goal.After-self-1 g) → slice_get c.self.inside.shards.items c.from.result ≡ Some c.index_mut.result.now
 there g c =
-    device_there c.self.inside.shards.items (vec_len c.self.inside.shards) c.len.result c.device_of-device.result c.from.result c.index_mut.result.now c.len.ensures c.self.inside.shards.ok.0 c.device_of-device.ensures.below
+    device_there c.self.inside.shards.items (vec_len c.self.inside.shards) c.len.result c.device_of-device.result c.from.result c.index_mut.result.now c.len.ensures c.self.inside.shards.ok.0
+    c.device_of-device.ensures.below
     c.from.ensures c.index_mut.ensures.value
 
 pub invariant_of-self : goal.invariant_of-self
 invariant_of-self g c =
-    node_kept c.self.inside.set (vec_capacity c.self.inside.shards) (vec_capacity c.self.inside.disks) c.self.inside.shards.items (set c.self.inside.shards.items c.from.result c.act_on.new.shard) c.self.inside.refused c.self.inside.disks.items
+    node_kept c.self.inside.set (vec_capacity c.self.inside.shards) (vec_capacity c.self.inside.disks) c.self.inside.shards.items
+    (set c.self.inside.shards.items c.from.result c.act_on.new.shard) c.self.inside.refused c.self.inside.disks.items
     (same_at c.self.inside.shards.items c.from.result c.index_mut.result.now c.act_on.new.shard (there g c) c.act_on.ensures.goes.shape) c.self.invariant
 
 pub returns-in-Some : goal.returns-in-Some
@@ -114,7 +142,8 @@ returns-in-Some g c =
     let none = not_some c.self.inside.refused c.is_some.result c.is_some.ensures c.if-is_some.false in
     let many : c.len.result ≡ length c.self.inside.shards.items = c.len.ensures ∙ c.self.inside.shards.ok.0 in
     let place = c.from.ensures ∙ c.device_of-device.ensures.value ∙ ap (λ (n : ℕ). device_number n c.in-Some.digest.now) many in
-    acts_so g.D.Disk.view c.self.inside.set (vec_capacity c.self.inside.shards) (vec_capacity c.self.inside.disks) c.self.inside.shards.items (set c.self.inside.shards.items c.from.result c.act_on.new.shard) c.self.inside.refused c.self.inside.disks.items c.args.self.now c.args.command.now c.args.now c.act_on.result
+    acts_so g.D.Disk.view c.self.inside.set (vec_capacity c.self.inside.shards) (vec_capacity c.self.inside.disks) c.self.inside.shards.items
+    (set c.self.inside.shards.items c.from.result c.act_on.new.shard) c.self.inside.refused c.self.inside.disks.items c.args.self.now c.args.command.now c.args.now c.act_on.result
     c.self.invariant none (same_at c.self.inside.shards.items c.from.result c.index_mut.result.now c.act_on.new.shard (there g c) c.act_on.ensures.goes.shape) c.self.view_is
     (digest_acts g.D.Disk.view g.met.D.Disk.is_disk c.self.inside.shards.items c.from.result c.in-Some.digest.now c.index_mut.result.now c.act_on.new.shard place (there g c) c.act_on.ensures.goes
     c.args.command.now c.args.now c.act_on.result (sym c.digest_of.ensures ∙ ap (option_map (λ d. d.now)) c.in-Some.is) c.act_on.ensures.replies)
@@ -125,7 +154,8 @@ flushed : (g : Over) (c : goal.After-flush_reply g) → FlushesEach g.D.Disk.vie
 flushed g c = subst (λ (s : List (ShardView g.row.D.Denot)). FlushesEach g.D.Disk.view c.flush_each.result s c.flush_each.new.shards) c.deref_mut.ensures.value c.flush_each.ensures
 
 same_flushed : (g : Over) (c : goal.After-flush_reply g) → SameEach c.self.inside.shards.items c.flush_each.new.shards
-same_flushed g c = same_worked (FlushesOn {E = DiskFault} g.D.Disk.view) plus_one (λ result old new does. does.goes.shape) c.flush_each.result 0 c.self.inside.shards.items c.flush_each.new.shards (flushed g c)
+same_flushed g c = same_worked (FlushesOn {E = DiskFault} g.D.Disk.view) plus_one
+    (λ result old new does. does.goes.shape) c.flush_each.result 0 c.self.inside.shards.items c.flush_each.new.shards (flushed g c)
 
 pub invariant_of-self-in-Flush : goal.invariant_of-self-in-Flush
 invariant_of-self-in-Flush g c =
@@ -134,7 +164,8 @@ invariant_of-self-in-Flush g c =
 pub returns-in-Flush : goal.returns-in-Flush
 returns-in-Flush g c =
     let none = not_some c.self.inside.refused c.is_some.result c.is_some.ensures c.if-is_some.false in
-    all_act c.self.inside.set (vec_capacity c.self.inside.disks) c.self.inside.shards c.flush_each.new.shards c.self.inside.refused c.self.inside.disks.items (same_flushed g c) c.self.invariant none g.D.Disk.view
+    all_act c.self.inside.set (vec_capacity c.self.inside.disks) c.self.inside.shards c.flush_each.new.shards c.self.inside.refused c.self.inside.disks.items
+    (same_flushed g c) c.self.invariant none g.D.Disk.view
     c.args.self.now c.args.command.now command.Flush c.args.now c.flush_reply.result c.self.view_is c.in-Flush.is
     (flush_acts g.D.Disk.view g.met.D.Disk.is_disk c.flush_each.result c.self.inside.shards.items c.flush_each.new.shards c.args.now c.flush_reply.result (flushed g c) c.flush_reply.ensures)
 
@@ -144,7 +175,8 @@ defragged : (g : Over) (c : goal.After-defrag_reply g) → DefragsEach g.D.Disk.
 defragged g c = subst (λ (s : List (ShardView g.row.D.Denot)). DefragsEach g.D.Disk.view c.defrag_each.result s c.defrag_each.new.shards) c.deref_mut-in-Defrag.ensures.value c.defrag_each.ensures
 
 same_defragged : (g : Over) (c : goal.After-defrag_reply g) → SameEach c.self.inside.shards.items c.defrag_each.new.shards
-same_defragged g c = same_worked (DefragsOn g.D.Disk.view) plus_both (λ result old new does. does.goes.shape) c.defrag_each.result (0, 0) c.self.inside.shards.items c.defrag_each.new.shards (defragged g c)
+same_defragged g c = same_worked (DefragsOn g.D.Disk.view) plus_both (λ result old new does. does.goes.shape) c.defrag_each.result
+    (0, 0) c.self.inside.shards.items c.defrag_each.new.shards (defragged g c)
 
 pub invariant_of-self-in-Defrag : goal.invariant_of-self-in-Defrag
 invariant_of-self-in-Defrag g c =
@@ -153,17 +185,20 @@ invariant_of-self-in-Defrag g c =
 pub returns-in-Defrag : goal.returns-in-Defrag
 returns-in-Defrag g c =
     let none = not_some c.self.inside.refused c.is_some.result c.is_some.ensures c.if-is_some.false in
-    all_act c.self.inside.set (vec_capacity c.self.inside.disks) c.self.inside.shards c.defrag_each.new.shards c.self.inside.refused c.self.inside.disks.items (same_defragged g c) c.self.invariant none g.D.Disk.view
+    all_act c.self.inside.set (vec_capacity c.self.inside.disks) c.self.inside.shards c.defrag_each.new.shards c.self.inside.refused c.self.inside.disks.items
+    (same_defragged g c) c.self.invariant none g.D.Disk.view
     c.args.self.now c.args.command.now command.Defrag c.args.now c.defrag_reply.result c.self.view_is c.in-Defrag.is
     (defrag_acts g.D.Disk.view g.met.D.Disk.is_disk c.defrag_each.result c.self.inside.shards.items c.defrag_each.new.shards c.args.now c.defrag_reply.result (defragged g c) c.defrag_reply.ensures)
 
 -- ---- an expiry
 
 expired : (g : Over) (c : goal.After-expire_reply g) → ExpiresAll g.D.Disk.view c.args.now c.expire_each.result c.self.inside.shards.items c.expire_each.new.shards
-expired g c = subst (λ (s : List (ShardView g.row.D.Denot)). ExpiresAll g.D.Disk.view c.args.now c.expire_each.result s c.expire_each.new.shards) c.deref_mut-in-Expire.ensures.value c.expire_each.ensures
+expired g c = subst (λ (s : List (ShardView g.row.D.Denot)). ExpiresAll g.D.Disk.view c.args.now c.expire_each.result s c.expire_each.new.shards)
+    c.deref_mut-in-Expire.ensures.value c.expire_each.ensures
 
 same_expired : (g : Over) (c : goal.After-expire_reply g) → SameEach c.self.inside.shards.items c.expire_each.new.shards
-same_expired g c = same_worked (ExpiresOn g.D.Disk.view c.args.now) plus_one (λ result old new does. does.goes.shape) c.expire_each.result 0 c.self.inside.shards.items c.expire_each.new.shards (expired g c)
+same_expired g c = same_worked (ExpiresOn g.D.Disk.view c.args.now) plus_one
+    (λ result old new does. does.goes.shape) c.expire_each.result 0 c.self.inside.shards.items c.expire_each.new.shards (expired g c)
 
 pub invariant_of-self-in-Expire : goal.invariant_of-self-in-Expire
 invariant_of-self-in-Expire g c =
@@ -172,7 +207,8 @@ invariant_of-self-in-Expire g c =
 pub returns-in-Expire : goal.returns-in-Expire
 returns-in-Expire g c =
     let none = not_some c.self.inside.refused c.is_some.result c.is_some.ensures c.if-is_some.false in
-    all_act c.self.inside.set (vec_capacity c.self.inside.disks) c.self.inside.shards c.expire_each.new.shards c.self.inside.refused c.self.inside.disks.items (same_expired g c) c.self.invariant none g.D.Disk.view
+    all_act c.self.inside.set (vec_capacity c.self.inside.disks) c.self.inside.shards c.expire_each.new.shards c.self.inside.refused c.self.inside.disks.items
+    (same_expired g c) c.self.invariant none g.D.Disk.view
     c.args.self.now c.args.command.now command.Expire c.args.now c.expire_reply.result c.self.view_is c.in-Expire.is
     (expire_acts g.D.Disk.view g.met.D.Disk.is_disk c.expire_each.result c.self.inside.shards.items c.expire_each.new.shards c.args.now c.expire_reply.result (expired g c) c.expire_reply.ensures)
 
@@ -182,7 +218,8 @@ raided : (g : Over) (c : goal.After-raid_reply g) → RaidsEach g.D.Disk.view c.
 raided g c = subst (λ (s : List (ShardView g.row.D.Denot)). RaidsEach g.D.Disk.view c.args.now c.raid_each.result s c.raid_each.new.shards) c.deref_mut-in-Raid.ensures.value c.raid_each.ensures
 
 same_raided : (g : Over) (c : goal.After-raid_reply g) → SameEach c.self.inside.shards.items c.raid_each.new.shards
-same_raided g c = same_worked (RaidsOn g.D.Disk.view c.args.now) plus_both (λ result old new does. does.goes.shape) c.raid_each.result (0, 0) c.self.inside.shards.items c.raid_each.new.shards (raided g c)
+same_raided g c = same_worked (RaidsOn g.D.Disk.view c.args.now) plus_both (λ result old new does. does.goes.shape) c.raid_each.result
+    (0, 0) c.self.inside.shards.items c.raid_each.new.shards (raided g c)
 
 pub invariant_of-self-in-Raid : goal.invariant_of-self-in-Raid
 invariant_of-self-in-Raid g c =
@@ -191,7 +228,8 @@ invariant_of-self-in-Raid g c =
 pub returns-in-Raid : goal.returns-in-Raid
 returns-in-Raid g c =
     let none = not_some c.self.inside.refused c.is_some.result c.is_some.ensures c.if-is_some.false in
-    all_act c.self.inside.set (vec_capacity c.self.inside.disks) c.self.inside.shards c.raid_each.new.shards c.self.inside.refused c.self.inside.disks.items (same_raided g c) c.self.invariant none g.D.Disk.view
+    all_act c.self.inside.set (vec_capacity c.self.inside.disks) c.self.inside.shards c.raid_each.new.shards c.self.inside.refused c.self.inside.disks.items
+    (same_raided g c) c.self.invariant none g.D.Disk.view
     c.args.self.now c.args.command.now command.Raid c.args.now c.raid_reply.result c.self.view_is c.in-Raid.is
     (raid_acts g.D.Disk.view g.met.D.Disk.is_disk c.raid_each.result c.self.inside.shards.items c.raid_each.new.shards c.args.now c.raid_reply.result (raided g c) c.raid_reply.ensures)
 
@@ -200,7 +238,9 @@ returns-in-Stat g c =
     let none = not_some c.self.inside.refused c.is_some.result c.is_some.ensures c.if-is_some.false in
     subst (λ (x : Command). Acts g.D.Disk.view c.args.self.now x c.args.now (reply.StatOf c.counts_of.result) c.args.self.now) (sym c.in-Stat.is)
     (subst (λ (n : NodeView g.row.D.Denot). Acts g.D.Disk.view c.args.self.now command.Stat c.args.now (reply.StatOf c.counts_of.result) n) c.self.view_is
-    (acts_so g.D.Disk.view c.self.inside.set (vec_capacity c.self.inside.shards) (vec_capacity c.self.inside.disks) c.self.inside.shards.items c.self.inside.shards.items c.self.inside.refused c.self.inside.disks.items c.args.self.now command.Stat c.args.now (reply.StatOf c.counts_of.result) c.self.invariant none
+    (acts_so g.D.Disk.view c.self.inside.set (vec_capacity c.self.inside.shards)
+    (vec_capacity c.self.inside.disks) c.self.inside.shards.items c.self.inside.shards.items c.self.inside.refused c.self.inside.disks.items c.args.self.now command.Stat c.args.now
+    (reply.StatOf c.counts_of.result) c.self.invariant none
     (same_all c.self.inside.shards.items) c.self.view_is
     (stat_acts g.D.Disk.view g.met.D.Disk.is_disk c.self.inside.shards.items c.args.now c.counts_of.result
     (λ node stands. c.counts_of.ensures node (subst (λ (s : List (ShardView g.row.D.Denot)). Each (StandsOn g.D.Disk.view) s node) (sym c.deref.ensures.value) stands)))))

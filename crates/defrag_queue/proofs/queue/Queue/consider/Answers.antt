@@ -25,7 +25,12 @@ pub push-requires-clause-last : goal.push-requires-clause-last
 push-requires-clause-last c =
     let s = c.self.inside in
     let within = subst (λ (t : QueueState). c.args.block < t.blocks) (sym c.self.view_is) c.requires in
-    omega (arith, c.self.invariant.2.nexts, last_within s.links.next.items s.links.prev.items s.blocks c.args.block (walk s.links.next.items s.count s.blocks) s.queued.items c.self.invariant.0 c.self.invariant.1 c.self.invariant.2 within)
+    omega (
+      arith,
+      c.self.invariant.2.nexts,
+      last_within s.links.next.items s.links.prev.items s.blocks c.args.block
+          (walk s.links.next.items s.count s.blocks) s.queued.items c.self.invariant.0 c.self.invariant.1 c.self.invariant.2 within,
+    )
 
 pub overflow_add-self : goal.overflow_add-self
 overflow_add-self c =
@@ -38,7 +43,8 @@ overflow_add-self c =
     omega (arith, few, walk_length s.links.next.items s.count s.blocks, c.self.invariant.1, c.self.ranges)
 
 -- the ring then, and what it holds
-entered : (c : goal.After-self-then-qualifies-1) → Ring c.push.new.self.next.items c.push.new.self.prev.items c.self.inside.blocks (walk c.self.inside.links.next.items c.self.inside.count c.self.inside.blocks ++ c.args.block ∷ [])
+entered : (c : goal.After-self-then-qualifies-1) → Ring c.push.new.self.next.items c.push.new.self.prev.items c.self.inside.blocks
+    (walk c.self.inside.links.next.items c.self.inside.count c.self.inside.blocks ++ c.args.block ∷ [])
 entered c =
     let s = c.self.inside in
     let q = walk s.links.next.items s.count s.blocks in
@@ -48,7 +54,8 @@ entered c =
     rw (c.push.ensures.next, c.push.ensures.prev)
     (ring_pushed s.links.next.items s.links.prev.items s.blocks c.args.block q s.queued.items c.self.invariant.0 c.self.invariant.1 c.self.invariant.2 within absent)
 
-more : (c : goal.After-self-then-qualifies-1) → walk c.push.new.self.next.items (c.self.inside.count + 1) c.self.inside.blocks ≡ walk c.self.inside.links.next.items c.self.inside.count c.self.inside.blocks ++ c.args.block ∷ []
+more : (c : goal.After-self-then-qualifies-1) → walk c.push.new.self.next.items (c.self.inside.count + 1) c.self.inside.blocks
+    ≡ walk c.self.inside.links.next.items c.self.inside.count c.self.inside.blocks ++ c.args.block ∷ []
 more c = walk_pushed c.push.new.self.next.items c.push.new.self.prev.items c.self.inside.links.next.items c.self.inside.blocks c.self.inside.count c.args.block (entered c)
 
 pub invariant_of-self : goal.invariant_of-self
@@ -86,7 +93,12 @@ remove-requires-clause-before c =
     let within = subst (λ (t : QueueState). c.args.block < t.blocks) (sym c.self.view_is) c.requires in
     let there = is_there c.args.block s.blocks q s.queued.items c.index.result.now c.is_low-qualifies.result
     c.self.invariant.0 c.self.invariant.1 within c.index.ensures c.if-qualifies-index.false c.if-qualifies.false in
-    omega (arith, c.self.invariant.2.nexts, before_within s.links.next.items s.links.prev.items s.blocks c.args.block q s.queued.items c.self.invariant.0 c.self.invariant.1 c.self.invariant.2 within there)
+    omega (
+      arith,
+      c.self.invariant.2.nexts,
+      before_within s.links.next.items s.links.prev.items s.blocks c.args.block q s.queued.items c.self.invariant.0 c.self.invariant.1
+          c.self.invariant.2 within there,
+    )
 
 pub remove-requires-clause-after : goal.remove-requires-clause-after
 remove-requires-clause-after c =
@@ -95,7 +107,12 @@ remove-requires-clause-after c =
     let within = subst (λ (t : QueueState). c.args.block < t.blocks) (sym c.self.view_is) c.requires in
     let there = is_there c.args.block s.blocks q s.queued.items c.index.result.now c.is_low-qualifies.result
     c.self.invariant.0 c.self.invariant.1 within c.index.ensures c.if-qualifies-index.false c.if-qualifies.false in
-    omega (arith, c.self.invariant.2.prevs, after_within s.links.next.items s.links.prev.items s.blocks c.args.block q s.queued.items c.self.invariant.0 c.self.invariant.1 c.self.invariant.2 within there)
+    omega (
+      arith,
+      c.self.invariant.2.prevs,
+      after_within s.links.next.items s.links.prev.items s.blocks c.args.block q s.queued.items c.self.invariant.0 c.self.invariant.1
+          c.self.invariant.2 within there,
+    )
 
 pub overflow_sub-self : goal.overflow_sub-self
 overflow_sub-self c =
@@ -113,7 +130,8 @@ here c =
     is_there c.args.block s.blocks (walk s.links.next.items s.count s.blocks) s.queued.items c.index.result.now c.is_low-qualifies.result
     c.self.invariant.0 c.self.invariant.1 within c.index.ensures c.if-qualifies-index.false c.if-qualifies.false
 
-left : (c : goal.After-self-else-qualifies-1) → Ring c.remove.new.self.next.items c.remove.new.self.prev.items c.self.inside.blocks (without c.args.block (walk c.self.inside.links.next.items c.self.inside.count c.self.inside.blocks))
+left : (c : goal.After-self-else-qualifies-1) → Ring c.remove.new.self.next.items c.remove.new.self.prev.items c.self.inside.blocks
+    (without c.args.block (walk c.self.inside.links.next.items c.self.inside.count c.self.inside.blocks))
 left c =
     let s = c.self.inside in
     let q = walk s.links.next.items s.count s.blocks in
@@ -121,7 +139,8 @@ left c =
     rw (c.remove.ensures.next, c.remove.ensures.prev)
     (ring_removed s.links.next.items s.links.prev.items s.blocks c.args.block q s.queued.items c.self.invariant.0 c.self.invariant.1 c.self.invariant.2 within (here c))
 
-less : (c : goal.After-self-else-qualifies-1) → walk c.remove.new.self.next.items (c.self.inside.count - 1) c.self.inside.blocks ≡ without c.args.block (walk c.self.inside.links.next.items c.self.inside.count c.self.inside.blocks)
+less : (c : goal.After-self-else-qualifies-1) → walk c.remove.new.self.next.items (c.self.inside.count - 1) c.self.inside.blocks
+    ≡ without c.args.block (walk c.self.inside.links.next.items c.self.inside.count c.self.inside.blocks)
 less c =
     walk_removed c.remove.new.self.next.items c.remove.new.self.prev.items c.self.inside.links.next.items c.self.inside.blocks c.self.inside.count c.args.block
     c.self.inside.queued.items c.self.invariant.0 (here c) (left c)

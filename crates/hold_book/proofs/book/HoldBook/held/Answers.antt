@@ -10,6 +10,7 @@ returns c =
     let block = c.args.block in
     let exact = c.self.invariant.0.exact block in
     let seen = ap (λ (s : HoldState). s.holds) c.self.view_is in (
-      λ yes. subst (λ h. IsHeld h block) seen (held_by_count block keys (subst (λ n. 0 < n) exact (some_counts (get nat_eq c.self.inside.counts block) (c.self.invariant.0.some block) (sym c.contains_key.ensures ∙ yes)))),
+      λ yes. subst (λ h. IsHeld h block) seen (held_by_count block keys
+          (subst (λ n. 0 < n) exact (some_counts (get nat_eq c.self.inside.counts block) (c.self.invariant.0.some block) (sym c.contains_key.ensures ∙ yes)))),
       λ held. c.contains_key.ensures ∙ counts_some (get nat_eq c.self.inside.counts block) (subst (λ n. 0 < n) (sym exact) (count_by_held block keys (subst (λ h. IsHeld h block) (sym seen) held))),
     )

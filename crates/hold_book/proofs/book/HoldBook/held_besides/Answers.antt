@@ -22,6 +22,7 @@ returns-else-holds c =
     let buffer = c.args.buffer in
     let block = c.args.block in
     let count : c.unwrap_or-count.result ≡ count_of c.self.inside.counts block = c.unwrap_or-count.ensures ∙ ap (λ o. unwrap_or o 0) (c.copied.ensures ∙ c.get.ensures.value) in
-    let own : has ps (buffer, block) ≡ false = sym (contains-pairs ps (buffer, block)) ∙ ap (λ (s : HoldState). has_hold s.holds buffer block) c.self.view_is ∙ sym c.holds.ensures ∙ c.if-holds.false in
+    let own : has ps (buffer, block) ≡ false = sym (contains-pairs ps (buffer, block)) ∙ ap (λ (s : HoldState). has_hold s.holds buffer block) c.self.view_is
+    ∙ sym c.holds.ensures ∙ c.if-holds.false in
     subst (λ (s : HoldState). IsTrue (ltb 0 c.unwrap_or-count.result) ↔ IsHeld (without_buffer s.holds buffer) block) c.self.view_is
     (told_besides ps c.self.invariant.1 buffer block c.unwrap_or-count.result false (count ∙ c.self.invariant.0.exact block) own)

@@ -10,5 +10,6 @@ returns-clause-ok c =
     let reserved = ap (λ (l : List LineEnd). l ++ c.end-end.result ∷ []) c.in_ok-reserve.ensures.items in
     let moved = c.move_all.ensures ∙ ap (λ (l : List LineEnd). l ++ next.ready.items) (c.push_back_reserved.ensures.items ∙ reserved) in
     rw (← c.self.view_is) (λ bytes stands.
-    fed_piece here.ready.items c.move_all.new.to.items c.end-end.result here.tail c.go_on-2.new.self (record { ready = next.ready.items; partial = next.tail.partial; size = next.tail.size }) bytes c.in-Some.first.now c.in-Some.others.now c.args.piece.now
+    fed_piece here.ready.items c.move_all.new.to.items c.end-end.result here.tail c.go_on-2.new.self
+    (record { ready = next.ready.items; partial = next.tail.partial; size = next.tail.size }) bytes c.in-Some.first.now c.in-Some.others.now c.args.piece.now
     moved c.end-end.ensures.end (search rules) c.in-Some.ensures.0 stands c.in-Some.ensures.1 (rw c.next.view_is c.in_ok-next.ensures))

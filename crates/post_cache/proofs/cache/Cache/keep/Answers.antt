@@ -30,8 +30,11 @@ invariant_of-self-else-len-self g c =
     let after = c.push_reserved.new.self.items in
     let absent = ap (λ (s : CacheState _). kept_at c.args.block s.kept) (c.self.view_is ∙ c.forget.ensures.kept) ∙ kept_at-without_same c.args.block c.args.self.now.kept in
     let all = bodies_in-push _ before after c.push_reserved.ensures.items in
-    let long = sym (ap length all) ∙ length-map after as_kept in
-    (rw all (IsCache-beside _ _ c.self.invariant.0 absent (omega (arith, long, c.len.ensures, c.if-len-self.false, c.push_reserved.new.self.ok.0))), omega (arith, c.self.invariant.1, c.push_reserved.ensures.capacity))
+    let long = sym (ap length all) ∙ length-map after as_kept in (
+      rw all (IsCache-beside _ _ c.self.invariant.0 absent (omega (arith, long, c.len.ensures, c.if-len-self.false, c.push_reserved.new.self.ok.0))),
+      omega
+          (arith, c.self.invariant.1, c.push_reserved.ensures.capacity),
+    )
 
 pub returns-else-len-self-clause-bounds : goal.returns-else-len-self-clause-bounds
 returns-else-len-self-clause-bounds g c =

@@ -18,7 +18,8 @@ first_of-requires c = subst Falls (sym (c.deref.ensures.value ∙ c.drop_first.e
 pub invariant_of-self-in-Apply : goal.invariant_of-self-in-Apply
 invariant_of-self-in-Apply c =
     let b = book_of c.self.inside in
-    let named : b.next ≡ Apply c.args.part = c.in-Apply.is ∙ ap (λ (n : ℕ). Apply n) (same_value c.in-Apply.field-0 c.args.part (ap (λ (n : RaidNext). turn_part (turn_of n)) (sym c.in-Apply.is ∙ ap (λ (v : BookState). v.next) c.self.view_is) ∙ c.requires)) in
+    let named : b.next ≡ Apply c.args.part = c.in-Apply.is ∙ ap (λ (n : ℕ). Apply n)
+    (same_value c.in-Apply.field-0 c.args.part (ap (λ (n : RaidNext). turn_part (turn_of n)) (sym c.in-Apply.is ∙ ap (λ (v : BookState). v.next) c.self.view_is) ∙ c.requires)) in
     let comes = c.turn_with-self-inside.ensures ∙ ap (turn_with b.blocks b.scanned) (c.first_of.ensures ∙ ap least_part c.deref.ensures.value) in
     subst IsBook (sym (after_turn-fields b c.args.part c.drop_first.new.row.items c.turn_with-self-inside.result c.drop_first.ensures comes)) (book_compared b c.args.part named c.self.invariant)
 
@@ -38,5 +39,6 @@ pub returns-in-Apply-clause-compared : goal.returns-in-Apply-clause-compared
 returns-in-Apply-clause-compared c setup s is raid =
     let b = book_of c.self.inside in
     let comes = c.turn_with-self-inside.ensures ∙ ap (turn_with b.blocks b.scanned) (c.first_of.ensures ∙ ap least_part c.deref.ensures.value) in
-    subst (λ (v : BookState). RaidStands setup v (after_step setup (compared_part c.args.part) s).raid) (sym (after_turn-fields b c.args.part c.drop_first.new.row.items c.turn_with-self-inside.result c.drop_first.ensures comes))
+    subst (λ (v : BookState). RaidStands setup v (after_step setup (compared_part c.args.part) s).raid)
+    (sym (after_turn-fields b c.args.part c.drop_first.new.row.items c.turn_with-self-inside.result c.drop_first.ensures comes))
     (compared_stands setup s b c.args.part (subst (λ (v : BookState). RaidStandsBut c.args.part setup v s.raid) (sym c.self.view_is) raid))

@@ -19,7 +19,8 @@ overflow_add-self c =
     omega (arith, some, blocks, c.self.ranges)
 
 -- the fields after the scan are those of the model's step
-fields : (c : goal.After-self-2-1) → record (book_of c.self.inside) { next = c.turn_with-self-inside.result; scanned = c.args.block + 1; found = c.in_ok-self-inside.field-0.items } ≡ with_scan c.in_ok-self-inside.field-0.items (book_of c.self.inside)
+fields : (c : goal.After-self-2-1) → record (book_of c.self.inside) { next = c.turn_with-self-inside.result; scanned = c.args.block + 1; found = c.in_ok-self-inside.field-0.items }
+    ≡ with_scan c.in_ok-self-inside.field-0.items (book_of c.self.inside)
 fields c =
     let b = book_of c.self.inside in
     let comes = c.turn_with-self-inside.ensures ∙ ap (turn_with b.blocks (c.args.block + 1)) (c.first_of.ensures ∙ ap least_part c.deref.ensures.value) in

@@ -50,15 +50,18 @@ module _ (g : Over) (c : goal.After-self-2-1 g) where
   shape = record { geometry = ap (λ (v : ShelfView g.row.D.Denot). v.geometry) book; set = refl }
 
   step : (now : ℕ) (s : State) → StandTogether (setup_of old) c.args.part c.index_mut.result.now old.shelf s
-      → StepMakes g.D.Disk.view (setup_of old) c.args.part (turn_call old.shelf.raid.number (apply_turn c.args.part) now) (marks_undone c.raid_apply-unmarked.result) old.shelf s c.raid_apply-unmarked.new.sprig new.shelf
+      → StepMakes g.D.Disk.view (setup_of old) c.args.part (turn_call old.shelf.raid.number (apply_turn c.args.part) now)
+      (marks_undone c.raid_apply-unmarked.result) old.shelf s c.raid_apply-unmarked.new.sprig new.shelf
   step now s stand = c.raid_apply-unmarked.ensures.makes (setup_of old) s now (setup_is old c.self.invariant.whole) stand
 
   made : (now : ℕ) (s : State) → Agrees old s → Makes g.D.Disk.view (turn_call old.shelf.raid.number (apply_turn c.args.part) now) (marks_undone c.raid_apply-unmarked.result) old s new
-  made now = turn_made g.D.Disk.view (Apply c.args.part) old new c.args.part c.args.part c.index_mut.result.now c.raid_apply-unmarked.new.sprig shape refl there c.index_mut.ensures.value refl at refl (λ block same. cc) now (Applied c.raid_apply-unmarked.result) (step now)
+  made now = turn_made g.D.Disk.view (Apply c.args.part) old new c.args.part c.args.part c.index_mut.result.now c.raid_apply-unmarked.new.sprig shape refl there c.index_mut.ensures.value
+      refl at refl (λ block same. cc) now (Applied c.raid_apply-unmarked.result) (step now)
 
   taken : (now : ℕ) → TakesTurn g.D.Disk.view (Apply c.args.part) now (Ok (Applied c.raid_apply-unmarked.result)) old new
   taken now =
-      turn_taken g.D.Disk.view (Apply c.args.part) old new c.args.part c.args.part c.index_mut.result.now c.raid_apply-unmarked.new.sprig shape refl there c.index_mut.ensures.value refl at refl (λ block same. cc) now (Applied c.raid_apply-unmarked.result) (step now)
+      turn_taken g.D.Disk.view (Apply c.args.part) old new c.args.part c.args.part c.index_mut.result.now c.raid_apply-unmarked.new.sprig shape refl there c.index_mut.ensures.value refl at
+      refl (λ block same. cc) now (Applied c.raid_apply-unmarked.result) (step now)
       tt (λ same. cc) (g.met.D.Disk.is_disk old.shelf.disk) (ap (λ (v : ShelfView g.row.D.Denot). v.disk) book) (ap (λ (v : ShelfView g.row.D.Denot). v.gates) book)
       (ap (λ (v : ShelfView g.row.D.Denot). v.raid.number) book) c.raid_apply-unmarked.ensures.nearer
       tt (λ still s t same. possible_aside g.D.Disk.view old.shelf new.shelf behind s t book same)
@@ -67,7 +70,8 @@ pub invariant_of-self : goal.invariant_of-self
 invariant_of-self g c =
     let stands = c.self.invariant.whole.stands in
     record {
-      whole = whole_made g.D.Disk.view (turn_call (old g c).shelf.raid.number (apply_turn c.args.part) 0) (marks_undone c.raid_apply-unmarked.result) (old g c) (new g c) c.self.invariant.whole (shape g c) (ap (λ (v : ShelfView g.row.D.Denot). v.limits) (book g c)) stands.0 (made g c 0 stands.0 stands.1);
+      whole = whole_made g.D.Disk.view (turn_call (old g c).shelf.raid.number (apply_turn c.args.part) 0) (marks_undone c.raid_apply-unmarked.result) (old g c)
+          (new g c) c.self.invariant.whole (shape g c) (ap (λ (v : ShelfView g.row.D.Denot). v.limits) (book g c)) stands.0 (made g c 0 stands.0 stands.1);
       tallied =
           tally_behind (old g c).sprigs c.args.part c.index.result.now c.raid_apply-unmarked.new.sprig (there g c) c.index.ensures c.index-2.result.now c.index-2.ensures
           c.self.inside.tally c.tally-before.result c.tally.result c.minus.result c.plus-self-inside.result

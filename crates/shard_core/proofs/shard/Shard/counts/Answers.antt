@@ -36,7 +36,9 @@ module _ (g : Over) (c : goal.After-counts g) where
       λ i. record { records = records i; tombstones = tombstones i; covered = covered i; free = shelf.0 i; pending = shelf.1 i; queued = queued i; held = shelf.2 i }
 
   small : (s : State) → Agrees shard s → AreFew told
-  small s agrees = subst AreFew (sym (tells s agrees)) (few_counts g.D.Disk.view shard s c.geometry-shape.ensures.whole c.self.invariant.whole agrees c.counts.result.held c.counts.ensures.held c.counts.result.queued (c.counts.ensures.queued (setup_of shard) s agrees.shelf.queue) c.counts.ensures.few)
+  small s agrees = subst AreFew (sym (tells s agrees))
+      (few_counts g.D.Disk.view shard s c.geometry-shape.ensures.whole c.self.invariant.whole agrees c.counts.result.held c.counts.ensures.held c.counts.result.queued
+      (c.counts.ensures.queued (setup_of shard) s agrees.shelf.queue) c.counts.ensures.few)
 
 pub returns-clause-state : goal.returns-clause-state
 returns-clause-state g c = subst (λ (v : ShardView g.row.D.Denot). (s : State) → Agrees v s → told g c ≡ counts_of s) c.self.view_is (tells g c)

@@ -49,7 +49,8 @@ returns-clause-makes g c =
     let old : ShardView g.row.D.Denot = record { shelf = c.self.inside.shelf; set = c.self.inside.set; sprigs = c.self.inside.sprigs.items } in
     let new : ShardView g.row.D.Denot = record { shelf = c.vacate_next.new.self; set = c.self.inside.set; sprigs = c.self.inside.sprigs.items } in
     subst (λ (v : ShardView g.row.D.Denot). (s : State) → Agrees v s → MakesEvents g.D.Disk.view (IsVacating v s (Err (record { moved = 0; cause = c.vacate_cause.result }))) v s new) c.self.view_is
-    (gives_not g.D.Disk.view old (g.met.D.Disk.is_disk old.shelf.disk) c.vacate_next.new.self c.vacate_next.ensures.same c.vacate_cause.result (c.vacate_cause.ensures ∙ ap vacate_cause c.in-Err.ensures.refused))
+    (gives_not g.D.Disk.view old (g.met.D.Disk.is_disk old.shelf.disk) c.vacate_next.new.self c.vacate_next.ensures.same c.vacate_cause.result
+    (c.vacate_cause.ensures ∙ ap vacate_cause c.in-Err.ensures.refused))
 
 -- ---- what stays
 
@@ -86,7 +87,8 @@ returns-in-Ok-Some-clause-shape g c =
 pub returns-in-Ok-None-clause-later : goal.returns-in-Ok-None-clause-later
 returns-in-Ok-None-clause-later g c =
     subst (λ (v : ShardView g.row.D.Denot). IsLater (g.D.Disk.view v.shelf.disk) (g.D.Disk.view c.vacate_next.new.self.disk)) c.self.view_is
-    (subst (λ (x : ShelfView g.row.D.Denot). IsLater (g.D.Disk.view c.self.inside.shelf.disk) (g.D.Disk.view x.disk)) (sym c.vacate_next.ensures.same) (later_none g.D.Disk.view c.self.inside.shelf.disk (g.met.D.Disk.is_disk c.self.inside.shelf.disk)))
+    (subst (λ (x : ShelfView g.row.D.Denot). IsLater (g.D.Disk.view c.self.inside.shelf.disk) (g.D.Disk.view x.disk)) (sym c.vacate_next.ensures.same)
+    (later_none g.D.Disk.view c.self.inside.shelf.disk (g.met.D.Disk.is_disk c.self.inside.shelf.disk)))
 
 pub returns-in-Ok-None-clause-honest : goal.returns-in-Ok-None-clause-honest
 returns-in-Ok-None-clause-honest g c =
@@ -101,7 +103,8 @@ returns-in-Ok-None-clause-shape g c =
 pub returns-clause-later : goal.returns-clause-later
 returns-clause-later g c =
     subst (λ (v : ShardView g.row.D.Denot). IsLater (g.D.Disk.view v.shelf.disk) (g.D.Disk.view c.vacate_next.new.self.disk)) c.self.view_is
-    (subst (λ (x : ShelfView g.row.D.Denot). IsLater (g.D.Disk.view c.self.inside.shelf.disk) (g.D.Disk.view x.disk)) (sym c.vacate_next.ensures.same) (later_none g.D.Disk.view c.self.inside.shelf.disk (g.met.D.Disk.is_disk c.self.inside.shelf.disk)))
+    (subst (λ (x : ShelfView g.row.D.Denot). IsLater (g.D.Disk.view c.self.inside.shelf.disk) (g.D.Disk.view x.disk)) (sym c.vacate_next.ensures.same)
+    (later_none g.D.Disk.view c.self.inside.shelf.disk (g.met.D.Disk.is_disk c.self.inside.shelf.disk)))
 
 pub returns-clause-honest : goal.returns-clause-honest
 returns-clause-honest g c =

@@ -44,22 +44,28 @@ module _ (g : Over) (c : goal.After-self-2-1 g) where
   shape = record { geometry = c.raid_end-removed.ensures.geometry; set = refl }
 
   step : (now : ℕ) (s : State) → StandTogether (setup_of old) c.args.part c.index_mut.result.now old.shelf s
-      → StepMakes g.D.Disk.view (setup_of old) c.args.part (turn_call old.shelf.raid.number (drop_turn c.args.part) now) (part_ended c.raid_end-removed.result.0 c.raid_end-removed.result.1) old.shelf s c.raid_end-removed.new.sprig new.shelf
+      → StepMakes g.D.Disk.view (setup_of old) c.args.part (turn_call old.shelf.raid.number (drop_turn c.args.part) now)
+      (part_ended c.raid_end-removed.result.0 c.raid_end-removed.result.1) old.shelf s c.raid_end-removed.new.sprig new.shelf
   step now s stand = c.raid_end-removed.ensures.makes (setup_of old) s now (setup_is old c.self.invariant.whole) stand
 
-  made : (now : ℕ) (s : State) → Agrees old s → Makes g.D.Disk.view (turn_call old.shelf.raid.number (drop_turn c.args.part) now) (part_ended c.raid_end-removed.result.0 c.raid_end-removed.result.1) old s new
-  made now = turn_made g.D.Disk.view (Drop c.args.part) old new c.args.part c.args.part c.index_mut.result.now c.raid_end-removed.new.sprig shape refl there c.index_mut.ensures.value refl at refl (λ block same. cc) now (Dropped c.raid_end-removed.result.0 c.raid_end-removed.result.1) (step now)
+  made : (now : ℕ) (s : State) → Agrees old s → Makes g.D.Disk.view (turn_call old.shelf.raid.number (drop_turn c.args.part) now)
+      (part_ended c.raid_end-removed.result.0 c.raid_end-removed.result.1) old s new
+  made now = turn_made g.D.Disk.view (Drop c.args.part) old new c.args.part c.args.part c.index_mut.result.now c.raid_end-removed.new.sprig shape refl there c.index_mut.ensures.value refl at
+      refl (λ block same. cc) now (Dropped c.raid_end-removed.result.0 c.raid_end-removed.result.1) (step now)
 
   few : AreFewEnds (turns_left old.shelf.raid) (Dropped c.raid_end-removed.result.0 c.raid_end-removed.result.1)
   few =
       let stands = c.self.invariant.whole.stands in
-      few_ends g.D.Disk.view old stands.0 c.geometry-shape.ensures.whole c.self.invariant.whole stands.1 c.args.part c.parts-parts.result old.shelf.raid.number c.raid_end-removed.result.0 c.raid_end-removed.result.1 c.index_mut.result.now
+      few_ends g.D.Disk.view old stands.0 c.geometry-shape.ensures.whole c.self.invariant.whole stands.1 c.args.part c.parts-parts.result old.shelf.raid.number c.raid_end-removed.result.0
+      c.raid_end-removed.result.1 c.index_mut.result.now
       (part_at g.D.Disk.view c.args.part old new c.args.part c.index_mut.result.now c.raid_end-removed.new.sprig shape refl there c.index_mut.ensures.value refl) at
-      (c.parts-parts.ensures.total ∙ ap (λ (v : ShardView g.row.D.Denot). part_total (setup_of v)) (sym c.self.view_is)) c.parts-parts.ensures.few c.raid_end-removed.ensures.removed c.raid_end-removed.ensures.cleared
+      (c.parts-parts.ensures.total ∙ ap (λ (v : ShardView g.row.D.Denot). part_total (setup_of v)) (sym c.self.view_is)) c.parts-parts.ensures.few c.raid_end-removed.ensures.removed
+      c.raid_end-removed.ensures.cleared
 
   taken : (now : ℕ) → TakesTurn g.D.Disk.view (Drop c.args.part) now (Ok (Dropped c.raid_end-removed.result.0 c.raid_end-removed.result.1)) old new
   taken now =
-      turn_taken g.D.Disk.view (Drop c.args.part) old new c.args.part c.args.part c.index_mut.result.now c.raid_end-removed.new.sprig shape refl there c.index_mut.ensures.value refl at refl (λ block same. cc) now (Dropped c.raid_end-removed.result.0 c.raid_end-removed.result.1) (step now)
+      turn_taken g.D.Disk.view (Drop c.args.part) old new c.args.part c.args.part c.index_mut.result.now c.raid_end-removed.new.sprig shape refl there c.index_mut.ensures.value refl at refl
+      (λ block same. cc) now (Dropped c.raid_end-removed.result.0 c.raid_end-removed.result.1) (step now)
       tt (λ same. cc) (g.met.D.Disk.is_disk old.shelf.disk) c.raid_end-removed.ensures.disk c.raid_end-removed.ensures.gates
       (ap (λ (b : BookState). b.number) c.raid_end-removed.ensures.raid ∙ ap (λ (n : RaidNext). (after_turn n c.args.part old.shelf.raid).number) at)
       (subst (λ (b : BookState). turns_left b < turns_left old.shelf.raid) (sym c.raid_end-removed.ensures.raid) (drop_nearer old.shelf.raid fits c.args.part at))
@@ -69,7 +75,8 @@ pub invariant_of-self : goal.invariant_of-self
 invariant_of-self g c =
     let stands = c.self.invariant.whole.stands in
     record {
-      whole = whole_made g.D.Disk.view (turn_call (old g c).shelf.raid.number (drop_turn c.args.part) 0) (part_ended c.raid_end-removed.result.0 c.raid_end-removed.result.1) (old g c) (new g c) c.self.invariant.whole (shape g c) c.raid_end-removed.ensures.limits stands.0 (made g c 0 stands.0 stands.1);
+      whole = whole_made g.D.Disk.view (turn_call (old g c).shelf.raid.number (drop_turn c.args.part) 0) (part_ended c.raid_end-removed.result.0 c.raid_end-removed.result.1) (old g c)
+          (new g c) c.self.invariant.whole (shape g c) c.raid_end-removed.ensures.limits stands.0 (made g c 0 stands.0 stands.1);
       tallied =
           tally_behind (old g c).sprigs c.args.part c.index.result.now c.raid_end-removed.new.sprig (there g c) c.index.ensures c.index-2.result.now c.index-2.ensures
           c.self.inside.tally c.tally-before.result c.tally.result c.minus.result c.plus-self-inside.result
@@ -77,7 +84,8 @@ invariant_of-self g c =
     }
 
 pub returns : goal.returns
-returns g c now = subst (λ (v : ShardView g.row.D.Denot). TakesTurn g.D.Disk.view (Drop c.args.part) now (Ok (Dropped c.raid_end-removed.result.0 c.raid_end-removed.result.1)) v (new g c)) c.self.view_is (taken g c now)
+returns g c now = subst (λ (v : ShardView g.row.D.Denot). TakesTurn g.D.Disk.view (Drop c.args.part) now (Ok (Dropped c.raid_end-removed.result.0 c.raid_end-removed.result.1)) v (new g c))
+    c.self.view_is (taken g c now)
 
 pub raid_end-removed-requires-clause-stand : goal.raid_end-removed-requires-clause-stand
 raid_end-removed-requires-clause-stand g c =
@@ -90,5 +98,6 @@ raid_end-removed-requires-clause-stand g c =
       setup_of was,
       stands.0,
       setup_is was c.self.invariant.whole,
-      part_stands g.D.Disk.view c.args.part was was c.args.part c.index_mut.result.now c.index_mut.result.now (record { geometry = refl; set = refl }) refl within c.index_mut.ensures.value (sym (set_at was.sprigs c.args.part c.index_mut.result.now c.index_mut.ensures.value)) stands.0 stands.1,
+      part_stands g.D.Disk.view c.args.part was was c.args.part c.index_mut.result.now c.index_mut.result.now (record { geometry = refl; set = refl }) refl within c.index_mut.ensures.value
+          (sym (set_at was.sprigs c.args.part c.index_mut.result.now c.index_mut.ensures.value)) stands.0 stands.1,
     )

@@ -27,24 +27,28 @@ loop-digest-init g c = record {
 
 pub expire-requires-clause-named : goal.expire-requires-clause-named
 expire-requires-clause-named g c =
-    named c.args.part c.args.now c.loop-digest.self (still_below c.args.self.now c.loop-digest.self c.args.part c.loop-digest.invariant.shape c.requires.part) c.in-Some.ensures.whole c.loop-digest.last c.in-Some.digest (sym c.in-Some.ensures.next)
+    named c.args.part c.args.now c.loop-digest.self (still_below c.args.self.now c.loop-digest.self c.args.part c.loop-digest.invariant.shape c.requires.part) c.in-Some.ensures.whole
+    c.loop-digest.last c.in-Some.digest (sym c.in-Some.ensures.next)
 
 pub returns-in-Err-clause-makes : goal.returns-in-Err-clause-makes
 returns-in-Err-clause-makes g c s agrees =
-    goes_no_further g.D.Disk.view c.args.part c.args.now c.args.self.now s c.loop-digest.self c.loop-digest.removed c.loop-digest.last (c.loop-digest.invariant.expires s agrees) c.loop-digest.invariant.shape c.requires.part
+    goes_no_further g.D.Disk.view c.args.part c.args.now c.args.self.now s c.loop-digest.self c.loop-digest.removed c.loop-digest.last
+    (c.loop-digest.invariant.expires s agrees) c.loop-digest.invariant.shape c.requires.part
     c.in-Some.digest (sym c.in-Some.ensures.next) c.expire.new.self c.loop-digest.invariant.honest c.in-Err.cause c.in-Err.ensures.makes
 
 pub returns-in-Err-clause-bare : goal.returns-in-Err-clause-bare
 returns-in-Err-clause-bare g c bare =
     let whole : IsWhole c.args.self.now = subst (λ (v : ShardView g.row.D.Denot). IsWhole v) c.self.view_is c.self.invariant.whole in
     let stands = whole.stands in
-    let both = c.in-Err.ensures.bare (still_bare g.D.Disk.view c.args.part c.args.now c.args.self.now stands.0 c.loop-digest.self c.loop-digest.removed c.loop-digest.last (c.loop-digest.invariant.expires stands.0 stands.1)
+    let both = c.in-Err.ensures.bare (still_bare g.D.Disk.view c.args.part c.args.now c.args.self.now stands.0 c.loop-digest.self c.loop-digest.removed c.loop-digest.last
+    (c.loop-digest.invariant.expires stands.0 stands.1)
     c.loop-digest.invariant.shape c.requires.part c.in-Some.digest (sym c.in-Some.ensures.next) stands.1 bare) in
     (both.0, both.1 ∙ c.loop-digest.invariant.bare bare)
 
 pub returns-in-Err-clause-never : goal.returns-in-Err-clause-never
 returns-in-Err-clause-never g c =
-    refused_so c.args.part c.args.now c.loop-digest.self (still_below c.args.self.now c.loop-digest.self c.args.part c.loop-digest.invariant.shape c.requires.part) c.in-Some.ensures.whole c.loop-digest.last c.in-Some.digest (sym c.in-Some.ensures.next)
+    refused_so c.args.part c.args.now c.loop-digest.self (still_below c.args.self.now c.loop-digest.self c.args.part c.loop-digest.invariant.shape c.requires.part) c.in-Some.ensures.whole
+    c.loop-digest.last c.in-Some.digest (sym c.in-Some.ensures.next)
     g.D.Disk.view c.expire.new.self c.in-Err.cause c.in-Err.ensures.makes
 
 pub returns-in-Err-clause-later : goal.returns-in-Err-clause-later
@@ -52,7 +56,8 @@ returns-in-Err-clause-later g c = later_then g.D.Disk.view c.args.self.now.shelf
 
 pub loop-digest-smaller : goal.loop-digest-smaller
 loop-digest-smaller g c =
-    left_less c.args.part c.args.now c.loop-digest.self (still_below c.args.self.now c.loop-digest.self c.args.part c.loop-digest.invariant.shape c.requires.part) c.in-Some.ensures.whole c.loop-digest.last c.in-Some.digest (sym c.in-Some.ensures.next)
+    left_less c.args.part c.args.now c.loop-digest.self (still_below c.args.self.now c.loop-digest.self c.args.part c.loop-digest.invariant.shape c.requires.part) c.in-Some.ensures.whole
+    c.loop-digest.last c.in-Some.digest (sym c.in-Some.ensures.next)
     g.D.Disk.view c.expire.new.self c.expire.result c.expire.ensures.makes c.expire.ensures.shape
 
 pub loop-digest-preserved : goal.loop-digest-preserved
@@ -61,12 +66,14 @@ loop-digest-preserved g c =
     let is : IsShelf g.D.Disk.view c.args.self.now.shelf = subst (λ (v : ShardView g.row.D.Denot). IsShelf g.D.Disk.view v.shelf) c.self.view_is c.geometry-shape.ensures.whole in
     let stands = whole.stands in
     let more = λ (s : State) (agrees : Agrees c.args.self.now s).
-    goes_on g.D.Disk.view c.args.part c.args.now c.args.self.now s c.loop-digest.self c.loop-digest.removed c.loop-digest.last (c.loop-digest.invariant.expires s agrees) c.loop-digest.invariant.shape c.requires.part
+    goes_on g.D.Disk.view c.args.part c.args.now c.args.self.now s c.loop-digest.self c.loop-digest.removed c.loop-digest.last
+    (c.loop-digest.invariant.expires s agrees) c.loop-digest.invariant.shape c.requires.part
     c.in-Some.digest (sym c.in-Some.ensures.next) c.expire.new.self c.loop-digest.invariant.honest c.in_default-expire.field-0 c.in_default-expire.ensures.makes in
     record {
       few = few_removed g.D.Disk.view c.args.part c.args.now c.args.self.now stands.0 c.expire.new.self (c.loop-digest.removed + 1) (Some c.in-Some.digest) (more stands.0 stands.1) is whole stands.1;
       expires = more;
-      bare = λ bare. (c.expire.ensures.bare (still_bare g.D.Disk.view c.args.part c.args.now c.args.self.now stands.0 c.loop-digest.self c.loop-digest.removed c.loop-digest.last (c.loop-digest.invariant.expires stands.0 stands.1)
+      bare = λ bare. (c.expire.ensures.bare (still_bare g.D.Disk.view c.args.part c.args.now c.args.self.now stands.0 c.loop-digest.self c.loop-digest.removed c.loop-digest.last
+          (c.loop-digest.invariant.expires stands.0 stands.1)
           c.loop-digest.invariant.shape c.requires.part c.in-Some.digest (sym c.in-Some.ensures.next) stands.1 bare)).1 ∙ c.loop-digest.invariant.bare bare;
       later = later_then g.D.Disk.view c.args.self.now.shelf.disk c.loop-digest.self.shelf.disk c.expire.new.self.shelf.disk c.loop-digest.invariant.later c.expire.ensures.later;
       honest = λ honest. c.expire.ensures.honest (c.loop-digest.invariant.honest honest);
@@ -75,4 +82,5 @@ loop-digest-preserved g c =
 
 pub returns-clause-makes : goal.returns-clause-makes
 returns-clause-makes g c s agrees =
-    all_expired g.D.Disk.view c.args.part c.args.now c.args.self.now s c.loop-digest.self c.loop-digest.removed c.loop-digest.last (c.loop-digest.invariant.expires s agrees) c.loop-digest.invariant.shape c.requires.part (sym c.in_default.ensures.next)
+    all_expired g.D.Disk.view c.args.part c.args.now c.args.self.now s c.loop-digest.self c.loop-digest.removed c.loop-digest.last
+    (c.loop-digest.invariant.expires s agrees) c.loop-digest.invariant.shape c.requires.part (sym c.in_default.ensures.next)

@@ -27,7 +27,8 @@ made g c s agrees =
     let mid : ShelfView g.row.D.Denot = c.seal_low.new.self in
     let is = setup_is old c.self.invariant.whole in
     let first = c.seal_low.ensures.sealed (setup_of old) s is agrees.shelf.stands agrees.shelf.queue in
-    let then = c.flush_sealed.ensures.flushed (setup_of old) (after_steps (setup_of old) (seal_low (setup_of old) s.book) s) (setup_stays (setup_of old) old.shelf mid c.seal_low.ensures.shape is) first.stands in
+    let then = c.flush_sealed.ensures.flushed (setup_of old) (after_steps (setup_of old) (seal_low (setup_of old) s.book) s)
+    (setup_stays (setup_of old) old.shelf mid c.seal_low.ensures.shape is) first.stands in
     makes_flush g.D.Disk.view old new s agrees
     (record { geometry = c.flush_sealed.ensures.shape.geometry ∙ c.seal_low.ensures.shape.geometry; set = refl }) refl
     (subst (λ (d : g.row.D.Denot). (g.D.Disk.view d).faults ≤ (g.D.Disk.view new.shelf.disk).faults) c.seal_low.ensures.disk c.flush_sealed.ensures.later.count)
@@ -40,7 +41,8 @@ made g c s agrees =
 pub returns-clause-makes : goal.returns-clause-makes
 returns-clause-makes g c =
     let new : ShardView g.row.D.Denot = record { shelf = c.flush_sealed.new.shelf; set = c.self.inside.set; sprigs = c.self.inside.sprigs.items } in
-    subst (λ (v : ShardView g.row.D.Denot). (s : State) → Agrees v s → MakesAny g.D.Disk.view flush_sealed_call v s new) c.self.view_is (λ s agrees. (flush_answer c.flush_sealed.result, made g c s agrees))
+    subst (λ (v : ShardView g.row.D.Denot). (s : State) → Agrees v s → MakesAny g.D.Disk.view flush_sealed_call v s new) c.self.view_is
+    (λ s agrees. (flush_answer c.flush_sealed.result, made g c s agrees))
 
 pub invariant_of-self : goal.invariant_of-self
 invariant_of-self g c =

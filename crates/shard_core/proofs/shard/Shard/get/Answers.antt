@@ -26,9 +26,14 @@ pub get_step-requires-clause-stand : goal.get_step-requires-clause-stand
 get_step-requires-clause-stand g c =
     let old : ShardView g.row.D.Denot = record { shelf = c.self.inside.shelf; set = c.self.inside.set; sprigs = c.self.inside.sprigs.items } in
     let stands = c.self.invariant.whole.stands in
-    let place : c.part_of-part.result ≡ part_of (setup_of old) c.args.digest.now = c.part_of-part.ensures.part ∙ ap (λ (v : ShardView g.row.D.Denot). part_of (setup_of v) c.args.digest.now) (sym c.self.view_is) in
-    let there : c.part_of-part.result < length old.sprigs = subst (λ (v : ShardView g.row.D.Denot). c.part_of-part.result < length v.sprigs) (sym c.self.view_is) c.part_of-part.ensures.there in
-    (stands.0, step_stands g.D.Disk.view c.args.digest.now old old c.part_of-part.result c.index_mut.result.now c.index_mut.result.now (record { geometry = refl; set = refl }) place there c.index_mut.ensures.value (sym (set_at old.sprigs c.part_of-part.result c.index_mut.result.now c.index_mut.ensures.value)) stands.0 stands.1)
+    let place : c.part_of-part.result ≡ part_of (setup_of old) c.args.digest.now = c.part_of-part.ensures.part
+    ∙ ap (λ (v : ShardView g.row.D.Denot). part_of (setup_of v) c.args.digest.now) (sym c.self.view_is) in
+    let there : c.part_of-part.result < length old.sprigs = subst (λ (v : ShardView g.row.D.Denot). c.part_of-part.result < length v.sprigs) (sym c.self.view_is) c.part_of-part.ensures.there in (
+      stands.0,
+      step_stands g.D.Disk.view c.args.digest.now old old c.part_of-part.result c.index_mut.result.now c.index_mut.result.now
+          (record { geometry = refl; set = refl }) place there c.index_mut.ensures.value
+          (sym (set_at old.sprigs c.part_of-part.result c.index_mut.result.now c.index_mut.ensures.value)) stands.0 stands.1,
+    )
 
 made : (g : Over) (c : goal.After-self-1 g) (s : State)
     → let old : ShardView g.row.D.Denot = record { shelf = c.self.inside.shelf; set = c.self.inside.set; sprigs = c.self.inside.sprigs.items } in
@@ -37,11 +42,15 @@ made : (g : Over) (c : goal.After-self-1 g) (s : State)
 made g c s agrees =
     let old : ShardView g.row.D.Denot = record { shelf = c.self.inside.shelf; set = c.self.inside.set; sprigs = c.self.inside.sprigs.items } in
     let new : ShardView g.row.D.Denot = record { shelf = c.get_step.new.shelf; set = c.self.inside.set; sprigs = set c.self.inside.sprigs.items c.part_of-part.result c.get_step.new.sprig } in
-    let place : c.part_of-part.result ≡ part_of (setup_of old) c.args.digest.now = c.part_of-part.ensures.part ∙ ap (λ (v : ShardView g.row.D.Denot). part_of (setup_of v) c.args.digest.now) (sym c.self.view_is) in
+    let place : c.part_of-part.result ≡ part_of (setup_of old) c.args.digest.now = c.part_of-part.ensures.part
+    ∙ ap (λ (v : ShardView g.row.D.Denot). part_of (setup_of v) c.args.digest.now) (sym c.self.view_is) in
     let there : c.part_of-part.result < length old.sprigs = subst (λ (v : ShardView g.row.D.Denot). c.part_of-part.result < length v.sprigs) (sym c.self.view_is) c.part_of-part.ensures.there in
     let shape : SameSetup old new = record { geometry = ap (λ (x : ShelfView g.row.D.Denot). x.geometry) c.get_step.ensures.shelf; set = refl } in
-    lifted g.D.Disk.view c.args.digest.now old new c.part_of-part.result c.index_mut.result.now c.get_step.new.sprig shape place there c.index_mut.ensures.value refl (get_call c.args.digest.now c.args.now) (read_answer c.get_step.result) (subst (λ (v : ShardView g.row.D.Denot). device_number v.shelf.geometry.devices c.args.digest.now ≡ v.shelf.geometry.device) (sym c.self.view_is) c.requires.named) refl s agrees
-    (c.get_step.ensures.makes s (step_stands g.D.Disk.view c.args.digest.now old new c.part_of-part.result c.index_mut.result.now c.get_step.new.sprig shape place there c.index_mut.ensures.value refl s agrees))
+    lifted g.D.Disk.view c.args.digest.now old new c.part_of-part.result c.index_mut.result.now c.get_step.new.sprig shape place there c.index_mut.ensures.value refl
+    (get_call c.args.digest.now c.args.now) (read_answer c.get_step.result)
+    (subst (λ (v : ShardView g.row.D.Denot). device_number v.shelf.geometry.devices c.args.digest.now ≡ v.shelf.geometry.device) (sym c.self.view_is) c.requires.named) refl s agrees
+    (c.get_step.ensures.makes s (step_stands g.D.Disk.view c.args.digest.now old new c.part_of-part.result c.index_mut.result.now c.get_step.new.sprig shape place there
+    c.index_mut.ensures.value refl s agrees))
 
 pub returns-clause-makes : goal.returns-clause-makes
 returns-clause-makes g c =
@@ -55,34 +64,47 @@ invariant_of-self g c =
     let shape : SameSetup old new = record { geometry = ap (λ (x : ShelfView g.row.D.Denot). x.geometry) c.get_step.ensures.shelf; set = refl } in
     let stands = c.self.invariant.whole.stands in
     record {
-      whole = whole_made g.D.Disk.view (get_call c.args.digest.now c.args.now) (read_answer c.get_step.result) old new c.self.invariant.whole shape (ap (λ (x : ShelfView g.row.D.Denot). x.limits) c.get_step.ensures.shelf) stands.0 (made g c stands.0 stands.1);
-      tallied = c.self.invariant.tallied ∙ sym (tally_same old.sprigs c.part_of-part.result c.index_mut.result.now c.get_step.new.sprig c.index_mut.ensures.value (ap (λ (x : SprigState). x.entries) c.get_step.ensures.sprig));
+      whole = whole_made g.D.Disk.view (get_call c.args.digest.now c.args.now) (read_answer c.get_step.result) old new c.self.invariant.whole shape
+          (ap (λ (x : ShelfView g.row.D.Denot). x.limits) c.get_step.ensures.shelf) stands.0 (made g c stands.0 stands.1);
+      tallied = c.self.invariant.tallied
+          ∙ sym (tally_same old.sprigs c.part_of-part.result c.index_mut.result.now c.get_step.new.sprig c.index_mut.ensures.value
+          (ap (λ (x : SprigState). x.entries) c.get_step.ensures.sprig));
     }
 
 pub returns-clause-in_memory : goal.returns-clause-in_memory
 returns-clause-in_memory g c =
     let old : ShardView g.row.D.Denot = record { shelf = c.self.inside.shelf; set = c.self.inside.set; sprigs = c.self.inside.sprigs.items } in
     let new : ShardView g.row.D.Denot = record { shelf = c.get_step.new.shelf; set = c.self.inside.set; sprigs = set c.self.inside.sprigs.items c.part_of-part.result c.get_step.new.sprig } in
-    let place : c.part_of-part.result ≡ part_of (setup_of old) c.args.digest.now = c.part_of-part.ensures.part ∙ ap (λ (v : ShardView g.row.D.Denot). part_of (setup_of v) c.args.digest.now) (sym c.self.view_is) in
+    let place : c.part_of-part.result ≡ part_of (setup_of old) c.args.digest.now = c.part_of-part.ensures.part
+    ∙ ap (λ (v : ShardView g.row.D.Denot). part_of (setup_of v) c.args.digest.now) (sym c.self.view_is) in
     let there : c.part_of-part.result < length old.sprigs = subst (λ (v : ShardView g.row.D.Denot). c.part_of-part.result < length v.sprigs) (sym c.self.view_is) c.part_of-part.ensures.there in
     let shape : SameSetup old new = record { geometry = ap (λ (x : ShelfView g.row.D.Denot). x.geometry) c.get_step.ensures.shelf; set = refl } in
     subst (λ (v : ShardView g.row.D.Denot). (e : Entry) (b : BufferState) → held (setup_of v) c.args.digest.now v.sprigs ≡ Some e → Contains (in_memory v.shelf) b → b.block ≡ e.block
     → (new ≡ v) × IfErr c.get_step.result (λ refusal. refusal ≡ read.Memory)) c.self.view_is
     (λ e b is there_b at.
-    let got = c.get_step.ensures.in_memory e b (sym (held_at g.D.Disk.view c.args.digest.now old new c.part_of-part.result c.index_mut.result.now c.get_step.new.sprig shape place there c.index_mut.ensures.value refl) ∙ is) there_b at in
-    let kept : set old.sprigs c.part_of-part.result c.get_step.new.sprig ≡ old.sprigs = ap (set old.sprigs c.part_of-part.result) c.get_step.ensures.sprig ∙ set_at old.sprigs c.part_of-part.result c.index_mut.result.now c.index_mut.ensures.value in
-    (ap (λ (x : ShelfView g.row.D.Denot). let y : ShardView g.row.D.Denot = record { shelf = x; set = old.set; sprigs = new.sprigs } in y) got.0 ∙ ap (λ (l : List SprigState). let y : ShardView g.row.D.Denot = record { shelf = old.shelf; set = old.set; sprigs = l } in y) kept, got.1))
+    let got = c.get_step.ensures.in_memory e b
+    (sym (held_at g.D.Disk.view c.args.digest.now old new c.part_of-part.result c.index_mut.result.now c.get_step.new.sprig shape place there c.index_mut.ensures.value refl)
+    ∙ is) there_b at in
+    let kept : set old.sprigs c.part_of-part.result c.get_step.new.sprig ≡ old.sprigs = ap (set old.sprigs c.part_of-part.result) c.get_step.ensures.sprig
+    ∙ set_at old.sprigs c.part_of-part.result c.index_mut.result.now c.index_mut.ensures.value in (
+      ap (λ (x : ShelfView g.row.D.Denot). let y : ShardView g.row.D.Denot = record { shelf = x; set = old.set; sprigs = new.sprigs } in y) got.0
+          ∙ ap (λ (l : List SprigState). let y : ShardView g.row.D.Denot = record { shelf = old.shelf; set = old.set; sprigs = l } in y) kept,
+      got.1,
+    ))
 
 pub returns-clause-stored : goal.returns-clause-stored
 returns-clause-stored g c =
     let old : ShardView g.row.D.Denot = record { shelf = c.self.inside.shelf; set = c.self.inside.set; sprigs = c.self.inside.sprigs.items } in
     let new : ShardView g.row.D.Denot = record { shelf = c.get_step.new.shelf; set = c.self.inside.set; sprigs = set c.self.inside.sprigs.items c.part_of-part.result c.get_step.new.sprig } in
-    let place : c.part_of-part.result ≡ part_of (setup_of old) c.args.digest.now = c.part_of-part.ensures.part ∙ ap (λ (v : ShardView g.row.D.Denot). part_of (setup_of v) c.args.digest.now) (sym c.self.view_is) in
+    let place : c.part_of-part.result ≡ part_of (setup_of old) c.args.digest.now = c.part_of-part.ensures.part
+    ∙ ap (λ (v : ShardView g.row.D.Denot). part_of (setup_of v) c.args.digest.now) (sym c.self.view_is) in
     let there : c.part_of-part.result < length old.sprigs = subst (λ (v : ShardView g.row.D.Denot). c.part_of-part.result < length v.sprigs) (sym c.self.view_is) c.part_of-part.ensures.there in
     let shape : SameSetup old new = record { geometry = ap (λ (x : ShelfView g.row.D.Denot). x.geometry) c.get_step.ensures.shelf; set = refl } in
     let held_is = held_at g.D.Disk.view c.args.digest.now old new c.part_of-part.result c.index_mut.result.now c.get_step.new.sprig shape place there c.index_mut.ensures.value refl in
     subst (λ (v : ShardView g.row.D.Denot). GetsStored g.D.Disk.view v c.args.digest.now c.args.now c.get_step.result) c.self.view_is (record {
-      remembered = λ s agrees e b is there_b at. c.get_step.ensures.stored.remembered s (step_stands g.D.Disk.view c.args.digest.now old new c.part_of-part.result c.index_mut.result.now c.get_step.new.sprig shape place there c.index_mut.ensures.value refl s agrees) e b (sym held_is ∙ is) there_b at;
+      remembered = λ s agrees e b is there_b at. c.get_step.ensures.stored.remembered s
+          (step_stands g.D.Disk.view c.args.digest.now old new c.part_of-part.result c.index_mut.result.now c.get_step.new.sprig shape place there c.index_mut.ensures.value refl s agrees) e
+          b (sym held_is ∙ is) there_b at;
       placed = λ told e is none. c.get_step.ensures.stored.placed told e (ap (seen_entry c.args.now) (sym held_is) ∙ is) none;
     })
 
@@ -90,11 +112,14 @@ pub returns-clause-undamaged : goal.returns-clause-undamaged
 returns-clause-undamaged g c =
     let old : ShardView g.row.D.Denot = record { shelf = c.self.inside.shelf; set = c.self.inside.set; sprigs = c.self.inside.sprigs.items } in
     let new : ShardView g.row.D.Denot = record { shelf = c.get_step.new.shelf; set = c.self.inside.set; sprigs = set c.self.inside.sprigs.items c.part_of-part.result c.get_step.new.sprig } in
-    let place : c.part_of-part.result ≡ part_of (setup_of old) c.args.digest.now = c.part_of-part.ensures.part ∙ ap (λ (v : ShardView g.row.D.Denot). part_of (setup_of v) c.args.digest.now) (sym c.self.view_is) in
+    let place : c.part_of-part.result ≡ part_of (setup_of old) c.args.digest.now = c.part_of-part.ensures.part
+    ∙ ap (λ (v : ShardView g.row.D.Denot). part_of (setup_of v) c.args.digest.now) (sym c.self.view_is) in
     let there : c.part_of-part.result < length old.sprigs = subst (λ (v : ShardView g.row.D.Denot). c.part_of-part.result < length v.sprigs) (sym c.self.view_is) c.part_of-part.ensures.there in
     let shape : SameSetup old new = record { geometry = ap (λ (x : ShelfView g.row.D.Denot). x.geometry) c.get_step.ensures.shelf; set = refl } in
     subst (λ (v : ShardView g.row.D.Denot). IsHonest (g.D.Disk.view v.shelf.disk) → (s : State) → Agrees v s → IsPlaced g.D.Disk.view v.shelf s → IfErr c.get_step.result IsUndamaged) c.self.view_is
-    (λ honest s agrees placed. c.get_step.ensures.undamaged honest s (step_stands g.D.Disk.view c.args.digest.now old new c.part_of-part.result c.index_mut.result.now c.get_step.new.sprig shape place there c.index_mut.ensures.value refl s agrees) placed)
+    (λ honest s agrees placed. c.get_step.ensures.undamaged honest s
+    (step_stands g.D.Disk.view c.args.digest.now old new c.part_of-part.result c.index_mut.result.now c.get_step.new.sprig shape place there c.index_mut.ensures.value refl s agrees)
+    placed)
 
 pub returns-clause-shape : goal.returns-clause-shape
 returns-clause-shape g c =

@@ -46,15 +46,18 @@ module _ (g : Over) (c : goal.After-self-2-1 g) where
   shape = record { geometry = ap (λ (v : ShelfView g.row.D.Denot). v.geometry) book; set = refl }
 
   step : (s : State) → StandTogether (setup_of old) c.args.part c.index_mut.result.now old.shelf s
-      → StepMakes g.D.Disk.view (setup_of old) c.args.part (turn_call old.shelf.raid.number (mark_turn c.args.part) c.args.now) (marks_made c.raid_mark-marks.result) old.shelf s c.raid_mark-marks.new.sprig new.shelf
+      → StepMakes g.D.Disk.view (setup_of old) c.args.part (turn_call old.shelf.raid.number (mark_turn c.args.part) c.args.now)
+      (marks_made c.raid_mark-marks.result) old.shelf s c.raid_mark-marks.new.sprig new.shelf
   step s stand = c.raid_mark-marks.ensures.makes (setup_of old) s (setup_is old c.self.invariant.whole) refl stand
 
   made : (s : State) → Agrees old s → Makes g.D.Disk.view (turn_call old.shelf.raid.number (mark_turn c.args.part) c.args.now) (marks_made c.raid_mark-marks.result) old s new
-  made = turn_made g.D.Disk.view (Mark c.args.part) old new c.args.part c.args.part c.index_mut.result.now c.raid_mark-marks.new.sprig shape refl there c.index_mut.ensures.value refl at refl (λ block same. cc) c.args.now (Marked c.raid_mark-marks.result) step
+  made = turn_made g.D.Disk.view (Mark c.args.part) old new c.args.part c.args.part c.index_mut.result.now c.raid_mark-marks.new.sprig shape refl there c.index_mut.ensures.value refl at refl
+      (λ block same. cc) c.args.now (Marked c.raid_mark-marks.result) step
 
   taken : TakesTurn g.D.Disk.view (Mark c.args.part) c.args.now (Ok (Marked c.raid_mark-marks.result)) old new
   taken =
-      turn_taken g.D.Disk.view (Mark c.args.part) old new c.args.part c.args.part c.index_mut.result.now c.raid_mark-marks.new.sprig shape refl there c.index_mut.ensures.value refl at refl (λ block same. cc) c.args.now (Marked c.raid_mark-marks.result) step
+      turn_taken g.D.Disk.view (Mark c.args.part) old new c.args.part c.args.part c.index_mut.result.now c.raid_mark-marks.new.sprig shape refl there c.index_mut.ensures.value refl at refl
+      (λ block same. cc) c.args.now (Marked c.raid_mark-marks.result) step
       tt (λ same. cc) (g.met.D.Disk.is_disk old.shelf.disk) (ap (λ (v : ShelfView g.row.D.Denot). v.disk) book) (ap (λ (v : ShelfView g.row.D.Denot). v.gates) book)
       (ap (λ (v : ShelfView g.row.D.Denot). v.raid.number) book ∙ ap (λ (n : RaidNext). (after_turn n c.args.part old.shelf.raid).number) at)
       (subst (λ (b : BookState). turns_left b < turns_left old.shelf.raid) (sym (ap (λ (v : ShelfView g.row.D.Denot). v.raid) book)) (mark_nearer old.shelf.raid fits c.args.part at))
@@ -64,7 +67,8 @@ pub invariant_of-self : goal.invariant_of-self
 invariant_of-self g c =
     let stands = c.self.invariant.whole.stands in
     record {
-      whole = whole_made g.D.Disk.view (turn_call (old g c).shelf.raid.number (mark_turn c.args.part) c.args.now) (marks_made c.raid_mark-marks.result) (old g c) (new g c) c.self.invariant.whole (shape g c) (ap (λ (v : ShelfView g.row.D.Denot). v.limits) (book g c)) stands.0 (made g c stands.0 stands.1);
+      whole = whole_made g.D.Disk.view (turn_call (old g c).shelf.raid.number (mark_turn c.args.part) c.args.now) (marks_made c.raid_mark-marks.result) (old g c)
+          (new g c) c.self.invariant.whole (shape g c) (ap (λ (v : ShelfView g.row.D.Denot). v.limits) (book g c)) stands.0 (made g c stands.0 stands.1);
       tallied =
           tally_behind (old g c).sprigs c.args.part c.index.result.now c.raid_mark-marks.new.sprig (there g c) c.index.ensures c.index-2.result.now c.index-2.ensures
           c.self.inside.tally c.tally-before.result c.tally.result c.minus.result c.plus-self-inside.result

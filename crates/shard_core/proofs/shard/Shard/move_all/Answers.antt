@@ -20,13 +20,16 @@ loop-digest-init g c = record {
 -- what is left is this digest and those behind it
 left_is : (items told : List Digest) (k : ℕ) (other : Digest) → told ≡ items → k < length told → drop k items ≡ get_or told k other ∷ drop (k + 1) items
 left_is items told k other same within =
-    ap (drop k) (sym same) ∙ drop-cons told k other within ∙ ap (λ (l : List Digest). get_or told k other ∷ l) (let next : suc k ≡ k + 1 = omega arith in ap (λ (n : ℕ). drop n told) next ∙ ap (drop (k + 1)) same)
+    ap (drop k) (sym same) ∙ drop-cons told k other within ∙ ap (λ (l : List Digest). get_or told k other ∷ l) (let next : suc k ≡ k + 1 = omega arith in ap (λ (n : ℕ). drop n told) next
+    ∙ ap (drop (k + 1)) same)
 
 pub returns-in-Err-clause-makes : goal.returns-in-Err-clause-makes
 returns-in-Err-clause-makes g c s agrees lie =
     let left = left_is c.args.vacancy.now.digests.items c.deref-digest-items.result.now c.loop-digest.digest-index _ c.deref-digest-items.ensures.value c.loop-digest-test.true in
-    goes_no_further g.D.Disk.view c.args.vacancy.now.block c.args.self.now s c.loop-digest.self c.move_record.new.self c.loop-digest.invariant.shape c.loop-digest.invariant.honest _ c.loop-digest.moved _
-    (subst (λ (l : List Digest). MakesEvents g.D.Disk.view (HaveMoved (setup_of c.args.self.now) c.args.vacancy.now.block s c.loop-digest.moved l) c.args.self.now s c.loop-digest.self) left (c.loop-digest.invariant.moves s agrees lie))
+    goes_no_further g.D.Disk.view c.args.vacancy.now.block c.args.self.now s c.loop-digest.self c.move_record.new.self c.loop-digest.invariant.shape
+    c.loop-digest.invariant.honest _ c.loop-digest.moved _
+    (subst (λ (l : List Digest). MakesEvents g.D.Disk.view (HaveMoved (setup_of c.args.self.now) c.args.vacancy.now.block s c.loop-digest.moved l) c.args.self.now s c.loop-digest.self) left
+    (c.loop-digest.invariant.moves s agrees lie))
     c.in-Err.cause c.in-Err.ensures.makes
 
 pub loop-digest-preserved : goal.loop-digest-preserved
@@ -35,10 +38,13 @@ loop-digest-preserved g c =
     record {
       few = omega (arith, c.loop-digest.invariant.few, c.count_of-moved.ensures.one);
       moves = λ s agrees lie.
-          subst (λ (n : ℕ). MakesEvents g.D.Disk.view (HaveMoved (setup_of c.args.self.now) c.args.vacancy.now.block s n (drop (c.loop-digest.digest-index + 1) c.args.vacancy.now.digests.items)) c.args.self.now s c.move_record.new.self)
+          subst (λ (n : ℕ). MakesEvents g.D.Disk.view (HaveMoved (setup_of c.args.self.now) c.args.vacancy.now.block s n
+          (drop (c.loop-digest.digest-index + 1) c.args.vacancy.now.digests.items)) c.args.self.now s c.move_record.new.self)
           (ap (λ (n : ℕ). c.loop-digest.moved + n) (sym c.count_of-moved.ensures.moved))
-          (goes_on g.D.Disk.view c.args.vacancy.now.block c.args.self.now s c.loop-digest.self c.move_record.new.self c.loop-digest.invariant.shape c.loop-digest.invariant.honest _ c.loop-digest.moved _
-          (subst (λ (l : List Digest). MakesEvents g.D.Disk.view (HaveMoved (setup_of c.args.self.now) c.args.vacancy.now.block s c.loop-digest.moved l) c.args.self.now s c.loop-digest.self) left (c.loop-digest.invariant.moves s agrees lie))
+          (goes_on g.D.Disk.view c.args.vacancy.now.block c.args.self.now s c.loop-digest.self c.move_record.new.self c.loop-digest.invariant.shape
+          c.loop-digest.invariant.honest _ c.loop-digest.moved _
+          (subst (λ (l : List Digest). MakesEvents g.D.Disk.view (HaveMoved (setup_of c.args.self.now) c.args.vacancy.now.block s c.loop-digest.moved l) c.args.self.now s c.loop-digest.self)
+          left (c.loop-digest.invariant.moves s agrees lie))
           c.in-Ok.was_there c.in-Ok.ensures.makes);
       later = later_then g.D.Disk.view c.args.self.now.shelf.disk c.loop-digest.self.shelf.disk c.move_record.new.self.shelf.disk c.loop-digest.invariant.later c.move_record.ensures.later;
       honest = λ honest. c.move_record.ensures.honest (c.loop-digest.invariant.honest honest);
@@ -47,6 +53,8 @@ loop-digest-preserved g c =
 
 pub returns-clause-makes : goal.returns-clause-makes
 returns-clause-makes g c s agrees lie =
-    let none : drop c.loop-digest.digest-index c.args.vacancy.now.digests.items ≡ [] = drop_all c.loop-digest.digest-index c.args.vacancy.now.digests.items (omega (arith, c.loop-digest-test.false, ap length c.deref-digest-items.ensures.value)) in
+    let none : drop c.loop-digest.digest-index c.args.vacancy.now.digests.items ≡ [] =
+    drop_all c.loop-digest.digest-index c.args.vacancy.now.digests.items (omega (arith, c.loop-digest-test.false, ap length c.deref-digest-items.ensures.value)) in
     all_moved g.D.Disk.view c.args.vacancy.now.block c.args.self.now s c.loop-digest.self c.loop-digest.moved
-    (subst (λ (l : List Digest). MakesEvents g.D.Disk.view (HaveMoved (setup_of c.args.self.now) c.args.vacancy.now.block s c.loop-digest.moved l) c.args.self.now s c.loop-digest.self) none (c.loop-digest.invariant.moves s agrees lie))
+    (subst (λ (l : List Digest). MakesEvents g.D.Disk.view (HaveMoved (setup_of c.args.self.now) c.args.vacancy.now.block s c.loop-digest.moved l) c.args.self.now s c.loop-digest.self) none
+    (c.loop-digest.invariant.moves s agrees lie))

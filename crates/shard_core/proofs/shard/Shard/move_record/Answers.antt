@@ -18,40 +18,69 @@ pub move_one-answer-requires-clause-stand : goal.move_one-answer-requires-clause
 move_one-answer-requires-clause-stand g c =
     let old : ShardView g.row.D.Denot = record { shelf = c.self.inside.shelf; set = c.self.inside.set; sprigs = c.self.inside.sprigs.items } in
     let stands = c.self.invariant.whole.stands in
-    let place : c.part_of-part.result ≡ part_of (setup_of old) c.args.digest.now = c.part_of-part.ensures.part ∙ ap (λ (v : ShardView g.row.D.Denot). part_of (setup_of v) c.args.digest.now) (sym c.self.view_is) in
+    let place : c.part_of-part.result ≡ part_of (setup_of old) c.args.digest.now = c.part_of-part.ensures.part
+    ∙ ap (λ (v : ShardView g.row.D.Denot). part_of (setup_of v) c.args.digest.now) (sym c.self.view_is) in
     let there : c.part_of-part.result < length old.sprigs = subst (λ (v : ShardView g.row.D.Denot). c.part_of-part.result < length v.sprigs) (sym c.self.view_is) c.part_of-part.ensures.there in (
       setup_of old,
       stands.0,
       setup_is old c.self.invariant.whole,
-      step_stands g.D.Disk.view c.args.digest.now old old c.part_of-part.result c.index_mut.result.now c.index_mut.result.now (record { geometry = refl; set = refl }) place there c.index_mut.ensures.value (sym (set_at old.sprigs c.part_of-part.result c.index_mut.result.now c.index_mut.ensures.value)) stands.0 stands.1,
+      step_stands g.D.Disk.view c.args.digest.now old old c.part_of-part.result c.index_mut.result.now c.index_mut.result.now
+          (record { geometry = refl; set = refl }) place there c.index_mut.ensures.value
+          (sym (set_at old.sprigs c.part_of-part.result c.index_mut.result.now c.index_mut.ensures.value)) stands.0 stands.1,
     )
 
 made : (g : Over) (c : goal.After-move_answer g) (s : State)
     → let old : ShardView g.row.D.Denot = record { shelf = c.self.inside.shelf; set = c.self.inside.set; sprigs = c.self.inside.sprigs.items } in
-    let new : ShardView g.row.D.Denot = record { shelf = c.move_one-answer.new.shelf; set = c.self.inside.set; sprigs = set c.self.inside.sprigs.items c.part_of-part.result c.move_one-answer.new.sprig } in
+    let new : ShardView g.row.D.Denot = record {
+      shelf = c.move_one-answer.new.shelf;
+      set = c.self.inside.set;
+      sprigs =
+          set c.self.inside.sprigs.items c.part_of-part.result c.move_one-answer.new.sprig;
+    } in
     Agrees old s → (answer : Answer) × Answers c.move_one-answer.result answer × Makes g.D.Disk.view (move_call c.args.digest.now c.args.block) answer old s new
 made g c s agrees =
     let old : ShardView g.row.D.Denot = record { shelf = c.self.inside.shelf; set = c.self.inside.set; sprigs = c.self.inside.sprigs.items } in
-    let new : ShardView g.row.D.Denot = record { shelf = c.move_one-answer.new.shelf; set = c.self.inside.set; sprigs = set c.self.inside.sprigs.items c.part_of-part.result c.move_one-answer.new.sprig } in
-    let place : c.part_of-part.result ≡ part_of (setup_of old) c.args.digest.now = c.part_of-part.ensures.part ∙ ap (λ (v : ShardView g.row.D.Denot). part_of (setup_of v) c.args.digest.now) (sym c.self.view_is) in
+    let new : ShardView g.row.D.Denot = record {
+      shelf = c.move_one-answer.new.shelf;
+      set = c.self.inside.set;
+      sprigs =
+          set c.self.inside.sprigs.items c.part_of-part.result c.move_one-answer.new.sprig;
+    } in
+    let place : c.part_of-part.result ≡ part_of (setup_of old) c.args.digest.now = c.part_of-part.ensures.part
+    ∙ ap (λ (v : ShardView g.row.D.Denot). part_of (setup_of v) c.args.digest.now) (sym c.self.view_is) in
     let there : c.part_of-part.result < length old.sprigs = subst (λ (v : ShardView g.row.D.Denot). c.part_of-part.result < length v.sprigs) (sym c.self.view_is) c.part_of-part.ensures.there in
     let shape : SameSetup old new = record { geometry = c.move_one-answer.ensures.shape.geometry; set = refl } in
-    let step = c.move_one-answer.ensures.makes (setup_of old) s (setup_is old c.self.invariant.whole) (step_stands g.D.Disk.view c.args.digest.now old new c.part_of-part.result c.index_mut.result.now c.move_one-answer.new.sprig shape place there c.index_mut.ensures.value refl s agrees) in (
+    let step = c.move_one-answer.ensures.makes (setup_of old) s (setup_is old c.self.invariant.whole)
+    (step_stands g.D.Disk.view c.args.digest.now old new c.part_of-part.result c.index_mut.result.now c.move_one-answer.new.sprig shape place there
+    c.index_mut.ensures.value refl s agrees) in (
       step.0,
       step.1,
-      lifted g.D.Disk.view c.args.digest.now old new c.part_of-part.result c.index_mut.result.now c.move_one-answer.new.sprig shape place there c.index_mut.ensures.value refl (move_call c.args.digest.now c.args.block) step.0 (subst (λ (v : ShardView g.row.D.Denot). device_number v.shelf.geometry.devices c.args.digest.now ≡ v.shelf.geometry.device) (sym c.self.view_is) c.requires.named) refl s agrees step.2,
+      lifted g.D.Disk.view c.args.digest.now old new c.part_of-part.result c.index_mut.result.now c.move_one-answer.new.sprig shape place there c.index_mut.ensures.value refl
+          (move_call c.args.digest.now c.args.block) step.0 (subst (λ (v : ShardView g.row.D.Denot). device_number v.shelf.geometry.devices c.args.digest.now ≡ v.shelf.geometry.device)
+          (sym c.self.view_is) c.requires.named) refl s agrees step.2,
     )
 
 pub returns-clause-makes : goal.returns-clause-makes
 returns-clause-makes g c =
-    let new : ShardView g.row.D.Denot = record { shelf = c.move_one-answer.new.shelf; set = c.self.inside.set; sprigs = set c.self.inside.sprigs.items c.part_of-part.result c.move_one-answer.new.sprig } in
-    subst (λ (v : ShardView g.row.D.Denot). (s : State) → Agrees v s → (answer : Answer) × IsMoved c.move_answer.result answer × Makes g.D.Disk.view (move_call c.args.digest.now c.args.block) answer v s new) c.self.view_is
+    let new : ShardView g.row.D.Denot = record {
+      shelf = c.move_one-answer.new.shelf;
+      set = c.self.inside.set;
+      sprigs =
+          set c.self.inside.sprigs.items c.part_of-part.result c.move_one-answer.new.sprig;
+    } in
+    subst (λ (v : ShardView g.row.D.Denot). (s : State) → Agrees v s → (answer : Answer) × IsMoved c.move_answer.result answer
+    × Makes g.D.Disk.view (move_call c.args.digest.now c.args.block) answer v s new) c.self.view_is
     (λ s agrees. let all = made g c s agrees in (all.0, moved_so c.move_one-answer.result c.move_answer.result all.0 c.move_answer.ensures all.1, all.2))
 
 pub invariant_of-self : goal.invariant_of-self
 invariant_of-self g c =
     let old : ShardView g.row.D.Denot = record { shelf = c.self.inside.shelf; set = c.self.inside.set; sprigs = c.self.inside.sprigs.items } in
-    let new : ShardView g.row.D.Denot = record { shelf = c.move_one-answer.new.shelf; set = c.self.inside.set; sprigs = set c.self.inside.sprigs.items c.part_of-part.result c.move_one-answer.new.sprig } in
+    let new : ShardView g.row.D.Denot = record {
+      shelf = c.move_one-answer.new.shelf;
+      set = c.self.inside.set;
+      sprigs =
+          set c.self.inside.sprigs.items c.part_of-part.result c.move_one-answer.new.sprig;
+    } in
     let shape : SameSetup old new = record { geometry = c.move_one-answer.ensures.shape.geometry; set = refl } in
     let there : c.part_of-part.result < length old.sprigs = subst (λ (v : ShardView g.row.D.Denot). c.part_of-part.result < length v.sprigs) (sym c.self.view_is) c.part_of-part.ensures.there in
     let stands = c.self.invariant.whole.stands in

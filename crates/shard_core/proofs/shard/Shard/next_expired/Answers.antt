@@ -43,7 +43,8 @@ left_from shard part now last sprig next at same =
     ∙ ap digests_in (swapped (λ e. is_behind last e.digest) (is_expired_entry now) sprig.entries ∙ sym same)
 
 -- the sprig of the part
-sprig_at : {D : Type 0} (inside self : ShardView D) → inside ≡ self → IsWhole inside → (part : ℕ) → part < part_total (setup_of self) → (sprig : SprigState) → sprig ≡ get_or inside.sprigs part sprig → slice_get self.sprigs part ≡ Some sprig
+sprig_at : {D : Type 0} (inside self : ShardView D) → inside ≡ self → IsWhole inside → (part : ℕ) → part < part_total (setup_of self) → (sprig : SprigState)
+    → sprig ≡ get_or inside.sprigs part sprig → slice_get self.sprigs part ≡ Some sprig
 sprig_at {D} inside self is whole part below sprig at =
     let within : part < length inside.sprigs = subst (λ (n : ℕ). part < n) (sym whole.stands.1.sprigs.count) (subst (λ (v : ShardView D). part < part_total (setup_of v)) (sym is) below) in
     subst (λ (v : ShardView D). slice_get v.sprigs part ≡ Some sprig) is (get_there inside.sprigs part sprig within at)
@@ -52,7 +53,8 @@ pub loop-next-init : goal.loop-next-init
 loop-next-init g c =
     let es : List Entry = c.index-sprig.result.now.entries in
     let next : c.next_after-next.result ≡ entry_after c.args.last es = c.next_after-next.ensures.value ∙ ap (λ (o : Option Digest). entry_after o es) c.as_ref.ensures.value in
-    ap (λ (o : Option Entry). filter (is_expired_entry c.args.now) (rest_from o es)) next ∙ ap (filter (is_expired_entry c.args.now)) (sym (entries_behind c.args.last es c.next_after-next.ensures.sorted))
+    ap (λ (o : Option Entry). filter (is_expired_entry c.args.now) (rest_from o es)) next
+    ∙ ap (filter (is_expired_entry c.args.now)) (sym (entries_behind c.args.last es c.next_after-next.ensures.sorted))
 
 pub loop-next-preserved : goal.loop-next-preserved
 loop-next-preserved g c =
@@ -61,7 +63,8 @@ loop-next-preserved g c =
     let fails : is_expired_entry c.args.now e ≡ false = sym (tested c.args.now e c.expired_put.result c.is_some.result c.is_some.ensures c.expired_put.ensures) ∙ c.if-is_some.false in
     ap (λ (o : Option Entry). filter (is_expired_entry c.args.now) (rest_from o es)) c.next_after-next-in-Some.ensures.value
     ∙ ap (filter (is_expired_entry c.args.now)) (sym (entries_behind (Some e.digest) es c.next_after-next.ensures.sorted))
-    ∙ sym (cond-false (is_expired_entry c.args.now e) (e ∷ filter (is_expired_entry c.args.now) (rest_behind (Some e.digest) es)) (filter (is_expired_entry c.args.now) (rest_behind (Some e.digest) es)) fails)
+    ∙ sym (cond-false (is_expired_entry c.args.now e) (e ∷ filter (is_expired_entry c.args.now) (rest_behind (Some e.digest) es))
+    (filter (is_expired_entry c.args.now) (rest_behind (Some e.digest) es)) fails)
     ∙ ap (λ (o : Option Entry). filter (is_expired_entry c.args.now) (rest_from o es)) (sym c.in-Some.is)
     ∙ c.loop-next.invariant
 
@@ -83,7 +86,8 @@ returns-then-is_some-clause-next g c =
     (left_from c.args.self.now c.args.part c.args.now c.args.last c.index-sprig.result.now c.loop-next.next
     (sprig_at _ c.args.self.now c.self.view_is c.self.invariant.whole c.args.part c.requires c.index-sprig.result.now c.index-sprig.ensures) c.loop-next.invariant
     ∙ ap (λ (o : Option Entry). digests_in (filter (is_expired_entry c.args.now) (rest_from o es))) c.in-Some.is
-    ∙ ap digests_in (cond-true (is_expired_entry c.args.now e) (e ∷ filter (is_expired_entry c.args.now) (rest_behind (Some e.digest) es)) (filter (is_expired_entry c.args.now) (rest_behind (Some e.digest) es)) passes)))
+    ∙ ap digests_in (cond-true (is_expired_entry c.args.now e) (e ∷ filter (is_expired_entry c.args.now) (rest_behind (Some e.digest) es))
+    (filter (is_expired_entry c.args.now) (rest_behind (Some e.digest) es)) passes)))
 
 pub returns-clause-next : goal.returns-clause-next
 returns-clause-next g c =

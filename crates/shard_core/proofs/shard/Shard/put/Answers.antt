@@ -27,37 +27,69 @@ pub put_step-answer-requires-clause-stand : goal.put_step-answer-requires-clause
 put_step-answer-requires-clause-stand g c =
     let old : ShardView g.row.D.Denot = record { shelf = c.self.inside.shelf; set = c.self.inside.set; sprigs = c.self.inside.sprigs.items } in
     let stands = c.self.invariant.whole.stands in
-    let place : c.part_of-part.result ≡ part_of (setup_of old) c.args.digest.now = c.part_of-part.ensures.part ∙ ap (λ (v : ShardView g.row.D.Denot). part_of (setup_of v) c.args.digest.now) (sym c.self.view_is) in
-    let there : c.part_of-part.result < length old.sprigs = subst (λ (v : ShardView g.row.D.Denot). c.part_of-part.result < length v.sprigs) (sym c.self.view_is) c.part_of-part.ensures.there in
-    (stands.0, step_stands g.D.Disk.view c.args.digest.now old old c.part_of-part.result c.index_mut.result.now c.index_mut.result.now (record { geometry = refl; set = refl }) place there c.index_mut.ensures.value (sym (set_at old.sprigs c.part_of-part.result c.index_mut.result.now c.index_mut.ensures.value)) stands.0 stands.1)
+    let place : c.part_of-part.result ≡ part_of (setup_of old) c.args.digest.now = c.part_of-part.ensures.part
+    ∙ ap (λ (v : ShardView g.row.D.Denot). part_of (setup_of v) c.args.digest.now) (sym c.self.view_is) in
+    let there : c.part_of-part.result < length old.sprigs = subst (λ (v : ShardView g.row.D.Denot). c.part_of-part.result < length v.sprigs) (sym c.self.view_is) c.part_of-part.ensures.there in (
+      stands.0,
+      step_stands g.D.Disk.view c.args.digest.now old old c.part_of-part.result c.index_mut.result.now c.index_mut.result.now
+          (record { geometry = refl; set = refl }) place there c.index_mut.ensures.value
+          (sym (set_at old.sprigs c.part_of-part.result c.index_mut.result.now c.index_mut.ensures.value)) stands.0 stands.1,
+    )
 
 made : (g : Over) (c : goal.After-self-2-1 g) (s : State)
     → let old : ShardView g.row.D.Denot = record { shelf = c.self.inside.shelf; set = c.self.inside.set; sprigs = c.self.inside.sprigs.items } in
-    let new : ShardView g.row.D.Denot = record { shelf = c.put_step-answer.new.shelf; set = c.self.inside.set; sprigs = set c.self.inside.sprigs.items c.part_of-part.result c.put_step-answer.new.sprig } in
+    let new : ShardView g.row.D.Denot = record {
+      shelf = c.put_step-answer.new.shelf;
+      set = c.self.inside.set;
+      sprigs =
+          set c.self.inside.sprigs.items c.part_of-part.result c.put_step-answer.new.sprig;
+    } in
     Agrees old s → Makes g.D.Disk.view (put_call c.args.digest.now c.args.ttl c.args.expect c.args.payload.now c.args.now) (write_answer c.put_step-answer.result) old s new
 made g c s agrees =
     let old : ShardView g.row.D.Denot = record { shelf = c.self.inside.shelf; set = c.self.inside.set; sprigs = c.self.inside.sprigs.items } in
-    let new : ShardView g.row.D.Denot = record { shelf = c.put_step-answer.new.shelf; set = c.self.inside.set; sprigs = set c.self.inside.sprigs.items c.part_of-part.result c.put_step-answer.new.sprig } in
-    let place : c.part_of-part.result ≡ part_of (setup_of old) c.args.digest.now = c.part_of-part.ensures.part ∙ ap (λ (v : ShardView g.row.D.Denot). part_of (setup_of v) c.args.digest.now) (sym c.self.view_is) in
+    let new : ShardView g.row.D.Denot = record {
+      shelf = c.put_step-answer.new.shelf;
+      set = c.self.inside.set;
+      sprigs =
+          set c.self.inside.sprigs.items c.part_of-part.result c.put_step-answer.new.sprig;
+    } in
+    let place : c.part_of-part.result ≡ part_of (setup_of old) c.args.digest.now = c.part_of-part.ensures.part
+    ∙ ap (λ (v : ShardView g.row.D.Denot). part_of (setup_of v) c.args.digest.now) (sym c.self.view_is) in
     let there : c.part_of-part.result < length old.sprigs = subst (λ (v : ShardView g.row.D.Denot). c.part_of-part.result < length v.sprigs) (sym c.self.view_is) c.part_of-part.ensures.there in
     let shape : SameSetup old new = record { geometry = c.put_step-answer.ensures.shape.geometry; set = refl } in
-    lifted g.D.Disk.view c.args.digest.now old new c.part_of-part.result c.index_mut.result.now c.put_step-answer.new.sprig shape place there c.index_mut.ensures.value refl (put_call c.args.digest.now c.args.ttl c.args.expect c.args.payload.now c.args.now) (write_answer c.put_step-answer.result) (subst (λ (v : ShardView g.row.D.Denot). device_number v.shelf.geometry.devices c.args.digest.now ≡ v.shelf.geometry.device) (sym c.self.view_is) c.requires.named) refl s agrees
-    (c.put_step-answer.ensures.makes s (step_stands g.D.Disk.view c.args.digest.now old new c.part_of-part.result c.index_mut.result.now c.put_step-answer.new.sprig shape place there c.index_mut.ensures.value refl s agrees))
+    lifted g.D.Disk.view c.args.digest.now old new c.part_of-part.result c.index_mut.result.now c.put_step-answer.new.sprig shape place there c.index_mut.ensures.value refl
+    (put_call c.args.digest.now c.args.ttl c.args.expect c.args.payload.now c.args.now) (write_answer c.put_step-answer.result)
+    (subst (λ (v : ShardView g.row.D.Denot). device_number v.shelf.geometry.devices c.args.digest.now ≡ v.shelf.geometry.device) (sym c.self.view_is) c.requires.named) refl s agrees
+    (c.put_step-answer.ensures.makes s
+    (step_stands g.D.Disk.view c.args.digest.now old new c.part_of-part.result c.index_mut.result.now c.put_step-answer.new.sprig shape place there
+    c.index_mut.ensures.value refl s agrees))
 
 pub returns-clause-makes : goal.returns-clause-makes
 returns-clause-makes g c =
-    let new : ShardView g.row.D.Denot = record { shelf = c.put_step-answer.new.shelf; set = c.self.inside.set; sprigs = set c.self.inside.sprigs.items c.part_of-part.result c.put_step-answer.new.sprig } in
-    subst (λ (v : ShardView g.row.D.Denot). (s : State) → Agrees v s → Makes g.D.Disk.view (put_call c.args.digest.now c.args.ttl c.args.expect c.args.payload.now c.args.now) (write_answer c.put_step-answer.result) v s new) c.self.view_is (made g c)
+    let new : ShardView g.row.D.Denot = record {
+      shelf = c.put_step-answer.new.shelf;
+      set = c.self.inside.set;
+      sprigs =
+          set c.self.inside.sprigs.items c.part_of-part.result c.put_step-answer.new.sprig;
+    } in
+    subst (λ (v : ShardView g.row.D.Denot). (s : State) → Agrees v s
+    → Makes g.D.Disk.view (put_call c.args.digest.now c.args.ttl c.args.expect c.args.payload.now c.args.now) (write_answer c.put_step-answer.result) v s new) c.self.view_is (made g c)
 
 pub invariant_of-self : goal.invariant_of-self
 invariant_of-self g c =
     let old : ShardView g.row.D.Denot = record { shelf = c.self.inside.shelf; set = c.self.inside.set; sprigs = c.self.inside.sprigs.items } in
-    let new : ShardView g.row.D.Denot = record { shelf = c.put_step-answer.new.shelf; set = c.self.inside.set; sprigs = set c.self.inside.sprigs.items c.part_of-part.result c.put_step-answer.new.sprig } in
+    let new : ShardView g.row.D.Denot = record {
+      shelf = c.put_step-answer.new.shelf;
+      set = c.self.inside.set;
+      sprigs =
+          set c.self.inside.sprigs.items c.part_of-part.result c.put_step-answer.new.sprig;
+    } in
     let shape : SameSetup old new = record { geometry = c.put_step-answer.ensures.shape.geometry; set = refl } in
     let there : c.part_of-part.result < length old.sprigs = subst (λ (v : ShardView g.row.D.Denot). c.part_of-part.result < length v.sprigs) (sym c.self.view_is) c.part_of-part.ensures.there in
     let stands = c.self.invariant.whole.stands in
     record {
-      whole = whole_made g.D.Disk.view (put_call c.args.digest.now c.args.ttl c.args.expect c.args.payload.now c.args.now) (write_answer c.put_step-answer.result) old new c.self.invariant.whole shape c.put_step-answer.ensures.shape.limits stands.0 (made g c stands.0 stands.1);
+      whole = whole_made g.D.Disk.view (put_call c.args.digest.now c.args.ttl c.args.expect c.args.payload.now c.args.now)
+          (write_answer c.put_step-answer.result) old new c.self.invariant.whole shape c.put_step-answer.ensures.shape.limits stands.0 (made g c stands.0 stands.1);
       tallied =
           tally_behind old.sprigs c.part_of-part.result c.index.result.now c.put_step-answer.new.sprig there c.index.ensures c.index-2.result.now c.index-2.ensures
           c.self.inside.tally c.tally-before.result c.tally.result c.minus.result c.plus-self-inside.result
@@ -66,11 +98,13 @@ invariant_of-self g c =
 
 pub returns-clause-in_room : goal.returns-clause-in_room
 returns-clause-in_room g c =
-    subst (λ (v : ShardView g.row.D.Denot). v.set.commit ≡ false → HasRoom Client (units_for (length c.args.payload.now)) v.shelf.buffers → c.put_step-answer.new.shelf.disk ≡ v.shelf.disk) c.self.view_is c.put_step-answer.ensures.in_room
+    subst (λ (v : ShardView g.row.D.Denot). v.set.commit ≡ false → HasRoom Client (units_for (length c.args.payload.now)) v.shelf.buffers
+    → c.put_step-answer.new.shelf.disk ≡ v.shelf.disk) c.self.view_is c.put_step-answer.ensures.in_room
 
 pub returns-clause-quiet : goal.returns-clause-quiet
 returns-clause-quiet g c =
-    subst (λ (v : ShardView g.row.D.Denot). v.set.commit ≡ false → gate_at v.shelf.gates (first_block v.shelf.free) ≡ Shut → c.put_step-answer.new.shelf.disk ≡ v.shelf.disk) c.self.view_is c.put_step-answer.ensures.quiet
+    subst (λ (v : ShardView g.row.D.Denot). v.set.commit ≡ false → gate_at v.shelf.gates (first_block v.shelf.free) ≡ Shut
+    → c.put_step-answer.new.shelf.disk ≡ v.shelf.disk) c.self.view_is c.put_step-answer.ensures.quiet
 
 pub returns-clause-later : goal.returns-clause-later
 returns-clause-later g c =
@@ -82,7 +116,12 @@ returns-clause-honest g c =
 
 pub returns-clause-shape : goal.returns-clause-shape
 returns-clause-shape g c =
-    let new : ShardView g.row.D.Denot = record { shelf = c.put_step-answer.new.shelf; set = c.self.inside.set; sprigs = set c.self.inside.sprigs.items c.part_of-part.result c.put_step-answer.new.sprig } in
+    let new : ShardView g.row.D.Denot = record {
+      shelf = c.put_step-answer.new.shelf;
+      set = c.self.inside.set;
+      sprigs =
+          set c.self.inside.sprigs.items c.part_of-part.result c.put_step-answer.new.sprig;
+    } in
     subst (λ (v : ShardView g.row.D.Denot). SameSetup v new) c.self.view_is (record { geometry = c.put_step-answer.ensures.shape.geometry; set = refl })
 
 pub put_step-answer-requires-clause-named : goal.put_step-answer-requires-clause-named
@@ -92,23 +131,45 @@ put_step-answer-requires-clause-named g c =
 pub returns-clause-refused : goal.returns-clause-refused
 returns-clause-refused g c =
     let old : ShardView g.row.D.Denot = record { shelf = c.self.inside.shelf; set = c.self.inside.set; sprigs = c.self.inside.sprigs.items } in
-    let new : ShardView g.row.D.Denot = record { shelf = c.put_step-answer.new.shelf; set = c.self.inside.set; sprigs = set c.self.inside.sprigs.items c.part_of-part.result c.put_step-answer.new.sprig } in
-    let place : c.part_of-part.result ≡ part_of (setup_of old) c.args.digest.now = c.part_of-part.ensures.part ∙ ap (λ (v : ShardView g.row.D.Denot). part_of (setup_of v) c.args.digest.now) (sym c.self.view_is) in
+    let new : ShardView g.row.D.Denot = record {
+      shelf = c.put_step-answer.new.shelf;
+      set = c.self.inside.set;
+      sprigs =
+          set c.self.inside.sprigs.items c.part_of-part.result c.put_step-answer.new.sprig;
+    } in
+    let place : c.part_of-part.result ≡ part_of (setup_of old) c.args.digest.now = c.part_of-part.ensures.part
+    ∙ ap (λ (v : ShardView g.row.D.Denot). part_of (setup_of v) c.args.digest.now) (sym c.self.view_is) in
     let there : c.part_of-part.result < length old.sprigs = subst (λ (v : ShardView g.row.D.Denot). c.part_of-part.result < length v.sprigs) (sym c.self.view_is) c.part_of-part.ensures.there in
     let shape : SameSetup old new = record { geometry = c.put_step-answer.ensures.shape.geometry; set = refl } in
     subst (λ (v : ShardView g.row.D.Denot). IfErr c.put_step-answer.result (λ refusal. ((refusal ≡ write.Fault) × (v.set.commit ≡ true)) ⊎ IsRefusedWrite v new refusal)) c.self.view_is
     (by c.put_step-answer.result c.put_step-answer.ensures.refused)
   where
-    by : (r : Result Stamp WriteRefusal) → IfErr r (λ refusal. ((refusal ≡ write.Fault) × (c.self.inside.set.commit ≡ true)) ⊎ IsRefusedStep c.index_mut.result.now c.put_step-answer.new.sprig c.self.inside.shelf c.put_step-answer.new.shelf refusal)
+    by : (r : Result Stamp WriteRefusal) → IfErr r (λ refusal. ((refusal ≡ write.Fault) × (c.self.inside.set.commit ≡ true))
+        ⊎ IsRefusedStep c.index_mut.result.now c.put_step-answer.new.sprig c.self.inside.shelf c.put_step-answer.new.shelf refusal)
         → let old : ShardView g.row.D.Denot = record { shelf = c.self.inside.shelf; set = c.self.inside.set; sprigs = c.self.inside.sprigs.items } in
-        let new : ShardView g.row.D.Denot = record { shelf = c.put_step-answer.new.shelf; set = c.self.inside.set; sprigs = set c.self.inside.sprigs.items c.part_of-part.result c.put_step-answer.new.sprig } in
+        let new : ShardView g.row.D.Denot = record {
+          shelf = c.put_step-answer.new.shelf;
+          set = c.self.inside.set;
+          sprigs =
+              set c.self.inside.sprigs.items c.part_of-part.result c.put_step-answer.new.sprig;
+        } in
         IfErr r (λ refusal. ((refusal ≡ write.Fault) × (old.set.commit ≡ true)) ⊎ IsRefusedWrite old new refusal)
     by (Ok x) tt = tt
     by (Err refusal) (inl fault) = inl fault
     by (Err refusal) (inr left) =
         let old : ShardView g.row.D.Denot = record { shelf = c.self.inside.shelf; set = c.self.inside.set; sprigs = c.self.inside.sprigs.items } in
-        let new : ShardView g.row.D.Denot = record { shelf = c.put_step-answer.new.shelf; set = c.self.inside.set; sprigs = set c.self.inside.sprigs.items c.part_of-part.result c.put_step-answer.new.sprig } in
-        let place : c.part_of-part.result ≡ part_of (setup_of old) c.args.digest.now = c.part_of-part.ensures.part ∙ ap (λ (v : ShardView g.row.D.Denot). part_of (setup_of v) c.args.digest.now) (sym c.self.view_is) in
+        let new : ShardView g.row.D.Denot = record {
+          shelf = c.put_step-answer.new.shelf;
+          set = c.self.inside.set;
+          sprigs =
+              set c.self.inside.sprigs.items c.part_of-part.result c.put_step-answer.new.sprig;
+        } in
+        let place : c.part_of-part.result ≡ part_of (setup_of old) c.args.digest.now = c.part_of-part.ensures.part
+        ∙ ap (λ (v : ShardView g.row.D.Denot). part_of (setup_of v) c.args.digest.now) (sym c.self.view_is) in
         let there : c.part_of-part.result < length old.sprigs = subst (λ (v : ShardView g.row.D.Denot). c.part_of-part.result < length v.sprigs) (sym c.self.view_is) c.part_of-part.ensures.there in
         let shape : SameSetup old new = record { geometry = c.put_step-answer.ensures.shape.geometry; set = refl } in
-        inr (record { sprigs = sprigs_same g.D.Disk.view c.args.digest.now old new c.part_of-part.result c.index_mut.result.now c.put_step-answer.new.sprig shape place there c.index_mut.ensures.value refl left.sprig; shelf = left.shelf })
+        inr (record {
+          sprigs = sprigs_same g.D.Disk.view c.args.digest.now old new c.part_of-part.result c.index_mut.result.now c.put_step-answer.new.sprig shape place there
+              c.index_mut.ensures.value refl left.sprig;
+          shelf = left.shelf;
+        })

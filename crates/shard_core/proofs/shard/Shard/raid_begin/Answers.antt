@@ -38,12 +38,18 @@ module _ (g : Over) (c : goal.After-raid_begin g) where
       both false = refl
 
   made : (s : State) → Agrees old s → Makes g.D.Disk.view begin_call (raid_numbered (number_of c.raid_begin.result)) old s new
-  made s agrees = shelf_lifted g.D.Disk.view old new shape refl begin_call (raid_numbered (number_of c.raid_begin.result)) tt refl s agrees (c.raid_begin.ensures.makes (setup_of old) s (setup_is old c.self.invariant.whole) agrees.shelf)
+  made s agrees = shelf_lifted g.D.Disk.view old new shape refl begin_call (raid_numbered (number_of c.raid_begin.result)) tt refl s agrees
+      (c.raid_begin.ensures.makes (setup_of old) s (setup_is old c.self.invariant.whole) agrees.shelf)
 
 pub invariant_of-self : goal.invariant_of-self
 invariant_of-self g c =
     let stands = c.self.invariant.whole.stands in
-    record { whole = whole_made g.D.Disk.view begin_call (raid_numbered (number_of c.raid_begin.result)) (old g c) (new g c) c.self.invariant.whole (shape g c) (limits g c) stands.0 (made g c stands.0 stands.1); tallied = c.self.invariant.tallied }
+    record {
+      whole = whole_made g.D.Disk.view begin_call (raid_numbered (number_of c.raid_begin.result)) (old g c) (new g c) c.self.invariant.whole (shape g c) (limits g c) stands.0
+          (made g c stands.0 stands.1);
+      tallied = c.self.invariant.tallied;
+    }
 
 pub returns-clause-makes : goal.returns-clause-makes
-returns-clause-makes g c = subst (λ (v : ShardView g.row.D.Denot). (s : State) → Agrees v s → Makes g.D.Disk.view begin_call (raid_numbered (number_of c.raid_begin.result)) v s (new g c)) c.self.view_is (made g c)
+returns-clause-makes g c = subst (λ (v : ShardView g.row.D.Denot). (s : State) → Agrees v s
+    → Makes g.D.Disk.view begin_call (raid_numbered (number_of c.raid_begin.result)) v s (new g c)) c.self.view_is (made g c)

@@ -21,7 +21,9 @@ invariant_of-self g c =
     let at : old.shelf.raid.next ≡ Scan block = ap (λ (v : ShardView g.row.D.Denot). v.shelf.raid.next) c.self.view_is ∙ c.requires.turn.1 in
     let shape : SameSetup old new = record { geometry = ap (λ (v : ShelfView g.row.D.Denot). v.geometry) c.raid_scan.ensures.rest; set = refl } in
     record {
-      whole = scan_whole g.D.Disk.view block 0 old new shape refl c.raid_scan.result (λ s stands. c.raid_scan.ensures.makes (setup_of old) s 0 block at (setup_is old c.self.invariant.whole) stands) c.self.invariant.whole (ap (λ (v : ShelfView g.row.D.Denot). v.limits) c.raid_scan.ensures.rest);
+      whole = scan_whole g.D.Disk.view block 0 old new shape refl c.raid_scan.result
+          (λ s stands. c.raid_scan.ensures.makes (setup_of old) s 0 block at (setup_is old c.self.invariant.whole) stands) c.self.invariant.whole
+          (ap (λ (v : ShelfView g.row.D.Denot). v.limits) c.raid_scan.ensures.rest);
       tallied = c.self.invariant.tallied;
     }
 
@@ -34,10 +36,12 @@ returns g c now =
     let shape : SameSetup old new = record { geometry = ap (λ (v : ShelfView g.row.D.Denot). v.geometry) c.raid_scan.ensures.rest; set = refl } in
     let is = setup_is old c.self.invariant.whole in
     let fits : FitsTurn old.shelf.raid.next old.shelf.raid = subst (λ (v : ShardView g.row.D.Denot). FitsTurn v.shelf.raid.next v.shelf.raid) (sym c.self.view_is) c.requires.fits in
-    let done : (result : Result RaidDid RaidRefusal) → c.match-raid_scan.result ≡ result → TakesTurn g.D.Disk.view (Scan block) now result old new → TakesTurn g.D.Disk.view c.args.self.now.shelf.raid.next now c.match-raid_scan.result c.args.self.now new =
+    let done : (result : Result RaidDid RaidRefusal) → c.match-raid_scan.result ≡ result → TakesTurn g.D.Disk.view (Scan block) now result old new
+    → TakesTurn g.D.Disk.view c.args.self.now.shelf.raid.next now c.match-raid_scan.result c.args.self.now new =
     λ result told taken.
     subst (λ (v : ShardView g.row.D.Denot). TakesTurn g.D.Disk.view v.shelf.raid.next now c.match-raid_scan.result v new) c.self.view_is
-    (subst (λ (n : RaidNext). TakesTurn g.D.Disk.view n now c.match-raid_scan.result old new) (sym at) (subst (λ (r : Result RaidDid RaidRefusal). TakesTurn g.D.Disk.view (Scan block) now r old new) (sym told) taken)) in
+    (subst (λ (n : RaidNext). TakesTurn g.D.Disk.view n now c.match-raid_scan.result old new) (sym at)
+    (subst (λ (r : Result RaidDid RaidRefusal). TakesTurn g.D.Disk.view (Scan block) now r old new) (sym told) taken)) in
     let alike : StaysPossible g.D.Disk.view block now old new shape refl = λ s sure honest stands hold. c.raid_scan.ensures.alike (setup_of old) s sure honest stands hold in
     elim c.match-raid_scan.branch [
       | in-Ok w ↦
@@ -45,7 +49,8 @@ returns g c now =
           let same : block ≡ w.in-Ok.block = cc in
           done (Ok (Scanned block)) (w.result-is ∙ ap (λ (b : ℕ). Ok (Scanned b)) (sym same))
           (scan_taken g.D.Disk.view block now old new shape refl at alike c.raid_scan.ensures.sure c.raid_scan.ensures.later c.raid_scan.ensures.honest
-          (subst (λ (b : ℕ). ScansSo g.D.Disk.view block now old new shape refl (Ok b)) (sym same) (λ s stands. w.in-Ok.ensures.makes (setup_of old) s now block at is stands)) fits w.in-Ok.ensures.turned)
+          (subst (λ (b : ℕ). ScansSo g.D.Disk.view block now old new shape refl (Ok b)) (sym same) (λ s stands. w.in-Ok.ensures.makes (setup_of old) s now block at is stands))
+          fits w.in-Ok.ensures.turned)
       | in-Err w ↦
           done (Err w.in-Err.refusal) w.result-is
           (scan_refused g.D.Disk.view block now old new shape refl at alike c.raid_scan.ensures.sure c.raid_scan.ensures.later c.raid_scan.ensures.honest w.in-Err.refusal

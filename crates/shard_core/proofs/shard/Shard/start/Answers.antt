@@ -23,7 +23,8 @@ begun-requires-clause-stand g c = λ honest.
     let scanned = c.in_ok-disk.field-0 in
     let e = c.in_ok-disk.ensures in
     let told = (e.read.was_honest honest).told in
-    gates_stand scanned.geometry (g.D.Disk.view c.args.disk).seen (g.D.Disk.view scanned.disk).may_leave (e.only told) scanned.gates.items e.found.bodies e.found.count (e.found.gates told) (e.found.passes told).blocks
+    gates_stand scanned.geometry (g.D.Disk.view c.args.disk).seen (g.D.Disk.view scanned.disk).may_leave (e.only told) scanned.gates.items e.found.bodies e.found.count (e.found.gates told)
+    (e.found.passes told).blocks
 
 pub begun-requires-clause-found : goal.begun-requires-clause-found
 begun-requires-clause-found g c =
@@ -40,7 +41,8 @@ returns-clause-stands g c =
     let finding : Finding = record { sprigs = c.in-Ok.sprigs; greatest = scanned.next_number - 1 } in
     let is = is_finding scanned c.args.set found.bodies finding found.found found.count (c.in-Ok.ensures (copies_of found.bodies) found.found.latest) refl in
     both c.begun.result c.begun.ensures.begun c.begun.ensures.behind
-    (λ shard begins behind. stands_behind g.D.Disk.view scanned.disk scanned.geometry c.args.set finding c.args.asked found.bodies shard begins (behind found.bodies is) (g.D.Disk.view c.args.disk) found.passes e.only)
+    (λ shard begins behind. stands_behind g.D.Disk.view scanned.disk scanned.geometry c.args.set finding c.args.asked found.bodies shard begins (behind found.bodies is)
+    (g.D.Disk.view c.args.disk) found.passes e.only)
     (λ refusal is. tt)
 
 pub returns-clause-begins : goal.returns-clause-begins
@@ -52,7 +54,8 @@ returns-clause-begins g c = λ told.
     let is = is_finding scanned c.args.set found.bodies finding found.found found.count (c.in-Ok.ensures (copies_of found.bodies) found.found.latest) refl in
     let bytes = (g.D.Disk.view c.args.disk).seen in
     both c.begun.result c.begun.ensures.begun c.begun.ensures.behind
-    (λ shard begins behind. begins_from g.D.Disk.view scanned.disk scanned.geometry c.args.set finding c.args.asked found.bodies shard begins (behind found.bodies is) bytes (found.passes told) scanned.gates.items e.shape.geometry c.requires is)
+    (λ shard begins behind. begins_from g.D.Disk.view scanned.disk scanned.geometry c.args.set finding c.args.asked found.bodies shard begins (behind found.bodies is) bytes
+    (found.passes told) scanned.gates.items e.shape.geometry c.requires is)
     (λ refusal is. subst (IsRefused c.args.asked bytes) (sym is.1) tt)
 
 pub returns-clause-safe : goal.returns-clause-safe
@@ -63,7 +66,8 @@ returns-clause-safe g c = λ honest.
     let finding : Finding = record { sprigs = c.in-Ok.sprigs; greatest = scanned.next_number - 1 } in
     let is = is_finding scanned c.args.set found.bodies finding found.found found.count (c.in-Ok.ensures (copies_of found.bodies) found.found.latest) refl in
     both c.begun.result c.begun.ensures.begun c.begun.ensures.behind
-    (λ shard begins behind. safe_behind g.D.Disk.view scanned.disk scanned.geometry c.args.set finding c.args.asked found.bodies shard begins (behind found.bodies is) (g.D.Disk.view c.args.disk).seen (found.passes honest.told)
+    (λ shard begins behind. safe_behind g.D.Disk.view scanned.disk scanned.geometry c.args.set finding c.args.asked found.bodies shard begins (behind found.bodies is)
+    (g.D.Disk.view c.args.disk).seen (found.passes honest.told)
     (e.read.honest honest) (e.only honest.told))
     (λ refusal is. tt)
 
@@ -75,7 +79,8 @@ returns-clause-again g c honest old s disk_was set_was device devices agrees saf
     let finding : Finding = record { sprigs = c.in-Ok.sprigs; greatest = scanned.next_number - 1 } in
     let is = is_finding scanned c.args.set found.bodies finding found.found found.count (c.in-Ok.ensures (copies_of found.bodies) found.found.latest) refl in
     both c.begun.result c.begun.ensures.begun c.begun.ensures.behind
-    (λ shard begins behind. starts_again g.D.Disk.view c.args.disk c.args.asked old s disk_was device devices honest safe scanned.disk scanned.geometry c.args.set finding found.bodies shard set_was begins (behind found.bodies is)
+    (λ shard begins behind. starts_again g.D.Disk.view c.args.disk c.args.asked old s disk_was device devices honest safe scanned.disk scanned.geometry c.args.set finding found.bodies shard
+    set_was begins (behind found.bodies is)
     (found.passes honest.told) (e.read.honest honest) (e.only honest.told) agrees)
     (λ refusal is. subst IsNoRefusal (sym is.1) tt)
 

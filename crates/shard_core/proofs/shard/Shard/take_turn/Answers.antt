@@ -9,7 +9,8 @@ pub returns-in-Scan : goal.returns-in-Scan
 returns-in-Scan g c = subst (λ (n : RaidNext). TakesTurn g.D.Disk.view n c.args.now c.scan_block.result c.args.self.now c.scan_block.new.self) c.requires.next (c.scan_block.ensures c.args.now)
 
 pub returns-in-Apply : goal.returns-in-Apply
-returns-in-Apply g c = subst (λ (n : RaidNext). TakesTurn g.D.Disk.view n c.args.now (Ok c.compare_part.result) c.args.self.now c.compare_part.new.self) (sym c.in-Apply.is) (c.compare_part.ensures c.args.now)
+returns-in-Apply g c = subst (λ (n : RaidNext). TakesTurn g.D.Disk.view n c.args.now (Ok c.compare_part.result) c.args.self.now c.compare_part.new.self) (sym c.in-Apply.is)
+    (c.compare_part.ensures c.args.now)
 
 pub returns-in-Drop : goal.returns-in-Drop
 returns-in-Drop g c = subst (λ (n : RaidNext). TakesTurn g.D.Disk.view n c.args.now (Ok c.end_part.result) c.args.self.now c.end_part.new.self) (sym c.in-Drop.is) (c.end_part.ensures c.args.now)

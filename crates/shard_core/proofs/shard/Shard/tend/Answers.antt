@@ -7,11 +7,13 @@ use Rattle.shard_core.proofs.shard.Shard.tend.Goals as goal
 pub returns-then-can_gain-clause-makes : goal.returns-then-can_gain-clause-makes
 returns-then-can_gain-clause-makes g c s agrees =
     let flushed = c.flush_low.ensures.makes s agrees in
-    tends_well g.D.Disk.view c.args.self.now c.defrag_one.new.self s c.flush_low.ensures.whole.0 c.flush_low.ensures.whole.1 agrees (tends_vacating g.D.Disk.view c.args.self.now c.flush_low.new.self c.defrag_one.new.self c.flush_low.ensures.shape c.flush_low.ensures.honest c.defrag_one.result s flushed
+    tends_well g.D.Disk.view c.args.self.now c.defrag_one.new.self s c.flush_low.ensures.whole.0 c.flush_low.ensures.whole.1 agrees
+    (tends_vacating g.D.Disk.view c.args.self.now c.flush_low.new.self c.defrag_one.new.self c.flush_low.ensures.shape c.flush_low.ensures.honest c.defrag_one.result s flushed
     (sym (c.can_gain.ensures (after_event (setup_of c.args.self.now) flushed.1.event s) flushed.1.stands) ∙ c.if-can_gain.true) c.defrag_one.ensures.makes)
 
 pub returns-else-can_gain-clause-makes : goal.returns-else-can_gain-clause-makes
 returns-else-can_gain-clause-makes g c s agrees =
     let flushed = c.flush_low.ensures.makes s agrees in
-    tends_well g.D.Disk.view c.args.self.now c.flush_low.new.self s c.flush_low.ensures.whole.0 c.flush_low.ensures.whole.1 agrees (tends_resting g.D.Disk.view c.args.self.now c.flush_low.new.self c.flush_low.new.self c.flush_low.ensures.shape c.flush_low.ensures.honest s flushed
+    tends_well g.D.Disk.view c.args.self.now c.flush_low.new.self s c.flush_low.ensures.whole.0 c.flush_low.ensures.whole.1 agrees
+    (tends_resting g.D.Disk.view c.args.self.now c.flush_low.new.self c.flush_low.new.self c.flush_low.ensures.shape c.flush_low.ensures.honest s flushed
     (sym (c.can_gain.ensures (after_event (setup_of c.args.self.now) flushed.1.event s) flushed.1.stands) ∙ c.if-can_gain.false))

@@ -14,7 +14,8 @@ invariant_of-self c =
     let seen = ap (λ (s : SprigState). s.entries) c.self.view_is in
     let place = subst (λ l. IsPlaceOf c.args.digest.now l c.in-Ok.at) (sym seen) c.in-Ok.ensures.found in
     record {
-      sorted = subst IsInDigestOrder (sym c.remove-entry.ensures.items) (order_removed c.args.digest.now c.self.inside.row.items c.in-Ok.at c.self.invariant.sorted place c.remove-entry.result c.remove-entry.ensures.value);
+      sorted = subst IsInDigestOrder (sym c.remove-entry.ensures.items)
+          (order_removed c.args.digest.now c.self.inside.row.items c.in-Ok.at c.self.invariant.sorted place c.remove-entry.result c.remove-entry.ensures.value);
       tallied =
           let small = subst (λ (l : List Entry). length l < 2 ^ 63) (sym seen) c.search.ensures.small in
           c.minus-self-inside.ensures

@@ -13,7 +13,8 @@ pub give_part-requires-clause-fits : goal.give_part-requires-clause-fits
 give_part-requires-clause-fits g c =
     let held = ap (λ v. v.part) c.take_part-counter.ensures.pass.1 in
     added (view c.take_part-counter.new.pass) (view c.take_hub-total.new.pass) (view c.give_hub.new.pass) c.args.part c.take_part-counter.result held c.take_hub-total.ensures.pass.1
-    (c.take_hub-total.ensures.still c.args.part c.take_part-counter.result held c.take_part-counter.ensures.fits) c.args.amount c.in-Some-Some.counter c.give_hub.ensures.pass.1 c.in-Some-Some.ensures.1
+    (c.take_hub-total.ensures.still c.args.part c.take_part-counter.result held c.take_part-counter.ensures.fits) c.args.amount c.in-Some-Some.counter c.give_hub.ensures.pass.1
+    c.in-Some-Some.ensures.1
 
 pub give_part-requires-in_default-clause-fits : goal.give_part-requires-in_default-clause-fits
 give_part-requires-in_default-clause-fits g c =

@@ -45,7 +45,8 @@ about_spec 𝓤 𝓛 𝓜 𝓡 wired T A N _ _ _ g d _ =
     let pre : SProp 𝓤 = (walk_of 𝓛 En hs c).pre y in
     let one = fact 𝓤 (κs.1.0 ⊑ T.lives) in let two = fact 𝓤 (κs.1.1.0 ⊑ A.lives) in let three = fact 𝓤 (κs.1.1.1.0 ⊑ N.lives) in let told = fact 𝓤 Shown in
     let shown : ent 𝓤 pre told =
-    via 𝓤 asked (snd∗ 𝓤 (on_entry 𝓛 En.signature κs z.0.1 a (vptr b o ∷ [], tt)) asked) (via 𝓤 (sep 𝓤 two (sep 𝓤 three told)) (snd∗ 𝓤 one (sep 𝓤 two (sep 𝓤 three told))) (via 𝓤 (sep 𝓤 three told) (snd∗ 𝓤 two (sep 𝓤 three told)) (snd∗ 𝓤 three told))) in
+    via 𝓤 asked (snd∗ 𝓤 (on_entry 𝓛 En.signature κs z.0.1 a (vptr b o ∷ [], tt)) asked)
+    (via 𝓤 (sep 𝓤 two (sep 𝓤 three told)) (snd∗ 𝓤 one (sep 𝓤 two (sep 𝓤 three told))) (via 𝓤 (sep 𝓤 three told) (snd∗ 𝓤 two (sep 𝓤 three told)) (snd∗ 𝓤 three told))) in
     subst (λ (us : List Val). ent 𝓤 ((walk_of 𝓛 En hs c).pre (At us)) (WpFn 𝓤 H 𝓣.C 𝓣.Λ fn (us ++ []) (Post us))) (sym are.0.0) (fact_use 𝓤 Shown shown (λ p.
     let v : Val = vstruct (vcons (vstruct vnil) vnil) in let r : Res En.signature κs = record { marker = record {}; value = p.0 } in
     let O : Fml = (type_at En.signature.result κs).own_val r (v ∷ []) in

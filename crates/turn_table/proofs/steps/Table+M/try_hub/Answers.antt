@@ -14,13 +14,18 @@ swap-requires g c =
     )
 
 pub returns-then-swap-ne1-clause-pass : goal.returns-then-swap-ne1-clause-pass
-returns-then-swap-ne1-clause-pass g c = (out_pass g.M.Machine.hub_fits g.M.Machine.part_fits g.M.Machine.may_follow g.M.Machine.part_named c.args.self.now c.args.pass.now c.requires.0 c.swap.new.seat _ c.swap.ensures.0 (c.swap.ensures.2.1 c.if-swap-ne1.true)).0
+returns-then-swap-ne1-clause-pass g c =
+    (out_pass g.M.Machine.hub_fits g.M.Machine.part_fits g.M.Machine.may_follow g.M.Machine.part_named c.args.self.now c.args.pass.now c.requires.0 c.swap.new.seat _ c.swap.ensures.0
+    (c.swap.ensures.2.1 c.if-swap-ne1.true)).0
 
 pub returns-then-swap-ne1-clause-none : goal.returns-then-swap-ne1-clause-none
-returns-then-swap-ne1-clause-none g c = (out_pass g.M.Machine.hub_fits g.M.Machine.part_fits g.M.Machine.may_follow g.M.Machine.part_named c.args.self.now c.args.pass.now c.requires.0 c.swap.new.seat _ c.swap.ensures.0 (c.swap.ensures.2.1 c.if-swap-ne1.true)).1
+returns-then-swap-ne1-clause-none g c =
+    (out_pass g.M.Machine.hub_fits g.M.Machine.part_fits g.M.Machine.may_follow g.M.Machine.part_named c.args.self.now c.args.pass.now c.requires.0 c.swap.new.seat _ c.swap.ensures.0
+    (c.swap.ensures.2.1 c.if-swap-ne1.true)).1
 
 pub exchange-requires : goal.exchange-requires
 exchange-requires g c = let took = c.swap.ensures.2.0 c.if-swap-ne1.false in (search rules, front _ _ _ _ took.3.1)
 
 pub returns-clause-still : goal.returns-clause-still
-returns-clause-still g c = hub_still g.M.Machine.hub_fits g.M.Machine.part_fits g.M.Machine.may_follow g.M.Machine.part_named g.M.Machine.fits_on c.args.self.now c.args.pass.now c.swap.new.seat.me c.exchange.new.seat.me _ c.requires.0 (c.swap.ensures.2.0 c.if-swap-ne1.false) c.exchange.ensures.3
+returns-clause-still g c = hub_still g.M.Machine.hub_fits g.M.Machine.part_fits g.M.Machine.may_follow g.M.Machine.part_named g.M.Machine.fits_on c.args.self.now c.args.pass.now
+    c.swap.new.seat.me c.exchange.new.seat.me _ c.requires.0 (c.swap.ensures.2.0 c.if-swap-ne1.false) c.exchange.ensures.3

@@ -17,10 +17,14 @@ swap-requires g c =
     )
 
 pub returns-then-swap-ne1-clause-pass : goal.returns-then-swap-ne1-clause-pass
-returns-then-swap-ne1-clause-pass g c = (out_pass g.M.Machine.hub_fits g.M.Machine.part_fits g.M.Machine.may_follow g.M.Machine.part_named c.args.self.now c.args.pass.now c.requires.pass.0 c.swap.new.seat _ c.swap.ensures.0 (c.swap.ensures.2.1 c.if-swap-ne1.true)).0
+returns-then-swap-ne1-clause-pass g c =
+    (out_pass g.M.Machine.hub_fits g.M.Machine.part_fits g.M.Machine.may_follow g.M.Machine.part_named c.args.self.now c.args.pass.now c.requires.pass.0 c.swap.new.seat _ c.swap.ensures.0
+    (c.swap.ensures.2.1 c.if-swap-ne1.true)).0
 
 pub returns-then-swap-ne1-clause-none : goal.returns-then-swap-ne1-clause-none
-returns-then-swap-ne1-clause-none g c = (out_pass g.M.Machine.hub_fits g.M.Machine.part_fits g.M.Machine.may_follow g.M.Machine.part_named c.args.self.now c.args.pass.now c.requires.pass.0 c.swap.new.seat _ c.swap.ensures.0 (c.swap.ensures.2.1 c.if-swap-ne1.true)).1
+returns-then-swap-ne1-clause-none g c =
+    (out_pass g.M.Machine.hub_fits g.M.Machine.part_fits g.M.Machine.may_follow g.M.Machine.part_named c.args.self.now c.args.pass.now c.requires.pass.0 c.swap.new.seat _ c.swap.ensures.0
+    (c.swap.ensures.2.1 c.if-swap-ne1.true)).1
 
 pub exchange-requires : goal.exchange-requires
 exchange-requires g c = let took = c.swap.ensures.2.0 c.if-swap-ne1.false in (search rules, front _ _ _ _ took.1)
@@ -28,5 +32,6 @@ exchange-requires g c = let took = c.swap.ensures.2.0 c.if-swap-ne1.false in (se
 pub returns-clause-pass : goal.returns-clause-pass
 returns-clause-pass g c =
     let ex = c.exchange.ensures in
-    took_part_pass g.M.Machine.hub_fits g.M.Machine.part_fits g.M.Machine.may_follow g.M.Machine.part_named c.args.self.now c.args.pass.now c.requires.pass.0 c.swap.new.seat c.exchange.new.seat c.args.part c.requires.pass.1.0 c.requires.pass.1.1
+    took_part_pass g.M.Machine.hub_fits g.M.Machine.part_fits g.M.Machine.may_follow g.M.Machine.part_named c.args.self.now c.args.pass.now c.requires.pass.0 c.swap.new.seat
+    c.exchange.new.seat c.args.part c.requires.pass.1.0 c.requires.pass.1.1
     c.swap.ensures.0 (c.swap.ensures.2.0 c.if-swap-ne1.false) ex.0 ex.3 c.requires.part

@@ -18,7 +18,14 @@ put_record-requires-clause-room c =
 pub overflow_add-self : goal.overflow_add-self
 overflow_add-self c =
     let count = length-records_in c.self.inside.count (drop 32 c.self.inside.bytes.items) in
-    omega (arith, count, count_within (seen_buffer c.self.inside.number c.self.inside.block c.self.inside.capacity c.self.inside.count c.self.inside.phase c.self.inside.stream c.self.inside.bytes.items).records, c.self.invariant.fits, c.self.invariant.capacity)
+    omega (
+      arith,
+      count,
+      count_within
+          (seen_buffer c.self.inside.number c.self.inside.block c.self.inside.capacity c.self.inside.count c.self.inside.phase c.self.inside.stream c.self.inside.bytes.items).records,
+      c.self.invariant.fits,
+      c.self.invariant.capacity,
+    )
 
 -- the buffer before
 abbrev before : goal.After-self-4-1 → BufferState
@@ -53,9 +60,11 @@ text_after c =
     let one : List ℕ = c.put_record.new.bytes in
     let size : c.self.inside.bytes.len ≡ length old = c.self.inside.bytes.ok.0 in
     let middle = c.deref_mut-2.ensures.value ∙ one_record c in
-    let one_is : one ≡ take (32 + 16 * c.self.inside.used) old ++ (record_text c.args.digest.now c.args.version.now ++ drop (16 * version_units c.args.version.now) (drop (32 + 16 * c.self.inside.used) old)) =
+    let one_is : one ≡ take (32 + 16 * c.self.inside.used) old ++
+    (record_text c.args.digest.now c.args.version.now ++ drop (16 * version_units c.args.version.now) (drop (32 + 16 * c.self.inside.used) old)) =
     c.put_record.ensures.text
-    ∙ ap (λ (l : List ℕ). take (32 + 16 * c.self.inside.used) l ++ (record_text c.args.digest.now c.args.version.now ++ drop (16 * version_units c.args.version.now) (drop (32 + 16 * c.self.inside.used) l))) c.deref_mut.ensures.value in
+    ∙ ap (λ (l : List ℕ). take (32 + 16 * c.self.inside.used) l ++
+    (record_text c.args.digest.now c.args.version.now ++ drop (16 * version_units c.args.version.now) (drop (32 + 16 * c.self.inside.used) l))) c.deref_mut.ensures.value in
     let two_is = c.put_head.ensures
     ∙ ap (λ (l : List ℕ). body_head_text c.self.inside.number (c.self.inside.count + 1) (c.self.inside.used + c.units_of.result) c.self.inside.block ++ drop 32 l) middle in
     let written = text_next (before c) c.self.inside.used old c.self.invariant c.args.digest.now c.args.version.now c.put_record.ensures.recordable (room_before c)
@@ -66,12 +75,15 @@ text_after c =
 pub invariant_of-self : goal.invariant_of-self
 invariant_of-self c =
     let b = before c in
-    let next = seen_next b c.self.inside.used c.self.inside.bytes.items c.self.invariant c.args.digest.now c.args.version.now c.put_record.ensures.recordable (room_before c) (c.self.inside.count + 1) (after c) (count_after c) (text_after c) in
-    let keeps = keeps_next b c.self.inside.used c.self.inside.bytes.items c.self.invariant c.args.digest.now c.args.version.now c.put_record.ensures.recordable (room_before c) (c.self.inside.used + c.units_of.result) (after c) (units_after c) (text_after c) in
+    let next = seen_next b c.self.inside.used c.self.inside.bytes.items c.self.invariant c.args.digest.now c.args.version.now c.put_record.ensures.recordable (room_before c)
+    (c.self.inside.count + 1) (after c) (count_after c) (text_after c) in
+    let keeps = keeps_next b c.self.inside.used c.self.inside.bytes.items c.self.invariant c.args.digest.now c.args.version.now c.put_record.ensures.recordable (room_before c)
+    (c.self.inside.used + c.units_of.result) (after c) (units_after c) (text_after c) in
     let P : BufferState → Type 0 = λ s. KeepsBody s (c.self.inside.used + c.units_of.result) (after c) in
     subst P (sym next) keeps
 
 pub returns-clause-appended : goal.returns-clause-appended
 returns-clause-appended c =
-    seen_next (before c) c.self.inside.used c.self.inside.bytes.items c.self.invariant c.args.digest.now c.args.version.now c.put_record.ensures.recordable (room_before c) (c.self.inside.count + 1) (after c) (count_after c) (text_after c)
+    seen_next (before c) c.self.inside.used c.self.inside.bytes.items c.self.invariant c.args.digest.now c.args.version.now c.put_record.ensures.recordable (room_before c)
+    (c.self.inside.count + 1) (after c) (count_after c) (text_after c)
     ∙ ap (with_record c.args.digest.now c.args.version.now) c.self.view_is

@@ -25,12 +25,15 @@ returns-clause-size c = ap (λ (k : ℕ). 32 + 16 * k) c.capacity.ensures ∙ bo
 capacity_is : (c : goal.After-capacity) → 32 + 16 * c.capacity.result ≡ c.args.block_size - 4096
 capacity_is c = ap (λ (k : ℕ). 32 + 16 * k) c.capacity.ensures ∙ body_size c.args.block_size c.requires.size
 
-text_made : (c : goal.After-capacity) → take c.in_ok-bytes.bytes.len (c.put_head.new.bytes ++ drop (length c.put_head.new.bytes) c.in_ok-bytes.bytes.items) ≡ bytes_of (empty_buffer c.args.number c.args.block c.capacity.result)
+text_made : (c : goal.After-capacity) → take c.in_ok-bytes.bytes.len (c.put_head.new.bytes ++ drop (length c.put_head.new.bytes) c.in_ok-bytes.bytes.items)
+    ≡ bytes_of (empty_buffer c.args.number c.args.block c.capacity.result)
 text_made c =
     whole c.in_ok-bytes.bytes.len c.put_head.new.bytes c.in_ok-bytes.bytes.items (c.put_head.auto.bytes ∙ ap length c.deref_mut.ensures.value) c.in_ok-bytes.bytes.ok.0
-    ∙ empty_text c.args.number c.args.block c.capacity.result (c.args.block_size - 4096) c.deref_mut.result.now c.put_head.new.bytes (capacity_is c) (c.deref_mut.ensures.value ∙ c.in_ok-bytes.ensures.items_if_clones_equal (λ y h. h)) c.put_head.ensures
+    ∙ empty_text c.args.number c.args.block c.capacity.result (c.args.block_size - 4096) c.deref_mut.result.now c.put_head.new.bytes (capacity_is c)
+    (c.deref_mut.ensures.value ∙ c.in_ok-bytes.ensures.items_if_clones_equal (λ y h. h)) c.put_head.ensures
 
-seen_made : (c : goal.After-capacity) → seen_buffer c.args.number c.args.block c.capacity.result 0 Filling Client (take c.in_ok-bytes.bytes.len (c.put_head.new.bytes ++ drop (length c.put_head.new.bytes) c.in_ok-bytes.bytes.items)) ≡ empty_buffer c.args.number c.args.block c.capacity.result
+seen_made : (c : goal.After-capacity) → seen_buffer c.args.number c.args.block c.capacity.result 0 Filling Client
+    (take c.in_ok-bytes.bytes.len (c.put_head.new.bytes ++ drop (length c.put_head.new.bytes) c.in_ok-bytes.bytes.items)) ≡ empty_buffer c.args.number c.args.block c.capacity.result
 seen_made c = seen_is (empty_buffer c.args.number c.args.block c.capacity.result) 0 _ tt refl (text_made c)
 
 pub invariant_of-result : goal.invariant_of-result
