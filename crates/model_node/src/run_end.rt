@@ -55,7 +55,7 @@ pub enum RunEnd {
     Served,
     /// The words weren't accepted.
     WordsRefused,
-    /// The disk of this device failed, at a start, in the closing flush, or as it was formatted.
+    /// The disk of this device failed, at a start or a restart, in a check, in the closing flush, or as it was formatted.
     DeviceFault { device: u16 },
     /// Reading the input failed.
     SourceFault,
