@@ -1,1 +1,3 @@
 pub mod Minded
+pub mod Moving
+pub mod Copied

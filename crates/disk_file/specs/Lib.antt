@@ -1,3 +1,6 @@
 pub mod Spans
 pub mod View
 pub mod Bytes
+pub mod Calls
+pub mod Told
+pub mod Memory

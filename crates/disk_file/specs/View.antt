@@ -1,14 +1,18 @@
--- What is known of a disk over a file: its size, what waits for a sync, and its counts.
-use Rattle.std.specs.Prelude.{◌≡◌, ℕ, Bool, [], length, if◌then◌else◌, refl}
+-- What is known of a disk over a file: its size, what waits for a sync, its counts, and the file's calls and bytes.
+use Rattle.std.specs.Prelude.{◌≡◌, ℕ, Bool, List, [], length, Option, if◌then◌else◌, refl}
 use Rattle.model_faults.specs.Counts.{one_more}
 use Rattle.disk_model.specs.Disk.{DiskView, IsDisk}
 use Rattle.disk_file.specs.Spans.{Waiting}
+use Rattle.disk_file.specs.Calls.{Call}
 
--- what waits for a sync, and how many calls failed and were made
+-- What waits for a sync, and how many calls failed and were made; the calls that were made on the file, and what it holds, where it
+-- tells that.
 pub record FileState : Type 0 where
   pub waiting : Waiting
   pub faults : ℕ
   pub calls : ℕ
+  pub past : List Call
+  pub told : Option (List ℕ)
 
 -- It tells no bytes, and a crash may leave any at any moment.
 abbrev pub view_of : FileState → DiskView
@@ -24,12 +28,14 @@ view_of s = record {
   calls = s.calls;
 }
 
--- after a call that went well or not, with this waiting now
+-- after a call that went well or not, with this waiting now, and no more calls on the file
 abbrev pub after_call : Bool → Waiting → FileState → FileState
 after_call went_well waiting s = record {
   waiting = waiting;
   faults = if went_well then s.faults else one_more s.faults;
   calls = one_more s.calls;
+  past = s.past;
+  told = s.told;
 }
 
 -- it hangs together

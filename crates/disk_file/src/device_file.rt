@@ -1,5 +1,5 @@
 // Devices by their names: what is there is opened, and where nothing is there a new file is made.
-use crate::{FileDisk, Watch};
+use crate::{FileDisk, SystemFile, Watch};
 use std::alloc::Global;
 use std::fs::{File, FileType, Metadata, OpenOptions, TryLockError, metadata, remove_file};
 use std::io;
@@ -40,18 +40,21 @@ struct Found {
 
 /// At `Ok` the whole file or block device of this name, open to read and write and locked, so that no other process opens it like this
 /// meanwhile; nothing was written. A refusal tells why it isn't opened.
-pub fn open_device<R: Files<File = File>>(rt: &R, name: &str) -> Result<FileDisk<File>, OpenFault> {
+pub fn open_device<R: Files<File = File>>(
+    rt: &R,
+    name: &str,
+) -> Result<FileDisk<SystemFile>, OpenFault> {
     let found = find(rt, name, true)?;
-    Ok(FileDisk::new(found.file, found.len))
+    Ok(FileDisk::new(SystemFile::new(found.file), found.len))
 }
 
 /// The same, open for reading alone, so it may be one that the user may not write: each write to it is a fault. It is locked likewise.
 pub fn open_to_read<R: Files<File = File>>(
     rt: &R,
     name: &str,
-) -> Result<FileDisk<File>, OpenFault> {
+) -> Result<FileDisk<SystemFile>, OpenFault> {
     let found = find(rt, name, false)?;
-    Ok(FileDisk::new(found.file, found.len))
+    Ok(FileDisk::new(SystemFile::new(found.file), found.len))
 }
 
 /// Whether two names are of one file, or of one block device. It isn't where nothing is there.
@@ -74,7 +77,7 @@ pub fn make_device<R: Files<File = File>, W: Watch>(
     name: &str,
     len: u64,
     watch: &mut W,
-) -> Result<FileDisk<File>, OpenFault> {
+) -> Result<FileDisk<SystemFile>, OpenFault> {
     let file = match File::create_new(rt, name) {
         Ok(file) => file,
         Err(error) if error.kind() == ErrorKind::AlreadyExists => return open_up_to(rt, name, len),
@@ -86,7 +89,7 @@ pub fn make_device<R: Files<File = File>, W: Watch>(
         let _ = remove_file(rt, name);
         return Err(fault);
     }
-    Ok(FileDisk::new(file, len))
+    Ok(FileDisk::new(SystemFile::new(file), len))
 }
 
 // The first bytes of what is there, at most so many.
@@ -94,12 +97,12 @@ fn open_up_to<R: Files<File = File>>(
     rt: &R,
     name: &str,
     asked: u64,
-) -> Result<FileDisk<File>, OpenFault> {
+) -> Result<FileDisk<SystemFile>, OpenFault> {
     let Found { file, is_file, len } = find(rt, name, true)?;
     if is_file && len > asked {
         return Err(OpenFault::Longer { len, asked });
     }
-    Ok(FileDisk::new(file, len.min(asked)))
+    Ok(FileDisk::new(SystemFile::new(file), len.min(asked)))
 }
 
 // Opens what is there, to read and, where that is asked for, to write. The kind is looked at before too: a pipe that is opened to read

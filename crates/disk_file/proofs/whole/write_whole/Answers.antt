@@ -1,0 +1,57 @@
+use Rattle.std.proofs.Common.{ℕ, ◌+◌, refl, arith}
+use Rattle.disk_file.proofs.Moving.{WroteTo, wrote_none, write_step, write_lost, wrote_done, wrote_failed, room}
+use Rattle.disk_file.proofs.whole.write_whole.Given.{Over}
+use Rattle.disk_file.proofs.whole.write_whole.Goals as goal
+use Rattle.disk_file.proofs.whole.write_whole.Goals.{in-Ok, in-Err}
+
+pub loop-init : goal.loop-init
+loop-init g c = record { within = omega arith; so_far = wrote_none c.args.place c.args.bytes.now (g.F.OpenedFile.told c.args.file.now) (g.F.OpenedFile.past c.args.file.now) }
+
+pub returns-then-at-bytes-clause-calls : goal.returns-then-at-bytes-clause-calls
+returns-then-at-bytes-clause-calls g c = (wrote_done _ _ _ _ _ _ _ _ c.loop.invariant.so_far c.loop.invariant.within c.if-at-bytes.true).0
+
+pub returns-then-at-bytes-clause-puts : goal.returns-then-at-bytes-clause-puts
+returns-then-at-bytes-clause-puts g c = (wrote_done {T = ℕ} {E = ℕ} _ _ _ _ _ _ _ 0 c.loop.invariant.so_far c.loop.invariant.within c.if-at-bytes.true).1
+
+-- a call that took nothing
+none_taken : (g : Over) (c : goal.In-Ok-eq0 g) → WroteTo c.args.place (c.loop.at + c.in-Ok-eq0.field-0) c.args.bytes.now (g.F.OpenedFile.told c.args.file.now)
+    (g.F.OpenedFile.told c.write_some.new.self) (g.F.OpenedFile.past c.args.file.now) (g.F.OpenedFile.past c.write_some.new.self)
+none_taken g c =
+    let called = rw c.in-Ok-eq0.is at c.write_some.ensures in
+    write_step _ c.loop.at c.in-Ok-eq0.field-0 _ c.args.bytes.now _ _ _ _ _ _ c.loop.invariant.so_far c.loop.invariant.within called.bound refl called.leaves called.past
+
+pub returns-in-Ok-eq0-clause-calls : goal.returns-in-Ok-eq0-clause-calls
+returns-in-Ok-eq0-clause-calls g c = (wrote_failed _ _ _ _ _ _ _ _ (none_taken g c)).0
+
+pub returns-in-Ok-eq0-clause-tears : goal.returns-in-Ok-eq0-clause-tears
+returns-in-Ok-eq0-clause-tears g c = (wrote_failed {T = ℕ} {E = ℕ} _ _ _ _ _ _ _ 0 (none_taken g c)).1
+
+-- a call that failed
+failed : (g : Over) (c : goal.In-Err-2 g) → WroteTo c.args.place c.loop.at c.args.bytes.now (g.F.OpenedFile.told c.args.file.now)
+    (g.F.OpenedFile.told c.write_some.new.self) (g.F.OpenedFile.past c.args.file.now) (g.F.OpenedFile.past c.write_some.new.self)
+failed g c = write_lost _ c.loop.at _ c.args.bytes.now _ _ _ _ _ _ c.loop.invariant.so_far c.loop.invariant.within refl c.in-Err-2.ensures.leaves c.in-Err-2.ensures.past
+
+pub returns-in-Err-2-clause-calls : goal.returns-in-Err-2-clause-calls
+returns-in-Err-2-clause-calls g c = (wrote_failed _ _ _ _ _ _ _ _ (failed g c)).0
+
+pub returns-in-Err-2-clause-tears : goal.returns-in-Err-2-clause-tears
+returns-in-Err-2-clause-tears g c = (wrote_failed {T = ℕ} {E = ℕ} _ _ _ _ _ _ _ 0 (failed g c)).1
+
+pub returns-clause-calls : goal.returns-clause-calls
+returns-clause-calls g c = (wrote_failed _ _ _ _ _ _ _ _ c.loop.invariant.so_far).0
+
+pub returns-clause-tears : goal.returns-clause-tears
+returns-clause-tears g c = (wrote_failed {T = ℕ} {E = ℕ} _ _ _ _ _ _ _ 0 c.loop.invariant.so_far).1
+
+pub loop-preserved : goal.loop-preserved
+loop-preserved g c = elim c.match-write_some.branch [
+  | in-Ok w ↦ record {
+    within = omega (arith, w.at-is, w.in-Ok.ensures.bound, room c.loop.at c.args.bytes.now c.loop.invariant.within);
+    so_far = write_step _ c.loop.at w.in-Ok.count _ c.args.bytes.now _ _ _ _ _ _ c.loop.invariant.so_far c.loop.invariant.within
+        w.in-Ok.ensures.bound w.at-is w.in-Ok.ensures.leaves w.in-Ok.ensures.past;
+  }
+  | in-Err w ↦ record {
+    within = omega (arith, w.at-is);
+    so_far = write_lost _ c.loop.at _ c.args.bytes.now _ _ _ _ _ _ c.loop.invariant.so_far c.loop.invariant.within w.at-is w.in-Err.ensures.leaves w.in-Err.ensures.past;
+  }
+]
