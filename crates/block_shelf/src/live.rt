@@ -34,6 +34,7 @@ impl<D: Disk> Shelf<D> {
             → Goes D.view setup (rid_of digest ∷ []) self.old s self.new }
         ensures disk { self.new.disk ≡ self.old.disk }
         ensures gates { self.new.gates ≡ self.old.gates }
+        ensures buffers { self.new.buffers ≡ self.old.buffers }
         ensures cache { self.new.cache ≡ self.old.cache }
         ensures shape { SameShape self.old self.new }
     {

@@ -232,7 +232,7 @@ module _ {D : Type 0} (view : D → DiskView) (Stands : ShardView D → Slot →
         m.works.1,
         m.events,
         subst (λ (x : Slot). Raids now x m.events m.works.0) same m.works.2,
-        kind.many old new raids.goes slot m.events (runs_made view old new slot.state (IsRaid view old now slot.state result) m) stands,
+        kind.many old new raids.goes slot m.events (runs_made view old new slot.state (IsRaid view old new now slot.state result) m) stands,
       )
 
   pub raid_turns : (now : ℕ) (result : Result (ℕ × ℕ) LineFault) (olds news : List (ShardView D)) (node : Node) → RaidsEach view now result olds news → Each Stands olds node

@@ -18,6 +18,7 @@ use Rattle.core_run.specs.Views.{serving, disks_served, faults_of}
 use Rattle.core_run.specs.Standing.{Each, StandsOn, StandsSafelyOn}
 use Rattle.core_run.specs.Calls.{ClosedSo, Closes}
 use Rattle.core_run.specs.Turns.{Through, CloseTurn, FlushesOn, first_failed}
+use Rattle.core_run.proofs.Surely.{sure_through}
 use Rattle.core_run.proofs.Places.{events_of}
 use Rattle.core_run.proofs.Making.{Made, LeftOn, along_after, each_more}
 use Rattle.core_run.proofs.Acting.{Safely, over_any, over_safe, close_turns, along_both}
@@ -126,6 +127,7 @@ module _ {D : Type 0} (E : Type 0) (view : D → DiskView) where
     pub close_closes : Closes view failed (serving olds) (serving news)
     close_closes = record {
       later = later_through view (CloseTurn E view) (λ a old new b turn. turn.1.goes.later) (0, None) (count, failed) olds news through;
+      sure = sure_through view (CloseTurn E view) (λ a old new b turn. turn.1.goes) (0, None) (count, failed) olds news through;
       any = λ node stands.
           let here = subst (λ (s : List (ShardView D)). Each (StandsOn view) s node) (sym (one_shards olds stands.0 stands.1)) stands.2 in
           let t = close_turns view (StandsOn view) (Made false (StandsOn view)) (over_any view) E (0, None) (count, failed) olds news node through here in

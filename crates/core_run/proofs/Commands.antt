@@ -8,9 +8,9 @@ use Rattle.rec_format.specs.Places.{device_number}
 use Rattle.model_device.specs.Device.{State, seen}
 use Rattle.model_device.specs.Book.{Setup}
 use Rattle.model_device.specs.Events.{Event, Call, put_call, get_call, delete_call, bury_call, after_events}
-use Rattle.block_shelf.specs.View.{AreSure}
+use Rattle.block_shelf.specs.View.{AreSure, records_of, gate_at}
 use Rattle.block_shelf.specs.Scans.{possible_copies}
-use Rattle.law_raid.specs.Exact.{RaidsExactly}
+use Rattle.law_raid.specs.Exact.{RaidsExactly, RaidSpares, RaidLeavesNone}
 use Rattle.line_proto.specs.declared.reply.LineFault.{LineFault}
 use Rattle.line_proto.specs.declared.command.Command.{Command}
 use Rattle.line_proto.specs.declared.command.Command.TheVariants as command
@@ -28,11 +28,14 @@ use Rattle.shard_core.specs.declared.refusals.WriteRefusal.{WriteRefusal}
 use Rattle.core_run.specs.Views.{serving, halted, disks_served, views_of, unknown, AreLater}
 use Rattle.core_run.specs.Standing.{Each, StandsOn, StandsSafelyOn, StandsFor, StandsSafely, Halts, HaltsSafely}
 use Rattle.core_run.specs.Calls.{digest_of, RepliesStored, RaidedExactly, Acts, Tends}
+use Rattle.core_run.specs.Sure.{StaySure}
 use Rattle.core_run.specs.Turns.{GoesOn, RepliesTo, RepliesOn, TendTurn, Through, WorksEach, plus_one, plus_both, IsFlushed, FlushesOn, FlushesEach}
 use Rattle.core_run.specs.Turns.{IsDefragged, DefragsOn, DefragsEach, IsExpired, ExpiresOn, ExpiresAll, IsRaided, RaidsOn, RaidsEach}
 use Rattle.core_run.proofs.Places.{events_of, nones, no_events}
 use Rattle.core_run.proofs.Making.{Made, slot_at, each_length, each_more, along_none}
 use Rattle.core_run.proofs.Acting.{Safely, over_any, over_safe, event_turn, flush_turns, defrag_turns, expire_turns, raid_turns, tend_turns}
+use Rattle.core_run.proofs.Sparing.{leaves_none}
+use Rattle.core_run.proofs.Surely.{sure_at, sure_through, sure_work}
 use Rattle.core_run.proofs.Replying.{known_goes_on, stat_goes_on, flushed_goes_on, defragged_goes_on, expired_goes_on, raided_goes_on, one_digest}
 use Rattle.core_run.proofs.Nodes.{one_shards, serves_or_halts, later_same, later_at, later_through, acts_any, acts_safe, tends_any, tends_safe}
 
@@ -51,7 +54,8 @@ within (x ∷ items) (suc place) item there = let less = within items place item
 module _ {D : Type 0} (view : D → DiskView) (is_disk : (disk : D) → IsDisk (view disk)) where
   -- ---- a command, whatever it is, by what it comes to from each state
 
-  module _ (olds news : List (ShardView D)) (c : Command) (now : ℕ) (r : Reply) (later : AreLater view (disks_served olds) (disks_served news)) (other : c ≢ command.Restart)
+  module _ (olds news : List (ShardView D)) (c : Command) (now : ℕ) (r : Reply) (later : AreLater view (disks_served olds) (disks_served news))
+      (sure : StaySure view (serving olds) (serving news)) (other : c ≢ command.Restart)
       (stored : RepliesStored view olds c now r)
       (exact : c ≡ command.Raid → (removed cleared : ℕ) → r ≡ reply.Raided removed cleared → (node : Node) → Each (StandsSafelyOn view) olds node
       → RaidedExactly view now olds node news removed cleared)
@@ -70,6 +74,7 @@ module _ {D : Type 0} (view : D → DiskView) (is_disk : (disk : D) → IsDisk (
           subst (λ (x : List (ShardView D)). RaidedExactly view now x node after removed cleared) one
           (subst (λ (x : List (ShardView D)). RaidedExactly view now olds node x removed cleared) two
           (exact is removed cleared told node (subst (λ (x : List (ShardView D)). Each (StandsSafelyOn view) x node) (sym one) stands)));
+      sure = sure;
       stays = λ why disks same. absurd (serves_or_halts olds why disks same);
     }
 
@@ -105,7 +110,7 @@ module _ {D : Type 0} (view : D → DiskView) (is_disk : (disk : D) → IsDisk (
           (does node t.2 (events_of t.0) (at_node node t.2 (events_of t.0) (each_length (StandsSafelyOn view) olds node stands) t.5) t.3 (replies.1 ∙ ap answer_reply (sym t.4))) replies.2
 
       event_acts : Acts view (serving olds) c now r (serving News)
-      event_acts = acts_serving olds News c now r later other stored (λ is. absurd (none is)) from_any from_safe
+      event_acts = acts_serving olds News c now r later (sure_at view olds Place old new at goes) other stored (λ is. absurd (none is)) from_any from_safe
 
     -- what is known of a record
     module _ (now : ℕ) (r : Reply) (same : new ≡ old) (knows : (s : State) → Agrees old s → r ≡ meta_reply (seen s now digest)) where
@@ -139,7 +144,7 @@ module _ {D : Type 0} (view : D → DiskView) (is_disk : (disk : D) → IsDisk (
 
       meta_acts : Acts view (serving olds) (command.Meta digest) now r (serving News)
       meta_acts = subst (λ (s : List (ShardView D)). Acts view (serving olds) (command.Meta digest) now r (serving s)) (sym news_same)
-          (acts_serving olds olds (command.Meta digest) now r (later_same view is_disk (disks_served olds)) (λ is. cc) tt (λ is. absurd cc) know_any know_safe)
+          (acts_serving olds olds (command.Meta digest) now r (later_same view is_disk (disks_served olds)) (λ counts sure. sure) (λ is. cc) tt (λ is. absurd cc) know_any know_safe)
 
     by_command : (c : Command) (now : ℕ) (r : Reply) → digest_of c ≡ Some digest → RepliesOn view old c now r new → Acts view (serving olds) c now r (serving News)
     by_command (command.Put d ttl expect payload) now r on replies =
@@ -200,7 +205,8 @@ module _ {D : Type 0} (view : D → DiskView) (is_disk : (disk : D) → IsDisk (
   pub flush_acts : {E : Type 0} (flushed : Result ℕ E) (olds news : List (ShardView D)) (now : ℕ) (r : Reply) → FlushesEach view flushed olds news
       → ((outcome : Outcome) → IsFlushed flushed outcome → r ≡ flushed_reply outcome) → Acts view (serving olds) command.Flush now r (serving news)
   flush_acts {E} flushed olds news now r each is =
-      acts_serving olds news command.Flush now r (work_later (FlushesOn {E = E} view) plus_one (λ result old new does. does.goes) flushed 0 olds news each) (λ e. cc) tt (λ e. absurd cc)
+      acts_serving olds news command.Flush now r (work_later (FlushesOn {E = E} view) plus_one (λ result old new does. does.goes) flushed 0 olds news each)
+      (sure_work view (FlushesOn {E = E} view) plus_one (λ result old new does. does.goes) flushed 0 olds news each) (λ e. cc) tt (λ e. absurd cc)
       (λ node stands.
       let t = flush_turns view (StandsOn view) (Made false (StandsOn view)) (over_any view) flushed olds news node each stands in
       acts_any view olds news node t.0 t.1 command.Flush now r (t.2.0, t.2.2, is t.2.0 t.2.1) (λ h. flushed_goes_on t.2.0 (sym (is t.2.0 t.2.1) ∙ h)))
@@ -211,7 +217,8 @@ module _ {D : Type 0} (view : D → DiskView) (is_disk : (disk : D) → IsDisk (
   pub defrag_acts : (result : Result (ℕ × ℕ) DefragCause) (olds news : List (ShardView D)) (now : ℕ) (r : Reply) → DefragsEach view result olds news
       → ((outcome : Outcome) → IsDefragged result outcome → r ≡ defragged_reply outcome) → Acts view (serving olds) command.Defrag now r (serving news)
   defrag_acts result olds news now r each is =
-      acts_serving olds news command.Defrag now r (work_later (DefragsOn view) plus_both (λ done old new does. does.goes) result (0, 0) olds news each) (λ e. cc) tt (λ e. absurd cc)
+      acts_serving olds news command.Defrag now r (work_later (DefragsOn view) plus_both (λ done old new does. does.goes) result (0, 0) olds news each)
+      (sure_work view (DefragsOn view) plus_both (λ done old new does. does.goes) result (0, 0) olds news each) (λ e. cc) tt (λ e. absurd cc)
       (λ node stands.
       let t = defrag_turns view (StandsOn view) (Made false (StandsOn view)) (over_any view) result olds news node each stands in
       acts_any view olds news node t.0 t.1 command.Defrag now r (t.2.0, t.2.2, is t.2.0 t.2.1) (λ h. defragged_goes_on t.2.0 (sym (is t.2.0 t.2.1) ∙ h)))
@@ -222,7 +229,8 @@ module _ {D : Type 0} (view : D → DiskView) (is_disk : (disk : D) → IsDisk (
   pub expire_acts : (result : Result ℕ WriteRefusal) (olds news : List (ShardView D)) (now : ℕ) (r : Reply) → ExpiresAll view now result olds news
       → ((outcome : Outcome) → IsExpired result outcome → r ≡ expired_reply outcome) → Acts view (serving olds) command.Expire now r (serving news)
   expire_acts result olds news now r each is =
-      acts_serving olds news command.Expire now r (work_later (ExpiresOn view now) plus_one (λ done old new does. does.goes) result 0 olds news each) (λ e. cc) tt (λ e. absurd cc)
+      acts_serving olds news command.Expire now r (work_later (ExpiresOn view now) plus_one (λ done old new does. does.goes) result 0 olds news each)
+      (sure_work view (ExpiresOn view now) plus_one (λ done old new does. does.goes) result 0 olds news each) (λ e. cc) tt (λ e. absurd cc)
       (λ node stands.
       let t = expire_turns view (StandsOn view) (Made false (StandsOn view)) (over_any view) now result olds news node each stands in
       acts_any view olds news node t.0 t.1 command.Expire now r (t.2.0, t.2.2, is t.2.0 t.2.1) (λ h. expired_goes_on t.2.0 (sym (is t.2.0 t.2.1) ∙ h)))
@@ -244,11 +252,25 @@ module _ {D : Type 0} (view : D → DiskView) (is_disk : (disk : D) → IsDisk (
       let here : (AreSure old.shelf.gates → RaidsExactly slot.setup now slot.state (possible_copies view old.shelf slot.state) one.0 one.1 (after_events (setup_of old) m.events slot.state)) =
       λ sure. subst (λ (x : Setup). RaidsExactly x now slot.state (possible_copies view old.shelf slot.state) one.0 one.1 (after_events (setup_of old) m.events slot.state))
       (sym stands.0.stands.setup_is)
-      (m.works.3 sure stands.0.honest stands.0.safe) in (
+      (m.works.3 sure stands.0.honest stands.0.safe) in
+      let after : State = after_events (setup_of old) m.events slot.state in
+      let spares : RaidSpares slot.state (possible_copies view new.shelf after) after = m.works.4 stands.0.honest stands.0.safe in
+      let left : RaidLeavesNone slot.setup slot.state after (view new.shelf.disk).may_leave = subst (λ (x : Setup). RaidLeavesNone x slot.state after (view new.shelf.disk).may_leave)
+      (sym stands.0.stands.setup_is)
+      (leaves_none (setup_of old) new.shelf.geometry slot.state after (records_of new.shelf.buffers) (gate_at new.shelf.gates) (view new.shelf.disk).may_leave
+      (m.safe stands.0.honest stands.0.safe).safe.held spares) in (
         (one.0 + rest.0.0, one.1 + rest.0.1),
         omega (arith, rest.1),
         omega (arith, rest.2),
-        (one.0, one.1, rest.0, refl, refl, (after_events (setup_of old) m.events slot.state, m.stands, here), rest.3),
+        (
+          one.0,
+          one.1,
+          rest.0,
+          refl,
+          refl,
+          (after, m.stands, spares, left, here),
+          rest.3,
+        ),
       )
 
   raid_exact_each : (result : Result (ℕ × ℕ) LineFault) (olds news : List (ShardView D)) (now : ℕ) (r : Reply) → RaidsEach view now result olds news
@@ -270,7 +292,8 @@ module _ {D : Type 0} (view : D → DiskView) (is_disk : (disk : D) → IsDisk (
   pub raid_acts : (result : Result (ℕ × ℕ) LineFault) (olds news : List (ShardView D)) (now : ℕ) (r : Reply) → RaidsEach view now result olds news
       → ((outcome : Outcome) → IsRaided result outcome → r ≡ raided_reply outcome) → Acts view (serving olds) command.Raid now r (serving news)
   raid_acts result olds news now r each is =
-      acts_serving olds news command.Raid now r (work_later (RaidsOn view now) plus_both (λ done old new does. does.goes) result (0, 0) olds news each) (λ e. cc) tt
+      acts_serving olds news command.Raid now r (work_later (RaidsOn view now) plus_both (λ done old new does. does.goes) result (0, 0) olds news each)
+      (sure_work view (RaidsOn view now) plus_both (λ done old new does. does.goes) result (0, 0) olds news each) (λ e. cc) tt
       (λ e. raid_exact_each result olds news now r each is)
       (λ node stands.
       let t = raid_turns view (StandsOn view) (Made false (StandsOn view)) (over_any view) now result olds news node each stands in
@@ -284,7 +307,7 @@ module _ {D : Type 0} (view : D → DiskView) (is_disk : (disk : D) → IsDisk (
   pub stat_acts : (olds : List (ShardView D)) (now : ℕ) (counts : Counts) → ((node : Node) → Each (StandsOn view) olds node → counts ≡ node_counts node)
       → Acts view (serving olds) command.Stat now (reply.StatOf counts) (serving olds)
   stat_acts olds now counts told =
-      acts_serving olds olds command.Stat now (reply.StatOf counts) (later_same view is_disk (disks_served olds)) (λ e. cc) tt (λ e. absurd cc)
+      acts_serving olds olds command.Stat now (reply.StatOf counts) (later_same view is_disk (disks_served olds)) (λ counts sure. sure) (λ e. cc) tt (λ e. absurd cc)
       (λ node stands.
       acts_any view olds olds node (nones (length olds)) (along_none (Made false (StandsOn view)) (StandsOn view) (over_any view).rests olds node stands) command.Stat now (reply.StatOf counts)
       (no_events (length olds), ap reply.StatOf (told node stands)) (stat_goes_on counts))
@@ -304,6 +327,7 @@ module _ {D : Type 0} (view : D → DiskView) (is_disk : (disk : D) → IsDisk (
     safe = λ node stands.
         let here = subst (λ (s : List (ShardView D)). Each (StandsSafelyOn view) s node) (sym (one_shards olds stands.0 stands.1)) stands.2 in
         let t = tend_turns view (StandsSafelyOn view) (Safely view) (over_safe view is_disk) a b olds news node through here in tends_safe view olds news node t.0 t.1 t.2;
+    sure = sure_through view (TendTurn {A = A} view) (λ x old new y turn. turn.goes) a b olds news through;
     stays = λ why disks same. absurd (serves_or_halts olds why disks same);
   }
 
@@ -317,6 +341,7 @@ module _ {D : Type 0} (view : D → DiskView) (is_disk : (disk : D) → IsDisk (
     stored = λ shards same. absurd (serves_or_halts shards why disks (sym same));
     again = λ shards same is. absurd (serves_or_halts shards why disks (sym same));
     exact = λ before after same then is removed cleared told. absurd (serves_or_halts before why disks (sym same));
+    sure = λ counts sure. sure;
     stays = λ other kept same. (refl, refl);
   }
 
@@ -325,5 +350,6 @@ module _ {D : Type 0} (view : D → DiskView) (is_disk : (disk : D) → IsDisk (
     later = later_same view is_disk disks;
     any = λ node stands. absurd (serves_or_halts stands.0 why disks (sym stands.1));
     safe = λ node stands. absurd (serves_or_halts stands.0 why disks (sym stands.1));
+    sure = λ counts sure. sure;
     stays = λ other kept same. refl;
   }

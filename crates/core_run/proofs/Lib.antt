@@ -4,11 +4,13 @@ pub mod Turning
 pub mod Looping
 pub mod Defragging
 pub mod Expiring
+pub mod Sparing
 pub mod Raiding
 pub mod Startings
 pub mod Counting
 pub mod Acting
 pub mod Replying
+pub mod Surely
 pub mod Nodes
 pub mod Commands
 pub mod Keeping

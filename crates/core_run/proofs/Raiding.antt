@@ -9,7 +9,7 @@ use Rattle.rec_format.specs.declared.version.Stamp.{Stamp}
 use Rattle.rec_format.specs.Versions.{top_number}
 use Rattle.rec_format.specs.Places.{device_number}
 use Rattle.model_device.specs.Book.{Setup}
-use Rattle.model_device.specs.Device.{State, Turn, mark_turn, scan_turn, apply_turn, drop_turn, finished, part_of, digests_of}
+use Rattle.model_device.specs.Device.{State, Turn, mark_turn, scan_turn, apply_turn, drop_turn, finished, history, history_of, part_of, digests_of}
 use Rattle.model_device.specs.Steps.{part_total, after_steps, after_drop, raid_begun, scanned_block, done_part, Step, after_step}
 use Rattle.model_device.specs.Events.{Event, Call, Answer, Cause, begin_call, turn_call, raid_numbered, raid_over, spent, refused, stale, after_event, after_events}
 use Rattle.model_device.specs.Legal.{Allowed, Only, TurnEnds, same_turn, drop_step, drop_steps, marked_in}
@@ -23,8 +23,10 @@ use Rattle.raid_book.specs.Books.{BookState}
 use Rattle.law_start.proofs.Each.{all_map}
 use Rattle.block_shelf.specs.View.{ShelfView, AreSure}
 use Rattle.block_shelf.specs.Scans.{possible_copies}
+use Rattle.block_shelf.proofs.Surely.{sure_same}
 use Rattle.model_node.specs.Commands.{Slot, slot_after, slot_after_all, Raids, TakesTurns, removed_by, cleared_by, fault_of}
-use Rattle.law_raid.specs.Exact.{FindsAlong}
+use Rattle.law_raid.specs.Exact.{FindsAlong, RaidSpares}
+use Rattle.law_raid.proofs.Spares.{IsOther, others_keep, drop_spares}
 use Rattle.law_raid.proofs.Exact.{raid_exact}
 use Rattle.line_proto.specs.declared.reply.LineFault.TheVariants as why
 use Rattle.shard_raid.specs.Raids.{RaidView, IsNext}
@@ -45,6 +47,7 @@ use Rattle.core_run.specs.Raids.{ended_by}
 use Rattle.core_run.proofs.Places.{slot_after_is}
 use Rattle.core_run.proofs.Turning.{setups_same, goes_on_none}
 use Rattle.core_run.proofs.Defragging.{makes_then}
+use Rattle.core_run.proofs.Sparing.{none_comes, spares_on}
 
 -- ---- by the model alone
 
@@ -188,6 +191,10 @@ module _ (setup : Setup) (told : Bool) (s : State) (event : Event) (number : ℕ
       by true only = let both : raid_numbered None ≡ raid_numbered (Some number) = sym only.0 ∙ is in absurd cc
       by false begins = begins.1
 
+  histories_then : (digest : Digest) → history (after_event setup event s) digest ≡ history s digest
+  unfolding after_step
+  histories_then digest = ap (λ (l : List Step). history_of digest (after_steps setup l s).log) begun_by
+
   no_scan : (copies : List (Digest × Stamp)) → event.steps ≡ scanned_block copies ∷ [] → ⊥
   no_scan copies steps = let both : raid_begun ∷ [] ≡ scanned_block copies ∷ [] = sym begun_by ∙ steps in absurd cc
 
@@ -204,10 +211,16 @@ module _ {D : Type 0} (view : D → DiskView) (now number : ℕ) (old : ShardVie
     pub alike : IsBefore (after_events (setup_of old) events s).raid.next → SamePossible (possible_copies view old.shelf s) (possible_copies view mid.shelf (after_events (setup_of old) events s))
     pub sure : AreSure mid.shelf.gates
 
+  -- Up to these events nothing changed of a digest of which an older copy is possible now, and until parts end nothing at all.
+  pub record HaveSpared (mid : ShardView D) (events : List Event) : Type 0 where
+    pub spares : RaidSpares s (possible_copies view mid.shelf (after_events (setup_of old) events s)) (after_events (setup_of old) events s)
+    pub before : IsBefore (after_events (setup_of old) events s).raid.next → (digest : Digest) → history (after_events (setup_of old) events s) digest ≡ history s digest
+
   -- So far a raid was taken.
   pub record HaveRaided (mid : ShardView D) (removed cleared : ℕ) (events : List Event) : Type 0 where
     pub so_far : IsSoFar now number (slot_for view old s) removed cleared events
     pub exact : AreSure old.shelf.gates → IsHonest (view old.shelf.disk) → IsSafe view old s → HaveFound mid events
+    pub spared : IsHonest (view old.shelf.disk) → IsSafe view old s → HaveSpared mid events
 
   -- the device of the model is in the state after them
   here_is : (events : List Event) → (slot_after_all events (slot_for view old s)).state ≡ after_events (setup_of old) events s
@@ -235,29 +248,33 @@ module _ {D : Type 0} (view : D → DiskView) (now : ℕ) where
           alike = λ before. possible_aside view old.shelf mid.shelf book s (after_event (setup_of old) m.event s) is (blocks_then (setup_of old) false s m.event number m.is_answer allowed);
           sure = subst AreSure (sym (ap (λ (v : ShelfView D). v.gates) is)) sure;
         };
+        spared = λ honest safe. record {
+          spares = λ digest. inl (histories_then (setup_of old) false s m.event number m.is_answer allowed digest);
+          before = λ before. histories_then (setup_of old) false s m.event number m.is_answer allowed;
+        };
       }) (runs_one view (setup_of old) begin_call (raid_numbered (Some number)) old.shelf mid.shelf s (Agrees mid) m)
 
   -- no raid begins any more
   pub raid_spent : (old mid : ShardView D) → ((s : State) → Agrees old s → Makes view begin_call (raid_numbered None) old s mid) → (s : State) → Agrees old s
-      → MakesEvents view (IsRaid view old now s (Err why.Spent)) old s mid
+      → MakesEvents view (IsRaid view old mid now s (Err why.Spent)) old s mid
   raid_spent old mid makes s agrees =
       let m = makes s agrees in
-      makes_events view old mid s (IsRaid view old now s (Err why.Spent)) (m.event ∷ [])
-      (stopped spent, (spent, refl, refl), (m.event, [], refl, m.is_call, inl (m.is_answer, refl, refl)), tt)
+      makes_events view old mid s (IsRaid view old mid now s (Err why.Spent)) (m.event ∷ [])
+      (stopped spent, (spent, refl, refl), (m.event, [], refl, m.is_call, inl (m.is_answer, refl, refl)), tt, tt)
       (runs_one view (setup_of old) begin_call (raid_numbered None) old.shelf mid.shelf s (Agrees mid) m)
 
   module _ (number removed cleared : ℕ) (old mid : ShardView D) (goes : GoesOn view old mid) (far : RaidedSoFar number removed cleared old mid) where
     -- it is over
     pub raid_done : mid.shelf.raid.next ≡ Finished → ((digest : Digest) → device_number (setup_of old).devices digest ≡ (setup_of old).device
         → part_of (setup_of old) digest < part_total (setup_of old))
-        → (s : State) → Agrees old s → MakesEvents view (IsRaid view old now s (Ok (removed, cleared))) old s mid
+        → (s : State) → Agrees old s → MakesEvents view (IsRaid view old mid now s (Ok (removed, cleared))) old s mid
     raid_done over each s agrees =
         let m = far s agrees in
         let slot = slot_for view old s in
         let at : (slot_after_all m.events slot).state.raid.next ≡ finished = ap (λ (t : State). t.raid.next) (here_is view now number old s m.events)
         ∙ next_is mid (after_events (setup_of old) m.events s) Finished m.stands over in
         let raids = over_so now number slot removed cleared m.events m.works.so_far at in
-        makes_events view old mid s (IsRaid view old now s (Ok (removed, cleared))) m.events (
+        makes_events view old mid s (IsRaid view old mid now s (Ok (removed, cleared))) m.events (
           did removed cleared,
           refl,
           raids,
@@ -266,6 +283,7 @@ module _ {D : Type 0} (view : D → DiskView) (now : ℕ) where
               raid_exact false slot now m.events removed cleared (possible_copies view old.shelf s) raids m.legal safe.safe.held.facts.blocks
               (all_map (λ d. device_number (setup_of old).devices d ≡ (setup_of old).device) (λ d. part_of (setup_of old) d < part_total (setup_of old))
               (digests_of s.log) each agrees.sprigs.own) found.finds,
+          λ honest safe. (m.works.spared honest safe).spares,
         ) (runs_made view old mid s (HaveRaided view now number old s mid removed cleared) m)
 
     module _ (new : ShardView D) (raid : RaidView) (next : IsNext raid mid.shelf.raid) (same : raid.number ≡ number) where
@@ -359,6 +377,47 @@ module _ {D : Type 0} (view : D → DiskView) (now : ℕ) where
             sure = subst AreSure (sym (took.sure found.sure)) found.sure;
           }
 
+        -- ---- what was spared with one turn more
+
+        module _ (have : HaveSpared view now number old s mid m.events) (safe : IsSafe view mid t) where
+          abbrev then : State
+          then = after_event (setup_of mid) turn.makes.event t
+
+          allowed : (n : RaidNext) → raid.next ≡ n → Allowed (setup_of mid) false t turn.makes.event (turn_call raid.number (turn_of n) now)
+          allowed n at = subst (λ (x : RaidNext). Allowed (setup_of mid) false t turn.makes.event (turn_call raid.number (turn_of x) now)) at
+              (subst (λ (c : Call). Allowed (setup_of mid) false t turn.makes.event c) turn.makes.is_call turn.makes.follows.allowed)
+
+          still_same : (n : RaidNext) → raid.next ≡ n → IsBefore (turn_of n) → IsOther (turn_of n) → (digest : Digest) → history then digest ≡ history s digest
+          still_same n at before other digest =
+              others_keep (setup_of mid) false t turn.makes.event raid.number now (turn_of n) other (allowed n at) digest ∙ have.before (subst IsBefore (sym (comes ∙ ap turn_of at)) before) digest
+
+          abbrev Spared : Type 0
+          Spared = RaidSpares s (possible_copies view new.shelf then) then × (IsBefore then.raid.next → (digest : Digest) → history then digest ≡ history s digest)
+
+          spared_by : (n : RaidNext) → raid.next ≡ n → Spared
+          spared_by (Mark part) at = ((λ digest. inl (still_same (Mark part) at tt tt digest)), λ before. still_same (Mark part) at tt tt)
+          spared_by (Scan block) at = ((λ digest. inl (still_same (Scan block) at tt tt digest)), λ before. still_same (Scan block) at tt tt)
+          spared_by (Apply part) at = ((λ digest. inl (still_same (Apply part) at tt tt digest)), λ before. still_same (Apply part) at tt tt)
+          spared_by (Drop part) at =
+              let at_turn : t.raid.next ≡ drop_turn part = comes ∙ ap turn_of at in
+              let ends = took.ends part at in (
+                spares_on s t then (possible_copies view mid.shelf t) (possible_copies view new.shelf then) have.spares
+                    (drop_spares (setup_of mid) false t turn.makes.event raid.number now part (possible_copies view mid.shelf t) at_turn safe.safe.held.facts (allowed (Drop part) at))
+                    (none_comes view mid.shelf new.shelf t then ends.0 ends.1 took.buffers took.shape.geometry (setup_of mid) (setup_of new) m.stands.shelf.stands turn.makes.stands.shelf.stands),
+                λ before. absurd (drops_on (setup_of mid) false t turn.makes.event raid.number part now at_turn (allowed (Drop part) at) before),
+              )
+          spared_by Finished at = absurd (more at)
+
+          pub spared_more : HaveSpared view now number old s new (m.events ++ turn.makes.event ∷ [])
+          spared_more =
+              let behind : after_events (setup_of old) (m.events ++ turn.makes.event ∷ []) s ≡ then =
+              after_all (setup_of old) m.events (turn.makes.event ∷ []) s ∙ ap (λ (x : Setup). after_event x turn.makes.event t) (sym setups) in
+              let both : Spared = spared_by raid.next refl in
+              record {
+                spares = subst (λ (x : State). RaidSpares s (possible_copies view new.shelf x) x) (sym behind) both.0;
+                before = subst (λ (x : State). IsBefore x.raid.next → (digest : Digest) → history x digest ≡ history s digest) (sym behind) both.1;
+              }
+
       -- a turn more was taken
       pub raid_more : (told : RaidDid) (gone bare : ℕ) → TakesTurn view raid.next now (Ok told) mid new → ended_by told ≡ Some (gone, bare)
           → ((t : State) → Agrees mid t → TurnMakes view raid now (Ok told) mid t new) → RaidedSoFar number (removed + gone) (cleared + bare) old new
@@ -376,11 +435,14 @@ module _ {D : Type 0} (view : D → DiskView) (now : ℕ) where
             exact = λ sure honest safe.
                 found_more told took gone bare ended s m turn (m.works.exact sure honest safe) (goes.honest honest)
                 (subst (λ (x : Setup). ShelfIsSafe view x mid.shelf t) (sym (setups_same view old mid goes)) (m.safe honest safe));
+            spared = λ honest safe.
+                spared_more told took gone bare ended s m turn (m.works.spared honest safe)
+                (subst (λ (x : Setup). ShelfIsSafe view x mid.shelf t) (sym (setups_same view old mid goes)) (m.safe honest safe));
           }))
 
       -- a turn was refused
       pub raid_refused : (refusal : RaidRefusal) → ((t : State) → Agrees mid t → TurnMakes view raid now (Err refusal) mid t new) → (s : State) → Agrees old s
-          → MakesEvents view (IsRaid view old now s (Err (fault_of (cause_of refusal)))) old s new
+          → MakesEvents view (IsRaid view old new now s (Err (fault_of (cause_of refusal)))) old s new
       raid_refused refusal makes s agrees =
           let m = far s agrees in
           let t = after_events (setup_of old) m.events s in
@@ -391,12 +453,13 @@ module _ {D : Type 0} (view : D → DiskView) (now : ℕ) where
           let allowed = subst (λ (c : Call). Allowed (setup_of mid) false t turn.makes.event c) turn.makes.is_call turn.makes.follows.allowed in
           let goes_further = not_over (setup_of mid) false t turn.makes.event raid.number raid.next now cause turn.makes.is_answer (next.number ∙ m.stands.shelf.queue.raid.turns.number)
           (sym m.stands.shelf.queue.raid.turns.next ∙ ap turn_of (sym next.next)) allowed in
-          makes_then view old mid new s (HaveRaided view now number old s mid removed cleared) (λ events. events ≡ turn.makes.event ∷ []) (IsRaid view old now s (Err (fault_of cause))) goes m one
-          (subst (λ (l : List Event). IsRaid view old now s (Err (fault_of cause)) (m.events ++ l)) (sym one.works) (
+          makes_then view old mid new s (HaveRaided view now number old s mid removed cleared) (λ events. events ≡ turn.makes.event ∷ []) (IsRaid view old new now s (Err (fault_of cause))) goes m one
+          (subst (λ (l : List Event). IsRaid view old new now s (Err (fault_of cause)) (m.events ++ l)) (sym one.works) (
             stopped cause,
             (cause, refl, refl),
             refused_so now number (slot_for view old s) removed cleared m.events m.works.so_far turn.makes.event (named s m.events turn.makes.event.call m.stands turn.makes.is_call)
                 (not_finished s m.events m.stands goes_further) cause turn.makes.is_answer,
+            tt,
             tt,
           ))
 
@@ -413,6 +476,7 @@ module _ {D : Type 0} (view : D → DiskView) (old mid : ShardView D) (book : Bo
     shape = record { geometry = refl; set = refl };
     later = (goes_on_none view old is_disk).later;
     honest = λ honest. honest;
+    sure = sure_same view old.shelf with_book.shelf refl refl;
   })
 
   -- a raid that begins has the book of one

@@ -22,6 +22,7 @@ use Rattle.core_run.specs.Starts.{Started, StartsEach, RefusesAt}
 use Rattle.core_run.specs.Standing.{Each, StandsOn, StandsSafelyOn, StandsFor, StandsSafely, Halts, HaltsSafely}
 use Rattle.core_run.specs.Calls.{Acts, Restarted}
 use Rattle.core_run.proofs.Making.{each_more, nothing_left}
+use Rattle.core_run.proofs.Surely.{sure_again}
 use Rattle.core_run.proofs.Nodes.{one_shards, serves_or_halts}
 use Rattle.core_run.proofs.Replying.{restart_goes_on}
 use Rattle.core_run.proofs.Reading.{ReadEach, read_later, starts_read, refuses_read, left_read, counted_now, same_states, counts_now, counts_before, left_now, place_within, refused_rose, not_refused}
@@ -174,6 +175,7 @@ module _ {D : Type 0} (view : D → DiskView) (set : Settings) where
         stored = λ shards same. tt;
         again = λ shards same is. (set, subst (λ (s : List (ShardView D)). Restarted view set s (serving fresh)) (one_shards olds shards same) (inl (fresh, refl, starts)));
         exact = λ before after same then is. absurd cc;
+        sure = sure_again view set 0 (length olds) olds fresh starts;
         stays = λ why disks same. absurd (serves_or_halts olds why disks same);
       }
 
@@ -237,5 +239,6 @@ module _ {D : Type 0} (view : D → DiskView) (set : Settings) where
         stored = λ shards same. tt;
         again = λ shards same is. (set, subst (λ (s : List (ShardView D)). Restarted view set s (halted reason disks)) (one_shards olds shards same) (inr (reason, disks, refl, refuses)));
         exact = λ before after same then is. absurd cc;
+        sure = λ counts sure. tt;
         stays = λ why kept same. absurd (serves_or_halts olds why kept same);
       }

@@ -6,6 +6,7 @@ use Rattle.model_device.specs.Book.{Setup}
 use Rattle.model_device.specs.Events.{Event, after_events, states_of}
 use Rattle.model_device.specs.Legal.{IsLegal, last_faults}
 use Rattle.law_start.specs.Surviving.{Survives}
+use Rattle.block_shelf.proofs.Surely.{sure_none, sure_then}
 use Rattle.shard_core.specs.View.{ShardView, setup_of, setup_for}
 use Rattle.shard_core.specs.Stands.{Agrees, IsSafe}
 use Rattle.law_steps.specs.Standing.{ShelfIsSafe}
@@ -24,13 +25,19 @@ setups_same view old new goes = ap (λ g. setup_for g new.set) goes.shape.geomet
 module _ {D : Type 0} (view : D → DiskView) where
   -- a device that isn't called, and one that is called twice
   pub goes_on_none : (shard : ShardView D) → IsDisk (view shard.shelf.disk) → GoesOn view shard shard
-  goes_on_none shard is_disk = record { shape = record { geometry = refl; set = refl }; later = later_none view shard.shelf.disk is_disk; honest = λ honest. honest }
+  goes_on_none shard is_disk = record {
+    shape = record { geometry = refl; set = refl };
+    later = later_none view shard.shelf.disk is_disk;
+    honest = λ honest. honest;
+    sure = sure_none view shard.shelf shard.shelf refl;
+  }
 
   pub goes_on_then : (old mid new : ShardView D) → GoesOn view old mid → GoesOn view mid new → GoesOn view old new
   goes_on_then old mid new first then = record {
     shape = record { geometry = then.shape.geometry ∙ first.shape.geometry; set = then.shape.set ∙ first.shape.set };
     later = later_then view old.shelf.disk mid.shelf.disk new.shelf.disk first.later then.later;
     honest = λ honest. then.honest (first.honest honest);
+    sure = sure_then view old.shelf mid.shelf new.shelf first.sure then.sure;
   }
 
   -- a device that does nothing

@@ -22,8 +22,9 @@ use Rattle.model_node.specs.Outside.{RoseOn}
 use Rattle.model_node.specs.RunEnd.{IsQuiet, AllQuiet}
 use Rattle.model_node.specs.Meaning.{ActsBy, TendsBy, ClosesBy}
 use Rattle.core_run.specs.Views.{NodeView, serving, halted, disks_served, disks_of, views_of, unknown, faults_of, AreLater}
+use Rattle.core_run.specs.Sure.{StaySure}
 use Rattle.core_run.specs.Starts.{StartsEach, RefusesAt}
-use Rattle.law_raid.specs.Exact.{RaidsExactly}
+use Rattle.law_raid.specs.Exact.{RaidsExactly, RaidSpares, RaidLeavesNone}
 use Rattle.core_run.specs.Standing.{Each, StandsSafelyOn, StandsFor, StandsSafely, Halts, HaltsSafely}
 
 -- the digest that a command is on
@@ -50,21 +51,24 @@ Restarted {D} view set shards new =
     ((fresh : List (ShardView D)) × (new ≡ serving fresh) × StartsEach view set 0 (length shards) (disks_served shards) fresh)
     ⊎ ((why : ℕ × StartCause) × (disks : List D) × (new ≡ halted why disks) × RefusesAt view set why.0 0 (length shards) why.1 (disks_served shards) disks)
 
--- Of each device so many tombstones were removed, and so many covers cleared, and the sums were told. It stands for a state then; and where none of
--- its gates was unsure, these were just the tombstones and covers that may go.
+-- Of each device so many tombstones were removed, and so many covers cleared, and the sums were told. It stands for a state then, and whatever was known
+-- of its gates, nothing changed of a digest of which an older copy is possible then; and where none of its gates was unsure, these were just the
+-- tombstones and covers that may go.
 abbrev pub RaidedExactly : {D : Type 0} → (view : D → DiskView) → (now : ℕ) → (olds : List (ShardView D)) → Node → (news : List (ShardView D)) → (removed cleared : ℕ) → Type 0
 RaidedExactly view now [] node news removed cleared = (removed ≡ 0) × (cleared ≡ 0)
 RaidedExactly view now (old ∷ olds) [] news removed cleared = ⊥
 RaidedExactly view now (old ∷ olds) (slot ∷ node) [] removed cleared = ⊥
 RaidedExactly view now (old ∷ olds) (slot ∷ node) (new ∷ news) removed cleared =
     (gone : ℕ) × (bare : ℕ) × (others : ℕ × ℕ) × (removed ≡ gone + others.0) × (cleared ≡ bare + others.1)
-    × ((after : State) × Agrees new after × (AreSure old.shelf.gates → RaidsExactly slot.setup now slot.state (possible_copies view old.shelf slot.state) gone bare after))
+    × ((after : State) × Agrees new after × RaidSpares slot.state (possible_copies view new.shelf after) after
+    × RaidLeavesNone slot.setup slot.state after (view new.shelf.disk).may_leave
+    × (AreSure old.shelf.gates → RaidsExactly slot.setup now slot.state (possible_copies view old.shelf slot.state) gone bare after))
     × RaidedExactly view now olds node news others.0 others.1
 
 -- Each command is carried out from each state for which the node stood: over every disk, where what is read may be anything, and over
 -- honest ones, with what a crash leaves meanwhile. A get is replied as its record is stored. A restart goes to a state behind a start of
--- each device from its disk, or one is refused, and then the node halts. A raid that isn't refused is exact, over honest disks whose images were
--- sound. A node that halted answers so from then on, and does nothing.
+-- each device from its disk, or one is refused, and then the node halts. A raid that isn't refused spares what it has to and is exact, over honest disks
+-- whose images were sound. No gate becomes unsure of a device whose count of faults doesn't rise, and none is unsure behind a restart. A node that halted answers so from then on, and does nothing.
 pub record Acts {D : Type 0} (view : D → DiskView) (old : NodeView D) (c : Command) (now : ℕ) (r : Reply) (new : NodeView D) : Type 0 where
   pub later : AreLater view (disks_of old) (disks_of new)
   pub any : ActsBy (StandsFor view) unknown (Halts view) false old c now r new
@@ -73,12 +77,14 @@ pub record Acts {D : Type 0} (view : D → DiskView) (old : NodeView D) (c : Com
   pub again : (shards : List (ShardView D)) → old ≡ serving shards → c ≡ command.Restart → (set : Settings) × Restarted view set shards new
   pub exact : (olds news : List (ShardView D)) → old ≡ serving olds → new ≡ serving news → c ≡ command.Raid → (removed cleared : ℕ) → r ≡ reply.Raided removed cleared → (node : Node) → Each (StandsSafelyOn view) olds node
       → RaidedExactly view now olds node news removed cleared
+  pub sure : StaySure view old new
   pub stays : (why : ℕ × StartCause) (disks : List D) → old ≡ halted why disks → (r ≡ reply.Halted) × (new ≡ old)
 
 pub record Tends {D : Type 0} (view : D → DiskView) (old new : NodeView D) : Type 0 where
   pub later : AreLater view (disks_of old) (disks_of new)
   pub any : TendsBy (StandsFor view) unknown false old new
   pub safe : TendsBy (StandsSafely view) (views_of view) true old new
+  pub sure : StaySure view old new
   pub stays : (why : ℕ × StartCause) (disks : List D) → old ≡ halted why disks → new ≡ old
 
 -- ---- the end of a run
@@ -94,3 +100,4 @@ pub record Closes {D : Type 0} (view : D → DiskView) (failed : Option ℕ) (ol
   pub later : AreLater view (disks_of old) (disks_of new)
   pub any : ClosesBy (StandsFor view) unknown false (ClosedSo failed (faults_of view (disks_of old)) (faults_of view (disks_of new))) old new
   pub safe : ClosesBy (StandsSafely view) (views_of view) true (ClosedSo failed (faults_of view (disks_of old)) (faults_of view (disks_of new))) old new
+  pub sure : StaySure view old new

@@ -1,4 +1,5 @@
 pub mod Views
+pub mod Sure
 pub mod Starts
 pub mod Standing
 pub mod Calls

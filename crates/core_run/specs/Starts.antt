@@ -5,6 +5,7 @@ use Rattle.model_device.specs.Device.{State}
 use Rattle.block_format.specs.Layout.{Body}
 use Rattle.law_start.specs.Start.{start_state}
 use Rattle.law_start.specs.Sound.{IsSound}
+use Rattle.block_shelf.specs.View.{AreSure}
 use Rattle.block_shelf.specs.Disks.{OnlyRead}
 use Rattle.cold_scan.specs.declared.header.Asked.{Asked}
 use Rattle.cold_scan.specs.declared.header.StartCause.{StartCause}
@@ -18,7 +19,7 @@ use Rattle.core_run.specs.Views.{asked}
 
 -- A disk was taken into use, and nothing was written. Over any disk the shard stands for the state behind a start from the bodies that
 -- were read; over one that tells its bytes it begins with what they have, and a crash leaves just these. Over an honest one whose image
--- is sound it is safe; and so it is over that of a shard that stood safely for a state, behind a restart from there.
+-- is sound it is safe; and so it is over that of a shard that stood safely for a state, behind a restart from there. No gate is unsure.
 pub record Started {D : Type 0} (view : D → DiskView) (set : Settings) (place : Asked) (disk : D) (shard : ShardView D) : Type 0 where
   pub stands : StandsForBodies view place (view disk) shard
   pub begins : (view disk).tells → Begins place (view disk).seen shard
@@ -30,6 +31,7 @@ pub record Started {D : Type 0} (view : D → DiskView) (set : Settings) (place 
   pub device_is : shard.shelf.geometry.device ≡ place.device
   pub devices_is : shard.shelf.geometry.devices ≡ place.devices
   pub read : OnlyRead (view disk) (view shard.shelf.disk)
+  pub sure : AreSure shard.shelf.gates
 
 -- A disk was not taken into use, and is handed back as it was. Over the honest one of a shard that stood safely for a state there was no
 -- memory, or the disk failed.

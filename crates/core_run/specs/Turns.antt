@@ -7,6 +7,7 @@ use Rattle.model_device.specs.Vacating.{Outcome, VacatesUpTo, Tends, did, stoppe
 use Rattle.model_device.specs.Expiring.{ExpiresEach}
 use Rattle.block_shelf.specs.Disks.{IsLater}
 use Rattle.block_shelf.specs.View.{AreSure}
+use Rattle.block_shelf.specs.Sure.{StaysSure}
 use Rattle.block_shelf.specs.Scans.{possible_copies}
 use Rattle.block_shelf.specs.declared.refusals.ReadRefusal.{ReadRefusal}
 use Rattle.rec_format.specs.declared.entry.Counts.{Counts}
@@ -23,15 +24,16 @@ use Rattle.line_proto.specs.declared.reply.Reply.{Reply}
 use Rattle.line_proto.specs.declared.reply.Reply.TheVariants as reply
 use Rattle.line_proto.specs.declared.reply.LineFault.{LineFault}
 use Rattle.model_node.specs.Commands.{Slot, Raids, answer_reply, fault_of, meta_reply, expired_entries}
-use Rattle.law_raid.specs.Exact.{RaidsExactly}
+use Rattle.law_raid.specs.Exact.{RaidsExactly, RaidSpares}
 
 -- ---- one device
 
--- its disk is the same, later, and its shape and settings stay
+-- Its disk is the same, later, and its shape and settings stay; no gate becomes unsure where the disk's count of faults doesn't rise.
 pub record GoesOn {D : Type 0} (view : D → DiskView) (old new : ShardView D) : Type 0 where
   pub shape : SameSetup old new
   pub later : IsLater (view old.shelf.disk) (view new.shelf.disk)
   pub honest : IsHonest (view old.shelf.disk) → IsHonest (view new.shelf.disk)
+  pub sure : StaysSure view old.shelf new.shelf
 
 -- one event of this call, whose answer is replied
 abbrev pub RepliesTo : {D : Type 0} → (view : D → DiskView) → Call → (old : ShardView D) → Reply → (new : ShardView D) → Type 0
@@ -99,14 +101,21 @@ IsExact view shard now s (Ok sums) after =
     AreSure shard.shelf.gates → IsHonest (view shard.shelf.disk) → IsSafe view shard s → RaidsExactly (setup_of shard) now s (possible_copies view shard.shelf s) sums.0 sums.1 after
 IsExact view shard now s (Err other) after = Unit {0}
 
+-- Over an honest disk whose image was sound, whatever is known of its gates, one that isn't refused has changed the history of no digest of which a copy is
+-- possible behind it that is older than its entry was: one that waits in a buffer, or is in an image that the disk may leave then.
+abbrev pub IsSparing : {D : Type 0} → (view : D → DiskView) → (old new : ShardView D) → State → Result (ℕ × ℕ) LineFault → (after : State) → Type 0
+IsSparing view old new s (Ok sums) after = IsHonest (view old.shelf.disk) → IsSafe view old s → RaidSpares s (possible_copies view new.shelf after) after
+IsSparing view old new s (Err other) after = Unit {0}
+
 -- a whole raid of one device
-abbrev pub IsRaid : {D : Type 0} → (view : D → DiskView) → ShardView D → (now : ℕ) → State → Result (ℕ × ℕ) LineFault → List Event → Type 0
-IsRaid view shard now s result events =
-    (outcome : Outcome) × IsRaided result outcome × Raids now (slot_for view shard s) events outcome × IsExact view shard now s result (after_events (setup_of shard) events s)
+abbrev pub IsRaid : {D : Type 0} → (view : D → DiskView) → (old new : ShardView D) → (now : ℕ) → State → Result (ℕ × ℕ) LineFault → List Event → Type 0
+IsRaid view old new now s result events =
+    (outcome : Outcome) × IsRaided result outcome × Raids now (slot_for view old s) events outcome
+    × IsExact view old now s result (after_events (setup_of old) events s) × IsSparing view old new s result (after_events (setup_of old) events s)
 
 pub record RaidsOn {D : Type 0} (view : D → DiskView) (now : ℕ) (result : Result (ℕ × ℕ) LineFault) (old new : ShardView D) : Type 0 where
   pub goes : GoesOn view old new
-  pub makes : (s : State) → Agrees old s → MakesEvents view (IsRaid view old now s result) old s new
+  pub makes : (s : State) → Agrees old s → MakesEvents view (IsRaid view old new now s result) old s new
 
 -- a flush of one device, by what it answers
 pub record FlushesOn {D E : Type 0} (view : D → DiskView) (flushed : Result ℕ E) (old new : ShardView D) : Type 0 where

@@ -18,6 +18,7 @@ ghost use Rattle.sprig_tree.specs.Entries.{entry_of};
 ghost use Rattle.law_sprig.specs.Becoming.{moved_to};
 ghost use Rattle.block_shelf.specs.Calls.{copy_live};
 ghost use Rattle.block_shelf.specs.Disks.{IsLater, OnlyRead};
+ghost use Rattle.block_shelf.specs.Sure.{StaysSure};
 ghost use Rattle.block_shelf.specs.Standing.{StandsFor, IsPlaced};
 ghost use Rattle.block_shelf.specs.View.{IsSetupOf, SameShape, gate_at, in_memory};
 ghost use Rattle.law_steps.specs.Standing.{StandTogether};
@@ -57,6 +58,7 @@ pub fn move_one<D: Disk>(
         → gate_at shelf.old.gates (first_block shelf.old.free) ≡ Shut → shelf.new.disk ≡ shelf.old.disk }
     ensures refused { IfErr result (λ refusal. SameSprig sprig.old sprig.new) }
     ensures cause { result ≡ Err MoveRefusal.Fault → Rose (D.view shelf.old.disk).faults (D.view shelf.new.disk).faults }
+    ensures sure { StaysSure D.view shelf.old shelf.new }
     ensures later { IsLater (D.view shelf.old.disk) (D.view shelf.new.disk) }
     ensures honest { IsHonest (D.view shelf.old.disk) → IsHonest (D.view shelf.new.disk) }
     ensures shape { SameShape shelf.old shelf.new }

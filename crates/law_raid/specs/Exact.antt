@@ -1,5 +1,5 @@
 -- Crate law_raid. What a raid that takes every turn has done at its end.
-use Rattle.std.specs.Prelude.{ℕ, Bool, true, ◌&&◌, List, [], ◌∷◌, count_by, ◌≡◌, if◌then◌else◌, MatchBool}
+use Rattle.std.specs.Prelude.{ℕ, Bool, true, ◌&&◌, List, [], ◌∷◌, count_by, Some, ◌≡◌, ◌⊎◌, if◌then◌else◌, MatchBool}
 use Rattle.rec_format.specs.declared.version.Digest.{Digest}
 use Rattle.rec_format.specs.declared.version.Version.{Version}
 use Rattle.rec_format.specs.Versions.{is_put, is_tombstone}
@@ -7,6 +7,7 @@ use Rattle.model_device.specs.Histories.{Item, rid, cleared}
 use Rattle.model_device.specs.Book.{Setup}
 use Rattle.model_device.specs.Device.{State, history, entry, entry_passes, digests_of, is_eligible}
 use Rattle.model_device.specs.Events.{Event, after_event}
+use Rattle.law_start.specs.Surviving.{HasNoOlder}
 use Rattle.law_facts.specs.Facts.{Possible, IsOlder, NoneOlder}
 use Rattle.law_facts.specs.Asking.{ScansAll, ScansOnly}
 
@@ -26,6 +27,16 @@ pub record RaidsExactly (setup : Setup) (now : ℕ) (s : State) (possible : Poss
   pub removed_are : removed ≡ count_by (λ d. (is_eligible setup now s d && bare d) && entry_passes is_tombstone (entry s d)) (digests_of s.log)
   pub cleared_are : cleared ≡ count_by (λ d. (is_eligible setup now s d && bare d) && entry_passes is_put (entry s d)) (digests_of s.log)
   pub histories : (digest : Digest) → history after digest ≡ (if is_eligible setup now s digest && bare digest then drop_item s digest ∷ history s digest else history s digest)
+
+-- A raid from this state changed the history of no digest of which one of these copies is older than its entry was.
+abbrev pub RaidSpares : State → Possible → (after : State) → Type 0
+RaidSpares s possible after = (digest : Digest) → (history after digest ≡ history s digest) ⊎ NoneOlder s possible digest
+
+-- By what may be left behind it: of a digest whose history it changed no copy is older than the entry was, none that waits in a buffer then and none that
+-- one of these images has.
+abbrev pub RaidLeavesNone : Setup → State → (after : State) → (images : List ℕ → Type 0) → Type 0
+RaidLeavesNone setup s after images =
+    (digest : Digest) → (history after digest ≡ history s digest) ⊎ ((e : Version) → entry s digest ≡ Some e → HasNoOlder setup after images digest e)
 
 -- each scan of these events finds what it has to, and nothing but what is possible; what is possible stays the same up to the last scan
 abbrev pub FindsAlong : Setup → Possible → State → List Event → Type 0

@@ -13,8 +13,10 @@ use Rattle.block_format.specs.Refusals.{IsBlock}
 use Rattle.block_flusher.specs.Images.{IsBodyOf}
 use Rattle.law_images.specs.Gates.{GateStands}
 use Rattle.law_images.specs.Held.{AreSure}
+use Rattle.law_start.proofs.Each.{all_map}
 use Rattle.law_start.proofs.Growing.{all_at}
 use Rattle.block_shelf.specs.View.{GatesStand, gate_at}
+use Rattle.block_shelf.specs.View as shelf
 use Rattle.cold_scan.specs.Found.{IsSure, TellsSector, AreGates}
 use Rattle.cold_scan.proofs.Scans.{each_block}
 
@@ -43,3 +45,7 @@ sure_is Unsure sure same = sure
 
 pub gates_sure : (g : Geometry) (gates : List Gate) → length gates ≡ g.blocks → AllByRecursion IsSure gates → AreSure g (gate_at gates)
 gates_sure g gates count sure block lt = sure_is (gate_at gates block) (all_at IsSure gates (gate_at gates block) sure (Contains-get_or gates block Shut (omega (arith, lt, count))))
+
+-- none is unsure
+pub none_unsure : (gates : List Gate) → AllByRecursion IsSure gates → shelf.AreSure gates
+none_unsure gates sure = all_map IsSure (λ (gate : Gate). gate ≢ Unsure) gates sure_is sure

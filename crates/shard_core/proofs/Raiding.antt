@@ -153,7 +153,7 @@ module _ {D : Type 0} (view : D → DiskView) (next : RaidNext) (old new : Shard
       (step s (part_stands view part old new k before after shape place there at becomes s agrees))
 
   module _ (is_did : IsDidOf next did) (more : did ≢ Done) (is_disk : IsDisk (view old.shelf.disk)) (disk : new.shelf.disk ≡ old.shelf.disk) (gates : new.shelf.gates ≡ old.shelf.gates)
-      (number : new.shelf.raid.number ≡ old.shelf.raid.number)
+      (buffers : new.shelf.buffers ≡ old.shelf.buffers) (number : new.shelf.raid.number ≡ old.shelf.raid.number)
       (nearer : turns_left new.shelf.raid < turns_left old.shelf.raid) (few : AreFewEnds (turns_left old.shelf.raid) did)
       (alike : IsNoDrop next → (s t : State) → t.book ≡ s.book → SamePossible (possible_copies view old.shelf s) (possible_copies view new.shelf t)) where
     pub turn_taken : TakesTurn view next now (Ok did) old new
@@ -177,6 +177,8 @@ module _ {D : Type 0} (view : D → DiskView) (next : RaidNext) (old new : Shard
       few = few;
       damaged = λ tells block is. tt;
       sure = λ sure. gates;
+      buffers = buffers;
+      ends = λ dropped is. (disk, gates);
       cause = λ fault. absurd cc;
       later = subst (λ (d : D). IsLater (view old.shelf.disk) (view d)) (sym disk) (later_none view old.shelf.disk is_disk);
       honest = subst (λ (d : D). IsHonest (view old.shelf.disk) → IsHonest (view d)) (sym disk) (λ honest. honest);
@@ -241,7 +243,8 @@ module _ {D : Type 0} (view : D → DiskView) (block now : ℕ) (old new : Shard
   }
 
   module _ (comes : old.shelf.raid.next ≡ Scan block) (alike : StaysPossible) (sure : AreSure old.shelf.gates → new.shelf.gates ≡ old.shelf.gates)
-      (later : IsLater (view old.shelf.disk) (view new.shelf.disk)) (honest : IsHonest (view old.shelf.disk) → IsHonest (view new.shelf.disk)) where
+      (later : IsLater (view old.shelf.disk) (view new.shelf.disk)) (honest : IsHonest (view old.shelf.disk) → IsHonest (view new.shelf.disk))
+      (buffers : new.shelf.buffers ≡ old.shelf.buffers) where
     -- it was scanned
     pub scan_taken : ScansSo (Ok block) → FitsTurn old.shelf.raid.next old.shelf.raid → new.shelf.raid ≡ with_scan new.shelf.raid.found old.shelf.raid
         → TakesTurn view (Scan block) now (Ok (Scanned block)) old new
@@ -256,6 +259,8 @@ module _ {D : Type 0} (view : D → DiskView) (block now : ℕ) (old new : Shard
       few = tt;
       damaged = λ tells other is. tt;
       sure = sure;
+      buffers = buffers;
+      ends = λ dropped is. absurd cc;
       cause = λ fault. absurd cc;
       later = later;
       honest = honest;
@@ -278,6 +283,8 @@ module _ {D : Type 0} (view : D → DiskView) (block now : ℕ) (old new : Shard
       damaged = λ tells other is. let same : block ≡ other = cc in
           subst (λ (b : ℕ). IsDamageOf old.shelf.geometry (body_bytes old.shelf.geometry b (view old.shelf.disk).seen) b refusal) same (damaged tells);
       sure = sure;
+      buffers = buffers;
+      ends = λ dropped is. absurd cc;
       cause = λ fault. rose (let is : refusal ≡ Fault = cc in is);
       later = later;
       honest = honest;
@@ -342,6 +349,8 @@ module _ {D : Type 0} (view : D → DiskView) (is_disk : (disk : D) → IsDisk (
     few = tt;
     damaged = λ tells block is. tt;
     sure = λ sure. refl;
+    buffers = refl;
+    ends = λ part is. (refl, refl);
     cause = λ fault. absurd cc;
     later = later_none view old.shelf.disk (is_disk old.shelf.disk);
     honest = λ honest. honest;

@@ -69,7 +69,8 @@ AreFewEnds left (Dropped removed cleared) = (removed ≤ 2 ^ 32) × (cleared ≤
 AreFewEnds left _ = Unit {0}
 
 -- What the turn of the raid that runs makes of a shard, by its answer. A turn that is refused gives the raid up, so that its marks are void; any other
--- leaves fewer turns. It is never stale. Damage is what the disk has in the block that was to be scanned.
+-- leaves fewer turns. It is never stale. Damage is what the disk has in the block that was to be scanned. No turn writes to a buffer, and the end of
+-- a part calls no disk.
 pub record TakesTurn {D : Type 0} (view : D → DiskView) (next : RaidNext) (now : ℕ) (result : Result RaidDid RaidRefusal) (old new : ShardView D) : Type 0 where
   pub makes : (s : State) → Agrees old s → TurnMakes view (record { number = old.shelf.raid.number; next = next }) now result old s new
   pub of_turn : IfErr result IsOfTurn
@@ -81,6 +82,8 @@ pub record TakesTurn {D : Type 0} (view : D → DiskView) (next : RaidNext) (now
   pub few : IfOk result (AreFewEnds (turns_left old.shelf.raid))
   pub damaged : (view old.shelf.disk).tells → (block : ℕ) → next ≡ turn.Scan block → IfErr result (IsDamageOf old.shelf.geometry (body_bytes old.shelf.geometry block (view old.shelf.disk).seen) block)
   pub sure : AreSure old.shelf.gates → new.shelf.gates ≡ old.shelf.gates
+  pub buffers : new.shelf.buffers ≡ old.shelf.buffers
+  pub ends : (part : ℕ) → next ≡ turn.Drop part → (new.shelf.disk ≡ old.shelf.disk) × (new.shelf.gates ≡ old.shelf.gates)
   pub cause : result ≡ Err Fault → Rose (view old.shelf.disk).faults (view new.shelf.disk).faults
   pub later : IsLater (view old.shelf.disk) (view new.shelf.disk)
   pub honest : IsHonest (view old.shelf.disk) → IsHonest (view new.shelf.disk)

@@ -12,6 +12,7 @@ ghost use Rattle.write_buffer.specs.Buffers.{BufferState};
 ghost use Rattle.expiry_rule.specs.Seen.{seen_entry};
 ghost use Rattle.tomb_rules.specs.Covers.{cover_of};
 ghost use Rattle.block_shelf.specs.Disks.{IsLater, OnlyRead};
+ghost use Rattle.block_shelf.specs.Sure.{StaysSure};
 ghost use Rattle.block_shelf.specs.View.{gate_at, in_memory};
 ghost use Rattle.block_shelf.specs.Standing.{IsPlaced};
 ghost use Rattle.write_buffer.specs.declared.stream.Stream.TheVariants.{Client};
@@ -58,6 +59,7 @@ impl<D: Disk> Shard<D> {
 
         // A refusal writes nothing, but where commit is on and the flush failed.
         ensures refused { IfErr result (λ refusal. ((refusal ≡ WriteRefusal.Fault) × (self.old.set.commit ≡ true)) ⊎ IsRefusedWrite self.old self.new refusal) }
+        ensures sure { StaysSure D.view self.old.shelf self.new.shelf }
         ensures later { IsLater (D.view self.old.shelf.disk) (D.view self.new.shelf.disk) }
         ensures honest { IsHonest (D.view self.old.shelf.disk) → IsHonest (D.view self.new.shelf.disk) }
         ensures shape { SameSetup self.old self.new }
@@ -102,6 +104,7 @@ impl<D: Disk> Shard<D> {
 
         // Over an honest disk nothing is damaged.
         ensures undamaged { IsHonest (D.view self.old.shelf.disk) → (s : State) → Agrees self.old s → IsPlaced D.view self.old.shelf s → IfErr result IsUndamaged }
+        ensures sure { StaysSure D.view self.old.shelf self.new.shelf }
         ensures disk { OnlyRead (D.view self.old.shelf.disk) (D.view self.new.shelf.disk) }
         ensures shape { SameSetup self.old self.new }
     {
@@ -137,6 +140,7 @@ impl<D: Disk> Shard<D> {
         // What isn't covered is removed without a call of the disk, and that isn't refused.
         ensures bare { cover_of (seen_entry now (held (setup_of self.old) digest.now self.old.sprigs)) ≡ false → IsOk result × (self.new.shelf.disk ≡ self.old.shelf.disk) }
         ensures refused { IfErr result (λ refusal. ((refusal ≡ WriteRefusal.Fault) × (self.old.set.commit ≡ true)) ⊎ IsRefusedWrite self.old self.new refusal) }
+        ensures sure { StaysSure D.view self.old.shelf self.new.shelf }
         ensures later { IsLater (D.view self.old.shelf.disk) (D.view self.new.shelf.disk) }
         ensures honest { IsHonest (D.view self.old.shelf.disk) → IsHonest (D.view self.new.shelf.disk) }
         ensures shape { SameSetup self.old self.new }
@@ -164,6 +168,7 @@ impl<D: Disk> Shard<D> {
         requires now { now ≤ 2 ^ 61 }
         ensures makes { (s : State) → Agrees self.old s → Makes D.view (bury_call digest.now now) (write_answer result) self.old s self.new }
         ensures refused { IfErr result (λ refusal. ((refusal ≡ WriteRefusal.Fault) × (self.old.set.commit ≡ true)) ⊎ IsRefusedWrite self.old self.new refusal) }
+        ensures sure { StaysSure D.view self.old.shelf self.new.shelf }
         ensures later { IsLater (D.view self.old.shelf.disk) (D.view self.new.shelf.disk) }
         ensures honest { IsHonest (D.view self.old.shelf.disk) → IsHonest (D.view self.new.shelf.disk) }
         ensures shape { SameSetup self.old self.new }

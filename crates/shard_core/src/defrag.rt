@@ -7,6 +7,7 @@ ghost use Rattle.model_device.specs.Device.{State};
 ghost use Rattle.model_device.specs.Events.{Answer, happened, move_call};
 ghost use Rattle.model_device.specs.Vacating.{moved_by};
 ghost use Rattle.block_shelf.specs.Disks.{IsLater};
+ghost use Rattle.block_shelf.specs.Sure.{StaysSure};
 ghost use Rattle.shard_core.specs.View.{SameSetup, setup_of};
 ghost use Rattle.shard_core.specs.Stands.{Agrees};
 ghost use Rattle.shard_core.specs.Calls.{Makes};
@@ -35,6 +36,7 @@ impl<D: Disk> Shard<D> {
     pub fn defrag_one(&mut self, alloc: Global) -> Result<Option<Vacated>, DefragRefusal>
         ensures makes { (s : State) → Agrees self.old s → MakesEvents D.view (IsVacating self.old s result) self.old s self.new }
         ensures few { IfOk result (λ done. IfSome done (λ vacated. vacated.moved < 2 ^ 16)) }
+        ensures sure { StaysSure D.view self.old.shelf self.new.shelf }
         ensures later { IsLater (D.view self.old.shelf.disk) (D.view self.new.shelf.disk) }
         ensures honest { IsHonest (D.view self.old.shelf.disk) → IsHonest (D.view self.new.shelf.disk) }
         ensures shape { SameSetup self.old self.new }
@@ -63,6 +65,7 @@ impl<D: Disk> Shard<D> {
         ensures makes { (s : State) → Agrees self.old s → LiesAmong vacancy.now.digests.items vacancy.now.block s.book
             → MakesEvents D.view (IsMovedOut (setup_of self.old) vacancy.now.block s result) self.old s self.new }
         ensures few { IfOk result (λ vacated. vacated.moved < 2 ^ 16) }
+        ensures sure { StaysSure D.view self.old.shelf self.new.shelf }
         ensures later { IsLater (D.view self.old.shelf.disk) (D.view self.new.shelf.disk) }
         ensures honest { IsHonest (D.view self.old.shelf.disk) → IsHonest (D.view self.new.shelf.disk) }
         ensures shape { SameSetup self.old self.new }
@@ -89,6 +92,7 @@ impl<D: Disk> Shard<D> {
     ) -> Result<bool, DefragCause>
         requires named { device_number self.old.shelf.geometry.devices digest.now ≡ self.old.shelf.geometry.device }
         ensures makes { (s : State) → Agrees self.old s → (answer : Answer) × IsMoved result answer × Makes D.view (move_call digest.now block) answer self.old s self.new }
+        ensures sure { StaysSure D.view self.old.shelf self.new.shelf }
         ensures later { IsLater (D.view self.old.shelf.disk) (D.view self.new.shelf.disk) }
         ensures honest { IsHonest (D.view self.old.shelf.disk) → IsHonest (D.view self.new.shelf.disk) }
         ensures shape { SameSetup self.old self.new }

@@ -10,6 +10,7 @@ ghost use Rattle.tomb_rules.specs.Covers.{cover_of};
 ghost use Rattle.sprig_tree.specs.Entries.{entry_of};
 ghost use Rattle.law_sprig.specs.Becoming.{Loses};
 ghost use Rattle.block_shelf.specs.Disks.{IsLater};
+ghost use Rattle.block_shelf.specs.Sure.{StaysSure};
 ghost use Rattle.block_shelf.specs.View.{SameShape};
 ghost use Rattle.shard_core.specs.View.{IsSettings, limits_of, setup_for};
 ghost use Rattle.law_steps.specs.Standing.{StandTogether};
@@ -52,6 +53,7 @@ pub fn delete_step<D: Disk>(
     // What isn't covered is removed without a call of the disk, and that isn't refused.
     ensures bare { cover_of (seen_entry now (entry_of digest.now sprig.old.entries)) ≡ false → IsOk result × (shelf.new.disk ≡ shelf.old.disk) }
     ensures refused { IfErr result (λ refusal. ((refusal ≡ WriteRefusal.Fault) × (set.now.commit ≡ true)) ⊎ IsRefusedStep sprig.old sprig.new shelf.old shelf.new refusal) }
+    ensures sure { StaysSure D.view shelf.old shelf.new }
     ensures later { IsLater (D.view shelf.old.disk) (D.view shelf.new.disk) }
     ensures honest { IsHonest (D.view shelf.old.disk) → IsHonest (D.view shelf.new.disk) }
     ensures shape { SameShape shelf.old shelf.new }
@@ -84,6 +86,7 @@ pub fn bury_step<D: Disk>(
     ensures makes { let setup = setup_for shelf.old.geometry set.now in (s : State) → StandTogether setup (part_of setup digest.now) sprig.old shelf.old s
         → StepMakes D.view setup (part_of setup digest.now) (bury_call digest.now now) (write_answer result) shelf.old s sprig.new shelf.new }
     ensures refused { IfErr result (λ refusal. ((refusal ≡ WriteRefusal.Fault) × (set.now.commit ≡ true)) ⊎ IsRefusedStep sprig.old sprig.new shelf.old shelf.new refusal) }
+    ensures sure { StaysSure D.view shelf.old shelf.new }
     ensures later { IsLater (D.view shelf.old.disk) (D.view shelf.new.disk) }
     ensures honest { IsHonest (D.view shelf.old.disk) → IsHonest (D.view shelf.new.disk) }
     ensures shape { SameShape shelf.old shelf.new }
@@ -114,6 +117,7 @@ pub(crate) fn remove_entry<D: Disk>(
     // What isn't covered is removed without a call of the disk, and that isn't refused.
     ensures bare { entry.cover ≡ false → IsOk result × (shelf.new.disk ≡ shelf.old.disk) }
     ensures refused { IfErr result (λ refusal. ((refusal ≡ WriteRefusal.Fault) × (set.now.commit ≡ true)) ⊎ IsRefusedStep sprig.old sprig.new shelf.old shelf.new refusal) }
+    ensures sure { StaysSure D.view shelf.old shelf.new }
     ensures later { IsLater (D.view shelf.old.disk) (D.view shelf.new.disk) }
     ensures honest { IsHonest (D.view shelf.old.disk) → IsHonest (D.view shelf.new.disk) }
     ensures shape { SameShape shelf.old shelf.new }
@@ -147,6 +151,7 @@ fn entomb<D: Disk>(
     ensures makes { let setup = setup_for shelf.old.geometry set.now in (s : State) (call : Call) (ok : Stamp → Answer) → StandTogether setup (part_of setup digest.now) sprig.old shelf.old s
         → IsEntombing setup s call digest.now now ok → StepMakes D.view setup (part_of setup digest.now) call (entombed_answer ok result) shelf.old s sprig.new shelf.new }
     ensures refused { IfErr result (λ refusal. ((refusal ≡ WriteRefusal.Fault) × (set.now.commit ≡ true)) ⊎ IsRefusedStep sprig.old sprig.new shelf.old shelf.new refusal) }
+    ensures sure { StaysSure D.view shelf.old shelf.new }
     ensures later { IsLater (D.view shelf.old.disk) (D.view shelf.new.disk) }
     ensures honest { IsHonest (D.view shelf.old.disk) → IsHonest (D.view shelf.new.disk) }
     ensures shape { SameShape shelf.old shelf.new }

@@ -9,6 +9,7 @@ ghost use Rattle.expiry_rule.specs.Seen.{expired_entry};
 ghost use Rattle.tomb_rules.specs.Covers.{cover_of};
 ghost use Rattle.sprig_tree.specs.Entries.{entry_of};
 ghost use Rattle.block_shelf.specs.Disks.{IsLater};
+ghost use Rattle.block_shelf.specs.Sure.{StaysSure};
 ghost use Rattle.block_shelf.specs.View.{SameShape};
 ghost use Rattle.law_steps.specs.Standing.{StandTogether};
 ghost use Rattle.law_steps.specs.Events.{StepMakes};
@@ -51,6 +52,7 @@ pub fn expire_step<D: Disk>(
     // What isn't both expired and covered is answered without a call of the disk, and that isn't refused.
     ensures bare { cover_of (expired_entry now (entry_of digest.now sprig.old.entries)) ≡ false → IsOk result × (shelf.new.disk ≡ shelf.old.disk) }
     ensures refused { IfErr result (λ refusal. ((refusal ≡ WriteRefusal.Fault) × (set.now.commit ≡ true)) ⊎ IsRefusedStep sprig.old sprig.new shelf.old shelf.new refusal) }
+    ensures sure { StaysSure D.view shelf.old shelf.new }
     ensures later { IsLater (D.view shelf.old.disk) (D.view shelf.new.disk) }
     ensures honest { IsHonest (D.view shelf.old.disk) → IsHonest (D.view shelf.new.disk) }
     ensures shape { SameShape shelf.old shelf.new }
@@ -76,6 +78,7 @@ impl<D: Disk> Shard<D> {
         // Where no entry of the part is both expired and covered, it isn't refused, and the disk isn't called.
         ensures bare { AreBare self.old part now → IsOk result × (self.new.shelf.disk ≡ self.old.shelf.disk) }
         ensures never { IfErr result (λ refusal. IsOfRemoval refusal.cause) }
+        ensures sure { StaysSure D.view self.old.shelf self.new.shelf }
         ensures later { IsLater (D.view self.old.shelf.disk) (D.view self.new.shelf.disk) }
         ensures honest { IsHonest (D.view self.old.shelf.disk) → IsHonest (D.view self.new.shelf.disk) }
         ensures shape { SameSetup self.old self.new }
@@ -100,6 +103,7 @@ impl<D: Disk> Shard<D> {
         requires now { now ≤ 2 ^ 61 }
         ensures makes { (s : State) → Agrees self.old s → Makes D.view (expire_call digest.now now) (delete_answer result) self.old s self.new }
         ensures bare { cover_of (expired_entry now (held (setup_of self.old) digest.now self.old.sprigs)) ≡ false → IsOk result × (self.new.shelf.disk ≡ self.old.shelf.disk) }
+        ensures sure { StaysSure D.view self.old.shelf self.new.shelf }
         ensures later { IsLater (D.view self.old.shelf.disk) (D.view self.new.shelf.disk) }
         ensures honest { IsHonest (D.view self.old.shelf.disk) → IsHonest (D.view self.new.shelf.disk) }
         ensures shape { SameSetup self.old self.new }

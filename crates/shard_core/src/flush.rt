@@ -9,6 +9,7 @@ ghost use Rattle.model_device.specs.Steps.{Step};
 ghost use Rattle.model_device.specs.Events.{flush_call, flush_sealed_call};
 ghost use Rattle.model_device.specs.Legal.{flush_all, flush_between};
 ghost use Rattle.block_shelf.specs.Disks.{IsLater};
+ghost use Rattle.block_shelf.specs.Sure.{StaysSure};
 ghost use Rattle.block_shelf.specs.View.{IsShelf, IsSetupOf, is_unsealed};
 ghost use Rattle.block_shelf.specs.View as shelf_view;
 ghost use Rattle.block_shelf.specs.Standing.{StandsFor};
@@ -38,6 +39,7 @@ pub(crate) fn flush_up_to<D: Disk>(shelf: &mut Shelf<D>, last: u64) -> Result<u6
     ensures quiet { AllByRecursion (λ b. is_unsealed b.phase ≡ false) shelf.old.buffers → AllByRecursion (λ b. is_unsealed b.phase ≡ false) shelf.new.buffers }
     ensures left { OnErr result (shelf.new.buffers ≢ []) }
     ensures cause { OnErr result (Rose (D.view shelf.old.disk).faults (D.view shelf.new.disk).faults) }
+    ensures sure { StaysSure D.view shelf.old shelf.new }
     ensures later { IsLater (D.view shelf.old.disk) (D.view shelf.new.disk) }
     ensures honest { IsHonest (D.view shelf.old.disk) → IsHonest (D.view shelf.new.disk) }
     ensures shape { shelf_view.SameShape shelf.old shelf.new }
@@ -61,6 +63,7 @@ pub(crate) fn flush_sealed<D: Disk>(shelf: &mut Shelf<D>) -> Result<u64, DiskFau
     ensures quiet { AllByRecursion (λ b. is_unsealed b.phase ≡ false) shelf.old.buffers → OnOk result (shelf.new.buffers ≡ []) }
     ensures left { OnErr result (shelf.new.buffers ≢ []) }
     ensures cause { OnErr result (Rose (D.view shelf.old.disk).faults (D.view shelf.new.disk).faults) }
+    ensures sure { StaysSure D.view shelf.old shelf.new }
     ensures later { IsLater (D.view shelf.old.disk) (D.view shelf.new.disk) }
     ensures honest { IsHonest (D.view shelf.old.disk) → IsHonest (D.view shelf.new.disk) }
     ensures shape { shelf_view.SameShape shelf.old shelf.new }
@@ -78,6 +81,7 @@ impl<D: Disk> Shard<D> {
         ensures few { IfOk result (λ n. n < 2 ^ 60) }
         ensures quiet { OnOk result (self.new.shelf.buffers ≡ []) }
         ensures left { OnErr result (self.new.shelf.buffers ≢ []) }
+        ensures sure { StaysSure D.view self.old.shelf self.new.shelf }
         ensures later { IsLater (D.view self.old.shelf.disk) (D.view self.new.shelf.disk) }
         ensures honest { IsHonest (D.view self.old.shelf.disk) → IsHonest (D.view self.new.shelf.disk) }
         ensures shape { SameSetup self.old self.new }
@@ -92,6 +96,7 @@ impl<D: Disk> Shard<D> {
     /// which nothing is refused leaves less to vacate than there was, or the device at rest: then a tending does nothing.
     pub fn tend(&mut self, alloc: Global)
         ensures makes { (s : State) → Agrees self.old s → MakesEvents D.view (TendsWell (setup_of self.old) s) self.old s self.new }
+        ensures sure { StaysSure D.view self.old.shelf self.new.shelf }
         ensures later { IsLater (D.view self.old.shelf.disk) (D.view self.new.shelf.disk) }
         ensures honest { IsHonest (D.view self.old.shelf.disk) → IsHonest (D.view self.new.shelf.disk) }
         ensures shape { SameSetup self.old self.new }
@@ -108,6 +113,7 @@ impl<D: Disk> Shard<D> {
     fn flush_low(&mut self)
         ensures whole { IsShelf D.view self.old.shelf × IsWhole self.old }
         ensures makes { (s : State) → Agrees self.old s → MakesAny D.view flush_sealed_call self.old s self.new }
+        ensures sure { StaysSure D.view self.old.shelf self.new.shelf }
         ensures later { IsLater (D.view self.old.shelf.disk) (D.view self.new.shelf.disk) }
         ensures honest { IsHonest (D.view self.old.shelf.disk) → IsHonest (D.view self.new.shelf.disk) }
         ensures shape { SameSetup self.old self.new }

@@ -10,6 +10,7 @@ ghost use Rattle.model_device.specs.Events.{put_call};
 ghost use Rattle.block_format.specs.declared.geometry.Gate.TheVariants.{Shut};
 ghost use Rattle.law_sprig.specs.Tests.{generation_seen};
 ghost use Rattle.block_shelf.specs.Disks.{IsLater};
+ghost use Rattle.block_shelf.specs.Sure.{StaysSure};
 ghost use Rattle.block_shelf.specs.View.{SameShape, gate_at};
 ghost use Rattle.write_buffer.specs.declared.stream.Stream.TheVariants.{Client};
 ghost use Rattle.block_shelf.specs.Changes.{HasRoom};
@@ -63,6 +64,7 @@ pub fn put_step<D: Disk>(
 
     // A refusal writes nothing, but where commit is on and the flush failed.
     ensures refused { IfErr result (λ refusal. ((refusal ≡ WriteRefusal.Fault) × (set.now.commit ≡ true)) ⊎ IsRefusedStep sprig.old sprig.new shelf.old shelf.new refusal) }
+    ensures sure { StaysSure D.view shelf.old shelf.new }
     ensures later { IsLater (D.view shelf.old.disk) (D.view shelf.new.disk) }
     ensures honest { IsHonest (D.view shelf.old.disk) → IsHonest (D.view shelf.new.disk) }
     ensures shape { SameShape shelf.old shelf.new }

@@ -6,6 +6,7 @@ ghost use Rattle.model_device.specs.Device.{State};
 ghost use Rattle.model_device.specs.Events.{begin_call, raid_numbered};
 ghost use Rattle.raid_book.specs.Books.{FitsTurn, begun};
 ghost use Rattle.block_shelf.specs.Disks.{IsLater};
+ghost use Rattle.block_shelf.specs.Sure.{StaysSure};
 ghost use Rattle.shard_raid.specs.Raids.{IsNext, begun_raid, number_of};
 ghost use Rattle.shard_core.specs.View.{SameSetup};
 ghost use Rattle.shard_core.specs.Stands.{Agrees, IsWhole};
@@ -62,6 +63,7 @@ impl<D: Disk> Shard<D> {
         ensures stale { (IsNext raid.old self.old.shelf.raid → ⊥) → (result ≡ Err (RaidRefusal.Stale self.old.shelf.raid.number self.old.shelf.raid.next)) × (self.new ≡ self.old) }
         ensures follows { OnOk result (IsNext raid.new self.new.shelf.raid × (raid.new.number ≡ raid.old.number)) }
         ensures kept { OnErr result (raid.new ≡ raid.old) }
+        ensures sure { StaysSure D.view self.old.shelf self.new.shelf }
         ensures later { IsLater (D.view self.old.shelf.disk) (D.view self.new.shelf.disk) }
         ensures honest { IsHonest (D.view self.old.shelf.disk) → IsHonest (D.view self.new.shelf.disk) }
         ensures shape { SameSetup self.old self.new }

@@ -5,7 +5,7 @@ ghost use Rattle.disk_model.specs.Disk.{IsOnly, IsHonest};
 ghost use Rattle.block_format.specs.Layout.{IsGeometry, device_end, Body};
 ghost use Rattle.law_start.specs.Start.{start_state};
 ghost use Rattle.law_start.specs.Sound.{IsSound};
-ghost use Rattle.block_shelf.specs.View.{GatesStand};
+ghost use Rattle.block_shelf.specs.View.{AreSure, GatesStand};
 ghost use Rattle.block_shelf.specs.Disks.{OnlyRead};
 ghost use Rattle.cold_scan.specs.Starting.{IsRefused, FaultRose};
 ghost use Rattle.cold_scan.specs.Found.{IsSure, FindsOn, IsShaped};
@@ -42,6 +42,7 @@ fn begun<D: Disk>(
     requires sure { AllByRecursion IsSure gates.items }
     requires stand { IsHonest (D.view disk) → GatesStand geometry (D.view disk).may_leave gates.items }
     requires found { (bodies : List Body) × IsFinding geometry set gates.items geometry.blocks bodies finding }
+    ensures sure { IfOk result (λ shard. AreSure shard.shelf.gates) }
     ensures begun { MatchResult result (BeginsOver disk geometry set finding) (λ refusal. (refusal.disk ≡ disk) × (refusal.cause ≡ StartCause.Memory)) }
     ensures behind { IfOk result (λ shard. (bodies : List Body) → IsFinding geometry set gates.items geometry.blocks bodies finding → BeginsBehind D.view disk bodies shard) }
 {
@@ -91,6 +92,9 @@ impl<D: Disk> Shard<D> {
         ensures safe { IsHonest (D.view disk) → IfOk result (λ shard. (bodies : List Body) → IsSound (setup_of shard) (D.view disk).seen bodies
             → IsSafe D.view shard (start_state (setup_of shard) bodies)) }
         ensures only { (D.view disk).tells → IfOk result (λ shard. IsOnly (D.view disk).seen (D.view shard.shelf.disk).may_leave) }
+
+        // It is known of each gate whether it is set, over every disk.
+        ensures sure { IfOk result (λ shard. AreSure shard.shelf.gates) }
         ensures again { IsHonest (D.view disk) → (old : ShardView D) (s : State) → old.shelf.disk ≡ disk → old.set ≡ set → old.shelf.geometry.device ≡ asked.device → old.shelf.geometry.devices ≡ asked.devices
             → Agrees old s → IsSafe D.view old s → MatchResult result (StartsAgain D.view old s) (λ refusal. IsNoRefusal refusal.cause) }
         ensures shape { IfOk result (λ shard. (shard.set ≡ set) × (shard.shelf.geometry.device ≡ asked.device) × (shard.shelf.geometry.devices ≡ asked.devices)) }

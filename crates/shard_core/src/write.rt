@@ -16,6 +16,7 @@ ghost use Rattle.block_format.specs.declared.geometry.Gate.TheVariants.{Shut};
 ghost use Rattle.sprig_tree.specs.Entries.{entry_of};
 ghost use Rattle.law_sprig.specs.Becoming.{TakesEntry};
 ghost use Rattle.block_shelf.specs.Disks.{IsLater};
+ghost use Rattle.block_shelf.specs.Sure.{StaysSure};
 ghost use Rattle.block_shelf.specs.Standing.{StandsFor};
 ghost use Rattle.block_shelf.specs.View.{IsShelf, IsSetupOf, SameShape, gate_at};
 ghost use Rattle.block_shelf.specs.Appends.{stream_of};
@@ -67,6 +68,7 @@ pub(crate) fn write_step<D: Disk>(
     ensures in_room { set.now.commit ≡ false → HasRoom Client (version_units version.now) shelf.old.buffers → shelf.new.disk ≡ shelf.old.disk }
     ensures quiet { set.now.commit ≡ false → gate_at shelf.old.gates (first_block shelf.old.free) ≡ Shut → shelf.new.disk ≡ shelf.old.disk }
     ensures refused { IfErr result (λ refusal. ((refusal ≡ WriteRefusal.Fault) × (set.now.commit ≡ true)) ⊎ IsRefusedStep sprig.old sprig.new shelf.old shelf.new refusal) }
+    ensures sure { StaysSure D.view shelf.old shelf.new }
     ensures later { IsLater (D.view shelf.old.disk) (D.view shelf.new.disk) }
     ensures honest { IsHonest (D.view shelf.old.disk) → IsHonest (D.view shelf.new.disk) }
     ensures shape { SameShape shelf.old shelf.new }
@@ -116,6 +118,7 @@ fn append_entry<D: Disk>(
     ensures in_room { HasRoom Client (version_units version.now) shelf.old.buffers → shelf.new.disk ≡ shelf.old.disk }
     ensures quiet { gate_at shelf.old.gates (first_block shelf.old.free) ≡ Shut → shelf.new.disk ≡ shelf.old.disk }
     ensures cause { result ≡ Err WriteRefusal.Fault → Rose (D.view shelf.old.disk).faults (D.view shelf.new.disk).faults }
+    ensures sure { StaysSure D.view shelf.old shelf.new }
     ensures later { IsLater (D.view shelf.old.disk) (D.view shelf.new.disk) }
     ensures honest { IsHonest (D.view shelf.old.disk) → IsHonest (D.view shelf.new.disk) }
     ensures shape { SameShape shelf.old shelf.new }
@@ -184,6 +187,7 @@ fn commit<D: Disk>(shelf: &mut Shelf<D>, block: u32) -> Result<(), WriteRefusal>
         → (steps : List Step) × Commits result (flush_between 0 b.number (after_step setup (sealed_stream client) s).book) steps × Goes D.view setup (sealed_stream client ∷ steps) shelf.old s shelf.new }
     ensures fault { IfErr result (λ refusal. refusal ≡ WriteRefusal.Fault) }
     ensures cause { OnErr result (Rose (D.view shelf.old.disk).faults (D.view shelf.new.disk).faults) }
+    ensures sure { StaysSure D.view shelf.old shelf.new }
     ensures later { IsLater (D.view shelf.old.disk) (D.view shelf.new.disk) }
     ensures honest { IsHonest (D.view shelf.old.disk) → IsHonest (D.view shelf.new.disk) }
     ensures shape { SameShape shelf.old shelf.new }

@@ -45,12 +45,13 @@ left_is number e = ap (λ (b : Bool). cond b (cond (is_tombstone_entry e) None (
 -- ---- the disk
 
 same_disk : {D : Type 0} (old : ShelfView D) → SameDisk old old
-same_disk old = record { disk = refl; gates = refl; shape = record { geometry = refl; limits = refl; raid = refl } }
+same_disk old = record { disk = refl; gates = refl; buffers = refl; shape = record { geometry = refl; limits = refl; raid = refl } }
 
 disk_on : {D : Type 0} (old mid new : ShelfView D) → SameDisk old mid → SameDisk mid new → SameDisk old new
 disk_on old mid new first then = record {
   disk = then.disk ∙ first.disk;
   gates = then.gates ∙ first.gates;
+  buffers = then.buffers ∙ first.buffers;
   shape = record { geometry = then.shape.geometry ∙ first.shape.geometry; limits = then.shape.limits ∙ first.shape.limits; raid = then.shape.raid ∙ first.shape.raid };
 }
 

@@ -59,8 +59,9 @@ pub record GoTogether {D : Type 0} (view : D → DiskView) (setup : Setup) (part
   pub goes : Goes view setup steps old s new
   pub together : StandTogether setup part sprig new (after_steps setup steps s)
 
--- The disk stays, what is known of its gates, the shape, the limits, and the book of the raid.
+-- The disk stays, what is known of its gates, the buffers, the shape, the limits, and the book of the raid.
 pub record SameDisk {D : Type 0} (old new : ShelfView D) : Type 0 where
   pub disk : new.disk ≡ old.disk
   pub gates : new.gates ≡ old.gates
+  pub buffers : new.buffers ≡ old.buffers
   pub shape : SameShape old new

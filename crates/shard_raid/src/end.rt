@@ -45,6 +45,7 @@ pub fn raid_end<D: Disk>(sprig: &mut Sprig, shelf: &mut Shelf<D>, part: u32) -> 
     ensures raid { shelf.new.raid ≡ after_turn shelf.old.raid.next part shelf.old.raid }
     ensures disk { shelf.new.disk ≡ shelf.old.disk }
     ensures gates { shelf.new.gates ≡ shelf.old.gates }
+    ensures buffers { shelf.new.buffers ≡ shelf.old.buffers }
     ensures geometry { shelf.new.geometry ≡ shelf.old.geometry }
     ensures limits { shelf.new.limits ≡ shelf.old.limits }
 {

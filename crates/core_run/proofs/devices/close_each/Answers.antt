@@ -14,7 +14,7 @@ loop-device-preserved g c =
     let e = c.flush.ensures in
     let old = get_or c.loop-device.shards c.loop-device.device c.index-shards-device.result in
     let turn : FlushesOn g.D.Disk.view c.flush.result old c.flush.new.self =
-    record { goes = record { shape = e.shape; later = e.later; honest = e.honest }; makes = e.makes; quiet = e.quiet; left = e.left } in
+    record { goes = record { shape = e.shape; later = e.later; honest = e.honest; sure = e.sure }; makes = e.makes; quiet = e.quiet; left = e.left } in
     let told : c.if-is_err.failed ≡ first_failed c.loop-device.device c.loop-device.failed c.flush.result = elim c.if-is_err.branch [
       | then-is_err+then-is_none w ↦ w.failed-is
           ∙ failed_first c.loop-device.device c.loop-device.failed c.flush.result c.is_err.result w.is_none.result c.is_err.ensures.value w.is_none.ensures w.if-is_err.true w.if-is_none.true

@@ -24,7 +24,7 @@ pub loop-vacated-preserved : goal.loop-vacated-preserved
 loop-vacated-preserved g c =
     let e = c.in-Ok-Some.ensures {u = tt} in
     let so_far = c.loop-vacated.invariant in
-    let turn : GoesOn g.D.Disk.view c.loop-vacated.shard c.defrag_one.new.self = record { shape = e.shape; later = e.later; honest = e.honest } in
+    let turn : GoesOn g.D.Disk.view c.loop-vacated.shard c.defrag_one.new.self = record { shape = e.shape; later = e.later; honest = e.honest; sure = e.sure } in
     let was_few = so_far.few in
     let few : c.in-Ok-Some.one.moved < 2 ^ 16 = subst (λ (done : Option Vacated). IfSome done (λ one. one.moved < 2 ^ 16)) c.in-Ok-Some.field-0-is e.few in
     let makes = subst (λ (done : Option Vacated). (s : State) → Agrees c.loop-vacated.shard s
@@ -44,7 +44,7 @@ pub returns-in-Err-clause-defrags : goal.returns-in-Err-clause-defrags
 returns-in-Err-clause-defrags g c =
     let e = c.in-Err.ensures {u = tt} in
     let so_far = c.loop-vacated.invariant in
-    let turn : GoesOn g.D.Disk.view c.loop-vacated.shard c.defrag_one.new.self = record { shape = e.shape; later = e.later; honest = e.honest } in
+    let turn : GoesOn g.D.Disk.view c.loop-vacated.shard c.defrag_one.new.self = record { shape = e.shape; later = e.later; honest = e.honest; sure = e.sure } in
     record {
       goes = goes_on_then g.D.Disk.view c.args.shard.now c.loop-vacated.shard c.defrag_one.new.self so_far.goes turn;
       makes = λ s agrees.
@@ -68,7 +68,7 @@ pub returns-in-Ok-None-clause-defrags : goal.returns-in-Ok-None-clause-defrags
 returns-in-Ok-None-clause-defrags g c =
     let e = c.in-Ok-None.ensures {u = tt} in
     let so_far = c.loop-vacated.invariant in
-    let turn : GoesOn g.D.Disk.view c.loop-vacated.shard c.defrag_one.new.self = record { shape = e.shape; later = e.later; honest = e.honest } in
+    let turn : GoesOn g.D.Disk.view c.loop-vacated.shard c.defrag_one.new.self = record { shape = e.shape; later = e.later; honest = e.honest; sure = e.sure } in
     let makes = subst (λ (done : Option Vacated). (s : State) → Agrees c.loop-vacated.shard s
     → MakesEvents g.D.Disk.view (IsVacating c.loop-vacated.shard s (Ok done)) c.loop-vacated.shard s c.defrag_one.new.self) c.in-Ok-None.field-0-is e.makes in
     record {

@@ -22,7 +22,7 @@ pub loop-part-preserved : goal.loop-part-preserved
 loop-part-preserved g c =
     let e = c.in-Ok.ensures {u = tt} in
     let so_far = c.loop-part.invariant in
-    let turn : GoesOn g.D.Disk.view c.loop-part.shard c.expire_part.new.self = record { shape = e.shape; later = e.later; honest = e.honest } in
+    let turn : GoesOn g.D.Disk.view c.loop-part.shard c.expire_part.new.self = record { shape = e.shape; later = e.later; honest = e.honest; sure = e.sure } in
     let there : c.loop-part.part < part_total (setup_of c.args.shard.now) = subst (λ (n : ℕ). c.loop-part.part < n) c.parts-part-end.ensures.total c.loop-part-test.true in
     let was_few = so_far.few in
     let few = e.few in
@@ -36,7 +36,7 @@ pub returns-in-Err-clause-expires : goal.returns-in-Err-clause-expires
 returns-in-Err-clause-expires g c =
     let e = c.in-Err.ensures {u = tt} in
     let so_far = c.loop-part.invariant in
-    let turn : GoesOn g.D.Disk.view c.loop-part.shard c.expire_part.new.self = record { shape = e.shape; later = e.later; honest = e.honest } in
+    let turn : GoesOn g.D.Disk.view c.loop-part.shard c.expire_part.new.self = record { shape = e.shape; later = e.later; honest = e.honest; sure = e.sure } in
     let test = c.loop-part-test.true in
     let there : c.loop-part.part < part_total (setup_of c.args.shard.now) = subst (λ (n : ℕ). c.loop-part.part < n) c.parts-part-end.ensures.total test in
     let within : c.loop-part.part + 1 ≤ c.parts-part-end.result = omega (arith, test) in

@@ -13,7 +13,7 @@ returns-in_err-flushed g c =
     let e = c.flush.ensures in
     let old = get_or c.loop-shard.shards c.loop-shard.shard-index c.shard-item.result in
     let turn : FlushesOn g.D.Disk.view c.flush.result old c.flush.new.self =
-    record { goes = record { shape = e.shape; later = e.later; honest = e.honest }; makes = e.makes; quiet = e.quiet; left = e.left } in
+    record { goes = record { shape = e.shape; later = e.later; honest = e.honest; sure = e.sure }; makes = e.makes; quiet = e.quiet; left = e.left } in
     let failed : FlushesOn {E = DiskFault} g.D.Disk.view (Err c.in_err-flushed.field-0.0) old c.flush.new.self =
     subst (λ (r : Result ℕ DiskFault). FlushesOn g.D.Disk.view r old c.flush.new.self) c.in_err-flushed.was turn in
     err_alone (λ r. FlushesEach g.D.Disk.view r c.args.shards.now (set c.loop-shard.shards c.loop-shard.shard-index c.flush.new.self)) c.from_residual.result c.from_residual.ensures.0
@@ -35,7 +35,7 @@ loop-shard-preserved g c =
     let e = c.flush.ensures in
     let old = get_or c.loop-shard.shards c.loop-shard.shard-index c.shard-item.result in
     let turn : FlushesOn g.D.Disk.view c.flush.result old c.flush.new.self =
-    record { goes = record { shape = e.shape; later = e.later; honest = e.honest }; makes = e.makes; quiet = e.quiet; left = e.left } in
+    record { goes = record { shape = e.shape; later = e.later; honest = e.honest; sure = e.sure }; makes = e.makes; quiet = e.quiet; left = e.left } in
     let went : FlushesOn {E = DiskFault} g.D.Disk.view (Ok c.in_ok-flushed.field-0) old c.flush.new.self =
     subst (λ (r : Result ℕ DiskFault). FlushesOn g.D.Disk.view r old c.flush.new.self) c.in_ok-flushed.was turn in
     let few = c.in_ok-flushed.ensures.few in

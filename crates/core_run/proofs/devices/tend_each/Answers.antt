@@ -12,7 +12,7 @@ loop-shard-preserved g c =
     let e = c.tend.ensures in
     let old = get_or c.loop-shard.shards c.loop-shard.shard-index c.shard-item.result in
     let turn : TendsOn g.D.Disk.view old c.tend.new.self =
-    record { goes = record { shape = e.shape; later = e.later; honest = e.honest }; makes = λ s agrees. only_tends g.D.Disk.view old c.tend.new.self s (e.makes s agrees) } in
+    record { goes = record { shape = e.shape; later = e.later; honest = e.honest; sure = e.sure }; makes = λ s agrees. only_tends g.D.Disk.view old c.tend.new.self s (e.makes s agrees) } in
     through_next (TendTurn {A = ℕ} g.D.Disk.view) c.loop-shard.shard-index 0 c.args.shards.now c.loop-shard.shards 0 c.shard-item.result c.tend.new.self 0 c.loop-shard.invariant
     (subst (λ (n : ℕ). c.loop-shard.shard-index < n) (sym c.loop-shard.auto.shards) c.loop-shard-test.true) turn
 

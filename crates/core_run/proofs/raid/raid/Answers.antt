@@ -44,7 +44,8 @@ pub returns-in-Err-clause-raids : goal.returns-in-Err-clause-raids
 returns-in-Err-clause-raids g c =
     let old = c.args.shard.now in
     let so_far = c.loop-did.invariant in
-    let turn : GoesOn g.D.Disk.view c.loop-did.shard c.raid_step.new.self = record { shape = c.raid_step.ensures.shape; later = c.raid_step.ensures.later; honest = c.raid_step.ensures.honest } in
+    let turn : GoesOn g.D.Disk.view c.loop-did.shard c.raid_step.new.self =
+    record { shape = c.raid_step.ensures.shape; later = c.raid_step.ensures.later; honest = c.raid_step.ensures.honest; sure = c.raid_step.ensures.sure } in
     subst (λ (f : LineFault). RaidsOn g.D.Disk.view c.args.now (Err f) old c.raid_step.new.self) (sym c.raid_fault.ensures) (record {
       goes = goes_on_then g.D.Disk.view old c.loop-did.shard c.raid_step.new.self so_far.goes turn;
       makes = raid_refused g.D.Disk.view c.args.now c.in-Some.raid.number c.loop-did.removed c.loop-did.cleared old c.loop-did.shard so_far.goes so_far.far c.raid_step.new.self
@@ -73,7 +74,8 @@ loop-did-preserved g c =
     let so_far = c.loop-did.invariant in
     let took = c.in-Ok.ensures.taken so_far.next in
     let follows = c.in-Ok.ensures.follows in
-    let turn : GoesOn g.D.Disk.view c.loop-did.shard c.raid_step.new.self = record { shape = c.raid_step.ensures.shape; later = c.raid_step.ensures.later; honest = c.raid_step.ensures.honest } in
+    let turn : GoesOn g.D.Disk.view c.loop-did.shard c.raid_step.new.self =
+    record { shape = c.raid_step.ensures.shape; later = c.raid_step.ensures.later; honest = c.raid_step.ensures.honest; sure = c.raid_step.ensures.sure } in
     let gone = c.in-Some-ended_by.gone in
     let bare = c.in-Some-ended_by.bare in
     let ended = sym c.ended_by.ensures ∙ c.in-Some-ended_by.is in

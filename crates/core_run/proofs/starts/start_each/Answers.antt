@@ -55,6 +55,7 @@ loop-disk-preserved g c =
       device_is = e.shape.1;
       devices_is = e.shape.2;
       read = e.read;
+      sure = e.sure;
     } in
     let left : reverse c.loop-disk.disks.items ≡ c.in-Some.disk ∷ reverse c.pop.new.self.items = ap reverse popped.items ∙ turned c.pop.new.self.items c.in-Some.disk in
     let here : c.len-device.result ≡ 0 + length c.loop-disk.shards.items = let is = c.len-device.ensures ∙ c.loop-disk.shards.ok.0 in omega (arith, is) in

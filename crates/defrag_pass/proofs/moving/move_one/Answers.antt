@@ -23,6 +23,7 @@ use Rattle.defrag_pass.specs.declared.refusal.MoveRefusal.{MoveRefusal}
 use Rattle.defrag_pass.specs.Moves.{Answers}
 use Rattle.defrag_pass.proofs.Moved.{makes_elsewhere, makes_unread, makes_unappended, makes_moved, copy_is_read, stand_read, none_there, out_of, fits_here}
 use Rattle.defrag_pass.proofs.Moved.{prior_at, live_at, version_at, shown_here, prior_read, read_then_later, replaced_by, setup_read}
+use Rattle.block_shelf.proofs.Surely.{sure_none, sure_read, sure_then}
 use Rattle.defrag_pass.proofs.moving.move_one.Goals as goal
 
 -- ---- no copy in the block
@@ -205,3 +206,20 @@ returns-clause-in_memory g c x b found_x has at shut =
     let at_place = at ∙ ap (λ (y : Entry). y.block) same ∙ sym (ap (λ (p : Place). p.block) c.place_of_entry-place.ensures) in
     let kept : c.read_for.new.shelf ≡ old = c.read_for.ensures.kept r.0 r.1 shown.version b r.3.shelf_stands.stands live version shown.names has at_place in
     c.append.ensures.quiet (subst (λ (v : ShelfView g.row.D.Denot). gate_at v.gates (first_block v.free) ≡ Shut) (sym kept) shut) ∙ ap (λ (v : ShelfView g.row.D.Denot). v.disk) kept
+
+-- ---- the gates
+
+pub returns-in_default-clause-sure : goal.returns-in_default-clause-sure
+returns-in_default-clause-sure g c = sure_none g.D.Disk.view c.args.shelf.now c.args.shelf.now refl
+
+pub returns-then-entry-block-clause-sure : goal.returns-then-entry-block-clause-sure
+returns-then-entry-block-clause-sure g c = sure_none g.D.Disk.view c.args.shelf.now c.args.shelf.now refl
+
+pub returns-in_err-version-clause-sure : goal.returns-in_err-version-clause-sure
+returns-in_err-version-clause-sure g c = sure_read g.D.Disk.view c.args.shelf.now c.read_for.new.shelf c.read_for.ensures.disk c.read_for.ensures.same
+
+pub returns-in-Ok-clause-sure : goal.returns-in-Ok-clause-sure
+returns-in-Ok-clause-sure g c = sure_then g.D.Disk.view c.args.shelf.now c.read_for.new.shelf c.append.new.self (sure_read g.D.Disk.view c.args.shelf.now c.read_for.new.shelf c.read_for.ensures.disk c.read_for.ensures.same) c.append.ensures.sure
+
+pub returns-clause-sure : goal.returns-clause-sure
+returns-clause-sure g c = sure_then g.D.Disk.view c.args.shelf.now c.read_for.new.shelf c.append.new.self (sure_read g.D.Disk.view c.args.shelf.now c.read_for.new.shelf c.read_for.ensures.disk c.read_for.ensures.same) c.append.ensures.sure

@@ -19,3 +19,6 @@ returns-clause-makes g c s stand = by c.entomb.result (c.entomb.ensures.makes s 
         (bury_call c.args.digest.now c.args.now) (write_answer r) c.args.shelf.now s c.entomb.new.sprig c.entomb.new.shelf
     by (Ok stamp) made = made
     by (Err refusal) made = made
+
+pub returns-clause-sure : goal.returns-clause-sure
+returns-clause-sure g c = c.entomb.ensures.sure

@@ -1,4 +1,4 @@
-use Rattle.std.proofs.Common.{◌≡◌, Bool, true, false, sym, ap, ◌∙◌, subst}
+use Rattle.std.proofs.Common.{◌≡◌, Bool, true, false, sym, ap, ◌∙◌, subst, refl}
 use Rattle.std.specs.Prelude.{Some, None, Result, Err}
 use Rattle.std.specs.Option.{option_copied}
 use Rattle.std.proofs.lemmas.Result.{err_from_is_err_and}
@@ -17,6 +17,7 @@ use Rattle.shard_core.proofs.Found.{seen_none, seen_some}
 use Rattle.shard_core.proofs.Getting.{seen_held}
 use Rattle.shard_core.proofs.Puts.{makes_nothing}
 use Rattle.shard_core.proofs.Deletes.{deletes_none, deletes}
+use Rattle.block_shelf.proofs.Surely.{sure_none}
 use Rattle.shard_core.proofs.delete.delete_step.Goals as goal
 
 pub returns-in_default-clause-makes : goal.returns-in_default-clause-makes
@@ -60,3 +61,12 @@ returns-in_err-remove_entry-clause-makes g c s stand =
     (delete_answer r) c.args.shelf.now s c.remove_entry.new.sprig c.remove_entry.new.shelf) (sym same)
     (subst (λ (r : Result (Unit {0}) WriteRefusal). StepMakes g.D.Disk.view setup (part_of setup c.args.digest.now) (delete_call c.args.digest.now c.args.now)
     (written_answer (happened true) r) c.args.shelf.now s c.remove_entry.new.sprig c.remove_entry.new.shelf) c.in_err-remove_entry.was made)
+
+pub returns-in_default-clause-sure : goal.returns-in_default-clause-sure
+returns-in_default-clause-sure g c = sure_none g.D.Disk.view c.args.shelf.now c.args.shelf.now refl
+
+pub returns-in_err-remove_entry-clause-sure : goal.returns-in_err-remove_entry-clause-sure
+returns-in_err-remove_entry-clause-sure g c = c.remove_entry.ensures.sure
+
+pub returns-clause-sure : goal.returns-clause-sure
+returns-clause-sure g c = c.remove_entry.ensures.sure

@@ -20,6 +20,7 @@ use Rattle.shard_core.specs.Writing.{IsWriteOf, written_answer, entombed_answer}
 use Rattle.block_shelf.specs.declared.place.Class.TheVariants as class
 use Rattle.cold_scan.proofs.Room.{size_bounds}
 use Rattle.shard_core.proofs.Puts.{stamp_fine, spent_entombs, entombing_writes, makes_nothing}
+use Rattle.block_shelf.proofs.Surely.{sure_none}
 use Rattle.shard_core.proofs.delete.entomb.Goals as goal
 
 pub returns-in_err-stamp-clause-makes : goal.returns-in_err-stamp-clause-makes
@@ -98,3 +99,9 @@ returns-clause-honest g c = c.write_step.ensures.honest
 
 pub returns-clause-shape : goal.returns-clause-shape
 returns-clause-shape g c = c.write_step.ensures.shape
+
+pub returns-in_err-stamp-clause-sure : goal.returns-in_err-stamp-clause-sure
+returns-in_err-stamp-clause-sure g c = sure_none g.D.Disk.view c.args.shelf.now c.args.shelf.now refl
+
+pub returns-clause-sure : goal.returns-clause-sure
+returns-clause-sure g c = c.write_step.ensures.sure

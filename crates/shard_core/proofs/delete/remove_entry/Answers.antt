@@ -29,6 +29,7 @@ use Rattle.law_steps.proofs.Found.{entry_named, live_found, lies_found, prior_st
 use Rattle.shard_core.proofs.Later.{later_none}
 use Rattle.shard_core.proofs.Making.{setup_fits}
 use Rattle.shard_core.proofs.Deletes.{removes_covered, makes_removed}
+use Rattle.block_shelf.proofs.Surely.{sure_same}
 use Rattle.shard_core.proofs.delete.remove_entry.Goals as goal
 
 pub prove-unreachable-requires : goal.prove-unreachable-requires
@@ -100,3 +101,12 @@ returns-in_err-entomb-clause-makes g c s call stand removing =
 pub returns-clause-later : goal.returns-clause-later
 returns-clause-later g c = subst (λ d. IsLater (g.D.Disk.view c.args.shelf.now.disk) (g.D.Disk.view d)) (sym c.drop_live.ensures.disk)
     (later_none g.D.Disk.view c.args.shelf.now.disk (g.met.D.Disk.is_disk c.args.shelf.now.disk))
+
+pub returns-then-delete_writes-clause-sure : goal.returns-then-delete_writes-clause-sure
+returns-then-delete_writes-clause-sure g c = c.entomb.ensures.sure
+
+pub returns-in_err-entomb-clause-sure : goal.returns-in_err-entomb-clause-sure
+returns-in_err-entomb-clause-sure g c = c.entomb.ensures.sure
+
+pub returns-clause-sure : goal.returns-clause-sure
+returns-clause-sure g c = sure_same g.D.Disk.view c.args.shelf.now c.drop_live.new.self c.drop_live.ensures.disk c.drop_live.ensures.gates

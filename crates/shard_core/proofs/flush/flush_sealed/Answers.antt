@@ -24,3 +24,6 @@ returns-clause-quiet g c quiet = by c.flush_up_to.result c.flush_up_to.ensures.a
         → OnOk r (c.flush_up_to.new.shelf.buffers ≡ [])
     by (Ok n) all = none_left c.flush_up_to.new.shelf.buffers (all most) (c.flush_up_to.ensures.quiet quiet)
     by (Err e) all = tt
+
+pub returns-clause-sure : goal.returns-clause-sure
+returns-clause-sure g c = c.flush_up_to.ensures.sure

@@ -11,6 +11,7 @@ use Rattle.block_shelf.proofs.Going.{goes_none}
 use Rattle.shard_core.proofs.Later.{later_none, later_then, shape_then}
 use Rattle.shard_core.proofs.FlushLoop.{Stepped, Fewer, fits_before, one_fewer, setup_stays, went_on, went_all, went_through, went_stopped, quiet_on, most_on}
 use Rattle.shard_core.proofs.FlushLoop.{ends_on, all_gone, whole_still, stays_some, stays_quiet, where_err, where_ok, on_err, rose_since}
+use Rattle.block_shelf.proofs.Surely.{sure_none, sure_then}
 use Rattle.shard_core.proofs.flush.flush_up_to.Goals as goal
 
 pub loop-number-init : goal.loop-number-init
@@ -29,6 +30,7 @@ loop-number-init g c =
       most = λ most. most;
       whole = inl refl;
       quiet = λ quiet. quiet;
+      sure = sure_none g.D.Disk.view old old refl;
       later = later_none g.D.Disk.view old.disk now;
       honest = λ honest. honest;
       shape = record { geometry = refl; limits = refl; raid = refl };
@@ -111,6 +113,7 @@ loop-number-preserved g c =
       most = λ most. most_on g.D.Disk.view c.args.last c.in-Some.number mid new c.flush_step.ensures.whole leaves (c.loop-number.invariant.most most);
       whole = inr (whole_still g.D.Disk.view old mid c.loop-number.invariant.whole c.flush_step.ensures.whole);
       quiet = λ quiet. quiet_on c.in-Some.number mid new (c.loop-number.invariant.quiet quiet) leaves;
+      sure = sure_then g.D.Disk.view old mid new c.loop-number.invariant.sure c.flush_step.ensures.sure;
       later = later_then g.D.Disk.view old.disk mid.disk new.disk c.loop-number.invariant.later c.flush_step.ensures.later;
       honest = λ honest. c.flush_step.ensures.honest (c.loop-number.invariant.honest honest);
       shape = shape_then old mid new c.loop-number.invariant.shape c.flush_step.ensures.shape;
@@ -219,3 +222,14 @@ returns-in_default-clause-honest g c honest = c.flush_step.ensures.honest (c.loo
 
 pub returns-in_default-clause-shape : goal.returns-in_default-clause-shape
 returns-in_default-clause-shape g c = shape_then c.args.shelf.now c.loop-number.shelf c.flush_step.new.self c.loop-number.invariant.shape c.flush_step.ensures.shape
+
+-- ---- the gates
+
+pub returns-in_err-number-clause-sure : goal.returns-in_err-number-clause-sure
+returns-in_err-number-clause-sure g c = sure_then g.D.Disk.view c.args.shelf.now c.loop-number.shelf c.flush_step.new.self c.loop-number.invariant.sure c.flush_step.ensures.sure
+
+pub returns-then-number-last-clause-sure : goal.returns-then-number-last-clause-sure
+returns-then-number-last-clause-sure g c = sure_then g.D.Disk.view c.args.shelf.now c.loop-number.shelf c.flush_step.new.self c.loop-number.invariant.sure c.flush_step.ensures.sure
+
+pub returns-in_default-clause-sure : goal.returns-in_default-clause-sure
+returns-in_default-clause-sure g c = sure_then g.D.Disk.view c.args.shelf.now c.loop-number.shelf c.flush_step.new.self c.loop-number.invariant.sure c.flush_step.ensures.sure

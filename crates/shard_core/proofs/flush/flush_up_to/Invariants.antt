@@ -5,6 +5,7 @@ use Rattle.model_device.specs.Device.{State}
 use Rattle.disk_model.specs.Disk.{IsHonest}
 use Rattle.block_shelf.specs.Disks.{IsLater}
 use Rattle.block_shelf.specs.View.{IsShelf, IsSetupOf, SameShape}
+use Rattle.block_shelf.specs.Sure.{StaysSure}
 use Rattle.block_shelf.specs.Standing.{StandsFor}
 use Rattle.shard_core.proofs.FlushLoop.{Went, FillsNone, AreUpTo, EndsWith}
 use Rattle.shard_core.proofs.flush.flush_up_to.Given as goal
@@ -18,6 +19,7 @@ invariant-loop-number g l = record {
   most : AreUpTo l.last l.fn.shelf → AreUpTo l.last l.shelf;
   whole : (l.shelf ≡ l.fn.shelf) ⊎ IsShelf g.D.Disk.view l.fn.shelf;
   quiet : FillsNone l.fn.shelf → FillsNone l.shelf;
+  sure : StaysSure g.D.Disk.view l.fn.shelf l.shelf;
   later : IsLater (g.D.Disk.view l.fn.shelf.disk) (g.D.Disk.view l.shelf.disk);
   honest : IsHonest (g.D.Disk.view l.fn.shelf.disk) → IsHonest (g.D.Disk.view l.shelf.disk);
   shape : SameShape l.fn.shelf l.shelf;

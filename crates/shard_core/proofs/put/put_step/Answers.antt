@@ -23,6 +23,7 @@ use Rattle.law_steps.specs.Events.{StepMakes}
 use Rattle.shard_core.specs.Writing.{IsWriteOf, IsFit, IsUnfit, written_answer}
 use Rattle.shard_core.proofs.Later.{later_none}
 use Rattle.shard_core.proofs.Puts.{stamp_fine, unfit_refusal, spent_refusal, put_writes, stands_against, memory_wants, makes_nothing, unfit_left}
+use Rattle.block_shelf.proofs.Surely.{sure_none}
 use Rattle.shard_core.proofs.put.put_step.Goals as goal
 
 pub returns-in_err-check_put-clause-makes : goal.returns-in_err-check_put-clause-makes
@@ -214,3 +215,15 @@ returns-in_err-stamp-clause-refused g c =
 
 pub returns-in_default-clause-refused : goal.returns-in_default-clause-refused
 returns-in_default-clause-refused g c = inr (record { sprig = record { entries = refl; high = refl }; shelf = room_none c.args.shelf.now })
+
+pub returns-in_err-check_put-clause-sure : goal.returns-in_err-check_put-clause-sure
+returns-in_err-check_put-clause-sure g c = sure_none g.D.Disk.view c.args.shelf.now c.args.shelf.now refl
+
+pub returns-in_err-stamp-clause-sure : goal.returns-in_err-stamp-clause-sure
+returns-in_err-stamp-clause-sure g c = sure_none g.D.Disk.view c.args.shelf.now c.args.shelf.now refl
+
+pub returns-in_default-clause-sure : goal.returns-in_default-clause-sure
+returns-in_default-clause-sure g c = sure_none g.D.Disk.view c.args.shelf.now c.args.shelf.now refl
+
+pub returns-clause-sure : goal.returns-clause-sure
+returns-clause-sure g c = c.write_step.ensures.sure

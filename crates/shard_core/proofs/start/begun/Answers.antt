@@ -1,6 +1,7 @@
 use Rattle.std.proofs.Common.{◌+◌, sym, ◌∙◌, ap, subst, refl, List}
 use Rattle.rec_format.specs.declared.version.Digest.{Digest}
 use Rattle.block_shelf.specs.declared.place.Place.{Place}
+use Rattle.block_shelf.specs.View.{ShelfView, AreSure}
 use Rattle.block_shelf.specs.Starting.{CanBeLive}
 use Rattle.sprig_tree.specs.State.{SprigState}
 use Rattle.shard_core.specs.Sprigs.{all_entries}
@@ -8,6 +9,7 @@ use Rattle.shard_core.specs.Numbers.{tally_sum}
 use Rattle.shard_core.specs.View.{ShardView, limits_of}
 use Rattle.shard_core.specs.Finding.{live_places}
 use Rattle.shard_core.proofs.FoundCopies.{can_be_live}
+use Rattle.shard_core.proofs.GatesKnown.{none_unsure}
 use Rattle.shard_core.proofs.Beginning.{ShelfBegins, begins_behind, begins_whole}
 use Rattle.shard_core.proofs.start.begun.Goals as goal
 
@@ -41,3 +43,7 @@ returns-in-Ok-new-clause-behind g c bodies found =
     (c.deref-2.ensures.value ∙ c.in-Ok.ensures ∙ ap (λ (l : List SprigState). live_places (all_entries l)) c.deref.ensures.value)
     (record { starts = e.starts; entries = e.entries; image = e.image; placed = e.placed; safe = e.safe }))
     bodies found
+
+pub returns-in-Ok-new-clause-sure : goal.returns-in-Ok-new-clause-sure
+returns-in-Ok-new-clause-sure g c =
+    subst AreSure (sym (ap (λ (v : ShelfView g.row.D.Denot). v.gates) c.in-Ok-new.ensures.starts.parts)) (none_unsure c.args.gates.items c.requires.sure)

@@ -20,6 +20,7 @@ use Rattle.law_steps.specs.Sprigs.{place_of}
 use Rattle.law_steps.proofs.Found.{lies_found, prior_is, prior_stands, same_stands}
 use Rattle.shard_core.proofs.Later.{later_none}
 use Rattle.shard_core.proofs.Writes.{copy_of, wrote_by, left_by}
+use Rattle.block_shelf.proofs.Surely.{sure_none}
 use Rattle.shard_core.proofs.write.append_entry.Goals as goal
 
 pub prior_place-prior-requires : goal.prior_place-prior-requires
@@ -140,3 +141,12 @@ returns-in-Err-clause-refused g c = record {
 
 pub returns-in-Ok-append-clause-refused : goal.returns-in-Ok-append-clause-refused
 returns-in-Ok-append-clause-refused g c = tt
+
+pub returns-in_default-clause-sure : goal.returns-in_default-clause-sure
+returns-in_default-clause-sure g c = sure_none g.D.Disk.view c.args.shelf.now c.args.shelf.now refl
+
+pub returns-in-Err-clause-sure : goal.returns-in-Err-clause-sure
+returns-in-Err-clause-sure g c = c.append.ensures.sure
+
+pub returns-in-Ok-append-clause-sure : goal.returns-in-Ok-append-clause-sure
+returns-in-Ok-append-clause-sure g c = c.append.ensures.sure

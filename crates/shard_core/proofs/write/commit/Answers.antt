@@ -1,4 +1,4 @@
-use Rattle.std.proofs.Common.{ℕ, ◌∷◌, [], sym, subst}
+use Rattle.std.proofs.Common.{ℕ, ◌∷◌, [], sym, subst, refl}
 use Rattle.std.specs.Prelude.{Result}
 use Rattle.model_device.specs.Steps.{sealed_stream, after_step}
 use Rattle.model_device.specs.Book.{client}
@@ -10,6 +10,7 @@ use Rattle.shard_core.specs.Writing.{Commits}
 use Rattle.shard_core.proofs.Committing.{has_buffer, number_is, ends_there}
 use Rattle.shard_core.proofs.FlushLoop.{setup_stays}
 use Rattle.shard_core.proofs.Writes.{committed, commits_from}
+use Rattle.block_shelf.proofs.Surely.{sure_none, sure_same, sure_then}
 use Rattle.shard_core.proofs.write.commit.Goals as goal
 
 pub returns-in_default-clause-committed : goal.returns-in_default-clause-committed
@@ -44,3 +45,16 @@ returns-in-Err-clause-committed g c setup s b is stands found at =
       goes_then g.D.Disk.view setup (sealed_stream client ∷ []) then.0 c.args.shelf.now c.seal_for.new.self c.flush_up_to.new.shelf s
           (λ honest. subst (λ d. IsHonest (g.D.Disk.view d)) (sym c.seal_for.ensures.disk) honest) first then.2,
     )
+
+pub returns-in_default-clause-sure : goal.returns-in_default-clause-sure
+returns-in_default-clause-sure g c = sure_none g.D.Disk.view c.args.shelf.now c.args.shelf.now refl
+
+pub returns-in-Ok-clause-sure : goal.returns-in-Ok-clause-sure
+returns-in-Ok-clause-sure g c =
+    sure_then g.D.Disk.view c.args.shelf.now c.seal_for.new.self c.flush_up_to.new.shelf
+    (sure_same g.D.Disk.view c.args.shelf.now c.seal_for.new.self c.seal_for.ensures.disk c.seal_for.ensures.gates) c.flush_up_to.ensures.sure
+
+pub returns-in-Err-clause-sure : goal.returns-in-Err-clause-sure
+returns-in-Err-clause-sure g c =
+    sure_then g.D.Disk.view c.args.shelf.now c.seal_for.new.self c.flush_up_to.new.shelf
+    (sure_same g.D.Disk.view c.args.shelf.now c.seal_for.new.self c.seal_for.ensures.disk c.seal_for.ensures.gates) c.flush_up_to.ensures.sure

@@ -21,6 +21,7 @@ use Rattle.shard_core.proofs.FlushLoop.{rose_since, setup_stays}
 use Rattle.shard_core.proofs.Later.{later_then, shape_then}
 use Rattle.shard_core.proofs.Making.{setup_fits}
 use Rattle.shard_core.proofs.Writes.{makes_unwritten, makes_waiting, ends_done, ends_faulted}
+use Rattle.block_shelf.proofs.Surely.{sure_then}
 use Rattle.shard_core.proofs.write.write_step.Goals as goal
 
 pub returns-in_err-block-clause-makes : goal.returns-in_err-block-clause-makes
@@ -174,3 +175,15 @@ returns-in_err-commit-clause-refused g c =
     let same : c.from_residual-in_err-commit.result ≡ Err write.Fault = p.1 ∙ ap (λ (r : WriteRefusal). Err r) (p.2 ∙ (c.in_err-commit.ensures {u = tt}).fault) in
     subst (λ (r : Result Stamp WriteRefusal). IfErr r (λ e. ((e ≡ write.Fault) × (c.args.set.now.commit ≡ true))
     ⊎ IsRefusedStep c.args.sprig.now c.append_entry.new.sprig c.args.shelf.now c.commit.new.shelf e)) (sym same) (inl (refl, c.if-not-set.false))
+
+pub returns-in_err-block-clause-sure : goal.returns-in_err-block-clause-sure
+returns-in_err-block-clause-sure g c = c.append_entry.ensures.sure
+
+pub returns-then-not-set-clause-sure : goal.returns-then-not-set-clause-sure
+returns-then-not-set-clause-sure g c = c.append_entry.ensures.sure
+
+pub returns-in_err-commit-clause-sure : goal.returns-in_err-commit-clause-sure
+returns-in_err-commit-clause-sure g c = sure_then g.D.Disk.view c.args.shelf.now c.append_entry.new.shelf c.commit.new.shelf c.append_entry.ensures.sure c.commit.ensures.sure
+
+pub returns-clause-sure : goal.returns-clause-sure
+returns-clause-sure g c = sure_then g.D.Disk.view c.args.shelf.now c.append_entry.new.shelf c.commit.new.shelf c.append_entry.ensures.sure c.commit.ensures.sure

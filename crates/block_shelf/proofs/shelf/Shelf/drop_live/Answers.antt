@@ -102,3 +102,13 @@ returns-else-is_unused-clause-shape g c =
     let queued = c.requeue.ensures ∙ ap (with_requeued c.args.place.block) c.take_live.ensures.taken in
     let all = queued in
     record { geometry = ap (λ (x : ShelfView g.row.D.Denot). x.geometry) all; limits = ap (λ (x : ShelfView g.row.D.Denot). x.limits) all; raid = ap (λ (x : ShelfView g.row.D.Denot). x.raid) all }
+
+pub returns-then-is_unused-clause-buffers : goal.returns-then-is_unused-clause-buffers
+returns-then-is_unused-clause-buffers g c =
+    let queued = c.requeue.ensures ∙ ap (with_requeued c.args.place.block) c.take_live.ensures.taken in
+    ap (λ (x : ShelfView g.row.D.Denot). x.buffers) (c.free_block.ensures ∙ ap (with_free c.args.place.block) queued)
+
+pub returns-else-is_unused-clause-buffers : goal.returns-else-is_unused-clause-buffers
+returns-else-is_unused-clause-buffers g c =
+    let queued = c.requeue.ensures ∙ ap (with_requeued c.args.place.block) c.take_live.ensures.taken in
+    ap (λ (x : ShelfView g.row.D.Denot). x.buffers) queued

@@ -9,6 +9,8 @@ use Rattle.shard_core.specs.Stands.{Agrees}
 use Rattle.shard_core.specs.Vacating.{MakesEvents, IsVacating, vacate_cause}
 use Rattle.shard_core.proofs.Later.{later_none}
 use Rattle.shard_core.proofs.Choices.{gives_not, gives_none, gives_own, gives_few, gives_all, gives_some}
+use Rattle.block_shelf.specs.Sure.{StaysSure}
+use Rattle.block_shelf.proofs.Surely.{sure_none}
 use Rattle.shard_core.proofs.shard.Shard.defrag_one.Goals as goal
 
 pub move_all-requires-clause-named : goal.move_all-requires-clause-named
@@ -115,3 +117,25 @@ pub returns-clause-shape : goal.returns-clause-shape
 returns-clause-shape g c =
     let new : ShardView g.row.D.Denot = record { shelf = c.vacate_next.new.self; set = c.self.inside.set; sprigs = c.self.inside.sprigs.items } in
     subst (λ (v : ShardView g.row.D.Denot). SameSetup v new) c.self.view_is (record { geometry = ap (λ (x : ShelfView g.row.D.Denot). x.geometry) c.vacate_next.ensures.same; set = refl })
+
+-- ---- the gates
+
+pub returns-in-Ok-clause-sure : goal.returns-in-Ok-clause-sure
+returns-in-Ok-clause-sure g c =
+    subst (λ (v : ShardView g.row.D.Denot). StaysSure g.D.Disk.view v.shelf c.move_all.new.self.shelf) c.self.view_is
+    (subst (λ (x : ShelfView g.row.D.Denot). StaysSure g.D.Disk.view x c.move_all.new.self.shelf) c.vacate_next.ensures.same c.move_all.ensures.sure)
+
+pub returns-in-Ok-Some-clause-sure : goal.returns-in-Ok-Some-clause-sure
+returns-in-Ok-Some-clause-sure g c =
+    subst (λ (v : ShardView g.row.D.Denot). StaysSure g.D.Disk.view v.shelf c.move_all.new.self.shelf) c.self.view_is
+    (subst (λ (x : ShelfView g.row.D.Denot). StaysSure g.D.Disk.view x c.move_all.new.self.shelf) c.vacate_next.ensures.same c.move_all.ensures.sure)
+
+pub returns-in-Ok-None-clause-sure : goal.returns-in-Ok-None-clause-sure
+returns-in-Ok-None-clause-sure g c =
+    subst (λ (v : ShardView g.row.D.Denot). StaysSure g.D.Disk.view v.shelf c.vacate_next.new.self) c.self.view_is
+    (sure_none g.D.Disk.view c.self.inside.shelf c.vacate_next.new.self c.vacate_next.ensures.same)
+
+pub returns-clause-sure : goal.returns-clause-sure
+returns-clause-sure g c =
+    subst (λ (v : ShardView g.row.D.Denot). StaysSure g.D.Disk.view v.shelf c.vacate_next.new.self) c.self.view_is
+    (sure_none g.D.Disk.view c.self.inside.shelf c.vacate_next.new.self c.vacate_next.ensures.same)

@@ -18,6 +18,7 @@ use Rattle.shard_core.proofs.Each.{set_at}
 use Rattle.shard_core.proofs.Making.{whole_made, step_stands, lifted, held_at, sprigs_same}
 use Rattle.shard_core.proofs.Tallies.{tally_behind}
 use Rattle.shard_core.proofs.shard.Shard.delete.Given.{Over}
+use Rattle.block_shelf.specs.Sure.{StaysSure}
 use Rattle.shard_core.proofs.shard.Shard.delete.Goals as goal
 
 pub delete_step-answer-requires-clause-stand : goal.delete_step-answer-requires-clause-stand
@@ -179,3 +180,7 @@ returns-clause-bare g c =
     (λ bare. c.delete_step-answer.ensures.bare (ap (λ (o : Option Entry). cover_of (seen_entry c.args.now o))
     (sym (held_at g.D.Disk.view c.args.digest.now old new c.part_of-part.result c.index_mut.result.now c.delete_step-answer.new.sprig shape place there
     c.index_mut.ensures.value refl)) ∙ bare))
+
+pub returns-clause-sure : goal.returns-clause-sure
+returns-clause-sure g c =
+    subst (λ (v : ShardView g.row.D.Denot). StaysSure g.D.Disk.view v.shelf c.delete_step-answer.new.shelf) c.self.view_is c.delete_step-answer.ensures.sure

@@ -9,6 +9,7 @@ use Rattle.shard_core.specs.Stands.{Agrees, IsWhole}
 use Rattle.shard_core.proofs.Expiring.{none_expired, few_removed, all_expired, goes_on, goes_no_further, still_bare, named, left_less, refused_so}
 use Rattle.shard_core.proofs.Later.{later_none, later_then}
 use Rattle.shard_core.proofs.Making.{setup_same}
+use Rattle.block_shelf.proofs.Surely.{sure_none, sure_then}
 use Rattle.shard_core.proofs.shard.Shard.expire_part.Goals as goal
 
 -- the part is one of the device still
@@ -20,6 +21,7 @@ loop-digest-init g c = record {
   few = omega arith;
   expires = λ s agrees. none_expired g.D.Disk.view c.args.part c.args.now c.args.self.now s (g.met.D.Disk.is_disk c.args.self.now.shelf.disk) agrees;
   bare = λ bare. refl;
+  sure = sure_none g.D.Disk.view c.args.self.now.shelf c.args.self.now.shelf refl;
   later = later_none g.D.Disk.view c.args.self.now.shelf.disk (g.met.D.Disk.is_disk c.args.self.now.shelf.disk);
   honest = λ honest. honest;
   shape = record { geometry = refl; set = refl };
@@ -75,6 +77,7 @@ loop-digest-preserved g c =
       bare = λ bare. (c.expire.ensures.bare (still_bare g.D.Disk.view c.args.part c.args.now c.args.self.now stands.0 c.loop-digest.self c.loop-digest.removed c.loop-digest.last
           (c.loop-digest.invariant.expires stands.0 stands.1)
           c.loop-digest.invariant.shape c.requires.part c.in-Some.digest (sym c.in-Some.ensures.next) stands.1 bare)).1 ∙ c.loop-digest.invariant.bare bare;
+      sure = sure_then g.D.Disk.view c.args.self.now.shelf c.loop-digest.self.shelf c.expire.new.self.shelf c.loop-digest.invariant.sure c.expire.ensures.sure;
       later = later_then g.D.Disk.view c.args.self.now.shelf.disk c.loop-digest.self.shelf.disk c.expire.new.self.shelf.disk c.loop-digest.invariant.later c.expire.ensures.later;
       honest = λ honest. c.expire.ensures.honest (c.loop-digest.invariant.honest honest);
       shape = record { geometry = c.expire.ensures.shape.geometry ∙ c.loop-digest.invariant.shape.geometry; set = c.expire.ensures.shape.set ∙ c.loop-digest.invariant.shape.set };
@@ -84,3 +87,9 @@ pub returns-clause-makes : goal.returns-clause-makes
 returns-clause-makes g c s agrees =
     all_expired g.D.Disk.view c.args.part c.args.now c.args.self.now s c.loop-digest.self c.loop-digest.removed c.loop-digest.last
     (c.loop-digest.invariant.expires s agrees) c.loop-digest.invariant.shape c.requires.part (sym c.in_default.ensures.next)
+
+pub returns-in-Err-clause-sure : goal.returns-in-Err-clause-sure
+returns-in-Err-clause-sure g c = sure_then g.D.Disk.view c.args.self.now.shelf c.loop-digest.self.shelf c.expire.new.self.shelf c.loop-digest.invariant.sure c.expire.ensures.sure
+
+pub returns-clause-sure : goal.returns-clause-sure
+returns-clause-sure g c = c.loop-digest.invariant.sure

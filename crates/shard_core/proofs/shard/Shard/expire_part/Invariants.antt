@@ -2,6 +2,7 @@ use Rattle.std.proofs.Common.{◌≡◌, ◌≤◌, ◌^◌, length}
 use Rattle.model_device.specs.Device.{State}
 use Rattle.disk_model.specs.Disk.{IsHonest}
 use Rattle.block_shelf.specs.Disks.{IsLater}
+use Rattle.block_shelf.specs.Sure.{StaysSure}
 use Rattle.shard_core.specs.View.{SameSetup, setup_of}
 use Rattle.shard_core.specs.Stands.{Agrees}
 use Rattle.shard_core.specs.Vacating.{MakesEvents}
@@ -15,6 +16,7 @@ invariant-loop-digest g l = record {
   few : l.removed ≤ 2 ^ 32;
   expires : (s : State) → Agrees l.fn.self s → MakesEvents g.D.Disk.view (HaveExpired (setup_of l.fn.self) l.part l.now s l.removed l.last) l.fn.self s l.self;
   bare : AreBare l.fn.self l.part l.now → l.self.shelf.disk ≡ l.fn.self.shelf.disk;
+  sure : StaysSure g.D.Disk.view l.fn.self.shelf l.self.shelf;
   later : IsLater (g.D.Disk.view l.fn.self.shelf.disk) (g.D.Disk.view l.self.shelf.disk);
   honest : IsHonest (g.D.Disk.view l.fn.self.shelf.disk) → IsHonest (g.D.Disk.view l.self.shelf.disk);
   shape : SameSetup l.fn.self l.self;

@@ -15,6 +15,8 @@ use Rattle.shard_core.proofs.FlushLoop.{setup_stays}
 use Rattle.shard_core.proofs.Making.{setup_is, makes_flush, whole_made}
 use Rattle.law_steps.proofs.Making.{seal_all_flushing}
 use Rattle.shard_core.proofs.shard.Shard.flush.Given.{Over}
+use Rattle.block_shelf.specs.Sure.{StaysSure}
+use Rattle.block_shelf.proofs.Surely.{sure_same, sure_then}
 use Rattle.shard_core.proofs.shard.Shard.flush.Goals as goal
 
 made : (g : Over) (c : goal.After-flush_sealed g) (s : State)
@@ -54,3 +56,10 @@ invariant_of-self g c =
           (c.flush_sealed.ensures.shape.limits ∙ c.seal_streams.ensures.shape.limits) stands.0 (made g c stands.0 stands.1);
       tallied = c.self.invariant.tallied;
     }
+
+pub returns-clause-sure : goal.returns-clause-sure
+returns-clause-sure g c =
+    subst (λ (v : ShardView g.row.D.Denot). StaysSure g.D.Disk.view v.shelf c.flush_sealed.new.shelf) c.self.view_is
+    (sure_then g.D.Disk.view c.self.inside.shelf c.seal_streams.new.self c.flush_sealed.new.shelf
+    (sure_same g.D.Disk.view c.self.inside.shelf c.seal_streams.new.self c.seal_streams.ensures.disk c.seal_streams.ensures.gates)
+    c.flush_sealed.ensures.sure)

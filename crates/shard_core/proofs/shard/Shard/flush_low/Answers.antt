@@ -1,4 +1,4 @@
-use Rattle.std.proofs.Common.{◌≤◌, sym, refl, ◌∙◌, subst}
+use Rattle.std.proofs.Common.{◌≤◌, sym, refl, ◌∙◌, subst, ap}
 use Rattle.std.specs.Prelude.{OnErr}
 use Rattle.model_faults.specs.Counts.{Rose}
 use Rattle.model_device.specs.Device.{State}
@@ -15,6 +15,8 @@ use Rattle.shard_core.proofs.FlushLoop.{setup_stays}
 use Rattle.shard_core.proofs.Making.{setup_is, makes_flush, whole_made}
 use Rattle.law_steps.proofs.Making.{seal_low_flushing}
 use Rattle.shard_core.proofs.shard.Shard.flush_low.Given.{Over}
+use Rattle.block_shelf.specs.Sure.{StaysSure}
+use Rattle.block_shelf.proofs.Surely.{sure_same, sure_then}
 use Rattle.shard_core.proofs.shard.Shard.flush_low.Goals as goal
 
 made : (g : Over) (c : goal.After-flush_sealed g) (s : State)
@@ -56,3 +58,10 @@ invariant_of-self g c =
           (c.flush_sealed.ensures.shape.limits ∙ c.seal_low.ensures.shape.limits) stands.0 (made g c stands.0 stands.1);
       tallied = c.self.invariant.tallied;
     }
+
+pub returns-clause-sure : goal.returns-clause-sure
+returns-clause-sure g c =
+    subst (λ (v : ShardView g.row.D.Denot). StaysSure g.D.Disk.view v.shelf c.flush_sealed.new.shelf) c.self.view_is
+    (sure_then g.D.Disk.view c.self.inside.shelf c.seal_low.new.self c.flush_sealed.new.shelf
+    (sure_same g.D.Disk.view c.self.inside.shelf c.seal_low.new.self c.seal_low.ensures.disk (ap (λ (x : ShelfView g.row.D.Denot). x.gates) c.seal_low.ensures.rest))
+    c.flush_sealed.ensures.sure)

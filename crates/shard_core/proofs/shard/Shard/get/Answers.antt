@@ -20,6 +20,8 @@ use Rattle.shard_core.proofs.Each.{set_at}
 use Rattle.shard_core.proofs.Making.{whole_made, step_stands, lifted, held_at}
 use Rattle.shard_core.proofs.Tallies.{tally_same}
 use Rattle.shard_core.proofs.shard.Shard.get.Given.{Over}
+use Rattle.block_shelf.specs.Sure.{StaysSure}
+use Rattle.block_shelf.proofs.Surely.{sure_read}
 use Rattle.shard_core.proofs.shard.Shard.get.Goals as goal
 
 pub get_step-requires-clause-stand : goal.get_step-requires-clause-stand
@@ -126,3 +128,8 @@ returns-clause-shape g c =
     let old : ShardView g.row.D.Denot = record { shelf = c.self.inside.shelf; set = c.self.inside.set; sprigs = c.self.inside.sprigs.items } in
     let new : ShardView g.row.D.Denot = record { shelf = c.get_step.new.shelf; set = c.self.inside.set; sprigs = set c.self.inside.sprigs.items c.part_of-part.result c.get_step.new.sprig } in
     subst (λ (v : ShardView g.row.D.Denot). SameSetup v new) c.self.view_is (record { geometry = ap (λ (x : ShelfView g.row.D.Denot). x.geometry) c.get_step.ensures.shelf; set = refl })
+
+pub returns-clause-sure : goal.returns-clause-sure
+returns-clause-sure g c =
+    subst (λ (v : ShardView g.row.D.Denot). StaysSure g.D.Disk.view v.shelf c.get_step.new.shelf) c.self.view_is
+    (sure_read g.D.Disk.view c.self.inside.shelf c.get_step.new.shelf c.get_step.ensures.disk c.get_step.ensures.shelf)

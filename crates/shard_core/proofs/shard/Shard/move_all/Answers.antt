@@ -6,12 +6,14 @@ use Rattle.shard_core.specs.View.{setup_of}
 use Rattle.shard_core.specs.Vacating.{MakesEvents, HaveMoved}
 use Rattle.shard_core.proofs.Later.{later_none, later_then}
 use Rattle.shard_core.proofs.Vacating.{none_moved, all_moved, goes_on, goes_no_further}
+use Rattle.block_shelf.proofs.Surely.{sure_none, sure_then}
 use Rattle.shard_core.proofs.shard.Shard.move_all.Goals as goal
 
 pub loop-digest-init : goal.loop-digest-init
 loop-digest-init g c = record {
   few = omega arith;
   moves = λ s agrees lie. none_moved g.D.Disk.view c.args.vacancy.now.block c.args.self.now s (g.met.D.Disk.is_disk c.args.self.now.shelf.disk) c.args.vacancy.now.digests.items agrees lie;
+  sure = sure_none g.D.Disk.view c.args.self.now.shelf c.args.self.now.shelf refl;
   later = later_none g.D.Disk.view c.args.self.now.shelf.disk (g.met.D.Disk.is_disk c.args.self.now.shelf.disk);
   honest = λ honest. honest;
   shape = record { geometry = refl; set = refl };
@@ -46,6 +48,7 @@ loop-digest-preserved g c =
           (subst (λ (l : List Digest). MakesEvents g.D.Disk.view (HaveMoved (setup_of c.args.self.now) c.args.vacancy.now.block s c.loop-digest.moved l) c.args.self.now s c.loop-digest.self)
           left (c.loop-digest.invariant.moves s agrees lie))
           c.in-Ok.was_there c.in-Ok.ensures.makes);
+      sure = sure_then g.D.Disk.view c.args.self.now.shelf c.loop-digest.self.shelf c.move_record.new.self.shelf c.loop-digest.invariant.sure c.move_record.ensures.sure;
       later = later_then g.D.Disk.view c.args.self.now.shelf.disk c.loop-digest.self.shelf.disk c.move_record.new.self.shelf.disk c.loop-digest.invariant.later c.move_record.ensures.later;
       honest = λ honest. c.move_record.ensures.honest (c.loop-digest.invariant.honest honest);
       shape = record { geometry = c.move_record.ensures.shape.geometry ∙ c.loop-digest.invariant.shape.geometry; set = c.move_record.ensures.shape.set ∙ c.loop-digest.invariant.shape.set };
@@ -58,3 +61,9 @@ returns-clause-makes g c s agrees lie =
     all_moved g.D.Disk.view c.args.vacancy.now.block c.args.self.now s c.loop-digest.self c.loop-digest.moved
     (subst (λ (l : List Digest). MakesEvents g.D.Disk.view (HaveMoved (setup_of c.args.self.now) c.args.vacancy.now.block s c.loop-digest.moved l) c.args.self.now s c.loop-digest.self) none
     (c.loop-digest.invariant.moves s agrees lie))
+
+pub returns-in-Err-clause-sure : goal.returns-in-Err-clause-sure
+returns-in-Err-clause-sure g c = sure_then g.D.Disk.view c.args.self.now.shelf c.loop-digest.self.shelf c.move_record.new.self.shelf c.loop-digest.invariant.sure c.move_record.ensures.sure
+
+pub returns-clause-sure : goal.returns-clause-sure
+returns-clause-sure g c = c.loop-digest.invariant.sure

@@ -12,6 +12,7 @@ use Rattle.shard_core.proofs.Each.{set_at}
 use Rattle.shard_core.proofs.Making.{setup_is, whole_made, step_stands, lifted}
 use Rattle.shard_core.proofs.Tallies.{tally_behind}
 use Rattle.shard_core.proofs.shard.Shard.move_record.Given.{Over}
+use Rattle.block_shelf.specs.Sure.{StaysSure}
 use Rattle.shard_core.proofs.shard.Shard.move_record.Goals as goal
 
 pub move_one-answer-requires-clause-stand : goal.move_one-answer-requires-clause-stand
@@ -92,3 +93,7 @@ invariant_of-self g c =
           c.self.inside.tally c.tally-before.result c.tally.result c.minus.result c.plus-self-inside.result
           c.self.invariant.tallied c.tally-before.ensures c.tally.ensures c.minus.ensures c.plus-self-inside.ensures (omega arith) (omega arith) (omega arith);
     }
+
+pub returns-clause-sure : goal.returns-clause-sure
+returns-clause-sure g c =
+    subst (λ (v : ShardView g.row.D.Denot). StaysSure g.D.Disk.view v.shelf c.move_one-answer.new.shelf) c.self.view_is c.move_one-answer.ensures.sure

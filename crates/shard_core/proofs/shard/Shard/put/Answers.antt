@@ -21,6 +21,7 @@ use Rattle.shard_core.proofs.Each.{set_at}
 use Rattle.shard_core.proofs.Making.{whole_made, step_stands, lifted, sprigs_same}
 use Rattle.shard_core.proofs.Tallies.{tally_behind}
 use Rattle.shard_core.proofs.shard.Shard.put.Given.{Over}
+use Rattle.block_shelf.specs.Sure.{StaysSure}
 use Rattle.shard_core.proofs.shard.Shard.put.Goals as goal
 
 pub put_step-answer-requires-clause-stand : goal.put_step-answer-requires-clause-stand
@@ -173,3 +174,7 @@ returns-clause-refused g c =
               c.index_mut.ensures.value refl left.sprig;
           shelf = left.shelf;
         })
+
+pub returns-clause-sure : goal.returns-clause-sure
+returns-clause-sure g c =
+    subst (λ (v : ShardView g.row.D.Denot). StaysSure g.D.Disk.view v.shelf c.put_step-answer.new.shelf) c.self.view_is c.put_step-answer.ensures.sure

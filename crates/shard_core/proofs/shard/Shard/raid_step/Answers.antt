@@ -9,6 +9,7 @@ use Rattle.shard_core.specs.declared.raid.RaidDid.{RaidDid}
 use Rattle.shard_core.specs.Raids.{TurnMakes}
 use Rattle.shard_core.proofs.Later.{later_none}
 use Rattle.shard_core.proofs.Raiding.{stale_made}
+use Rattle.block_shelf.proofs.Surely.{sure_none, sure_kept}
 use Rattle.shard_core.proofs.shard.Shard.raid_step.Goals as goal
 
 pub returns-then-not-is_next-clause-makes : goal.returns-then-not-is_next-clause-makes
@@ -97,3 +98,14 @@ returns-clause-honest g c =
 pub returns-clause-shape : goal.returns-clause-shape
 returns-clause-shape g c =
     c.take_turn.ensures.shape
+
+-- ---- the gates
+
+pub returns-then-not-is_next-clause-sure : goal.returns-then-not-is_next-clause-sure
+returns-then-not-is_next-clause-sure g c = sure_none g.D.Disk.view c.args.self.now.shelf c.args.self.now.shelf refl
+
+pub returns-in_err-did-clause-sure : goal.returns-in_err-did-clause-sure
+returns-in_err-did-clause-sure g c = sure_kept g.D.Disk.view c.args.self.now.shelf c.take_turn.new.self.shelf c.take_turn.ensures.later.count c.take_turn.ensures.sure
+
+pub returns-clause-sure : goal.returns-clause-sure
+returns-clause-sure g c = sure_kept g.D.Disk.view c.args.self.now.shelf c.take_turn.new.self.shelf c.take_turn.ensures.later.count c.take_turn.ensures.sure

@@ -43,17 +43,18 @@ returns g c now =
     (subst (λ (n : RaidNext). TakesTurn g.D.Disk.view n now c.match-raid_scan.result old new) (sym at)
     (subst (λ (r : Result RaidDid RaidRefusal). TakesTurn g.D.Disk.view (Scan block) now r old new) (sym told) taken)) in
     let alike : StaysPossible g.D.Disk.view block now old new shape refl = λ s sure honest stands hold. c.raid_scan.ensures.alike (setup_of old) s sure honest stands hold in
+    let buffers : new.shelf.buffers ≡ old.shelf.buffers = ap (λ (v : ShelfView g.row.D.Denot). v.buffers) c.raid_scan.ensures.rest in
     elim c.match-raid_scan.branch [
       | in-Ok w ↦
           let both : Scan block ≡ Scan w.in-Ok.block = sym at ∙ w.in-Ok.ensures.block in
           let same : block ≡ w.in-Ok.block = cc in
           done (Ok (Scanned block)) (w.result-is ∙ ap (λ (b : ℕ). Ok (Scanned b)) (sym same))
-          (scan_taken g.D.Disk.view block now old new shape refl at alike c.raid_scan.ensures.sure c.raid_scan.ensures.later c.raid_scan.ensures.honest
+          (scan_taken g.D.Disk.view block now old new shape refl at alike c.raid_scan.ensures.sure c.raid_scan.ensures.later c.raid_scan.ensures.honest buffers
           (subst (λ (b : ℕ). ScansSo g.D.Disk.view block now old new shape refl (Ok b)) (sym same) (λ s stands. w.in-Ok.ensures.makes (setup_of old) s now block at is stands))
           fits w.in-Ok.ensures.turned)
       | in-Err w ↦
           done (Err w.in-Err.refusal) w.result-is
-          (scan_refused g.D.Disk.view block now old new shape refl at alike c.raid_scan.ensures.sure c.raid_scan.ensures.later c.raid_scan.ensures.honest w.in-Err.refusal
+          (scan_refused g.D.Disk.view block now old new shape refl at alike c.raid_scan.ensures.sure c.raid_scan.ensures.later c.raid_scan.ensures.honest buffers w.in-Err.refusal
           (λ s stands. w.in-Err.ensures.makes (setup_of old) s now block at is stands) w.in-Err.ensures.of_turn w.in-Err.ensures.given_up (λ tells. w.in-Err.ensures.damaged tells block at)
           (λ fault. c.raid_scan.ensures.cause (w.in-Err.is ∙ ap (λ (r : RaidRefusal). Err r) fault)))
     ]

@@ -91,3 +91,6 @@ returns-in_err-disk-clause-again g c honest old s disk_was set_was device device
     let same : c.from_residual.result ≡ Err c.in_err-disk.field-0.0 = p.1 ∙ ap (λ (r : StartRefusal g.row.D.Denot). Err r) p.2 in
     subst (λ r. MatchResult r (StartsAgain d.view old s) (λ refusal. IsNoRefusal refusal.cause)) (sym same)
     (no_refusal d.view c.args.disk c.args.asked old s disk_was device devices honest safe c.in_err-disk.field-0.0.cause (c.in_err-disk.ensures.refused honest.told))
+
+pub returns-clause-sure : goal.returns-clause-sure
+returns-clause-sure g c = c.begun.ensures.sure

@@ -2,6 +2,7 @@ use Rattle.std.proofs.Common.{sym, ◌∙◌}
 use Rattle.model_device.specs.Events.{after_event}
 use Rattle.shard_core.specs.View.{setup_of}
 use Rattle.shard_core.proofs.Tending.{tends_vacating, tends_resting, tends_well}
+use Rattle.block_shelf.proofs.Surely.{sure_then}
 use Rattle.shard_core.proofs.shard.Shard.tend.Goals as goal
 
 pub returns-then-can_gain-clause-makes : goal.returns-then-can_gain-clause-makes
@@ -17,3 +18,9 @@ returns-else-can_gain-clause-makes g c s agrees =
     tends_well g.D.Disk.view c.args.self.now c.flush_low.new.self s c.flush_low.ensures.whole.0 c.flush_low.ensures.whole.1 agrees
     (tends_resting g.D.Disk.view c.args.self.now c.flush_low.new.self c.flush_low.new.self c.flush_low.ensures.shape c.flush_low.ensures.honest s flushed
     (sym (c.can_gain.ensures (after_event (setup_of c.args.self.now) flushed.1.event s) flushed.1.stands) ∙ c.if-can_gain.false))
+
+pub returns-then-can_gain-clause-sure : goal.returns-then-can_gain-clause-sure
+returns-then-can_gain-clause-sure g c = sure_then g.D.Disk.view c.args.self.now.shelf c.flush_low.new.self.shelf c.defrag_one.new.self.shelf c.flush_low.ensures.sure c.defrag_one.ensures.sure
+
+pub returns-else-can_gain-clause-sure : goal.returns-else-can_gain-clause-sure
+returns-else-can_gain-clause-sure g c = c.flush_low.ensures.sure
