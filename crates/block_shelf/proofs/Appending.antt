@@ -30,7 +30,7 @@ use Rattle.block_shelf.proofs.FirstClosed.{first_below}
 use Rattle.block_shelf.proofs.Roomed.{goes_nowhere, goes_room, later_none, room_disk}
 use Rattle.block_shelf.proofs.Causes.{too_big_is, none_in_room, cause_in_new, begin_fits}
 use Rattle.block_shelf.proofs.Appended.{takes_in_room, takes_in_new}
-use Rattle.block_shelf.proofs.FoundRoom.{begun_stands, put_both, both_in_room, both_in_new}
+use Rattle.block_shelf.proofs.FoundRoom.{begun_stands, put_both, put_lies, both_in_room, both_in_new}
 
 abbrev Answer : Type 0
 Answer = Result Place PutRefusal
@@ -117,6 +117,7 @@ module _ {D : Type 0} (view : D → DiskView) (is_disk : (disk : D) → IsDisk (
     refused = refl;
     first = tt;
     place = tt;
+    lies = tt;
     whole = is;
     shape = same_shape old old refl;
     in_room = λ room. refl;
@@ -136,6 +137,7 @@ module _ {D : Type 0} (view : D → DiskView) (is_disk : (disk : D) → IsDisk (
         refused = same;
         first = tt;
         place = tt;
+        lies = tt;
         whole = is;
         shape = room_shape old new same;
         in_room = λ room. disk;
@@ -165,6 +167,7 @@ module _ {D : Type 0} (view : D → DiskView) (is_disk : (disk : D) → IsDisk (
         refused = begins.refused;
         first = tt;
         place = tt;
+        lies = tt;
         whole = is;
         shape = left_shape old new refusal begins.refused;
         in_room = λ room. absurd (full room);
@@ -189,6 +192,7 @@ module _ {D : Type 0} (view : D → DiskView) (is_disk : (disk : D) → IsDisk (
             refused = tt;
             first = both_in_room stream units at old mid new same room (put_both digest v prior stands.front stands.buffer stands.behind mid new place (puts.put stands));
             place = place_in mid.geometry old.geometry n units place (ap (λ (x : ShelfView D). x.geometry) same.rest) n_is puts.there;
+            lies = put_lies stream digest v prior stands.front stands.buffer stands.behind mid new place there_still.of_stream (puts.put stands);
             whole = is;
             shape = record {
               geometry = puts.shape.geometry ∙ ap (λ (x : ShelfView D). x.geometry) same.rest;
@@ -223,6 +227,7 @@ module _ {D : Type 0} (view : D → DiskView) (is_disk : (disk : D) → IsDisk (
             refused = tt;
             first = both_in_new stream units old begun mid new is_begun full (put_both digest v prior stands_at.front stands_at.buffer stands_at.behind mid new place (puts.put stands_at));
             place = place_in mid.geometry old.geometry n units place (ap (λ (x : ShelfView D). x.geometry) is_begun) n_is puts.there;
+            lies = put_lies stream digest v prior (map (sealed_in stream) old.buffers) (begun_buffer stream old) [] (with_begun stream (ready_for begun old)) new place refl put;
             whole = is;
             shape = record {
               geometry = puts.shape.geometry ∙ ap (λ (x : ShelfView D). x.geometry) is_begun;

@@ -1,19 +1,20 @@
 -- Where an append puts its copy: in a buffer that has room, or in one that has begun.
 use Rattle.std.proofs.Common.{◌≡◌, ℕ, ◌+◌, ◌-◌, ◌<◌, ◌≤◌, List, [], ◌∷◌, length, map, refl, sym, ◌∙◌, ap, subst, arith}
-use Rattle.std.specs.Prelude.{Option}
+use Rattle.std.specs.Prelude.{Option, Contains}
 use Rattle.std.proofs.lemmas.List.{length_push, length-append}
 use Rattle.rec_format.specs.declared.version.Digest.{Digest}
 use Rattle.rec_format.specs.declared.version.Version.{Version}
 use Rattle.rec_format.specs.Versions.{block_capacity}
 use Rattle.model_device.specs.Book.{first_block}
 use Rattle.write_buffer.specs.declared.stream.Stream.{Stream}
-use Rattle.write_buffer.specs.Buffers.{BufferState}
+use Rattle.write_buffer.specs.Buffers.{BufferState, with_record}
 use Rattle.unit_ledger.specs.Rolls.{spare_of}
 use Rattle.block_shelf.specs.declared.place.Place.{Place}
 use Rattle.block_shelf.specs.View.{ShelfView}
 use Rattle.block_shelf.specs.Changes.{StandsAt, CanTake, HasRoom, HasRoomAt, SameButRoom, begun_buffer, sealed_in, with_begun}
-use Rattle.block_shelf.specs.Appends.{BeginsInFirst, PutsCopy, ready_for}
+use Rattle.block_shelf.specs.Appends.{BeginsInFirst, LiesIn, PutsCopy, ready_for}
 use Rattle.block_shelf.proofs.Appended.{put_is}
+use Rattle.block_shelf.proofs.Between.{own_there}
 
 pub told_room : (stream other : Stream) (n units : ℕ) (place at : ℕ) (buffers : List BufferState) → stream ≡ other → n ≡ units → at ≡ place → HasRoomAt stream n place buffers
     → HasRoomAt other units at buffers
@@ -72,6 +73,19 @@ pub put_both : {D : Type 0} (digest : Digest) (v : Version) (prior : Option Plac
 put_both {D} digest v prior front b behind shelf new place put =
     let is = put_is digest v prior front b behind shelf new place put in
     (ap (λ (x : ShelfView D). x.gates) is, ap (λ (x : ShelfView D). x.cache) is)
+
+-- the copy lies where it was put
+pub put_lies : {D : Type 0} (stream : Stream) (digest : Digest) (v : Version) (prior : Option Place) (front : List BufferState) (b : BufferState) (behind : List BufferState) (shelf new : ShelfView D)
+    (place : Place) → b.stream ≡ stream → PutsCopy digest v prior front b behind shelf new place → LiesIn stream digest v new place
+put_lies {D} stream digest v prior front b behind shelf new place of_stream put =
+    let is = put_is digest v prior front b behind shelf new place put in
+    record {
+      buffer = with_record digest v b;
+      is_there = subst (λ (l : List BufferState). Contains l (with_record digest v b)) (sym (ap (λ (x : ShelfView D). x.buffers) is)) (own_there front (with_record digest v b) behind);
+      of_stream = of_stream;
+      block = sym (ap (λ (p : Place). p.block) put.place_is);
+      has = record { before = b.records; behind = []; parts = refl; units = sym (ap (λ (p : Place). p.unit) put.place_is) };
+    }
 
 pub both_in_room : {D : Type 0} (stream : Stream) (units at : ℕ) (old mid new : ShelfView D) → SameButRoom old mid → HasRoomAt stream units at old.buffers → KeepsBoth mid new
     → BeginsInFirst stream units old new

@@ -1,6 +1,6 @@
 -- What a scan reads of a block is all that may be in it and nothing else, and over a sound image nothing of it is damaged.
 use Rattle.std.proofs.Common.{◌≡◌, ◌≢◌, ◌<◌, ℕ, true, false, List, [], map, inl, inr, sym, ◌∙◌, ap, subst, arith, refl, ne_eqb, Result, Ok, Err}
-use Rattle.std.specs.Prelude.{Contains, ◌==◌, MatchResult, IfErr}
+use Rattle.std.specs.Prelude.{Contains, ◌==◌, MatchResult, IfOk, IfErr}
 use Rattle.std.specs.List.{AllByRecursion}
 use Rattle.disk_model.specs.Disk.{Images, DiskView, IsHonest}
 use Rattle.rec_format.specs.declared.version.Digest.{Digest}
@@ -34,7 +34,7 @@ use Rattle.block_shelf.specs.declared.refusals.VacateRefusal.TheVariants.{Damage
 use Rattle.block_shelf.specs.View.{ShelfView, IsShelf, IsBufferOf, WaitsShut, HasItsBody, StandInOrder, records_of, gate_at, is_written, has_begun}
 use Rattle.block_shelf.specs.Standing.{StandsFor, ImagesHold, book_buffer}
 use Rattle.block_shelf.specs.Changes.{has_buffer_in}
-use Rattle.block_shelf.specs.Scans.{ReadsAll, ReadsBody, IsDamageOf, IsSound}
+use Rattle.block_shelf.specs.Scans.{ReadsAll, ReadsBody, NeedsRead, IsDamageOf, IsOfBlock, IsToldOf, IsSound}
 use Rattle.block_shelf.proofs.Between.{records_at}
 use Rattle.block_shelf.proofs.QueueSteps.{Parted, parted, has_buffer_is}
 use Rattle.law_start.proofs.Placing.{any_none}
@@ -58,6 +58,11 @@ undamaged g bytes block (Damaged other place) sound = absurd sound
 undamaged g bytes block Memory sound = tt
 undamaged g bytes block Fault sound = tt
 
+-- so it is of an answer
+pub unhurt : {A : Type 0} (g : Geometry) (bytes : List ℕ) (block : ℕ) (result : Result A VacateRefusal) → IfErr result IsSound → IfErr result (IsDamageOf g bytes block)
+unhurt g bytes block (Ok found) sound = tt
+unhurt g bytes block (Err refusal) sound = undamaged g bytes block refusal sound
+
 pub only_set : (gate : Gate) → gate ≢ Shut → gate ≢ Unsure → gate ≡ Set
 only_set Shut shut unsure = absurd (shut refl)
 only_set Set shut unsure = refl
@@ -70,6 +75,24 @@ each_answer P Q R S (Err e) ok err is = err e is
 pub only_err : {X E : Type 0} (P : X → Type 0) (R S : E → Type 0) (r : Result X E) → ((e : E) → R e → S e) → MatchResult r P R → IfErr r S
 only_err P R S (Ok x) err is = tt
 only_err P R S (Err e) err is = err e is
+
+pub only_ok : {X E : Type 0} (P : X → Type 0) (R : E → Type 0) (r : Result X E) → MatchResult r P R → IfOk r P
+only_ok P R (Ok x) is = is
+only_ok P R (Err e) is = tt
+
+-- what is told of a block that is read from the disk
+pub told_at : {D A : Type 0} (shelf : ShelfView D) (block : ℕ) (result : Result A VacateRefusal) → NeedsRead shelf block → IfErr result (IsOfBlock block) → IfErr result (IsToldOf shelf block)
+told_at shelf block (Ok found) needs of_block = tt
+told_at shelf block (Err (Damaged other place)) needs of_block = (of_block, needs)
+told_at shelf block (Err Memory) needs of_block = tt
+told_at shelf block (Err Fault) needs of_block = tt
+
+-- where there is no damage nothing is told
+pub untold : {D A : Type 0} (shelf : ShelfView D) (block : ℕ) (result : Result A VacateRefusal) → IfErr result IsSound → IfErr result (IsToldOf shelf block)
+untold shelf block (Ok found) sound = tt
+untold shelf block (Err (Damaged other place)) sound = absurd sound
+untold shelf block (Err Memory) sound = tt
+untold shelf block (Err Fault) sound = tt
 
 module _ {D : Type 0} (view : D → DiskView) (setup : Setup) (shelf : ShelfView D) (s : State) (is : IsShelf view shelf) (stands : StandsFor setup shelf s)
     (honest : IsHonest (view shelf.disk)) (safe : ImagesHold setup view shelf s) (block : ℕ) where

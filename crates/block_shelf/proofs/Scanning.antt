@@ -20,12 +20,12 @@ use Rattle.block_shelf.specs.View.{ShelfView, IsShelf, IsSetupOf, gate_at}
 use Rattle.block_shelf.specs.Disks.{IsLater, OnlyRead}
 use Rattle.block_shelf.specs.Standing.{StandsFor, BooksStand, ImagesHold}
 use Rattle.block_shelf.specs.Calls.{Goes}
-use Rattle.block_shelf.specs.Scans.{ClosesUnsure, ReadsBlock, ReadsIn, ScansIn, ReadsAll, ReadsBody, IsDamageOf, IsSound, Scans}
+use Rattle.block_shelf.specs.Scans.{ClosesUnsure, ReadsBlock, ReadsIn, ScansIn, ReadsAll, ReadsBody, FindsBody, NeedsRead, IsDamageOf, IsOfBlock, IsToldOf, IsSound, Scans}
 use Rattle.block_shelf.proofs.Going.{goes_none}
 use Rattle.block_shelf.proofs.Looking.{goes_read}
 use Rattle.block_shelf.proofs.ReadOnly.{images_of_now, only_none, shelf_stays}
 use Rattle.block_shelf.proofs.Roomed.{later_none}
-use Rattle.block_shelf.proofs.ScanBlocks.{each_answer, only_err, only_set, set_reads, set_sound, shut_reads}
+use Rattle.block_shelf.proofs.ScanBlocks.{each_answer, only_err, only_ok, only_set, set_reads, set_sound, shut_reads, told_at, unhurt, untold}
 
 gates_differ : Unsure ≢ Shut
 gates_differ same = cc
@@ -105,15 +105,16 @@ module _ {D : Type 0} (view : D → DiskView) (is_disk : (disk : D) → IsDisk (
     -- of a buffer: nothing is called
     pub reads_memory : (result : Result A VacateRefusal) → result ≢ Err Fault
         → ((setup : Setup) (s : State) → IsHonest (view old.disk) → StandsFor setup old s → ImagesHold setup view old s → MatchResult result (λ found. ReadsAll view old s block (heads found)) IsSound)
-        → ((view old.disk).tells → IfErr result (IsDamageOf old.geometry (body_bytes old.geometry block (view old.disk).seen) block))
-        → ReadsIn view block old old heads result
-    reads_memory result unfailed all damaged = record {
+        → IfErr result IsSound → (b : BufferState) → Contains old.buffers b → b.block ≡ block → ReadsIn view block old old heads result
+    reads_memory result unfailed all sound b there at = record {
       goes = λ setup s stands. goes_none view setup old s (is_disk old.disk) stands;
       all = all;
       waiting = λ b there at. refl;
       sure = λ sure. refl;
       fewer = λ sure honest c image. image;
-      damaged = damaged;
+      damaged = λ told. unhurt old.geometry (body_bytes old.geometry block (view old.disk).seen) block result sound;
+      told = untold old block result sound;
+      there = λ told needs. absurd (none_has old.buffers block b needs.unbuffered there at);
       rest = refl;
       cause = λ same. absurd (unfailed same);
       later = later_none (view old.disk) (is_disk old.disk);
@@ -129,6 +130,8 @@ module _ {D : Type 0} (view : D → DiskView) (is_disk : (disk : D) → IsDisk (
         sure = λ sure. absurd (no_error tt e (sym (closing.quiet sure).0));
         fewer = λ sure. absurd (no_error tt e (sym (closing.quiet sure).0));
         damaged = λ told. subst (IsDamageOf old.geometry (body_bytes old.geometry block (view old.disk).seen) block) (sym closing.failed) tt;
+        told = subst (IsToldOf old block) (sym closing.failed) tt;
+        there = λ told needs. tt;
         rest = closing.rest;
         cause = λ same. closing.cause;
         later = closing.later;
@@ -142,6 +145,13 @@ module _ {D : Type 0} (view : D → DiskView) (is_disk : (disk : D) → IsDisk (
         none_mid : AllByRecursion (λ b. b.block ≢ block) mid.buffers
         none_mid = subst (λ (v : ShelfView D). AllByRecursion (λ b. b.block ≢ block) v.buffers) (sym closing.rest) none
 
+        -- a gate that was set is set yet
+        still_set : NeedsRead old block → gate_at mid.gates block ≡ Shut → ⊥
+        still_set needs shut =
+            let stays : mid ≡ old = (closing.quiet (λ unsure. let clash : Set ≡ Unsure = sym needs.set ∙ unsure in cc)).1 in
+            let clash : Set ≡ Shut = sym needs.set ∙ ap (λ (v : ShelfView D). gate_at v.gates block) (sym stays) ∙ shut in
+            cc
+
         -- of a block whose gate is shut
         pub reads_shut : gate_at mid.gates block ≡ Shut → (found : A) → heads found ≡ [] → ReadsIn view block old mid heads (Ok found)
         reads_shut shut found empty = record {
@@ -153,6 +163,8 @@ module _ {D : Type 0} (view : D → DiskView) (is_disk : (disk : D) → IsDisk (
           sure = λ sure. ap (λ (v : ShelfView D). v.gates) (closing.quiet sure).1;
           fewer = λ sure honest. subst (λ (v : ShelfView D). Within (view old.disk).may_leave (view v.disk).may_leave) (sym (closing.quiet sure).1) (λ c image. image);
           damaged = λ told. tt;
+          told = tt;
+          there = λ told needs. absurd (still_set needs shut);
           rest = closing.rest;
           cause = λ same. absurd (no_error found Fault same);
           later = closing.later;
@@ -167,9 +179,9 @@ module _ {D : Type 0} (view : D → DiskView) (is_disk : (disk : D) → IsDisk (
           pub reads_disk : (new : ShelfView D) (result : Result A VacateRefusal)
               → ((view mid.disk).tells → let bytes = body_bytes mid.geometry block (view mid.disk).seen in MatchResult result (λ found. ReadsBody mid.geometry bytes block (heads found))
               (IsDamageOf mid.geometry bytes block))
-              → (result ≡ Err Fault → Rose (view mid.disk).faults (view new.disk).faults) → OnlyRead (view mid.disk) (view new.disk) → IsShelf view new → new ≡ record mid { disk = new.disk }
-              → ReadsIn view block old new heads result
-          reads_disk new result read cause only whole same =
+              → IfErr result (IsOfBlock block) → (result ≡ Err Fault → Rose (view mid.disk).faults (view new.disk).faults) → OnlyRead (view mid.disk) (view new.disk) → IsShelf view new
+              → new ≡ record mid { disk = new.disk } → ReadsIn view block old new heads result
+          reads_disk new result read of_block cause only whole same =
               let was = λ (P : ShelfView D → Type 0) (p : P mid). subst P stayed p in
               let set : gate_at old.gates block ≡ Set = was (λ (v : ShelfView D). gate_at v.gates block ≡ Set) (only_set (gate_at mid.gates block) open_gate closing.sure) in
               let is : IsShelf view old = was (IsShelf view) closing.whole in
@@ -181,15 +193,15 @@ module _ {D : Type 0} (view : D → DiskView) (is_disk : (disk : D) → IsDisk (
               let same_old : new ≡ record old { disk = new.disk } = was (λ (v : ShelfView D). new ≡ record v { disk = new.disk }) same in
               let rose : result ≡ Err Fault → Rose (view old.disk).faults (view new.disk).faults =
               was (λ (v : ShelfView D). result ≡ Err Fault → Rose (view v.disk).faults (view new.disk).faults) cause in
-              by_old new result read_old rose only_old whole same_old is set
+              by_old new result read_old (told_at old block result (record { unbuffered = none; set = set }) of_block) rose only_old whole same_old is set
             where
               by_old : (new : ShelfView D) (result : Result A VacateRefusal)
                   → ((view old.disk).tells → MatchResult result (λ found. ReadsBody old.geometry (body_bytes old.geometry block (view old.disk).seen) block (heads found))
                   (IsDamageOf old.geometry (body_bytes old.geometry block (view old.disk).seen) block))
-                  → (result ≡ Err Fault → Rose (view old.disk).faults (view new.disk).faults) → OnlyRead (view old.disk) (view new.disk) → IsShelf view new
+                  → IfErr result (IsToldOf old block) → (result ≡ Err Fault → Rose (view old.disk).faults (view new.disk).faults) → OnlyRead (view old.disk) (view new.disk) → IsShelf view new
                   → new ≡ record old { disk = new.disk } → IsShelf view old → gate_at old.gates block ≡ Set
                   → ReadsIn view block old new heads result
-              by_old new result read cause only whole same is set = record {
+              by_old new result read told_here cause only whole same is set = record {
                 goes = λ setup s stands. goes_read view setup old new s same only (is_disk new.disk) stands;
                 all = λ setup s honest stands safe.
                     let here : ShelfView D = record old { disk = new.disk } in
@@ -208,6 +220,9 @@ module _ {D : Type 0} (view : D → DiskView) (is_disk : (disk : D) → IsDisk (
                 damaged = λ told. only_err (λ found. ReadsBody old.geometry (body_bytes old.geometry block (view old.disk).seen) block (heads found))
                     (IsDamageOf old.geometry (body_bytes old.geometry block (view old.disk).seen) block)
                     (IsDamageOf old.geometry (body_bytes old.geometry block (view old.disk).seen) block) result (λ refusal damage. damage) (read told);
+                told = told_here;
+                there = λ told needs. only_ok (λ found. ReadsBody old.geometry (body_bytes old.geometry block (view old.disk).seen) block (heads found))
+                    (IsDamageOf old.geometry (body_bytes old.geometry block (view old.disk).seen) block) result (read told);
                 rest = same ∙ ap (λ (l : List Gate). record old { disk = new.disk; gates = l }) (sym (ap (λ (v : ShelfView D). v.gates) same));
                 cause = cause;
                 later = record { time = only.time; count = only.later; size = only.size };
@@ -226,6 +241,8 @@ module _ {D : Type 0} (view : D → DiskView) (is_disk : (disk : D) → IsDisk (
       sure = reads.sure;
       fewer = reads.fewer;
       damaged = reads.damaged;
+      told = reads.told;
+      there = λ told needs. tt;
       sound = reads.all;
       rest = reads.rest ∙ ap (λ (v : ShelfView D). record old { disk = new.disk; gates = new.gates; raid = v.raid }) (sym reads.rest);
       cause = λ same. reads.cause (ap Err (same_error (Err e) (Err Fault) e Fault refl refl same));
@@ -242,6 +259,8 @@ module _ {D : Type 0} (view : D → DiskView) (is_disk : (disk : D) → IsDisk (
       sure = reads.sure;
       fewer = reads.fewer;
       damaged = λ told. tt;
+      told = tt;
+      there = λ told needs. tt;
       sound = λ setup s honest stands safe. tt;
       rest = reads.rest ∙ ap (λ (v : ShelfView D). record old { disk = new.disk; gates = new.gates; raid = v.raid }) (sym reads.rest);
       cause = λ same. absurd (refusals_differ (same_error (Err Memory) (Err Fault) Memory Fault refl refl same));
@@ -254,9 +273,10 @@ module _ {D : Type 0} (view : D → DiskView) (is_disk : (disk : D) → IsDisk (
 
     -- or takes what was found
     pub taken_in : (found : A) (raid : BookState) → ReadsIn view block old new heads (Ok found) → raid ≡ with_scan raid.found old.raid
+        → ((bytes : List ℕ) → ReadsBody old.geometry bytes block (heads found) → FindsBody old.geometry old.limits.sprigs bytes block raid)
         → ((setup : Setup) (s : State) → IsSetupOf setup old → StandsFor setup old s → BooksStand setup old s → Scans view setup block old s (record new { raid = raid }))
         → ScansIn view block old (record new { raid = raid }) (Ok tt)
-    taken_in found raid reads turned scanned = record {
+    taken_in found raid reads turned finds scanned = record {
       scanned = scanned;
       turned = turned;
       same = tt;
@@ -264,6 +284,8 @@ module _ {D : Type 0} (view : D → DiskView) (is_disk : (disk : D) → IsDisk (
       sure = reads.sure;
       fewer = reads.fewer;
       damaged = λ told. tt;
+      told = tt;
+      there = λ told needs. finds (body_bytes old.geometry block (view old.disk).seen) (reads.there told needs);
       sound = λ setup s honest stands safe. tt;
       rest = ap (λ (v : ShelfView D). record v { raid = raid }) reads.rest;
       cause = λ same. absurd (no_error tt Fault same);
@@ -277,6 +299,7 @@ module _ {D : Type 0} (view : D → DiskView) (is_disk : (disk : D) → IsDisk (
     pub block_unread : ReadsBlock view block old old heads (Err Memory)
     block_unread = record {
       read = λ told. tt;
+      of_block = tt;
       cause = λ same. absurd (refusals_differ (same_error (Err Memory) (Err Fault) Memory Fault refl refl same));
       disk = only_none (view old.disk) (is_disk old.disk);
       whole = is;
@@ -286,9 +309,10 @@ module _ {D : Type 0} (view : D → DiskView) (is_disk : (disk : D) → IsDisk (
     pub block_read : (disk : D) → OnlyRead (view old.disk) (view disk) → (result : Result A VacateRefusal)
         → ((view old.disk).tells → let bytes = body_bytes old.geometry block (view old.disk).seen in MatchResult result (λ found. ReadsBody old.geometry bytes block (heads found))
         (IsDamageOf old.geometry bytes block))
-        → (result ≡ Err Fault → Rose (view old.disk).faults (view disk).faults) → ReadsBlock view block old (record old { disk = disk }) heads result
-    block_read disk only result read cause = record {
+        → IfErr result (IsOfBlock block) → (result ≡ Err Fault → Rose (view old.disk).faults (view disk).faults) → ReadsBlock view block old (record old { disk = disk }) heads result
+    block_read disk only result read of_block cause = record {
       read = read;
+      of_block = of_block;
       cause = cause;
       disk = only;
       whole = shelf_stays view old disk is only.size only.was_honest (λ honest. images_of_now (view old.disk) (view disk) (is_disk disk) only.time (only.images honest));

@@ -1,5 +1,5 @@
 -- Crate block_shelf. What an append promises: why it is refused, what a refusal leaves, and where the copy is.
-use Rattle.std.specs.Prelude.{◌≡◌, ◌≢◌, ℕ, ◌+◌, ◌<◌, ◌≤◌, false, nat_lt, List, [], ◌∷◌, Option, Some, None, Result, Err, slice_set, if◌then◌else◌, IfOk, IfErr, OnOk, MatchResult}
+use Rattle.std.specs.Prelude.{◌≡◌, ◌≢◌, ℕ, ◌+◌, ◌<◌, ◌≤◌, false, nat_lt, List, [], ◌∷◌, Contains, Option, Some, None, Result, Err, slice_set, if◌then◌else◌, IfOk, IfErr, OnOk, MatchResult}
 use Rattle.rec_format.specs.declared.version.Digest.{Digest}
 use Rattle.rec_format.specs.declared.version.Version.{Version}
 use Rattle.rec_format.specs.Versions.{block_capacity, version_units}
@@ -28,7 +28,7 @@ use Rattle.block_shelf.specs.declared.refusals.PutRefusal.{PutRefusal}
 use Rattle.block_shelf.specs.declared.refusals.PutRefusal.TheVariants as put
 use Rattle.block_shelf.specs.View.{ShelfView, IsShelf, IsRoll, IsSetupOf, SameShape, gate_at}
 use Rattle.block_shelf.specs.Disks.{IsLater}
-use Rattle.block_shelf.specs.Standing.{StandsFor, BooksStand, ImagesHold, IsPlaced, book_stream}
+use Rattle.block_shelf.specs.Standing.{StandsFor, BooksStand, ImagesHold, IsPlaced, HasRecord, book_stream}
 use Rattle.block_shelf.specs.Calls.{Goes, copy_live, prior_live}
 use Rattle.block_shelf.specs.Changes.{HasRoom, SameButRoom, StandsAt, without_copy, without_kept, with_written, with_requeued, with_gate_known}
 
@@ -178,6 +178,14 @@ pub record TakesIn {D : Type 0} (view : D → DiskView) (setup : Setup) (kind : 
   pub safe : IsHonest (view old.disk) → MayBeCopied setup kind s digest v → ImagesHold setup view old s → ImagesHold setup view new (after_step setup (copy_step kind digest v) s)
   pub leaves : IsHonest (view old.disk) → ImagesHold setup view old s → Leaves (OneOf (Survives setup) (states_through setup (copy_step kind digest v ∷ []) s)) (view old.disk) (view new.disk)
 
+-- A buffer of this stream, which isn't flushed, has the record of the version at the place.
+pub record LiesIn {D : Type 0} (stream : Stream) (digest : Digest) (v : Version) (shelf : ShelfView D) (place : Place) : Type 0 where
+  pub buffer : BufferState
+  pub is_there : Contains shelf.buffers buffer
+  pub of_stream : buffer.stream ≡ stream
+  pub block : buffer.block ≡ place.block
+  pub has : HasRecord buffer place.unit digest v
+
 -- ---- what the parts of an append promise
 
 -- The copy comes into the buffer at this place in the list, in place of the copy before. No call of the disk is made.
@@ -200,6 +208,7 @@ pub record AppendsCopy {D : Type 0} (view : D → DiskView) (kind : Class) (dige
   pub refused : IfErr result (IsLeftBy old new)
   pub first : OnOk result (BeginsInFirst (stream_of kind) (version_units v) old new)
   pub place : IfOk result (IsPlaceFor old.geometry (version_units v))
+  pub lies : IfOk result (LiesIn (stream_of kind) digest v new)
   pub whole : IsShelf view old
   pub shape : SameShape old new
   pub in_room : HasRoom (stream_of kind) (version_units v) old.buffers → new.disk ≡ old.disk

@@ -1,18 +1,19 @@
 -- Crate block_shelf. What a raid's scan of a block finds, and what it makes.
-use Rattle.std.specs.Prelude.{◌≡◌, ◌≢◌, ℕ, ◌==◌, List, [], ◌∷◌, filter, Contains, Result, Ok, Err, IfErr, MatchResult, OnOk, OnErr}
+use Rattle.std.specs.Prelude.{◌≡◌, ◌≢◌, ℕ, ◌==◌, List, [], ◌∷◌, map, filter, Contains, Result, Ok, Err, IfOk, IfErr, MatchResult, OnOk, OnErr}
+use Rattle.std.specs.List.{AllByRecursion}
 use Rattle.model_faults.specs.Counts.{Rose}
 use Rattle.disk_model.specs.Disk.{DiskView, IsHonest, Within}
 use Rattle.rec_format.specs.declared.version.Digest.{Digest}
 use Rattle.rec_format.specs.declared.version.Stamp.{Stamp}
 use Rattle.rec_format.specs.declared.version.Version.{Version}
-use Rattle.rec_format.specs.Places.{device_number}
+use Rattle.rec_format.specs.Places.{device_number, part_number_of}
 use Rattle.rec_format.specs.Versions.{block_capacity}
 use Rattle.model_device.specs.Book.{Setup}
 use Rattle.model_device.specs.Device.{State}
 use Rattle.model_device.specs.Steps.{scanned_block}
 use Rattle.block_format.specs.declared.geometry.Geometry.{Geometry}
 use Rattle.block_format.specs.declared.geometry.Found.{Found}
-use Rattle.block_format.specs.declared.geometry.Gate.TheVariants.{Shut, Unsure}
+use Rattle.block_format.specs.declared.geometry.Gate.TheVariants.{Shut, Set, Unsure}
 use Rattle.block_format.specs.Layout.{Body, IsBody, IsFaultAt, body_bytes}
 use Rattle.block_format.specs.Readings.{found_from}
 use Rattle.block_flusher.specs.Images.{IsBodyOf}
@@ -22,7 +23,8 @@ use Rattle.law_images.specs.Kept.{possible_in}
 use Rattle.law_images.specs.Held.{loosened}
 use Rattle.law_images.specs.Scans.{IsScanOf}
 use Rattle.write_buffer.specs.Buffers.{BufferState}
-use Rattle.raid_book.specs.Books.{with_scan}
+use Rattle.raid_book.specs.Books.{BookState, with_scan}
+use Rattle.raid_book.specs.Found.{copies_for, with_parts}
 use Rattle.block_shelf.specs.declared.refusals.VacateRefusal.{VacateRefusal}
 use Rattle.block_shelf.specs.declared.refusals.VacateRefusal.TheVariants.{Damaged, Memory, Fault}
 use Rattle.block_shelf.specs.View.{ShelfView, IsShelf, IsSetupOf, records_of, gate_at}
@@ -44,6 +46,29 @@ pub record ReadsBody (g : Geometry) (bytes : List ℕ) (block : ℕ) (found : Li
   pub is_body : IsBody (block_capacity g.block_size) bytes body
   pub placed : body.block ≡ block
   pub found_is : found ≡ found_from 0 body.records
+
+-- What was found in a block is told in the book of the raid: of each part the records of the device that stand in this body of the block.
+pub record FindsBody (g : Geometry) (sprigs : ℕ) (bytes : List ℕ) (block : ℕ) (raid : BookState) : Type 0 where
+  pub found : List Found
+  pub reads : ReadsBody g bytes block found
+  pub kept : (part : ℕ) → copies_for part raid.found ≡ copies_for part (with_parts (own_found g found) (map (λ f. part_number_of g.devices sprigs f.head.digest) (own_found g found)))
+
+-- a block that a scan reads from the disk: no buffer has it, and its gate is known to be set
+pub record NeedsRead {D : Type 0} (shelf : ShelfView D) (block : ℕ) : Type 0 where
+  pub unbuffered : AllByRecursion (λ b. b.block ≢ block) shelf.buffers
+  pub set : gate_at shelf.gates block ≡ Set
+
+-- damage is told of this block
+abbrev pub IsOfBlock : (block : ℕ) → VacateRefusal → Type 0
+IsOfBlock block (Damaged other place) = other ≡ block
+IsOfBlock block Memory = Unit {0}
+IsOfBlock block Fault = Unit {0}
+
+-- and only where it is read from the disk
+abbrev pub IsToldOf : {D : Type 0} → ShelfView D → (block : ℕ) → VacateRefusal → Type 0
+IsToldOf shelf block (Damaged other place) = (other ≡ block) × NeedsRead shelf block
+IsToldOf shelf block Memory = Unit {0}
+IsToldOf shelf block Fault = Unit {0}
 
 -- Damage is told of this block, by the place of the first fault of these bytes, which are no body of the block.
 abbrev pub IsDamageOf : Geometry → List ℕ → (block : ℕ) → VacateRefusal → Type 0
@@ -97,6 +122,8 @@ pub record ReadsIn {D A : Type 0} (view : D → DiskView) (block : ℕ) (old new
   pub sure : gate_at old.gates block ≢ Unsure → new.gates ≡ old.gates
   pub fewer : gate_at old.gates block ≢ Unsure → IsHonest (view old.disk) → Within (view old.disk).may_leave (view new.disk).may_leave
   pub damaged : (view old.disk).tells → IfErr result (IsDamageOf old.geometry (body_bytes old.geometry block (view old.disk).seen) block)
+  pub told : IfErr result (IsToldOf old block)
+  pub there : (view old.disk).tells → NeedsRead old block → IfOk result (λ found. ReadsBody old.geometry (body_bytes old.geometry block (view old.disk).seen) block (heads found))
   pub rest : new ≡ record old { disk = new.disk; gates = new.gates }
   pub cause : result ≡ Err Fault → Rose (view old.disk).faults (view new.disk).faults
   pub later : IsLater (view old.disk) (view new.disk)
@@ -112,6 +139,8 @@ pub record ScansIn {D : Type 0} (view : D → DiskView) (block : ℕ) (old new :
   pub sure : gate_at old.gates block ≢ Unsure → new.gates ≡ old.gates
   pub fewer : gate_at old.gates block ≢ Unsure → IsHonest (view old.disk) → Within (view old.disk).may_leave (view new.disk).may_leave
   pub damaged : (view old.disk).tells → IfErr result (IsDamageOf old.geometry (body_bytes old.geometry block (view old.disk).seen) block)
+  pub told : IfErr result (IsToldOf old block)
+  pub there : (view old.disk).tells → NeedsRead old block → OnOk result (FindsBody old.geometry old.limits.sprigs (body_bytes old.geometry block (view old.disk).seen) block new.raid)
   pub sound : (setup : Setup) (s : State) → IsHonest (view old.disk) → StandsFor setup old s → ImagesHold setup view old s → IfErr result IsSound
   pub rest : new ≡ record old { disk = new.disk; gates = new.gates; raid = new.raid }
   pub cause : result ≡ Err Fault → Rose (view old.disk).faults (view new.disk).faults
@@ -122,6 +151,7 @@ pub record ScansIn {D : Type 0} (view : D → DiskView) (block : ℕ) (old new :
 pub record ReadsBlock {D A : Type 0} (view : D → DiskView) (block : ℕ) (old new : ShelfView D) (heads : A → List Found) (result : Result A VacateRefusal) : Type 0 where
   pub read : (view old.disk).tells
       → let bytes = body_bytes old.geometry block (view old.disk).seen in MatchResult result (λ found. ReadsBody old.geometry bytes block (heads found)) (IsDamageOf old.geometry bytes block)
+  pub of_block : IfErr result (IsOfBlock block)
   pub cause : result ≡ Err Fault → Rose (view old.disk).faults (view new.disk).faults
   pub disk : OnlyRead (view old.disk) (view new.disk)
   pub whole : IsShelf view new

@@ -18,7 +18,7 @@ ghost use Rattle.block_shelf.specs.Disks.{IsLater};
 ghost use Rattle.block_shelf.specs.View.{IsShelf, IsSetupOf, AreSure, gate_at};
 ghost use Rattle.block_shelf.specs.Standing.{StandsFor, BooksStand, ImagesHold};
 ghost use Rattle.block_shelf.specs.Calls.{Goes};
-ghost use Rattle.block_shelf.specs.Scans.{Scans, ScansIn, ReadsIn, ReadsBlock, ReadsBody, ClosesUnsure, IsDamageOf, IsSound, own_found, possible_copies};
+ghost use Rattle.block_shelf.specs.Scans.{Scans, ScansIn, ReadsIn, ReadsBlock, ReadsBody, FindsBody, NeedsRead, ClosesUnsure, IsDamageOf, IsOfBlock, IsToldOf, IsSound, own_found, possible_copies};
 
 use crate::close::shut_gate;
 use crate::{NoMemory, Shelf, VacateRefusal};
@@ -51,7 +51,11 @@ impl<D: Disk> Shelf<D> {
         ensures alike { (setup : Setup) (s : State) → AreSure self.old.gates → IsHonest (D.view self.old.disk) → StandsFor setup self.old s → ImagesHold setup D.view self.old s
             → SamePossible (possible_copies D.view self.old s) (possible_copies D.view self.new s) }
 
-        // Damage is what the disk has in the block, and over an honest disk whose image was sound there is none.
+        // Where the disk is read, a disk that tells its bytes has a body of the block, whose records are found, or the damage that is told.
+        // Over every disk damage is told of no other block, and over an honest disk whose image was sound there is none.
+        ensures there { (D.view self.old.disk).tells → (block : ℕ) → self.old.raid.next ≡ turn.Scan block → NeedsRead self.old block
+            → OnOk result (FindsBody self.old.geometry self.old.limits.sprigs (body_bytes self.old.geometry block (D.view self.old.disk).seen) block self.new.raid) }
+        ensures told { (block : ℕ) → self.old.raid.next ≡ turn.Scan block → IfErr result (IsToldOf self.old block) }
         ensures damaged { (D.view self.old.disk).tells → (block : ℕ) → self.old.raid.next ≡ turn.Scan block → IfErr result (IsDamageOf self.old.geometry (body_bytes self.old.geometry block (D.view self.old.disk).seen) block) }
         ensures sound { (setup : Setup) (s : State) → IsHonest (D.view self.old.disk) → StandsFor setup self.old s → ImagesHold setup D.view self.old s → IfErr result IsSound }
         ensures rest { self.new ≡ record self.old { disk = self.new.disk; gates = self.new.gates; raid = self.new.raid } }
@@ -152,6 +156,7 @@ fn found_in(alloc: Global, body: &[u8], block: u32) -> Result<Vec<Found>, Vacate
     requires head { 32 ≤ length body.now }
     requires size { length body.now ≤ 1044480 }
     ensures read { (g : Geometry) → length body.now ≡ g.block_size - 4096 → MatchResult result (λ found. ReadsBody g body.now block found.items) (IsDamageOf g body.now block) }
+    ensures of_block { IfErr result (IsOfBlock block) }
     ensures quiet { result ≢ Err VacateRefusal.Fault }
     ensures one_body { AtMostOneBody }
 {

@@ -1,6 +1,6 @@
 -- A move makes one event that may follow, and sprig and shelf stand for the state after it.
 use Rattle.std.proofs.Common.{◌≡◌, ◌⊎◌, inl, inr, ℕ, ◌≤◌, max, Bool, true, false, List, [], ◌∷◌, refl, sym, ◌∙◌, ap, subst, arith}
-use Rattle.std.specs.Prelude.{◌==◌, Option, Some, None, Err, option_map, MatchBool}
+use Rattle.std.specs.Prelude.{◌==◌, Option, Some, None, Err, IsSome, option_map, MatchBool}
 use Rattle.std.specs.List.{AllByRecursion}
 use Rattle.std.proofs.Math.Nat.{le_refl, le_trans}
 use Rattle.std.proofs.lemmas.Bool.{false≢true, eq-eqb}
@@ -21,6 +21,7 @@ use Rattle.disk_model.specs.Runs.{OneOf, advances_on, leaves_then, leaves_more}
 use Rattle.law_start.specs.Surviving.{Survives}
 use Rattle.sprig_tree.specs.Entries.{entry_of, with_replaced}
 use Rattle.sprig_tree.specs.State.{SprigState}
+use Rattle.sprig_tree.proofs.Laws.{entry_of-with_replaced_same}
 use Rattle.law_sprig.specs.Fits.{IsShown}
 use Rattle.law_sprig.specs.Becoming.{Replaces, moved_to}
 use Rattle.law_sprig.proofs.Taking.{at_entry, found_shown, moved_fits}
@@ -34,7 +35,7 @@ use Rattle.block_shelf.specs.View.{ShelfView, IsSetupOf}
 use Rattle.block_shelf.specs.Disks.{IsLater, OnlyRead}
 use Rattle.block_shelf.specs.Standing.{IsPlaced}
 use Rattle.block_shelf.specs.Calls.{Goes, IsPriorIn, copy_live}
-use Rattle.block_shelf.specs.Appends.{IsAppendRefusal, IsReadCopy, TakesIn, append_refusal, refused_steps}
+use Rattle.block_shelf.specs.Appends.{IsAppendRefusal, IsLeftBy, IsReadCopy, TakesIn, append_refusal, refused_steps}
 use Rattle.block_shelf.proofs.Going.{goes_none, goes_then}
 use Rattle.law_steps.specs.Sprigs.{place_of}
 use Rattle.law_steps.specs.Standing.{SprigStands, StandTogether}
@@ -46,7 +47,8 @@ use Rattle.law_steps.proofs.Reading.{both_named}
 use Rattle.defrag_pass.proofs.Asking.{move_refusal}
 use Rattle.defrag_pass.specs.declared.refusal.MoveRefusal.{MoveRefusal}
 use Rattle.defrag_pass.specs.declared.refusal.MoveRefusal.TheVariants as why
-use Rattle.defrag_pass.specs.Moves.{Answers, IsUnread, IsUndamaged, refusal_to_append}
+use Rattle.defrag_pass.specs.Moves.{Answers, IsShelfLeft, IsUnread, IsUndamaged, refusal_to_append}
+use Rattle.defrag_pass.proofs.Telling.{left_room}
 
 when_true : (P Q : Type 0) (b : Bool) → b ≡ true → P → MatchBool b P Q
 when_true P Q true is p = p
@@ -80,6 +82,12 @@ prior_read {D} place old mid same there = subst (λ (x : ShelfView D). IsPriorIn
 pub replaced_by : (x to : Entry) (old new : SprigState) → x ≡ to → new ≡ record old { entries = with_replaced x old.entries; hw = max old.hw x.stamp.lut } → Replaces to old new
 replaced_by x to old new one is =
     subst (λ (y : Entry). Replaces y old new) one (record { entries = ap (λ (p : SprigState). p.entries) is; high = ap (λ (p : SprigState). p.hw) is })
+
+-- what is found in it
+pub replaced_found : (digest : Digest) (e to : Entry) (old new : SprigState) → digest ≡ to.digest → entry_of digest old.entries ≡ Some e → Replaces to old new → entry_of digest new.entries ≡ Some to
+replaced_found digest e to old new named found replaces =
+    let there : IsSome (entry_of to.digest old.entries) = subst (λ (d : Digest). IsSome (entry_of d old.entries)) named (subst IsSome (sym found) refl) in
+    ap (entry_of digest) replaces.entries ∙ subst (λ (d : Digest). entry_of d (with_replaced to old.entries) ≡ Some to) (sym named) (entry_of-with_replaced_same to old.entries there)
 
 -- ---- the event
 
@@ -228,6 +236,16 @@ module _ {D : Type 0} (view : D → DiskView) (setup : Setup) (digest : Digest) 
 
           none_told : (c : Cause) → append_refusal setup class.Move (version_units v) s.book ≡ Some c → ⊥
           none_told c stands = let clash : None ≡ Some c = sym none_for ∙ stands in absurd cc
+
+          -- what is left then
+          pub left_unappended : (refusal : PutRefusal) → IsAppendRefusal (append_refusal setup class.Move (version_units v) s.book) refusal → IsLeftBy mid new refusal
+              → IsShelfLeft view old new (refusal_to_append refusal)
+          left_unappended (put.Big units capacity) stands left = absurd (none_told (too_big units capacity) stands)
+          left_unappended put.Spent stands left = absurd (none_told spent stands)
+          left_unappended (put.Load pending) stands left = absurd (none_told (overload pending) stands)
+          left_unappended (put.Space free) stands left = absurd (none_told (no_space free) stands)
+          left_unappended put.Memory stands left = left_room view old mid new same only left
+          left_unappended put.Fault stands left = inr (subst (λ (x : ShelfView D). IsLeftBy x new put.Fault) same left)
 
           -- Nothing stood against it as it was asked, so only memory was wanting, or a gate couldn't be closed.
           pub makes_unappended : (refusal : PutRefusal) → IsAppendRefusal (append_refusal setup class.Move (version_units v) s.book) refusal

@@ -1,10 +1,27 @@
 -- Crate defrag_pass. How the move of a record is answered, and why its record isn't read.
-use Rattle.std.specs.Prelude.{◌≡◌, ℕ, Bool, Option, Some, None, Result, Ok, Err}
+use Rattle.std.specs.Prelude.{◌≡◌, ◌≢◌, ◌⊎◌, ℕ, List, take, Contains, Bool, Option, Some, None, Result, Ok, Err}
+use Rattle.std.specs.List.{AllByRecursion}
+use Rattle.rec_format.specs.declared.version.Digest.{Digest}
+use Rattle.rec_format.specs.declared.version.Head.{Head}
+use Rattle.rec_format.specs.declared.version.Version.{Version}
+use Rattle.rec_format.specs.declared.entry.Entry.{Entry}
+use Rattle.rec_format.specs.Entries.{Names}
+use Rattle.disk_model.specs.Disk.{DiskView}
 use Rattle.model_device.specs.Events.{Answer, happened, refused, Cause, spent, overload, no_space, damaged, no_memory, disk_fault}
+use Rattle.block_shelf.specs.declared.place.Place.{Place}
 use Rattle.block_shelf.specs.declared.refusals.PutRefusal.{PutRefusal}
 use Rattle.block_shelf.specs.declared.refusals.PutRefusal.TheVariants as put
 use Rattle.block_shelf.specs.declared.refusals.ReadRefusal.{ReadRefusal}
 use Rattle.block_shelf.specs.declared.refusals.ReadRefusal.TheVariants as read
+use Rattle.write_buffer.specs.declared.stream.Stream.TheVariants.{Defrag}
+use Rattle.write_buffer.specs.Buffers.{BufferState}
+use Rattle.block_shelf.specs.View.{ShelfView, in_memory}
+use Rattle.block_shelf.specs.Disks.{OnlyRead}
+use Rattle.block_shelf.specs.Standing.{HasRecord}
+use Rattle.block_shelf.specs.Changes.{SameButRoom}
+use Rattle.block_shelf.specs.Appends.{IsLeftBy, LiesIn}
+use Rattle.block_shelf.specs.Reads.{HasNoHeadOf, IsRead, kept_head, copy_bytes}
+use Rattle.law_steps.specs.Sprigs.{place_of}
 use Rattle.defrag_pass.specs.declared.refusal.MoveRefusal.{MoveRefusal}
 use Rattle.defrag_pass.specs.declared.refusal.MoveRefusal.TheVariants as why
 
@@ -52,3 +69,63 @@ IsUndamaged why.Space = Unit {0}
 IsUndamaged (why.Damaged kept bytes) = ⊥
 IsUndamaged why.Memory = Unit {0}
 IsUndamaged why.Fault = Unit {0}
+
+-- ---- damage
+
+-- What is told of a damaged record: the head that its entry keeps, which is in the block. No buffer in memory has the block, and what was
+-- read is no head of the entry's record. It is what stands at the place of the entry, where the disk told its bytes.
+pub record TellsDamage {D : Type 0} (Told : Type 0) (view : D → DiskView) (block : ℕ) (found : Option Entry) (shelf : ShelfView D) (kept : Head) (bytes : List ℕ) : Type 0 where
+  pub entry : Entry
+  pub is_found : found ≡ Some entry
+  pub in_block : entry.block ≡ block
+  pub kept_is : kept ≡ kept_head entry
+  pub unbuffered : AllByRecursion (λ b. b.block ≢ entry.block) (in_memory shelf)
+  pub no_head : HasNoHeadOf entry bytes
+  pub read : Told → bytes ≡ take 48 (copy_bytes shelf.geometry (place_of entry) (view shelf.disk).seen)
+
+-- so a refused move tells it
+abbrev pub IsDamageOf : {D : Type 0} → (Told : Type 0) → (view : D → DiskView) → (block : ℕ) → Option Entry → ShelfView D → MoveRefusal → Type 0
+IsDamageOf Told view block found shelf why.Spent = Unit {0}
+IsDamageOf Told view block found shelf why.Load = Unit {0}
+IsDamageOf Told view block found shelf why.Space = Unit {0}
+IsDamageOf Told view block found shelf (why.Damaged kept bytes) = TellsDamage Told view block found shelf kept bytes
+IsDamageOf Told view block found shelf why.Memory = Unit {0}
+IsDamageOf Told view block found shelf why.Fault = Unit {0}
+
+-- What is told where a record isn't read: of damage the entry's head, and what was read. Where no buffer in memory has the block it is what
+-- stands at the place on a disk that tells its bytes.
+abbrev pub IsUnreadOf : {D : Type 0} → (view : D → DiskView) → Entry → Place → ShelfView D → MoveRefusal → Type 0
+IsUnreadOf view e place shelf why.Spent = Unit {0}
+IsUnreadOf view e place shelf why.Load = Unit {0}
+IsUnreadOf view e place shelf why.Space = Unit {0}
+IsUnreadOf view e place shelf (why.Damaged kept bytes) = (kept ≡ kept_head e) × HasNoHeadOf e bytes
+    × ((view shelf.disk).tells → AllByRecursion (λ b. b.block ≢ place.block) (in_memory shelf) → bytes ≡ take 48 (copy_bytes shelf.geometry place (view shelf.disk).seen))
+IsUnreadOf view e place shelf why.Memory = Unit {0}
+IsUnreadOf view e place shelf why.Fault = Unit {0}
+
+-- ---- the copy
+
+-- The record of an entry is moved to a place: where a buffer in memory has its block the record that this has there, and else, on a disk that
+-- tells its bytes, what stands there, with its payload and its cover flag. A buffer of moved records has it then.
+pub record CopiesRecord {D : Type 0} (view : D → DiskView) (digest : Digest) (e to : Entry) (old new : ShelfView D) : Type 0 where
+  pub version : Version
+  pub from_disk : (view old.disk).tells → AllByRecursion (λ b. b.block ≢ e.block) (in_memory old) → IsRead e (copy_bytes old.geometry (place_of e) (view old.disk).seen) version
+  pub from_memory : (b : BufferState) (v : Version) → Contains (in_memory old) b → b.block ≡ e.block → HasRecord b e.unit digest v → Names e v → version ≡ v
+  pub lies : LiesIn Defrag digest version new (place_of to)
+
+-- ---- what is left
+
+-- the disk was read, and nothing else has changed
+pub record OnlyReads {D : Type 0} (view : D → DiskView) (old new : ShelfView D) : Type 0 where
+  pub same : new ≡ record old { disk = new.disk }
+  pub disk : OnlyRead (view old.disk) (view new.disk)
+
+-- What a refused move leaves of the shelf: all of it, but that the disk may have been read, and for memory that was taken; and after a fault in
+-- closing a gate what a refused append leaves.
+abbrev pub IsShelfLeft : {D : Type 0} → (view : D → DiskView) → (old new : ShelfView D) → MoveRefusal → Type 0
+IsShelfLeft view old new why.Spent = new ≡ old
+IsShelfLeft view old new why.Load = new ≡ old
+IsShelfLeft view old new why.Space = new ≡ old
+IsShelfLeft view old new (why.Damaged kept bytes) = OnlyReads view old new
+IsShelfLeft view old new why.Memory = OnlyRead (view old.disk) (view new.disk) × SameButRoom (record old { disk = new.disk }) new
+IsShelfLeft view old new why.Fault = OnlyReads view old new ⊎ IsLeftBy old new put.Fault

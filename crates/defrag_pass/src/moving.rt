@@ -1,7 +1,8 @@
 // How the record of one entry is moved.
-ghost use Rattle.std.specs.Prelude.{◌≡◌, ◌+◌, ◌<◌, ◌≤◌, false, None, Some, Ok, Err, Contains, IfOk, IfErr, MatchResult};
+ghost use Rattle.std.specs.Prelude.{◌≡◌, ◌≢◌, ◌+◌, ◌<◌, ◌≤◌, true, false, None, Some, Ok, Err, Contains, IfOk, IfErr, MatchResult};
+ghost use Rattle.std.specs.List.{AllByRecursion};
 ghost use Rattle.model_faults.specs.Counts.{Rose};
-ghost use Rattle.disk_model.specs.Disk.{IsHonest};
+ghost use Rattle.disk_model.specs.Disk.{IsHonest, TellsTorn};
 ghost use Rattle.rec_format.specs.Entries.{Names};
 ghost use Rattle.rec_format.specs.Places.{device_number};
 ghost use Rattle.rec_format.specs.Versions.{IsVersion, block_capacity};
@@ -13,18 +14,20 @@ ghost use Rattle.model_device.specs.Device.{State, part_of};
 ghost use Rattle.model_device.specs.Events.{Answer, move_call};
 ghost use Rattle.model_device.specs.Legal.{move_reserve, no_place};
 ghost use Rattle.block_format.specs.declared.geometry.Gate.TheVariants.{Shut};
+ghost use Rattle.block_format.specs.Layout.{block_place};
 ghost use Rattle.write_buffer.specs.Buffers.{BufferState};
 ghost use Rattle.sprig_tree.specs.Entries.{entry_of};
 ghost use Rattle.law_sprig.specs.Becoming.{moved_to};
 ghost use Rattle.block_shelf.specs.Calls.{copy_live};
 ghost use Rattle.block_shelf.specs.Disks.{IsLater, OnlyRead};
 ghost use Rattle.block_shelf.specs.Sure.{StaysSure};
-ghost use Rattle.block_shelf.specs.Standing.{StandsFor, IsPlaced};
+ghost use Rattle.block_shelf.specs.Reads.{IsRead, copy_bytes};
+ghost use Rattle.block_shelf.specs.Standing.{StandsFor, IsPlaced, HasRecord};
 ghost use Rattle.block_shelf.specs.View.{IsSetupOf, SameShape, gate_at, in_memory};
 ghost use Rattle.law_steps.specs.Standing.{StandTogether};
 ghost use Rattle.law_steps.specs.Sprigs.{SameSprig, place_of};
 ghost use Rattle.law_steps.specs.Events.{StepMakes};
-ghost use Rattle.defrag_pass.specs.Moves.{Answers, IsUnread, IsUndamaged};
+ghost use Rattle.defrag_pass.specs.Moves.{Answers, CopiesRecord, IsDamageOf, IsShelfLeft, IsUnread, IsUnreadOf, IsUndamaged};
 
 use crate::MoveRefusal;
 use crate::refusal::{append_refusal, read_refusal};
@@ -57,6 +60,17 @@ pub fn move_one<D: Disk>(
     ensures in_memory { (e : Entry) (b : BufferState) → entry_of digest.now sprig.old.entries ≡ Some e → Contains (in_memory shelf.old) b → b.block ≡ e.block
         → gate_at shelf.old.gates (first_block shelf.old.free) ≡ Shut → shelf.new.disk ≡ shelf.old.disk }
     ensures refused { IfErr result (λ refusal. SameSprig sprig.old sprig.new) }
+    ensures left { IfErr result (IsShelfLeft D.view shelf.old shelf.new) }
+
+    // Damage is told of the entry's record in the block, and of what was read of it.
+    ensures damaged { IfErr result (IsDamageOf (D.view shelf.old.disk).tells D.view block (entry_of digest.now sprig.old.entries) shelf.new) }
+
+    // What is moved is what stands at the record's place.
+    ensures copied { result ≡ Ok true → (e : Entry) → entry_of digest.now sprig.old.entries ≡ Some e
+        → (to : Entry) × (entry_of digest.now sprig.new.entries ≡ Some to) × CopiesRecord D.view digest.now e to shelf.old shelf.new }
+
+    // The disk changes only at the gate of the first free block, which is closed where a buffer begins.
+    ensures bytes { TellsTorn (block_place shelf.old.geometry (first_block shelf.old.free)) 4096 (D.view shelf.old.disk) (D.view shelf.new.disk) }
     ensures cause { result ≡ Err MoveRefusal.Fault → Rose (D.view shelf.old.disk).faults (D.view shelf.new.disk).faults }
     ensures sure { StaysSure D.view shelf.old shelf.new }
     ensures later { IsLater (D.view shelf.old.disk) (D.view shelf.new.disk) }
@@ -98,6 +112,14 @@ fn read_for<D: Disk>(
     ensures written { IsHonest (D.view shelf.old.disk) → (setup : Setup) (s : State) (v : Version) → StandsFor setup shelf.old s → IsPlaced D.view shelf.old s
         → live_of entry.now.digest s.book.live ≡ Some (copy_live entry.now.digest place) → device.entry s entry.now.digest ≡ Some v → Names entry.now v
         → MatchResult result (λ version. version ≡ v) IsUndamaged }
+    ensures read { (D.view shelf.old.disk).tells → AllByRecursion (λ b. b.block ≢ place.block) (in_memory shelf.old)
+        → IfOk result (IsRead entry.now (copy_bytes shelf.old.geometry place (D.view shelf.old.disk).seen)) }
+    ensures copied { (b : BufferState) (v : Version) → Contains (in_memory shelf.old) b → b.block ≡ place.block → HasRecord b place.unit entry.now.digest v → Names entry.now v
+        → IfOk result (λ version. version ≡ v) }
+    ensures told { IfErr result (IsUnreadOf D.view entry.now place shelf.old) }
+    ensures sound { (setup : Setup) (s : State) (v : Version) (b : BufferState) → StandsFor setup shelf.old s → live_of entry.now.digest s.book.live ≡ Some (copy_live entry.now.digest place)
+        → device.entry s entry.now.digest ≡ Some v → Names entry.now v → Contains (in_memory shelf.old) b → b.block ≡ place.block → IfErr result IsUndamaged }
+    ensures left { IfErr result (IsShelfLeft D.view shelf.old shelf.new) }
     ensures cause { result ≡ Err MoveRefusal.Fault → Rose (D.view shelf.old.disk).faults (D.view shelf.new.disk).faults }
     ensures kept { (setup : Setup) (s : State) (v : Version) (b : BufferState) → StandsFor setup shelf.old s → live_of entry.now.digest s.book.live ≡ Some (copy_live entry.now.digest place)
         → device.entry s entry.now.digest ≡ Some v → Names entry.now v → Contains (in_memory shelf.old) b → b.block ≡ place.block → shelf.new ≡ shelf.old }

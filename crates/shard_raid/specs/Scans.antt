@@ -43,6 +43,13 @@ IsOfTurn (Damaged block place) = Unit {0}
 IsOfTurn Memory = Unit {0}
 IsOfTurn Fault = Unit {0}
 
+-- over every disk, as the shelf tells it: damage is told of this block, and only where it is read from the disk
+abbrev pub IsToldOf : {D : Type 0} → ShelfView D → (block : ℕ) → RaidRefusal → Type 0
+IsToldOf old block (Stale number next) = Unit {0}
+IsToldOf old block (Damaged other place) = shelf.IsToldOf old block (vacate.Damaged other place)
+IsToldOf old block Memory = Unit {0}
+IsToldOf old block Fault = Unit {0}
+
 -- damage is told of this block, and of these bytes, as the shelf tells it
 abbrev pub IsDamageOf : Geometry → List ℕ → (block : ℕ) → RaidRefusal → Type 0
 IsDamageOf g bytes block (Stale number next) = Unit {0}

@@ -1,5 +1,6 @@
 use Rattle.std.proofs.Common.{◌≡◌, Bool, true, false, refl, sym, ◌∙◌, ap, subst, arith}
-use Rattle.std.specs.Prelude.{Option, Some, Result, Err, IsSome, option_map}
+use Rattle.std.specs.Prelude.{◌≢◌, Option, Some, Result, Ok, Err, IfErr, IsSome, option_map}
+use Rattle.std.specs.List.{AllByRecursion}
 use Rattle.std.proofs.lemmas.Bool.{ne_eqb}
 use Rattle.std.proofs.lemmas.Result.{err_from_is_err_and}
 use Rattle.rec_format.specs.declared.version.Digest.{Digest}
@@ -15,15 +16,18 @@ use Rattle.law_sprig.specs.Becoming.{moved_to}
 use Rattle.block_shelf.specs.declared.place.Place.{Place}
 use Rattle.block_shelf.specs.declared.refusals.PutRefusal.{PutRefusal}
 use Rattle.block_shelf.specs.Calls.{IsPriorIn}
-use Rattle.block_shelf.specs.View.{ShelfView, gate_at}
+use Rattle.block_shelf.specs.Reads.{IsRead, copy_bytes}
+use Rattle.block_shelf.specs.Standing.{HasRecord}
+use Rattle.block_shelf.specs.View.{ShelfView, gate_at, in_memory}
 use Rattle.law_steps.specs.Sprigs.{place_of}
 use Rattle.law_steps.specs.Events.{StepMakes}
 use Rattle.law_steps.proofs.Found.{entry_named, lies_found, prior_stands}
 use Rattle.defrag_pass.specs.declared.refusal.MoveRefusal.{MoveRefusal}
-use Rattle.defrag_pass.specs.Moves.{Answers}
-use Rattle.defrag_pass.proofs.Moved.{makes_elsewhere, makes_unread, makes_unappended, makes_moved, copy_is_read, stand_read, none_there, out_of, fits_here}
-use Rattle.defrag_pass.proofs.Moved.{prior_at, live_at, version_at, shown_here, prior_read, read_then_later, replaced_by, setup_read}
 use Rattle.block_shelf.proofs.Surely.{sure_none, sure_read, sure_then}
+use Rattle.defrag_pass.specs.Moves.{Answers, CopiesRecord, IsDamageOf, IsShelfLeft}
+use Rattle.defrag_pass.proofs.Telling.{damage_told, no_damage_told, torn_none, torn_only, torn_read}
+use Rattle.defrag_pass.proofs.Moved.{makes_elsewhere, makes_unread, makes_unappended, left_unappended, makes_moved, copy_is_read, stand_read, none_there, out_of, fits_here}
+use Rattle.defrag_pass.proofs.Moved.{prior_at, live_at, version_at, shown_here, prior_read, read_then_later, replaced_by, replaced_found, setup_read}
 use Rattle.defrag_pass.proofs.moving.move_one.Goals as goal
 
 -- ---- no copy in the block
@@ -223,3 +227,124 @@ returns-in-Ok-clause-sure g c = sure_then g.D.Disk.view c.args.shelf.now c.read_
 
 pub returns-clause-sure : goal.returns-clause-sure
 returns-clause-sure g c = sure_then g.D.Disk.view c.args.shelf.now c.read_for.new.shelf c.append.new.self (sure_read g.D.Disk.view c.args.shelf.now c.read_for.new.shelf c.read_for.ensures.disk c.read_for.ensures.same) c.append.ensures.sure
+
+-- ---- what is told, and what is left
+
+pub returns-in_err-version-clause-damaged : goal.returns-in_err-version-clause-damaged
+returns-in_err-version-clause-damaged g c =
+    let view = g.D.Disk.view in
+    let r = c.requires.stand in
+    let e : Entry = c.in-Some.entry in
+    let old = c.args.shelf.now in
+    let mid = c.read_for.new.shelf in
+    let found : entry_of c.args.digest.now c.args.sprig.now.entries ≡ Some e = sym c.find.ensures.value ∙ c.in-Some.is in
+    let refusal : MoveRefusal = c.in_err-version.field-0.0 in
+    let got = c.in_err-version.ensures {u = tt} in
+    let place : Place = c.place_of_entry-place.result in
+    let live = live_at view r.0 c.args.digest.now c.args.block c.args.sprig.now old r.1 r.3 e found place c.place_of_entry-place.ensures in
+    let version = version_at view r.0 c.args.digest.now c.args.block c.args.sprig.now old r.1 r.3 e found in
+    let shown = shown_here view r.0 c.args.digest.now c.args.block c.args.sprig.now old r.1 r.3 e found in
+    let p = err_from_is_err_and c.from_residual.result c.from_residual.ensures.1 in
+    let same : c.from_residual.result ≡ Err refusal = p.1 ∙ ap (λ (r : MoveRefusal). Err r) p.2 in
+    subst (λ (r : Result Bool MoveRefusal). IfErr r (IsDamageOf (view old.disk).tells view c.args.block (entry_of c.args.digest.now c.args.sprig.now.entries) mid)) (sym same)
+    (damage_told view c.args.block e c.if-entry-block.false (entry_of c.args.digest.now c.args.sprig.now.entries) found place c.place_of_entry-place.ensures old mid got.same got.disk refusal
+    got.told (λ b has at. got.sound r.0 r.1 shown.version b r.3.shelf_stands.stands live version shown.names has at))
+
+pub returns-in_err-version-clause-left : goal.returns-in_err-version-clause-left
+returns-in_err-version-clause-left g c =
+    let refusal : MoveRefusal = c.in_err-version.field-0.0 in
+    let got = c.in_err-version.ensures {u = tt} in
+    let p = err_from_is_err_and c.from_residual.result c.from_residual.ensures.1 in
+    let same : c.from_residual.result ≡ Err refusal = p.1 ∙ ap (λ (r : MoveRefusal). Err r) p.2 in
+    subst (λ (r : Result Bool MoveRefusal). IfErr r (IsShelfLeft g.D.Disk.view c.args.shelf.now c.read_for.new.shelf)) (sym same) got.left
+
+pub returns-in_err-version-clause-copied : goal.returns-in_err-version-clause-copied
+returns-in_err-version-clause-copied g c moved x found_x =
+    let refusal : MoveRefusal = c.in_err-version.field-0.0 in
+    let p = err_from_is_err_and c.from_residual.result c.from_residual.ensures.1 in
+    let same : c.from_residual.result ≡ Err refusal = p.1 ∙ ap (λ (r : MoveRefusal). Err r) p.2 in
+    let clash : Err refusal ≡ Ok true = sym same ∙ moved in
+    absurd cc
+
+pub returns-in_err-version-clause-bytes : goal.returns-in_err-version-clause-bytes
+returns-in_err-version-clause-bytes g c =
+    let got = c.in_err-version.ensures {u = tt} in
+    torn_only g.D.Disk.view c.args.shelf.now c.read_for.new.shelf got.same got.disk
+
+pub returns-in-Ok-clause-bytes : goal.returns-in-Ok-clause-bytes
+returns-in-Ok-clause-bytes g c =
+    torn_read g.D.Disk.view c.args.shelf.now c.read_for.new.shelf c.read_for.ensures.same c.read_for.ensures.disk c.append.new.self.disk c.append.ensures.bytes
+
+pub returns-clause-bytes : goal.returns-clause-bytes
+returns-clause-bytes g c =
+    torn_read g.D.Disk.view c.args.shelf.now c.read_for.new.shelf c.read_for.ensures.same c.read_for.ensures.disk c.append.new.self.disk c.append.ensures.bytes
+
+pub returns-clause-damaged : goal.returns-clause-damaged
+returns-clause-damaged g c =
+    let view = g.D.Disk.view in
+    let found = entry_of c.args.digest.now c.args.sprig.now.entries in
+    subst (IsDamageOf (view c.args.shelf.now.disk).tells view c.args.block found c.append.new.self) (sym c.append_refusal.ensures)
+    (no_damage_told (view c.args.shelf.now.disk).tells view c.args.block found c.append.new.self c.in-Err.refusal)
+
+pub returns-clause-left : goal.returns-clause-left
+returns-clause-left g c =
+    let view = g.D.Disk.view in
+    let r = c.requires.stand in
+    let digest : Digest = c.args.digest.now in
+    let e : Entry = c.in-Some.entry in
+    let old = c.args.shelf.now in
+    let mid = c.read_for.new.shelf in
+    let found : entry_of digest c.args.sprig.now.entries ≡ Some e = sym c.find.ensures.value ∙ c.in-Some.is in
+    let got = c.in_ok-version.ensures {u = tt} in
+    let disk = g.met.D.Disk.is_disk mid.disk in
+    let stands = stand_read view r.0 digest c.args.block c.args.sprig.now old r.1 r.3 e found c.if-entry-block.false mid got.same got.disk disk in
+    let told = c.in-Err.ensures.causes r.0 r.1 (setup_read r.0 old mid got.same r.2) stands.shelf_stands.stands in
+    subst (IsShelfLeft view old c.append.new.self) (sym c.append_refusal.ensures)
+    (left_unappended view r.0 digest c.args.block c.args.sprig.now old r.1 r.3 e found c.if-entry-block.false mid got.same got.disk disk
+    (fits_here view r.0 digest c.args.block c.args.sprig.now old r.1 r.3 e found r.2) c.in_ok-version.version got.names (got.asked r.0 r.1 r.2 r.3.shelf_stands.stands)
+    c.append.new.self c.append.ensures.later.count c.in-Err.refusal told.0 c.in-Err.ensures.refused)
+
+-- ---- what is copied
+
+pub returns-in-Ok-clause-copied : goal.returns-in-Ok-clause-copied
+returns-in-Ok-clause-copied g c moved x found_x =
+    let view = g.D.Disk.view in
+    let digest : Digest = c.args.digest.now in
+    let e : Entry = c.in-Some.entry in
+    let old = c.args.shelf.now in
+    let found : entry_of digest c.args.sprig.now.entries ≡ Some e = sym c.find.ensures.value ∙ c.in-Some.is in
+    let one : Some e ≡ Some x = sym found ∙ found_x in
+    let same : e ≡ x = cc in
+    let got = c.in_ok-version.ensures {u = tt} in
+    let place : Place = c.place_of_entry-place.result in
+    let place_is : place ≡ place_of e = c.place_of_entry-place.ensures in
+    let named : digest ≡ e.digest = entry_named digest c.args.sprig.now.entries e found in
+    let to : Entry = moved_to c.in-Ok.new.block c.in-Ok.new.unit e in
+    let replaces = replaced_by c.entry_at.result to c.args.sprig.now c.replace.new.self c.entry_at.ensures c.replace.ensures in
+    let copies : CopiesRecord view digest e to old c.append.new.self = record {
+      version = c.in_ok-version.version;
+      from_disk = λ tells none. subst (λ (p : Place). IsRead e (copy_bytes old.geometry p (view old.disk).seen) c.in_ok-version.version) place_is
+          (got.read tells (subst (λ (p : Place). AllByRecursion (λ b. b.block ≢ p.block) (in_memory old)) (sym place_is) none));
+      from_memory = λ b v has at record_there names.
+          got.copied b v has (at ∙ sym (ap (λ (p : Place). p.block) place_is))
+          (subst (λ (p : Place). HasRecord b p.unit e.digest v) (sym place_is) (subst (λ (d : Digest). HasRecord b e.unit d v) named record_there)) names;
+      lies = let l = c.in-Ok.ensures.lies in record { buffer = l.buffer; is_there = l.is_there; of_stream = l.of_stream; block = l.block; has = l.has };
+    } in
+    (to, replaced_found digest e to c.args.sprig.now c.replace.new.self named found replaces, subst (λ (y : Entry). CopiesRecord view digest y to old c.append.new.self) same copies)
+
+-- ---- where nothing is moved
+
+pub returns-in_default-clause-copied : goal.returns-in_default-clause-copied
+returns-in_default-clause-copied g c moved x found_x = absurd cc
+
+pub returns-then-entry-block-clause-copied : goal.returns-then-entry-block-clause-copied
+returns-then-entry-block-clause-copied g c moved x found_x = absurd cc
+
+pub returns-clause-copied : goal.returns-clause-copied
+returns-clause-copied g c moved x found_x = absurd cc
+
+pub returns-in_default-clause-bytes : goal.returns-in_default-clause-bytes
+returns-in_default-clause-bytes g c = torn_none g.D.Disk.view c.args.shelf.now
+
+pub returns-then-entry-block-clause-bytes : goal.returns-then-entry-block-clause-bytes
+returns-then-entry-block-clause-bytes g c = torn_none g.D.Disk.view c.args.shelf.now

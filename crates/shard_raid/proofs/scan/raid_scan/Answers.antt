@@ -2,8 +2,8 @@ use Rattle.std.proofs.Common.{ap, subst, Err, ◌∙◌, sym}
 use Rattle.block_format.specs.Layout.{body_bytes}
 use Rattle.block_shelf.specs.declared.refusals.VacateRefusal.{VacateRefusal}
 use Rattle.shard_raid.specs.declared.scan.RaidRefusal.{RaidRefusal}
-use Rattle.shard_raid.specs.Scans.{ScanMakes, IsDamageOf}
-use Rattle.shard_raid.proofs.Scanning.{makes_scanned, makes_given_up, damage_told}
+use Rattle.shard_raid.specs.Scans.{ScanMakes, IsDamageOf, IsToldOf}
+use Rattle.shard_raid.proofs.Scanning.{makes_scanned, makes_given_up, damage_told, told_of}
 use Rattle.shard_raid.proofs.scan.raid_scan.Goals as goal
 
 pub returns-in-Ok-clause-makes : goal.returns-in-Ok-clause-makes
@@ -22,6 +22,13 @@ pub returns-in-Err-clause-damaged : goal.returns-in-Err-clause-damaged
 returns-in-Err-clause-damaged g c tells block at =
     let bytes = body_bytes c.args.shelf.now.geometry block (g.D.Disk.view c.args.shelf.now.disk).seen in
     subst (IsDamageOf c.args.shelf.now.geometry bytes block) (sym c.scan_refusal.ensures) (damage_told c.args.shelf.now.geometry bytes block c.in-Err.refusal (c.in-Err.ensures.damaged tells block at))
+
+pub returns-in-Ok-clause-there : goal.returns-in-Ok-clause-there
+returns-in-Ok-clause-there g c tells block at needs = c.in-Ok.ensures.there tells block at needs
+
+pub returns-in-Err-clause-told : goal.returns-in-Err-clause-told
+returns-in-Err-clause-told g c block at =
+    subst (IsToldOf c.args.shelf.now block) (sym c.scan_refusal.ensures) (told_of c.args.shelf.now block c.in-Err.refusal (c.in-Err.ensures.told block at))
 
 pub returns-in-Ok-clause-alike : goal.returns-in-Ok-clause-alike
 returns-in-Ok-clause-alike g c setup s sure honest stand hold = c.scan_step.ensures.alike setup s sure honest stand.stands hold

@@ -64,7 +64,7 @@ returns-in_default-read_at g c =
     block_of old c.args.self.now c.self.view_is g.D.Disk.view c.args.block c.read_at.new.self _ (Err Fault)
     (block_read g.D.Disk.view g.met.D.Disk.is_disk c.args.block old _ c.self.invariant.0 c.read_at.new.self
     (only_read (g.D.Disk.view old.disk) (g.D.Disk.view c.read_at.new.self) c.read_at.result c.read_at.ensures.call c.read_at.ensures.bytes c.read_at.ensures.images) (Err Fault)
-    (λ told. tt) (λ same. c.in_default-read_at.ensures.call.cause.rose))
+    (λ told. tt) tt (λ same. c.in_default-read_at.ensures.call.cause.rose))
 
 pub returns : goal.returns
 returns g c =
@@ -95,4 +95,4 @@ returns g c =
     (λ told. subst (λ (t : List ℕ). MatchResult c.found_in.result (λ found. ReadsBody geometry t c.args.block found.items) (IsDamageOf geometry t c.args.block))
     (bytes ∙ read_there (g.D.Disk.view c.self.inside.disk).seen c.read_at.new.out _ _ _ _ (c.in-Ok-read_at.ensures.read told) (ap (λ (n : ℕ). n + 4096) c.start_of_block.ensures.place) many)
     (c.found_in.ensures.read geometry long))
-    (λ same. absurd (c.found_in.ensures.quiet same)))
+    c.found_in.ensures.of_block (λ same. absurd (c.found_in.ensures.quiet same)))

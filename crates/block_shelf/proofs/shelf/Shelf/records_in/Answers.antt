@@ -4,13 +4,13 @@ use Rattle.std.specs.List.{AllByRecursion}
 use Rattle.rec_format.specs.Versions.{block_capacity}
 use Rattle.block_format.specs.declared.geometry.Gate.{Gate}
 use Rattle.block_format.specs.declared.geometry.Gate.TheVariants.{Shut}
-use Rattle.block_format.specs.Layout.{IsBody, body_bytes}
+use Rattle.block_format.specs.Layout.{IsBody}
 use Rattle.write_buffer.specs.Buffers.{BufferState, bytes_of, body_in}
 use Rattle.write_buffer.proofs.Sizes.{sized, body_size}
 use Rattle.block_shelf.specs.View.{gate_at}
 use Rattle.block_shelf.specs.Scans.{ReadsIn, ReadsAll, ReadsBody, IsDamageOf, IsSound}
 use Rattle.block_shelf.proofs.Begun.{passed_on}
-use Rattle.block_shelf.proofs.ScanBlocks.{each_answer, only_err, no_damage, undamaged, buffer_found}
+use Rattle.block_shelf.proofs.ScanBlocks.{each_answer, only_err, no_damage, buffer_found}
 use Rattle.block_shelf.proofs.Scanning.{reads_memory, reads_unclosed, reads_shut, reads_disk}
 use Rattle.block_shelf.proofs.shelf.Shelf.records_in.Goals as goal
 
@@ -38,12 +38,11 @@ returns-in-Some g c =
     (λ refusal damage. no_damage shelf.geometry bytes c.args.block refusal (body_in b, is_body, c.in-Some.ensures.some.1) damage)
     (subst (λ (t : List ℕ). MatchResult c.found_in.result (λ found. ReadsBody shelf.geometry t c.args.block found.items) (IsDamageOf shelf.geometry t c.args.block)) c.body.ensures.bytes
     (c.found_in.ensures.read shelf.geometry long)))
-    (λ told. only_err (λ found. ReadsBody shelf.geometry bytes c.args.block found.items) (IsDamageOf shelf.geometry bytes c.args.block)
-    (IsDamageOf shelf.geometry (body_bytes shelf.geometry c.args.block (g.D.Disk.view shelf.disk).seen) c.args.block) c.found_in.result
-    (λ refusal damage. undamaged shelf.geometry (body_bytes shelf.geometry c.args.block (g.D.Disk.view shelf.disk).seen) c.args.block refusal
-    (no_damage shelf.geometry bytes c.args.block refusal (body_in b, is_body, c.in-Some.ensures.some.1) damage))
+    (only_err (λ found. ReadsBody shelf.geometry bytes c.args.block found.items) (IsDamageOf shelf.geometry bytes c.args.block) IsSound c.found_in.result
+    (λ refusal damage. no_damage shelf.geometry bytes c.args.block refusal (body_in b, is_body, c.in-Some.ensures.some.1) damage)
     (subst (λ (t : List ℕ). MatchResult c.found_in.result (λ found. ReadsBody shelf.geometry t c.args.block found.items) (IsDamageOf shelf.geometry t c.args.block)) c.body.ensures.bytes
     (c.found_in.ensures.read shelf.geometry long)))
+    b c.in-Some.ensures.some.0 c.in-Some.ensures.some.1
 
 pub returns-in_err-close_unsure : goal.returns-in_err-close_unsure
 returns-in_err-close_unsure g c =
@@ -63,4 +62,4 @@ returns g c =
     let unshut : gate_at c.close_unsure.new.self.gates c.args.block ≢ Shut = subst (λ (x : Gate). x ≢ Shut) c.gate.ensures (grind (arith, c.if-eq.false, c.eq.ensures)) in
     let e = c.read_block.ensures in
     reads_disk g.D.Disk.view g.met.D.Disk.is_disk c.args.block c.args.self.now _ c.requires.block none c.close_unsure.new.self c.in_ok-close_unsure.ensures unshut c.read_block.new.self
-    c.read_block.result e.read e.cause e.disk e.whole e.same
+    c.read_block.result e.read e.of_block e.cause e.disk e.whole e.same

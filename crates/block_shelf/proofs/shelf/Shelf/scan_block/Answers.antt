@@ -12,6 +12,7 @@ use Rattle.law_facts.specs.Asking.{FindsOlder}
 use Rattle.law_images.specs.Held.{loosened}
 use Rattle.law_images.proofs.Scanning.{scan_finds}
 use Rattle.raid_book.specs.Books.{BookState, with_scan}
+use Rattle.raid_book.specs.Found.{copies_for, with_parts}
 use Rattle.raid_book.specs.Raids.{RaidStands, found_copies, found_parts}
 use Rattle.raid_book.specs.Turns.{turn_of}
 use Rattle.block_shelf.specs.declared.refusals.VacateRefusal.TheVariants.{Memory}
@@ -144,6 +145,22 @@ returns g c =
     taken_in view g.met.D.Disk.is_disk c.args.block old _ here c.in_ok-found.found c.scanned.new.self
     (reads_at view g.met.D.Disk.is_disk c.args.block old _ c.records_in.new.self here (Ok c.in_ok-found.found) (sym c.self.view_is) c.in_ok-found.ensures)
     (c.in-Ok-scanned.ensures.book ∙ ap (with_scan c.scanned.new.self.found) (ap (λ (v : ShelfView g.row.D.Denot). v.raid) (c.self.view_is ∙ c.records_in.ensures.rest)))
+    (λ bytes reads.
+    let found : List Found = c.in_ok-found.found.items in
+    let rest : here ≡ record old { disk = c.records_in.new.self.disk; gates = c.records_in.new.self.gates } = c.self.view_is ∙ c.records_in.ensures.rest in
+    let shape_is : here.geometry ≡ old.geometry = ap (λ (v : ShelfView g.row.D.Denot). v.geometry) rest in
+    let sprigs_is : here.limits.sprigs ≡ old.limits.sprigs = ap (λ (v : ShelfView g.row.D.Denot). v.limits.sprigs) rest in
+    let own : c.deref-3.result.now ≡ own_found here.geometry found = c.deref-3.ensures.value ∙ c.in-Ok.ensures ∙ ap (own_found here.geometry) c.deref.ensures.value in
+    let own_here : c.deref-2.result.now ≡ own_found here.geometry found = c.deref-2.ensures.value ∙ c.in-Ok.ensures ∙ ap (own_found here.geometry) c.deref.ensures.value in
+    let parts : c.deref-4.result.now ≡ map (λ f. part_number_of here.geometry.devices here.limits.sprigs f.head.digest) (own_found here.geometry found) =
+    c.deref-4.ensures.value ∙ c.in-Ok-parts_in.ensures.parts ∙ ap (map (λ (f : Found). part_number_of here.geometry.devices here.limits.sprigs f.head.digest)) own_here in
+    record {
+      found = found;
+      reads = reads;
+      kept = λ part. c.in-Ok-scanned.ensures.found part ∙ (λ i. copies_for part (with_parts (own i) (parts i)))
+          ∙ (λ i. copies_for part (with_parts (own_found (shape_is i) found)
+          (map (λ f. part_number_of (shape_is i).devices (sprigs_is i) f.head.digest) (own_found (shape_is i) found))));
+    })
     (λ setup s is stands books.
     let went : Goes view setup [] old s here = subst (Goes view setup [] old s) (sym c.self.view_is) (c.records_in.ensures.goes setup s stands) in
     let found : List Found = c.in_ok-found.found.items in

@@ -7,7 +7,7 @@ use Rattle.block_format.specs.Layout.{body_bytes}
 use Rattle.block_shelf.specs.Disks.{IsLater}
 use Rattle.block_shelf.specs.View.{ShelfView}
 use Rattle.block_shelf.specs.Calls.{Goes}
-use Rattle.block_shelf.specs.Scans.{IsDamageOf, possible_copies}
+use Rattle.block_shelf.specs.Scans.{FindsBody, NeedsRead, IsDamageOf, IsToldOf, possible_copies}
 use Rattle.block_shelf.proofs.Going.{goes_then}
 use Rattle.block_shelf.proofs.RaidTurns.{goes_given_up}
 use Rattle.block_shelf.proofs.Unsure.{sure_at, same_possible}
@@ -98,6 +98,18 @@ pub returns-in-Err-clause-honest : goal.returns-in-Err-clause-honest
 returns-in-Err-clause-honest g c =
     subst (λ (disk : g.row.D.Denot). IsHonest (g.D.Disk.view c.args.self.now.disk) → IsHonest (g.D.Disk.view disk))
     (sym (ap (λ (v : ShelfView g.row.D.Denot). v.disk) c.give_up.ensures)) c.scan_block.ensures.honest
+
+pub returns-in-Err-clause-told : goal.returns-in-Err-clause-told
+returns-in-Err-clause-told g c block turn =
+    let same : block ≡ c.in-Scan.block = grind (arith, turn, c.in-Scan.ensures.value) in
+    subst (λ (k : ℕ). IsToldOf c.args.self.now k c.in-Err.refusal) (sym same) c.in-Err.ensures.told
+
+pub returns-in-Ok-clause-there : goal.returns-in-Ok-clause-there
+returns-in-Ok-clause-there g c told block turn =
+    let old = c.args.self.now in
+    let same : block ≡ c.in-Scan.block = grind (arith, turn, c.in-Scan.ensures.value) in
+    subst (λ (k : ℕ). NeedsRead old k → FindsBody old.geometry old.limits.sprigs (body_bytes old.geometry k (g.D.Disk.view old.disk).seen) k c.scan_block.new.self.raid) (sym same)
+    (c.in-Ok.ensures.there told)
 
 pub returns-in-Err-clause-damaged : goal.returns-in-Err-clause-damaged
 returns-in-Err-clause-damaged g c told block turn =
