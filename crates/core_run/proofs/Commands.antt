@@ -1,6 +1,6 @@
 -- Each command of a node that serves, and of one that halted, means what it has to mean.
 use Rattle.std.proofs.Common.{◌≡◌, inl, inr, ℕ, zero, suc, ◌+◌, ◌<◌, true, false, List, [], ◌∷◌, length, set, refl, sym, ◌∙◌, ap, subst, arith}
-use Rattle.std.specs.Prelude.{◌≢◌, Option, Some, Result, Ok, Err, MatchOption, slice_get}
+use Rattle.std.specs.Prelude.{◌≢◌, ◌⊎◌, Bool, Option, Some, None, Result, Ok, Err, MatchOption, slice_get}
 use Rattle.disk_model.specs.Disk.{DiskView, IsDisk}
 use Rattle.rec_format.specs.declared.version.Digest.{Digest}
 use Rattle.rec_format.specs.declared.entry.Counts.{Counts}
@@ -19,14 +19,16 @@ use Rattle.line_proto.specs.declared.reply.Reply.TheVariants as reply
 use Rattle.cold_scan.specs.declared.header.StartCause.{StartCause}
 use Rattle.model_device.specs.Vacating.{Outcome, did, stopped}
 use Rattle.model_node.specs.Commands.{Slot, Node, NodeEvent, Does, on_device, answer_reply, meta_reply, seen_on, flushed_reply, defragged_reply, expired_reply, raided_reply, node_counts}
-use Rattle.model_node.specs.Meaning.{ActsFrom}
+use Rattle.model_node.specs.Run.{Carries, WantsMemory}
+use Rattle.model_node.specs.Meaning.{ActsFrom, left_between}
 use Rattle.shard_core.specs.View.{ShardView, setup_of}
 use Rattle.shard_core.specs.Stands.{Agrees}
 use Rattle.shard_core.specs.Calls.{GetsStored}
 use Rattle.shard_core.specs.declared.refusals.DefragCause.{DefragCause}
 use Rattle.shard_core.specs.declared.refusals.WriteRefusal.{WriteRefusal}
-use Rattle.core_run.specs.Views.{serving, halted, disks_served, views_of, unknown, AreLater}
+use Rattle.core_run.specs.Views.{NodeView, serving, halted, disks_served, views_of, unknown, AreLater}
 use Rattle.core_run.specs.Standing.{Each, StandsOn, StandsSafelyOn, StandsFor, StandsSafely, Halts, HaltsSafely}
+use Rattle.core_run.specs.Shown.{ShowsOn}
 use Rattle.core_run.specs.Calls.{digest_of, RepliesStored, RaidedExactly, Acts, Tends}
 use Rattle.core_run.specs.Sure.{StaySure}
 use Rattle.core_run.specs.Turns.{GoesOn, RepliesTo, RepliesOn, TendTurn, Through, WorksEach, plus_one, plus_both, IsFlushed, FlushesOn, FlushesEach}
@@ -37,7 +39,7 @@ use Rattle.core_run.proofs.Acting.{Safely, over_any, over_safe, event_turn, flus
 use Rattle.core_run.proofs.Sparing.{leaves_none}
 use Rattle.core_run.proofs.Surely.{sure_at, sure_through, sure_work}
 use Rattle.core_run.proofs.Replying.{known_goes_on, stat_goes_on, flushed_goes_on, defragged_goes_on, expired_goes_on, raided_goes_on, one_digest}
-use Rattle.core_run.proofs.Nodes.{one_shards, serves_or_halts, later_same, later_at, later_through, acts_any, acts_safe, tends_any, tends_safe}
+use Rattle.core_run.proofs.Nodes.{Unshown, one_shards, serves_or_halts, later_same, later_at, later_through, acts_any, acts_safe, tends_any, tends_safe}
 
 -- a device that stays as it is leaves the list
 set_same : {S : Type 0} (items : List S) (place : ℕ) (item : S) → slice_get items place ≡ Some item → set items place item ≡ items
@@ -59,13 +61,58 @@ module _ {D : Type 0} (view : D → DiskView) (is_disk : (disk : D) → IsDisk (
       (stored : RepliesStored view olds c now r)
       (exact : c ≡ command.Raid → (removed cleared : ℕ) → r ≡ reply.Raided removed cleared → (node : Node) → Each (StandsSafelyOn view) olds node
       → RaidedExactly view now olds node news removed cleared)
-      (any : (node : Node) → Each (StandsOn view) olds node → ActsFrom (StandsFor view) unknown (Halts view) false (serving olds) node c now r (serving news))
-      (safe : (node : Node) → Each (StandsSafelyOn view) olds node → ActsFrom (StandsSafely view) (views_of view) (HaltsSafely view) true (serving olds) node c now r (serving news)) where
+      (any : (node : Node) → Each (StandsOn view) olds node → ActsFrom (StandsFor view) unknown (Halts view) Unshown false (serving olds) node c now r (serving news))
+      (safe : (node : Node) → Each (StandsSafelyOn view) olds node → ActsFrom (StandsSafely view) (views_of view) (HaltsSafely view) Unshown true (serving olds) node c now r (serving news)) where
+    -- nothing was started again
+    not_restarted : (views : NodeView D → ℕ → DiskView) (told : Bool) (node : Node) (work : List NodeEvent) (restarted : Option Node)
+        → Carries (left_between views (serving olds) (serving news)) told node c now work restarted r ⊎ WantsMemory work restarted r → restarted ≡ None
+    not_restarted views told node work restarted (inl (inl made)) = made.0
+    not_restarted views told node work restarted (inl (inr ends)) = absurd (other ends.0)
+    not_restarted views told node work restarted (inr lacks) = lacks.0
+
+    halts_never : (before after : Node) → Halts view (serving news) before after → ⊥
+    halts_never before after h = serves_or_halts news (h.device, h.cause) h.disks h.is_halted
+
+    shows_of : (views : NodeView D → ℕ → DiskView) (told : Bool) (node : Node) (work : List NodeEvent) (restarted : Option Node)
+        → Carries (left_between views (serving olds) (serving news)) told node c now work restarted r ⊎ WantsMemory work restarted r → (r ≡ reply.Halted → ⊥)
+        → ShowsOn view told (serving olds) node now r work restarted (serving news)
+    shows_of views told node work restarted carried goes = record {
+      again = λ fresh is. absurd (none_is fresh (sym (not_restarted views told node work restarted carried) ∙ is));
+      refused = λ is. absurd (goes is);
+    }
+      where
+        none_is : (fresh : Node) → None ≡ Some fresh → ⊥
+        none_is fresh is = cc
+
     pub acts_serving : Acts view (serving olds) c now r (serving news)
     acts_serving = record {
       later = later;
-      any = λ node stands. any node (subst (λ (s : List (ShardView D)). Each (StandsOn view) s node) (sym (one_shards olds stands.0 stands.1)) stands.2);
-      safe = λ node stands. safe node (subst (λ (s : List (ShardView D)). Each (StandsSafelyOn view) s node) (sym (one_shards olds stands.0 stands.1)) stands.2);
+      any = λ node stands.
+          let here = subst (λ (s : List (ShardView D)). Each (StandsOn view) s node) (sym (one_shards olds stands.0 stands.1)) stands.2 in
+          let a = any node here in
+          record {
+            work = a.work;
+            restarted = a.restarted;
+            carried = a.carried;
+            legal = a.legal;
+            stands = a.stands;
+            leaves = a.leaves;
+            halt = a.halt;
+            shows = shows_of unknown false node a.work a.restarted a.carried (λ is. halts_never node _ (a.halt is));
+          };
+      safe = λ node stands.
+          let here = subst (λ (s : List (ShardView D)). Each (StandsSafelyOn view) s node) (sym (one_shards olds stands.0 stands.1)) stands.2 in
+          let a = safe node here in
+          record {
+            work = a.work;
+            restarted = a.restarted;
+            carried = a.carried;
+            legal = a.legal;
+            stands = a.stands;
+            leaves = a.leaves;
+            halt = a.halt;
+            shows = shows_of (views_of view) true node a.work a.restarted a.carried (λ is. halts_never node _ (a.halt is).halts);
+          };
       stored = λ shards same. subst (λ (s : List (ShardView D)). RepliesStored view s c now r) (one_shards olds shards same) stored;
       again = λ shards same is. absurd (other is);
       exact = λ before after same then is removed cleared told node stands.
@@ -97,13 +144,13 @@ module _ {D : Type 0} (view : D → DiskView) (is_disk : (disk : D) → IsDisk (
       at_node : (node : Node) (event : Event) (work : List NodeEvent) → length node ≡ length olds → work ≡ on_device Place event ∷ [] → work ≡ on_device (device_number (length node) digest) event ∷ []
       at_node node event work same is = is ∙ ap (λ (n : ℕ). on_device (device_number n digest) event ∷ []) (sym same)
 
-      from_any : (node : Node) → Each (StandsOn view) olds node → ActsFrom (StandsFor view) unknown (Halts view) false (serving olds) node c now r (serving News)
+      from_any : (node : Node) → Each (StandsOn view) olds node → ActsFrom (StandsFor view) unknown (Halts view) Unshown false (serving olds) node c now r (serving News)
       from_any node stands =
           let t = event_turn view (StandsOn view) (Made false (StandsOn view)) (over_any view) olds Place old new node call replies.0 (within olds Place old at) at goes replies.3 stands in
           acts_any view olds News node t.0 t.1 c now r
           (does node t.2 (events_of t.0) (at_node node t.2 (events_of t.0) (each_length (StandsOn view) olds node stands) t.5) t.3 (replies.1 ∙ ap answer_reply (sym t.4))) replies.2
 
-      from_safe : (node : Node) → Each (StandsSafelyOn view) olds node → ActsFrom (StandsSafely view) (views_of view) (HaltsSafely view) true (serving olds) node c now r (serving News)
+      from_safe : (node : Node) → Each (StandsSafelyOn view) olds node → ActsFrom (StandsSafely view) (views_of view) (HaltsSafely view) Unshown true (serving olds) node c now r (serving News)
       from_safe node stands =
           let t = event_turn view (StandsSafelyOn view) (Safely view) (over_safe view is_disk) olds Place old new node call replies.0 (within olds Place old at) at goes replies.3 stands in
           acts_safe view olds News node t.0 t.1 c now r
@@ -130,13 +177,13 @@ module _ {D : Type 0} (view : D → DiskView) (is_disk : (disk : D) → IsDisk (
       still : List NodeEvent
       still = []
 
-      know_any : (node : Node) → Each (StandsOn view) olds node → ActsFrom (StandsFor view) unknown (Halts view) false (serving olds) node (command.Meta digest) now r (serving olds)
+      know_any : (node : Node) → Each (StandsOn view) olds node → ActsFrom (StandsFor view) unknown (Halts view) Unshown false (serving olds) node (command.Meta digest) now r (serving olds)
       know_any node stands =
           acts_any view olds olds node (nones (length olds)) (along_none (Made false (StandsOn view)) (StandsOn view) (over_any view).rests olds node stands) (command.Meta digest) now r
           (no_events (length olds), told node stands) (goes_on node stands)
 
       know_safe : (node : Node) → Each (StandsSafelyOn view) olds node
-          → ActsFrom (StandsSafely view) (views_of view) (HaltsSafely view) true (serving olds) node (command.Meta digest) now r (serving olds)
+          → ActsFrom (StandsSafely view) (views_of view) (HaltsSafely view) Unshown true (serving olds) node (command.Meta digest) now r (serving olds)
       know_safe node stands =
           let plain = each_more (StandsSafelyOn view) (StandsOn view) (λ shard slot s. s.stands) olds node stands in
           acts_safe view olds olds node (nones (length olds)) (along_none (Safely view) (StandsSafelyOn view) (over_safe view is_disk).rests olds node stands) (command.Meta digest) now r

@@ -10,7 +10,7 @@ use Rattle.line_proto.specs.declared.reply.Reply.TheVariants as reply
 use Rattle.cold_scan.specs.declared.header.StartCause.{StartCause}
 use Rattle.model_node.specs.Commands.{Node, NodeEvent, node_after, Does, TendsEach}
 use Rattle.model_node.specs.Run.{ClosesEach, states_while}
-use Rattle.model_node.specs.Meaning.{ActsFrom, TendsFrom, ClosesFrom, LeavesEach}
+use Rattle.model_node.specs.Meaning.{Showing, ActsFrom, TendsFrom, ClosesFrom, LeavesEach}
 use Rattle.shard_core.specs.View.{ShardView}
 use Rattle.shard_core.proofs.Later.{later_none}
 use Rattle.core_run.specs.Views.{NodeView, serving, halted, disks_served, views_of, unknown, AreLater}
@@ -33,6 +33,10 @@ one_reason a b c d same = let e : Some a ≡ Some b = ap (λ n. n.refused) same 
 
 pub one_disks : {D : Type 0} (a b : ℕ × StartCause) (c d : List D) → halted a c ≡ halted b d → c ≡ d
 one_disks a b c d same = ap (λ n. n.disks) same
+
+-- nothing is said of what a call shows
+abbrev pub Unshown : {T : Type 0} → Showing T
+Unshown old node now r work restarted new = Unit {0}
 
 -- ---- time
 
@@ -66,7 +70,8 @@ module _ {D : Type 0} (view : D → DiskView) (olds news : List (ShardView D)) (
     stands_any : StandsFor view (serving news) (node_after Work node)
     stands_any = (news, refl, along_after false (StandsOn view) olds news node mines along)
 
-    pub acts_any : (c : Command) (now : ℕ) (r : Reply) → Does node c now Work r → r ≢ reply.Halted → ActsFrom (StandsFor view) unknown (Halts view) false (serving olds) node c now r (serving news)
+    pub acts_any : (c : Command) (now : ℕ) (r : Reply) → Does node c now Work r → r ≢ reply.Halted
+        → ActsFrom (StandsFor view) unknown (Halts view) Unshown false (serving olds) node c now r (serving news)
     acts_any c now r does goes = record {
       work = Work;
       restarted = None;
@@ -75,6 +80,7 @@ module _ {D : Type 0} (view : D → DiskView) (olds news : List (ShardView D)) (
       stands = λ _. stands_any;
       leaves = nothing_left (serving olds) (serving news) node _;
       halt = λ is. absurd (goes is);
+      shows = tt;
     }
 
     pub tends_any : TendsEach 0 node Work → TendsFrom (StandsFor view) unknown false (serving olds) node (serving news)
@@ -107,7 +113,7 @@ module _ {D : Type 0} (view : D → DiskView) (olds news : List (ShardView D)) (
     left = along_left view olds news node mines (along_both (Made true (StandsSafelyOn view)) (LeftOn view) olds news node mines along).1
 
     pub acts_safe : (c : Command) (now : ℕ) (r : Reply) → Does node c now Work r → r ≢ reply.Halted
-        → ActsFrom (StandsSafely view) (views_of view) (HaltsSafely view) true (serving olds) node c now r (serving news)
+        → ActsFrom (StandsSafely view) (views_of view) (HaltsSafely view) Unshown true (serving olds) node c now r (serving news)
     acts_safe c now r does goes = record {
       work = Work;
       restarted = None;
@@ -116,6 +122,7 @@ module _ {D : Type 0} (view : D → DiskView) (olds news : List (ShardView D)) (
       stands = λ _. stands_safely;
       leaves = left;
       halt = λ is. absurd (goes is);
+      shows = tt;
     }
 
     pub tends_safe : TendsEach 0 node Work → TendsFrom (StandsSafely view) (views_of view) true (serving olds) node (serving news)

@@ -66,7 +66,7 @@ module _ {D : Type 0} (view : D → DiskView) where
     refuses_read set place device devices cause [] new refuses = absurd refuses
     refuses_read set place device devices cause (disk ∷ old) [] refuses = absurd refuses
     refuses_read set zero device devices cause (disk ∷ old) (last ∷ new) refuses = (refuses.0.read, subst (ReadEach old) (sym refuses.1) (read_none old))
-    refuses_read set (suc place) device devices cause (disk ∷ old) (last ∷ new) refuses = (refuses.0, refuses_read set place (device + 1) devices cause old new refuses.1)
+    refuses_read set (suc place) device devices cause (disk ∷ old) (last ∷ new) refuses = (refuses.0.read, refuses_read set place (device + 1) devices cause old new refuses.1)
 
     -- ---- what a crash leaves
 

@@ -1,6 +1,7 @@
 -- What a restart comes to, by the starts of all devices from the disks on which they stood.
-use Rattle.std.proofs.Common.{◌≡◌, inl, inr, ℕ, suc, ◌+◌, ◌≤◌, true, false, List, [], ◌∷◌, length, refl, sym, ◌∙◌, ap, subst, arith}
+use Rattle.std.proofs.Common.{◌≡◌, inl, inr, ℕ, zero, suc, ◌+◌, ◌≤◌, Bool, true, false, List, [], ◌∷◌, length, refl, sym, ◌∙◌, ap, subst, arith}
 use Rattle.std.specs.Prelude.{Some}
+use Rattle.std.proofs.lemmas.List.{length-map}
 use Rattle.disk_model.specs.Disk.{DiskView, IsDisk, meanwhile}
 use Rattle.model_device.specs.Book.{Setup}
 use Rattle.model_device.specs.Device.{put_count, tombstone_count}
@@ -16,12 +17,16 @@ use Rattle.model_node.specs.Commands.{Slot, Node, total, node_counts}
 use Rattle.model_node.specs.Run.{ImagesLeft, IsSameDevice, RestartsEach}
 use Rattle.model_node.specs.Outside.{RoseOn, counts_of}
 use Rattle.law_start.specs.Start.{Restarts}
+use Rattle.law_start.specs.Sound.{IsShapeOf}
+use Rattle.model_node.specs.Headline.{On}
+use Rattle.model_node.specs.Shown.{IsStartedFrom}
 use Rattle.model_node.specs.Meaning.{ActsFrom, left_between}
 use Rattle.core_run.specs.Views.{NodeView, AreDevices, serving, halted, disks_served, view_at, views_of, unknown, asked, faults_of}
 use Rattle.core_run.specs.Starts.{Started, StartsEach, RefusesAt}
 use Rattle.core_run.specs.Standing.{Each, StandsOn, StandsSafelyOn, StandsFor, StandsSafely, Halts, HaltsSafely}
+use Rattle.core_run.specs.Shown.{ShowsOn}
 use Rattle.core_run.specs.Calls.{Acts, Restarted}
-use Rattle.core_run.proofs.Making.{each_more, nothing_left}
+use Rattle.core_run.proofs.Making.{each_length, each_more, nothing_left}
 use Rattle.core_run.proofs.Surely.{sure_again}
 use Rattle.core_run.proofs.Nodes.{one_shards, serves_or_halts}
 use Rattle.core_run.proofs.Replying.{restart_goes_on}
@@ -50,21 +55,38 @@ module _ {D : Type 0} (view : D → DiskView) (set : Settings) where
         raid_age = set.raid_age;
       }
 
+  shape_of : (shard : ShardView D) → IsShapeOf (setup_of shard) shard.shelf.geometry
+  shape_of shard = record { capacity = refl; blocks = refl; device = refl; devices = refl }
+
+  -- from which disk each device was started, with one more in front
+  from_front : (told : Bool) (device devices : ℕ) (disk : DiskView) (disks : List D) (slot : Slot) (node : Node) → IsStartedFrom told device devices disk slot
+      → ((place : ℕ) → On node place (IsStartedFrom told (device + 1 + place) devices (view_at view disks place)))
+      → (front : D) → view front ≡ disk
+      → (place : ℕ) → On (slot ∷ node) place (IsStartedFrom told (device + place) devices (view_at view (front ∷ disks) place))
+  from_front told device devices disk disks slot node here rest front is zero =
+      let same : device ≡ device + 0 = omega arith in
+      subst (λ (v : DiskView). IsStartedFrom told (device + 0) devices v slot) (sym is) (subst (λ (n : ℕ). IsStartedFrom told n devices disk slot) same here)
+  from_front told device devices disk disks slot node here rest front is (suc place) =
+      let same : device + 1 + place ≡ device + suc place = omega arith in
+      subst (λ (n : ℕ). On node place (IsStartedFrom told n devices (view_at view disks place))) same (rest place)
+
   -- ---- all were started
 
   -- over any disks: the state behind a start from the bodies that were read
-  record AgainAny (left : ImagesLeft) (device : ℕ) (node : Node) (fresh : List (ShardView D)) : Type 0 where
+  record AgainAny (left : ImagesLeft) (device devices : ℕ) (disks : List D) (node : Node) (fresh : List (ShardView D)) : Type 0 where
     after : Node
     restarts : RestartsEach left false device node after
     stands : Each (StandsOn view) fresh after
+    from : (place : ℕ) → On after place (IsStartedFrom false (device + place) devices (view_at view disks place))
 
   again_any : (left : ImagesLeft) (device devices : ℕ) (olds fresh : List (ShardView D)) (node : Node) → AreDevices set device devices olds
       → StartsEach view set device devices (disks_served olds) fresh
-      → Each (StandsOn view) olds node → AgainAny left device node fresh
+      → Each (StandsOn view) olds node → AgainAny left device devices (disks_served olds) node fresh
   again_any left device devices [] fresh node are starts stands = record {
     after = [];
     restarts = subst (λ (n : Node). RestartsEach left false device n []) (sym stands) refl;
     stands = subst (λ (s : List (ShardView D)). Each (StandsOn view) s []) (sym starts) refl;
+    from = λ place. tt;
   }
   again_any left device devices (old ∷ olds) [] node are starts stands = absurd starts
   again_any left device devices (old ∷ olds) (new ∷ fresh) [] are starts stands = absurd stands
@@ -81,24 +103,28 @@ module _ {D : Type 0} (view : D → DiskView) (set : Settings) where
           rest.restarts,
         );
         stands = (record { setup_is = refl; faults_is = refl; agrees = found.agrees }, rest.stands);
+        from = from_front false device devices (view old.shelf.disk) (disks_served olds) one rest.after
+            (λ tells. (new.shelf.geometry, found.bodies, found.passes tells, (shape_of new, λ is. refl))) rest.from old.shelf.disk refl;
       }
 
   -- over honest disks that were safe: a state that a restart may go to, from an image that the disk might have left
-  record AgainSafe (left : ImagesLeft) (device : ℕ) (node : Node) (fresh : List (ShardView D)) : Type 0 where
+  record AgainSafe (left : ImagesLeft) (device devices : ℕ) (disks : List D) (node : Node) (fresh : List (ShardView D)) : Type 0 where
     after : Node
     restarts : RestartsEach left true device node after
     stands : Each (StandsSafelyOn view) fresh after
+    from : (place : ℕ) → On after place (IsStartedFrom true (device + place) devices (view_at view disks place))
 
   module _ (is_disk : (disk : D) → IsDisk (view disk)) where
     again_safe : (left : ImagesLeft) (device devices : ℕ) (olds fresh : List (ShardView D)) (node : Node) → AreDevices set device devices olds
         → StartsEach view set device devices (disks_served olds) fresh
         → Each (StandsSafelyOn view) olds node
         → ((place : ℕ) (image : List ℕ) → meanwhile (view_at view (disks_served olds) place) (view_at view (disks_served fresh) place) image → left (device + place) image)
-        → AgainSafe left device node fresh
+        → AgainSafe left device devices (disks_served olds) node fresh
     again_safe left device devices [] fresh node are starts stands was = record {
       after = [];
       restarts = subst (λ (n : Node). RestartsEach left true device n []) (sym stands) refl;
       stands = subst (λ (s : List (ShardView D)). Each (StandsSafelyOn view) s []) (sym starts) refl;
+      from = λ place. tt;
     }
     again_safe left device devices (old ∷ olds) [] node are starts stands was = absurd starts
     again_safe left device devices (old ∷ olds) (new ∷ fresh) [] are starts stands was = absurd stands
@@ -124,6 +150,8 @@ module _ {D : Type 0} (view : D → DiskView) (set : Settings) where
             rest.restarts,
           );
           stands = (record { stands = record { setup_is = refl; faults_is = refl; agrees = begun.agrees }; honest = started.read.honest safe.honest; safe = begun.safe }, rest.stands);
+          from = from_front true device devices (view old.shelf.disk) (disks_served olds) one rest.after
+              (λ tells. let begins = started.begins tells in (new.shelf.geometry, begins.bodies, begins.passes, (shape_of new, λ is. cc))) rest.from old.shelf.disk refl;
         }
 
     module _ (olds fresh : List (ShardView D)) (counts : Counts) (now : ℕ) (are : AreDevices set 0 (length olds) olds) (starts : StartsEach view set 0 (length olds) (disks_served olds) fresh)
@@ -137,8 +165,21 @@ module _ {D : Type 0} (view : D → DiskView) (set : Settings) where
       reply_is : (after : Node) → Each (StandsOn view) fresh after → reply.Restarted counts.records counts.tombstones ≡ reply.Restarted (total put_count after) (total tombstone_count after)
       reply_is after stands = ap (λ (c : Counts). reply.Restarted c.records c.tombstones) (told after stands)
 
+      started_shows : (told : Bool) (node after : Node) → length node ≡ length olds
+          → ((place : ℕ) → On after place (IsStartedFrom told (0 + place) (length olds) (view_at view (disks_served olds) place)))
+          → ShowsOn view told (serving olds) node now (reply.Restarted counts.records counts.tombstones) [] (Some after) (serving fresh)
+      started_shows told node after many from = record {
+        again = λ new is goes device.
+            let one : after ≡ new = cc in
+            let here : 0 + device ≡ device = omega arith in
+            subst (λ (n : Node). On n device (IsStartedFrom told device (length node) (view_at view (disks_served olds) device))) one
+            (subst (λ (n : ℕ). On after device (IsStartedFrom told device n (view_at view (disks_served olds) device))) (sym many)
+            (subst (λ (n : ℕ). On after device (IsStartedFrom told n (length olds) (view_at view (disks_served olds) device))) here (from device)));
+        refused = λ is. absurd (restart_goes_on counts.records counts.tombstones is);
+      }
+
       any : (node : Node) → Each (StandsOn view) olds node
-          → ActsFrom (StandsFor view) unknown (Halts view) false (serving olds) node command.Restart now (reply.Restarted counts.records counts.tombstones) (serving fresh)
+          → ActsFrom (StandsFor view) unknown (Halts view) (ShowsOn view false) false (serving olds) node command.Restart now (reply.Restarted counts.records counts.tombstones) (serving fresh)
       any node stands =
           let made = again_any (left_between (unknown {T = NodeView D}) (serving olds) (serving fresh)) 0 (length olds) olds fresh node are starts stands in
           record {
@@ -149,10 +190,12 @@ module _ {D : Type 0} (view : D → DiskView) (set : Settings) where
             stands = λ goes. (fresh, refl, made.stands);
             leaves = nothing_left (serving olds) (serving fresh) node _;
             halt = λ is. absurd (restart_goes_on counts.records counts.tombstones is);
+            shows = started_shows false node made.after (each_length (StandsOn view) olds node stands) made.from;
           }
 
       safe : (node : Node) → Each (StandsSafelyOn view) olds node
-          → ActsFrom (StandsSafely view) (views_of view) (HaltsSafely view) true (serving olds) node command.Restart now (reply.Restarted counts.records counts.tombstones) (serving fresh)
+          → ActsFrom (StandsSafely view) (views_of view) (HaltsSafely view) (ShowsOn view true) true (serving olds) node
+          command.Restart now (reply.Restarted counts.records counts.tombstones) (serving fresh)
       safe node stands =
           let made = again_safe Left 0 (length olds) olds fresh node are starts stands
           (λ place image since. let same : place ≡ 0 + place = omega arith in subst (λ (n : ℕ). Left n image) same since) in
@@ -165,6 +208,7 @@ module _ {D : Type 0} (view : D → DiskView) (set : Settings) where
             stands = λ goes. (fresh, refl, made.stands);
             leaves = left_read view is_disk olds (disks_served fresh) node stands read;
             halt = λ is. absurd (restart_goes_on counts.records counts.tombstones is);
+            shows = started_shows true node made.after (each_length (StandsSafelyOn view) olds node stands) made.from;
           }
 
       pub restart_done : Acts view (serving olds) command.Restart now (reply.Restarted counts.records counts.tombstones) (serving fresh)
@@ -200,8 +244,15 @@ module _ {D : Type 0} (view : D → DiskView) (set : Settings) where
             (refused_rose view set reason.0 0 (length olds) reason.1 (disks_served olds) disks refuses is));
       }
 
+      refusal_shows : (told : Bool) (node after : Node) → length node ≡ length olds → ShowsOn view told (serving olds) node now reply.Halted [] (Some after) (halted reason disks)
+      refusal_shows told node after many = record {
+        again = λ fresh is goes. absurd (goes refl);
+        refused = λ is. (set, reason, disks, refl, length-map olds (λ (s : ShardView D). s.shelf.disk) ∙ sym many,
+            subst (λ (n : ℕ). RefusesAt view set reason.0 0 n reason.1 (disks_served olds) disks) (sym many) refuses);
+      }
+
       any_refused : (node : Node) → Each (StandsOn view) olds node
-          → ActsFrom (StandsFor view) unknown (Halts view) false (serving olds) node command.Restart now reply.Halted (halted reason disks)
+          → ActsFrom (StandsFor view) unknown (Halts view) (ShowsOn view false) false (serving olds) node command.Restart now reply.Halted (halted reason disks)
       any_refused node stands = record {
         work = [];
         restarted = Some (counted_now view is_disk node disks);
@@ -210,10 +261,12 @@ module _ {D : Type 0} (view : D → DiskView) (set : Settings) where
         stands = λ goes. absurd (goes refl);
         leaves = nothing_left (serving olds) (halted reason disks) node _;
         halt = λ is. halts node stands;
+        shows = refusal_shows false node (counted_now view is_disk node disks) (each_length (StandsOn view) olds node stands);
       }
 
       safe_refused : (node : Node) → Each (StandsSafelyOn view) olds node
-          → ActsFrom (StandsSafely view) (views_of view) (HaltsSafely view) true (serving olds) node command.Restart now reply.Halted (halted reason disks)
+          → ActsFrom (StandsSafely view) (views_of view) (HaltsSafely view) (ShowsOn view true) true (serving olds) node
+          command.Restart now reply.Halted (halted reason disks)
       unfolding halts
       safe_refused node stands =
           let plain = each_more (StandsSafelyOn view) (StandsOn view) (λ shard slot s. s.stands) olds node stands in
@@ -229,6 +282,7 @@ module _ {D : Type 0} (view : D → DiskView) (set : Settings) where
               unrefused = not_refused view set reason.0 0 (length olds) reason.1 olds disks node are refuses stands;
               left = left_now view is_disk olds disks node stands read_all;
             };
+            shows = refusal_shows true node (counted_now view is_disk node disks) (each_length (StandsSafelyOn view) olds node stands);
           }
 
       pub restart_refused : Acts view (serving olds) command.Restart now reply.Halted (halted reason disks)

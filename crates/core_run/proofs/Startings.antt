@@ -60,7 +60,10 @@ module _ {D : Type 0} (view : D → DiskView) (set : Settings) (devices : ℕ) w
   stops_refuse zero device cause (d ∷ disks) shards (last ∷ left) stops =
       subst (λ (s : List (ShardView D)). RefusesAt view set zero device devices cause (d ∷ disks) (disks_served s ++ (last ∷ left))) (sym stops.0) (stops.1, stops.2)
   stops_refuse (suc place) device cause (d ∷ disks) [] left stops = absurd stops
-  stops_refuse (suc place) device cause (d ∷ disks) (s ∷ shards) left stops = (stops.0.read, stops_refuse place (device + 1) cause disks shards left stops.1)
+  stops_refuse (suc place) device cause (d ∷ disks) (s ∷ shards) left stops = (
+    record { read = stops.0.read; passes = λ tells. let begins = stops.0.begins tells in (s.shelf.geometry, begins.bodies, begins.passes) },
+    stops_refuse place (device + 1) cause disks shards left stops.1,
+  )
 
 -- ---- the last of a list
 

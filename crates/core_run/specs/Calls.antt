@@ -24,6 +24,7 @@ use Rattle.model_node.specs.Meaning.{ActsBy, TendsBy, ClosesBy}
 use Rattle.core_run.specs.Views.{NodeView, serving, halted, disks_served, disks_of, views_of, unknown, faults_of, AreLater}
 use Rattle.core_run.specs.Sure.{StaySure}
 use Rattle.core_run.specs.Starts.{StartsEach, RefusesAt}
+use Rattle.core_run.specs.Shown.{ShowsOn}
 use Rattle.law_raid.specs.Exact.{RaidsExactly, RaidSpares, RaidLeavesNone}
 use Rattle.core_run.specs.Standing.{Each, StandsSafelyOn, StandsFor, StandsSafely, Halts, HaltsSafely}
 
@@ -67,12 +68,13 @@ RaidedExactly view now (old ∷ olds) (slot ∷ node) (new ∷ news) removed cle
 
 -- Each command is carried out from each state for which the node stood: over every disk, where what is read may be anything, and over
 -- honest ones, with what a crash leaves meanwhile. A get is replied as its record is stored. A restart goes to a state behind a start of
--- each device from its disk, or one is refused, and then the node halts. A raid that isn't refused spares what it has to and is exact, over honest disks
--- whose images were sound. No gate becomes unsure of a device whose count of faults doesn't rise, and none is unsure behind a restart. A node that halted answers so from then on, and does nothing.
+-- each device from its disk, or one is refused, and then the node halts; in both it shows what each disk tells of its bytes. A raid that isn't
+-- refused spares what it has to and is exact, over honest disks whose images were sound. No gate becomes unsure of a device whose count of faults
+-- doesn't rise, and none is unsure behind a restart. A node that halted answers so from then on, and does nothing.
 pub record Acts {D : Type 0} (view : D → DiskView) (old : NodeView D) (c : Command) (now : ℕ) (r : Reply) (new : NodeView D) : Type 0 where
   pub later : AreLater view (disks_of old) (disks_of new)
-  pub any : ActsBy (StandsFor view) unknown (Halts view) false old c now r new
-  pub safe : ActsBy (StandsSafely view) (views_of view) (HaltsSafely view) true old c now r new
+  pub any : ActsBy (StandsFor view) unknown (Halts view) (ShowsOn view false) false old c now r new
+  pub safe : ActsBy (StandsSafely view) (views_of view) (HaltsSafely view) (ShowsOn view true) true old c now r new
   pub stored : (shards : List (ShardView D)) → old ≡ serving shards → RepliesStored view shards c now r
   pub again : (shards : List (ShardView D)) → old ≡ serving shards → c ≡ command.Restart → (set : Settings) × Restarted view set shards new
   pub exact : (olds news : List (ShardView D)) → old ≡ serving olds → new ≡ serving news → c ≡ command.Raid → (removed cleared : ℕ) → r ≡ reply.Raided removed cleared → (node : Node) → Each (StandsSafelyOn view) olds node

@@ -2,6 +2,7 @@
 use Rattle.std.specs.Prelude.{◌≡◌, ℕ, zero, suc, ◌+◌, List, [], ◌∷◌}
 use Rattle.disk_model.specs.Disk.{DiskView, IsOnly, IsHonest}
 use Rattle.model_device.specs.Device.{State}
+use Rattle.block_format.specs.declared.geometry.Geometry.{Geometry}
 use Rattle.block_format.specs.Layout.{Body}
 use Rattle.law_start.specs.Start.{start_state}
 use Rattle.law_start.specs.Sound.{IsSound}
@@ -9,7 +10,7 @@ use Rattle.block_shelf.specs.View.{AreSure}
 use Rattle.block_shelf.specs.Disks.{OnlyRead}
 use Rattle.cold_scan.specs.declared.header.Asked.{Asked}
 use Rattle.cold_scan.specs.declared.header.StartCause.{StartCause}
-use Rattle.cold_scan.specs.Starting.{IsRefused, FaultRose}
+use Rattle.cold_scan.specs.Starting.{IsRefused, FaultRose, Passes}
 use Rattle.shard_core.specs.declared.settings.Settings.{Settings}
 use Rattle.shard_core.specs.View.{ShardView, setup_of}
 use Rattle.shard_core.specs.Stands.{Agrees, IsSafe}
@@ -49,13 +50,18 @@ StartsEach view set device devices (disk ∷ disks) [] = ⊥
 StartsEach view set device devices (disk ∷ disks) (shard ∷ shards) =
     Started view set (asked device devices) disk shard × StartsEach view set (device + 1) devices disks shards
 
--- The disk at a place was refused. Those in front of it were read alone, and those behind it are as they were.
+-- A disk was taken into use, and then its device was stopped, since one behind it was refused. Nothing was written.
+pub record TakenInFront {D : Type 0} (view : D → DiskView) (place : Asked) (disk new : D) : Type 0 where
+  pub read : OnlyRead (view disk) (view new)
+  pub passes : (view disk).tells → (g : Geometry) × (bodies : List Body) × Passes place (view disk).seen g bodies
+
+-- The disk at a place was refused. Those in front of it were taken, and read alone, and those behind it are as they were.
 abbrev pub RefusesAt : {D : Type 0} → (view : D → DiskView) → Settings → (place device devices : ℕ) → StartCause → (old new : List D) → Type 0
 RefusesAt view set place device devices cause [] new = ⊥
 RefusesAt view set place device devices cause (disk ∷ old) [] = ⊥
 RefusesAt view set zero device devices cause (disk ∷ old) (last ∷ new) = NotStarted view set (asked device devices) cause disk last × (new ≡ old)
 RefusesAt view set (suc place) device devices cause (disk ∷ old) (last ∷ new) =
-    OnlyRead (view disk) (view last) × RefusesAt view set place (device + 1) devices cause old new
+    TakenInFront view (asked device devices) disk last × RefusesAt view set place (device + 1) devices cause old new
 
 -- Devices are being started: these shards are on the first of the disks, and these disks are left.
 abbrev pub Starting : {D : Type 0} → (view : D → DiskView) → Settings → (device devices : ℕ) → List D → List (ShardView D) → (left : List D) → Type 0

@@ -3,6 +3,7 @@ pub mod Standing
 pub mod Resting
 pub mod Starting
 pub mod Ending
+pub mod Shown
 pub mod Refusing
 pub mod Serving
 pub mod Ready

@@ -65,7 +65,7 @@ module _ {D : Type 0} (view : D → DiskView) (set : Settings) where
   refused_alone is_disk place device devices cause (x ∷ old) [] refuses = absurd refuses
   refused_alone is_disk zero device devices cause (x ∷ old) (y ∷ new) refuses =
       (refuses.0.read, subst (λ (disks : List D). ReadAlone view old disks) (sym refuses.1) (read_alone_none view is_disk old))
-  refused_alone is_disk (suc place) device devices cause (x ∷ old) (y ∷ new) refuses = (refuses.0, refused_alone is_disk place (device + 1) devices cause old new refuses.1)
+  refused_alone is_disk (suc place) device devices cause (x ∷ old) (y ∷ new) refuses = (refuses.0.read, refused_alone is_disk place (device + 1) devices cause old new refuses.1)
 
   module _ (place : ℕ) (old new : List D) where
     abbrev Has : RunEnd → Type 0

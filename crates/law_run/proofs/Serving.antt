@@ -14,18 +14,21 @@ use Rattle.node_session.specs.declared.ended.Ended.{Ended}
 use Rattle.node_session.specs.declared.ended.Ended.TheVariants.{Finish, Quit, SourceFault, SinkFault, Memory, Halted, Long}
 use Rattle.node_session.specs.Turns.{Times}
 use Rattle.node_session.specs.Session.{Ran}
+use Rattle.line_proto.specs.declared.command.Command.{Command}
+use Rattle.line_proto.specs.declared.reply.Reply.{Reply}
 use Rattle.model_node.specs.declared.run_end.RunEnd.{RunEnd}
 use Rattle.model_node.specs.Commands.{Node, NodeEvent, IsNumbered}
 use Rattle.model_node.specs.Run.{Served, EndsOnce, is_halted, node_after_lines, last_node}
 use Rattle.model_node.specs.Outside.{Outside, NoneFell, RoseOn, counts_of}
 use Rattle.model_node.specs.RunEnd.{input_limit}
 use Rattle.model_node.specs.Headline.{StartsFrom, IsNeverRefused}
-use Rattle.model_node.specs.Meaning.{ActsBy, TendsBy, ClosesFrom, Enters}
+use Rattle.model_node.specs.Meaning.{ClosesFrom, Enters}
 use Rattle.core_run.specs.Views.{NodeView, serving, halted, disks_served, disks_of, views_of, view_at, unknown, faults_of, AreLater}
 use Rattle.core_run.specs.Starts.{StartsEach}
+use Rattle.core_run.specs.Shown.{ShowsOn}
 use Rattle.core_run.specs.Standing.{StandsOn, StandsSafelyOn, StandsFor, StandsSafely, Each, Halts, HaltsSafely}
 use Rattle.core_run.specs.Calls.{Acts, Tends, ClosedSo}
-use Rattle.law_session.specs.Chain.{InHalt, EndsWith}
+use Rattle.law_session.specs.Chain.{InHalt, ShowsAll, ActsOn, TendsOn, EndsWith}
 use Rattle.law_session.specs.Whole.{RunsWhole, Frames, Concludes, ClosesWith, HaltsWith}
 use Rattle.law_session.proofs.Weaker.{ran_more}
 use Rattle.law_session.proofs.Kept.{ran_keeps}
@@ -40,6 +43,8 @@ use Rattle.law_run.proofs.Standing.{serves_or_halts, one_refusal, each_count, ea
 use Rattle.law_run.proofs.Resting.{nothing_left, now_survives, rest_on_any, rest_on_safe}
 use Rattle.law_run.proofs.Starting.{geometries_of, started_count, started_read, started_numbered, started_passes, first_setups, first_numbered, tells_at}
 use Rattle.law_run.proofs.Starting.{tell_each, found_node, sound_node, safe_node, entered}
+use Rattle.law_run.specs.Shown.{ShownEach}
+use Rattle.law_run.proofs.Shown.{LaterNode, lines_show}
 use Rattle.law_run.proofs.Ending.{closes_with, halts_with, closed_never, cause_never}
 
 module _ {D : Type 0} (view : D → DiskView) where
@@ -208,30 +213,50 @@ module _ {D : Type 0} (view : D → DiskView) where
       counts_last = counted ∙ sym at_last;
     }
 
+    -- ---- what the lines show
+
+    acts_later : (o : NodeView D) (c : Command) (now : ℕ) (r : Reply) (n : NodeView D) → Acts view o c now r n → LaterNode view o n
+    acts_later o c now r n acts = (acts.later, λ reason kept is. (acts.stays reason kept is).1)
+
+    tends_later : (o n : NodeView D) → Tends view o n → LaterNode view o n
+    tends_later o n tends = (tends.later, tends.stays)
+
+    abbrev Shown : (told : Bool) → RunEnd → Node → List Served → Type 0
+    Shown told how_ends first lines = ShownEach view told how_ends disks first lines (disks_of end)
+
+    lines_shown : (told : Bool) (first : Node) (served : List Served) → ShowsAll (ShowsOn view told) (LaterNode view) old first served new → Shown told (session_end result behind) first served
+    lines_shown told first served shown =
+        lines_show view failed new end behind counted how result told is_disk disks (disks_of end) old first served from_entry (later_behind failed new end behind counted is_disk how) shown
+
+    -- ---- the promises
+
     -- the promises on replies, over any disks
     replies_from : (Starts : Node → Type 0) (images : List (List ℕ)) (first : Node) → Each (StandsOn view) shards first → Starts first
-        → (ended : Bool) × CountedReplies counted Starts Setups (OutsideOf ended images)
+        → (ended : Bool) × CountedReplies counted Shown Starts Setups (OutsideOf ended images)
     unfolding run_replies
     replies_from Starts images first agree starts =
-        let w : RunsWhole (StandsFor view) unknown (Halts view) false SaysHow input_limit ran.bytes ran.output after.left times first old new end result =
-        ran_whole (StandsFor view) unknown (Halts view) false SaysHow (rest_on_any view) _ _ _ _ _ _ _ old new end times later first result
-        (ran_more (Acts view) (ActsBy (StandsFor view) unknown (Halts view) false) (Tends view) (TendsBy (StandsFor view) unknown false)
-        (λ o c now r n acts. acts.any) (λ o n tends. tends.any) _ _ _ _ _ _ _ old new times later result ran)
+        let w : RunsWhole (StandsFor view) unknown (Halts view) (ShowsOn view false) (LaterNode view) false SaysHow input_limit ran.bytes ran.output after.left times first old new end result =
+        ran_whole (StandsFor view) unknown (Halts view) (ShowsOn view false) (LaterNode view) false SaysHow (rest_on_any view is_disk) _ _ _ _ _ _ _ old new end times later first result
+        (ran_more (Acts view) (ActsOn (StandsFor view) unknown (Halts view) (ShowsOn view false) (LaterNode view) false) (Tends view) (TendsOn (StandsFor view) unknown (LaterNode view) false)
+        (λ o c now r n acts. (acts.any, acts_later o c now r n acts)) (λ o n tends. (tends.any, tends_later o n tends)) _ _ _ _ _ _ _ old new times later result ran)
         (shards, refl, agree) (closes_any failed new end behind counted how) (stays_so failed new end behind counted how) in
         let last : Node = last_node first w.lifted.served w.closing in
         let at_new : IsCounted new (node_after_lines w.lifted.served first) =
-        last_served (StandsFor view) unknown (Halts view) false SaysHow _ _ _ _ _ first old new result w.lifted (IsCounted new) (counted_any new) (counted_halted new) in
+        last_served (StandsFor view) unknown (Halts view) (ShowsOn view false) (LaterNode view) false SaysHow _ _ _ _ _ first old new result w.lifted
+        (IsCounted new) (counted_any new) (counted_halted new) in
         let at_end : IsCounted end last =
-        last_closed (StandsFor view) unknown (Halts view) false SaysHow _ _ _ _ _ first old new end result w (IsCounted end) (counted_any end) (counted_halted end) in (
+        last_closed (StandsFor view) unknown (Halts view) (ShowsOn view false) (LaterNode view) false SaysHow _ _ _ _ _ first old new end result w
+        (IsCounted end) (counted_any end) (counted_halted end) in (
           w.lifted.ended,
           (
-            run_replies (StandsFor view) unknown (Halts view) false SaysHow Starts Setups (OutsideOf w.lifted.ended images)
+            run_replies (StandsFor view) unknown (Halts view) (ShowsOn view false) (LaterNode view) false SaysHow Starts Setups (OutsideOf w.lifted.ended images)
                 (unknown old) first old new end result w refl (frames Starts w.lifted.ended images first last agree starts at_end)
                 (concludes failed new end behind counted (Halts view new) (λ a b h. h) ran.bytes ran.output w.lifted.ended times before after images first w.lifted.served w.lifted.unserved w.closing
                 (many first agree) w.lifted.once w.lifted.halt
                 (λ goes. let stands = w.lifted.stands goes in (stands.0, stands.1)) at_new at_end how input_limit result w.lifted.ends w.says source sink)
                 (λ (device : ℕ). (nothing_left old old first (λ n. []) device).time),
             count_at failed new end behind counted how first w.lifted.served w.closing w.stands (λ is. halt_last (Halts view new) first w.lifted.served w.lifted.once is w.lifted.halt),
+            lines_shown false first w.lifted.served w.lifted.shown,
           ),
         )
 
@@ -241,12 +266,14 @@ module _ {D : Type 0} (view : D → DiskView) where
       agreed : Each (StandsOn view) shards First
       agreed = each_stands view shards First safely
 
-      safe_run : RunsWhole (StandsSafely view) (views_of view) (HaltsSafely view) true SaysHow input_limit ran.bytes ran.output after.left times First old new end result
+      safe_run : RunsWhole (StandsSafely view) (views_of view) (HaltsSafely view) (ShowsOn view true) (LaterNode view) true SaysHow input_limit ran.bytes ran.output
+          after.left times First old new end result
       safe_run =
-          ran_whole (StandsSafely view) (views_of view) (HaltsSafely view) true SaysHow (rest_on_safe view is_disk) _ _ _ _ _ _ _ old new end times later First result
-          (ran_more (Acts view) (ActsBy (StandsSafely view) (views_of view) (HaltsSafely view) true)
-          (Tends view) (TendsBy (StandsSafely view) (views_of view) true)
-          (λ o c now r n acts. acts.safe) (λ o n tends. tends.safe) _ _ _ _ _ _ _ old new times later result ran)
+          ran_whole (StandsSafely view) (views_of view) (HaltsSafely view) (ShowsOn view true) (LaterNode view) true SaysHow
+          (rest_on_safe view is_disk) _ _ _ _ _ _ _ old new end times later First result
+          (ran_more (Acts view) (ActsOn (StandsSafely view) (views_of view) (HaltsSafely view) (ShowsOn view true) (LaterNode view) true)
+          (Tends view) (TendsOn (StandsSafely view) (views_of view) (LaterNode view) true)
+          (λ o c now r n acts. (acts.safe, acts_later o c now r n acts)) (λ o n tends. (tends.safe, tends_later o n tends)) _ _ _ _ _ _ _ old new times later result ran)
           (shards, refl, safely) (closes_safe failed new end behind counted how) (λ a b h. stays_so failed new end behind counted how a b h.halts)
 
       enters : Enters (views_of view) (λ device. view_at view disks device) First old
@@ -283,21 +310,22 @@ module _ {D : Type 0} (view : D → DiskView) where
           of Halted = by (is_halted served) refl how
           of (Long n) = tt
 
-      holds : (ended : Bool) × CountedThroughout counted Setups (OutsideOf ended Reads) (λ device. meanwhile (view_at view disks device) (view_at view (disks_of end) device))
+      holds : (ended : Bool) × CountedThroughout counted Shown Setups (OutsideOf ended Reads) (λ device. meanwhile (view_at view disks device) (view_at view (disks_of end) device))
           (λ device. (view_at view (disks_of end) device).may_leave)
       unfolding run_holds run_replies
       holds =
           let w = safe_run in
           let last : Node = last_node First w.lifted.served w.closing in
           let at_new : IsCounted new (node_after_lines w.lifted.served First) =
-          last_served (StandsSafely view) (views_of view) (HaltsSafely view) true SaysHow _ _ _ _ _ First old new result w.lifted (IsCounted new) (counted_safe new)
+          last_served (StandsSafely view) (views_of view) (HaltsSafely view) (ShowsOn view true) (LaterNode view) true SaysHow _ _ _ _ _ First old new result w.lifted
+          (IsCounted new) (counted_safe new)
           (λ a b h. counted_halted new a b h.halts) in
           let at_end : IsCounted end last =
-          last_closed (StandsSafely view) (views_of view) (HaltsSafely view) true SaysHow _ _ _ _ _ First old new end result w (IsCounted end) (counted_safe end)
+          last_closed (StandsSafely view) (views_of view) (HaltsSafely view) (ShowsOn view true) (LaterNode view) true SaysHow _ _ _ _ _ First old new end result w (IsCounted end) (counted_safe end)
           (λ a b h. counted_halted end a b h.halts) in (
             w.lifted.ended,
             (
-              run_holds (StandsSafely view) (views_of view) (HaltsSafely view) SaysHow (rest_on_safe view is_disk) Setups (OutsideOf w.lifted.ended Reads)
+              run_holds (StandsSafely view) (views_of view) (HaltsSafely view) (ShowsOn view true) (LaterNode view) SaysHow (rest_on_safe view is_disk) Setups (OutsideOf w.lifted.ended Reads)
                   (λ device. view_at view disks device) (λ device. (view_at view (disks_of end) device).may_leave) First old new end result w refl
                   (frames (StartsFrom Reads) w.lifted.ended Reads First last agreed starts at_end)
                   (concludes failed new end behind counted (HaltsSafely view new)
@@ -310,6 +338,7 @@ module _ {D : Type 0} (view : D → DiskView) where
               count_at failed new end behind counted how First w.lifted.served w.closing
                   (λ goes. let stands = w.stands goes in (stands.0, stands.1, each_stands view stands.0 (last_node First w.lifted.served w.closing) stands.2))
                   (λ is. let at = halt_last (HaltsSafely view new) First w.lifted.served w.lifted.once is w.lifted.halt in (at.0, at.1.halts)),
+              lines_shown true First w.lifted.served w.lifted.shown,
             ),
           )
 
@@ -318,7 +347,7 @@ module _ {D : Type 0} (view : D → DiskView) where
     -- the number of disks is that of what they read
     abbrev ServedOver : ℕ → Type 0
     ServedOver n = (count : length (geometries_of shards) ≡ n) × AreNumbered 0 n (geometries_of shards) × PassEach 0 n (geometries_of shards) (tells_at view disks) Reads
-        × ((ended : Bool) × CountedReplies counted (StartsFound set 0 n (geometries_of shards) (tells_at view disks) Reads) Setups (OutsideOf ended []))
+        × ((ended : Bool) × CountedReplies counted Shown (StartsFound set 0 n (geometries_of shards) (tells_at view disks) Reads) Setups (OutsideOf ended []))
 
     served_count : ServedOver (length disks)
     served_count =

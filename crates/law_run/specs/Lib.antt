@@ -1,3 +1,4 @@
 pub mod Concluding
+pub mod Shown
 pub mod Promises
 pub mod Behind

@@ -22,6 +22,7 @@ use Rattle.model_node.specs.Run.{ImagesLeft, Served, is_halted, last_node}
 use Rattle.model_node.specs.Outside.{Outside}
 use Rattle.model_node.specs.RunEnd.{status_of, note_of, HasStartCause}
 use Rattle.model_node.specs.Headline.{StartsFrom, HoldsReplies, HoldsThroughout}
+use Rattle.law_run.specs.Shown.{ShownEach}
 
 -- ---- what a run is over
 
@@ -57,7 +58,8 @@ OnlyEach view disks = AllByRecursion (λ disk. IsOnly (view disk).seen (view dis
 
 -- What is known of the disks that were handed in, and of those handed back, in order: of each whether it tells its bytes, and what it
 -- reads; whether all are honest, and whether what each reads is its one image; that the second are the first at a later time, and that
--- nothing was written to any in between; and which images a crash may have left of each device since the entry, and may leave now.
+-- nothing was written to any in between; which images a crash may have left of each device since the entry, and may leave now; and what the lines
+-- of a run that ended so, from this node on, have shown of them.
 pub record DisksOf : Type 1 where
   pub tells : ℕ → Type 0
   pub reads : List (List ℕ)
@@ -67,6 +69,7 @@ pub record DisksOf : Type 1 where
   pub read_alone : Type 0
   pub since : ImagesLeft
   pub now : ImagesLeft
+  pub shows : (told : Bool) → RunEnd → Node → List Served → Type 0
 
 abbrev pub disks_between : {D : Type 0} → (view : D → DiskView) → (old new : List D) → DisksOf
 disks_between view old new = record {
@@ -78,6 +81,7 @@ disks_between view old new = record {
   read_alone = ReadAlone view old new;
   since = λ device. meanwhile (view_at view old device) (view_at view new device);
   now = λ device. (view_at view new device).may_leave;
+  shows = λ told how first lines. ShownEach view told how old first lines new;
 }
 
 -- ---- where it starts
@@ -151,15 +155,17 @@ abbrev pub IsCount : Option Counts → (first : Node) → List Served → (closi
 IsCount None first lines closing = IsTrue (is_halted lines)
 IsCount (Some counts) first lines closing = counts ≡ node_counts (last_node first lines closing)
 
--- the promises on replies, with the numbers at the end of that run
-abbrev pub CountedReplies : Option Counts → (Starts : Node → Type 0) → List Setup → Outside → Type 0
-CountedReplies counted Starts setups o =
+-- the promises on replies, with the numbers at the end of that run, and what its lines show
+abbrev pub CountedReplies : Option Counts → (shows : (told : Bool) → RunEnd → Node → List Served → Type 0) → (Starts : Node → Type 0) → List Setup → Outside → Type 0
+CountedReplies counted shows Starts setups o =
     (holds : HoldsReplies Starts false setups o (λ device image. ⊥)) × IsCount counted holds.first holds.lines holds.closing
+    × shows false o.end holds.first holds.lines
 
--- all promises, with the numbers at the end of that run
-abbrev pub CountedThroughout : Option Counts → List Setup → Outside → (since now : ImagesLeft) → Type 0
-CountedThroughout counted setups o since now =
+-- all promises, with the numbers at the end of that run, and what its lines show
+abbrev pub CountedThroughout : Option Counts → (shows : (told : Bool) → RunEnd → Node → List Served → Type 0) → List Setup → Outside → (since now : ImagesLeft) → Type 0
+CountedThroughout counted shows setups o since now =
     (holds : HoldsThroughout setups o since now) × IsCount counted holds.replies.first holds.replies.lines holds.replies.closing
+    × shows true o.end holds.replies.first holds.replies.lines
 
 -- All devices were taken into use, and the bytes written are the front of the reply texts of a run over the bytes taken.
 -- Over any disks it is a run from what the start found, which is what the bytes of each have where it tells them; over disks whose bytes
@@ -179,13 +185,13 @@ pub record IsServed (set : Settings) (d : DisksOf) (end : RunEnd) (times : Optio
   pub takes : after.taken ≡ before.taken ++ bytes
   pub shortens : Shortens before.left after.left bytes
   pub extends : Extends before.written after.written output
-  pub replies : (ended : Bool) × CountedReplies counted (StartsFound set 0 (length d.reads) geometries d.tells d.reads) (setups_for set geometries)
+  pub replies : (ended : Bool) × CountedReplies counted d.shows (StartsFound set 0 (length d.reads) geometries d.tells d.reads) (setups_for set geometries)
       (outside end bytes output ended times before after [])
   pub from_image : AllTell d.tells (length d.reads) → SoundEach (setups_for set geometries) d.reads
-      → (ended : Bool) × CountedReplies counted (StartsFrom d.reads) (setups_for set geometries)
+      → (ended : Bool) × CountedReplies counted d.shows (StartsFrom d.reads) (setups_for set geometries)
       (outside end bytes output ended times before after d.reads)
   pub throughout : d.honest → d.only → SoundEach (setups_for set geometries) d.reads
-      → (ended : Bool) × CountedThroughout counted (setups_for set geometries)
+      → (ended : Bool) × CountedThroughout counted d.shows (setups_for set geometries)
       (outside end bytes output ended times before after d.reads) d.since d.now
 
 -- What the promise of all asks of the disks: they are honest, each has one image, and that is sound for the device that a start finds there.

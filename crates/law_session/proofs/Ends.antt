@@ -21,9 +21,9 @@ use Rattle.node_session.specs.Session.{unended, TakesUp, HasWholeTurns, HasAllTu
 use Rattle.model_node.specs.Run.{Served, halts, is_halted, times_of, replies_of, node_after_lines}
 use Rattle.model_node.specs.Outside.{IsFrontOf, is_bye, has_quit, written_text, rest_line}
 use Rattle.model_node.specs.Headline.{Gives}
-use Rattle.model_node.specs.Meaning.{ActsBy, TendsBy}
+use Rattle.model_node.specs.Meaning.{Showing}
 use Rattle.law_session.specs.Whole.{RestsOn}
-use Rattle.law_session.specs.Chain.{line_end_of, TicksAll, EndsWith, Lifted}
+use Rattle.law_session.specs.Chain.{line_end_of, TicksAll, ActsOn, TendsOn, EndsWith, Lifted}
 use Rattle.law_session.proofs.Lines.{falls_any, falls_behind, falls_first, ends_of, ends_of_all}
 use Rattle.law_session.proofs.Replies.{once_in, halted_in, bye_in, once_of, halted_of, quit_of, text_of, go_once, go_halted, go_bye, last_once, last_halted, last_bye, halts_not, count_unended}
 use Rattle.law_session.proofs.Turns.{gives_of, ChainOf, chain_then, turn_chain, quit_chain, halt_chain, turns_chain, back_in_halt}
@@ -89,26 +89,26 @@ LastIs QuitStop r unsent = (r ≡ reply.Bye) × (unsent ≡ [])
 LastIs MemoryStop r unsent = halts r ≡ false
 LastIs HaltStop r unsent = (r ≡ reply.Halted) × (unsent ≡ [])
 
-module _ {T : Type 0} (Stands : T → Node → Type 0) (views : T → ℕ → DiskView) (Halts : T → (before after : Node) → Type 0) (told : Bool) where
+module _ {T : Type 0} (Stands : T → Node → Type 0) (views : T → ℕ → DiskView) (Halts : T → (before after : Node) → Type 0) (Shows : Showing T) (Later : T → T → Type 0) (told : Bool) where
   record LastChain (raw : Option (List ℕ)) (mid : T) (then : Times) (node : Node) (sent : List ℕ) (new : T) (later : Times) (stop : Stop) : Type 0 where
     last : Reply
-    chain : ChainOf Stands views Halts told mid then node (raw ∷ []) (last ∷ []) new later
+    chain : ChainOf Stands views Halts Shows Later told mid then node (raw ∷ []) (last ∷ []) new later
     unsent : List ℕ
     text : reply_text last ≡ sent ++ unsent
     is_last : LastIs stop last unsent
 
-  any_chain : RestsOn Stands views Halts told → (raw : Option (List ℕ)) (mid : T) (then : Times) (node : Node) (r : Reply) (new : T) (later : Times)
-      → TurnAny (ActsBy Stands views Halts told) (TendsBy Stands views told) (line_end_of raw) mid then r new later → Stands mid node
-      → ChainOf Stands views Halts told mid then node (raw ∷ []) (r ∷ []) new later × (halts r ≡ false)
-  any_chain on raw mid then node r new later (inl turn) stands = ((turn_chain Stands views Halts told on mid new then later node raw r turn stands).0, halts_not r turn.no_halt)
-  any_chain on raw mid then node r new later (inr quits) stands = (quit_chain Stands views Halts told on mid new then later node raw r quits stands, ap halts quits.farewell)
+  any_chain : RestsOn Stands views Halts Shows Later told → (raw : Option (List ℕ)) (mid : T) (then : Times) (node : Node) (r : Reply) (new : T) (later : Times)
+      → TurnAny (ActsOn Stands views Halts Shows Later told) (TendsOn Stands views Later told) (line_end_of raw) mid then r new later → Stands mid node
+      → ChainOf Stands views Halts Shows Later told mid then node (raw ∷ []) (r ∷ []) new later × (halts r ≡ false)
+  any_chain on raw mid then node r new later (inl turn) stands = ((turn_chain Stands views Halts Shows Later told on mid new then later node raw r turn stands).0, halts_not r turn.no_halt)
+  any_chain on raw mid then node r new later (inr quits) stands = (quit_chain Stands views Halts Shows Later told on mid new then later node raw r quits stands, ap halts quits.farewell)
 
-  last_chain : RestsOn Stands views Halts told → (raw : Option (List ℕ)) (mid : T) (then : Times) (node : Node) (sent : List ℕ) (new : T) (later : Times) (stop : Stop)
-      → StopsAtLine (ActsBy Stands views Halts told) (TendsBy Stands views told) (line_end_of raw) mid then sent new later stop → Stands mid node
+  last_chain : RestsOn Stands views Halts Shows Later told → (raw : Option (List ℕ)) (mid : T) (then : Times) (node : Node) (sent : List ℕ) (new : T) (later : Times) (stop : Stop)
+      → StopsAtLine (ActsOn Stands views Halts Shows Later told) (TendsOn Stands views Later told) (line_end_of raw) mid then sent new later stop → Stands mid node
       → LastChain raw mid then node sent new later stop
   last_chain on raw mid then node sent new later QuitStop stops stands = record {
     last = reply.Bye;
-    chain = quit_chain Stands views Halts told on mid new then later node raw reply.Bye stops.0 stands;
+    chain = quit_chain Stands views Halts Shows Later told on mid new then later node raw reply.Bye stops.0 stands;
     unsent = [];
     text = sym stops.1 ∙ sym (append-nil sent);
     is_last = (refl, refl);
@@ -118,7 +118,7 @@ module _ {T : Type 0} (Stands : T → Node → Type 0) (views : T → ℕ → Di
       record { last = stops.0; chain = any.0; unsent = reply_text stops.0; text = ap (λ (l : List ℕ). l ++ reply_text stops.0) (sym stops.2); is_last = any.1 }
   last_chain on raw mid then node sent new later HaltStop stops stands = record {
     last = reply.Halted;
-    chain = halt_chain Stands views Halts told on mid new then later node raw stops.0 stands;
+    chain = halt_chain Stands views Halts Shows Later told on mid new then later node raw stops.0 stands;
     unsent = [];
     text = sym stops.1 ∙ sym (append-nil sent);
     is_last = (refl, refl);
@@ -127,11 +127,11 @@ module _ {T : Type 0} (Stands : T → Node → Type 0) (views : T → ℕ → Di
   -- a chain, and what the bytes and the replies say of it
   lifted : (limit : ℕ) (bytes output : List ℕ) (left : Option (List ℕ)) (old new : T) (times later : Times) (node : Node) (result : Ended) (raws unserved : List (Option (List ℕ)))
       (rs : List Reply) (at_input_end : Bool) (lines : List (List ℕ)) (rest : List ℕ)
-      → ChainOf Stands views Halts told old times node raws rs new later → FallInto bytes lines rest
+      → ChainOf Stands views Halts Shows Later told old times node raws rs new later → FallInto bytes lines rest
       → map Some lines ++ rest_line at_input_end rest ≡ raws ++ unserved → (IsTrue at_input_end → IsAtEnd left)
       → once_in rs → IsFrontOf output (flat_map reply_text rs)
       → ((served : List Served) → map (λ s. s.line) served ≡ raws → replies_of served ≡ rs → EndsWith limit bytes output at_input_end served unserved result)
-      → Lifted Stands views Halts told limit bytes output left times node old new result
+      → Lifted Stands views Halts Shows Later told limit bytes output left times node old new result
   lifted limit bytes output left old new times later node result raws unserved rs at_input_end lines rest chain falls in_order at_end once front ends = record {
     served = chain.served;
     unserved = unserved;
@@ -141,6 +141,7 @@ module _ {T : Type 0} (Stands : T → Node → Type 0) (views : T → ℕ → Di
     stands = chain.stands;
     leaves = chain.leaves;
     halt = chain.halt;
+    shown = chain.shown;
     takes = record {
       lines = lines;
       rest = rest;
@@ -173,27 +174,27 @@ module _ {T : Type 0} (Stands : T → Node → Type 0) (views : T → ℕ → Di
   count_served served raws of = sym (length-map served (λ (s : Served). s.line)) ∙ ap length of
 
   abbrev TurnsOf : List LineEnd → T → Times → List ℕ → T → Times → Type 0
-  TurnsOf ends old times output new later = HasTurns (ActsBy Stands views Halts told) (TendsBy Stands views told) ends old times output new later
+  TurnsOf ends old times output new later = HasTurns (ActsOn Stands views Halts Shows Later told) (TendsOn Stands views Later told) ends old times output new later
 
   -- all whole lines had their turns, and perhaps a rest at the input's end; the output is a front of their replies' text
-  all_served : RestsOn Stands views Halts told → (limit : ℕ) (bytes text output : List ℕ) (left : Option (List ℕ)) (old new : T) (times later : Times) (node : Node) (result : Ended)
+  all_served : RestsOn Stands views Halts Shows Later told → (limit : ℕ) (bytes text output : List ℕ) (left : Option (List ℕ)) (old new : T) (times later : Times) (node : Node) (result : Ended)
       (raws unserved : List (Option (List ℕ))) (at_input_end : Bool) (lines : List (List ℕ)) (rest : List ℕ)
       → TurnsOf (map line_end_of raws) old times text new later → IsFrontOf output text → Stands old node → FallInto bytes lines rest
       → map Some lines ++ rest_line at_input_end rest ≡ raws ++ unserved → (IsTrue at_input_end → IsAtEnd left)
       → ((served : List Served) → map (λ s. s.line) served ≡ raws → text ≡ written_text served → has_quit served ≡ false → is_halted served ≡ false
       → EndsWith limit bytes output at_input_end served unserved result)
-      → Lifted Stands views Halts told limit bytes output left times node old new result
+      → Lifted Stands views Halts Shows Later told limit bytes output left times node old new result
   all_served on limit bytes text output left old new times later node result raws unserved at_input_end lines rest serves front stands falls in_order at_end ends =
-      let chain = turns_chain Stands views Halts told on raws serves.replies old new times later node serves.turns stands in
+      let chain = turns_chain Stands views Halts Shows Later told on raws serves.replies old new times later node serves.turns stands in
       lifted limit bytes output left old new times later node result raws unserved serves.replies at_input_end lines rest chain.0 falls in_order at_end (go_once serves.replies chain.1)
       (front.0, sym serves.told ∙ front.1)
       (λ served of_lines of_replies. ends served of_lines (whole_text served serves.replies text of_replies serves.told)
       (not_quit served serves.replies false of_replies (go_bye serves.replies chain.1)) (not_halted served serves.replies false of_replies (go_halted serves.replies chain.1)))
 
-  whole_lines : RestsOn Stands views Halts told → (limit : ℕ) (bytes output : List ℕ) (left : Option (List ℕ)) (old new : T) (times later : Times) (node : Node) (result : Ended)
-      → HasWholeTurns (ActsBy Stands views Halts told) (TendsBy Stands views told) bytes old times output new later → Stands old node
+  whole_lines : RestsOn Stands views Halts Shows Later told → (limit : ℕ) (bytes output : List ℕ) (left : Option (List ℕ)) (old new : T) (times later : Times) (node : Node) (result : Ended)
+      → HasWholeTurns (ActsOn Stands views Halts Shows Later told) (TendsOn Stands views Later told) bytes old times output new later → Stands old node
       → ((served : List Served) → output ≡ written_text served → has_quit served ≡ false → is_halted served ≡ false → EndsWith limit bytes output false served [] result)
-      → Lifted Stands views Halts told limit bytes output left times node old new result
+      → Lifted Stands views Halts Shows Later told limit bytes output left times node old new result
   whole_lines on limit bytes output left old new times later node result whole stands ends =
       all_served on limit bytes output output left old new times later node result (map Some whole.lines) [] false whole.lines whole.rest
       (subst (λ (l : List LineEnd). TurnsOf l old times output new later) (sym (ends_of whole.lines)) whole.serves) (whole_front output) stands whole.falls refl (λ no_end. absurd (not_true no_end))
@@ -220,24 +221,25 @@ module _ {T : Type 0} (Stands : T → Node → Type 0) (views : T → ℕ → Di
   said_so served rs said of is = text_of served ∙ of_text served rs of ∙ is
 
   -- the session stopped at a line; the output is a front of what is told up to it
-  stopped_lifts : RestsOn Stands views Halts told → (limit : ℕ) (bytes text output : List ℕ) (left : Option (List ℕ)) (old new : T) (times later : Times) (node : Node)
+  stopped_lifts : RestsOn Stands views Halts Shows Later told → (limit : ℕ) (bytes text output : List ℕ) (left : Option (List ℕ)) (old new : T) (times later : Times) (node : Node)
       (result : Ended) (n : ℕ) (stop : Stop)
-      → StopsAfter (ActsBy Stands views Halts told) (TendsBy Stands views told) bytes left n old times text new later stop → IsFrontOf output text → Stands old node
+      → StopsAfter (ActsOn Stands views Halts Shows Later told) (TendsOn Stands views Later told) bytes left n old times text new later stop → IsFrontOf output text → Stands old node
       → ((at_input_end : Bool) (served : List Served) (unserved : List (Option (List ℕ))) (r : Reply) (unsent : List ℕ) → length served ≡ n + 1 → written_text served ≡ text ++ unsent
       → LastIs stop r unsent → has_quit served ≡ is_bye r → is_halted served ≡ halts r → EndsWith limit bytes output at_input_end served unserved result)
-      → Lifted Stands views Halts told limit bytes output left times node old new result
+      → Lifted Stands views Halts Shows Later told limit bytes output left times node old new result
   stopped_lifts on limit bytes text output left old new times later node result n stop stops front stands ends =
       let parts : Parts bytes left stops.lines stops.line = parts_of bytes left stops.lines stops.rest stops.line stops.whole stops.each stops.takes_up in
       let serves : TurnsOf (map line_end_of (map Some stops.lines)) old times stops.told stops.mid stops.then =
       subst (λ (l : List LineEnd). TurnsOf l old times stops.told stops.mid stops.then) (sym (ends_of stops.lines)) stops.serves in
-      let first = turns_chain Stands views Halts told on (map Some stops.lines) serves.replies old stops.mid times stops.then node serves.turns stands in
+      let first = turns_chain Stands views Halts Shows Later told on (map Some stops.lines) serves.replies old stops.mid times stops.then node serves.turns stands in
       let mid_node : Node = node_after_lines first.0.served node in
       let last : LastChain parts.raw stops.mid stops.then mid_node stops.last new later stop =
       last_chain on parts.raw stops.mid stops.then mid_node stops.last new later stop
-      (subst (λ (l : LineEnd). StopsAtLine (ActsBy Stands views Halts told) (TendsBy Stands views told) l stops.mid stops.then stops.last new later stop) (sym parts.is_end) stops.stops)
+      (subst (λ (l : LineEnd). StopsAtLine (ActsOn Stands views Halts Shows Later told) (TendsOn Stands views Later told) l stops.mid stops.then stops.last new later stop)
+      (sym parts.is_end) stops.stops)
       (first.0.stands (halted_of first.0.served ∙ ap halted_in first.0.of_replies ∙ go_halted serves.replies first.1)) in
-      let both : ChainOf Stands views Halts told old times node (map Some stops.lines ++ parts.raw ∷ []) (serves.replies ++ last.last ∷ []) new later =
-      chain_then Stands views Halts told on old stops.mid new times stops.then later node (map Some stops.lines) (parts.raw ∷ []) serves.replies (last.last ∷ []) first.0 last.chain
+      let both : ChainOf Stands views Halts Shows Later told old times node (map Some stops.lines ++ parts.raw ∷ []) (serves.replies ++ last.last ∷ []) new later =
+      chain_then Stands views Halts Shows Later told on old stops.mid new times stops.then later node (map Some stops.lines) (parts.raw ∷ []) serves.replies (last.last ∷ []) first.0 last.chain
       (back_in_halt (Halts new) node first.0.served last.chain.served (omega (arith, count_served last.chain.served (parts.raw ∷ []) last.chain.of_lines)) last.chain.halt) in
       let said : flat_map reply_text (serves.replies ++ last.last ∷ []) ≡ text ++ last.unsent =
       text_parts text stops.told stops.last last.unsent serves.replies last.last stops.all serves.told last.text in
@@ -255,10 +257,10 @@ module _ {T : Type 0} (Stands : T → Node → Type 0) (views : T → ℕ → Di
   all_sent output text unsent is none = sym (is ∙ ap (λ (l : List ℕ). output ++ l) none ∙ append-nil output)
 
   -- all lines up to the end of the input had their turns
-  all_lifts : RestsOn Stands views Halts told → (limit : ℕ) (bytes text output : List ℕ) (left : Option (List ℕ)) (old new : T) (times later : Times) (node : Node) (result : Ended) (n : ℕ)
-      → HasAllTurns (ActsBy Stands views Halts told) (TendsBy Stands views told) bytes left n old times text new later → IsFrontOf output text → Stands old node
+  all_lifts : RestsOn Stands views Halts Shows Later told → (limit : ℕ) (bytes text output : List ℕ) (left : Option (List ℕ)) (old new : T) (times later : Times) (node : Node) (result : Ended) (n : ℕ)
+      → HasAllTurns (ActsOn Stands views Halts Shows Later told) (TendsOn Stands views Later told) bytes left n old times text new later → IsFrontOf output text → Stands old node
       → ((served : List Served) → text ≡ written_text served → has_quit served ≡ false → is_halted served ≡ false → n ≡ length served → EndsWith limit bytes output true served [] result)
-      → Lifted Stands views Halts told limit bytes output left times node old new result
+      → Lifted Stands views Halts Shows Later told limit bytes output left times node old new result
   all_lifts on limit bytes text output left old new times later node result n all front stands ends =
       let raws : List (Option (List ℕ)) = map Some all.lines ++ rest_line true all.rest in
       all_served on limit bytes text output left old new times later node result raws [] true all.lines all.rest
@@ -266,10 +268,10 @@ module _ {T : Type 0} (Stands : T → Node → Type 0) (views : T → ℕ → Di
       (λ served of_lines told_text quit halted. ends served told_text quit halted (all.counted ∙ sym (count_served served raws of_lines ∙ count_all all.lines all.rest)))
 
   -- the first whole lines had their turns
-  first_lifts : RestsOn Stands views Halts told → (limit : ℕ) (bytes text output : List ℕ) (left : Option (List ℕ)) (old new : T) (times later : Times) (node : Node) (result : Ended)
-      → HasFirstTurns (ActsBy Stands views Halts told) (TendsBy Stands views told) bytes old times text new later → IsFrontOf output text → Stands old node
+  first_lifts : RestsOn Stands views Halts Shows Later told → (limit : ℕ) (bytes text output : List ℕ) (left : Option (List ℕ)) (old new : T) (times later : Times) (node : Node) (result : Ended)
+      → HasFirstTurns (ActsOn Stands views Halts Shows Later told) (TendsOn Stands views Later told) bytes old times text new later → IsFrontOf output text → Stands old node
       → ((served : List Served) (unserved : List (Option (List ℕ))) → is_halted served ≡ false → EndsWith limit bytes output false served unserved result)
-      → Lifted Stands views Halts told limit bytes output left times node old new result
+      → Lifted Stands views Halts Shows Later told limit bytes output left times node old new result
   first_lifts on limit bytes text output left old new times later node result first front stands ends =
       let more = falls_any first.rest in
       all_served on limit bytes text output left old new times later node result (map Some first.lines) (map Some more.0) false (first.lines ++ more.0) more.1
@@ -279,9 +281,9 @@ module _ {T : Type 0} (Stands : T → Node → Type 0) (views : T → ℕ → Di
       (λ served of_lines told_text quit halted. ends served (map Some more.0) halted)
 
   -- some lines had their turns, and the output is a front of their replies' text
-  some_lifts : RestsOn Stands views Halts told → (limit : ℕ) (bytes text output : List ℕ) (left : Option (List ℕ)) (old new : T) (times later : Times) (node : Node)
-      → IsFrontOf output text → HasSomeTurns (ActsBy Stands views Halts told) (TendsBy Stands views told) bytes left old times text new later → Stands old node
-      → Lifted Stands views Halts told limit bytes output left times node old new SinkFault
+  some_lifts : RestsOn Stands views Halts Shows Later told → (limit : ℕ) (bytes text output : List ℕ) (left : Option (List ℕ)) (old new : T) (times later : Times) (node : Node)
+      → IsFrontOf output text → HasSomeTurns (ActsOn Stands views Halts Shows Later told) (TendsOn Stands views Later told) bytes left old times text new later → Stands old node
+      → Lifted Stands views Halts Shows Later told limit bytes output left times node old new SinkFault
   some_lifts on limit bytes text output left old new times later node front (inl first) stands =
       first_lifts on limit bytes text output left old new times later node SinkFault first front stands (λ served unserved halted. tt)
   some_lifts on limit bytes text output left old new times later node front (inr (inl all)) stands =
@@ -291,9 +293,9 @@ module _ {T : Type 0} (Stands : T → Node → Type 0) (views : T → ℕ → Di
       (λ at_input_end served unserved r unsent count said last quit halted. tt)
 
   -- All of a run but its closing flush, of every end of a session.
-  pub ends_lift : RestsOn Stands views Halts told → (limit : ℕ) (bytes output : List ℕ) (left : Option (List ℕ)) (old new : T) (times later : Times) (node : Node) (result : Ended)
-      → EndsSo (ActsBy Stands views Halts told) (TendsBy Stands views told) limit bytes left old times output new later result → Stands old node
-      → Lifted Stands views Halts told limit bytes output left times node old new result
+  pub ends_lift : RestsOn Stands views Halts Shows Later told → (limit : ℕ) (bytes output : List ℕ) (left : Option (List ℕ)) (old new : T) (times later : Times) (node : Node) (result : Ended)
+      → EndsSo (ActsOn Stands views Halts Shows Later told) (TendsOn Stands views Later told) limit bytes left old times output new later result → Stands old node
+      → Lifted Stands views Halts Shows Later told limit bytes output left times node old new result
   ends_lift on limit bytes output left old new times later node (Finish n) ends stands =
       all_lifts on limit bytes output output left old new times later node (Finish n) n ends.1 (whole_front output) stands
       (λ served told_text quit halted count. (told_text, refl, refl, count, halted))
@@ -318,9 +320,9 @@ module _ {T : Type 0} (Stands : T → Node → Type 0) (views : T → ℕ → Di
       whole_lines on limit bytes output left old new times later node (Long n) ends.2 stands (λ served told_text quit halted. (told_text, refl, refl, quit, halted, ends.1))
 
   -- The same of the session's own word.
-  pub ran_lifts : RestsOn Stands views Halts told → (limit : ℕ) (taken taken' : List ℕ) (left left' : Option (List ℕ)) (written written' : Option (List ℕ)) (old new : T)
+  pub ran_lifts : RestsOn Stands views Halts Shows Later told → (limit : ℕ) (taken taken' : List ℕ) (left left' : Option (List ℕ)) (written written' : Option (List ℕ)) (old new : T)
       (times later : Times) (node : Node) (result : Ended)
-      → (ran : Ran (ActsBy Stands views Halts told) (TendsBy Stands views told) limit taken taken' left left' written written' old new times later result) → Stands old node
-      → Lifted Stands views Halts told limit ran.bytes ran.output left' times node old new result
+      → (ran : Ran (ActsOn Stands views Halts Shows Later told) (TendsOn Stands views Later told) limit taken taken' left left' written written' old new times later result) → Stands old node
+      → Lifted Stands views Halts Shows Later told limit ran.bytes ran.output left' times node old new result
   ran_lifts on limit taken taken' left left' written written' old new times later node result ran stands =
       ends_lift on limit ran.bytes ran.output left' old new times later node result ran.ends stands

@@ -22,9 +22,9 @@ use Rattle.node_session.specs.Turns.{Times, WholeTurn, Turns, Answers, Quits, Is
 use Rattle.model_node.specs.Run.{ImagesLeft, Served, Serves, ServesAll, AnswersLine, Carries, goes_on, halts, is_halted, node_or, node_at_reply}
 use Rattle.model_node.specs.Run.{node_after_line, node_after_lines, states_while, states_of_lines, times_of, replies_of}
 use Rattle.model_node.specs.Headline.{Gives}
-use Rattle.model_node.specs.Meaning.{left_between, SurvivesOne, LeavesEach, ActsFrom, ActsBy, TendsFrom, TendsBy}
+use Rattle.model_node.specs.Meaning.{left_between, SurvivesOne, LeavesEach, Showing, ActsFrom, TendsFrom}
 use Rattle.model_node.specs.Run.{WantsMemory}
-use Rattle.law_session.specs.Chain.{line_end_of, TicksAll, InHalt, Chain}
+use Rattle.law_session.specs.Chain.{line_end_of, TicksAll, InHalt, ShowsLine, ShowsAll, ActsOn, TendsOn, Chain}
 use Rattle.law_session.specs.Whole.{RestsOn}
 use Rattle.law_session.proofs.States.{setups_of, on_same, lines_setups, reply_setups, states_front, states_back, times_append, after_append, serves_append, serves_more}
 use Rattle.law_session.proofs.Replies.{AllGo, halted_of, halted_in, go_halted}
@@ -175,7 +175,7 @@ declines_of left told node (Some line) r tended (inr memory) = inr (inr (refl, r
 goes_tends : (r : Reply) (Then Else : Type 0) → goes_on r ≡ true → Then → MatchBool (goes_on r) Then Else
 goes_tends r Then Else goes h = rw goes h
 
-module _ {T : Type 0} (Stands : T → Node → Type 0) (views : T → ℕ → DiskView) (Halts : T → (before after : Node) → Type 0) (told : Bool) where
+module _ {T : Type 0} (Stands : T → Node → Type 0) (views : T → ℕ → DiskView) (Halts : T → (before after : Node) → Type 0) (Shows : Showing T) (Later : T → T → Type 0) (told : Bool) where
   -- the images of the first part are among those of the whole, and so are those of the second
   first_images : (old mid new : T) → ((device : ℕ) → Advances (views old device) (views mid device))
       → ((device : ℕ) → Advances (views mid device) (views new device))
@@ -201,7 +201,7 @@ module _ {T : Type 0} (Stands : T → Node → Type 0) (views : T → ℕ → Di
       (λ setup. back (Survives setup) device image) h) (two device))
 
   -- one list of states and another, of which the second goes from a node with the same setups
-  pub leaves_both : RestsOn Stands views Halts told → (node mid_node : Node) (first second all : ℕ → List State) (old mid new : T) → (told ≡ true → setups_of mid_node ≡ setups_of node)
+  pub leaves_both : RestsOn Stands views Halts Shows Later told → (node mid_node : Node) (first second all : ℕ → List State) (old mid new : T) → (told ≡ true → setups_of mid_node ≡ setups_of node)
       → ((P : State → Images) (device : ℕ) (image : List ℕ) → OneOf P (first device) image → OneOf P (all device) image)
       → ((P : State → Images) (device : ℕ) (image : List ℕ) → OneOf P (second device) image → OneOf P (all device) image)
       → LeavesEach views node first old mid → LeavesEach views mid_node second mid new → LeavesEach views node all old new
@@ -220,10 +220,22 @@ module _ {T : Type 0} (Stands : T → Node → Type 0) (views : T → ℕ → Di
       (λ setup. wider (Survives setup) device image) h) (leaves device)
 
   abbrev pub ChainOf : T → Times → Node → List (Option (List ℕ)) → List Reply → T → Times → Type 0
-  ChainOf old times node lines replies new later = Chain Stands views Halts told old times node lines replies new later
+  ChainOf old times node lines replies new later = Chain Stands views Halts Shows Later told old times node lines replies new later
+
+  -- what the lines show, from an earlier store on, and of one list of lines after another
+  shows_from : RestsOn Stands views Halts Shows Later told → (old mid new : T) (node : Node) (lines : List Served) → Later old mid → ShowsAll Shows Later mid node lines new
+      → ShowsAll Shows Later old node lines new
+  shows_from on old mid new node [] later shown = on.then old mid new later shown
+  shows_from on old mid new node (served ∷ lines) later shown = (shown.0, shown.1, on.then old mid shown.0 later shown.2, shown.3, shown.4, shown.5)
+
+  shows_then : RestsOn Stands views Halts Shows Later told → (old mid new : T) (node : Node) (xs ys : List Served) → ShowsAll Shows Later old node xs mid
+      → ShowsAll Shows Later mid (node_after_lines xs node) ys new → ShowsAll Shows Later old node (xs ++ ys) new
+  shows_then on old mid new node [] ys first second = shows_from on old mid new node ys first second
+  shows_then on old mid new node (x ∷ xs) ys first second =
+      (first.0, first.1, first.2, first.3, first.4, shows_then on first.1 mid new (node_after_line x node) xs ys first.5 second)
 
   -- one chain after another
-  pub chain_then : RestsOn Stands views Halts told → (old mid new : T) (times then later : Times) (node : Node) (xs ys : List (Option (List ℕ))) (rs ss : List Reply)
+  pub chain_then : RestsOn Stands views Halts Shows Later told → (old mid new : T) (times then later : Times) (node : Node) (xs ys : List (Option (List ℕ))) (rs ss : List Reply)
       → (first : ChainOf old times node xs rs mid then) → (second : ChainOf mid then (node_after_lines first.served node) ys ss new later)
       → InHalt (Halts new) node (first.served ++ second.served) → ChainOf old times node (xs ++ ys) (rs ++ ss) new later
   chain_then on old mid new times then later node xs ys rs ss first second halt =
@@ -247,9 +259,10 @@ module _ {T : Type 0} (Stands : T → Node → Type 0) (views : T → ℕ → Di
             (λ P device image h. states_back P device first.served second.served node image h)
             first.leaves second.leaves;
         halt = halt;
+        shown = shows_then on old mid new node first.served second.served first.shown second.shown;
       }
 
-  pub chain_none : RestsOn Stands views Halts told → (store : T) (times : Times) (node : Node) → Stands store node → ChainOf store times node [] [] store times
+  pub chain_none : RestsOn Stands views Halts Shows Later told → (store : T) (times : Times) (node : Node) → Stands store node → ChainOf store times node [] [] store times
   chain_none on store times node stands = record {
     served = [];
     serves = tt;
@@ -259,15 +272,16 @@ module _ {T : Type 0} (Stands : T → Node → Type 0) (views : T → ℕ → Di
     stands = λ goes. stands;
     leaves = on.rests store node stands;
     halt = tt;
+    shown = on.same store;
   }
 
   -- one line
   one_chain : (old new : T) (times later : Times) (node : Node) (served : Served) → Serves (left_between views old new) told node served
       → TicksAll times (times_of (served ∷ [])) later → (served.reply ≢ reply.Halted → Stands new (node_after_line served node))
       → LeavesEach views node (λ device. states_of_lines device (served ∷ []) node) old new
-      → (served.reply ≡ reply.Halted → Halts new node (node_after_line served node))
+      → (served.reply ≡ reply.Halted → Halts new node (node_after_line served node)) → ShowsAll Shows Later old node (served ∷ []) new
       → ChainOf old times node (served.line ∷ []) (served.reply ∷ []) new later
-  one_chain old new times later node served serves clock stands leaves halt = record {
+  one_chain old new times later node served serves clock stands leaves halt shown = record {
     served = served ∷ [];
     serves = (serves, tt);
     of_lines = refl;
@@ -276,6 +290,7 @@ module _ {T : Type 0} (Stands : T → Node → Type 0) (views : T → ℕ → Di
     stands = λ goes. stands (λ is. one_goes served.reply goes is);
     leaves = leaves;
     halt = halt;
+    shown = shown;
   }
 
   -- what is on the way of one line: of its work, and of the tending
@@ -294,15 +309,16 @@ module _ {T : Type 0} (Stands : T → Node → Type 0) (views : T → ℕ → Di
       one_of_front P (front ++ back) (states_of_lines device [] (node_after_line served node)) image (one_of_back P front back image h)
 
   -- a command was carried out, and something followed that leads from the node at the reply to the end
-  carried_chain : RestsOn Stands views Halts told → (old mid new : T) (times later : Times) (node : Node) (line : Option (List ℕ)) (c : Command) (now : ℕ) (r : Reply) (tended : List NodeEvent)
-      → IsCommand (line_end_of line) c → Ticks times now later → (from : ActsFrom Stands views Halts told old node c (bounded_time now) r mid)
+  carried_chain : RestsOn Stands views Halts Shows Later told → (old mid new : T) (times later : Times) (node : Node) (line : Option (List ℕ)) (c : Command) (now : ℕ) (r : Reply)
+      (tended : List NodeEvent)
+      → IsCommand (line_end_of line) c → Ticks times now later → (from : ActsFrom Stands views Halts Shows told old node c (bounded_time now) r mid)
       → MatchBool (goes_on r) (TendsEach 0 (node_or (node_after from.work node) from.restarted) tended) (tended ≡ [])
       → IsLegalOn told (node_or (node_after from.work node) from.restarted) tended
       → (r ≢ reply.Halted → Stands new (node_after tended (node_or (node_after from.work node) from.restarted)))
       → LeavesEach views (node_or (node_after from.work node) from.restarted) (λ device. states_while device tended (node_or (node_after from.work node) from.restarted)) mid new
-      → (r ≡ reply.Halted → Halts new node (node_after tended (node_or (node_after from.work node) from.restarted)))
+      → (r ≡ reply.Halted → Halts new node (node_after tended (node_or (node_after from.work node) from.restarted))) → Later old mid → Later mid new
       → ChainOf old times node (line ∷ []) (r ∷ []) new later
-  carried_chain on old mid new times later node line c now r tended is ticks from tends legal stands leaves halt =
+  carried_chain on old mid new times later node line c now r tended is ticks from tends legal stands leaves halt acted behind =
       let served : Served = record { line = line; time = Some now; reply = r; work = from.work; restarted = from.restarted; tended = tended } in
       let serves : Serves (left_between views old mid) told node served = record {
         answers = answers_of (left_between views old mid) told node line c now from.work from.restarted r tended is from.carried;
@@ -319,12 +335,13 @@ module _ {T : Type 0} (Stands : T → Node → Type 0) (views : T → ℕ → Di
       (λ device. states_of_lines device (served ∷ []) node) old mid new
       (λ is. reply_setups (left_between views old mid) node served (subst (λ (b : Bool). Serves (left_between views old mid) b node served) is serves))
       (λ P device image h. in_work P device node served image h) (λ P device image h. in_tending P device node served image h) from.leaves leaves) halt
+      (old, mid, on.same old, acted, from.shows, behind)
 
   -- a line was declined, and tending followed
-  declined_chain : (old new : T) (times : Times) (node : Node) (line : Option (List ℕ)) (r : Reply)
+  declined_chain : RestsOn Stands views Halts Shows Later told → (old new : T) (times : Times) (node : Node) (line : Option (List ℕ)) (r : Reply)
       → (NamesNoCommand (line_end_of line) × (r ≡ reply.Fail why.Line)) ⊎ (r ≡ reply.Fail why.Memory) → goes_on r ≡ true
-      → TendsFrom Stands views told old node new → ChainOf old times node (line ∷ []) (r ∷ []) new times
-  declined_chain old new times node line r why_so goes tend =
+      → TendsFrom Stands views told old node new → Later old new → ChainOf old times node (line ∷ []) (r ∷ []) new times
+  declined_chain on old new times node line r why_so goes tend behind =
       let served : Served = record { line = line; time = None; reply = r; work = []; restarted = None; tended = tend.tended } in
       one_chain old new times times node served
       (record {
@@ -336,7 +353,7 @@ module _ {T : Type 0} (Stands : T → Node → Type 0) (views : T → ℕ → Di
       refl (λ other. tend.stands)
       (leaves_wider node (λ device. states_while device tend.tended node) (λ device. states_of_lines device (served ∷ []) node) old new
       (λ P device image h. in_tending P device node served image h) tend.leaves)
-      (λ is. absurd (goes_not_halted r goes is))
+      (λ is. absurd (goes_not_halted r goes is)) (old, old, on.same old, on.same old, (refl, refl, λ is. goes_not_halted r goes is), behind)
 
   fail_is_no_bye : (line : Option (List ℕ)) (r : Reply) → (NamesNoCommand (line_end_of line) × (r ≡ reply.Fail why.Line)) ⊎ (r ≡ reply.Fail why.Memory) → r ≢ reply.Bye
   fail_is_no_bye line r (inl no_command) is = let e : r ≡ reply.Fail why.Line = no_command.1 in cc
@@ -347,30 +364,32 @@ module _ {T : Type 0} (Stands : T → Node → Type 0) (views : T → ℕ → Di
   fail_is_no_halt line r (inr memory) is = cc
 
   abbrev pub TurnOf : Option (List ℕ) → T → Times → Reply → T → Times → Type 0
-  TurnOf line old times r new later = WholeTurn (ActsBy Stands views Halts told) (TendsBy Stands views told) (line_end_of line) old times r new later
+  TurnOf line old times r new later = WholeTurn (ActsOn Stands views Halts Shows Later told) (TendsOn Stands views Later told) (line_end_of line) old times r new later
 
   -- a whole turn
-  pub turn_chain : RestsOn Stands views Halts told → (old new : T) (times later : Times) (node : Node) (line : Option (List ℕ)) (r : Reply)
+  pub turn_chain : RestsOn Stands views Halts Shows Later told → (old new : T) (times later : Times) (node : Node) (line : Option (List ℕ)) (r : Reply)
       → TurnOf line old times r new later → Stands old node → ChainOf old times node (line ∷ []) (r ∷ []) new later × (goes_on r ≡ true)
   turn_chain on old new times later node line r turn stands = elim turn.answer [
     | inl carries ↦
-        let from : ActsFrom Stands views Halts told old node carries.command (bounded_time carries.now) r turn.answered = carries.acted node stands in
+        let from : ActsFrom Stands views Halts Shows told old node carries.command (bounded_time carries.now) r turn.answered = carries.acted.0 node stands in
         let at_reply : Node = node_or (node_after from.work node) from.restarted in
-        let tend : TendsFrom Stands views told turn.answered at_reply new = turn.tended at_reply (from.stands turn.no_halt) in
+        let tend : TendsFrom Stands views told turn.answered at_reply new = turn.tended.0 at_reply (from.stands turn.no_halt) in
         let goes : goes_on r ≡ true = goes_of r turn.no_halt (carried_no_bye (left_between views old turn.answered) told node carries.command
         (bounded_time carries.now) from.work from.restarted r carries.goes_on from.carried) in (
           carried_chain on old turn.answered new times later node line carries.command carries.now r tend.tended carries.is_command carries.ticks from
-              (goes_tends r (TendsEach 0 at_reply tend.tended) (tend.tended ≡ []) goes tend.tends) tend.legal (λ other. tend.stands) tend.leaves (λ is. absurd (turn.no_halt is)),
+              (goes_tends r (TendsEach 0 at_reply tend.tended) (tend.tended ≡ []) goes tend.tends) tend.legal (λ other. tend.stands) tend.leaves
+              (λ is. absurd (turn.no_halt is)) carries.acted.1 turn.tended.1,
           goes,
         )
     | inr declines ↦
         let goes : goes_on r ≡ true = goes_of r turn.no_halt (fail_is_no_bye line r declines.why) in
-        let tends : TendsBy Stands views told old new = subst (λ (t : T). TendsBy Stands views told t new) declines.same_store turn.tended in
-        (subst (λ (t : Times). ChainOf old times node (line ∷ []) (r ∷ []) new t) (sym declines.same_times) (declined_chain old new times node line r declines.why goes (tends node stands)), goes)
+        let tends : TendsOn Stands views Later told old new = subst (λ (t : T). TendsOn Stands views Later told t new) declines.same_store turn.tended in
+        (subst (λ (t : Times). ChainOf old times node (line ∷ []) (r ∷ []) new t) (sym declines.same_times)
+            (declined_chain on old new times node line r declines.why goes (tends.0 node stands) tends.1), goes)
   ]
 
   -- `quit`, which isn't followed by tending
-  pub quit_chain : RestsOn Stands views Halts told → (old new : T) (times later : Times) (node : Node) (line : Option (List ℕ)) (r : Reply)
+  pub quit_chain : RestsOn Stands views Halts Shows Later told → (old new : T) (times later : Times) (node : Node) (line : Option (List ℕ)) (r : Reply)
       → Quits (line_end_of line) old times r new later → Stands old node → ChainOf old times node (line ∷ []) (r ∷ []) new later
   quit_chain on old new times later node line r quits stands =
       subst (λ (t : T). ChainOf old times node (line ∷ []) (r ∷ []) t later) (sym quits.same_store)
@@ -385,21 +404,22 @@ module _ {T : Type 0} (Stands : T → Node → Type 0) (views : T → ℕ → Di
         leaves = on.rests old node stands;
         halt =
             λ is. absurd (bye_not_halted is);
+        shows = on.quits old node (bounded_time quits.now);
       })
-      refl tt (λ other. stands) (on.rests old node stands) (λ is. absurd (bye_not_halted is))))
+      refl tt (λ other. stands) (on.rests old node stands) (λ is. absurd (bye_not_halted is)) (on.same old) (on.same old)))
 
   -- a halt, which ends the run
-  pub halt_chain : RestsOn Stands views Halts told → (old new : T) (times later : Times) (node : Node) (line : Option (List ℕ))
-      → Answers (ActsBy Stands views Halts told) (line_end_of line) old times reply.Halted new later → Stands old node → ChainOf old times node (line ∷ []) (reply.Halted ∷ []) new later
+  pub halt_chain : RestsOn Stands views Halts Shows Later told → (old new : T) (times later : Times) (node : Node) (line : Option (List ℕ))
+      → Answers (ActsOn Stands views Halts Shows Later told) (line_end_of line) old times reply.Halted new later → Stands old node → ChainOf old times node (line ∷ []) (reply.Halted ∷ []) new later
   halt_chain on old new times later node line (inl carries) stands =
-      let from : ActsFrom Stands views Halts told old node carries.command (bounded_time carries.now) reply.Halted new = carries.acted node stands in
+      let from : ActsFrom Stands views Halts Shows told old node carries.command (bounded_time carries.now) reply.Halted new = carries.acted.0 node stands in
       carried_chain on old new new times later node line carries.command carries.now reply.Halted [] carries.is_command carries.ticks from
-      refl tt from.stands (on.halted new node (node_or (node_after from.work node) from.restarted) (from.halt refl)) from.halt
+      refl tt from.stands (on.halted new node (node_or (node_after from.work node) from.restarted) (from.halt refl)) from.halt carries.acted.1 (on.same new)
   halt_chain on old new times later node line (inr declines) stands = absurd (fail_is_no_halt line reply.Halted declines.why refl)
 
   -- all turns of some lines, by one induction
-  pub turns_chain : RestsOn Stands views Halts told → (lines : List (Option (List ℕ))) (rs : List Reply) (old new : T) (times later : Times) (node : Node)
-      → Turns (ActsBy Stands views Halts told) (TendsBy Stands views told) (map line_end_of lines) old times rs new later → Stands old node
+  pub turns_chain : RestsOn Stands views Halts Shows Later told → (lines : List (Option (List ℕ))) (rs : List Reply) (old new : T) (times later : Times) (node : Node)
+      → Turns (ActsOn Stands views Halts Shows Later told) (TendsOn Stands views Later told) (map line_end_of lines) old times rs new later → Stands old node
       → ChainOf old times node lines rs new later × AllByRecursion (λ r. goes_on r ≡ true) rs
   turns_chain on [] [] old new times later node turns stands =
       (subst (λ (t : T). ChainOf old times node [] [] t later) (sym turns.0) (subst (λ (t : Times). ChainOf old times node [] [] old t) (sym turns.1) (chain_none on old times node stands)), tt)

@@ -18,8 +18,8 @@ use Rattle.model_node.specs.declared.run_end.RunEnd.TheVariants as end
 use Rattle.model_node.specs.Outside.{Outside, RoseOn, RoseInLast, counts_of}
 use Rattle.model_node.specs.RunEnd.{HasCause, IsServedThrough, EndsAtRestart, input_limit}
 use Rattle.model_node.specs.Headline.{LeavesLast, LeavesSome}
-use Rattle.model_node.specs.Meaning.{left_between, LeavesEach, ActsBy, TendsBy, GoesOn, Enters, ClosesFrom}
-use Rattle.law_session.specs.Chain.{EndsWith, InHalt, Lifted}
+use Rattle.model_node.specs.Meaning.{left_between, LeavesEach, Showing, GoesOn, Enters, ClosesFrom}
+use Rattle.law_session.specs.Chain.{EndsWith, InHalt, ActsOn, TendsOn, Lifted}
 use Rattle.law_session.specs.Whole.{RestsOn, RunsWhole, ClosesWith, HaltsWith, Concludes}
 use Rattle.law_session.proofs.Ends.{ran_lifts}
 use Rattle.law_session.proofs.States.{lines_setups, on_same, first_of_lines, serves_more}
@@ -142,14 +142,15 @@ module _ (Halts : (before after : Node) → Type 0) (o : Outside) (first : Node)
   cause_of (Long n) ends once halt so =
       subst Cause (sym so) (record { written = ends.0; all = ends.1; no_quit = ends.3; no_end = ends.2; goes = ends.4 }, ends.5)
 
-module _ {T : Type 0} (Stands : T → Node → Type 0) (views : T → ℕ → DiskView) (Halts : T → (before after : Node) → Type 0) (told : Bool) (Says : Node → Type 0) where
+module _ {T : Type 0} (Stands : T → Node → Type 0) (views : T → ℕ → DiskView) (Halts : T → (before after : Node) → Type 0) (Shows : Showing T) (Later : T → T → Type 0) (told : Bool)
+    (Says : Node → Type 0) where
   -- ---- the session, and the closing of each device
 
   -- a run that is closed
-  run_closes : RestsOn Stands views Halts told → (limit : ℕ) (bytes output : List ℕ) (left : Option (List ℕ)) (times : Times) (node : Node) (old new end : T) (result : Ended)
-      → (l : Lifted Stands views Halts told limit bytes output left times node old new result) → length bytes ≤ limit → is_halted l.served ≡ false
+  run_closes : RestsOn Stands views Halts Shows Later told → (limit : ℕ) (bytes output : List ℕ) (left : Option (List ℕ)) (times : Times) (node : Node) (old new end : T) (result : Ended)
+      → (l : Lifted Stands views Halts Shows Later told limit bytes output left times node old new result) → length bytes ≤ limit → is_halted l.served ≡ false
       → ClosesFrom Stands views told Says new (node_after_lines l.served node) end
-      → RunsWhole Stands views Halts told Says limit bytes output left times node old new end result
+      → RunsWhole Stands views Halts Shows Later told Says limit bytes output left times node old new end result
   run_closes on limit bytes output left times node old new end result l within goes c =
       let last : Node = node_after_lines l.served node in
       record {
@@ -166,7 +167,7 @@ module _ {T : Type 0} (Stands : T → Node → Type 0) (views : T → ℕ → Di
         };
         stands = λ _. c.stands;
         halt = λ is. let e : true ≡ false = sym is ∙ goes in cc;
-        leaves = leaves_both Stands views Halts told on node last (λ device. states_of_lines device l.served node) (λ device. states_while device c.closing last)
+        leaves = leaves_both Stands views Halts Shows Later told on node last (λ device. states_of_lines device l.served node) (λ device. states_while device c.closing last)
             (λ device. states_of_run device node l.served c.closing) old new end
             (λ is. lines_setups (left_between views old new) node l.served (subst (λ (b : Bool). ServesAll (left_between views old new) b node l.served) is l.serves))
             (λ P device image h. one_of_front P (states_of_lines device l.served node) (states_while device c.closing last) image h)
@@ -177,8 +178,8 @@ module _ {T : Type 0} (Stands : T → Node → Type 0) (views : T → ℕ → Di
 
   -- a refused restart is followed by nothing
   run_halts : (limit : ℕ) (bytes output : List ℕ) (left : Option (List ℕ)) (times : Times) (node : Node) (old new : T) (result : Ended)
-      → (l : Lifted Stands views Halts told limit bytes output left times node old new result) → length bytes ≤ limit → is_halted l.served ≡ true
-      → RunsWhole Stands views Halts told Says limit bytes output left times node old new new result
+      → (l : Lifted Stands views Halts Shows Later told limit bytes output left times node old new result) → length bytes ≤ limit → is_halted l.served ≡ true
+      → RunsWhole Stands views Halts Shows Later told Says limit bytes output left times node old new new result
   run_halts limit bytes output left times node old new result l within halted = record {
     lifted = l;
     within = within;
@@ -191,29 +192,30 @@ module _ {T : Type 0} (Stands : T → Node → Type 0) (views : T → ℕ → Di
     };
     stands = λ goes. let e : true ≡ false = sym halted ∙ goes in cc;
     halt = λ _. l.halt;
-    leaves = leaves_wider Stands views Halts told node (λ device. states_of_lines device l.served node) (λ device. states_of_run device node l.served []) old new
+    leaves = leaves_wider Stands views Halts Shows Later told node (λ device. states_of_lines device l.served node) (λ device. states_of_run device node l.served []) old new
         (λ P device image h. one_of_front P (states_of_lines device l.served node) (states_while device [] (node_after_lines l.served node)) image h) l.leaves;
     says = λ goes. let e : true ≡ false = sym halted ∙ goes in cc;
   }
 
   -- A session over a store, and what is done behind it, are a run of each node that the store stood for: where no restart was refused each
   -- device is closed, and else nothing is done.
-  pub ran_whole : RestsOn Stands views Halts told → (limit : ℕ) (taken taken' : List ℕ) (left left' : Option (List ℕ)) (written written' : Option (List ℕ)) (old new end : T)
+  pub ran_whole : RestsOn Stands views Halts Shows Later told → (limit : ℕ) (taken taken' : List ℕ) (left left' : Option (List ℕ)) (written written' : Option (List ℕ)) (old new end : T)
       (times later : Times) (node : Node) (result : Ended)
-      → (ran : Ran (ActsBy Stands views Halts told) (TendsBy Stands views told) limit taken taken' left left' written written' old new times later result) → Stands old node
+      → (ran : Ran (ActsOn Stands views Halts Shows Later told) (TendsOn Stands views Later told) limit taken taken' left left' written written' old new times later result) → Stands old node
       → ((last : Node) → Stands new last → ClosesFrom Stands views told Says new last end)
       → ((before last : Node) → Halts new before last → end ≡ new)
-      → RunsWhole Stands views Halts told Says limit ran.bytes ran.output left' times node old new end result
+      → RunsWhole Stands views Halts Shows Later told Says limit ran.bytes ran.output left' times node old new end result
   ran_whole on limit taken taken' left left' written written' old new end times later node result ran stands closes stays = by (is_halted l.served) refl
     where
-      l : Lifted Stands views Halts told limit ran.bytes ran.output left' times node old new result
-      l = ran_lifts Stands views Halts told on limit taken taken' left left' written written' old new times later node result ran stands
+      l : Lifted Stands views Halts Shows Later told limit ran.bytes ran.output left' times node old new result
+      l = ran_lifts Stands views Halts Shows Later told on limit taken taken' left left' written written' old new times later node result ran stands
 
-      by : (b : Bool) → is_halted l.served ≡ b → RunsWhole Stands views Halts told Says limit ran.bytes ran.output left' times node old new end result
+      by : (b : Bool) → is_halted l.served ≡ b → RunsWhole Stands views Halts Shows Later told Says limit ran.bytes ran.output left' times node old new end result
       by false goes = run_closes on limit ran.bytes ran.output left' times node old new end result l ran.within goes (closes (node_after_lines l.served node) (l.stands goes))
       by true halted =
           let last = halt_last (Halts new) node l.served l.once halted l.halt in
-          subst (λ (e : T). RunsWhole Stands views Halts told Says limit ran.bytes ran.output left' times node old new e result) (sym (stays last.0 (node_after_lines l.served node) last.1))
+          subst (λ (e : T). RunsWhole Stands views Halts Shows Later told Says limit ran.bytes ran.output left' times node old new e result)
+          (sym (stays last.0 (node_after_lines l.served node) last.1))
           (run_halts limit ran.bytes ran.output left' times node old new result l ran.within halted)
 
   -- ---- since the entry
@@ -246,7 +248,7 @@ module _ {T : Type 0} (Stands : T → Node → Type 0) (views : T → ℕ → Di
 
   -- What holds of each node for which the store stands, and of each with which it halted, holds of the last that was served.
   pub last_served : (limit : ℕ) (bytes output : List ℕ) (left : Option (List ℕ)) (times : Times) (node : Node) (old new : T) (result : Ended)
-      → (l : Lifted Stands views Halts told limit bytes output left times node old new result) (P : Node → Type 0)
+      → (l : Lifted Stands views Halts Shows Later told limit bytes output left times node old new result) (P : Node → Type 0)
       → ((n : Node) → Stands new n → P n) → ((before n : Node) → Halts new before n → P n) → P (node_after_lines l.served node)
   last_served limit bytes output left times node old new result l P stood halted = by (is_halted l.served) refl
     where
@@ -256,7 +258,7 @@ module _ {T : Type 0} (Stands : T → Node → Type 0) (views : T → ℕ → Di
 
   -- and of the last of all
   pub last_closed : (limit : ℕ) (bytes output : List ℕ) (left : Option (List ℕ)) (times : Times) (node : Node) (old new end : T) (result : Ended)
-      → (w : RunsWhole Stands views Halts told Says limit bytes output left times node old new end result) (P : Node → Type 0)
+      → (w : RunsWhole Stands views Halts Shows Later told Says limit bytes output left times node old new end result) (P : Node → Type 0)
       → ((n : Node) → Stands end n → P n) → ((before n : Node) → Halts end before n → P n) → P (last_node node w.lifted.served w.closing)
   last_closed limit bytes output left times node old new end result w P stood halted = by (is_halted w.lifted.served) refl
     where
@@ -268,9 +270,9 @@ module _ {T : Type 0} (Stands : T → Node → Type 0) (views : T → ℕ → Di
           subst (λ (events : List NodeEvent). P (last_node node w.lifted.served events)) (sym none) (halted back.0 (node_after_lines w.lifted.served node) back.1)
 
   -- what a crash may leave at the end survives the last state
-  pub last_images : RestsOn Stands views Halts told → (may_leave : ImagesLeft) (limit : ℕ) (bytes output : List ℕ) (left : Option (List ℕ)) (times : Times) (node : Node)
+  pub last_images : RestsOn Stands views Halts Shows Later told → (may_leave : ImagesLeft) (limit : ℕ) (bytes output : List ℕ) (left : Option (List ℕ)) (times : Times) (node : Node)
       (old new end : T) (result : Ended)
-      → (w : RunsWhole Stands views Halts told Says limit bytes output left times node old new end result)
+      → (w : RunsWhole Stands views Halts Shows Later told Says limit bytes output left times node old new end result)
       → ((device : ℕ) (image : List ℕ) → may_leave device image → meanwhile (views end device) (views end device) image)
       → LeavesLast may_leave (last_node node w.lifted.served w.closing)
   last_images on may_leave limit bytes output left times node old new end result w law device image was =

@@ -1,6 +1,6 @@
 -- Crate law_session. A whole run over a store: its session, the closing of each device behind it, how it ends, and what is known of it
 -- besides.
-use Rattle.std.specs.Prelude.{◌≡◌, ℕ, ◌<◌, ◌≤◌, Bool, true, false, List, [], Option, length, map}
+use Rattle.std.specs.Prelude.{◌≡◌, ℕ, ◌<◌, ◌≤◌, Bool, true, false, List, [], Option, None, length, map}
 use Rattle.model_faults.specs.Counts.{Rose}
 use Rattle.disk_model.specs.Disk.{DiskView}
 use Rattle.model_device.specs.Book.{Setup}
@@ -14,20 +14,25 @@ use Rattle.model_node.specs.declared.run_end.RunEnd.TheVariants as end
 use Rattle.model_node.specs.Run.{Served, IsRun, is_halted, last_node, states_while, states_of_run}
 use Rattle.model_node.specs.Outside.{Outside, NoneFell, RoseOn, counts_of}
 use Rattle.model_node.specs.RunEnd.{AllQuiet, FailsToClose}
-use Rattle.model_node.specs.Meaning.{left_between, LeavesEach, Rests}
+use Rattle.line_proto.specs.declared.reply.Reply.TheVariants as reply
+use Rattle.model_node.specs.Meaning.{left_between, LeavesEach, Rests, Showing}
 use Rattle.law_session.specs.Chain.{InHalt, Lifted}
 
 -- What a run rests on. Where nothing is done, each image of now survives the state for which the store stands, or with which it halted;
--- and where the disks may tell anything, nothing is said of images.
-pub record RestsOn {T : Type 0} (Stands : T → Node → Type 0) (views : T → ℕ → DiskView) (Halts : T → (before after : Node) → Type 0) (told : Bool) : Type 0 where
+-- and where the disks may tell anything, nothing is said of images. A store is a later one than itself, and than those before the one before it;
+-- and `quit`, at which nothing is done, shows nothing more.
+pub record RestsOn {T : Type 0} (Stands : T → Node → Type 0) (views : T → ℕ → DiskView) (Halts : T → (before after : Node) → Type 0) (Shows : Showing T) (Later : T → T → Type 0) (told : Bool) : Type 0 where
   pub rests : Rests Stands views
   pub halted : (store : T) (before after : Node) → Halts store before after → LeavesEach views after (λ device. states_while device [] after) store store
+  pub same : (store : T) → Later store store
+  pub then : (old mid new : T) → Later old mid → Later mid new → Later old new
+  pub quits : (store : T) (node : Node) (now : ℕ) → Shows store node now reply.Bye [] None store
   pub blind : told ≡ false → (node : Node) (states : ℕ → List State) (old new : T) → LeavesEach views node states old new
 
 -- A session over a store, which was at old before it, new behind it and end in the end, is a run of the node that the store stood for.
 -- Behind it each device is closed, unless a restart was refused.
-pub record RunsWhole {T : Type 0} (Stands : T → Node → Type 0) (views : T → ℕ → DiskView) (Halts : T → (before after : Node) → Type 0) (told : Bool) (Says : Node → Type 0) (limit : ℕ) (bytes output : List ℕ) (left : Option (List ℕ)) (times : Times) (node : Node) (old new end : T) (result : Ended) : Type 0 where
-  pub lifted : Lifted Stands views Halts told limit bytes output left times node old new result
+pub record RunsWhole {T : Type 0} (Stands : T → Node → Type 0) (views : T → ℕ → DiskView) (Halts : T → (before after : Node) → Type 0) (Shows : Showing T) (Later : T → T → Type 0) (told : Bool) (Says : Node → Type 0) (limit : ℕ) (bytes output : List ℕ) (left : Option (List ℕ)) (times : Times) (node : Node) (old new end : T) (result : Ended) : Type 0 where
+  pub lifted : Lifted Stands views Halts Shows Later told limit bytes output left times node old new result
   pub within : length bytes ≤ limit
   pub closing : List NodeEvent
   pub is_run : IsRun (left_between views old end) told node lifted.served closing

@@ -5,3 +5,4 @@ pub mod Outside
 pub mod RunEnd
 pub mod Headline
 pub mod Meaning
+pub mod Shown

@@ -23,9 +23,14 @@ SurvivesOne device node states = λ image. On node device (λ slot. OneOf (Survi
 abbrev pub LeavesEach : {T : Type 0} → (views : T → ℕ → DiskView) → Node → (ℕ → List State) → (old new : T) → Type 0
 LeavesEach views node states old new = (device : ℕ) → Leaves (SurvivesOne device node (states device)) (views old device) (views new device)
 
+-- What a call shows of the store besides: from the store and the node before it, its time, its reply, its events and the node after a restart to the
+-- store after it.
+abbrev pub Showing : Type 0 → Type 1
+Showing T = T → Node → (now : ℕ) → Reply → List NodeEvent → Option Node → T → Type 0
+
 -- A command is carried out from a state for which the store stood: there are its events, or a restart, and the store stands for the state
--- after; where it halted Halts holds instead.
-pub record ActsFrom {T : Type 0} (Stands : T → Node → Type 0) (views : T → ℕ → DiskView) (Halts : T → (before after : Node) → Type 0) (told : Bool) (old : T) (node : Node) (c : Command) (now : ℕ) (r : Reply) (new : T) : Type 0 where
+-- after; where it halted Halts holds instead. Of the two stores it shows what Shows says.
+pub record ActsFrom {T : Type 0} (Stands : T → Node → Type 0) (views : T → ℕ → DiskView) (Halts : T → (before after : Node) → Type 0) (Shows : Showing T) (told : Bool) (old : T) (node : Node) (c : Command) (now : ℕ) (r : Reply) (new : T) : Type 0 where
   pub work : List NodeEvent
   pub restarted : Option Node
   pub carried : Carries (left_between views old new) told node c now work restarted r ⊎ WantsMemory work restarted r
@@ -33,9 +38,10 @@ pub record ActsFrom {T : Type 0} (Stands : T → Node → Type 0) (views : T →
   pub stands : r ≢ reply.Halted → Stands new (node_or (node_after work node) restarted)
   pub leaves : LeavesEach views node (λ device. states_while device work node) old new
   pub halt : r ≡ reply.Halted → Halts new node (node_or (node_after work node) restarted)
+  pub shows : Shows old node now r work restarted new
 
-abbrev pub ActsBy : {T : Type 0} → (Stands : T → Node → Type 0) → (views : T → ℕ → DiskView) → (Halts : T → (before after : Node) → Type 0) → (told : Bool) → T → Command → ℕ → Reply → T → Type 0
-ActsBy Stands views Halts told old c now r new = (node : Node) → Stands old node → ActsFrom Stands views Halts told old node c now r new
+abbrev pub ActsBy : {T : Type 0} → (Stands : T → Node → Type 0) → (views : T → ℕ → DiskView) → (Halts : T → (before after : Node) → Type 0) → (Shows : Showing T) → (told : Bool) → T → Command → ℕ → Reply → T → Type 0
+ActsBy Stands views Halts Shows told old c now r new = (node : Node) → Stands old node → ActsFrom Stands views Halts Shows told old node c now r new
 
 -- The store is tended from a state for which it stood.
 pub record TendsFrom {T : Type 0} (Stands : T → Node → Type 0) (views : T → ℕ → DiskView) (told : Bool) (old : T) (node : Node) (new : T) : Type 0 where
