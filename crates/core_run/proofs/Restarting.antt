@@ -247,8 +247,14 @@ module _ {D : Type 0} (view : D → DiskView) (set : Settings) where
       refusal_shows : (told : Bool) (node after : Node) → length node ≡ length olds → ShowsOn view told (serving olds) node now reply.Halted [] (Some after) (halted reason disks)
       refusal_shows told node after many = record {
         again = λ fresh is goes. absurd (goes refl);
-        refused = λ is. (set, reason, disks, refl, length-map olds (λ (s : ShardView D). s.shelf.disk) ∙ sym many,
-            subst (λ (n : ℕ). RefusesAt view set reason.0 0 n reason.1 (disks_served olds) disks) (sym many) refuses);
+        refused = λ is. (
+          set,
+          reason,
+          disks,
+          refl,
+          length-map olds (λ (s : ShardView D). s.shelf.disk) ∙ sym many,
+          subst (λ (n : ℕ). RefusesAt view set reason.0 0 n reason.1 (disks_served olds) disks) (sym many) refuses,
+        );
       }
 
       any_refused : (node : Node) → Each (StandsOn view) olds node

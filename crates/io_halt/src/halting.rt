@@ -49,6 +49,8 @@ impl<S: Source> Ends for HaltingSource<S> {
 
     ghost written = { λ h. S.written h.source };
 
+    ghost handed = { λ h. S.handed h.source };
+
     ghost sink_faults = { λ h. S.sink_faults h.source };
 }
 
@@ -65,6 +67,7 @@ impl<S: Source> Source for HaltingSource<S> {
         ensures cause { IsCaused (S.source_faults self.old.source) (S.source_faults self.new.source) result }
         ensures quiet { OnOk result (S.source_faults self.new.source ≡ S.source_faults self.old.source) }
         ensures sink { S.written self.new.source ≡ S.written self.old.source }
+        ensures handed { S.handed self.new.source ≡ S.handed self.old.source }
         ensures sink_faults { S.sink_faults self.new.source ≡ S.sink_faults self.old.source }
 
         // It is halted only by a halt that may come.

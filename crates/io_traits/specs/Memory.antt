@@ -9,9 +9,10 @@ pub record SourceState : Type 0 where
   pub calls : ℕ
   pub faults : ℕ
 
--- A sink in memory: the bytes written, the numbers of the calls that are to fail, how many calls were made, how many of them failed, and how many of these failed for want of memory.
+-- A sink in memory: the bytes written, those of them that were handed on, the numbers of the calls that are to fail, how many calls were made, how many of them failed, and how many of these failed for want of memory.
 pub record SinkState : Type 0 where
   pub written : List ℕ
+  pub handed : List ℕ
   pub fails : List ℕ
   pub calls : ℕ
   pub faults : ℕ

@@ -6,10 +6,11 @@ use crate::{Ends, Sink, SinkFault};
 use std::alloc::Global;
 use std::marker::Model;
 
-/// A sink in memory: the bytes written, and the numbers of the calls that are to fail, counted from 0 over all calls.
+/// A sink in memory: the bytes written, how many of them were handed on by a flush, and the numbers of the calls that are to fail, counted from 0 over all calls.
 #[derive(Drop)]
 pub struct TextSink {
     bytes: Vec<u8>,
+    flushed: usize,
     fails: Vec<u64>,
     calls: u64,
     faults: u64,
@@ -17,20 +18,24 @@ pub struct TextSink {
 }
 
 impl Model for TextSink {
+    ghost use Rattle.std.specs.Prelude.{◌≤◌, length, take};
     ghost use Rattle.io_traits.specs.Memory.{SinkState};
 
     ghost Value = { SinkState };
 
-    ghost view = { λ s. record { written = s.bytes.items; fails = s.fails.items; calls = s.calls; faults = s.faults; starved = s.starved } };
+    ghost view = { λ s. record { written = s.bytes.items; handed = take s.flushed s.bytes.items; fails = s.fails.items; calls = s.calls; faults = s.faults; starved = s.starved } };
+
+    ghost invariant = { λ s. s.flushed ≤ length s.bytes.items };
 }
 
 impl TextSink {
     /// A sink to which nothing was written, whose calls of these numbers are to fail.
     pub fn new(alloc: Global, fails: Vec<u64>) -> Self
-        ensures { result ≡ record { written = []; fails = fails.items; calls = 0; faults = 0; starved = 0 } }
+        ensures { result ≡ record { written = []; handed = []; fails = fails.items; calls = 0; faults = 0; starved = 0 } }
     {
         TextSink {
             bytes: Vec::new(alloc),
+            flushed: 0,
             fails,
             calls: 0,
             faults: 0,
@@ -43,6 +48,13 @@ impl TextSink {
         ensures { result.now ≡ self.now.written }
     {
         &self.bytes
+    }
+
+    /// Those of them that were handed on: what was written when a flush went well last.
+    pub fn handed(&self) -> &[u8]
+        ensures { result.now ≡ self.now.handed }
+    {
+        &self.bytes[..self.flushed]
     }
 
     /// How many of its failures were for want of memory.
@@ -77,6 +89,8 @@ impl Ends for TextSink {
 
     ghost written = { λ s. Some s.written };
 
+    ghost handed = { λ s. Some s.handed };
+
     ghost sink_faults = { λ s. s.faults };
 }
 
@@ -91,6 +105,7 @@ impl Sink for TextSink {
         // Else it takes all of the bytes.
         ensures all { IfOk result (λ n. n ≡ length bytes.now) }
         ensures written { OnOk result (self.new.written ≡ self.old.written ++ bytes.now) }
+        ensures handed { self.new.handed ≡ self.old.handed }
         ensures starved { OnOk result (self.new.starved ≡ self.old.starved) }
         ensures calls { self.new.calls ≡ one_more self.old.calls }
         ensures list { self.new.fails ≡ self.old.fails }
@@ -107,8 +122,11 @@ impl Sink for TextSink {
     fn flush(&mut self) -> Result<(), SinkFault>
         ensures fails { IsErr result ↔ Contains self.old.fails self.old.calls }
         ensures faults { self.new.faults ≡ (if is_ok result then self.old.faults else one_more self.old.faults) }
-        ensures rest { self.new ≡ record self.old { calls = one_more self.old.calls; faults = self.new.faults } }
+        ensures handed { self.new.handed ≡ (if is_ok result then self.old.written else self.old.handed) }
+        ensures rest { self.new ≡ record self.old { handed = self.new.handed; calls = one_more self.old.calls; faults = self.new.faults } }
     {
-        self.begin()
+        self.begin()?;
+        self.flushed = self.bytes.len();
+        Ok(())
     }
 }

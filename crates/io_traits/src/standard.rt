@@ -47,6 +47,8 @@ impl Ends for StandardInput {
 
     ghost written = { λ _. None };
 
+    ghost handed = { λ _. None };
+
     ghost sink_faults = { λ _. 0 };
 }
 
@@ -70,7 +72,7 @@ impl Source for StandardInput {
     }
 }
 
-/// The standard output as a sink, with the history of the bytes that the system took. It keeps nothing back.
+/// The standard output as a sink, with the history of the bytes that the system took. It keeps nothing back, so these are handed on.
 #[derive(Drop)]
 pub struct StandardOutput {
     stream: Stdout,
@@ -107,6 +109,8 @@ impl Ends for StandardOutput {
     ghost source_faults = { λ _. 0 };
 
     ghost written = { λ s. Some s.written };
+
+    ghost handed = { λ s. Some s.written };
 
     ghost sink_faults = { λ s. s.faults };
 }

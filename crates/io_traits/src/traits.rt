@@ -1,7 +1,7 @@
 ghost use Rattle.std.specs.Prelude.{◌≡◌, ◌<◌, ◌≤◌, List, ℕ, length, Option, OnOk, IfOk};
 ghost use Rattle.model_faults.specs.Counts.{IsCaused};
 ghost use Rattle.io_traits.specs.Source.{ReadGives};
-ghost use Rattle.io_traits.specs.Sink.{WriteGives};
+ghost use Rattle.io_traits.specs.Sink.{WriteGives, MayHandOn, FlushGives};
 ghost use Rattle.io_traits.specs.Clock.{Ticks};
 
 use crate::NoMemory;
@@ -29,6 +29,9 @@ pub trait Ends: Drop {
     /// The bytes that a sink took, where it tells them.
     ghost written: { Self → Option (List ℕ) };
 
+    /// Of the bytes that a sink took those that it handed on, where it tells them.
+    ghost handed: { Self → Option (List ℕ) };
+
     /// How often a sink failed.
     ghost sink_faults: { Self → ℕ };
 }
@@ -43,22 +46,25 @@ pub trait Source: Ends {
         ensures cause { IsCaused (Self.source_faults self.old) (Self.source_faults self.new) result }
         ensures quiet { OnOk result (Self.source_faults self.new ≡ Self.source_faults self.old) }
         ensures sink { Self.written self.new ≡ Self.written self.old }
+        ensures handed { Self.handed self.new ≡ Self.handed self.old }
         ensures sink_faults { Self.sink_faults self.new ≡ Self.sink_faults self.old };
 }
 
 /// What bytes are written to, in order.
 pub trait Sink: Ends {
-    /// At `Ok` how many of the bytes were written, from the front on.
+    /// At `Ok` how many of the bytes were written, from the front on. A sink that keeps nothing back hands them on at once.
     fn write_some(&mut self, bytes: &[u8]) -> Result<usize, SinkFault>
         ensures bytes { WriteGives (Self.written self.old) (Self.written self.new) (Self.sink_faults self.old) (Self.sink_faults self.new) bytes.now result }
+        ensures handed { MayHandOn (Self.written self.new) (Self.handed self.old) (Self.handed self.new) }
         ensures cause { IsCaused (Self.sink_faults self.old) (Self.sink_faults self.new) result }
         ensures left { Self.left self.new ≡ Self.left self.old }
         ensures taken { Self.taken self.new ≡ Self.taken self.old }
         ensures source_faults { Self.source_faults self.new ≡ Self.source_faults self.old };
 
-    /// At `Ok` what was written is handed on. An `Err` comes only where the count of faults rose.
+    /// At `Ok` all that was written is handed on. An `Err` hands nothing on, and comes only where the count of faults rose.
     fn flush(&mut self) -> Result<(), SinkFault>
         ensures written { Self.written self.new ≡ Self.written self.old }
+        ensures handed { FlushGives (Self.written self.new) (Self.handed self.old) (Self.handed self.new) result }
         ensures cause { IsCaused (Self.sink_faults self.old) (Self.sink_faults self.new) result }
         ensures left { Self.left self.new ≡ Self.left self.old }
         ensures taken { Self.taken self.new ≡ Self.taken self.old }

@@ -383,9 +383,11 @@ module _ {T : Type 0} (Stands : T → Node → Type 0) (views : T → ℕ → Di
         )
     | inr declines ↦
         let goes : goes_on r ≡ true = goes_of r turn.no_halt (fail_is_no_bye line r declines.why) in
-        let tends : TendsOn Stands views Later told old new = subst (λ (t : T). TendsOn Stands views Later told t new) declines.same_store turn.tended in
-        (subst (λ (t : Times). ChainOf old times node (line ∷ []) (r ∷ []) new t) (sym declines.same_times)
-            (declined_chain on old new times node line r declines.why goes (tends.0 node stands) tends.1), goes)
+        let tends : TendsOn Stands views Later told old new = subst (λ (t : T). TendsOn Stands views Later told t new) declines.same_store turn.tended in (
+          subst (λ (t : Times). ChainOf old times node (line ∷ []) (r ∷ []) new t) (sym declines.same_times)
+              (declined_chain on old new times node line r declines.why goes (tends.0 node stands) tends.1),
+          goes,
+        )
   ]
 
   -- `quit`, which isn't followed by tending

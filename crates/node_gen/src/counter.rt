@@ -86,6 +86,8 @@ impl Ends for ReplyCounter {
 
     ghost written = { λ s. Some s.written };
 
+    ghost handed = { λ s. Some s.written };
+
     ghost sink_faults = { λ _. 0 };
 }
 

@@ -53,6 +53,8 @@ impl Ends for Script {
 
     ghost written = { λ _. None };
 
+    ghost handed = { λ _. None };
+
     ghost sink_faults = { λ _. 0 };
 }
 

@@ -46,6 +46,8 @@ impl<'a, L: Ends, E: Eprint + IsTerminal + Drop> Ends for Cleared<'a, L, E> {
 
     ghost written = { λ c. L.written c };
 
+    ghost handed = { λ c. L.handed c };
+
     ghost sink_faults = { λ c. L.sink_faults c };
 }
 

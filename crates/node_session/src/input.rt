@@ -3,7 +3,7 @@ ghost use Rattle.std.specs.Prelude.{◌≡◌, ◌≢◌, ◌⊎◌, ◌+◌, �
 ghost use Rattle.model_faults.specs.Counts.{Rose};
 ghost use Rattle.io_traits.specs.Source.{Shortens, IsAtEnd};
 ghost use Rattle.line_proto.specs.Stream.{KeepsBytes};
-ghost use Rattle.io_traits.specs.Sink.{Extends};
+ghost use Rattle.io_traits.specs.Sink.{Extends, AllHandedOn};
 ghost use Rattle.node_session.specs.HandedOn.{FallsShort};
 ghost use Rattle.node_session.specs.declared.ended.Ended.{Ended};
 ghost use Rattle.node_session.specs.Session.{Ran, EndsAtRest, ended_of};
@@ -39,6 +39,7 @@ fn take_piece<L: Source>(link: &mut L, lines: &mut Lines, out: &mut [u8]) -> Res
     ensures quiet { (IsErrOf result NoPiece.SourceFault → ⊥) → L.source_faults link.new ≡ L.source_faults link.old }
     ensures later { L.source_faults link.old ≤ L.source_faults link.new }
     ensures written { L.written link.new ≡ L.written link.old }
+    ensures handed { L.handed link.new ≡ L.handed link.old }
     ensures sink_faults { L.sink_faults link.new ≡ L.sink_faults link.old }
 {
     let Ok(count) = link.read_some(out) else {
@@ -76,6 +77,7 @@ fn serve_rest<T: Store, L: Sink, C: Clock>(
         × EndsAtRest T.acts T.tends answered store.old (C.times clock.old) text store.new (C.times clock.new) ended
         × Extends (L.written link.old) (L.written link.new) output
         × (((result ≡ ended) × (output ≡ text)) ⊎ ((result ≡ Ended.SinkFault) × FallsShort text output)) }
+    ensures handed { result ≢ Ended.SinkFault → AllHandedOn (L.written link.old) (L.written link.new) (L.handed link.old) (L.handed link.new) }
     ensures cause { result ≡ Ended.SinkFault → Rose (L.sink_faults link.old) (L.sink_faults link.new) }
     ensures later { L.sink_faults link.old ≤ L.sink_faults link.new }
     ensures left { L.left link.new ≡ L.left link.old }
@@ -108,8 +110,10 @@ fn serve<T: Store, L: Source + Sink, C: Clock>(
     ensures run { Ran T.acts T.tends limit (L.taken link.old) (L.taken link.new) (L.left link.old) (L.left link.new)
         (L.written link.old) (L.written link.new) store.old store.new (C.times clock.old) (C.times clock.new) result }
     ensures none_waits { result ≡ Ended.SourceFault → (at : L) × (L.source_faults at ≡ L.source_faults link.old)
-        × (L.taken at ≡ L.taken link.new) × (L.written at ≡ L.written link.new) }
+        × (L.taken at ≡ L.taken link.new) × (L.written at ≡ L.written link.new)
+        × AllHandedOn (L.written link.old) (L.written at) (L.handed link.old) (L.handed at) }
     ensures none_passed_over { result ≢ Ended.SourceFault → L.source_faults link.new ≡ L.source_faults link.old }
+    ensures handed { result ≢ Ended.SinkFault → AllHandedOn (L.written link.old) (L.written link.new) (L.handed link.old) (L.handed link.new) }
     ensures source_fault { result ≡ Ended.SourceFault → Rose (L.source_faults link.old) (L.source_faults link.new) }
     ensures sink_fault { result ≡ Ended.SinkFault → Rose (L.sink_faults link.old) (L.sink_faults link.new) }
     ensures source_later { L.source_faults link.old ≤ L.source_faults link.new }
@@ -159,10 +163,14 @@ pub fn session<T: Store, L: Source + Sink, C: Clock>(
         (L.written link.old) (L.written link.new) store.old store.new (C.times clock.old) (C.times clock.new) result }
 
     // No reply waits while more is read. A read may fail at any time, and no fault of the source is passed over; where one comes,
-    // all was written at a moment before it.
+    // all was written and handed on at a moment before it.
     ensures none_waits { result ≡ Ended.SourceFault → (at : L) × (L.source_faults at ≡ L.source_faults link.old)
-        × (L.taken at ≡ L.taken link.new) × (L.written at ≡ L.written link.new) }
+        × (L.taken at ≡ L.taken link.new) × (L.written at ≡ L.written link.new)
+        × AllHandedOn (L.written link.old) (L.written at) (L.handed link.old) (L.handed at) }
     ensures none_passed_over { result ≢ Ended.SourceFault → L.source_faults link.new ≡ L.source_faults link.old }
+
+    // However it ends, but at a fault of the sink, nothing that was written waits for a flush.
+    ensures handed { result ≢ Ended.SinkFault → AllHandedOn (L.written link.old) (L.written link.new) (L.handed link.old) (L.handed link.new) }
 
     // It doesn't give up by itself.
     ensures source_fault { result ≡ Ended.SourceFault → Rose (L.source_faults link.old) (L.source_faults link.new) }

@@ -1,7 +1,7 @@
 // The turns of all lines that are ready.
-ghost use Rattle.std.specs.Prelude.{◌≡◌, ◌+◌, ◌<◌, ◌≤◌, ◌^◌, List, ℕ, [], length, IsErr};
+ghost use Rattle.std.specs.Prelude.{◌≡◌, ◌+◌, ◌<◌, ◌≤◌, ◌^◌, List, ℕ, [], length, IsErr, OnOk};
 ghost use Rattle.model_faults.specs.Counts.{IsCaused};
-ghost use Rattle.io_traits.specs.Sink.{Extends};
+ghost use Rattle.io_traits.specs.Sink.{Extends, AllHandedOn};
 ghost use Rattle.node_session.specs.HandedOn.{FallsShort};
 ghost use Rattle.node_session.specs.Turns.{HasTurns, StopsAmong, ServesSome};
 ghost use Rattle.node_session.specs.declared.stop.Stop.{Stop};
@@ -37,6 +37,7 @@ pub fn serve_ready<T: Store, L: Sink, C: Clock>(
     ensures failed { IsErr result → (text : List ℕ) × (output : List ℕ) × FallsShort text output
         × ServesSome T.acts T.tends lines.old.ready store.old (C.times clock.old) text store.new (C.times clock.new)
         × Extends (L.written link.old) (L.written link.new) output }
+    ensures handed { OnOk result (AllHandedOn (L.written link.old) (L.written link.new) (L.handed link.old) (L.handed link.new)) }
     ensures cause { IsCaused (L.sink_faults link.old) (L.sink_faults link.new) result }
     ensures left { L.left link.new ≡ L.left link.old }
     ensures taken { L.taken link.new ≡ L.taken link.old }

@@ -1,6 +1,7 @@
 // The replies that wait to be handed on.
 ghost use Rattle.std.specs.Prelude.{◌≡◌, ◌≢◌, ◌<◌, ◌≤◌, [], ◌++◌, length, IsOk, OnOk, OnErr};
 ghost use Rattle.model_faults.specs.Counts.{IsCaused};
+ghost use Rattle.io_traits.specs.Sink.{AllHandedOn};
 ghost use Rattle.line_proto.specs.declared.reply.Reply.{Reply};
 ghost use Rattle.line_proto.specs.Lines.{reply_text};
 ghost use Rattle.node_session.specs.HandedOn.{Sends, reply_room};
@@ -50,6 +51,7 @@ impl Replies {
     /// is done. After an `Err` a front of the text may be written, and the text stays.
     pub fn hand_on<K: Sink>(&mut self, link: &mut K) -> Result<(), SinkFault>
         ensures bytes { Sends self.old self.new (K.written link.old) (K.written link.new) result }
+        ensures handed { OnOk result (AllHandedOn (K.written link.old) (K.written link.new) (K.handed link.old) (K.handed link.new)) }
         ensures ok { OnOk result (self.new ≡ []) }
         ensures err { OnErr result (self.new ≡ self.old) }
         ensures nothing { self.old ≡ [] → IsOk result × (link.new ≡ link.old) }
@@ -69,6 +71,7 @@ impl Replies {
     /// At `Ok` fewer than 65,536 bytes wait: where they were as many or more, all of the text was handed on, as by `hand_on`.
     pub fn make_room<K: Sink>(&mut self, link: &mut K) -> Result<(), SinkFault>
         ensures bytes { Sends self.old self.new (K.written link.old) (K.written link.new) result }
+        ensures handed { OnOk result (AllHandedOn (K.written link.old) (K.written link.new) (K.handed link.old) (K.handed link.new)) }
         ensures ok { OnOk result (length self.new < reply_room) }
         ensures err { OnErr result (self.new ≡ self.old) }
         ensures room { length self.old < reply_room → IsOk result × (self.new ≡ self.old) × (link.new ≡ link.old) }
@@ -89,6 +92,7 @@ impl Replies {
 /// of it may be written.
 pub fn send<K: Sink>(link: &mut K, text: &[u8]) -> Result<(), SinkFault>
     ensures bytes { Sends text.now [] (K.written link.old) (K.written link.new) result }
+    ensures handed { OnOk result (K.handed link.new ≡ K.written link.new) }
     ensures cause { IsCaused (K.sink_faults link.old) (K.sink_faults link.new) result }
     ensures left { K.left link.new ≡ K.left link.old }
     ensures taken { K.taken link.new ≡ K.taken link.old }

@@ -55,6 +55,8 @@ impl Ends for Link {
 
     ghost written = { λ l. ⟦<TextSink as Ends>⟧.written l.sink };
 
+    ghost handed = { λ l. ⟦<TextSink as Ends>⟧.handed l.sink };
+
     ghost sink_faults = { λ l. ⟦<TextSink as Ends>⟧.sink_faults l.sink };
 }
 

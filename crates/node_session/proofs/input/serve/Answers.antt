@@ -4,7 +4,7 @@ use Rattle.std.proofs.lemmas.List.{append-nil}
 use Rattle.line_proto.specs.Stream.{KeepsBytes}
 use Rattle.io_traits.specs.Source.{IsAtEnd, Shortens}
 use Rattle.node_session.specs.Session.{StopsAfter}
-use Rattle.node_session.proofs.Sending.{extends_on, extends_none, extends_same, shortens_on, shortens_none, short_on}
+use Rattle.node_session.proofs.Sending.{extends_on, extends_none, extends_same, shortens_on, shortens_none, short_on, handed_none, handed_on, handed_same}
 use Rattle.node_session.proofs.Running.{serves_none}
 use Rattle.node_session.proofs.Taking.{count_of_falls, count_ready, size_of_open, further, stops_after, some_turns}
 use Rattle.node_session.proofs.Ending.{takes_none, joins_none, shortens_end, finish_whole, ends_of, rest_ends_so}
@@ -26,6 +26,7 @@ loop-taken-init g c = record {
   size = refl;
   within = omega arith;
   source_same = refl;
+  handed = handed_none _ _;
   sink_later = omega arith;
 }
 
@@ -150,6 +151,7 @@ loop-taken-preserved g c =
       size = omega (arith, was.size, piece.5.0, length-append was.bytes piece.0);
       within = omega (arith, c.min-room.ensures, length-take c.min-room.result c.loop-taken.buffer, piece.5.0, piece.3);
       source_same = c.serve_ready.ensures.source_faults ∙ c.in-Ok.ensures.quiet (λ is. cc) ∙ was.source_same;
+      handed = handed_on _ _ _ _ _ _ (handed_same _ _ _ _ _ _ was.handed c.take_piece.ensures.written c.take_piece.ensures.handed) c.in-Ok-None.ensures.handed;
       sink_later = omega (arith, was.sink_later, c.take_piece.ensures.sink_faults, c.serve_ready.ensures.cause.later);
     }
 

@@ -1,5 +1,5 @@
 use Rattle.std.proofs.Common.{◌≡◌, ◌≤◌, ◌-◌, ℕ, List, ◌++◌, length, map}
-use Rattle.io_traits.specs.Sink.{Extends}
+use Rattle.io_traits.specs.Sink.{Extends, AllHandedOn}
 use Rattle.io_traits.specs.Source.{Shortens}
 use Rattle.line_proto.specs.Stream.{FallInto, KeepsBytes, line_end}
 use Rattle.node_session.specs.Turns.{HasTurns}
@@ -21,6 +21,7 @@ invariant-loop-taken g l = record {
   size : l.taken ≡ length bytes;
   within : l.taken ≤ l.limit;
   source_same : g.L.Ends.source_faults l.link ≡ g.L.Ends.source_faults l.fn.link;
+  handed : AllHandedOn (g.L.Ends.written l.fn.link) (g.L.Ends.written l.link) (g.L.Ends.handed l.fn.link) (g.L.Ends.handed l.link);
   sink_later : g.L.Ends.sink_faults l.fn.link ≤ g.L.Ends.sink_faults l.link;
 }
 

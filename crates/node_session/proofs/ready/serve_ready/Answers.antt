@@ -3,9 +3,9 @@ use Rattle.std.proofs.lemmas.List.{append-nil}
 use Rattle.line_proto.specs.declared.line_end.LineEnd.{LineEnd}
 use Rattle.line_proto.specs.Stream.{Kept}
 use Rattle.node_session.specs.declared.stop.Stop.{Stop}
-use Rattle.node_session.specs.Turns.{StopsAmong}
-use Rattle.node_session.proofs.Sending.{extends_on, all_sent, falls_short}
-use Rattle.node_session.proofs.Collecting.{collected_none, collected_more, collected_sent, stops_collected}
+use Rattle.node_session.specs.Turns.{HasTurns, StopsAmong}
+use Rattle.node_session.proofs.Sending.{extends_on, all_sent, falls_short, handed_none, handed_on}
+use Rattle.node_session.proofs.Collecting.{collected_none, collected_more, collected_sent, all_collected, stops_collected}
 use Rattle.node_session.proofs.Stopping.{told_one}
 use Rattle.node_session.proofs.ready.serve_ready.Goals as goal
 
@@ -25,6 +25,7 @@ loop-line-init g c = record {
   counted = omega arith;
   collected = rw c.new-replies.ensures (collected_none g.T.Store.acts g.T.Store.tends c.args.store.now (g.C.Clock.times c.args.clock.now) (g.L.Ends.written c.args.link.now));
   room = rw c.new-replies.ensures (omega arith);
+  handed = handed_none _ _;
   later = omega arith;
   left = refl;
   taken = refl;
@@ -49,6 +50,7 @@ loop-line-preserved g c =
           (was.done ++ line ∷ []) c.turn.new.replies c.make_room.new.self
           (g.L.Ends.written c.loop-line.link) (g.L.Ends.written c.make_room.new.link) c.turn.new.store (g.C.Clock.times c.turn.new.clock) _ collected handed.bytes handed.bytes.all;
       room = handed.ok;
+      handed = handed_on _ _ _ _ _ _ was.handed handed.handed;
       later = omega (arith, was.later, handed.cause.later);
       left = handed.left ∙ was.left;
       taken = handed.taken ∙ was.taken;
@@ -73,6 +75,7 @@ loop-line-preserved-in_ok-make_room g c =
           (was.done ++ line ∷ []) c.turn.new.replies c.make_room.new.self
           (g.L.Ends.written c.loop-line.link) (g.L.Ends.written c.make_room.new.link) c.turn.new.store (g.C.Clock.times c.turn.new.clock) _ collected handed.bytes handed.bytes.all;
       room = handed.ok;
+      handed = handed_on _ _ _ _ _ _ was.handed handed.handed;
       later = omega (arith, was.later, handed.cause.later);
       left = handed.left ∙ was.left;
       taken = handed.taken ∙ was.taken;
@@ -151,4 +154,20 @@ returns-in_err-hand_on-2-clause-failed g c = λ _.
       falls_short collected.output c.loop-line.replies None c.loop-line.replies c.hand_on-2.new.self _ _ _ sends was.room (sym (append-nil c.loop-line.replies)),
       inl (record { before = was.done; after = c.loop-line.lines.ready; parts = was.parts; serves = collected.serves }),
       extends_on _ _ _ collected.output sends.sent collected.extends sends.extends,
+    )
+
+-- all lines had their turns, and all that waited is handed on
+pub returns-clause-done : goal.returns-clause-done
+returns-clause-done g c = λ _.
+    let was = c.loop-line.invariant in
+    let handed = c.in_ok-hand_on-2.ensures in
+    let none : handed.bytes.unsent ≡ [] = handed.bytes.all ∙ handed.ok in
+    let output = was.collected.output in
+    let all : c.args.lines.now.ready ≡ was.done =
+    was.parts ∙ ap (λ (l : List LineEnd). was.done ++ l) (c.in_default.ensures.ready ∙ c.in_default.ensures.none) ∙ append-nil was.done in (
+      output ++ c.loop-line.replies,
+      subst (λ (l : List LineEnd). HasTurns g.T.Store.acts g.T.Store.tends l c.args.store.now (g.C.Clock.times c.args.clock.now)
+          (output ++ c.loop-line.replies) c.loop-line.store (g.C.Clock.times c.loop-line.clock)) (sym all) was.collected.serves,
+      all_collected g.T.Store.acts g.T.Store.tends c.args.store.now (g.C.Clock.times c.args.clock.now) (g.L.Ends.written c.args.link.now) was.done c.loop-line.replies
+          c.hand_on-2.new.self _ _ _ _ _ was.collected handed.bytes none,
     )

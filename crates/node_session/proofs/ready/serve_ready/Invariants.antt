@@ -1,5 +1,6 @@
 use Rattle.std.proofs.Common.{◌≡◌, ◌+◌, ◌<◌, ◌≤◌, List, ◌++◌, length}
 use Rattle.line_proto.specs.declared.line_end.LineEnd.{LineEnd}
+use Rattle.io_traits.specs.Sink.{AllHandedOn}
 use Rattle.node_session.specs.HandedOn.{reply_room}
 use Rattle.node_session.proofs.Collecting.{Collected}
 use Rattle.node_session.proofs.ready.serve_ready.Given as goal
@@ -12,6 +13,7 @@ invariant-loop-line g l = record {
   counted : l.answered ≡ l.fn.answered + length done;
   collected : Collected g.T.Store.acts g.T.Store.tends l.fn.store (g.C.Clock.times l.fn.clock) (g.L.Ends.written l.fn.link) done l.replies (g.L.Ends.written l.link) l.store (g.C.Clock.times l.clock);
   room : length l.replies < reply_room;
+  handed : AllHandedOn (g.L.Ends.written l.fn.link) (g.L.Ends.written l.link) (g.L.Ends.handed l.fn.link) (g.L.Ends.handed l.link);
   later : g.L.Ends.sink_faults l.fn.link ≤ g.L.Ends.sink_faults l.link;
   left : g.L.Ends.left l.link ≡ g.L.Ends.left l.fn.link;
   taken : g.L.Ends.taken l.link ≡ g.L.Ends.taken l.fn.link;
