@@ -1,6 +1,6 @@
 -- Since when no gate of a device is unsure: behind a start, and through the calls of all devices.
 use Rattle.std.proofs.Common.{◌≡◌, ◌⊎◌, inl, inr, ℕ, zero, suc, ◌+◌, List, [], ◌∷◌, length, set, sym, subst}
-use Rattle.std.proofs.Math.Nat.{le_refl, le_trans}
+use Rattle.std.proofs.Math.Nat.{le_trans}
 use Rattle.std.specs.Prelude.{Some, Result, Ok, Err, slice_get}
 use Rattle.model_faults.specs.Counts.{Rose}
 use Rattle.disk_model.specs.Disk.{DiskView}
@@ -74,17 +74,10 @@ module _ {D : Type 0} (view : D → DiskView) where
   sure_again set device devices (old ∷ olds) (new ∷ fresh) starts (count ∷ counts) sure =
       (record { later = le_trans sure.0.later starts.0.read.later; sure = inl starts.0.sure }, sure_again set (device + 1) devices olds fresh starts.1 counts sure.1)
 
-  -- Behind a start it is so since the counts of then, and since those that the disks had before it.
+  -- Behind a start it is so since the counts that the disks had before it.
   pub sure_begun : (set : Settings) (device devices : ℕ) (disks : List D) (shards : List (ShardView D)) → StartsEach view set device devices disks shards
       → AreSureSince view (faults_of view disks) shards
   sure_begun set device devices [] shards starts = subst (AreSureSince view []) (sym starts) tt
   sure_begun set device devices (disk ∷ disks) [] starts = tt
   sure_begun set device devices (disk ∷ disks) (shard ∷ shards) starts =
       (record { later = starts.0.read.later; sure = inl starts.0.sure }, sure_begun set (device + 1) devices disks shards starts.1)
-
-  pub sure_now : (set : Settings) (device devices : ℕ) (disks : List D) (shards : List (ShardView D)) → StartsEach view set device devices disks shards
-      → AreSureSince view (faults_of view (disks_served shards)) shards
-  sure_now set device devices [] shards starts = subst (λ (s : List (ShardView D)). AreSureSince view (faults_of view (disks_served s)) s) (sym starts) tt
-  sure_now set device devices (disk ∷ disks) [] starts = tt
-  sure_now set device devices (disk ∷ disks) (shard ∷ shards) starts =
-      (record { later = le_refl (view shard.shelf.disk).faults; sure = inl starts.0.sure }, sure_now set (device + 1) devices disks shards starts.1)

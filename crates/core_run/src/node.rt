@@ -1,11 +1,12 @@
 // A node over its devices.
-ghost use Rattle.std.specs.Prelude.{◌≡◌, ◌≢◌, ◌≤◌, ◌<◌, ◌^◌, None, ℕ, List, length, vec_len, MatchOption, MatchResult, option_map};
+ghost use Rattle.std.specs.Prelude.{◌≡◌, ◌≢◌, ◌≤◌, ◌<◌, ◌^◌, None, ℕ, List, length, vec_len, IfOk, MatchOption, MatchResult, option_map};
 ghost use Rattle.rec_format.specs.declared.version.Digest.{Digest};
 ghost use Rattle.rec_format.specs.Places.{device_number};
 ghost use Rattle.shard_core.specs.View.{IsSettings, ShardView};
 ghost use Rattle.line_proto.specs.Lines.{IsInRange};
 ghost use Rattle.model_node.specs.Commands.{Slot, node_counts};
-ghost use Rattle.core_run.specs.Views.{serving, halted, disks_of};
+ghost use Rattle.core_run.specs.Views.{serving, halted, disks_of, faults_of};
+ghost use Rattle.core_run.specs.Sure.{AreSureSince};
 ghost use Rattle.core_run.specs.Standing.{StandsFor};
 ghost use Rattle.core_run.specs.Starts.{StartsEach, RefusesAt};
 ghost use Rattle.core_run.specs.Turns.{RepliesOn, GoesOn};
@@ -70,6 +71,7 @@ impl<D: Disk> Node<D> {
         requires set { IsSettings set }
         ensures begun { MatchResult result (λ node. (shards : List (ShardView D)) × (node ≡ serving shards) × StartsEach D.view set 0 (vec_len disks) disks.items shards)
             (λ refusal. RefusesAt D.view set refusal.device 0 (vec_len disks) refusal.cause disks.items refusal.disks.items) }
+        ensures sure { IfOk result (λ node. AreSureSince D.view (faults_of D.view disks.items) node.shards) }
     {
         let Ok(mut shards) = Vec::with_capacity(alloc, disks.len()) else {
             return Err(NodeRefusal {
