@@ -37,3 +37,4 @@ pub mod Tending
 pub mod Expiring
 pub mod Raiding
 pub mod Tidy
+pub mod Telling

@@ -27,7 +27,7 @@ use Rattle.raid_book.specs.Raids.{TurnsStand}
 use Rattle.block_format.specs.Layout.{body_bytes}
 use Rattle.block_shelf.specs.View.{ShelfView, IsShelf, AreSure, records_of, gate_at}
 use Rattle.block_shelf.specs.Standing.{ImagesHold}
-use Rattle.block_shelf.specs.Scans.{possible_copies}
+use Rattle.block_shelf.specs.Scans.{FindsBody, NeedsRead, possible_copies}
 use Rattle.block_shelf.specs.Disks.{IsLater}
 use Rattle.block_shelf.proofs.Going.{goes_none}
 use Rattle.rec_format.specs.declared.entry.Entry.{Entry}
@@ -37,7 +37,7 @@ use Rattle.law_steps.specs.Standing.{ShelfStands, StandTogether}
 use Rattle.law_steps.specs.Events.{StepMakes}
 use Rattle.law_steps.proofs.Making.{event_of}
 use Rattle.shard_raid.specs.Raids.{RaidView, IsNext, turns_left}
-use Rattle.shard_raid.specs.Scans.{ScanMakes, IsDamageOf, IsOfTurn, scan_answer}
+use Rattle.shard_raid.specs.Scans.{ScanMakes, IsDamageOf, IsToldOf, IsOfTurn, scan_answer}
 use Rattle.shard_raid.specs.declared.scan.RaidRefusal.{RaidRefusal}
 use Rattle.shard_raid.specs.declared.scan.RaidRefusal.TheVariants.{Fault, Stale}
 use Rattle.shard_raid.proofs.Nearer.{scan_nearer}
@@ -176,6 +176,8 @@ module _ {D : Type 0} (view : D → DiskView) (next : RaidNext) (old new : Shard
       nearer = λ other. nearer;
       few = few;
       damaged = λ tells block is. tt;
+      told = λ block is. tt;
+      there = λ tells block is needs. absurd (no_scan block (ap turn_of is));
       sure = λ sure. gates;
       buffers = buffers;
       ends = λ dropped is. (disk, gates);
@@ -247,8 +249,10 @@ module _ {D : Type 0} (view : D → DiskView) (block now : ℕ) (old new : Shard
       (buffers : new.shelf.buffers ≡ old.shelf.buffers) where
     -- it was scanned
     pub scan_taken : ScansSo (Ok block) → FitsTurn old.shelf.raid.next old.shelf.raid → new.shelf.raid ≡ with_scan new.shelf.raid.found old.shelf.raid
+        → ((view old.shelf.disk).tells → NeedsRead old.shelf block
+        → FindsBody old.shelf.geometry old.shelf.limits.sprigs (body_bytes old.shelf.geometry block (view old.shelf.disk).seen) block new.shelf.raid)
         → TakesTurn view (Scan block) now (Ok (Scanned block)) old new
-    scan_taken scans fits turned = record {
+    scan_taken scans fits turned finds = record {
       makes = turns_by (Ok block) scans alike;
       of_turn = tt;
       did = refl;
@@ -258,6 +262,10 @@ module _ {D : Type 0} (view : D → DiskView) (block now : ℕ) (old new : Shard
       nearer = λ more. subst (λ (b : BookState). turns_left b < turns_left old.shelf.raid) (sym turned) (scan_nearer old.shelf.raid fits block new.shelf.raid.found comes);
       few = tt;
       damaged = λ tells other is. tt;
+      told = λ other is. tt;
+      there = λ tells other is. let same : block ≡ other = cc in
+          subst (λ (b : ℕ). NeedsRead old.shelf b
+          → FindsBody old.shelf.geometry old.shelf.limits.sprigs (body_bytes old.shelf.geometry b (view old.shelf.disk).seen) b new.shelf.raid) same (finds tells);
       sure = sure;
       buffers = buffers;
       ends = λ dropped is. absurd cc;
@@ -270,8 +278,8 @@ module _ {D : Type 0} (view : D → DiskView) (block now : ℕ) (old new : Shard
     -- it was refused
     pub scan_refused : (refusal : RaidRefusal) → ScansSo (Err refusal) → IsOfTurn refusal → new.shelf.raid ≡ given_up old.shelf.raid
         → ((view old.shelf.disk).tells → IsDamageOf old.shelf.geometry (body_bytes old.shelf.geometry block (view old.shelf.disk).seen) block refusal)
-        → (refusal ≡ Fault → Rose (view old.shelf.disk).faults (view new.shelf.disk).faults) → TakesTurn view (Scan block) now (Err refusal) old new
-    scan_refused refusal scans of_turn given damaged rose = record {
+        → IsToldOf old.shelf block refusal → (refusal ≡ Fault → Rose (view old.shelf.disk).faults (view new.shelf.disk).faults) → TakesTurn view (Scan block) now (Err refusal) old new
+    scan_refused refusal scans of_turn given damaged told rose = record {
       makes = turns_by (Err refusal) scans alike;
       of_turn = of_turn;
       did = tt;
@@ -282,6 +290,8 @@ module _ {D : Type 0} (view : D → DiskView) (block now : ℕ) (old new : Shard
       few = tt;
       damaged = λ tells other is. let same : block ≡ other = cc in
           subst (λ (b : ℕ). IsDamageOf old.shelf.geometry (body_bytes old.shelf.geometry b (view old.shelf.disk).seen) b refusal) same (damaged tells);
+      told = λ other is. let same : block ≡ other = cc in subst (λ (b : ℕ). IsToldOf old.shelf b refusal) same told;
+      there = λ tells other is needs. tt;
       sure = sure;
       buffers = buffers;
       ends = λ dropped is. absurd cc;
@@ -348,6 +358,8 @@ module _ {D : Type 0} (view : D → DiskView) (is_disk : (disk : D) → IsDisk (
     nearer = λ more. absurd (more refl);
     few = tt;
     damaged = λ tells block is. tt;
+    told = λ block is. tt;
+    there = λ tells block is needs. absurd cc;
     sure = λ sure. refl;
     buffers = refl;
     ends = λ part is. (refl, refl);

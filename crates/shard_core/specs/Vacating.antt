@@ -15,6 +15,7 @@ use Rattle.block_shelf.specs.Standing.{IsPlaced}
 use Rattle.law_steps.specs.Standing.{ShelfIsSafe}
 use Rattle.block_shelf.specs.declared.refusals.VacateRefusal.{VacateRefusal}
 use Rattle.block_shelf.specs.declared.refusals.VacateRefusal.TheVariants as vacate
+use Rattle.defrag_pass.specs.Moves.{TellsDamage}
 use Rattle.defrag_pass.specs.declared.refusal.MoveRefusal.{MoveRefusal}
 use Rattle.defrag_pass.specs.declared.refusal.MoveRefusal.TheVariants as move
 use Rattle.shard_core.specs.declared.refusals.Damage.TheVariants as damage
@@ -22,6 +23,7 @@ use Rattle.shard_core.specs.declared.refusals.DefragCause.{DefragCause}
 use Rattle.shard_core.specs.declared.refusals.DefragCause.TheVariants as why
 use Rattle.shard_core.specs.declared.refusals.DefragRefusal.{DefragRefusal}
 use Rattle.shard_core.specs.declared.defrag.Vacated.{Vacated}
+use Rattle.shard_core.specs.Sprigs.{held}
 use Rattle.shard_core.specs.View.{ShardView, setup_of}
 use Rattle.shard_core.specs.Stands.{Agrees}
 
@@ -61,6 +63,19 @@ pub record HaveMoved (setup : Setup) (block : ℕ) (s : State) (moved : ℕ) (le
   pub moves : AreMoves block events
   pub count : moved ≡ moved_count events
   pub lie : LiesAmong left block (after_events setup events s).book
+
+-- ---- damage
+
+-- Damage is told as a move tells it of the record of an entry in the block, which stands there yet; and of nothing else.
+abbrev pub IsDamageIn : {D : Type 0} → (Told : Type 0) → (view : D → DiskView) → (block : ℕ) → ShardView D → DefragCause → Type 0
+IsDamageIn Told view block shard why.Spent = Unit {0}
+IsDamageIn Told view block shard why.Load = Unit {0}
+IsDamageIn Told view block shard why.Space = Unit {0}
+IsDamageIn Told view block shard (why.Damaged (damage.Record kept bytes)) =
+    (digest : Digest) × TellsDamage Told view block (held (setup_of shard) digest shard.sprigs) shard.shelf kept bytes
+IsDamageIn Told view block shard (why.Damaged (damage.Block other place)) = ⊥
+IsDamageIn Told view block shard why.Memory = Unit {0}
+IsDamageIn Told view block shard why.Fault = Unit {0}
 
 -- ---- how a vacating is answered
 

@@ -1,12 +1,14 @@
-use Rattle.std.proofs.Common.{ap, sym, refl, ◌∙◌, subst}
+use Rattle.std.proofs.Common.{◌≡◌, ℕ, ap, sym, refl, ◌∙◌, subst}
 use Rattle.std.specs.Prelude.{Some, None, Ok, Err}
 use Rattle.model_device.specs.Device.{State}
+use Rattle.model_device.specs.Legal.{queue_front}
+use Rattle.block_shelf.specs.Vacating.{IsNextOf}
 use Rattle.disk_model.specs.Disk.{IsHonest}
 use Rattle.block_shelf.specs.View.{ShelfView}
 use Rattle.block_shelf.specs.Disks.{IsLater}
 use Rattle.shard_core.specs.View.{ShardView, SameSetup}
 use Rattle.shard_core.specs.Stands.{Agrees}
-use Rattle.shard_core.specs.Vacating.{MakesEvents, IsVacating, vacate_cause}
+use Rattle.shard_core.specs.Vacating.{MakesEvents, IsDamageIn, IsVacating, vacate_cause}
 use Rattle.shard_core.proofs.Later.{later_none}
 use Rattle.shard_core.proofs.Choices.{gives_not, gives_none, gives_own, gives_few, gives_all, gives_some}
 use Rattle.block_shelf.specs.Sure.{StaysSure}
@@ -139,3 +141,22 @@ pub returns-clause-sure : goal.returns-clause-sure
 returns-clause-sure g c =
     subst (λ (v : ShardView g.row.D.Denot). StaysSure g.D.Disk.view v.shelf c.vacate_next.new.self) c.self.view_is
     (sure_none g.D.Disk.view c.self.inside.shelf c.vacate_next.new.self c.vacate_next.ensures.same)
+
+-- ---- damage
+
+pub returns-in-Ok-Some-clause-damaged : goal.returns-in-Ok-Some-clause-damaged
+returns-in-Ok-Some-clause-damaged g c block front =
+    let view = g.D.Disk.view in
+    let here = subst (λ (x : ShelfView g.row.D.Denot). IsDamageIn (view x.disk).tells view c.in-Ok-Some.vacancy.block c.move_all.new.self c.in-Err-move_all.refusal.cause)
+    c.vacate_next.ensures.same c.in-Err-move_all.ensures.damaged in
+    let chosen : IsNextOf c.self.inside.shelf (Some c.in-Ok-Some.vacancy) = subst (IsNextOf c.self.inside.shelf) c.in-Ok-Some.field-0-is c.in-Ok-Some.ensures.first in
+    let was : queue_front c.self.inside.shelf.queue.queue ≡ Some block = ap (λ (v : ShardView g.row.D.Denot). queue_front v.shelf.queue.queue) c.self.view_is ∙ front in
+    let one : Some c.in-Ok-Some.vacancy.block ≡ Some block = sym chosen.front ∙ was in
+    let same : c.in-Ok-Some.vacancy.block ≡ block = cc in
+    subst (λ (v : ShardView g.row.D.Denot). IsDamageIn (view v.shelf.disk).tells view block c.move_all.new.self c.in-Err-move_all.refusal.cause) c.self.view_is
+    (subst (λ (n : ℕ). IsDamageIn (view c.self.inside.shelf.disk).tells view n c.move_all.new.self c.in-Err-move_all.refusal.cause) same here)
+
+pub returns-clause-damaged : goal.returns-clause-damaged
+returns-clause-damaged g c block front =
+    let new : ShardView g.row.D.Denot = record { shelf = c.vacate_next.new.self; set = c.self.inside.set; sprigs = c.self.inside.sprigs.items } in
+    subst (IsDamageIn (g.D.Disk.view c.args.self.now.shelf.disk).tells g.D.Disk.view block new) (sym (c.vacate_cause.ensures ∙ ap vacate_cause c.in-Err.ensures.refused)) tt

@@ -4,6 +4,7 @@ use Rattle.std.proofs.lemmas.List.{drop_all}
 use Rattle.rec_format.specs.declared.version.Digest.{Digest}
 use Rattle.shard_core.specs.View.{setup_of}
 use Rattle.shard_core.specs.Vacating.{MakesEvents, HaveMoved}
+use Rattle.shard_core.proofs.Telling.{told_before}
 use Rattle.shard_core.proofs.Later.{later_none, later_then}
 use Rattle.shard_core.proofs.Vacating.{none_moved, all_moved, goes_on, goes_no_further}
 use Rattle.block_shelf.proofs.Surely.{sure_none, sure_then}
@@ -17,6 +18,7 @@ loop-digest-init g c = record {
   later = later_none g.D.Disk.view c.args.self.now.shelf.disk (g.met.D.Disk.is_disk c.args.self.now.shelf.disk);
   honest = λ honest. honest;
   shape = record { geometry = refl; set = refl };
+  tells = λ tells. tells;
 }
 
 -- what is left is this digest and those behind it
@@ -33,6 +35,11 @@ returns-in-Err-clause-makes g c s agrees lie =
     (subst (λ (l : List Digest). MakesEvents g.D.Disk.view (HaveMoved (setup_of c.args.self.now) c.args.vacancy.now.block s c.loop-digest.moved l) c.args.self.now s c.loop-digest.self) left
     (c.loop-digest.invariant.moves s agrees lie))
     c.in-Err.cause c.in-Err.ensures.makes
+
+pub returns-in-Err-clause-damaged : goal.returns-in-Err-clause-damaged
+returns-in-Err-clause-damaged g c =
+    told_before (g.D.Disk.view c.loop-digest.self.shelf.disk).tells g.D.Disk.view c.args.vacancy.now.block c.move_record.new.self (g.D.Disk.view c.args.self.now.shelf.disk).tells
+    c.loop-digest.invariant.tells c.in-Err.cause c.in-Err.ensures.damaged
 
 pub loop-digest-preserved : goal.loop-digest-preserved
 loop-digest-preserved g c =
@@ -52,6 +59,7 @@ loop-digest-preserved g c =
       later = later_then g.D.Disk.view c.args.self.now.shelf.disk c.loop-digest.self.shelf.disk c.move_record.new.self.shelf.disk c.loop-digest.invariant.later c.move_record.ensures.later;
       honest = λ honest. c.move_record.ensures.honest (c.loop-digest.invariant.honest honest);
       shape = record { geometry = c.move_record.ensures.shape.geometry ∙ c.loop-digest.invariant.shape.geometry; set = c.move_record.ensures.shape.set ∙ c.loop-digest.invariant.shape.set };
+      tells = λ tells. c.move_record.ensures.tells (c.loop-digest.invariant.tells tells);
     }
 
 pub returns-clause-makes : goal.returns-clause-makes

@@ -18,4 +18,5 @@ invariant-loop-digest g l = record {
   later : IsLater (g.D.Disk.view l.fn.self.shelf.disk) (g.D.Disk.view l.self.shelf.disk);
   honest : IsHonest (g.D.Disk.view l.fn.self.shelf.disk) → IsHonest (g.D.Disk.view l.self.shelf.disk);
   shape : SameSetup l.fn.self l.self;
+  tells : (g.D.Disk.view l.fn.self.shelf.disk).tells → (g.D.Disk.view l.self.shelf.disk).tells;
 }

@@ -5,11 +5,14 @@ use Rattle.model_device.specs.Events.{Answer, move_call}
 use Rattle.shard_core.specs.View.{ShardView, SameSetup, setup_of}
 use Rattle.shard_core.specs.Stands.{Agrees}
 use Rattle.shard_core.specs.Calls.{Makes}
-use Rattle.shard_core.specs.Vacating.{IsMoved}
+use Rattle.shard_core.specs.Vacating.{IsDamageIn, IsMoved}
+use Rattle.std.specs.Prelude.{IfErr}
+use Rattle.model_device.specs.Book.{Setup}
+use Rattle.shard_core.proofs.Telling.{held_set, moved_damage}
 use Rattle.defrag_pass.specs.Moves.{Answers}
 use Rattle.shard_core.proofs.Causes.{moved_so}
 use Rattle.shard_core.proofs.Each.{set_at}
-use Rattle.shard_core.proofs.Making.{setup_is, whole_made, step_stands, lifted}
+use Rattle.shard_core.proofs.Making.{setup_is, setup_same, whole_made, step_stands, lifted}
 use Rattle.shard_core.proofs.Tallies.{tally_behind}
 use Rattle.shard_core.proofs.shard.Shard.move_record.Given.{Over}
 use Rattle.block_shelf.specs.Sure.{StaysSure}
@@ -97,3 +100,29 @@ invariant_of-self g c =
 pub returns-clause-sure : goal.returns-clause-sure
 returns-clause-sure g c =
     subst (λ (v : ShardView g.row.D.Denot). StaysSure g.D.Disk.view v.shelf c.move_one-answer.new.shelf) c.self.view_is c.move_one-answer.ensures.sure
+
+-- ---- damage, and the disk
+
+pub returns-clause-damaged : goal.returns-clause-damaged
+returns-clause-damaged g c =
+    let view = g.D.Disk.view in
+    let old : ShardView g.row.D.Denot = record { shelf = c.self.inside.shelf; set = c.self.inside.set; sprigs = c.self.inside.sprigs.items } in
+    let new : ShardView g.row.D.Denot = record {
+      shelf = c.move_one-answer.new.shelf;
+      set = c.self.inside.set;
+      sprigs =
+          set c.self.inside.sprigs.items c.part_of-part.result c.move_one-answer.new.sprig;
+    } in
+    let shape : SameSetup old new = record { geometry = c.move_one-answer.ensures.shape.geometry; set = refl } in
+    let place : c.part_of-part.result ≡ part_of (setup_of new) c.args.digest.now = c.part_of-part.ensures.part
+    ∙ ap (λ (v : ShardView g.row.D.Denot). part_of (setup_of v) c.args.digest.now) (sym c.self.view_is) ∙ ap (λ (x : Setup). part_of x c.args.digest.now) (setup_same old new shape) in
+    let there : c.part_of-part.result < length old.sprigs = subst (λ (v : ShardView g.row.D.Denot). c.part_of-part.result < length v.sprigs) (sym c.self.view_is) c.part_of-part.ensures.there in
+    subst (λ (v : ShardView g.row.D.Denot). IfErr c.move_answer.result (IsDamageIn (view v.shelf.disk).tells view c.args.block new)) c.self.view_is
+    (moved_damage (view old.shelf.disk).tells view c.args.block new c.args.digest.now c.index_mut.result.now c.move_one-answer.new.sprig
+    (held_set (setup_of new) c.args.digest.now old.sprigs c.part_of-part.result c.move_one-answer.new.sprig place there)
+    c.move_one-answer.result c.move_answer.result c.move_answer.ensures c.move_one-answer.ensures.refused c.move_one-answer.ensures.damaged)
+
+pub returns-clause-tells : goal.returns-clause-tells
+returns-clause-tells g c =
+    subst (λ (v : ShardView g.row.D.Denot). (g.D.Disk.view v.shelf.disk).tells → (g.D.Disk.view c.move_one-answer.new.shelf.disk).tells) c.self.view_is
+    (λ tells. (c.move_one-answer.ensures.bytes tells).0)

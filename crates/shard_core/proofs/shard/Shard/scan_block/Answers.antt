@@ -51,10 +51,10 @@ returns g c now =
           done (Ok (Scanned block)) (w.result-is ∙ ap (λ (b : ℕ). Ok (Scanned b)) (sym same))
           (scan_taken g.D.Disk.view block now old new shape refl at alike c.raid_scan.ensures.sure c.raid_scan.ensures.later c.raid_scan.ensures.honest buffers
           (subst (λ (b : ℕ). ScansSo g.D.Disk.view block now old new shape refl (Ok b)) (sym same) (λ s stands. w.in-Ok.ensures.makes (setup_of old) s now block at is stands))
-          fits w.in-Ok.ensures.turned)
+          fits w.in-Ok.ensures.turned (λ tells. w.in-Ok.ensures.there tells block at))
       | in-Err w ↦
           done (Err w.in-Err.refusal) w.result-is
           (scan_refused g.D.Disk.view block now old new shape refl at alike c.raid_scan.ensures.sure c.raid_scan.ensures.later c.raid_scan.ensures.honest buffers w.in-Err.refusal
           (λ s stands. w.in-Err.ensures.makes (setup_of old) s now block at is stands) w.in-Err.ensures.of_turn w.in-Err.ensures.given_up (λ tells. w.in-Err.ensures.damaged tells block at)
-          (λ fault. c.raid_scan.ensures.cause (w.in-Err.is ∙ ap (λ (r : RaidRefusal). Err r) fault)))
+          (w.in-Err.ensures.told block at) (λ fault. c.raid_scan.ensures.cause (w.in-Err.is ∙ ap (λ (r : RaidRefusal). Err r) fault)))
     ]
