@@ -19,7 +19,7 @@ use Rattle.line_proto.specs.declared.reply.Reply.TheVariants as reply
 use Rattle.cold_scan.specs.declared.header.StartCause.{StartCause}
 use Rattle.model_device.specs.Vacating.{Outcome, did, stopped}
 use Rattle.model_node.specs.Commands.{Slot, Node, NodeEvent, Does, on_device, answer_reply, meta_reply, seen_on, flushed_reply, defragged_reply, expired_reply, raided_reply, node_counts}
-use Rattle.model_node.specs.Run.{Carries, WantsMemory}
+use Rattle.model_node.specs.Run.{Carries}
 use Rattle.model_node.specs.Meaning.{ActsFrom, left_between}
 use Rattle.shard_core.specs.View.{ShardView, setup_of}
 use Rattle.shard_core.specs.Stands.{Agrees}
@@ -65,16 +65,15 @@ module _ {D : Type 0} (view : D → DiskView) (is_disk : (disk : D) → IsDisk (
       (safe : (node : Node) → Each (StandsSafelyOn view) olds node → ActsFrom (StandsSafely view) (views_of view) (HaltsSafely view) Unshown true (serving olds) node c now r (serving news)) where
     -- nothing was started again
     not_restarted : (views : NodeView D → ℕ → DiskView) (told : Bool) (node : Node) (work : List NodeEvent) (restarted : Option Node)
-        → Carries (left_between views (serving olds) (serving news)) told node c now work restarted r ⊎ WantsMemory work restarted r → restarted ≡ None
-    not_restarted views told node work restarted (inl (inl made)) = made.0
-    not_restarted views told node work restarted (inl (inr ends)) = absurd (other ends.0)
-    not_restarted views told node work restarted (inr lacks) = lacks.0
+        → Carries (left_between views (serving olds) (serving news)) told node c now work restarted r → restarted ≡ None
+    not_restarted views told node work restarted (inl made) = made.0
+    not_restarted views told node work restarted (inr ends) = absurd (other ends.0)
 
     halts_never : (before after : Node) → Halts view (serving news) before after → ⊥
     halts_never before after h = serves_or_halts news (h.device, h.cause) h.disks h.is_halted
 
     shows_of : (views : NodeView D → ℕ → DiskView) (told : Bool) (node : Node) (work : List NodeEvent) (restarted : Option Node)
-        → Carries (left_between views (serving olds) (serving news)) told node c now work restarted r ⊎ WantsMemory work restarted r → (r ≡ reply.Halted → ⊥)
+        → Carries (left_between views (serving olds) (serving news)) told node c now work restarted r → (r ≡ reply.Halted → ⊥)
         → ShowsOn view told (serving olds) node now r work restarted (serving news)
     shows_of views told node work restarted carried goes = record {
       again = λ fresh is. absurd (none_is fresh (sym (not_restarted views told node work restarted carried) ∙ is));

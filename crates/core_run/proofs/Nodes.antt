@@ -75,7 +75,7 @@ module _ {D : Type 0} (view : D → DiskView) (olds news : List (ShardView D)) (
     acts_any c now r does goes = record {
       work = Work;
       restarted = None;
-      carried = inl (inl (refl, does));
+      carried = inl (refl, does);
       legal = along_legal false (StandsOn view) olds news node mines along;
       stands = λ _. stands_any;
       leaves = nothing_left (serving olds) (serving news) node _;
@@ -117,7 +117,7 @@ module _ {D : Type 0} (view : D → DiskView) (olds news : List (ShardView D)) (
     acts_safe c now r does goes = record {
       work = Work;
       restarted = None;
-      carried = inl (inl (refl, does));
+      carried = inl (refl, does);
       legal = along_legal true (StandsSafelyOn view) olds news node mines made;
       stands = λ _. stands_safely;
       leaves = left;

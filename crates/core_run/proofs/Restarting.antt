@@ -185,7 +185,7 @@ module _ {D : Type 0} (view : D → DiskView) (set : Settings) where
           record {
             work = [];
             restarted = Some made.after;
-            carried = inl (inr (refl, (refl, made.after, refl, inl (made.restarts, reply_is made.after made.stands))));
+            carried = inr (refl, (refl, made.after, refl, inl (made.restarts, reply_is made.after made.stands)));
             legal = tt;
             stands = λ goes. (fresh, refl, made.stands);
             leaves = nothing_left (serving olds) (serving fresh) node _;
@@ -203,7 +203,7 @@ module _ {D : Type 0} (view : D → DiskView) (set : Settings) where
           record {
             work = [];
             restarted = Some made.after;
-            carried = inl (inr (refl, (refl, made.after, refl, inl (made.restarts, reply_is made.after plain))));
+            carried = inr (refl, (refl, made.after, refl, inl (made.restarts, reply_is made.after plain)));
             legal = tt;
             stands = λ goes. (fresh, refl, made.stands);
             leaves = left_read view is_disk olds (disks_served fresh) node stands read;
@@ -262,7 +262,7 @@ module _ {D : Type 0} (view : D → DiskView) (set : Settings) where
       any_refused node stands = record {
         work = [];
         restarted = Some (counted_now view is_disk node disks);
-        carried = inl (inr (refl, (refl, counted_now view is_disk node disks, refl, inr (same_states view is_disk olds disks node stands read_all, refl))));
+        carried = inr (refl, (refl, counted_now view is_disk node disks, refl, inr (same_states view is_disk olds disks node stands read_all, refl)));
         legal = tt;
         stands = λ goes. absurd (goes refl);
         leaves = nothing_left (serving olds) (halted reason disks) node _;
@@ -279,7 +279,7 @@ module _ {D : Type 0} (view : D → DiskView) (set : Settings) where
           record {
             work = [];
             restarted = Some (counted_now view is_disk node disks);
-            carried = inl (inr (refl, (refl, counted_now view is_disk node disks, refl, inr (same_states view is_disk olds disks node plain read_all, refl))));
+            carried = inr (refl, (refl, counted_now view is_disk node disks, refl, inr (same_states view is_disk olds disks node plain read_all, refl)));
             legal = tt;
             stands = λ goes. absurd (goes refl);
             leaves = left_read view is_disk olds disks node stands read_all;

@@ -12,6 +12,7 @@ use Rattle.model_node.specs.RunEnd.{input_limit}
 use Rattle.model_node.specs.Headline.{StartsFrom, HoldsReplies, HoldsThroughout, IsNeverRefused}
 use Rattle.model_node.specs.Meaning.{left_between, Showing, GoesOn, Enters}
 use Rattle.model_node.proofs.Commits.{commits_all}
+use Rattle.model_node.proofs.Sparing.{all_spared}
 use Rattle.model_node.proofs.Numbered.{starts_numbered}
 use Rattle.law_session.specs.Chain.{EndsWith}
 use Rattle.law_session.specs.Whole.{RestsOn, RunsWhole, Frames, Concludes}
@@ -45,6 +46,7 @@ module _ {T : Type 0} (Stands : T → Node → Type 0) (views : T → ℕ → Di
         counts_first = f.counts_first;
         counts_last = f.counts_last;
         is_run = run_since Stands views Halts Shows Later told Says entry node old end l.served w.closing time w.leaves w.is_run;
+        spared = all_spared (left_between views old end) told node l.served w.is_run.serves;
         clock = l.clock;
         at_end = λ is. at_end_of o.left (l.at_end (subst IsTrue ended is));
         within = w.within;

@@ -10,9 +10,9 @@ use Rattle.line_proto.proofs.Falling.{all_append}
 use Rattle.line_proto.specs.declared.command.Command.{Command}
 use Rattle.line_proto.specs.declared.line_end.LineEnd.{LineEnd}
 use Rattle.line_proto.specs.declared.line_end.LineEnd.TheVariants.{Whole, TooLong}
-use Rattle.line_proto.specs.Lines.{line_limit, IsCommandLine, IsNoCommand}
+use Rattle.line_proto.specs.Lines.{line_limit, IsCommandLine, IsNoCommand, IsPutToData}
 use Rattle.line_proto.specs.Stream.{IsOneLine, ended, line_end, FallInto}
-use Rattle.node_session.specs.Turns.{IsCommand, NamesNoCommand}
+use Rattle.node_session.specs.Turns.{IsCommand, NamesNoCommand, MayLackMemory}
 use Rattle.node_session.specs.Session.{unended}
 use Rattle.model_node.specs.Outside.{rest_line}
 use Rattle.law_session.specs.Chain.{line_end_of}
@@ -30,6 +30,13 @@ on_test line c false is = absurd is
 
 pub command_of : (line : List ℕ) (c : Command) → IsCommand (line_end line) c → IsCommandLine line c
 command_of line c is = on_test line c (leb (length line) line_limit) is
+
+put_test : (line : List ℕ) (test : Bool) → MayLackMemory (cond test (Whole line) TooLong) → IsPutToData line
+put_test line true is = is
+put_test line false is = absurd is
+
+pub put_of : (line : List ℕ) → MayLackMemory (line_end line) → IsPutToData line
+put_of line is = put_test line (leb (length line) line_limit) is
 
 -- ---- any bytes fall into lines
 

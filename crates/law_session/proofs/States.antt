@@ -50,10 +50,9 @@ KeepsSetups node None = Unit {0}
 KeepsSetups node (Some new) = setups_of new ≡ setups_of node
 
 carries_setups : (left : ImagesLeft) (node : Node) (line : Option (List ℕ)) (served : Served) → AnswersLine left true node line served → KeepsSetups node served.restarted
-carries_setups left node None served (inl refuses) = subst (KeepsSetups node) (sym refuses.1) tt
-carries_setups left node None served (inr lacks) = subst (KeepsSetups node) (sym lacks.0) tt
+carries_setups left node None served refuses = subst (KeepsSetups node) (sym refuses.1) tt
 carries_setups left node (Some line) served (inr (inl refuses)) = subst (KeepsSetups node) (sym refuses.1.1) tt
-carries_setups left node (Some line) served (inr (inr lacks)) = subst (KeepsSetups node) (sym lacks.0) tt
+carries_setups left node (Some line) served (inr (inr lacks)) = subst (KeepsSetups node) (sym lacks.1.1) tt
 carries_setups left node (Some line) served (inl does) = elim does.4 [
   | inl made ↦ subst (KeepsSetups node) (sym made.0) tt
   | inr ends ↦ elim ends.1.3 [

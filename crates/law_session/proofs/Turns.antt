@@ -18,17 +18,16 @@ use Rattle.line_proto.specs.declared.reply.Reply.TheVariants as reply
 use Rattle.line_proto.specs.declared.reply.LineFault.TheVariants as why
 use Rattle.model_node.specs.Commands.{Node, NodeEvent, node_after, Does, IsLegalOn, TendsEach, answer_reply, found_reply, meta_reply, flushed_reply, defragged_reply, expired_reply, raided_reply}
 use Rattle.model_device.specs.Vacating.{Outcome, did, stopped}
-use Rattle.node_session.specs.Turns.{Times, WholeTurn, Turns, Answers, Quits, IsCommand, NamesNoCommand}
+use Rattle.node_session.specs.Turns.{Times, WholeTurn, Turns, Answers, Quits, IsCommand, NamesNoCommand, MayLackMemory}
 use Rattle.model_node.specs.Run.{ImagesLeft, Served, Serves, ServesAll, AnswersLine, Carries, goes_on, halts, is_halted, node_or, node_at_reply}
 use Rattle.model_node.specs.Run.{node_after_line, node_after_lines, states_while, states_of_lines, times_of, replies_of}
 use Rattle.model_node.specs.Headline.{Gives}
 use Rattle.model_node.specs.Meaning.{left_between, SurvivesOne, LeavesEach, Showing, ActsFrom, TendsFrom}
-use Rattle.model_node.specs.Run.{WantsMemory}
 use Rattle.law_session.specs.Chain.{line_end_of, TicksAll, InHalt, ShowsLine, ShowsAll, ActsOn, TendsOn, Chain}
 use Rattle.law_session.specs.Whole.{RestsOn}
 use Rattle.law_session.proofs.States.{setups_of, on_same, lines_setups, reply_setups, states_front, states_back, times_append, after_append, serves_append, serves_more}
 use Rattle.law_session.proofs.Replies.{AllGo, halted_of, halted_in, go_halted}
-use Rattle.law_session.proofs.Lines.{no_command_of, command_of}
+use Rattle.law_session.proofs.Lines.{no_command_of, command_of, put_of}
 
 -- ---- `bye` is the reply to `quit` alone
 
@@ -102,13 +101,12 @@ does_no_bye node command.Restart now work r other does is = absurd does
 does_no_bye node command.Quit now work r other does is = absurd (other refl)
 
 carried_no_bye : (left : ImagesLeft) (told : Bool) (node : Node) (c : Command) (now : ℕ) (work : List NodeEvent) (restarted : Option Node) (r : Reply) → c ≢ command.Quit
-    → Carries left told node c now work restarted r ⊎ WantsMemory work restarted r → r ≢ reply.Bye
-carried_no_bye left told node c now work restarted r other (inl (inl made)) is = does_no_bye node c now work r other made.1 is
-carried_no_bye left told node c now work restarted r other (inl (inr ends)) is = elim ends.1.3 [
+    → Carries left told node c now work restarted r → r ≢ reply.Bye
+carried_no_bye left told node c now work restarted r other (inl made) is = does_no_bye node c now work r other made.1 is
+carried_no_bye left told node c now work restarted r other (inr ends) is = elim ends.1.3 [
   | inl again ↦ let e : r ≡ reply.Restarted _ _ = again.1 in cc
   | inr halted ↦ let e : r ≡ reply.Halted = halted.1 in cc
 ]
-carried_no_bye left told node c now work restarted r other (inr lacks) is = let e : r ≡ reply.Fail why.Memory = lacks.2 in cc
 
 bye_not_halted : reply.Bye ≡ reply.Halted → ⊥
 bye_not_halted is = cc
@@ -158,19 +156,18 @@ gives_of (now ∷ given) (time ∷ next ∷ times) later ticks = (ticks.1.0, giv
 -- ---- what a line is answered
 
 answers_of : (left : ImagesLeft) (told : Bool) (node : Node) (line : Option (List ℕ)) (c : Command) (now : ℕ) (work : List NodeEvent) (restarted : Option Node) (r : Reply) (tended : List NodeEvent)
-    → IsCommand (line_end_of line) c → Carries left told node c (bounded_time now) work restarted r ⊎ WantsMemory work restarted r
+    → IsCommand (line_end_of line) c → Carries left told node c (bounded_time now) work restarted r
     → AnswersLine left told node line (record { line = line; time = Some now; reply = r; work = work; restarted = restarted; tended = tended })
 answers_of left told node None c now work restarted r tended is carried = absurd is
-answers_of left told node (Some line) c now work restarted r tended is (inl carried) = inl (c, now, command_of line c is, refl, carried)
-answers_of left told node (Some line) c now work restarted r tended is (inr lacks) = inr (inr lacks)
+answers_of left told node (Some line) c now work restarted r tended is carried = inl (c, now, command_of line c is, refl, carried)
 
 declines_of : (left : ImagesLeft) (told : Bool) (node : Node) (line : Option (List ℕ)) (r : Reply) (tended : List NodeEvent)
-    → (NamesNoCommand (line_end_of line) × (r ≡ reply.Fail why.Line)) ⊎ (r ≡ reply.Fail why.Memory)
+    → (NamesNoCommand (line_end_of line) × (r ≡ reply.Fail why.Line)) ⊎ (MayLackMemory (line_end_of line) × (r ≡ reply.Fail why.Memory))
     → AnswersLine left told node line (record { line = line; time = None; reply = r; work = []; restarted = None; tended = tended })
-declines_of left told node None r tended (inl no_command) = inl (refl, refl, refl, no_command.1)
+declines_of left told node None r tended (inl no_command) = (refl, refl, refl, no_command.1)
 declines_of left told node (Some line) r tended (inl no_command) = inr (inl (no_command_of line no_command.0, (refl, refl, refl, no_command.1)))
-declines_of left told node None r tended (inr memory) = inr (refl, refl, memory)
-declines_of left told node (Some line) r tended (inr memory) = inr (inr (refl, refl, memory))
+declines_of left told node None r tended (inr memory) = absurd memory.0
+declines_of left told node (Some line) r tended (inr memory) = inr (inr (put_of line memory.0, (refl, refl, refl, memory.1)))
 
 goes_tends : (r : Reply) (Then Else : Type 0) → goes_on r ≡ true → Then → MatchBool (goes_on r) Then Else
 goes_tends r Then Else goes h = rw goes h
@@ -339,7 +336,7 @@ module _ {T : Type 0} (Stands : T → Node → Type 0) (views : T → ℕ → Di
 
   -- a line was declined, and tending followed
   declined_chain : RestsOn Stands views Halts Shows Later told → (old new : T) (times : Times) (node : Node) (line : Option (List ℕ)) (r : Reply)
-      → (NamesNoCommand (line_end_of line) × (r ≡ reply.Fail why.Line)) ⊎ (r ≡ reply.Fail why.Memory) → goes_on r ≡ true
+      → (NamesNoCommand (line_end_of line) × (r ≡ reply.Fail why.Line)) ⊎ (MayLackMemory (line_end_of line) × (r ≡ reply.Fail why.Memory)) → goes_on r ≡ true
       → TendsFrom Stands views told old node new → Later old new → ChainOf old times node (line ∷ []) (r ∷ []) new times
   declined_chain on old new times node line r why_so goes tend behind =
       let served : Served = record { line = line; time = None; reply = r; work = []; restarted = None; tended = tend.tended } in
@@ -355,13 +352,15 @@ module _ {T : Type 0} (Stands : T → Node → Type 0) (views : T → ℕ → Di
       (λ P device image h. in_tending P device node served image h) tend.leaves)
       (λ is. absurd (goes_not_halted r goes is)) (old, old, on.same old, on.same old, (refl, refl, λ is. goes_not_halted r goes is), behind)
 
-  fail_is_no_bye : (line : Option (List ℕ)) (r : Reply) → (NamesNoCommand (line_end_of line) × (r ≡ reply.Fail why.Line)) ⊎ (r ≡ reply.Fail why.Memory) → r ≢ reply.Bye
+  fail_is_no_bye : (line : Option (List ℕ)) (r : Reply)
+      → (NamesNoCommand (line_end_of line) × (r ≡ reply.Fail why.Line)) ⊎ (MayLackMemory (line_end_of line) × (r ≡ reply.Fail why.Memory)) → r ≢ reply.Bye
   fail_is_no_bye line r (inl no_command) is = let e : r ≡ reply.Fail why.Line = no_command.1 in cc
-  fail_is_no_bye line r (inr memory) is = cc
+  fail_is_no_bye line r (inr memory) is = let e : r ≡ reply.Fail why.Memory = memory.1 in cc
 
-  fail_is_no_halt : (line : Option (List ℕ)) (r : Reply) → (NamesNoCommand (line_end_of line) × (r ≡ reply.Fail why.Line)) ⊎ (r ≡ reply.Fail why.Memory) → r ≢ reply.Halted
+  fail_is_no_halt : (line : Option (List ℕ)) (r : Reply)
+      → (NamesNoCommand (line_end_of line) × (r ≡ reply.Fail why.Line)) ⊎ (MayLackMemory (line_end_of line) × (r ≡ reply.Fail why.Memory)) → r ≢ reply.Halted
   fail_is_no_halt line r (inl no_command) is = let e : r ≡ reply.Fail why.Line = no_command.1 in cc
-  fail_is_no_halt line r (inr memory) is = cc
+  fail_is_no_halt line r (inr memory) is = let e : r ≡ reply.Fail why.Memory = memory.1 in cc
 
   abbrev pub TurnOf : Option (List ℕ) → T → Times → Reply → T → Times → Type 0
   TurnOf line old times r new later = WholeTurn (ActsOn Stands views Halts Shows Later told) (TendsOn Stands views Later told) (line_end_of line) old times r new later
@@ -400,7 +399,7 @@ module _ {T : Type 0} (Stands : T → Node → Type 0) (views : T → ℕ → Di
       (record {
         work = [];
         restarted = None;
-        carried = inl (inl (refl, (refl, refl)));
+        carried = inl (refl, (refl, refl));
         legal = tt;
         stands = λ other. stands;
         leaves = on.rests old node stands;

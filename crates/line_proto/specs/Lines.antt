@@ -1,5 +1,5 @@
 -- Crate line_proto. The text of commands and replies.
-use Rattle.std.specs.Prelude.{ℕ, ◌^◌, ◌≤◌, List, [], ◌∷◌, ◌++◌, length, codes, decimal, Option, Some, None, Ok, ◌≡◌}
+use Rattle.std.specs.Prelude.{ℕ, ◌^◌, ◌≤◌, ◌≢◌, List, [], ◌∷◌, ◌++◌, length, codes, decimal, Option, Some, None, Ok, ◌≡◌}
 use Rattle.std.specs.List.{join_with_byte}
 use Rattle.hex.specs.Hex.{decode_of, encode_lower}
 use Rattle.rec_format.specs.declared.version.Digest.{Digest}
@@ -79,6 +79,21 @@ pub record IsCommandLine (line : List ℕ) (c : Command) : Type 0 where
 -- it asks for none
 abbrev pub IsNoCommand : List ℕ → Type 0
 IsNoCommand line = (c : Command) → IsCommandLine line c → ⊥
+
+-- It is a put as far as its data, which may be any bytes but a dash: only their reading takes memory.
+pub record IsPutToData (line : List ℕ) : Type 0 where
+  pub short : length line ≤ line_limit
+  pub digest : Digest
+  pub ttl : ℕ
+  pub expect : Option ℕ
+  pub digest_text : List ℕ
+  pub expect_text : List ℕ
+  pub data_text : List ℕ
+  pub is_digest : IsDigestText digest_text digest
+  pub in_range : ttl ≤ 315360000
+  pub is_expect : IsExpectText expect_text expect
+  pub some : data_text ≢ codes "-"
+  pub line_is : line ≡ words_line (codes "put" ∷ digest_text ∷ decimal ttl ∷ expect_text ∷ data_text ∷ [])
 
 -- some line spells it
 abbrev pub HasLine : Command → Type 0

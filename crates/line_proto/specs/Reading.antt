@@ -37,6 +37,20 @@ pub record IsPut (text : List ℕ) (digest : Digest) (ttl : ℕ) (expect : Optio
   pub is_data : IsDataText data_text payload
   pub spelled : text ≡ words_line (digest_text ∷ decimal ttl ∷ expect_text ∷ data_text ∷ [])
 
+-- What stands behind `put ` has these parts up to the data, which are any bytes but a dash.
+pub record IsPutFront (text : List ℕ) : Type 0 where
+  pub digest : Digest
+  pub ttl : ℕ
+  pub expect : Option ℕ
+  pub digest_text : List ℕ
+  pub expect_text : List ℕ
+  pub data_text : List ℕ
+  pub is_digest : IsDigestText digest_text digest
+  pub in_range : ttl ≤ 315360000
+  pub is_expect : IsExpectText expect_text expect
+  pub some : data_text ≢ codes "-"
+  pub spelled : text ≡ words_line (digest_text ∷ decimal ttl ∷ expect_text ∷ data_text ∷ [])
+
 -- the line is the one word of this command
 abbrev pub IsAlone : List ℕ → Command → Type 0
 IsAlone line command.Flush = line ≡ codes "flush"

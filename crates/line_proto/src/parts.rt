@@ -1,5 +1,5 @@
 // The parts of a text.
-ghost use Rattle.std.specs.Prelude.{◌≡◌, ◌≢◌, ◌↔◌, ◌<◌, ◌≤◌, ◌^◌, ◌++◌, List, ℕ, Option, Some, IfOk, MatchOption, option_map, decimal};
+ghost use Rattle.std.specs.Prelude.{◌≡◌, ◌≢◌, ◌↔◌, ◌<◌, ◌≤◌, ◌^◌, ◌++◌, List, ℕ, Option, Some, IfOk, MatchOption, option_map, decimal, IsErr, codes};
 ghost use Rattle.line_proto.specs.Lines.{IsDigestText, IsExpectText, IsDataText};
 ghost use Rattle.line_proto.specs.Reading.{IsCut};
 ghost use Rattle.rec_format.specs.declared.version.Digest.{Digest};
@@ -70,7 +70,8 @@ pub fn expect_of(text: &[u8]) -> Option<Option<u16>>
 /// At `Ok` the bytes that hex digits of either case spell, no bytes for a dash, and nothing for any other text. An
 /// `Err` is want of memory.
 pub fn data_of(alloc: Global, text: &[u8]) -> Result<Option<Bytes>, NoMemory>
-    ensures { IfOk result (λ read. (bytes : List ℕ) → (read ≡ Some bytes) ↔ IsDataText text.now bytes) }
+    ensures read { IfOk result (λ read. (bytes : List ℕ) → (read ≡ Some bytes) ↔ IsDataText text.now bytes) }
+    ensures memory { IsErr result → text.now ≢ codes "-" }
 {
     if text == b"-".as_slice() {
         return Ok(Some(Bytes::from_vec(Vec::new(alloc))));

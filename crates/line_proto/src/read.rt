@@ -1,7 +1,7 @@
 // A line to a command.
-ghost use Rattle.std.specs.Prelude.{◌≡◌, ◌↔◌, List, ℕ, Option, Some, IfOk, IfSome, MatchOption};
-ghost use Rattle.line_proto.specs.Lines.{IsCommandLine, IsInRange};
-ghost use Rattle.line_proto.specs.Reading.{IsFour, IsAlone, IsDigestCommand, IsPutCommand};
+ghost use Rattle.std.specs.Prelude.{◌≡◌, ◌↔◌, List, ℕ, Option, Some, IfOk, IfSome, IsErr, MatchOption};
+ghost use Rattle.line_proto.specs.Lines.{IsCommandLine, IsInRange, IsPutToData};
+ghost use Rattle.line_proto.specs.Reading.{IsFour, IsAlone, IsDigestCommand, IsPutCommand, IsPutFront};
 ghost use Rattle.line_proto.specs.declared.command.Command.{Command};
 
 use crate::parts::{cut, data_of, digest_of, expect_of, number_of};
@@ -73,7 +73,8 @@ fn of_digest(word: &[u8], text: &[u8]) -> Option<Command>
 }
 
 fn put_of(alloc: Global, text: &[u8]) -> Result<Option<Command>, NoMemory>
-    ensures { IfOk result (λ read. (command : Command) → (read ≡ Some command) ↔ IsPutCommand text.now command) }
+    ensures read { IfOk result (λ read. (command : Command) → (read ≡ Some command) ↔ IsPutCommand text.now command) }
+    ensures memory { IsErr result → IsPutFront text.now }
 {
     let Some((digest, ttl, expect, data)) = words_of(text) else {
         return Ok(None);
@@ -100,9 +101,10 @@ fn put_of(alloc: Global, text: &[u8]) -> Result<Option<Command>, NoMemory>
 }
 
 /// At `Ok` the command that a line asks for, its LF not counted; none exactly where the line asks for no command: it
-/// is outside the grammar or too long. An `Err` is want of memory.
+/// is outside the grammar or too long. An `Err` is want of memory for the data of a put; no other line takes any.
 pub fn read_command(alloc: Global, line: &[u8]) -> Result<Option<Command>, NoMemory>
     ensures exact { IfOk result (λ read. (command : Command) → (read ≡ Some command) ↔ IsCommandLine line.now command) }
+    ensures memory { IsErr result → IsPutToData line.now }
     ensures in_range { IfOk result (λ read. IfSome read IsInRange) }
 {
     if line.len() > LINE_LIMIT {

@@ -288,10 +288,9 @@ does_commit told node command.Restart now work r numbers does legal device = abs
 
 answer_commits : (left : ImagesLeft) (told : Bool) (node : Node) (line : Option (List ℕ)) (served : Served) → AreNumbered node → AnswersLine left told node line served
     → IsLegalOn told node served.work → CommitsAt node served
-answer_commits left told node None served numbers (inl refuses) legal device = no_work _ node served.work refuses.2 (node_at_reply served node) device
-answer_commits left told node None served numbers (inr lacks) legal device = no_work _ node served.work lacks.1 (node_at_reply served node) device
+answer_commits left told node None served numbers refuses legal device = no_work _ node served.work refuses.2 (node_at_reply served node) device
 answer_commits left told node (Some line) served numbers (inr (inl refuses)) legal device = no_work _ node served.work refuses.1.2 (node_at_reply served node) device
-answer_commits left told node (Some line) served numbers (inr (inr lacks)) legal device = no_work _ node served.work lacks.1 (node_at_reply served node) device
+answer_commits left told node (Some line) served numbers (inr (inr lacks)) legal device = no_work _ node served.work lacks.1.2 (node_at_reply served node) device
 answer_commits left told node (Some line) served numbers (inl does) legal device = elim does.4 [
   | inl made ↦ subst (λ (o : Option Node). Waited (is_failed served.reply) node (node_or (node_after served.work node) o) (steps_on device served.work) device) (sym made.0)
       (does_commit told node does.0 _ served.work served.reply numbers made.1 legal device)

@@ -53,10 +53,9 @@ same_keeps (slot ∷ slots) (after ∷ new) same = (same.2, same_keeps slots new
 -- what a line makes of the node, by a restart or without one
 line_restarts : (left : ImagesLeft) (told : Bool) (node : Node) (line : Option (List ℕ)) (served : Served) → AnswersLine left told node line served
     → (served.restarted ≡ None) ⊎ ((new : Node) × (served.restarted ≡ Some new) × NoneFell (counts_of node) (counts_of new))
-line_restarts left told node None served (inl refuses) = inl refuses.1
-line_restarts left told node None served (inr lacks) = inl lacks.0
+line_restarts left told node None served refuses = inl refuses.1
 line_restarts left told node (Some line) served (inr (inl refuses)) = inl refuses.1.1
-line_restarts left told node (Some line) served (inr (inr lacks)) = inl lacks.0
+line_restarts left told node (Some line) served (inr (inr lacks)) = inl lacks.1.1
 line_restarts left told node (Some line) served (inl does) = elim does.4 [
   | inl made ↦ inl made.0
   | inr ends ↦ elim ends.1.3 [

@@ -8,3 +8,4 @@ pub mod Numbered
 pub mod Tops
 pub mod Commits
 pub mod RunEnds
+pub mod Sparing

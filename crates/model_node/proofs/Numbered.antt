@@ -65,10 +65,9 @@ anew served node new is numbers = subst (λ (o : Option Node). AreNumbered (node
 
 answer_numbered : (left : ImagesLeft) (node : Node) (line : Option (List ℕ)) (served : Served) → AnswersLine left true node line served → AreNumbered node
     → AreNumbered (node_or (node_after served.work node) served.restarted)
-answer_numbered left node None served (inl refuses) numbers = unstarted served node refuses.1 numbers
-answer_numbered left node None served (inr lacks) numbers = unstarted served node lacks.0 numbers
+answer_numbered left node None served refuses numbers = unstarted served node refuses.1 numbers
 answer_numbered left node (Some line) served (inr (inl refuses)) numbers = unstarted served node refuses.1.1 numbers
-answer_numbered left node (Some line) served (inr (inr lacks)) numbers = unstarted served node lacks.0 numbers
+answer_numbered left node (Some line) served (inr (inr lacks)) numbers = unstarted served node lacks.1.1 numbers
 answer_numbered left node (Some line) served (inl does) numbers = elim does.4 [
   | inl made ↦ unstarted served node made.0 numbers
   | inr ends ↦ let restart = ends.1 in

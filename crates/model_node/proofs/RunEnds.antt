@@ -147,10 +147,9 @@ IsNoRestart line = IfSome line (λ bytes. IsCommandLine bytes command.Restart �
 
 line_goes : (left : ImagesLeft) (told : Bool) (node : Node) (line : Option (List ℕ)) (served : Served) → IsNoRestart line → AnswersLine left told node line served → IsLegalOn told node served.work
     → halts served.reply ≡ false
-line_goes left told node None served other (inl refuses) legal = ap halts refuses.3
-line_goes left told node None served other (inr lacks) legal = ap halts lacks.2
+line_goes left told node None served other refuses legal = ap halts refuses.3
 line_goes left told node (Some line) served other (inr (inl refuses)) legal = ap halts refuses.1.3
-line_goes left told node (Some line) served other (inr (inr lacks)) legal = ap halts lacks.2
+line_goes left told node (Some line) served other (inr (inr lacks)) legal = ap halts lacks.1.3
 line_goes left told node (Some line) served other (inl does) legal = elim does.4 [
   | inl made ↦ does_goes told node does.0 _ served.work served.reply made.1 legal
   | inr ends ↦ absurd (other (subst (IsCommandLine line) ends.0 does.2))

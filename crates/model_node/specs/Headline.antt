@@ -16,6 +16,7 @@ use Rattle.model_node.specs.declared.run_end.RunEnd.{RunEnd}
 use Rattle.model_node.specs.declared.run_end.RunEnd.TheVariants as end
 use Rattle.model_node.specs.Commands.{IsNumbered, Slot, Node, NodeEvent}
 use Rattle.model_node.specs.Run.{ImagesLeft, Served, IsRun, node_after_line, last_node, times_of, states_of_run, WritesFlushedOn}
+use Rattle.model_node.specs.Memory.{SpareMemory}
 use Rattle.model_node.specs.Outside.{Outside, NoneFell, counts_of, IsFrontOf, TakesLines, written_text}
 use Rattle.model_node.specs.RunEnd.{input_limit, HasCause}
 
@@ -70,7 +71,8 @@ Gives (time ∷ next ∷ times) (now ∷ given) = (now ≡ time) × Gives (next 
 
 -- The promises on replies, of one chain from a node for which Starts holds: nothing of them is about what a crash leaves. Where
 -- the disks tell what they hold no read finds damage. The chain's counts of faults are between those at entry, which the start
--- may have raised, and those at exit. A restart is from an image that a disk might have left since the entry. The lines of the bytes
+-- may have raised, and those at exit. A restart is from an image that a disk might have left since the entry. Memory is wanting only
+-- where it may be. The lines of the bytes
 -- taken are those that were served and some that weren't, what was written is the front of the replies, and how much of them that is
 -- follows from how the run ended.
 pub record HoldsReplies (Starts : Node → Type 0) (told : Bool) (setups : List Setup) (o : Outside) (since : ImagesLeft) : Type 0 where
@@ -84,6 +86,7 @@ pub record HoldsReplies (Starts : Node → Type 0) (told : Bool) (setups : List 
   pub counts_first : NoneFell o.before.disks (counts_of first)
   pub counts_last : counts_of (last_node first lines closing) ≡ o.after.disks
   pub is_run : IsRun since told first lines closing
+  pub spared : SpareMemory first lines
   pub clock : IfSome o.times (λ times. Gives times (times_of lines))
   pub at_end : IsTrue o.ended → IfSome o.left (λ bytes. bytes ≡ [])
   pub within : length o.taken ≤ input_limit

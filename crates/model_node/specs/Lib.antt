@@ -2,6 +2,7 @@ pub mod Commands
 pub mod Run
 pub mod Notes
 pub mod Outside
+pub mod Memory
 pub mod RunEnd
 pub mod Headline
 pub mod Meaning

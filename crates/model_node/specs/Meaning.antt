@@ -8,7 +8,7 @@ use Rattle.line_proto.specs.declared.command.Command.{Command}
 use Rattle.line_proto.specs.declared.reply.Reply.{Reply}
 use Rattle.line_proto.specs.declared.reply.Reply.TheVariants as reply
 use Rattle.model_node.specs.Commands.{Node, NodeEvent, node_after, IsLegalOn, TendsEach}
-use Rattle.model_node.specs.Run.{ImagesLeft, WantsMemory, Carries, ClosesEach, node_or, states_while}
+use Rattle.model_node.specs.Run.{ImagesLeft, Carries, ClosesEach, node_or, states_while}
 use Rattle.model_node.specs.Headline.{On}
 
 -- the images that each device's disk might have left from one point of the store to a later one
@@ -33,7 +33,7 @@ Showing T = T → Node → (now : ℕ) → Reply → List NodeEvent → Option N
 pub record ActsFrom {T : Type 0} (Stands : T → Node → Type 0) (views : T → ℕ → DiskView) (Halts : T → (before after : Node) → Type 0) (Shows : Showing T) (told : Bool) (old : T) (node : Node) (c : Command) (now : ℕ) (r : Reply) (new : T) : Type 0 where
   pub work : List NodeEvent
   pub restarted : Option Node
-  pub carried : Carries (left_between views old new) told node c now work restarted r ⊎ WantsMemory work restarted r
+  pub carried : Carries (left_between views old new) told node c now work restarted r
   pub legal : IsLegalOn told node work
   pub stands : r ≢ reply.Halted → Stands new (node_or (node_after work node) restarted)
   pub leaves : LeavesEach views node (λ device. states_while device work node) old new

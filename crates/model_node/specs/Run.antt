@@ -17,7 +17,7 @@ use Rattle.line_proto.specs.declared.command.Command.TheVariants as command
 use Rattle.line_proto.specs.declared.reply.Reply.{Reply}
 use Rattle.line_proto.specs.declared.reply.Reply.TheVariants as reply
 use Rattle.line_proto.specs.declared.reply.LineFault.TheVariants as why
-use Rattle.line_proto.specs.Lines.{IsCommandLine, IsNoCommand}
+use Rattle.line_proto.specs.Lines.{IsCommandLine, IsNoCommand, IsPutToData}
 use Rattle.model_node.specs.Commands.{Slot, Node, NodeEvent, node_after, IsLegalOn, on_device, total, Does, TendsEach}
 
 -- the images that a device's disk might have left since the run's start, by the device's number
@@ -100,18 +100,15 @@ DoesLine left told node line served =
 abbrev pub RefusesLine : Served → Type 0
 RefusesLine served = (served.time ≡ None) × (served.restarted ≡ None) × (served.work ≡ []) × (served.reply ≡ reply.Fail why.Line)
 
--- nothing was done for want of memory
-abbrev pub WantsMemory : List NodeEvent → Option Node → Reply → Type 0
-WantsMemory work restarted r = (restarted ≡ None) × (work ≡ []) × (r ≡ reply.Fail why.Memory)
-
--- that may be answered to any line
+-- There was no memory for the data of a put, and nothing was done.
 abbrev pub LacksMemory : Served → Type 0
-LacksMemory served = WantsMemory served.work served.restarted served.reply
+LacksMemory served = (served.time ≡ None) × (served.restarted ≡ None) × (served.work ≡ []) × (served.reply ≡ reply.Fail why.Memory)
 
+-- Only reading a put takes memory. Any other `err memory` is the answer of an event that takes some (`DoesLine`).
 abbrev pub AnswersLine : ImagesLeft → (told : Bool) → Node → Option (List ℕ) → Served → Type 0
-AnswersLine left told node None served = RefusesLine served ⊎ LacksMemory served
+AnswersLine left told node None served = RefusesLine served
 AnswersLine left told node (Some line) served =
-    DoesLine left told node line served ⊎ (IsNoCommand line × RefusesLine served) ⊎ LacksMemory served
+    DoesLine left told node line served ⊎ (IsNoCommand line × RefusesLine served) ⊎ (IsPutToData line × LacksMemory served)
 
 -- the run goes on after this reply: it is neither `bye` nor that of a refused restart
 abbrev pub goes_on : Reply → Bool

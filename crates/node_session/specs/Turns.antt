@@ -9,7 +9,7 @@ use Rattle.line_proto.specs.declared.reply.Reply.TheVariants.{Bye, Fail, Halted}
 use Rattle.line_proto.specs.declared.reply.LineFault.TheVariants.{Line, Memory}
 use Rattle.line_proto.specs.declared.line_end.LineEnd.{LineEnd}
 use Rattle.line_proto.specs.declared.line_end.LineEnd.TheVariants.{Whole, TooLong}
-use Rattle.line_proto.specs.Lines.{IsCommandLine, IsNoCommand, reply_text}
+use Rattle.line_proto.specs.Lines.{IsCommandLine, IsNoCommand, IsPutToData, reply_text}
 use Rattle.node_session.specs.declared.stop.Stop.{Stop}
 use Rattle.node_session.specs.declared.stop.Stop.TheVariants.{Quit as QuitStop, Memory as MemoryStop, Halted as HaltStop}
 
@@ -27,6 +27,11 @@ abbrev pub IsCommand : LineEnd → Command → Type 0
 IsCommand TooLong command = ⊥
 IsCommand (Whole line) command = IsCommandLine line command
 
+-- its reading takes memory, which only the data of a put does
+abbrev pub MayLackMemory : LineEnd → Type 0
+MayLackMemory TooLong = ⊥
+MayLackMemory (Whole line) = IsPutToData line
+
 -- The command, unless it is `quit`, is carried out at the clock's time.
 pub record CarriesOut {T : Type 0} (acts : T → Command → ℕ → Reply → T → Type 0) (line : LineEnd) (old : T) (times : Times) (reply : Reply) (new : T) (later : Times) : Type 0 where
   pub command : Command
@@ -36,11 +41,11 @@ pub record CarriesOut {T : Type 0} (acts : T → Command → ℕ → Reply → T
   pub ticks : Ticks times now later
   pub acted : acts old command (min now (2 ^ 61)) reply new
 
--- With no call to the store and the clock, a line that is no command gets `err line`, and for want of memory any line gets `err memory`.
+-- With no call to the store and the clock, a line that is no command gets `err line`, and a put for whose data there is no memory gets `err memory`.
 pub record Declines {T : Type 0} (line : LineEnd) (old : T) (times : Times) (reply : Reply) (new : T) (later : Times) : Type 0 where
   pub same_store : new ≡ old
   pub same_times : later ≡ times
-  pub why : (NamesNoCommand line × (reply ≡ Fail Line)) ⊎ (reply ≡ Fail Memory)
+  pub why : (NamesNoCommand line × (reply ≡ Fail Line)) ⊎ (MayLackMemory line × (reply ≡ Fail Memory))
 
 -- how a line that isn't `quit` is answered
 abbrev pub Answers : {T : Type 0} → (T → Command → ℕ → Reply → T → Type 0) → LineEnd → T → Times → Reply → T → Times → Type 0

@@ -228,7 +228,6 @@ returns-in-Ok-clause-sure g c = sure_then g.D.Disk.view c.args.shelf.now c.read_
 pub returns-clause-sure : goal.returns-clause-sure
 returns-clause-sure g c = sure_then g.D.Disk.view c.args.shelf.now c.read_for.new.shelf c.append.new.self (sure_read g.D.Disk.view c.args.shelf.now c.read_for.new.shelf c.read_for.ensures.disk c.read_for.ensures.same) c.append.ensures.sure
 
-
 -- ---- what is told, and what is left
 
 pub returns-in_err-version-clause-damaged : goal.returns-in_err-version-clause-damaged

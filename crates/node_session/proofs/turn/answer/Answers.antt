@@ -1,9 +1,14 @@
-use Rattle.std.proofs.Common.{List, ℕ, sym, ◌∙◌, ap, subst, refl, Some}
-use Rattle.line_proto.specs.Lines.{IsCommandLine}
+use Rattle.std.proofs.Common.{List, ℕ, sym, ◌∙◌, ap, subst, refl, Some, inr}
+use Rattle.line_proto.specs.Lines.{IsCommandLine, IsPutToData}
 use Rattle.line_proto.specs.declared.line_end.LineEnd.{LineEnd}
 use Rattle.line_proto.specs.declared.command.Command.TheVariants.{Quit}
-use Rattle.node_session.specs.Turns.{IsCommand}
+use Rattle.node_session.specs.Turns.{IsCommand, MayLackMemory}
 use Rattle.node_session.proofs.turn.answer.Goals as goal
+
+pub returns-in-Err : goal.returns-in-Err
+returns-in-Err g c =
+    let of_bytes = subst IsPutToData c.as_slice.ensures (c.in-Err.ensures.memory refl) in
+    inr (record { same_store = refl; same_times = refl; why = inr (subst MayLackMemory (sym c.in-Whole.is) of_bytes, refl) })
 
 pub returns-in-Quit : goal.returns-in-Quit
 returns-in-Quit g c =
