@@ -19,6 +19,14 @@ IsRefused asked bytes (DamagedBlock block place) = IsRefusedFor asked.device ask
 IsRefused asked bytes Memory = Unit {0}
 IsRefused asked bytes Fault = Unit {0}
 
+-- the bytes that were read are the cause
+abbrev pub IsByBytes : StartCause → Type 0
+IsByBytes (NotFormatted first) = Unit {0}
+IsByBytes (OtherGeometry kept asked size) = Unit {0}
+IsByBytes (DamagedBlock block place) = Unit {0}
+IsByBytes Memory = ⊥
+IsByBytes Fault = ⊥
+
 -- the device is of the shape that was asked for, and behind its open gates stand these bodies
 pub record Passes (asked : Asked) (bytes : List ℕ) (g : Geometry) (bodies : List Body) : Type 0 where
   pub is_asked : IsAsked asked.device asked.devices bytes g

@@ -2,7 +2,7 @@
 ghost use Rattle.std.specs.Prelude.{IfOk, IfErr, MatchResult};
 ghost use Rattle.disk_model.specs.Disk.{IsOnly};
 ghost use Rattle.block_shelf.specs.Disks.{OnlyRead};
-ghost use Rattle.cold_scan.specs.Starting.{IsRefused, FaultRose};
+ghost use Rattle.cold_scan.specs.Starting.{IsRefused, IsByBytes, FaultRose};
 ghost use Rattle.cold_scan.specs.Found.{IsShaped, IsScanned, FindsOn};
 
 use crate::bodies::{Taken, open_bodies};
@@ -44,6 +44,7 @@ fn examine<D: Disk>(
     ensures found { IfOk result (λ r. IsScanned asked (D.view disk.old) r.0 r.1.items r.2) }
     ensures refused { (D.view disk.old).tells → IfErr result (λ cause. IsRefused asked (D.view disk.old).seen cause) }
     ensures only { (D.view disk.old).tells → IfOk result (λ r. IsOnly (D.view disk.old).seen (D.view disk.new).may_leave) }
+    ensures settled { (D.view disk.old).tells → IfErr result (λ cause. IsByBytes cause → IsOnly (D.view disk.old).seen (D.view disk.new).may_leave) }
     ensures cause { IfErr result (λ cause. FaultRose cause (D.view disk.old).faults (D.view disk.new).faults) }
 {
     let Ok(()) = disk.sync() else {
@@ -66,7 +67,7 @@ fn examine<D: Disk>(
 /// At `Ok` what a cold start finds on the device: its shape, its gates, and of each digest that belongs to it the latest copy, of equal
 /// ones the first; nothing was written, and a crash leaves just what a read gives, of a disk that tells its bytes. It syncs, and reads
 /// the header, then each gate, then the bodies behind the open ones, all in rising order. A fault ends it where it occurs. A refusal
-/// tells why, and hands the disk back.
+/// tells why, and hands the disk back; where the bytes are the cause a crash leaves just these, of a disk that tells them.
 pub fn scan<D: Disk>(
     alloc: Global,
     mut disk: D,
@@ -77,6 +78,7 @@ pub fn scan<D: Disk>(
     ensures cause { IfErr result (λ refusal. FaultRose refusal.cause (D.view disk).faults (D.view refusal.disk).faults) }
     ensures shape { IfOk result (λ finding. IsShaped asked (D.view finding.disk).extent finding.geometry) }
     ensures only { (D.view disk).tells → IfOk result (λ finding. IsOnly (D.view disk).seen (D.view finding.disk).may_leave) }
+    ensures settled { (D.view disk).tells → IfErr result (λ refusal. IsByBytes refusal.cause → IsOnly (D.view disk).seen (D.view refusal.disk).may_leave) }
     ensures read { MatchResult result (λ finding. OnlyRead (D.view disk) (D.view finding.disk)) (λ refusal. OnlyRead (D.view disk) (D.view refusal.disk)) }
 {
     match examine(alloc, &mut disk, asked) {

@@ -61,7 +61,7 @@ module _ {D : Type 0} (view : D → DiskView) (set : Settings) (devices : ℕ) w
       subst (λ (s : List (ShardView D)). RefusesAt view set zero device devices cause (d ∷ disks) (disks_served s ++ (last ∷ left))) (sym stops.0) (stops.1, stops.2)
   stops_refuse (suc place) device cause (d ∷ disks) [] left stops = absurd stops
   stops_refuse (suc place) device cause (d ∷ disks) (s ∷ shards) left stops = (
-    record { read = stops.0.read; passes = λ tells. let begins = stops.0.begins tells in (s.shelf.geometry, begins.bodies, begins.passes) },
+    record { read = stops.0.read; only = stops.0.only; passes = λ tells. let begins = stops.0.begins tells in (s.shelf.geometry, begins.bodies, begins.passes) },
     stops_refuse place (device + 1) cause disks shards left stops.1,
   )
 
@@ -113,4 +113,4 @@ module _ {D : Type 0} (view : D → DiskView) (set : Settings) where
   pub lacks_memory : ((disk : D) → OnlyRead (view disk) (view disk)) → (device devices : ℕ) (disks : List D) → 1 ≤ length disks → RefusesAt view set 0 device devices why.Memory disks disks
   lacks_memory read device devices [] some = absurd (omega (arith, some))
   lacks_memory read device devices (disk ∷ disks) some =
-      (record { read = read disk; bytes = λ told. tt; rose = tt; again = λ honest old s disk_is set_is device_is devices_is agrees safe. tt }, refl)
+      (record { read = read disk; bytes = λ told. tt; settled = λ told by. absurd by; rose = tt; again = λ honest old s disk_is set_is device_is devices_is agrees safe. tt }, refl)

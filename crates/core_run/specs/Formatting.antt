@@ -6,7 +6,7 @@ use Rattle.disk_model.specs.Runs.{Leaves}
 use Rattle.block_format.specs.declared.geometry.Geometry.{Geometry}
 use Rattle.block_format.specs.Layout.{IsBlockSize, device_end}
 use Rattle.block_format.specs.Copies.{IsFormatted}
-use Rattle.shard_core.specs.Finding.{IsHalfFormatted}
+use Rattle.shard_core.specs.Finding.{AllZeros, IsHalfFormatted}
 use Rattle.core_run.specs.declared.format.FormatRefusal.{FormatRefusal}
 use Rattle.core_run.specs.declared.format.FormatRefusal.TheVariants as refusal
 
@@ -22,9 +22,10 @@ shaped size blocks devices device = record { block_size = size; blocks = blocks;
 
 -- ---- one disk
 
--- Where it told its bytes, they are now a device of this shape without an open block, and a crash leaves just them.
+-- Where it told its bytes, they are now a device of this shape without an open block, each gate is zeros, and a crash leaves just them.
 pub record IsMade (g : Geometry) (before after : DiskView) : Type 0 where
   pub formatted : before.tells → IsFormatted g after.seen
+  pub zeros : before.tells → AllZeros g after.seen g.blocks
   pub settled : before.tells → IsSettled after
 
 -- What holds however formatting ends: a disk that tells its bytes or is honest stays so, time advances, at no moment does a crash

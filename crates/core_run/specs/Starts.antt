@@ -10,7 +10,7 @@ use Rattle.block_shelf.specs.View.{AreSure}
 use Rattle.block_shelf.specs.Disks.{OnlyRead}
 use Rattle.cold_scan.specs.declared.header.Asked.{Asked}
 use Rattle.cold_scan.specs.declared.header.StartCause.{StartCause}
-use Rattle.cold_scan.specs.Starting.{IsRefused, FaultRose, Passes}
+use Rattle.cold_scan.specs.Starting.{IsRefused, IsByBytes, FaultRose, Passes}
 use Rattle.shard_core.specs.declared.settings.Settings.{Settings}
 use Rattle.shard_core.specs.View.{ShardView, setup_of}
 use Rattle.shard_core.specs.Stands.{Agrees, IsSafe}
@@ -20,7 +20,8 @@ use Rattle.core_run.specs.Views.{asked}
 
 -- A disk was taken into use, and nothing was written. Over any disk the shard stands for the state behind a start from the bodies that
 -- were read; over one that tells its bytes it begins with what they have, and a crash leaves just these. Over an honest one whose image
--- is sound it is safe; and so it is over that of a shard that stood safely for a state, behind a restart from there. No gate is unsure.
+-- is sound it is safe; and so it is over that of a shard that stood safely for a state, behind a restart from there. No gate is unsure. No flushed
+-- buffer is kept, and as many may be as the settings say.
 pub record Started {D : Type 0} (view : D → DiskView) (set : Settings) (place : Asked) (disk : D) (shard : ShardView D) : Type 0 where
   pub stands : StandsForBodies view place (view disk) shard
   pub begins : (view disk).tells → Begins place (view disk).seen shard
@@ -29,16 +30,18 @@ pub record Started {D : Type 0} (view : D → DiskView) (set : Settings) (place 
   pub again : IsHonest (view disk) → (old : ShardView D) (s : State) → old.shelf.disk ≡ disk → old.set ≡ set → old.shelf.geometry.device ≡ place.device
       → old.shelf.geometry.devices ≡ place.devices → Agrees old s → IsSafe view old s → StartsAgain view old s shard
   pub set_is : shard.set ≡ set
+  pub kept : shard.shelf.cache ≡ record { kept = []; limit = set.cache }
   pub device_is : shard.shelf.geometry.device ≡ place.device
   pub devices_is : shard.shelf.geometry.devices ≡ place.devices
   pub read : OnlyRead (view disk) (view shard.shelf.disk)
   pub sure : AreSure shard.shelf.gates
 
--- A disk was not taken into use, and is handed back as it was. Over the honest one of a shard that stood safely for a state there was no
--- memory, or the disk failed.
+-- A disk was not taken into use, and is handed back as it was; where its bytes are the cause, a crash leaves just these. Over the honest
+-- one of a shard that stood safely for a state there was no memory, or the disk failed.
 pub record NotStarted {D : Type 0} (view : D → DiskView) (set : Settings) (place : Asked) (cause : StartCause) (disk new : D) : Type 0 where
   pub read : OnlyRead (view disk) (view new)
   pub bytes : (view disk).tells → IsRefused place (view disk).seen cause
+  pub settled : (view disk).tells → IsByBytes cause → IsOnly (view disk).seen (view new).may_leave
   pub rose : FaultRose cause (view disk).faults (view new).faults
   pub again : IsHonest (view disk) → (old : ShardView D) (s : State) → old.shelf.disk ≡ disk → old.set ≡ set → old.shelf.geometry.device ≡ place.device
       → old.shelf.geometry.devices ≡ place.devices → Agrees old s → IsSafe view old s → IsNoRefusal cause
@@ -50,9 +53,11 @@ StartsEach view set device devices (disk ∷ disks) [] = ⊥
 StartsEach view set device devices (disk ∷ disks) (shard ∷ shards) =
     Started view set (asked device devices) disk shard × StartsEach view set (device + 1) devices disks shards
 
--- A disk was taken into use, and then its device was stopped, since one behind it was refused. Nothing was written.
+-- A disk was taken into use, and then its device was stopped, since one behind it was refused. Nothing was written, and what it reads is the one image
+-- that a crash leaves, where it tells that.
 pub record TakenInFront {D : Type 0} (view : D → DiskView) (place : Asked) (disk new : D) : Type 0 where
   pub read : OnlyRead (view disk) (view new)
+  pub only : (view disk).tells → IsOnly (view disk).seen (view new).may_leave
   pub passes : (view disk).tells → (g : Geometry) × (bodies : List Body) × Passes place (view disk).seen g bodies
 
 -- The disk at a place was refused. Those in front of it were taken, and read alone, and those behind it are as they were.

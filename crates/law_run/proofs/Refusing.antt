@@ -1,13 +1,13 @@
 -- Where a disk wasn't taken into use at the start of a run: its end has its cause, and the disks were read alone.
 use native.Mathlib.Omega.{arith}
-use Rattle.std.proofs.Common.{◌≡◌, ℕ, zero, suc, ◌+◌, ◌<◌, List, [], ◌∷◌, length, refl, sym, subst}
+use Rattle.std.proofs.Common.{◌≡◌, ℕ, zero, suc, ◌+◌, ◌<◌, ◌≤◌, List, [], ◌∷◌, length, refl, sym, subst}
 use Rattle.std.specs.Prelude.{Option, Some, None, MatchOption, slice_get}
 use Rattle.disk_model.specs.Disk.{DiskView, IsDisk}
 use Rattle.block_format.specs.Refusals.{Refusal, IsRefusedFor, not_formatted, other_shape, damaged_block}
 use Rattle.cold_scan.specs.declared.header.Asked.{Asked}
 use Rattle.cold_scan.specs.declared.header.StartCause.{StartCause}
 use Rattle.cold_scan.specs.declared.header.StartCause.TheVariants as why
-use Rattle.cold_scan.specs.Starting.{IsRefused, FaultRose}
+use Rattle.cold_scan.specs.Starting.{IsRefused, IsByBytes, FaultRose}
 use Rattle.shard_core.specs.declared.settings.Settings.{Settings}
 use Rattle.model_node.specs.declared.run_end.RunEnd.{RunEnd}
 use Rattle.model_node.specs.Outside.{RoseOn}
@@ -15,7 +15,7 @@ use Rattle.model_node.specs.RunEnd.{IsRefusedOn, HasStartCause}
 use Rattle.core_run.specs.Views.{asked, faults_of}
 use Rattle.core_run.specs.Starts.{RefusesAt}
 use Rattle.law_run.specs.Concluding.{refusal_end}
-use Rattle.law_run.specs.Promises.{Ends, ReadAlone, reads_of, NeverServed, disks_between}
+use Rattle.law_run.specs.Promises.{Ends, ReadAlone, reads_of, IsSettledOn, SettlesRefused, NeverServed, disks_between}
 use Rattle.law_run.proofs.Starting.{tells_at}
 use Rattle.law_run.proofs.Disks.{as_many, read_alone_none}
 
@@ -25,6 +25,12 @@ some_more P Q (Some x) more is = more x is
 
 one_on : (device place n : ℕ) → n ≡ device + suc place → n ≡ (device + 1) + place
 one_on device place n is = omega (arith, is)
+
+none_below : (k : ℕ) → suc k ≤ 0 → ⊥
+none_below k le = omega (arith, le)
+
+less_both : (k n : ℕ) → suc k ≤ suc n → k ≤ n
+less_both k n le = omega (arith, le)
 
 behind_one : (place n : ℕ) → place < n → suc place < suc n
 behind_one place n is = omega (arith, is)
@@ -67,6 +73,25 @@ module _ {D : Type 0} (view : D → DiskView) (set : Settings) where
       (refuses.0.read, subst (λ (disks : List D). ReadAlone view old disks) (sym refuses.1) (read_alone_none view is_disk old))
   refused_alone is_disk (suc place) device devices cause (x ∷ old) (y ∷ new) refuses = (refuses.0.read, refused_alone is_disk place (device + 1) devices cause old new refuses.1)
 
+  -- each disk up to the one that was refused by its bytes is settled
+  settled_to : (place device devices : ℕ) (cause : StartCause) (old new : List D) → IsByBytes cause → RefusesAt view set place device devices cause old new
+      → (k : ℕ) → k ≤ place → tells_at view old k → IsSettledOn (disks_between view old new) k
+  settled_to place device devices cause [] new by refuses k up_to tells = absurd refuses
+  settled_to place device devices cause (x ∷ old) [] by refuses k up_to tells = absurd refuses
+  settled_to zero device devices cause (x ∷ old) (y ∷ new) by refuses zero up_to tells = refuses.0.settled tells by
+  settled_to zero device devices cause (x ∷ old) (y ∷ new) by refuses (suc k) up_to tells = absurd (none_below k up_to)
+  settled_to (suc place) device devices cause (x ∷ old) (y ∷ new) by refuses zero up_to tells = refuses.0.only tells
+  settled_to (suc place) device devices cause (x ∷ old) (y ∷ new) by refuses (suc k) up_to tells =
+      settled_to place (device + 1) devices cause old new by refuses.1 k (less_both k place up_to) tells
+
+  settles_refused : (place devices : ℕ) (cause : StartCause) (old new : List D) → RefusesAt view set place 0 devices cause old new
+      → SettlesRefused (disks_between view old new) (refusal_end place cause)
+  settles_refused place devices why.Memory old new refuses = tt
+  settles_refused place devices why.Fault old new refuses = tt
+  settles_refused place devices (why.NotFormatted first) old new refuses = settled_to place 0 devices (why.NotFormatted first) old new tt refuses
+  settles_refused place devices (why.OtherGeometry kept named size) old new refuses = settled_to place 0 devices (why.OtherGeometry kept named size) old new tt refuses
+  settles_refused place devices (why.DamagedBlock block fault) old new refuses = settled_to place 0 devices (why.DamagedBlock block fault) old new tt refuses
+
   module _ (place : ℕ) (old new : List D) where
     abbrev Has : RunEnd → Type 0
     Has how = HasStartCause how (tells_at view old) (reads_of view old) (faults_of view old) (faults_of view new)
@@ -106,6 +131,7 @@ module _ {D : Type 0} (view : D → DiskView) (set : Settings) where
   never_served is_disk before after how place count cause old new given many back is refuses at_first at_last taken written = record {
     cause = subst (λ (counts : List ℕ). HasStartCause how (tells_at view old) (reads_of view old) counts after.disks) (sym at_first)
         (subst (λ (counts : List ℕ). HasStartCause how (tells_at view old) (reads_of view old) (faults_of view old) counts) (sym at_last) (refusal_cause place old given how cause is so));
+    settled = subst (SettlesRefused (disks_between view old given)) (sym is) (settles_refused place (length old) cause old given so);
     taken = taken;
     written = written;
     disks = refused_alone is_disk place 0 (length old) cause old given so;

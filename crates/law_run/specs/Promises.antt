@@ -1,5 +1,5 @@
 -- Crate law_run. What a run over the devices of a node promises.
-use Rattle.std.specs.Prelude.{◌≡◌, ◌⊎◌, ℕ, suc, ◌+◌, ◌<◌, Bool, false, List, [], ◌∷◌, ◌++◌, length, map, Option, Some, None, IsTrue}
+use Rattle.std.specs.Prelude.{◌≡◌, ◌⊎◌, ℕ, suc, ◌+◌, ◌<◌, ◌≤◌, Bool, true, false, List, [], ◌∷◌, ◌++◌, length, map, Option, Some, None, IsTrue, MatchOption, slice_get}
 use Rattle.std.specs.List.{AllByRecursion}
 use Rattle.rec_format.specs.declared.entry.Counts.{Counts}
 use Rattle.disk_model.specs.Disk.{DiskView, IsOnly, IsHonest, meanwhile}
@@ -17,6 +17,7 @@ use Rattle.cold_scan.specs.Starting.{Passes}
 use Rattle.cold_scan.specs.Found.{found_state}
 use Rattle.core_run.specs.Views.{asked, view_at, AreLater}
 use Rattle.model_node.specs.declared.run_end.RunEnd.{RunEnd}
+use Rattle.model_node.specs.declared.run_end.RunEnd.TheVariants.{DeviceRefused}
 use Rattle.model_node.specs.Commands.{Slot, Node, NodeEvent, node_counts}
 use Rattle.model_node.specs.Run.{ImagesLeft, Served, is_halted, last_node}
 use Rattle.model_node.specs.Outside.{Outside}
@@ -129,9 +130,19 @@ StartsFound set device devices (g ∷ geometries) tells (bytes ∷ reads) (slot 
 
 -- ---- how it ends
 
+-- what this device reads is the one image that a crash may leave of it now
+abbrev pub IsSettledOn : DisksOf → (device : ℕ) → Type 0
+IsSettledOn d device = MatchOption (slice_get d.reads device) ⊥ (λ bytes. IsOnly bytes (d.now device))
+
+-- Where a device was refused by its bytes, this holds of it and of each in front of it that tells its bytes.
+abbrev pub SettlesRefused : DisksOf → RunEnd → Type 0
+SettlesRefused d (DeviceRefused refused why) = (device : ℕ) → device ≤ refused → d.tells device → IsSettledOn d device
+SettlesRefused d _ = Unit {0}
+
 -- A device wasn't taken into use. Nothing was taken and nothing written, and the disks were read alone.
 pub record NeverServed (d : DisksOf) (end : RunEnd) (before after : Ends) : Type 0 where
   pub cause : HasStartCause end d.tells d.reads before.disks after.disks
+  pub settled : SettlesRefused d end
   pub taken : after.taken ≡ before.taken
   pub written : after.written ≡ before.written
   pub disks : d.read_alone

@@ -11,7 +11,7 @@ use Rattle.block_format.specs.declared.geometry.Geometry.{Geometry}
 use Rattle.block_format.specs.Layout.{IsGeometry, IsClosed, gate_text, gate_sector, block_place, closed_sector, device_end, header_text}
 use Rattle.block_format.specs.Copies.{HasBodies}
 use Rattle.block_format.specs.Copies.{IsFormatted}
-use Rattle.shard_core.specs.Finding.{AllClosed, HasHeaderOf, IsHalfFormatted}
+use Rattle.shard_core.specs.Finding.{AllClosed, AllZeros, HasHeaderOf, IsHalfFormatted}
 use Rattle.cold_scan.proofs.Room.{size_bounds}
 
 zeros_differ : replicate 16 0 ≢ gate_text
@@ -29,6 +29,22 @@ gates_apart g k block is lt = omega (arith, (size_bounds g is).0, mul-le-mul_rig
 pub stays_closed : (g : Geometry) (old new : List ℕ) (place : ℕ) (k : ℕ) → Torn place 4096 old new → Apart (block_place g k) 4096 place 4096 → IsClosed (gate_sector g k old)
     → IsClosed (gate_sector g k new)
 stays_closed g old new place k torn away closed = subst IsClosed (sym (torn.apart (block_place g k) 4096 away)) closed
+
+-- and the zeros of such a gate stay
+pub stays_zeros : (g : Geometry) (old new : List ℕ) (place : ℕ) (k : ℕ) → Torn place 4096 old new → Apart (block_place g k) 4096 place 4096 → gate_sector g k old ≡ closed_sector
+    → gate_sector g k new ≡ closed_sector
+stays_zeros g old new place k torn away zeros = torn.apart (block_place g k) 4096 away ∙ zeros
+
+pub zeros_close : (g : Geometry) (bytes : List ℕ) (count : ℕ) → AllZeros g bytes count → AllClosed g bytes count
+zeros_close g bytes count zeros k lt = closes g k bytes (zeros k lt)
+
+-- the header stands in front of the gates
+pub headed : {T E : Type 0} (g : Geometry) (r : Result T E) (old new header : List ℕ) → AllZeros g old g.blocks → header ≡ header_text g → OnOk r (Written 0 header old new)
+    → OnOk r (AllZeros g new g.blocks)
+headed g (Ok x) old new header zeros text write =
+    let written : Written 0 (header_text g) old new = subst (λ (l : List ℕ). Written 0 l old new) text write in
+    λ k lt. stays_zeros g old new 0 k written.torn (inr (omega arith)) (zeros k lt)
+headed g (Err e) old new header zeros text write = tt
 
 no_bodies : (g : Geometry) (bytes : List ℕ) (a n : ℕ) → ((k : ℕ) → k < a + n → IsClosed (gate_sector g k bytes)) → HasBodies g bytes (range_with_len a n) []
 no_bodies g bytes a zero closed = refl

@@ -38,3 +38,4 @@ pub mod Expiring
 pub mod Raiding
 pub mod Tidy
 pub mod Telling
+pub mod Keeping

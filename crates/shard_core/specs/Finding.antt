@@ -1,5 +1,5 @@
 -- Crate shard_core. What formatting leaves, and what a start makes of what was found on a device.
-use Rattle.std.specs.Prelude.{◌≡◌, ◌⊎◌, ℕ, ◌+◌, ◌<◌, ◌≤◌, ◌==◌, List, map, length, set, Some, slice_get, take, MatchBool}
+use Rattle.std.specs.Prelude.{◌≡◌, ◌⊎◌, ℕ, ◌+◌, ◌<◌, ◌≤◌, ◌==◌, List, [], map, length, set, Some, slice_get, take, replicate, MatchBool}
 use Rattle.std.specs.List.{AllByRecursion}
 use Rattle.rec_format.specs.declared.version.Digest.{Digest}
 use Rattle.rec_format.specs.declared.entry.Entry.{Entry}
@@ -39,6 +39,10 @@ use Rattle.cold_scan.specs.Found.{found_state}
 -- the gates of these first blocks are closed
 abbrev pub AllClosed : Geometry → List ℕ → ℕ → Type 0
 AllClosed g bytes count = (k : ℕ) → k < count → IsClosed (gate_sector g k bytes)
+
+-- the gate sectors of these first blocks are zeros throughout
+abbrev pub AllZeros : Geometry → List ℕ → ℕ → Type 0
+AllZeros g bytes count = (k : ℕ) → k < count → gate_sector g k bytes ≡ replicate 4096 0
 
 -- the image begins as one of those before did
 abbrev pub HasHeaderOf : (before : Images) → Images
@@ -101,6 +105,7 @@ pub record BeginsOver {D : Type 0} (disk : D) (g : Geometry) (set : Settings) (f
   pub set_is : shard.set ≡ set
   pub sprigs_are : shard.sprigs ≡ finding.sprigs.items
   pub next : shard.shelf.next_number ≡ finding.greatest + 1
+  pub cache : shard.shelf.cache ≡ record { kept = []; limit = set.cache }
 
 -- What holds of it where these bodies were found: the blocks in which none of the latest copies lies are free, and it stands for the
 -- state behind a start from them. Where each image has those copies, they are placed. From a sound image it stands for that image's

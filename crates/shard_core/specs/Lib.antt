@@ -10,3 +10,4 @@ pub mod Numbers
 pub mod Vacating
 pub mod Expiring
 pub mod Raids
+pub mod Keeping

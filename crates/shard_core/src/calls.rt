@@ -19,6 +19,7 @@ ghost use Rattle.write_buffer.specs.declared.stream.Stream.TheVariants.{Client};
 ghost use Rattle.block_shelf.specs.Changes.{HasRoom};
 ghost use Rattle.block_shelf.specs.Reads.{IsUndamaged};
 ghost use Rattle.shard_core.specs.Sprigs.{held};
+ghost use Rattle.shard_core.specs.Keeping.{KeepsBy};
 ghost use Rattle.shard_core.specs.View.{SameSetup, setup_of};
 ghost use Rattle.shard_core.specs.Stands.{Agrees, IsWhole};
 ghost use Rattle.shard_core.specs.Calls.{IsRefusedWrite, Makes, GetsStored, write_answer, read_answer, delete_answer, meta_of};
@@ -60,6 +61,7 @@ impl<D: Disk> Shard<D> {
         // A refusal writes nothing, but where commit is on and the flush failed.
         ensures refused { IfErr result (λ refusal. ((refusal ≡ WriteRefusal.Fault) × (self.old.set.commit ≡ true)) ⊎ IsRefusedWrite self.old self.new refusal) }
         ensures sure { StaysSure D.view self.old.shelf self.new.shelf }
+        ensures kept { KeepsBy self.old.set.commit (units_for (length payload.now)) self.old.shelf self.new.shelf result }
         ensures later { IsLater (D.view self.old.shelf.disk) (D.view self.new.shelf.disk) }
         ensures honest { IsHonest (D.view self.old.shelf.disk) → IsHonest (D.view self.new.shelf.disk) }
         ensures shape { SameSetup self.old self.new }
@@ -105,6 +107,7 @@ impl<D: Disk> Shard<D> {
         // Over an honest disk nothing is damaged.
         ensures undamaged { IsHonest (D.view self.old.shelf.disk) → (s : State) → Agrees self.old s → IsPlaced D.view self.old.shelf s → IfErr result IsUndamaged }
         ensures sure { StaysSure D.view self.old.shelf self.new.shelf }
+        ensures kept { self.new.shelf.cache ≡ self.old.shelf.cache }
         ensures disk { OnlyRead (D.view self.old.shelf.disk) (D.view self.new.shelf.disk) }
         ensures shape { SameSetup self.old self.new }
     {
@@ -141,6 +144,8 @@ impl<D: Disk> Shard<D> {
         ensures bare { cover_of (seen_entry now (held (setup_of self.old) digest.now self.old.sprigs)) ≡ false → IsOk result × (self.new.shelf.disk ≡ self.old.shelf.disk) }
         ensures refused { IfErr result (λ refusal. ((refusal ≡ WriteRefusal.Fault) × (self.old.set.commit ≡ true)) ⊎ IsRefusedWrite self.old self.new refusal) }
         ensures sure { StaysSure D.view self.old.shelf self.new.shelf }
+        ensures kept { let covered = cover_of (seen_entry now (held (setup_of self.old) digest.now self.old.sprigs)) in
+            (covered ≡ false → self.new.shelf.cache ≡ self.old.shelf.cache) × (covered ≡ true → KeepsBy self.old.set.commit (units_for 0) self.old.shelf self.new.shelf result) }
         ensures later { IsLater (D.view self.old.shelf.disk) (D.view self.new.shelf.disk) }
         ensures honest { IsHonest (D.view self.old.shelf.disk) → IsHonest (D.view self.new.shelf.disk) }
         ensures shape { SameSetup self.old self.new }
@@ -169,6 +174,7 @@ impl<D: Disk> Shard<D> {
         ensures makes { (s : State) → Agrees self.old s → Makes D.view (bury_call digest.now now) (write_answer result) self.old s self.new }
         ensures refused { IfErr result (λ refusal. ((refusal ≡ WriteRefusal.Fault) × (self.old.set.commit ≡ true)) ⊎ IsRefusedWrite self.old self.new refusal) }
         ensures sure { StaysSure D.view self.old.shelf self.new.shelf }
+        ensures kept { KeepsBy self.old.set.commit (units_for 0) self.old.shelf self.new.shelf result }
         ensures later { IsLater (D.view self.old.shelf.disk) (D.view self.new.shelf.disk) }
         ensures honest { IsHonest (D.view self.old.shelf.disk) → IsHonest (D.view self.new.shelf.disk) }
         ensures shape { SameSetup self.old self.new }

@@ -2,7 +2,7 @@
 ghost use Rattle.std.specs.Prelude.{◌≡◌, ◌⊎◌, ◌≤◌, ◌^◌, true, false, Some, IfErr, IsOk, MatchResult};
 ghost use Rattle.disk_model.specs.Disk.{IsHonest};
 ghost use Rattle.rec_format.specs.Places.{device_number};
-ghost use Rattle.rec_format.specs.Versions.{a_tombstone};
+ghost use Rattle.rec_format.specs.Versions.{a_tombstone, units_for};
 ghost use Rattle.model_device.specs.Device.{State, part_of};
 ghost use Rattle.model_device.specs.Events.{Call, Answer, bury_call, delete_call, happened};
 ghost use Rattle.expiry_rule.specs.Seen.{seen_entry};
@@ -17,6 +17,7 @@ ghost use Rattle.law_steps.specs.Standing.{StandTogether};
 ghost use Rattle.shard_core.specs.Calls.{IsRefusedStep, delete_answer, write_answer};
 ghost use Rattle.law_steps.specs.Events.{StepMakes};
 ghost use Rattle.shard_core.specs.Writing.{IsEntombing, IsRemoving, entombed_answer, written_answer};
+ghost use Rattle.shard_core.specs.Keeping.{KeepsBy};
 
 use crate::sprigs::place_of_entry;
 use crate::write::{stamp_after, write_step};
@@ -54,6 +55,8 @@ pub fn delete_step<D: Disk>(
     ensures bare { cover_of (seen_entry now (entry_of digest.now sprig.old.entries)) ≡ false → IsOk result × (shelf.new.disk ≡ shelf.old.disk) }
     ensures refused { IfErr result (λ refusal. ((refusal ≡ WriteRefusal.Fault) × (set.now.commit ≡ true)) ⊎ IsRefusedStep sprig.old sprig.new shelf.old shelf.new refusal) }
     ensures sure { StaysSure D.view shelf.old shelf.new }
+    ensures kept { let covered = cover_of (seen_entry now (entry_of digest.now sprig.old.entries)) in
+        (covered ≡ false → shelf.new.cache ≡ shelf.old.cache) × (covered ≡ true → KeepsBy set.now.commit (units_for 0) shelf.old shelf.new result) }
     ensures later { IsLater (D.view shelf.old.disk) (D.view shelf.new.disk) }
     ensures honest { IsHonest (D.view shelf.old.disk) → IsHonest (D.view shelf.new.disk) }
     ensures shape { SameShape shelf.old shelf.new }
@@ -87,6 +90,7 @@ pub fn bury_step<D: Disk>(
         → StepMakes D.view setup (part_of setup digest.now) (bury_call digest.now now) (write_answer result) shelf.old s sprig.new shelf.new }
     ensures refused { IfErr result (λ refusal. ((refusal ≡ WriteRefusal.Fault) × (set.now.commit ≡ true)) ⊎ IsRefusedStep sprig.old sprig.new shelf.old shelf.new refusal) }
     ensures sure { StaysSure D.view shelf.old shelf.new }
+    ensures kept { KeepsBy set.now.commit (units_for 0) shelf.old shelf.new result }
     ensures later { IsLater (D.view shelf.old.disk) (D.view shelf.new.disk) }
     ensures honest { IsHonest (D.view shelf.old.disk) → IsHonest (D.view shelf.new.disk) }
     ensures shape { SameShape shelf.old shelf.new }
@@ -118,6 +122,7 @@ pub(crate) fn remove_entry<D: Disk>(
     ensures bare { entry.cover ≡ false → IsOk result × (shelf.new.disk ≡ shelf.old.disk) }
     ensures refused { IfErr result (λ refusal. ((refusal ≡ WriteRefusal.Fault) × (set.now.commit ≡ true)) ⊎ IsRefusedStep sprig.old sprig.new shelf.old shelf.new refusal) }
     ensures sure { StaysSure D.view shelf.old shelf.new }
+    ensures kept { (entry.cover ≡ false → shelf.new.cache ≡ shelf.old.cache) × (entry.cover ≡ true → KeepsBy set.now.commit (units_for 0) shelf.old shelf.new result) }
     ensures later { IsLater (D.view shelf.old.disk) (D.view shelf.new.disk) }
     ensures honest { IsHonest (D.view shelf.old.disk) → IsHonest (D.view shelf.new.disk) }
     ensures shape { SameShape shelf.old shelf.new }
@@ -152,6 +157,7 @@ fn entomb<D: Disk>(
         → IsEntombing setup s call digest.now now ok → StepMakes D.view setup (part_of setup digest.now) call (entombed_answer ok result) shelf.old s sprig.new shelf.new }
     ensures refused { IfErr result (λ refusal. ((refusal ≡ WriteRefusal.Fault) × (set.now.commit ≡ true)) ⊎ IsRefusedStep sprig.old sprig.new shelf.old shelf.new refusal) }
     ensures sure { StaysSure D.view shelf.old shelf.new }
+    ensures kept { KeepsBy set.now.commit (units_for 0) shelf.old shelf.new result }
     ensures later { IsLater (D.view shelf.old.disk) (D.view shelf.new.disk) }
     ensures honest { IsHonest (D.view shelf.old.disk) → IsHonest (D.view shelf.new.disk) }
     ensures shape { SameShape shelf.old shelf.new }

@@ -2,6 +2,7 @@
 ghost use Rattle.std.specs.Prelude.{◌≡◌, ◌⊎◌, ◌<◌, ◌≤◌, ◌^◌, true, false, IsOk, IfOk, IfErr, slice_get};
 ghost use Rattle.disk_model.specs.Disk.{IsHonest};
 ghost use Rattle.rec_format.specs.Places.{device_number};
+ghost use Rattle.rec_format.specs.Versions.{units_for};
 ghost use Rattle.model_device.specs.Device.{State, part_of};
 ghost use Rattle.model_device.specs.Steps.{part_total};
 ghost use Rattle.model_device.specs.Events.{expire_call};
@@ -13,6 +14,7 @@ ghost use Rattle.block_shelf.specs.Sure.{StaysSure};
 ghost use Rattle.block_shelf.specs.View.{SameShape};
 ghost use Rattle.law_steps.specs.Standing.{StandTogether};
 ghost use Rattle.law_steps.specs.Events.{StepMakes};
+ghost use Rattle.shard_core.specs.Keeping.{KeepsBy};
 ghost use Rattle.shard_core.specs.View.{IsSettings, SameSetup, limits_of, setup_for, setup_of};
 ghost use Rattle.shard_core.specs.Sprigs.{held};
 ghost use Rattle.shard_core.specs.Stands.{Agrees, IsWhole};
@@ -53,6 +55,8 @@ pub fn expire_step<D: Disk>(
     ensures bare { cover_of (expired_entry now (entry_of digest.now sprig.old.entries)) ≡ false → IsOk result × (shelf.new.disk ≡ shelf.old.disk) }
     ensures refused { IfErr result (λ refusal. ((refusal ≡ WriteRefusal.Fault) × (set.now.commit ≡ true)) ⊎ IsRefusedStep sprig.old sprig.new shelf.old shelf.new refusal) }
     ensures sure { StaysSure D.view shelf.old shelf.new }
+    ensures kept { let covered = cover_of (expired_entry now (entry_of digest.now sprig.old.entries)) in
+        (covered ≡ false → shelf.new.cache ≡ shelf.old.cache) × (covered ≡ true → KeepsBy set.now.commit (units_for 0) shelf.old shelf.new result) }
     ensures later { IsLater (D.view shelf.old.disk) (D.view shelf.new.disk) }
     ensures honest { IsHonest (D.view shelf.old.disk) → IsHonest (D.view shelf.new.disk) }
     ensures shape { SameShape shelf.old shelf.new }

@@ -19,6 +19,7 @@ ghost use Rattle.shard_core.specs.View.{SameSetup, setup_of};
 ghost use Rattle.shard_core.specs.Stands.{Agrees, IsWhole};
 ghost use Rattle.shard_core.specs.Calls.{Makes, MakesAny, flush_answer, FlushesAll};
 ghost use Rattle.shard_core.specs.Writing.{EndsRight};
+ghost use Rattle.shard_core.specs.Keeping.{FlushesInTurn, FlushesFront};
 ghost use Rattle.shard_core.specs.Vacating.{MakesEvents, TendsWell};
 
 use crate::Shard;
@@ -37,6 +38,7 @@ pub(crate) fn flush_up_to<D: Disk>(shelf: &mut Shelf<D>, last: u64) -> Result<u6
     ensures few { IfOk result (λ n. n < 2 ^ 60) }
     ensures all { IfOk result (λ n. AllByRecursion (λ b. b.number ≤ last) shelf.old.buffers → AllByRecursion (λ b. is_unsealed b.phase ≡ true) shelf.new.buffers) }
     ensures quiet { AllByRecursion (λ b. is_unsealed b.phase ≡ false) shelf.old.buffers → AllByRecursion (λ b. is_unsealed b.phase ≡ false) shelf.new.buffers }
+    ensures kept { FlushesInTurn shelf.old shelf.new }
     ensures left { OnErr result (shelf.new.buffers ≢ []) }
     ensures cause { OnErr result (Rose (D.view shelf.old.disk).faults (D.view shelf.new.disk).faults) }
     ensures sure { StaysSure D.view shelf.old shelf.new }
@@ -61,6 +63,7 @@ pub(crate) fn flush_sealed<D: Disk>(shelf: &mut Shelf<D>) -> Result<u64, DiskFau
         → (steps : List Step) × FlushesAll result (flush_all s.book) steps × Goes D.view setup steps shelf.old s shelf.new }
     ensures few { IfOk result (λ n. n < 2 ^ 60) }
     ensures quiet { AllByRecursion (λ b. is_unsealed b.phase ≡ false) shelf.old.buffers → OnOk result (shelf.new.buffers ≡ []) }
+    ensures kept { FlushesInTurn shelf.old shelf.new }
     ensures left { OnErr result (shelf.new.buffers ≢ []) }
     ensures cause { OnErr result (Rose (D.view shelf.old.disk).faults (D.view shelf.new.disk).faults) }
     ensures sure { StaysSure D.view shelf.old shelf.new }
@@ -82,6 +85,9 @@ impl<D: Disk> Shard<D> {
         ensures quiet { OnOk result (self.new.shelf.buffers ≡ []) }
         ensures left { OnErr result (self.new.shelf.buffers ≢ []) }
         ensures sure { StaysSure D.view self.old.shelf self.new.shelf }
+
+        // What is flushed comes to the back of what is kept, and the front goes where there is too much.
+        ensures kept { FlushesFront self.old.shelf self.new.shelf }
         ensures later { IsLater (D.view self.old.shelf.disk) (D.view self.new.shelf.disk) }
         ensures honest { IsHonest (D.view self.old.shelf.disk) → IsHonest (D.view self.new.shelf.disk) }
         ensures shape { SameSetup self.old self.new }

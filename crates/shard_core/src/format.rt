@@ -5,7 +5,7 @@ ghost use Rattle.disk_model.specs.Disk.{IsSettled, IsHonest, Advances};
 ghost use Rattle.disk_model.specs.Runs.{Leaves};
 ghost use Rattle.block_format.specs.Layout.{IsGeometry, device_end};
 ghost use Rattle.block_format.specs.Copies.{IsFormatted};
-ghost use Rattle.shard_core.specs.Finding.{AllClosed, HasHeaderOf, IsHalfFormatted};
+ghost use Rattle.shard_core.specs.Finding.{AllZeros, HasHeaderOf, IsHalfFormatted};
 
 use block_flusher::start_of_block;
 use block_format::{Geometry, SECTOR_BYTES, write_closed, write_header};
@@ -15,7 +15,7 @@ use disk_model::{Disk, DiskFault, write_synced};
 fn close_gates<D: Disk>(disk: &mut D, geometry: &Geometry) -> Result<(), DiskFault>
     requires geometry { IsGeometry geometry.now }
     requires room { device_end geometry.now ≤ (D.view disk.old).extent }
-    ensures closed { (D.view disk.old).tells → OnOk result (AllClosed geometry.now (D.view disk.new).seen geometry.now.blocks) }
+    ensures zeros { (D.view disk.old).tells → OnOk result (AllZeros geometry.now (D.view disk.new).seen geometry.now.blocks) }
     ensures told { (D.view disk.old).tells → (D.view disk.new).tells }
     ensures honest { IsHonest (D.view disk.old) → IsHonest (D.view disk.new) }
     ensures header { Leaves (HasHeaderOf (D.view disk.old).may_leave) (D.view disk.old) (D.view disk.new) }
@@ -31,14 +31,15 @@ fn close_gates<D: Disk>(disk: &mut D, geometry: &Geometry) -> Result<(), DiskFau
     Ok(())
 }
 
-/// At `Ok` the disk is a device of this shape without a record, and from then on a crash leaves just that, on a disk that tells its
-/// bytes. It closes the gate of each block, syncs, writes the header, and syncs: at no moment does a crash of an honest disk leave a
-/// header that wasn't there before together with an open gate. After a fault the disk may hold some of it; format it again. It takes no
-/// memory.
+/// At `Ok` the disk is a device of this shape without a record, each gate is 4,096 zero bytes, and from then on a crash leaves just that,
+/// on a disk that tells its bytes. It closes the gate of each block, syncs, writes the header, and syncs: at no moment does a crash of an
+/// honest disk leave a header that wasn't there before together with an open gate. After a fault the disk may hold some of it; format it
+/// again. It takes no memory.
 pub fn format_disk<D: Disk>(disk: &mut D, geometry: &Geometry) -> Result<(), DiskFault>
     requires geometry { IsGeometry geometry.now }
     requires room { device_end geometry.now ≤ (D.view disk.old).extent }
     ensures formatted { (D.view disk.old).tells → OnOk result (IsFormatted geometry.now (D.view disk.new).seen) }
+    ensures zeros { (D.view disk.old).tells → OnOk result (AllZeros geometry.now (D.view disk.new).seen geometry.now.blocks) }
     ensures durable { (D.view disk.old).tells → OnOk result (IsSettled (D.view disk.new)) }
     ensures told { (D.view disk.old).tells → (D.view disk.new).tells }
     ensures honest { IsHonest (D.view disk.old) → IsHonest (D.view disk.new) }

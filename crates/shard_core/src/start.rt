@@ -1,5 +1,5 @@
 // How a device is taken into use: what a scan of it found, and the shard that begins with it.
-ghost use Rattle.std.specs.Prelude.{◌≡◌, ◌≤◌, List, length, IfOk, IfErr, MatchResult};
+ghost use Rattle.std.specs.Prelude.{◌≡◌, ◌≤◌, List, [], length, IfOk, IfErr, MatchResult};
 ghost use Rattle.std.specs.List.{AllByRecursion};
 ghost use Rattle.disk_model.specs.Disk.{IsOnly, IsHonest};
 ghost use Rattle.block_format.specs.Layout.{IsGeometry, device_end, Body};
@@ -7,7 +7,7 @@ ghost use Rattle.law_start.specs.Start.{start_state};
 ghost use Rattle.law_start.specs.Sound.{IsSound};
 ghost use Rattle.block_shelf.specs.View.{AreSure, GatesStand};
 ghost use Rattle.block_shelf.specs.Disks.{OnlyRead};
-ghost use Rattle.cold_scan.specs.Starting.{IsRefused, FaultRose};
+ghost use Rattle.cold_scan.specs.Starting.{IsRefused, IsByBytes, FaultRose};
 ghost use Rattle.cold_scan.specs.Found.{IsSure, FindsOn, IsShaped};
 ghost use Rattle.model_device.specs.Device.{State};
 ghost use Rattle.shard_core.specs.View.{ShardView, IsSettings, setup_of};
@@ -79,7 +79,8 @@ fn begun<D: Disk>(
 impl<D: Disk> Shard<D> {
     /// At `Ok` the device is served from what its disk holds, of each digest of the device the latest copy; nothing was written, and a
     /// crash leaves just what a read gives, on a disk that tells its bytes. From a sound image of an honest disk the device is sound. It
-    /// syncs, and reads the header, then each gate, then the bodies behind the open ones. A refusal tells why, and hands the disk back.
+    /// syncs, and reads the header, then each gate, then the bodies behind the open ones. A refusal tells why, and hands the disk back;
+    /// where the bytes are the cause a crash leaves just these, on a disk that tells them.
     pub fn start(
         alloc: Global,
         disk: D,
@@ -95,8 +96,10 @@ impl<D: Disk> Shard<D> {
 
         // It is known of each gate whether it is set, over every disk.
         ensures sure { IfOk result (λ shard. AreSure shard.shelf.gates) }
+        ensures settled { (D.view disk).tells → IfErr result (λ refusal. IsByBytes refusal.cause → IsOnly (D.view disk).seen (D.view refusal.disk).may_leave) }
         ensures again { IsHonest (D.view disk) → (old : ShardView D) (s : State) → old.shelf.disk ≡ disk → old.set ≡ set → old.shelf.geometry.device ≡ asked.device → old.shelf.geometry.devices ≡ asked.devices
             → Agrees old s → IsSafe D.view old s → MatchResult result (StartsAgain D.view old s) (λ refusal. IsNoRefusal refusal.cause) }
+        ensures kept { IfOk result (λ shard. shard.shelf.cache ≡ record { kept = []; limit = set.cache }) }
         ensures shape { IfOk result (λ shard. (shard.set ≡ set) × (shard.shelf.geometry.device ≡ asked.device) × (shard.shelf.geometry.devices ≡ asked.devices)) }
         ensures read { MatchResult result (λ shard. OnlyRead (D.view disk) (D.view shard.shelf.disk)) (λ refusal. OnlyRead (D.view disk) (D.view refusal.disk)) }
         ensures cause { IfErr result (λ refusal. FaultRose refusal.cause (D.view disk).faults (D.view refusal.disk).faults) }

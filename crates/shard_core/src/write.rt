@@ -1,5 +1,5 @@
 // How a version is written: its copy is appended, its entry goes into the sprig, and with commit on its buffer is flushed.
-ghost use Rattle.std.specs.Prelude.{◌≡◌, ◌⊎◌, ◌<◌, ◌≤◌, ◌^◌, ◌∷◌, true, false, Some, None, Err, List, length, option_map, is_some, IfOk, IfErr, IfSome, MatchResult, OnErr};
+ghost use Rattle.std.specs.Prelude.{◌≡◌, ◌⊎◌, ◌<◌, ◌≤◌, ◌^◌, ◌∷◌, true, false, Some, None, Err, List, length, option_map, is_some, IfOk, IfErr, IfSome, MatchResult, OnOk, OnErr};
 ghost use Rattle.model_faults.specs.Counts.{Rose};
 ghost use Rattle.disk_model.specs.Disk.{IsHonest};
 ghost use Rattle.rec_format.specs.Places.{device_number};
@@ -28,6 +28,7 @@ ghost use Rattle.law_steps.specs.Standing.{StandTogether};
 ghost use Rattle.shard_core.specs.Calls.{IsRefusedStep, IsShelfLeft};
 ghost use Rattle.law_steps.specs.Events.{StepMakes};
 ghost use Rattle.shard_core.specs.Writing.{IsWriteOf, Wrote, IsUnwritten, Commits, written_answer};
+ghost use Rattle.shard_core.specs.Keeping.{blocks_of, FlushesFrom, KeepsBehindCopy, KeepsBy};
 
 use crate::flush::flush_up_to;
 use crate::refusals::write_refusal;
@@ -69,6 +70,7 @@ pub(crate) fn write_step<D: Disk>(
     ensures quiet { set.now.commit ≡ false → gate_at shelf.old.gates (first_block shelf.old.free) ≡ Shut → shelf.new.disk ≡ shelf.old.disk }
     ensures refused { IfErr result (λ refusal. ((refusal ≡ WriteRefusal.Fault) × (set.now.commit ≡ true)) ⊎ IsRefusedStep sprig.old sprig.new shelf.old shelf.new refusal) }
     ensures sure { StaysSure D.view shelf.old shelf.new }
+    ensures kept { KeepsBy set.now.commit (version_units version.now) shelf.old shelf.new result }
     ensures later { IsLater (D.view shelf.old.disk) (D.view shelf.new.disk) }
     ensures honest { IsHonest (D.view shelf.old.disk) → IsHonest (D.view shelf.new.disk) }
     ensures shape { SameShape shelf.old shelf.new }
@@ -115,6 +117,7 @@ fn append_entry<D: Disk>(
     ensures wrote { (setup : Setup) (s : State) → IsSetupOf setup shelf.old → StandTogether setup (part_of setup digest.now) sprig.old shelf.old s
         → MatchResult result (λ block. Wrote D.view setup s class digest.now version.now block shelf.old sprig.new shelf.new) (λ refusal. IsUnwritten D.view setup s class digest.now version.now refusal shelf.old sprig.new shelf.new) }
     ensures refused { IfErr result (IsRefusedStep sprig.old sprig.new shelf.old shelf.new) }
+    ensures kept { OnOk result (KeepsBehindCopy (version_units version.now) shelf.old shelf.new) }
     ensures in_room { HasRoom Client (version_units version.now) shelf.old.buffers → shelf.new.disk ≡ shelf.old.disk }
     ensures quiet { gate_at shelf.old.gates (first_block shelf.old.free) ≡ Shut → shelf.new.disk ≡ shelf.old.disk }
     ensures cause { result ≡ Err WriteRefusal.Fault → Rose (D.view shelf.old.disk).faults (D.view shelf.new.disk).faults }
@@ -186,6 +189,8 @@ fn commit<D: Disk>(shelf: &mut Shelf<D>, block: u32) -> Result<(), WriteRefusal>
     ensures committed { (setup : Setup) (s : State) (b : Buffer) → IsSetupOf setup shelf.old → StandsFor setup shelf.old s → filling_buffer client s.book.buffers ≡ Some b → b.block ≡ block
         → (steps : List Step) × Commits result (flush_between 0 b.number (after_step setup (sealed_stream client) s).book) steps × Goes D.view setup (sealed_stream client ∷ steps) shelf.old s shelf.new }
     ensures fault { IfErr result (λ refusal. refusal ≡ WriteRefusal.Fault) }
+    ensures kept { (setup : Setup) (s : State) (b : Buffer) → IsSetupOf setup shelf.old → StandsFor setup shelf.old s → filling_buffer client s.book.buffers ≡ Some b → b.block ≡ block
+        → FlushesFrom (blocks_of shelf.old.buffers) shelf.old.cache shelf.new }
     ensures cause { OnErr result (Rose (D.view shelf.old.disk).faults (D.view shelf.new.disk).faults) }
     ensures sure { StaysSure D.view shelf.old shelf.new }
     ensures later { IsLater (D.view shelf.old.disk) (D.view shelf.new.disk) }

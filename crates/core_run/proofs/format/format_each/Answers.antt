@@ -59,7 +59,7 @@ loop-index-preserved g c = one_more g.D.Disk.view (shaped c.args.block_size c.ar
           c.format_disk.ensures.later;
       size = c.format_disk.ensures.len;
     })
-    (record { formatted = c.in-Ok.ensures.formatted; settled = c.in-Ok.ensures.durable })
+    (record { formatted = c.in-Ok.ensures.formatted; zeros = c.in-Ok.ensures.zeros; settled = c.in-Ok.ensures.durable })
 
 pub returns-clause-formatted : goal.returns-clause-formatted
 returns-clause-formatted g c = all_made g.D.Disk.view (shaped c.args.block_size c.args.blocks (length c.args.disks.now)) c.args.disks.now c.loop-index.disks c.loop-index.index

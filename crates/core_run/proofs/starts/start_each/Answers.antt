@@ -52,6 +52,7 @@ loop-disk-preserved g c =
       safe = e.safe;
       again = e.again;
       set_is = e.shape.0;
+      kept = e.kept;
       device_is = e.shape.1;
       devices_is = e.shape.2;
       read = e.read;
@@ -76,7 +77,7 @@ returns-in-Err-clause-starts g c =
     let pushed = c.push_reserved-in-Err.ensures in
     let disks : List g.row.D.Denot = reverse c.args.disks.now.items in
     let refused : NotStarted g.D.Disk.view c.args.set (asked c.len-device.result c.args.devices) c.in-Err.field-0.cause c.in-Some.disk c.in-Err.field-0.disk =
-    record { read = e.read; bytes = e.begins; rose = e.cause; again = e.again } in
+    record { read = e.read; bytes = e.begins; settled = e.settled; rose = e.cause; again = e.again } in
     let left : reverse c.loop-disk.disks.items ≡ c.in-Some.disk ∷ reverse c.pop.new.self.items = ap reverse popped.items ∙ turned c.pop.new.self.items c.in-Some.disk in
     let here : c.len-device.result ≡ 0 + length c.loop-disk.shards.items = let is = c.len-device.ensures ∙ c.loop-disk.shards.ok.0 in omega (arith, is) in
     let place : c.len-device.result ≡ length c.loop-disk.shards.items = c.len-device.ensures ∙ c.loop-disk.shards.ok.0 in

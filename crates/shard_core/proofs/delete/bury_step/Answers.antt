@@ -22,3 +22,6 @@ returns-clause-makes g c s stand = by c.entomb.result (c.entomb.ensures.makes s 
 
 pub returns-clause-sure : goal.returns-clause-sure
 returns-clause-sure g c = c.entomb.ensures.sure
+
+pub returns-clause-kept : goal.returns-clause-kept
+returns-clause-kept g c = c.entomb.ensures.kept

@@ -18,6 +18,10 @@ use Rattle.shard_core.proofs.Getting.{seen_held}
 use Rattle.shard_core.proofs.Puts.{makes_nothing}
 use Rattle.shard_core.proofs.Deletes.{deletes_none, deletes}
 use Rattle.block_shelf.proofs.Surely.{sure_none}
+use Rattle.rec_format.specs.Versions.{units_for}
+use Rattle.std.proofs.lemmas.Bool.{false≢true}
+use Rattle.tomb_rules.specs.Covers.{cover_of}
+use Rattle.shard_core.proofs.Keeping.{keeps_as, keeps_refused}
 use Rattle.shard_core.proofs.delete.delete_step.Goals as goal
 
 pub returns-in_default-clause-makes : goal.returns-in_default-clause-makes
@@ -70,3 +74,32 @@ returns-in_err-remove_entry-clause-sure g c = c.remove_entry.ensures.sure
 
 pub returns-clause-sure : goal.returns-clause-sure
 returns-clause-sure g c = c.remove_entry.ensures.sure
+
+pub returns-in_default-clause-kept : goal.returns-in_default-clause-kept
+returns-in_default-clause-kept g c =
+    let none : seen_entry c.args.now (entry_of c.args.digest.now c.args.sprig.now.entries) ≡ None =
+    ap (seen_entry c.args.now) (sym (c.as_ref.ensures.value ∙ c.find-found.ensures.value)) ∙ sym c.seen.ensures ∙ ap option_copied c.in_default.is in
+    (λ bare. refl, λ covered. absurd (false≢true (sym (ap cover_of none) ∙ covered)))
+
+pub returns-clause-kept : goal.returns-clause-kept
+returns-clause-kept g c =
+    let e : Entry = c.in-Some.entry.now in
+    let found : seen_entry c.args.now (entry_of c.args.digest.now c.args.sprig.now.entries) ≡ Some e =
+    ap (seen_entry c.args.now) (sym (c.as_ref.ensures.value ∙ c.find-found.ensures.value)) ∙ sym c.seen.ensures ∙ ap option_copied c.in-Some.is in
+    let kept = c.remove_entry.ensures.kept in (
+      λ bare. kept.0 (sym (ap cover_of found) ∙ bare),
+      λ covered. keeps_as c.args.set.now.commit (units_for 0) c.args.shelf.now c.remove_entry.new.shelf c.remove_entry.result true _ c.in_ok-remove_entry.was
+          (kept.1 (sym (ap cover_of found) ∙ covered)),
+    )
+
+pub returns-in_err-remove_entry-clause-kept : goal.returns-in_err-remove_entry-clause-kept
+returns-in_err-remove_entry-clause-kept g c =
+    let e : Entry = c.in-Some.entry.now in
+    let found : seen_entry c.args.now (entry_of c.args.digest.now c.args.sprig.now.entries) ≡ Some e =
+    ap (seen_entry c.args.now) (sym (c.as_ref.ensures.value ∙ c.find-found.ensures.value)) ∙ sym c.seen.ensures ∙ ap option_copied c.in-Some.is in
+    let kept = c.remove_entry.ensures.kept in
+    let p = err_from_is_err_and c.from_residual.result c.from_residual.ensures.1 in (
+      λ bare. kept.0 (sym (ap cover_of found) ∙ bare),
+      λ covered. keeps_refused c.args.set.now.commit (units_for 0) c.args.shelf.now c.remove_entry.new.shelf c.remove_entry.result c.from_residual.result c.in_err-remove_entry.field-0.0
+          c.in_err-remove_entry.was (p.1 ∙ ap (λ (r : WriteRefusal). Err r) p.2) (kept.1 (sym (ap cover_of found) ∙ covered)),
+    )

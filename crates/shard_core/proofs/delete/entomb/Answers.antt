@@ -6,7 +6,7 @@ use Rattle.std.proofs.lemmas.Result.{err_from_is_err_and}
 use Rattle.rec_format.specs.declared.entry.Entry.{Entry}
 use Rattle.rec_format.specs.declared.version.Stamp.{Stamp}
 use Rattle.rec_format.specs.declared.version.Version.{Version}
-use Rattle.rec_format.specs.Versions.{IsVersion, new_stamp}
+use Rattle.rec_format.specs.Versions.{IsVersion, new_stamp, units_for, version_units}
 use Rattle.model_device.specs.Book.{Setup}
 use Rattle.model_device.specs.Device.{part_of}
 use Rattle.model_device.specs.Events.{refused, spent}
@@ -21,6 +21,8 @@ use Rattle.block_shelf.specs.declared.place.Class.TheVariants as class
 use Rattle.cold_scan.proofs.Room.{size_bounds}
 use Rattle.shard_core.proofs.Puts.{stamp_fine, spent_entombs, entombing_writes, makes_nothing}
 use Rattle.block_shelf.proofs.Surely.{sure_none}
+use Rattle.shard_core.specs.Keeping.{KeepsBy}
+use Rattle.shard_core.proofs.Keeping.{keeps_all}
 use Rattle.shard_core.proofs.delete.entomb.Goals as goal
 
 pub returns-in_err-stamp-clause-makes : goal.returns-in_err-stamp-clause-makes
@@ -105,3 +107,12 @@ returns-in_err-stamp-clause-sure g c = sure_none g.D.Disk.view c.args.shelf.now 
 
 pub returns-clause-sure : goal.returns-clause-sure
 returns-clause-sure g c = c.write_step.ensures.sure
+
+pub returns-in_err-stamp-clause-kept : goal.returns-in_err-stamp-clause-kept
+returns-in_err-stamp-clause-kept g c =
+    let p = err_from_is_err_and c.from_residual.result c.from_residual.ensures.1 in
+    keeps_all c.args.set.now.commit (units_for 0) c.args.shelf.now c.from_residual.result c.in_err-stamp.field-0.0 (p.1 ∙ ap (λ (r : WriteRefusal). Err r) p.2)
+
+pub returns-clause-kept : goal.returns-clause-kept
+returns-clause-kept g c =
+    subst (λ (n : ℕ). KeepsBy c.args.set.now.commit n c.args.shelf.now c.write_step.new.shelf c.write_step.result) (ap version_units c.tombstone-tombstone.ensures) c.write_step.ensures.kept

@@ -30,6 +30,9 @@ use Rattle.shard_core.proofs.Later.{later_none}
 use Rattle.shard_core.proofs.Making.{setup_fits}
 use Rattle.shard_core.proofs.Deletes.{removes_covered, makes_removed}
 use Rattle.block_shelf.proofs.Surely.{sure_same}
+use Rattle.rec_format.specs.Versions.{units_for}
+use Rattle.std.proofs.lemmas.Bool.{false≢true}
+use Rattle.shard_core.proofs.Keeping.{keeps_as, keeps_refused}
 use Rattle.shard_core.proofs.delete.remove_entry.Goals as goal
 
 pub prove-unreachable-requires : goal.prove-unreachable-requires
@@ -110,3 +113,23 @@ returns-in_err-entomb-clause-sure g c = c.entomb.ensures.sure
 
 pub returns-clause-sure : goal.returns-clause-sure
 returns-clause-sure g c = sure_same g.D.Disk.view c.args.shelf.now c.drop_live.new.self c.drop_live.ensures.disk c.drop_live.ensures.gates
+
+pub returns-clause-kept : goal.returns-clause-kept
+returns-clause-kept g c = (
+  λ bare. c.drop_live.ensures.cache,
+  λ covered. absurd (false≢true (sym (sym c.delete_writes.ensures ∙ c.if-delete_writes.false) ∙ covered)),
+)
+
+pub returns-then-delete_writes-clause-kept : goal.returns-then-delete_writes-clause-kept
+returns-then-delete_writes-clause-kept g c = (
+  λ bare. absurd (false≢true (sym bare ∙ sym c.delete_writes.ensures ∙ c.if-delete_writes.true)),
+  λ covered. keeps_as c.args.set.now.commit (units_for 0) c.args.shelf.now c.entomb.new.shelf c.entomb.result (tt {0}) _ c.in_ok-entomb.was c.entomb.ensures.kept,
+)
+
+pub returns-in_err-entomb-clause-kept : goal.returns-in_err-entomb-clause-kept
+returns-in_err-entomb-clause-kept g c =
+    let p = err_from_is_err_and c.from_residual.result c.from_residual.ensures.1 in (
+      λ bare. absurd (false≢true (sym bare ∙ sym c.delete_writes.ensures ∙ c.if-delete_writes.true)),
+      λ covered. keeps_refused c.args.set.now.commit (units_for 0) c.args.shelf.now c.entomb.new.shelf c.entomb.result c.from_residual.result c.in_err-entomb.field-0.0 c.in_err-entomb.was
+          (p.1 ∙ ap (λ (r : WriteRefusal). Err r) p.2) c.entomb.ensures.kept,
+    )

@@ -27,3 +27,6 @@ returns-clause-quiet g c quiet = by c.flush_up_to.result c.flush_up_to.ensures.a
 
 pub returns-clause-sure : goal.returns-clause-sure
 returns-clause-sure g c = c.flush_up_to.ensures.sure
+
+pub returns-clause-kept : goal.returns-clause-kept
+returns-clause-kept g c = c.flush_up_to.ensures.kept

@@ -12,6 +12,7 @@ use Rattle.shard_core.proofs.Later.{later_none, later_then, shape_then}
 use Rattle.shard_core.proofs.FlushLoop.{Stepped, Fewer, fits_before, one_fewer, setup_stays, went_on, went_all, went_through, went_stopped, quiet_on, most_on}
 use Rattle.shard_core.proofs.FlushLoop.{ends_on, all_gone, whole_still, stays_some, stays_quiet, where_err, where_ok, on_err, rose_since}
 use Rattle.block_shelf.proofs.Surely.{sure_none, sure_then}
+use Rattle.shard_core.proofs.Keeping.{flushes_none, flushes_more, flushes_stopped, flushes_here}
 use Rattle.shard_core.proofs.flush.flush_up_to.Goals as goal
 
 pub loop-number-init : goal.loop-number-init
@@ -31,6 +32,7 @@ loop-number-init g c =
       whole = inl refl;
       quiet = λ quiet. quiet;
       sure = sure_none g.D.Disk.view old old refl;
+      kept = flushes_none old;
       later = later_none g.D.Disk.view old.disk now;
       honest = λ honest. honest;
       shape = record { geometry = refl; limits = refl; raid = refl };
@@ -91,6 +93,12 @@ returns-in_err-number-clause-honest g c honest = c.flush_step.ensures.honest (c.
 pub returns-in_err-number-clause-shape : goal.returns-in_err-number-clause-shape
 returns-in_err-number-clause-shape g c = shape_then c.args.shelf.now c.loop-number.shelf c.flush_step.new.self c.loop-number.invariant.shape c.flush_step.ensures.shape
 
+pub returns-in_err-number-clause-kept : goal.returns-in_err-number-clause-kept
+returns-in_err-number-clause-kept g c =
+    let mid : ShelfView g.row.D.Denot = c.loop-number.shelf in
+    let new : ShelfView g.row.D.Denot = c.flush_step.new.self in
+    flushes_stopped c.args.shelf.now mid new c.loop-number.invariant.kept (subst (λ (r : Result (Option ℕ) DiskFault). OnErr r (FirstStays mid new)) c.in_err-number.was c.flush_step.ensures.left)
+
 -- ---- one more
 
 pub loop-number-preserved : goal.loop-number-preserved
@@ -114,6 +122,7 @@ loop-number-preserved g c =
       whole = inr (whole_still g.D.Disk.view old mid c.loop-number.invariant.whole c.flush_step.ensures.whole);
       quiet = λ quiet. quiet_on c.in-Some.number mid new (c.loop-number.invariant.quiet quiet) leaves;
       sure = sure_then g.D.Disk.view old mid new c.loop-number.invariant.sure c.flush_step.ensures.sure;
+      kept = flushes_more c.in-Some.number old mid new c.loop-number.invariant.kept leaves;
       later = later_then g.D.Disk.view old.disk mid.disk new.disk c.loop-number.invariant.later c.flush_step.ensures.later;
       honest = λ honest. c.flush_step.ensures.honest (c.loop-number.invariant.honest honest);
       shape = shape_then old mid new c.loop-number.invariant.shape c.flush_step.ensures.shape;
@@ -174,6 +183,14 @@ returns-then-number-last-clause-honest g c honest = c.flush_step.ensures.honest 
 pub returns-then-number-last-clause-shape : goal.returns-then-number-last-clause-shape
 returns-then-number-last-clause-shape g c = shape_then c.args.shelf.now c.loop-number.shelf c.flush_step.new.self c.loop-number.invariant.shape c.flush_step.ensures.shape
 
+pub returns-then-number-last-clause-kept : goal.returns-then-number-last-clause-kept
+returns-then-number-last-clause-kept g c =
+    let mid : ShelfView g.row.D.Denot = c.loop-number.shelf in
+    let new : ShelfView g.row.D.Denot = c.flush_step.new.self in
+    let is_some : c.flush_step.result ≡ Ok (Some c.in-Some.number) = c.in_ok-number.was ∙ ap (λ (o : Option ℕ). Ok o) c.in-Some.is in
+    let leaves : FirstLeaves c.in-Some.number mid new = subst (λ (r : Result (Option ℕ) DiskFault). Fewer r mid new) is_some c.flush_step.ensures.first in
+    flushes_here c.args.shelf.now new new (flushes_more c.in-Some.number c.args.shelf.now mid new c.loop-number.invariant.kept leaves) refl
+
 -- ---- no more
 
 pub returns-in_default-clause-flushed : goal.returns-in_default-clause-flushed
@@ -233,3 +250,9 @@ returns-then-number-last-clause-sure g c = sure_then g.D.Disk.view c.args.shelf.
 
 pub returns-in_default-clause-sure : goal.returns-in_default-clause-sure
 returns-in_default-clause-sure g c = sure_then g.D.Disk.view c.args.shelf.now c.loop-number.shelf c.flush_step.new.self c.loop-number.invariant.sure c.flush_step.ensures.sure
+
+pub returns-in_default-clause-kept : goal.returns-in_default-clause-kept
+returns-in_default-clause-kept g c =
+    let is_none : c.flush_step.result ≡ Ok None = c.in_ok-number.was ∙ ap (λ (o : Option ℕ). Ok o) c.in_default.is in
+    let same : c.flush_step.new.self ≡ c.loop-number.shelf = subst (λ (r : Result (Option ℕ) DiskFault). Fewer r c.loop-number.shelf c.flush_step.new.self) is_none c.flush_step.ensures.first in
+    flushes_here c.args.shelf.now c.loop-number.shelf c.flush_step.new.self c.loop-number.invariant.kept same

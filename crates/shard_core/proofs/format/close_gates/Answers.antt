@@ -1,7 +1,7 @@
-use Rattle.std.proofs.Common.{ℕ, inl, arith, rules, below_more}
-use Rattle.block_format.specs.Layout.{IsClosed, gate_sector}
+use Rattle.std.proofs.Common.{◌≡◌, ℕ, inl, arith, rules, below_more}
+use Rattle.block_format.specs.Layout.{gate_sector, closed_sector}
 use Rattle.cold_scan.proofs.Room.{size_bounds}
-use Rattle.shard_core.proofs.Formats.{closes, gate_written, stays_closed, gates_apart, header_stays}
+use Rattle.shard_core.proofs.Formats.{gate_written, stays_zeros, gates_apart, header_stays}
 use Rattle.shard_core.proofs.format.close_gates.Goals as goal
 
 pub write_at-requires : goal.write_at-requires
@@ -9,13 +9,13 @@ write_at-requires g c = omega (arith, (size_bounds c.args.geometry.now c.require
 
 pub loop-block-preserved : goal.loop-block-preserved
 loop-block-preserved g c = record {
-  closed = λ told.
+  zeros = λ told.
       let now = c.loop-block.invariant.told told in
       let write = gate_written c.args.geometry.now c.loop-block.block _ _ c.write_closed.new.sector c.start_of_block.result c.write_closed.ensures c.start_of_block.ensures.place
       (c.in_ok-write_at.ensures.written now) in
-      below_more (λ (k : ℕ). IsClosed (gate_sector c.args.geometry.now k (g.D.Disk.view c.write_at.new.self).seen)) _
-      (λ k lt. stays_closed c.args.geometry.now _ _ _ k write.torn (inl (gates_apart c.args.geometry.now k c.loop-block.block c.requires.geometry lt)) (c.loop-block.invariant.closed told k lt))
-      (closes c.args.geometry.now c.loop-block.block _ write.there);
+      below_more (λ (k : ℕ). gate_sector c.args.geometry.now k (g.D.Disk.view c.write_at.new.self).seen ≡ closed_sector) _
+      (λ k lt. stays_zeros c.args.geometry.now _ _ _ k write.torn (inl (gates_apart c.args.geometry.now k c.loop-block.block c.requires.geometry lt)) (c.loop-block.invariant.zeros told k lt))
+      write.there;
   told = λ told. (c.write_at.ensures.bytes (c.loop-block.invariant.told told)).0;
   honest = λ honest. c.write_at.ensures.call.honest (c.loop-block.invariant.honest honest);
   header = header_stays _ _ _ (g.met.D.Disk.is_disk c.loop-block.disk) (g.D.Disk.view c.args.disk.now).may_leave _ _

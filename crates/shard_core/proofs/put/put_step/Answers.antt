@@ -1,4 +1,4 @@
-use Rattle.std.proofs.Common.{◌≡◌, ℕ, Bool, length, refl, sym, ap, ◌∙◌, subst, arith, inr, true}
+use Rattle.std.proofs.Common.{◌≡◌, ℕ, Bool, length, refl, sym, ap, ◌∙◌, subst, arith, inl, inr, true}
 use Rattle.block_shelf.proofs.Roomed.{room_none}
 use Rattle.std.specs.Prelude.{Option, Some, None, Result, Ok, Err, IfOk, ◌⊎◌, IfErr}
 use Rattle.std.proofs.lemmas.Bool.{false≢true}
@@ -6,7 +6,7 @@ use Rattle.std.proofs.lemmas.Result.{err_from_is_err_and}
 use Rattle.rec_format.specs.declared.entry.Entry.{Entry}
 use Rattle.rec_format.specs.declared.version.Stamp.{Stamp}
 use Rattle.rec_format.specs.declared.version.Version.{Version}
-use Rattle.rec_format.specs.Versions.{IsVersion, a_put, new_stamp, void_time, block_capacity}
+use Rattle.rec_format.specs.Versions.{IsVersion, a_put, new_stamp, void_time, block_capacity, units_for, version_units}
 use Rattle.model_device.specs.Book.{Setup}
 use Rattle.model_device.specs.Device.{part_of}
 use Rattle.model_device.specs.Events.{put_call, stamp_given, refused}
@@ -21,6 +21,8 @@ use Rattle.shard_core.specs.View.{setup_for}
 use Rattle.shard_core.specs.Calls.{cause_of_write, write_answer, IsRefusedStep}
 use Rattle.law_steps.specs.Events.{StepMakes}
 use Rattle.shard_core.specs.Writing.{IsWriteOf, IsFit, IsUnfit, written_answer}
+use Rattle.shard_core.specs.Keeping.{KeepsBy}
+use Rattle.shard_core.proofs.Keeping.{keeps_all}
 use Rattle.shard_core.proofs.Later.{later_none}
 use Rattle.shard_core.proofs.Puts.{stamp_fine, unfit_refusal, spent_refusal, put_writes, stands_against, memory_wants, makes_nothing, unfit_left}
 use Rattle.block_shelf.proofs.Surely.{sure_none}
@@ -227,3 +229,22 @@ returns-in_default-clause-sure g c = sure_none g.D.Disk.view c.args.shelf.now c.
 
 pub returns-clause-sure : goal.returns-clause-sure
 returns-clause-sure g c = c.write_step.ensures.sure
+
+-- ---- what is kept
+
+pub returns-in_err-check_put-clause-kept : goal.returns-in_err-check_put-clause-kept
+returns-in_err-check_put-clause-kept g c =
+    let p = err_from_is_err_and c.from_residual.result c.from_residual.ensures.1 in
+    keeps_all c.args.set.now.commit (units_for (length c.args.payload.now)) c.args.shelf.now c.from_residual.result c.in_err-check_put.field-0.0 (p.1 ∙ ap (λ (r : WriteRefusal). Err r) p.2)
+
+pub returns-in_err-stamp-clause-kept : goal.returns-in_err-stamp-clause-kept
+returns-in_err-stamp-clause-kept g c =
+    let p = err_from_is_err_and c.from_residual-in_err-stamp.result c.from_residual-in_err-stamp.ensures.1 in
+    keeps_all c.args.set.now.commit (units_for (length c.args.payload.now)) c.args.shelf.now c.from_residual-in_err-stamp.result c.in_err-stamp.field-0.0 (p.1 ∙ ap (λ (r : WriteRefusal). Err r) p.2)
+
+pub returns-in_default-clause-kept : goal.returns-in_default-clause-kept
+returns-in_default-clause-kept g c = inl refl
+
+pub returns-clause-kept : goal.returns-clause-kept
+returns-clause-kept g c =
+    subst (λ (n : ℕ). KeepsBy c.args.set.now.commit n c.args.shelf.now c.write_step.new.shelf c.write_step.result) (ap version_units (c.in-Ok.ensures {u = tt})) c.write_step.ensures.kept

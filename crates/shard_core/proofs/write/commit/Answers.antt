@@ -11,6 +11,7 @@ use Rattle.shard_core.proofs.Committing.{has_buffer, number_is, ends_there}
 use Rattle.shard_core.proofs.FlushLoop.{setup_stays}
 use Rattle.shard_core.proofs.Writes.{committed, commits_from}
 use Rattle.block_shelf.proofs.Surely.{sure_none, sure_same, sure_then}
+use Rattle.shard_core.proofs.Keeping.{flushes_nothing, flushes_sealed}
 use Rattle.shard_core.proofs.write.commit.Goals as goal
 
 pub returns-in_default-clause-committed : goal.returns-in_default-clause-committed
@@ -58,3 +59,16 @@ pub returns-in-Err-clause-sure : goal.returns-in-Err-clause-sure
 returns-in-Err-clause-sure g c =
     sure_then g.D.Disk.view c.args.shelf.now c.seal_for.new.self c.flush_up_to.new.shelf
     (sure_same g.D.Disk.view c.args.shelf.now c.seal_for.new.self c.seal_for.ensures.disk c.seal_for.ensures.gates) c.flush_up_to.ensures.sure
+
+pub returns-in_default-clause-kept : goal.returns-in_default-clause-kept
+returns-in_default-clause-kept g c setup s b is stands found at = flushes_nothing c.args.shelf.now
+
+pub returns-in-Ok-clause-kept : goal.returns-in-Ok-clause-kept
+returns-in-Ok-clause-kept g c setup s b is stands found at =
+    flushes_sealed g.D.Disk.view setup s c.args.shelf.now c.seal_for.new.self c.flush_up_to.new.shelf stands (c.seal_for.ensures.sealed setup s client b is stands found at)
+    c.seal_for.ensures.cache c.flush_up_to.ensures.kept
+
+pub returns-in-Err-clause-kept : goal.returns-in-Err-clause-kept
+returns-in-Err-clause-kept g c setup s b is stands found at =
+    flushes_sealed g.D.Disk.view setup s c.args.shelf.now c.seal_for.new.self c.flush_up_to.new.shelf stands (c.seal_for.ensures.sealed setup s client b is stands found at)
+    c.seal_for.ensures.cache c.flush_up_to.ensures.kept

@@ -14,10 +14,13 @@ use Rattle.block_shelf.specs.View.{IsSetupOf}
 use Rattle.block_shelf.specs.Calls.{Goes}
 use Rattle.shard_core.specs.declared.refusals.WriteRefusal.{WriteRefusal}
 use Rattle.shard_core.specs.declared.refusals.WriteRefusal.TheVariants as write
+use Rattle.rec_format.specs.Versions.{version_units}
 use Rattle.shard_core.specs.View.{setup_for}
 use Rattle.law_steps.specs.Events.{StepMakes}
 use Rattle.shard_core.specs.Writing.{Wrote, Commits, written_answer}
 use Rattle.shard_core.proofs.FlushLoop.{rose_since, setup_stays}
+use Rattle.shard_core.specs.Keeping.{KeepsBy}
+use Rattle.shard_core.proofs.Keeping.{keeps_flush, written_off, written_on, left_keeps}
 use Rattle.shard_core.proofs.Later.{later_then, shape_then}
 use Rattle.shard_core.proofs.Making.{setup_fits}
 use Rattle.shard_core.proofs.Writes.{makes_unwritten, makes_waiting, ends_done, ends_faulted}
@@ -187,3 +190,52 @@ returns-in_err-commit-clause-sure g c = sure_then g.D.Disk.view c.args.shelf.now
 
 pub returns-clause-sure : goal.returns-clause-sure
 returns-clause-sure g c = sure_then g.D.Disk.view c.args.shelf.now c.append_entry.new.shelf c.commit.new.shelf c.append_entry.ensures.sure c.commit.ensures.sure
+
+-- ---- what is kept
+
+pub returns-in_err-block-clause-kept : goal.returns-in_err-block-clause-kept
+returns-in_err-block-clause-kept g c =
+    let refusal : WriteRefusal = c.in_err-block.field-0.0 in
+    let p = err_from_is_err_and c.from_residual.result c.from_residual.ensures.1 in
+    let same : c.from_residual.result ≡ Err refusal = p.1 ∙ ap (λ (r : WriteRefusal). Err r) p.2 in
+    subst (λ (r : Result Stamp WriteRefusal). KeepsBy c.args.set.now.commit (version_units c.args.version.now) c.args.shelf.now c.append_entry.new.shelf r) (sym same)
+    (inl (left_keeps c.args.shelf.now c.append_entry.new.shelf refusal (c.in_err-block.ensures {u = tt}).refused.shelf))
+
+pub returns-then-not-set-clause-kept : goal.returns-then-not-set-clause-kept
+returns-then-not-set-clause-kept g c =
+    written_off c.args.set.now.commit (version_units c.args.version.now) c.args.shelf.now c.append_entry.new.shelf c.if-not-set.true (c.in_ok-block.ensures {u = tt}).kept
+
+pub returns-in_err-commit-clause-kept : goal.returns-in_err-commit-clause-kept
+returns-in_err-commit-clause-kept g c =
+    let setup : Setup = setup_for c.args.shelf.now.geometry c.args.set.now in
+    let is : IsSetupOf setup c.args.shelf.now = setup_fits c.args.shelf.now c.args.set.now c.requires.limits in
+    let units = version_units c.args.version.now in
+    let s : State = c.requires.stand.0 in
+    let it : Wrote g.D.Disk.view setup s c.args.class c.args.digest.now c.args.version.now c.in_ok-block.block c.args.shelf.now c.append_entry.new.sprig c.append_entry.new.shelf =
+    (c.in_ok-block.ensures {u = tt}).wrote setup s is c.requires.stand.1 in
+    let t : State = after_step setup (wrote c.args.digest.now c.args.version.now) s in
+    let kept = c.commit.ensures.kept setup t it.buffer (setup_stays setup c.args.shelf.now c.append_entry.new.shelf c.append_entry.ensures.shape is) it.stands.shelf_stands.stands it.filling
+    it.there in
+    let p = err_from_is_err_and c.from_residual-in_err-commit.result c.from_residual-in_err-commit.ensures.1 in
+    let same : c.from_residual-in_err-commit.result ≡ Err write.Fault = p.1 ∙ ap (λ (r : WriteRefusal). Err r) (p.2 ∙ (c.in_err-commit.ensures {u = tt}).fault) in
+    subst (λ (r : Result Stamp WriteRefusal). KeepsBy c.args.set.now.commit units c.args.shelf.now c.commit.new.shelf r) (sym same)
+    (inr (
+      refl,
+      c.if-not-set.false,
+      written_on c.args.set.now.commit units c.args.shelf.now c.commit.new.shelf c.if-not-set.false
+          (keeps_flush units c.args.shelf.now c.append_entry.new.shelf c.commit.new.shelf (c.in_ok-block.ensures {u = tt}).kept kept),
+    ))
+
+pub returns-clause-kept : goal.returns-clause-kept
+returns-clause-kept g c =
+    let setup : Setup = setup_for c.args.shelf.now.geometry c.args.set.now in
+    let is : IsSetupOf setup c.args.shelf.now = setup_fits c.args.shelf.now c.args.set.now c.requires.limits in
+    let units = version_units c.args.version.now in
+    let s : State = c.requires.stand.0 in
+    let it : Wrote g.D.Disk.view setup s c.args.class c.args.digest.now c.args.version.now c.in_ok-block.block c.args.shelf.now c.append_entry.new.sprig c.append_entry.new.shelf =
+    (c.in_ok-block.ensures {u = tt}).wrote setup s is c.requires.stand.1 in
+    let t : State = after_step setup (wrote c.args.digest.now c.args.version.now) s in
+    let kept = c.commit.ensures.kept setup t it.buffer (setup_stays setup c.args.shelf.now c.append_entry.new.shelf c.append_entry.ensures.shape is) it.stands.shelf_stands.stands it.filling
+    it.there in
+    written_on c.args.set.now.commit units c.args.shelf.now c.commit.new.shelf c.if-not-set.false
+    (keeps_flush units c.args.shelf.now c.append_entry.new.shelf c.commit.new.shelf (c.in_ok-block.ensures {u = tt}).kept kept)

@@ -16,6 +16,8 @@ use Rattle.shard_core.proofs.Making.{whole_made, step_stands, lifted, sprigs_sam
 use Rattle.shard_core.proofs.Tallies.{tally_behind}
 use Rattle.shard_core.proofs.shard.Shard.bury.Given.{Over}
 use Rattle.block_shelf.specs.Sure.{StaysSure}
+use Rattle.shard_core.specs.Keeping.{KeepsBy}
+use Rattle.rec_format.specs.Versions.{units_for}
 use Rattle.shard_core.proofs.shard.Shard.bury.Goals as goal
 
 pub bury_step-answer-requires-clause-stand : goal.bury_step-answer-requires-clause-stand
@@ -162,3 +164,7 @@ returns-clause-refused g c =
 pub returns-clause-sure : goal.returns-clause-sure
 returns-clause-sure g c =
     subst (λ (v : ShardView g.row.D.Denot). StaysSure g.D.Disk.view v.shelf c.bury_step-answer.new.shelf) c.self.view_is c.bury_step-answer.ensures.sure
+
+pub returns-clause-kept : goal.returns-clause-kept
+returns-clause-kept g c =
+    subst (λ (v : ShardView g.row.D.Denot). KeepsBy v.set.commit (units_for 0) v.shelf c.bury_step-answer.new.shelf c.bury_step-answer.result) c.self.view_is c.bury_step-answer.ensures.kept

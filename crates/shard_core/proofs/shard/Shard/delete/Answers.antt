@@ -19,6 +19,8 @@ use Rattle.shard_core.proofs.Making.{whole_made, step_stands, lifted, held_at, s
 use Rattle.shard_core.proofs.Tallies.{tally_behind}
 use Rattle.shard_core.proofs.shard.Shard.delete.Given.{Over}
 use Rattle.block_shelf.specs.Sure.{StaysSure}
+use Rattle.shard_core.specs.Keeping.{KeepsBy}
+use Rattle.rec_format.specs.Versions.{units_for}
 use Rattle.shard_core.proofs.shard.Shard.delete.Goals as goal
 
 pub delete_step-answer-requires-clause-stand : goal.delete_step-answer-requires-clause-stand
@@ -184,3 +186,23 @@ returns-clause-bare g c =
 pub returns-clause-sure : goal.returns-clause-sure
 returns-clause-sure g c =
     subst (λ (v : ShardView g.row.D.Denot). StaysSure g.D.Disk.view v.shelf c.delete_step-answer.new.shelf) c.self.view_is c.delete_step-answer.ensures.sure
+
+pub returns-clause-kept : goal.returns-clause-kept
+returns-clause-kept g c =
+    let old : ShardView g.row.D.Denot = record { shelf = c.self.inside.shelf; set = c.self.inside.set; sprigs = c.self.inside.sprigs.items } in
+    let new : ShardView g.row.D.Denot = record {
+      shelf = c.delete_step-answer.new.shelf;
+      set = c.self.inside.set;
+      sprigs =
+          set c.self.inside.sprigs.items c.part_of-part.result c.delete_step-answer.new.sprig;
+    } in
+    let place : c.part_of-part.result ≡ part_of (setup_of old) c.args.digest.now = c.part_of-part.ensures.part
+    ∙ ap (λ (v : ShardView g.row.D.Denot). part_of (setup_of v) c.args.digest.now) (sym c.self.view_is) in
+    let there : c.part_of-part.result < length old.sprigs = subst (λ (v : ShardView g.row.D.Denot). c.part_of-part.result < length v.sprigs) (sym c.self.view_is) c.part_of-part.ensures.there in
+    let shape : SameSetup old new = record { geometry = c.delete_step-answer.ensures.shape.geometry; set = refl } in
+    let same = ap (λ (o : Option Entry). cover_of (seen_entry c.args.now o))
+    (sym (held_at g.D.Disk.view c.args.digest.now old new c.part_of-part.result c.index_mut.result.now c.delete_step-answer.new.sprig shape place there c.index_mut.ensures.value refl)) in
+    subst (λ (v : ShardView g.row.D.Denot). (cover_of (seen_entry c.args.now (held (setup_of v) c.args.digest.now v.sprigs)) ≡ false → c.delete_step-answer.new.shelf.cache ≡ v.shelf.cache)
+    × (cover_of (seen_entry c.args.now (held (setup_of v) c.args.digest.now v.sprigs)) ≡ true
+    → KeepsBy v.set.commit (units_for 0) v.shelf c.delete_step-answer.new.shelf c.delete_step-answer.result)) c.self.view_is
+    (λ bare. c.delete_step-answer.ensures.kept.0 (same ∙ bare), λ covered. c.delete_step-answer.ensures.kept.1 (same ∙ covered))

@@ -12,6 +12,8 @@ use Rattle.shard_core.specs.Stands.{Agrees}
 use Rattle.shard_core.specs.Calls.{Makes, flush_answer}
 use Rattle.block_shelf.proofs.Going.{goes_then}
 use Rattle.shard_core.proofs.FlushLoop.{setup_stays}
+use Rattle.shard_core.specs.Keeping.{FlushesFront}
+use Rattle.shard_core.proofs.Keeping.{flushes_front}
 use Rattle.shard_core.proofs.Making.{setup_is, makes_flush, whole_made}
 use Rattle.law_steps.proofs.Making.{seal_all_flushing}
 use Rattle.shard_core.proofs.shard.Shard.flush.Given.{Over}
@@ -63,3 +65,12 @@ returns-clause-sure g c =
     (sure_then g.D.Disk.view c.self.inside.shelf c.seal_streams.new.self c.flush_sealed.new.shelf
     (sure_same g.D.Disk.view c.self.inside.shelf c.seal_streams.new.self c.seal_streams.ensures.disk c.seal_streams.ensures.gates)
     c.flush_sealed.ensures.sure)
+
+pub returns-clause-kept : goal.returns-clause-kept
+returns-clause-kept g c =
+    subst (λ (v : ShardView g.row.D.Denot). FlushesFront v.shelf c.flush_sealed.new.shelf) c.self.view_is
+    (let old : ShardView g.row.D.Denot = record { shelf = c.self.inside.shelf; set = c.self.inside.set; sprigs = c.self.inside.sprigs.items } in
+    let stands = c.self.invariant.whole.stands in
+    flushes_front g.D.Disk.view (setup_of old) stands.0 c.self.inside.shelf c.seal_streams.new.self c.flush_sealed.new.shelf stands.1.shelf.stands
+    (c.seal_streams.ensures.sealed (setup_of old) stands.0 (setup_is old c.self.invariant.whole) stands.1.shelf.stands) c.seal_streams.ensures.cache c.seal_streams.ensures.none_filling
+    c.flush_sealed.ensures.kept)

@@ -133,3 +133,7 @@ pub returns-clause-sure : goal.returns-clause-sure
 returns-clause-sure g c =
     subst (λ (v : ShardView g.row.D.Denot). StaysSure g.D.Disk.view v.shelf c.get_step.new.shelf) c.self.view_is
     (sure_read g.D.Disk.view c.self.inside.shelf c.get_step.new.shelf c.get_step.ensures.disk c.get_step.ensures.shelf)
+
+pub returns-clause-kept : goal.returns-clause-kept
+returns-clause-kept g c =
+    subst (λ (v : ShardView g.row.D.Denot). c.get_step.new.shelf.cache ≡ v.shelf.cache) c.self.view_is (ap (λ (x : ShelfView g.row.D.Denot). x.cache) c.get_step.ensures.shelf)

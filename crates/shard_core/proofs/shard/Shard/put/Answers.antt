@@ -22,6 +22,7 @@ use Rattle.shard_core.proofs.Making.{whole_made, step_stands, lifted, sprigs_sam
 use Rattle.shard_core.proofs.Tallies.{tally_behind}
 use Rattle.shard_core.proofs.shard.Shard.put.Given.{Over}
 use Rattle.block_shelf.specs.Sure.{StaysSure}
+use Rattle.shard_core.specs.Keeping.{KeepsBy}
 use Rattle.shard_core.proofs.shard.Shard.put.Goals as goal
 
 pub put_step-answer-requires-clause-stand : goal.put_step-answer-requires-clause-stand
@@ -178,3 +179,8 @@ returns-clause-refused g c =
 pub returns-clause-sure : goal.returns-clause-sure
 returns-clause-sure g c =
     subst (λ (v : ShardView g.row.D.Denot). StaysSure g.D.Disk.view v.shelf c.put_step-answer.new.shelf) c.self.view_is c.put_step-answer.ensures.sure
+
+pub returns-clause-kept : goal.returns-clause-kept
+returns-clause-kept g c =
+    subst (λ (v : ShardView g.row.D.Denot). KeepsBy v.set.commit (units_for (length c.args.payload.now)) v.shelf c.put_step-answer.new.shelf c.put_step-answer.result) c.self.view_is
+    c.put_step-answer.ensures.kept

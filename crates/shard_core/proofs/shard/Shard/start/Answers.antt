@@ -94,3 +94,6 @@ returns-in_err-disk-clause-again g c honest old s disk_was set_was device device
 
 pub returns-clause-sure : goal.returns-clause-sure
 returns-clause-sure g c = c.begun.ensures.sure
+
+pub returns-clause-kept : goal.returns-clause-kept
+returns-clause-kept g c = both c.begun.result c.begun.ensures.begun c.begun.ensures.behind (λ shard begins behind. begins.cache) (λ refusal is. tt)
