@@ -1,6 +1,6 @@
 -- A buffer begins behind memory that was taken: what is refused, and what is left.
 use Rattle.std.proofs.Common.{◌≡◌, ◌≢◌, List, [], None, Some, Result, Ok, Err, refl, sym, ◌∙◌, ap, subst, arith}
-use Rattle.std.specs.Prelude.{MatchResult, OnOk, OnErr, IfErr, IsErrAnd}
+use Rattle.std.specs.Prelude.{MatchResult, OnOk, IfErr}
 use Rattle.disk_model.specs.Disk.{DiskView, IsHonest}
 use Rattle.disk_model.specs.Runs.{OneOf, Leaves}
 use Rattle.model_device.specs.Book.{Setup, first_block}
@@ -19,24 +19,6 @@ use Rattle.block_shelf.specs.Calls.{Goes}
 use Rattle.block_shelf.specs.Changes.{SameButRoom, with_begun}
 use Rattle.block_shelf.specs.Appends.{IsAppendRefusal, IsLeftBy, refused_steps, with_first_shut, with_first_unclosed, ready_for}
 use Rattle.block_shelf.proofs.Roomed.{room_placed, room_queued, room_safe, room_disk}
-
-pub err_said : {A E : Type 0} (r : Result A E) (said : E) (P : A → Type 0) (Q : E → Type 0) → IsErrAnd r (λ e. e ≡ said) → Q said → MatchResult r P Q
-err_said (Ok a) said P Q is holds = absurd is
-err_said (Err e) said P Q is holds = subst Q (sym is) holds
-
-pub err_is : {A E : Type 0} (r : Result A E) (said : E) (Q : E → Type 0) → IsErrAnd r (λ e. e ≡ said) → Q said → IfErr r Q
-err_is (Ok a) said Q is holds = tt
-err_is (Err e) said Q is holds = subst Q (sym is) holds
-
--- what holds of an error that was passed on
-pub passed_on : {A E : Type 0} (r : Result A E) (said : E) (P : Result A E → Type 0) → IsErrAnd r (λ e. e ≡ said) → P (Err said) → P r
-passed_on (Ok a) said P is holds = absurd is
-passed_on {E = E} (Err e) said P is holds = subst (λ (x : E). P (Err x)) (sym is) holds
-
--- what holds behind any error
-pub on_err : {A E : Type 0} (r : Result A E) (P : Type 0) → P → OnErr r P
-on_err (Ok a) P holds = tt
-on_err (Err e) P holds = holds
 
 -- only a fault makes a step
 pub unfailed_steps : (refusal : PutRefusal) → refusal ≢ Fault → refused_steps refusal ≡ []

@@ -1,21 +1,18 @@
 -- A buffer between others comes to a later phase, or leaves.
-use Rattle.std.proofs.Common.{◌≡◌, ◌≢◌, ◌⊎◌, inl, inr, ⊎_elim, ℕ, Bool, false, not, ◌&&◌, List, [], ◌∷◌, ◌++◌, length, map, refl, sym, ap, ◌∙◌, subst}
-use Rattle.std.specs.Prelude.{◌==◌, ◌||◌, filter, Contains}
-use Rattle.std.specs.List.{AllByRecursion, list_any, remove}
+use Rattle.std.proofs.Common.{◌≡◌, ◌≢◌, ℕ, Bool, false, not, ◌&&◌, List, [], ◌∷◌, ◌++◌, map, refl, sym, ap, ◌∙◌, subst}
+use Rattle.std.specs.Prelude.{◌==◌, filter}
+use Rattle.std.specs.List.{AllByRecursion}
 use Rattle.std.proofs.lemmas.Bool.{both_ways, cond-true, cond-false, eq-eqb, ne_eqb}
 use Rattle.std.proofs.lemmas.List.{map-append}
-use Rattle.std.proofs.lemmas.List.Elements.{Contains-append_left, Contains-append_right, Contains-append_cases}
+use Rattle.law_lists.proofs.Between.{all_own, all_without, all_instead, map_instead}
+use Rattle.law_lists.proofs.Each.{all_map, all_parted, all_joined, all_before_map, all_to_map}
+use Rattle.law_lists.proofs.Finding.{any_none}
 use Rattle.rec_format.specs.declared.version.Digest.{Digest}
 use Rattle.rec_format.specs.declared.version.Version.{Version}
 use Rattle.model_device.specs.Book.{Book, Buffer, opened_if}
 use Rattle.write_buffer.specs.declared.phase.Phase.{Phase}
 use Rattle.write_buffer.specs.declared.phase.Phase.TheVariants.{GateBegun}
 use Rattle.write_buffer.specs.Buffers.{BufferState, with_phase}
-use Rattle.law_start.proofs.Each.{all_map}
-use Rattle.law_start.proofs.Growing.{cons_cases}
-use Rattle.law_start.proofs.Members.{first_there}
-use Rattle.law_start.proofs.Opening.{all_parted, all_joined}
-use Rattle.law_start.proofs.Placing.{any_none}
 use Rattle.law_trail.specs.Trail.{Records, KeepsRecords, places_of}
 use Rattle.law_trail.specs.Numbers.{AddsNone}
 use Rattle.law_images.specs.Changes.{records_by}
@@ -24,50 +21,6 @@ use Rattle.block_shelf.specs.View.{StandsBefore, StandInOrder, AreApart, is_stre
 use Rattle.block_shelf.specs.Standing.{book_buffer}
 use Rattle.block_shelf.specs.Changes.{has_buffer_in}
 use Rattle.block_shelf.proofs.Filling.{numbers_apart}
-use Rattle.block_shelf.proofs.Sealing.{all_before_map, all_to_map}
-
--- ---- an element between others
-
-module _ {X : Type 0} (P : X → Type 0) where
-  pub all_both : (Q R : X → Type 0) → ((x : X) → P x → Q x → R x) → (xs : List X) → AllByRecursion P xs → AllByRecursion Q xs → AllByRecursion R xs
-  all_both Q R step [] one other = tt
-  all_both Q R step (x ∷ xs) one other = (step x one.0 other.0, all_both Q R step xs one.1 other.1)
-
-  module _ (front : List X) (b : X) (behind : List X) (all : AllByRecursion P (front ++ b ∷ behind)) where
-    pub all_own : P b
-    all_own = (all_parted P front (b ∷ behind) all).1.0
-
-    pub all_without : AllByRecursion P (front ++ behind)
-    all_without = let parts = all_parted P front (b ∷ behind) all in all_joined P front behind parts.0 parts.1.1
-
-  -- another one stands in its place
-  pub all_instead : (front : List X) (b c : X) (behind : List X) → AllByRecursion P (front ++ b ∷ behind) → P c → AllByRecursion P (front ++ c ∷ behind)
-  all_instead front b c behind all own = let parts = all_parted P front (b ∷ behind) all in all_joined P front (c ∷ behind) parts.0 (own, parts.1.1)
-
-  -- it comes between others
-  pub all_with : (front : List X) (b : X) (behind : List X) → AllByRecursion P (front ++ behind) → P b → AllByRecursion P (front ++ b ∷ behind)
-  all_with front b behind all own = let parts = all_parted P front behind all in all_joined P front (b ∷ behind) parts.0 (own, parts.1)
-
-pub own_there : {X : Type 0} (front : List X) (b : X) (behind : List X) → Contains (front ++ b ∷ behind) b
-own_there front b behind = Contains-append_right front (b ∷ behind) b (first_there b behind)
-
-pub other_there : {X : Type 0} (front : List X) (b : X) (behind : List X) (c : X) → Contains (front ++ b ∷ behind) c → (b ≡ c) ⊎ Contains (front ++ behind) c
-other_there front b behind c there =
-    ⊎_elim (λ (before : Contains front c). inr (Contains-append_left front behind c before))
-    (λ (more : Contains (b ∷ behind) c). ⊎_elim (λ (same : b ≡ c). inl same) (λ (after : Contains behind c). inr (Contains-append_right front behind c after)) (cons_cases b behind c more))
-    (Contains-append_cases front (b ∷ behind) c there)
-
-pub remove_own : {X : Type 0} (front : List X) (b : X) (behind : List X) → remove (front ++ b ∷ behind) (length front) ≡ front ++ behind
-remove_own [] b behind = refl
-remove_own {X} (x ∷ front) b behind = ap (λ (l : List X). x ∷ l) (remove_own front b behind)
-
-pub map_instead : {X Y : Type 0} (f : X → Y) (front : List X) (b c : X) (behind : List X) → f c ≡ f b → map f (front ++ c ∷ behind) ≡ map f (front ++ b ∷ behind)
-map_instead {X} {Y} f [] b c behind same = ap (λ (y : Y). y ∷ map f behind) same
-map_instead {X} {Y} f (x ∷ front) b c behind same = ap (λ (l : List Y). f x ∷ l) (map_instead f front b c behind same)
-
-pub any_without : {X : Type 0} (p : X → Bool) (front : List X) (b : X) (behind : List X) → p b ≡ false → list_any p (front ++ b ∷ behind) ≡ list_any p (front ++ behind)
-any_without p [] b behind none = ap (λ (t : Bool). t || list_any p behind) none
-any_without p (x ∷ front) b behind none = ap (λ (t : Bool). p x || t) (any_without p front b behind none)
 
 -- ---- numbers in order
 

@@ -5,6 +5,7 @@ use Rattle.std.specs.List.{AllByRecursion}
 use Rattle.std.proofs.lemmas.Bool.{cases_eq}
 use Rattle.std.proofs.lemmas.List.{get_or-set_same, get_or-set_other, length-set}
 use Rattle.std.proofs.lemmas.List.Elements.{Contains-push, Contains-append_left}
+use Rattle.law_lists.proofs.Members.{cons_cases}
 use Rattle.disk_model.specs.Disk.{Images, DiskView, IsDisk, IsHonest, Within, TornFrom, Advances, meanwhile}
 use Rattle.disk_model.specs.Runs.{Leaves, leaves_more}
 use Rattle.rec_format.specs.declared.version.Digest.{Digest}
@@ -17,7 +18,6 @@ use Rattle.block_format.specs.declared.geometry.Gate.TheVariants.{Shut, Set, Uns
 use Rattle.block_format.specs.Layout.{IsRecordAt, body_bytes, block_place, device_end}
 use Rattle.block_flusher.specs.Images.{IsShut, HasOneBody, IsBodyOf}
 use Rattle.law_start.specs.Surviving.{Survives}
-use Rattle.law_start.proofs.Growing.{cons_cases}
 use Rattle.write_buffer.specs.Buffers.{BufferState}
 use Rattle.law_trail.specs.Trail.{Records}
 use Rattle.law_trail.proofs.Books.{live_there}

@@ -1,17 +1,16 @@
 -- How many blocks are held, as the book counts them.
 use Rattle.std.proofs.Common.{◌≡◌, ◌⊎◌, inl, inr, ℕ, Bool, true, false, cond, List, [], ◌∷◌, length, refl, sym, ◌∙◌, ap, subst, arith, nat_eq}
 use Rattle.std.specs.Prelude.{Contains, ◌==◌}
-use Rattle.std.specs.Cmp.{nat_eq_equiv}
+use Rattle.std.specs.Cmp.{nat_eq_equiv, both_ways as same_when}
 use Rattle.std.specs.List.{IsDistinct, list_any}
 use Rattle.std.proofs.lemmas.Bool.{eq-eqb, eqb-true, ne_eqb, false≢true}
 use Rattle.std.proofs.lemmas.Map.Made.{length-from_same_keys}
+use Rattle.law_lists.proofs.Each.{all_from}
+use Rattle.law_lists.proofs.Finding.{any_there, some_at, none_at}
+use Rattle.law_lists.proofs.Members.{cons_cases, first_there, rest_there}
 use Rattle.model_device.specs.Book.{Book, is_in, held_blocks}
-use Rattle.law_start.proofs.Growing.{all_from, cons_cases}
-use Rattle.law_start.proofs.Members.{first_there, rest_there}
-use Rattle.law_trail.proofs.Places.{any_there, some_at, none_at}
 use Rattle.hold_book.specs.Holds.{Holds, CountsHeld}
 use Rattle.block_shelf.specs.Standing.{HoldsSame}
-use Rattle.block_shelf.proofs.StartStates.{same_when}
 
 -- each block of the holds is there once
 held_there : (hs : List (ℕ × ℕ)) (h : ℕ × ℕ) → Contains hs h → Contains (held_blocks hs) h.1

@@ -4,6 +4,8 @@ use Rattle.std.specs.Prelude.{Some, IsSomeAnd, Contains, ◌==◌}
 use Rattle.std.specs.List.{AllByRecursion}
 use Rattle.std.proofs.lemmas.Bool.{both_ways, and_parts, or_cases, cond-false, eqb-true}
 use Rattle.std.proofs.lemmas.List.{append-nil, length-set, length-append}
+use Rattle.law_lists.proofs.Each.{all_from, all_at, all_joined, all_map}
+use Rattle.law_lists.proofs.Members.{map_there, map_from}
 use Rattle.disk_model.specs.Disk.{DiskView, IsDisk, IsHonest}
 use Rattle.disk_model.specs.Runs.{OneOf}
 use Rattle.rec_format.specs.declared.version.Digest.{Digest}
@@ -15,10 +17,6 @@ use Rattle.model_device.specs.Book.{Setup, Buffer, Live, live_of, may_be_free, u
 use Rattle.model_device.specs.Device.{State, entry, history}
 use Rattle.model_device.specs.Steps.{Step, with_item, after_step, states_through}
 use Rattle.law_start.specs.Surviving.{Survives}
-use Rattle.law_start.proofs.Growing.{all_from, all_at}
-use Rattle.law_start.proofs.Members.{map_there, map_from}
-use Rattle.law_start.proofs.Opening.{all_joined}
-use Rattle.law_start.proofs.Each.{all_map}
 use Rattle.write_buffer.specs.Buffers.{BufferState, used_units}
 use Rattle.unit_ledger.specs.declared.roll.LiveCopy.{LiveCopy}
 use Rattle.unit_ledger.specs.Rolls.{BlockRoll, copies_in, copy_at, live_in_block, rolled_use}
@@ -27,6 +25,7 @@ use Rattle.hold_book.specs.Holds.{Holds, IsHeld, has_hold, with_pair, HoldState,
 use Rattle.hold_book.proofs.Laws.{has_hold-with_hold}
 use Rattle.law_trail.specs.Trail.{places_of, IsBooked}
 use Rattle.law_trail.proofs.Books.{live_there, others_live}
+use Rattle.law_trail.proofs.Unchanged.{queued_alike}
 use Rattle.law_facts.specs.Asking.{MayTake}
 use Rattle.law_images.specs.Changes.{is_plain}
 use Rattle.law_images.specs.Kept.{BookInOrder}
@@ -45,7 +44,7 @@ use Rattle.block_shelf.proofs.Dropping.{dropped_book, dropped_buffers, dropped_n
 use Rattle.block_shelf.proofs.Dropping.{dropped_frees, fewer, fewer_own, fewer_units, use_elsewhere}
 use Rattle.block_shelf.proofs.Going.{stays}
 use Rattle.block_shelf.proofs.Keeping.{have_fewer}
-use Rattle.block_shelf.proofs.QueueSteps.{has_buffer_is, marked_as, queue_considered, queued_alike, rolled_is_use}
+use Rattle.block_shelf.proofs.QueueSteps.{has_buffer_is, marked_as, queue_considered, rolled_is_use}
 use Rattle.block_shelf.proofs.Rolls.{same_unit, left_roll, left_packed, no_copies, each_left, left_there, left_from}
 
 -- ---- what every shelf keeps

@@ -3,17 +3,18 @@ use Rattle.std.proofs.Common.{◌≡◌, ◌≢◌, ◌⊎◌, inl, inr, ℕ, �
 use Rattle.std.specs.Prelude.{Contains, filter, ◌==◌}
 use Rattle.std.specs.List.{AllByRecursion}
 use Rattle.std.proofs.lemmas.Bool.{cases_Bool, cond-false, ne_eqb, not-true}
+use Rattle.law_lists.proofs.Each.{all_from, all_at}
+use Rattle.law_lists.proofs.Members.{filter_there, filter_from, first_there, rest_there}
+use Rattle.law_lists.proofs.Ranges.{range_one}
 use Rattle.rec_format.specs.declared.version.Digest.{Digest}
 use Rattle.rec_format.specs.Places.{same_digest}
 use Rattle.rec_format.proofs.Laws.{same_digest_is}
 use Rattle.model_device.specs.Book.{Setup, Book, Live, without_live, may_be_free, is_in, all_blocks, refreshed, dropped_live}
 use Rattle.model_device.specs.Device.{State}
-use Rattle.law_start.proofs.Growing.{all_from, all_at}
-use Rattle.law_start.proofs.Members.{filter_there, filter_from, first_there, rest_there}
 use Rattle.law_trail.specs.Trail.{IsBooked}
 use Rattle.law_trail.proofs.Books.{used_not_free}
 use Rattle.block_shelf.specs.Standing.{HaveOwnDigests, IsListed}
-use Rattle.block_shelf.proofs.Frees.{IsVacant, vacant_from, vacant_is, filter_one, refreshed_free, refreshed_all, updated_more, not_in, is_in_there}
+use Rattle.block_shelf.proofs.Frees.{IsVacant, vacant_from, vacant_is, refreshed_free, refreshed_all, updated_more, not_in, is_in_there}
 use Rattle.block_shelf.proofs.QueueSteps.{own_digests_kept}
 
 -- ---- the book
@@ -140,4 +141,4 @@ module _ (setup : Setup) (s : State) (digest : Digest) (booked : IsBooked s.book
         ∙ updated_more (may_be_free fewer') s.book.free (all_blocks setup) (cond (may_be_free fewer' l.block) (l.block ∷ []) [])
         (all_from (λ b. may_be_free fewer' b ≡ true) s.book.free
         (λ b there. vacant_is fewer' b (still_vacant b (vacant_from s.book b booked.units (all_at (λ k. may_be_free s.book k ≡ true) s.book.free b booked.free there)))))
-        (filter_one come setup.blocks l.block no_other 0 setup.blocks (omega arith) (omega arith) (omega (arith, within)) ∙ ap (λ (x : Bool). cond x (l.block ∷ []) []) come_here)
+        (range_one come l.block 0 setup.blocks (omega arith) (omega (arith, within)) (λ b low lt other. no_other b (omega (arith, lt)) other) ∙ ap (λ (x : Bool). cond x (l.block ∷ []) []) come_here)

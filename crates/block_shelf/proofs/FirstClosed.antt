@@ -3,6 +3,8 @@ use Rattle.std.proofs.Common.{◌≡◌, ◌≢◌, ℕ, ◌<◌, List, [], ◌�
 use Rattle.std.specs.Prelude.{Contains, slice_set}
 use Rattle.std.specs.List.{AllByRecursion}
 use Rattle.std.proofs.lemmas.List.{get_or-set_same, set-get_or}
+use Rattle.law_lists.proofs.Each.{all_map, all_joined, all_parted, all_before_map}
+use Rattle.law_lists.proofs.Members.{first_there}
 use Rattle.disk_model.specs.Disk.{DiskView, IsDisk, IsHonest, TornFrom, meanwhile}
 use Rattle.disk_model.specs.Runs.{leaves_more, one_of_front}
 use Rattle.model_device.specs.Book.{Setup, first_block, first_to_back}
@@ -12,9 +14,6 @@ use Rattle.block_format.specs.declared.geometry.Gate.{Gate}
 use Rattle.block_format.specs.declared.geometry.Gate.TheVariants.{Shut, Set, Unsure}
 use Rattle.block_format.specs.Layout.{block_place}
 use Rattle.law_start.specs.Surviving.{Survives}
-use Rattle.law_start.proofs.Each.{all_map}
-use Rattle.law_start.proofs.Members.{first_there}
-use Rattle.law_start.proofs.Opening.{all_joined, all_parted}
 use Rattle.write_buffer.specs.Buffers.{BufferState}
 use Rattle.post_cache.specs.Bodies.{CacheState}
 use Rattle.hold_book.specs.Holds.{IsHeld}
@@ -27,7 +26,6 @@ use Rattle.block_shelf.specs.Calls.{Goes}
 use Rattle.block_shelf.specs.Changes.{with_gate_known}
 use Rattle.block_shelf.specs.Appends.{with_first_shut, with_first_unclosed}
 use Rattle.block_shelf.proofs.Blocks.{apart_from, apart_push}
-use Rattle.block_shelf.proofs.Sealing.{all_before_map}
 use Rattle.block_shelf.proofs.InNew.{first_and_rest}
 use Rattle.block_shelf.proofs.Closing.{gate_shelf, goes_shut, goes_unsure, passed_stands, passed_queued, passed_placed, passed_safe}
 use Rattle.block_shelf.proofs.Roomed.{goes_nowhere}

@@ -4,10 +4,10 @@ use Rattle.std.specs.Prelude.{Option, Some, None, MatchOption, slice_index_or, s
 use Rattle.std.specs.List.{AllByRecursion, AllWithin, HoldsAt, remove}
 use Rattle.std.proofs.lemmas.List.Elements.{All-from_all_within, recursion_from_All}
 use Rattle.std.proofs.Math.Seq.{set-append_seam, get_or-append_seam}
+use Rattle.law_lists.proofs.Between.{remove_own}
 use Rattle.write_buffer.specs.Buffers.{BufferState}
 use Rattle.block_shelf.specs.View.{is_unsealed}
 use Rattle.block_shelf.specs.Flushes.{IsFirstAt}
-use Rattle.block_shelf.proofs.Between.{remove_own}
 
 module _ (at : ℕ) (buffers : List BufferState) (first : IsFirstAt at buffers) where
   -- it is what is found at its place

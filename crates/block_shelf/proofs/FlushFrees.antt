@@ -1,26 +1,23 @@
 -- A flushed buffer leaves the book: the blocks that nothing keeps any more come to the free ones.
-use Rattle.std.proofs.Common.{◌≡◌, ◌≢◌, ℕ, Bool, true, not, ◌&&◌, List, [], ◌∷◌, ◌++◌, refl, sym, ◌∙◌, ap, subst}
+use Rattle.std.proofs.Common.{◌≡◌, ◌≢◌, ℕ, Bool, true, not, ◌&&◌, List, ◌++◌, refl, sym, ◌∙◌, ap, subst}
 use Rattle.std.specs.Prelude.{filter, Contains, ◌==◌}
 use Rattle.std.proofs.lemmas.Bool.{eq-eqb, ne_eqb, both_ways, not-true}
+use Rattle.law_lists.proofs.Each.{all_from, all_at}
+use Rattle.law_lists.proofs.Filters.{map_kept}
+use Rattle.law_lists.proofs.Members.{filter_there, filter_from}
 use Rattle.model_device.specs.Book.{Setup, Book, Live, may_be_free, is_in, all_blocks, refreshed, with_flushed}
 use Rattle.model_device.specs.Device.{State}
 use Rattle.model_device.specs.Steps.{flushed_buffer, after_step}
-use Rattle.law_start.proofs.Growing.{all_from, all_at}
-use Rattle.law_start.proofs.Members.{filter_there, filter_from}
 use Rattle.law_trail.specs.Trail.{places_of, IsBooked}
-use Rattle.law_trail.proofs.Flushing.{map_kept}
 use Rattle.law_trail.proofs.Placing.{place}
+use Rattle.law_trail.proofs.Unchanged.{without_buffer, free_still}
 use Rattle.block_shelf.specs.Standing.{IsListed, HaveOwnDigests}
-use Rattle.block_shelf.proofs.Frees.{IsVacant, vacant_from, vacant_is, refreshed_free, refreshed_all, updated_more}
+use Rattle.block_shelf.proofs.Frees.{refreshed_free, refreshed_all, updated_more}
 
 module _ (setup : Setup) (s : State) (number : ℕ) where
   -- the book without the buffer and its holds
   abbrev pub left : Book
-  left = record s.book {
-    buffers = filter (λ b. not (b.number == number)) s.book.buffers;
-    holds = filter (λ h. not (h.0 == number)) s.book.holds;
-    flushed_numbers = s.book.flushed_numbers ++ number ∷ [];
-  }
+  left = without_buffer number s.book
 
   abbrev pub after : State
   after = after_step setup (flushed_buffer number) s
@@ -73,9 +70,6 @@ module _ (setup : Setup) (s : State) (number : ℕ) where
       let two = filter_from (λ (h : ℕ × ℕ). not (h.0 == number)) s.book.holds (n, block) there in
       (two.0, λ same. both_ways (n == number) (not-true (n == number) two.1) (eq-eqb n number same))
 
-  still_vacant : (b : ℕ) → IsVacant s.book b → IsVacant left b
-  still_vacant b vacant = record { places = λ n there. vacant.places n (was_place n b there); live = vacant.live; holds = λ n there. vacant.holds n (was_hold n b there).0 }
-
   -- a block comes to the free ones
   abbrev pub comes : ℕ → Bool
   comes b = may_be_free left b && not (is_in s.book.free b)
@@ -86,7 +80,7 @@ module _ (setup : Setup) (s : State) (number : ℕ) where
         flushed_refreshed ∙ refreshed_free setup left
         ∙ updated_more (may_be_free left) s.book.free (all_blocks setup) (filter comes (all_blocks setup))
         (all_from (λ b. may_be_free left b ≡ true) s.book.free
-        (λ b there. vacant_is left b (still_vacant b (vacant_from s.book b booked.units (all_at (λ k. may_be_free s.book k ≡ true) s.book.free b booked.free there))))) refl
+        (λ b there. free_still number s.book b (all_at (λ k. may_be_free s.book k ≡ true) s.book.free b booked.free there))) refl
 
     pub flushed_listed : IsListed setup s.book → IsListed setup after.book
     flushed_listed listed = record {

@@ -3,6 +3,9 @@ use Rattle.std.proofs.Common.{◌≡◌, inl, inr, ℕ, ◌<◌, Bool, true, ◌
 use Rattle.std.specs.Prelude.{◌==◌, slice_set, Contains}
 use Rattle.std.proofs.lemmas.Bool.{false≢true, and_from, eq-eqb}
 use Rattle.std.proofs.lemmas.List.{length-set, get_or-set_same, get_or-set_other, set-set}
+use Rattle.law_lists.proofs.Between.{all_own, own_there}
+use Rattle.law_lists.proofs.Finding.{any_there}
+use Rattle.law_lists.proofs.Members.{map_there}
 use Rattle.disk_model.specs.Disk.{Images, DiskView, IsHonest, Within, TornFrom, meanwhile}
 use Rattle.rec_format.specs.Versions.{block_capacity}
 use Rattle.model_device.specs.Histories.{is_begun}
@@ -17,9 +20,7 @@ use Rattle.write_buffer.specs.declared.phase.Phase.{Phase}
 use Rattle.write_buffer.specs.declared.phase.Phase.TheVariants.{Filling, Sealed, BodyDone, GateBegun}
 use Rattle.write_buffer.specs.Phases.{later_phase}
 use Rattle.write_buffer.specs.Buffers.{BufferState, bytes_of, body_in, with_phase}
-use Rattle.law_start.proofs.Members.{map_there}
 use Rattle.law_trail.specs.Trail.{Records, places_of}
-use Rattle.law_trail.proofs.Places.{any_there}
 use Rattle.law_images.specs.Changes.{ChangesIn, IsOpening}
 use Rattle.law_images.specs.Gates.{GateStands, StandsOver, IsBodyWith, with_gate}
 use Rattle.law_images.specs.Held.{HoldsGates}
@@ -31,7 +32,7 @@ use Rattle.block_shelf.specs.View.{ShelfView, IsShelf, IsBufferOf, HasItsBody, i
 use Rattle.block_shelf.specs.Standing.{StandsFor, ImagesHold, book_buffer, book_phase}
 use Rattle.block_shelf.specs.Calls.{Goes}
 use Rattle.block_shelf.specs.Flushes.{gate_steps}
-use Rattle.block_shelf.proofs.Between.{all_own, own_there, records_at, records_same}
+use Rattle.block_shelf.proofs.Between.{records_at, records_same}
 use Rattle.block_shelf.proofs.Closing.{gates_with, holds_same}
 use Rattle.block_shelf.proofs.FlushShelf.{KeepsDisk, now_within, written, own, written_shelf, still_stands, begun_stands, still_queued, begun_queued, still_placed, begun_placed}
 

@@ -1,9 +1,10 @@
 -- The buffer that is flushed, and the shelf on the way, between the parts of a flush.
-use Rattle.std.proofs.Common.{◌≡◌, ◌⊎◌, inl, inr, ℕ, ◌<◌, true, false, List, ◌∷◌, ◌++◌, length, Result, Ok, Err, OnErr, refl, sym, ap, ◌∙◌, subst, arith}
+use Rattle.std.proofs.Common.{◌≡◌, ◌⊎◌, inl, inr, ℕ, ◌<◌, true, false, List, ◌∷◌, ◌++◌, length, refl, sym, ap, ◌∙◌, subst, arith}
 use Rattle.std.specs.Prelude.{slice_index_or}
 use Rattle.std.specs.List.{AllByRecursion}
 use Rattle.std.proofs.lemmas.List.{get_or-set_same}
 use Rattle.std.proofs.Math.Seq.{get_or-append_seam}
+use Rattle.law_lists.proofs.Between.{all_own}
 use Rattle.disk_model.specs.Disk.{DiskView}
 use Rattle.disk_model.specs.Runs.{advances_on}
 use Rattle.model_device.specs.Book.{Setup}
@@ -22,7 +23,6 @@ use Rattle.block_shelf.specs.declared.place.ShelfLimits.{ShelfLimits}
 use Rattle.block_shelf.specs.Disks.{IsLater}
 use Rattle.block_shelf.specs.View.{ShelfView, IsShelf, IsBufferOf, IsSetupOf, SameShape, is_unsealed, is_written, gate_at}
 use Rattle.block_shelf.specs.Flushes.{FirstSealed, IsFirstAt, FirstLeaves, FirstStays, IsWithoutFirst, with_phase_of, with_disk, with_body, with_opening}
-use Rattle.block_shelf.proofs.Between.{all_own}
 use Rattle.block_shelf.proofs.FirstSealed.{first_is}
 
 -- one buffer stands at the place
@@ -176,10 +176,6 @@ first_below view shelf first is =
     (all_own (IsBufferOf shelf.geometry shelf.next_number) first.front first.buffer first.behind (subst (AllByRecursion (IsBufferOf shelf.geometry shelf.next_number)) first.parts is.buffers)).block
 
 -- ---- after a fault
-
-pub on_fault : {T E : Type 0} (P : Type 0) (result : Result T E) → P → OnErr result P
-on_fault P (Ok found) p = tt
-on_fault P (Err e) p = p
 
 pub stays_unwritten : {D : Type 0} (old new : ShelfView D) (first : FirstSealed old.buffers) → (is_written first.buffer.phase ≡ false) × (new ≡ with_disk new.disk old) → FirstStays old new
 stays_unwritten old new first is = record { first = first; stage = inl is }

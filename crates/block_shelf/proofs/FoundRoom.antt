@@ -14,7 +14,7 @@ use Rattle.block_shelf.specs.View.{ShelfView}
 use Rattle.block_shelf.specs.Changes.{StandsAt, CanTake, HasRoom, HasRoomAt, SameButRoom, begun_buffer, sealed_in, with_begun}
 use Rattle.block_shelf.specs.Appends.{BeginsInFirst, LiesIn, PutsCopy, ready_for}
 use Rattle.block_shelf.proofs.Appended.{put_is}
-use Rattle.block_shelf.proofs.Between.{own_there}
+use Rattle.law_lists.proofs.Between.{own_there}
 
 pub told_room : (stream other : Stream) (n units : ℕ) (place at : ℕ) (buffers : List BufferState) → stream ≡ other → n ≡ units → at ≡ place → HasRoomAt stream n place buffers
     → HasRoomAt other units at buffers

@@ -1,19 +1,17 @@
 -- Blocks that nothing keeps come to the back of the free ones, one after another.
-use Rattle.std.proofs.Common.{◌≡◌, ◌≢◌, inl, inr, ℕ, zero, suc, ◌+◌, ◌-◌, ◌<◌, ◌≤◌, Bool, true, false, cond, List, [], ◌∷◌, ◌++◌, length, take, sum_by, refl, sym, ◌∙◌, ap, subst, arith, append_assoc}
+use Rattle.std.proofs.Common.{◌≡◌, ◌≢◌, inl, inr, ℕ, zero, suc, ◌+◌, ◌-◌, ◌<◌, ◌≤◌, Bool, true, false, List, [], ◌∷◌, ◌++◌, length, take, sum_by, refl, sym, ◌∙◌, ap, subst, arith, append_assoc}
 use Rattle.std.specs.Prelude.{filter, ◌==◌, ◌↔◌, IsTrue, MatchBool}
 use Rattle.std.specs.List.{AllByRecursion, range_with_len}
 use Rattle.std.proofs.lemmas.Bool.{cond-true, cond-false, eqb-true, eqb-false, ne_eqb}
 use Rattle.std.proofs.lemmas.List.{append-nil, length-append}
-use Rattle.std.proofs.lemmas.List.Elements.{filter-append}
 use Rattle.std.proofs.lemmas.List.Sums.{sum_by-cons}
 use Rattle.std.proofs.Math.Seq.{take-length}
+use Rattle.law_lists.proofs.Each.{all_map, all_from, all_joined}
+use Rattle.law_lists.proofs.Finding.{any_none}
+use Rattle.law_lists.proofs.Ranges.{filter_next}
 use Rattle.unit_ledger.specs.declared.roll.LiveCopy.{LiveCopy}
 use Rattle.write_buffer.specs.Buffers.{BufferState}
 use Rattle.unit_ledger.specs.Rolls.{BlockRoll, copies_in, rolled_use}
-use Rattle.law_start.proofs.Each.{all_map}
-use Rattle.law_start.proofs.Growing.{all_from}
-use Rattle.law_start.proofs.Opening.{all_joined}
-use Rattle.law_start.proofs.Placing.{any_none}
 use Rattle.block_shelf.specs.View.{AreApart, IsRoll}
 use Rattle.block_shelf.specs.Changes.{has_buffer_in}
 use Rattle.block_shelf.specs.LetGo.{IsBare, IsFreeOrLetGo}
@@ -42,18 +40,6 @@ told_bare buffers rolls block n same roll unbuffered = by (n == 0) refl
 
 -- ---- one block after another
 
-pub range_more : (n from : ℕ) → range_with_len from (n + 1) ≡ range_with_len from n ++ (from + n) ∷ []
-range_more zero from = ap (λ (k : ℕ). k ∷ []) (omega arith)
-range_more (suc n) from =
-    let last : from + 1 + n ≡ from + suc n = omega arith in
-    let size : suc n + 1 ≡ suc (n + 1) = omega arith in
-    ap (range_with_len from) size ∙ ap (λ (l : List ℕ). from ∷ l) (range_more n (from + 1) ∙ ap (λ (k : ℕ). range_with_len (from + 1) n ++ k ∷ []) last)
-
-pub come_more : (come : ℕ → Bool) (n : ℕ) → filter come (range_with_len 0 (n + 1)) ≡ filter come (range_with_len 0 n) ++ cond (come n) (n ∷ []) []
-come_more come n =
-    ap (filter come) (range_more n 0) ∙ filter-append come (range_with_len 0 n) ((0 + n) ∷ [])
-    ∙ ap (λ (k : ℕ). filter come (range_with_len 0 n) ++ cond (come k) (k ∷ []) []) (omega arith)
-
 module _ (blocks : ℕ) (Goes : ℕ → Type 0) (old : List ℕ) where
   -- the blocks below this number were looked at
   pub record AreFreed (n : ℕ) (free : List ℕ) : Type 0 where
@@ -78,7 +64,7 @@ module _ (blocks : ℕ) (Goes : ℕ → Type 0) (old : List ℕ) where
     freed_more go = record {
       freed = λ come decides.
           ap (λ (l : List ℕ). l ++ n ∷ []) (are.freed come decides) ∙ append_assoc old (filter come (range_with_len 0 n)) (n ∷ [])
-          ∙ ap (λ (l : List ℕ). old ++ l) (sym (come_more come n ∙ ap (λ (l : List ℕ). filter come (range_with_len 0 n) ++ l) (cond-true (come n) (n ∷ []) [] ((decides n lt).1 go))));
+          ∙ ap (λ (l : List ℕ). old ++ l) (sym (filter_next come n ∙ ap (λ (l : List ℕ). filter come (range_with_len 0 n) ++ l) (cond-true (come n) (n ∷ []) [] ((decides n lt).1 go))));
       each = all_joined (IsFreeOrLetGo blocks old Goes) free (n ∷ []) are.each (inr (lt, go), tt);
       below = all_joined (λ b. b < blocks) free (n ∷ []) are.below (lt, tt);
       apart = apart_push free n are.apart (are.others n (omega arith) lt go);
@@ -91,7 +77,7 @@ module _ (blocks : ℕ) (Goes : ℕ → Type 0) (old : List ℕ) where
       freed = λ come decides.
           are.freed come decides
           ∙ ap (λ (l : List ℕ). old ++ l)
-          (sym (come_more come n ∙ ap (λ (l : List ℕ). filter come (range_with_len 0 n) ++ l) (cond-false (come n) (n ∷ []) [] (by (come n) (λ is. kept ((decides n lt).0 is))))
+          (sym (filter_next come n ∙ ap (λ (l : List ℕ). filter come (range_with_len 0 n) ++ l) (cond-false (come n) (n ∷ []) [] (by (come n) (λ is. kept ((decides n lt).0 is))))
           ∙ append-nil (filter come (range_with_len 0 n))));
       each = are.each;
       below = are.below;

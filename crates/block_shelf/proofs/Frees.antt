@@ -1,30 +1,22 @@
 -- The free blocks of a book behind a change: those that still qualify, in order, and behind them those that newly do.
-use Rattle.std.proofs.Common.{◌≡◌, ◌≢◌, ⊎_elim, ℕ, ◌+◌, ◌<◌, ◌≤◌, Bool, true, false, not, cond, ◌&&◌, List, [], ◌∷◌, ◌++◌, suc, zero, sum_by, refl, sym, ◌∙◌, ap, subst, arith}
+use Rattle.std.proofs.Common.{◌≡◌, ◌≢◌, ℕ, ◌<◌, ◌≤◌, Bool, true, false, not, ◌&&◌, List, [], ◌∷◌, ◌++◌, sum_by, refl, sym, ◌∙◌, ap, subst, arith}
 use Rattle.std.specs.Prelude.{filter, Contains, ◌==◌}
-use Rattle.std.specs.List.{AllByRecursion, range_with_len}
-use Rattle.std.proofs.lemmas.Bool.{cond-true, cond-false, cases_eq, eq-eqb, eqb-true, ne_eqb, false≢true}
+use Rattle.std.specs.List.{AllByRecursion}
+use Rattle.std.proofs.lemmas.Bool.{cond-false, eq-eqb, eqb-true, ne_eqb, both_ways}
 use Rattle.std.proofs.lemmas.List.{append-nil}
-use Rattle.std.proofs.lemmas.List.Sums.{sum_by-cons}
 use Rattle.std.proofs.lemmas.List.Elements.{Contains-append_left, Contains-append_right}
+use Rattle.law_lists.proofs.Counts.{part_of_sum}
+use Rattle.law_lists.proofs.Each.{all_from, all_at}
+use Rattle.law_lists.proofs.Filters.{filter_all, filter_none}
+use Rattle.law_lists.proofs.Finding.{any_there, some_at, none_at, none_from}
+use Rattle.law_lists.proofs.Members.{filter_there}
+use Rattle.law_lists.proofs.Ranges.{in_range}
 use Rattle.model_device.specs.Book.{Setup, Book, Live, may_be_free, updated, is_in, all_blocks, refreshed, has_buffer, use_of, is_held}
-use Rattle.law_start.proofs.Growing.{all_from, all_at, cons_cases}
-use Rattle.law_start.proofs.Members.{first_there, rest_there, filter_there}
 use Rattle.law_trail.specs.Trail.{places_of}
-use Rattle.law_trail.proofs.Places.{any_there, some_at, none_at, none_from, buffer_place}
+use Rattle.law_trail.proofs.Places.{buffer_place}
 use Rattle.law_trail.proofs.Books.{HasNothing, nothing_in}
 
 -- ---- lists
-
-pub filter_all : {X : Type 0} (p : X → Bool) (xs : List X) → AllByRecursion (λ x. p x ≡ true) xs → filter p xs ≡ xs
-filter_all p [] all = refl
-filter_all {X} p (x ∷ xs) all = cond-true (p x) (x ∷ filter p xs) (filter p xs) all.0 ∙ ap (λ (l : List X). x ∷ l) (filter_all p xs all.1)
-
-pub filter_none : {X : Type 0} (p : X → Bool) (xs : List X) → AllByRecursion (λ x. p x ≡ false) xs → filter p xs ≡ []
-filter_none p [] all = refl
-filter_none {X} p (x ∷ xs) all = cond-false (p x) (x ∷ filter p xs) (filter p xs) all.0 ∙ filter_none p xs all.1
-
-both_values : (b : Bool) → b ≡ false → b ≡ true → ⊥
-both_values b is_false is_true = false≢true (sym is_false ∙ is_true)
 
 pub in_is : (blocks : List ℕ) (b : ℕ) → is_in blocks b ≡ true → Contains blocks b
 in_is blocks b is = let some = some_at (λ (k : ℕ). k == b) blocks is in subst (Contains blocks) (eqb-true some.0 b some.2) some.1
@@ -35,28 +27,7 @@ is_in_there blocks b there = any_there (λ k. k == b) blocks b there (eq-eqb b b
 pub not_in : (blocks : List ℕ) (b : ℕ) → AllByRecursion (λ k. k ≢ b) blocks → is_in blocks b ≡ false
 not_in blocks b apart = none_from (λ k. k == b) blocks (λ k there. ne_eqb k b (all_at (λ j. j ≢ b) blocks k apart there))
 
-pub in_range : (from n b : ℕ) → from ≤ b → b < from + n → Contains (range_with_len from n) b
-in_range from zero b low high = absurd (omega arith)
-in_range from (suc n) b low high =
-    ⊎_elim (λ (e : from ≡ b). subst (Contains (range_with_len from (suc n))) e (first_there from (range_with_len (from + 1) n)))
-    (λ (other : from ≢ b). rest_there from (range_with_len (from + 1) n) b (in_range (from + 1) n b (omega (arith, other)) (omega arith))) (cases_eq from b)
-
 -- a test that no other block of a range passes
-module _ (p : ℕ → Bool) (limit k : ℕ) (others : (b : ℕ) → b < limit → b ≢ k → p b ≡ false) where
-  none_above : (m base : ℕ) → base + m ≤ limit → k < base → filter p (range_with_len base m) ≡ []
-  none_above zero base within lt = refl
-  none_above (suc m) base within lt =
-      cond-false (p base) (base ∷ filter p (range_with_len (base + 1) m)) (filter p (range_with_len (base + 1) m)) (others base (omega arith) (λ (e : base ≡ k). absurd (omega arith)))
-      ∙ none_above m (base + 1) (omega arith) (omega arith)
-
-  pub filter_one : (from n : ℕ) → from + n ≤ limit → from ≤ k → k < from + n → filter p (range_with_len from n) ≡ cond (p k) (k ∷ []) []
-  filter_one from zero within low high = absurd (omega arith)
-  filter_one from (suc n) within low high =
-      ⊎_elim (λ (e : from ≡ k). ap (λ (l : List ℕ). cond (p from) (from ∷ l) l) (none_above n (from + 1) (omega arith) (omega (arith, e))) ∙ ap (λ (x : ℕ). cond (p x) (x ∷ []) []) e)
-      (λ (other : from ≢ k).
-      cond-false (p from) (from ∷ filter p (range_with_len (from + 1) n)) (filter p (range_with_len (from + 1) n)) (others from (omega arith) other)
-      ∙ filter_one (from + 1) n (omega arith) (omega (arith, other)) (omega arith)) (cases_eq from k)
-
 -- ---- what qualifies
 
 pub refreshed_free : (setup : Setup) (book : Book) → (refreshed setup book).free ≡ updated (may_be_free book) book.free (all_blocks setup)
@@ -97,21 +68,15 @@ pub record IsVacant (book : Book) (block : ℕ) : Type 0 where
   pub live : (l : Live) → Contains book.live l → l.block ≢ block
   pub holds : (number : ℕ) → Contains book.holds (number, block) → ⊥
 
-pub part_of_sum : {X : Type 0} (f : X → ℕ) (xs : List X) (x : X) → Contains xs x → f x ≤ sum_by f xs
-part_of_sum f [] x there = absurd (omega (arith, there.1))
-part_of_sum f (y ∷ xs) x there =
-    ⊎_elim (λ (e : y ≡ x). let same : f y ≡ f x = ap f e in omega (arith, sum_by-cons f y xs, same))
-    (λ (more : Contains xs x). omega (arith, sum_by-cons f y xs, part_of_sum f xs x more)) (cons_cases y xs x there)
-
 pub vacant_from : (book : Book) (block : ℕ) → AllByRecursion (λ l. 1 ≤ l.units) book.live → may_be_free book block ≡ true → IsVacant book block
 vacant_from book block units may = record {
-  places = λ number there. both_values (block == block) (none_at (λ (p : ℕ × ℕ). p.1 == block) (places_of book) (number, block) (sym (buffer_place book block) ∙ nothing.buffer) there)
+  places = λ number there. both_ways (block == block) (none_at (λ (p : ℕ × ℕ). p.1 == block) (places_of book) (number, block) (sym (buffer_place book block) ∙ nothing.buffer) there)
       (eq-eqb block block refl);
   live = λ l there same.
       let part = part_of_sum (λ (m : Live). m.units) (filter (λ m. m.block == block) book.live) l (filter_there (λ (m : Live). m.block == block) book.live l (eq-eqb l.block block same) there) in
       let takes = all_at (λ m. 1 ≤ m.units) book.live l units there in
       let none = nothing.live in omega (arith, none, part, takes);
-  holds = λ number there. both_values (block == block) (none_at (λ (h : ℕ × ℕ). h.1 == block) book.holds (number, block) nothing.hold there) (eq-eqb block block refl);
+  holds = λ number there. both_ways (block == block) (none_at (λ (h : ℕ × ℕ). h.1 == block) book.holds (number, block) nothing.hold there) (eq-eqb block block refl);
 }
   where
     nothing : HasNothing book block

@@ -4,16 +4,14 @@ use Rattle.std.specs.Prelude.{Contains, option_map, IfSome}
 use Rattle.std.specs.List.{AllByRecursion}
 use Rattle.std.proofs.lemmas.Bool.{eqb-true}
 use Rattle.std.proofs.lemmas.List.Elements.{Contains-append_cases, Contains-append_right}
+use Rattle.law_lists.proofs.Each.{all_at, all_joined, all_before_map}
+use Rattle.law_lists.proofs.Members.{cons_cases, first_there, rest_there}
 use Rattle.rec_format.specs.Versions.{block_capacity}
 use Rattle.block_format.specs.declared.geometry.Geometry.{Geometry}
-use Rattle.law_start.proofs.Growing.{all_at, cons_cases}
-use Rattle.law_start.proofs.Members.{first_there, rest_there}
-use Rattle.law_start.proofs.Opening.{all_joined}
 use Rattle.write_buffer.specs.Buffers.{BufferState}
 use Rattle.post_cache.specs.Bodies.{KeptBody, KeepOwnBlocks, kept_at, body_of}
 use Rattle.post_cache.proofs.Laws.{absent-all}
 use Rattle.block_shelf.specs.View.{ShelfView, IsKeptOf, in_memory}
-use Rattle.block_shelf.proofs.Sealing.{all_before_map}
 
 abbrev pub bodies : List (KeptBody BufferState) → List BufferState
 bodies ks = map (λ k. k.body) ks

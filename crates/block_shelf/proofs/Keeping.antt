@@ -2,6 +2,7 @@
 use Rattle.std.proofs.Common.{◌≡◌, ◌≢◌, ℕ, Bool, true, false, List, [], ◌∷◌, ◌++◌, refl, sym, ◌∙◌, ap, subst}
 use Rattle.std.specs.Prelude.{Some, None}
 use Rattle.std.specs.List.{AllByRecursion}
+use Rattle.law_lists.proofs.Each.{all_map, all_joined}
 use Rattle.rec_format.specs.declared.version.Digest.{Digest}
 use Rattle.rec_format.specs.declared.version.Version.{Version}
 use Rattle.rec_format.specs.Places.{same_digest}
@@ -10,8 +11,6 @@ use Rattle.rec_format.proofs.Laws.{same_digest_is}
 use Rattle.model_device.specs.Book.{Live, live_of}
 use Rattle.model_device.specs.Device.{State, entry}
 use Rattle.block_format.specs.declared.geometry.Geometry.{Geometry}
-use Rattle.law_start.proofs.Each.{all_map}
-use Rattle.law_start.proofs.Opening.{all_joined}
 use Rattle.write_buffer.specs.Buffers.{BufferState}
 use Rattle.post_cache.specs.Bodies.{KeptBody, CacheState, kept_at, without_block, with_kept_body}
 use Rattle.post_cache.proofs.Kept.{absent-without, kept_at-without_same, IsCache-without_block, IsCache-with_body}

@@ -5,13 +5,13 @@ use Rattle.std.proofs.lemmas.List.Sums.{sum_by_push}
 use Rattle.std.proofs.lemmas.Bool.{cond-false, ne_eqb, cases_eq, false≢true}
 use Rattle.std.specs.Prelude.{Some, None, ◌==◌}
 use Rattle.std.specs.List.{AllByRecursion}
+use Rattle.law_lists.proofs.Between.{all_but_one}
+use Rattle.law_lists.proofs.Each.{all_map, all_joined, all_parted, all_before_map}
 use Rattle.disk_model.specs.Disk.{DiskView}
 use Rattle.rec_format.specs.declared.version.Digest.{Digest}
 use Rattle.rec_format.specs.declared.version.Version.{Version}
 use Rattle.rec_format.specs.Places.{device_number}
 use Rattle.rec_format.specs.Versions.{version_units}
-use Rattle.law_start.proofs.Each.{all_map}
-use Rattle.law_start.proofs.Opening.{all_joined, all_parted}
 use Rattle.unit_ledger.specs.declared.roll.LiveCopy.{LiveCopy}
 use Rattle.unit_ledger.specs.Rolls.{BlockRoll, copies_in, copy_at}
 use Rattle.unit_ledger.proofs.Copies.{own_units-push}
@@ -21,8 +21,6 @@ use Rattle.block_shelf.specs.View.{ShelfView, IsShelf, IsBufferOf, IsCacheOf, St
 use Rattle.block_shelf.specs.Changes.{with_written, rolls_with}
 use Rattle.block_shelf.proofs.Blocks.{apart_from}
 use Rattle.block_shelf.proofs.Rolls.{roll_here, roll_there}
-use Rattle.block_shelf.proofs.Sealing.{all_before_map}
-use Rattle.block_shelf.proofs.Written.{all_but_one}
 
 -- ---- an element behind so many others
 

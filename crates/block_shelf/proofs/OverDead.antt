@@ -4,6 +4,11 @@ use Rattle.std.specs.Prelude.{nat_lt, is_some, Option, Some, None, filter, Conta
 use Rattle.std.specs.List.{AllByRecursion}
 use Rattle.std.proofs.lemmas.Bool.{false≢true, eq-eqb, eqb-true, ne_eqb, leb-true, le-leb, ltb-true, lt-ltb, le-ltb, and_parts, or_cases, or_left, or_right, and_from, cases_eq}
 use Rattle.std.proofs.lemmas.List.Sums.{sum_by-cons}
+use Rattle.law_lists.proofs.Counts.{part_of_sum}
+use Rattle.law_lists.proofs.Each.{all_at, all_from}
+use Rattle.law_lists.proofs.Filters.{filter_none}
+use Rattle.law_lists.proofs.Finding.{any_there, some_at}
+use Rattle.law_lists.proofs.Members.{filter_there, first_there, rest_there, map_there, map_from}
 use Rattle.disk_model.specs.Disk.{DiskView, IsDisk, IsHonest}
 use Rattle.rec_format.specs.Versions.{block_capacity}
 use Rattle.model_device.proofs.Blocks.{empty_is}
@@ -12,9 +17,6 @@ use Rattle.model_device.specs.Device.{State}
 use Rattle.model_device.specs.Steps.{after_step, after_steps}
 use Rattle.model_device.specs.Vacating.{can_gain}
 use Rattle.model_device.specs.Legal.{seal_if, is_short, is_empty, has_gathered, is_due, seal_low}
-use Rattle.law_start.proofs.Growing.{all_at, all_from}
-use Rattle.law_start.proofs.Members.{filter_there, first_there, rest_there, map_there, map_from}
-use Rattle.law_trail.proofs.Places.{any_there, some_at}
 use Rattle.write_buffer.specs.declared.stream.Stream.{Stream}
 use Rattle.write_buffer.specs.declared.stream.Stream.TheVariants.{Client, Defrag}
 use Rattle.write_buffer.specs.Buffers.{BufferState, used_units}
@@ -27,7 +29,6 @@ use Rattle.block_shelf.specs.Calls.{Goes}
 use Rattle.block_shelf.specs.Changes.{sealed_buffer, sealed_in}
 use Rattle.block_shelf.specs.Low.{HoldsDead, FillsOverDead, IsShort, HasGathered, IsLow, SealsLow, with_sealed}
 use Rattle.block_shelf.proofs.Filling.{IsFilling, fills_parts, found_fills, found_there, none_found, stream_self}
-use Rattle.block_shelf.proofs.Frees.{filter_none, part_of_sum}
 use Rattle.block_shelf.proofs.Going.{goes_none, goes_then}
 use Rattle.block_shelf.proofs.Sealing.{seals_in}
 use Rattle.block_shelf.proofs.SealSteps.{goes_sealed, other_after, still_told}

@@ -1,7 +1,7 @@
 -- A copy takes the place of another: the live copies and the holds of a shelf behind it.
-use Rattle.std.proofs.Common.{◌≡◌, ◌≢◌, inl, inr, ⊎_elim, ℕ, ◌<◌, Bool, true, false, List, [], ◌∷◌, length, refl, sym, ◌∙◌, ap, subst}
+use Rattle.std.proofs.Common.{◌≡◌, ◌≢◌, inl, inr, ⊎_elim, ℕ, ◌<◌, true, false, List, [], ◌∷◌, length, refl, sym, ◌∙◌, ap, subst}
 use Rattle.std.specs.Prelude.{Option, Some, None, IsTrue, Contains, ◌==◌, ◌&&◌, ◌||◌}
-use Rattle.std.proofs.lemmas.Bool.{cases_eq, both_ways, or_cases, and_parts, eqb-true, eq-eqb, or_left, or_right, and_from}
+use Rattle.std.proofs.lemmas.Bool.{cases_eq, both_ways, or_cases, and_parts, eqb-true, eq-eqb, or_left, or_right, and_from, false_from_ne_true}
 use Rattle.std.proofs.lemmas.List.{length-set}
 use Rattle.std.proofs.lemmas.List.Elements.{Contains-append_left, Contains-push, Contains-push_cases}
 use Rattle.rec_format.specs.declared.version.Digest.{Digest}
@@ -29,10 +29,6 @@ pub record IsGone (digest : Digest) (old mid : List BlockRoll) : Type 0 where
   pub kept : (k : ℕ) (c : LiveCopy) → Contains (copies_in k old) c → same_digest digest c.digest ≡ false → Contains (copies_in k mid) c
   pub from : (k : ℕ) (c : LiveCopy) → Contains (copies_in k mid) c → Contains (copies_in k old) c × (same_digest digest c.digest ≡ false)
 
-false_else : (b : Bool) → (b ≡ true → ⊥) → b ≡ false
-false_else true never = absurd (never refl)
-false_else false never = refl
-
 module _ (setup : Setup) (s : State) (digest : Digest) (rolls : List BlockRoll) (lives : LivesSame rolls s.book) (listed : IsListed setup s.book) where
   pub gone_none : live_of digest s.book.live ≡ None → IsGone digest rolls rolls
   gone_none none = record {
@@ -40,7 +36,7 @@ module _ (setup : Setup) (s : State) (digest : Digest) (rolls : List BlockRoll) 
     kept = λ k c there other. there;
     from = λ k c there. (
       there,
-      false_else (same_digest digest c.digest)
+      false_from_ne_true (same_digest digest c.digest)
           (λ same. let some = some_live digest s.book.live (live_in_block k c) (lives.there k c there) same in clash (live_of digest s.book.live) some.0 none some.1),
     );
   }
@@ -60,7 +56,7 @@ module _ (setup : Setup) (s : State) (digest : Digest) (rolls : List BlockRoll) 
     from = λ k c there.
         let was = left_from p.block p.unit rolls lt k c there in (
           was.0,
-          false_else (same_digest digest c.digest)
+          false_from_ne_true (same_digest digest c.digest)
               (λ same. let one = listed.one (copy_live digest p) (live_in_block k c) live (lives.there k c was.0) same in was.1 (ap (λ (l : Live). l.block) (sym one))
               (ap (λ (l : Live). l.unit) (sym one))),
         );

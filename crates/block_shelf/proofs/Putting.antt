@@ -4,6 +4,8 @@ use Rattle.std.specs.Prelude.{Option, Some, None}
 use Rattle.std.specs.List.{AllByRecursion}
 use Rattle.std.proofs.lemmas.Bool.{cond-true, cond-false}
 use Rattle.std.proofs.lemmas.List.{map-append}
+use Rattle.law_lists.proofs.Between.{all_but_one}
+use Rattle.law_lists.proofs.Each.{all_map, all_joined, all_parted}
 use Rattle.disk_model.specs.Disk.{DiskView}
 use Rattle.rec_format.specs.declared.version.Digest.{Digest}
 use Rattle.rec_format.specs.declared.version.Version.{Version}
@@ -13,8 +15,6 @@ use Rattle.rec_format.proofs.Laws.{same_digest_refl, same_digest_is}
 use Rattle.model_device.specs.Book.{Setup, Book, Live, live_of, without_live}
 use Rattle.model_device.specs.Device.{State, entry}
 use Rattle.block_format.specs.Layout.{IsRecordAt, body_bytes}
-use Rattle.law_start.proofs.Each.{all_map}
-use Rattle.law_start.proofs.Opening.{all_joined, all_parted}
 use Rattle.write_buffer.specs.Buffers.{BufferState, used_units, with_record}
 use Rattle.unit_ledger.specs.Rolls.{BlockRoll, copies_in}
 use Rattle.hold_book.specs.Holds.{HoldState}
@@ -36,7 +36,7 @@ use Rattle.block_shelf.proofs.Placed.{IsGone, replaces_from}
 use Rattle.block_shelf.proofs.Readied.{new_live, after_live, book_is}
 use Rattle.block_shelf.proofs.Requeued.{queue_behind, queue_after}
 use Rattle.block_shelf.proofs.Taking.{IsTaker, with_buffers}
-use Rattle.block_shelf.proofs.Written.{Holding, stands_after, stands_before, stands_last, all_but_one}
+use Rattle.block_shelf.proofs.Written.{Holding, stands_after, stands_before, stands_last}
 
 module _ {D : Type 0} (view : D → DiskView) (setup : Setup) (kind : Class) (s : State) (digest : Digest) (v : Version) (shelf : ShelfView D)
     (is : IsShelf view shelf) (stands : StandsFor setup shelf s) (setup_is : IsSetupOf setup shelf) (is_copy : IsCopyOf kind s digest v)

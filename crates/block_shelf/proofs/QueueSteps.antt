@@ -1,21 +1,21 @@
 -- What is live in a block and whether it has a buffer, as the shelf and the book say it, and how the queue stands behind a change.
-use Rattle.std.proofs.Common.{◌≡◌, ◌≢◌, ◌⊎◌, inl, inr, ⊎_elim, ℕ, ◌+◌, ◌<◌, ◌≤◌, Bool, true, false, not, cond, List, [], ◌∷◌, ◌++◌, map, sum_by, refl, sym, ◌∙◌, ap, subst, arith}
+use Rattle.std.proofs.Common.{◌≡◌, ◌≢◌, ℕ, ◌+◌, ◌<◌, Bool, true, false, not, cond, List, [], ◌∷◌, map, sum_by, refl, sym, ◌∙◌, ap, subst}
 use Rattle.std.specs.Prelude.{Some, None, filter, Contains, ◌==◌}
 use Rattle.std.specs.List.{AllByRecursion, IsDistinct, list_any}
 use Rattle.std.proofs.lemmas.Bool.{both_ways, eq-eqb, eqb-true, not-true}
-use Rattle.std.proofs.lemmas.List.Sums.{sum_by-cons, sum_by-append}
+use Rattle.std.proofs.lemmas.List.Sums.{sum_by-cons}
+use Rattle.law_lists.proofs.Distinct.{StandOnce, once_kept, same_sum}
+use Rattle.law_lists.proofs.Each.{all_map, all_from, all_at}
+use Rattle.law_lists.proofs.Finding.{any_map}
+use Rattle.law_lists.proofs.Members.{map_there, map_from, filter_there, filter_from}
 use Rattle.disk_model.specs.Disk.{DiskView}
 use Rattle.rec_format.specs.Places.{same_digest}
 use Rattle.rec_format.proofs.Laws.{same_digest_refl}
 use Rattle.model_device.specs.Book.{Setup, Book, Buffer, Live, use_of, has_buffer, is_in, without_live, may_be_queued, refreshed}
 use Rattle.model_device.specs.Device.{State}
 use Rattle.block_format.specs.declared.geometry.Geometry.{Geometry}
-use Rattle.law_start.proofs.Each.{all_map}
-use Rattle.law_start.proofs.Growing.{all_from, all_at, cons_cases}
-use Rattle.law_start.proofs.Members.{first_there, rest_there, map_there, map_from, filter_there, filter_from}
-use Rattle.law_start.proofs.Pending.{any_map}
 use Rattle.law_trail.specs.Trail.{places_of}
-use Rattle.law_trail.proofs.Places.{buffer_place}
+use Rattle.law_trail.proofs.Unchanged.{queued_same}
 use Rattle.write_buffer.specs.Buffers.{BufferState}
 use Rattle.unit_ledger.specs.declared.roll.LiveCopy.{LiveCopy}
 use Rattle.unit_ledger.specs.Rolls.{BlockRoll, HaveOwnUnits, copies_in, copy_at, rolled_use, live_in_block}
@@ -29,63 +29,6 @@ use Rattle.block_shelf.specs.View.{ShelfView, IsShelf, IsRoll, IsQueueOf, IsSetu
 use Rattle.block_shelf.specs.Standing.{HaveOwnDigests, LivesSame, BooksStand, book_buffer}
 use Rattle.block_shelf.specs.Changes.{has_buffer_in}
 use Rattle.block_shelf.proofs.Rolls.{copy_found}
-
--- ---- lists in which nothing stands twice
-
-abbrev pub StandOnce : {X : Type 0} → List X → Type 0
-StandOnce [] = Unit {0}
-StandOnce (x ∷ xs) = AllByRecursion (λ y. x ≢ y) xs × StandOnce xs
-
--- an element stands between others
-pub record Parted {X : Type 0} (x : X) (xs : List X) : Type 0 where
-  pub front : List X
-  pub behind : List X
-  pub parts : xs ≡ front ++ x ∷ behind
-  pub others : (y : X) → x ≢ y → Contains xs y → Contains (front ++ behind) y
-
-pub parted : {X : Type 0} (x : X) (xs : List X) → Contains xs x → Parted x xs
-parted x [] there = absurd (omega (arith, there.1))
-parted {X} x (y ∷ xs) there = by (cons_cases y xs x there) (parted x xs)
-  where
-    by : (y ≡ x) ⊎ Contains xs x → (Contains xs x → Parted x xs) → Parted x (y ∷ xs)
-    by (inl e) rest = record {
-      front = [];
-      behind = xs;
-      parts = ap (λ (z : X). z ∷ xs) e;
-      others = λ z other in_all. ⊎_elim (λ (same : y ≡ z). absurd (other (sym e ∙ same))) (λ (more : Contains xs z). more) (cons_cases y xs z in_all);
-    }
-    by (inr more) rest =
-        let is = rest more in
-        record {
-          front = y ∷ is.front;
-          behind = is.behind;
-          parts = ap (λ (l : List X). y ∷ l) is.parts;
-          others = λ z other in_all.
-              ⊎_elim (λ (same : y ≡ z). subst (Contains (y ∷ (is.front ++ is.behind))) same (first_there y (is.front ++ is.behind)))
-              (λ (in_xs : Contains xs z). rest_there y (is.front ++ is.behind) z (is.others z other in_xs)) (cons_cases y xs z in_all);
-        }
-
--- those that stand once within a list sum up to no more
-sum_within : {X : Type 0} (f : X → ℕ) (xs ys : List X) → StandOnce xs → ((x : X) → Contains xs x → Contains ys x) → sum_by f xs ≤ sum_by f ys
-sum_within f [] ys once within = omega arith
-sum_within {X} f (x ∷ xs) ys once within =
-    let is = parted x ys (within x (first_there x xs)) in
-    let rest = sum_within f xs (is.front ++ is.behind) once.1 (λ y there. is.others y (all_at (λ z. x ≢ z) xs y once.0 there) (within y (rest_there x xs y there))) in
-    let sum : sum_by f ys ≡ sum_by f (is.front ++ x ∷ is.behind) = ap (sum_by f) is.parts in
-    omega (arith, rest, sum, sum_by-cons f x xs, sum_by-append f is.front (x ∷ is.behind), sum_by-cons f x is.behind, sum_by-append f is.front is.behind)
-
--- two lists of the same elements, in whatever order, have one sum
-pub same_sum : {X : Type 0} (f : X → ℕ) (xs ys : List X) → StandOnce xs → StandOnce ys → ((x : X) → Contains xs x → Contains ys x) → ((x : X) → Contains ys x → Contains xs x)
-    → sum_by f xs ≡ sum_by f ys
-same_sum f xs ys once_xs once_ys to back = omega (arith, sum_within f xs ys once_xs to, sum_within f ys xs once_ys back)
-
-pub once_kept : {X : Type 0} (p : X → Bool) (xs : List X) → StandOnce xs → StandOnce (filter p xs)
-once_kept p [] once = tt
-once_kept {X} p (x ∷ xs) once = by (p x) (once_kept p xs once.1)
-  where
-    by : (b : Bool) → StandOnce (filter p xs) → StandOnce (cond b (x ∷ filter p xs) (filter p xs))
-    by true rest = (all_from (λ y. x ≢ y) (filter p xs) (λ y there. all_at (λ z. x ≢ z) xs y once.0 (filter_from p xs y there).0), rest)
-    by false rest = rest
 
 -- ---- live copies
 
@@ -163,17 +106,6 @@ pub has_buffer_is : (buffers : List BufferState) (book : Book) (block : ℕ) →
 has_buffer_is buffers book block is = sym (ap (list_any (λ (b : Buffer). b.block == block)) is ∙ any_map (λ (b : Buffer). b.block == block) book_buffer buffers)
 
 -- ---- whether a block is to be vacated
-
--- books with the same places of buffers and the same live copies say the same
-pub queued_alike : (setup : Setup) (old new : Book) (block : ℕ) → has_buffer new block ≡ has_buffer old block → use_of new block ≡ use_of old block
-    → may_be_queued setup new block ≡ may_be_queued setup old block
-queued_alike setup old new block buffer live =
-    ap (λ (x : Bool). is_below_mark setup.capacity setup.lwm (use_of new block) (not x)) buffer ∙ ap (λ (n : ℕ). is_below_mark setup.capacity setup.lwm n (not (has_buffer old block))) live
-
-pub queued_same : (setup : Setup) (old new : Book) → places_of new ≡ places_of old → new.live ≡ old.live → (block : ℕ) → may_be_queued setup new block ≡ may_be_queued setup old block
-queued_same setup old new places live block =
-    queued_alike setup old new block (buffer_place new block ∙ ap (list_any (λ (p : ℕ × ℕ). p.1 == block)) places ∙ sym (buffer_place old block))
-    (ap (λ (ls : List Live). sum_by (λ (l : Live). l.units) (filter (λ (l : Live). l.block == block) ls)) live)
 
 -- the shelf's mark is the book's
 pub marked_as : {D : Type 0} (setup : Setup) (shelf : ShelfView D) (book : Book) (block used : ℕ) (flushed : Bool) → IsSetupOf setup shelf → IsQueueOf shelf.geometry shelf.limits shelf.queue

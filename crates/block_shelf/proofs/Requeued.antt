@@ -1,8 +1,12 @@
 -- A copy is placed in a buffer that takes it: only the block of the copy before comes into the queue, or leaves it.
-use Rattle.std.proofs.Common.{◌≡◌, ◌≢◌, ◌⊎◌, inl, inr, ⊎_elim, ℕ, ◌*◌, ◌<◌, Bool, true, false, not, cond, ◌&&◌, List, [], ◌∷◌, ◌++◌, refl, sym, ◌∙◌, ap, subst}
+use Rattle.std.proofs.Common.{◌≡◌, ◌≢◌, ◌⊎◌, inl, inr, ⊎_elim, ℕ, ◌*◌, ◌<◌, Bool, true, false, not, ◌&&◌, List, ◌∷◌, ◌++◌, refl, sym, ◌∙◌, ap, subst}
 use Rattle.std.specs.Prelude.{Option, Some, None, ◌==◌, nat_lt, filter, sum_by, Contains}
 use Rattle.std.specs.List.{AllByRecursion, list_any}
-use Rattle.std.proofs.lemmas.Bool.{both_ways, cases_eq, cond-true, cond-false, eq-eqb, eqb-true, ne_eqb}
+use Rattle.std.proofs.lemmas.Bool.{cases_eq, cond-false, eq-eqb, eqb-true, ne_eqb}
+use Rattle.law_lists.proofs.Each.{all_from, all_at}
+use Rattle.law_lists.proofs.Filters.{filter_within}
+use Rattle.law_lists.proofs.Finding.{any_there, any_alike}
+use Rattle.law_lists.proofs.Members.{first_there}
 use Rattle.disk_model.specs.Disk.{DiskView}
 use Rattle.rec_format.specs.declared.version.Digest.{Digest}
 use Rattle.rec_format.specs.declared.version.Version.{Version}
@@ -11,15 +15,14 @@ use Rattle.rec_format.specs.Versions.{version_units}
 use Rattle.rec_format.proofs.Laws.{same_digest_is}
 use Rattle.model_device.specs.Book.{Setup, Book, Live, has_buffer, use_of, may_be_queued, live_of, without_live, refreshed}
 use Rattle.model_device.specs.Device.{State}
-use Rattle.law_start.proofs.Growing.{all_from, all_at}
-use Rattle.law_start.proofs.Members.{first_there}
 use Rattle.write_buffer.specs.declared.stream.Stream.{Stream}
 use Rattle.write_buffer.specs.Buffers.{BufferState}
 use Rattle.unit_ledger.specs.Rolls.{copies_in, rolled_use}
 use Rattle.defrag_queue.specs.Queues.{QueueState, considered, is_below_mark, requeued}
 use Rattle.law_trail.specs.Trail.{places_of, IsBooked}
 use Rattle.law_trail.proofs.Books.{HasNothing, live_there, free_has_nothing}
-use Rattle.law_trail.proofs.Places.{any_there, some_at, none_from, buffer_place}
+use Rattle.law_trail.proofs.Places.{buffer_place}
+use Rattle.law_trail.proofs.Unchanged.{queued_alike}
 use Rattle.raid_book.specs.Raids.{SameButMarks}
 use Rattle.block_shelf.specs.declared.place.Place.{Place}
 use Rattle.block_shelf.specs.View.{ShelfView, IsShelf, IsRoll, IsSetupOf}
@@ -27,32 +30,8 @@ use Rattle.block_shelf.specs.Standing.{IsListed, StandsFor, BooksStand}
 use Rattle.block_shelf.specs.Calls.{copy_live, prior_live}
 use Rattle.block_shelf.specs.Changes.{has_buffer_in}
 use Rattle.block_shelf.specs.Appends.{with_prior_requeued}
-use Rattle.block_shelf.proofs.QueueSteps.{rolled_is_use, has_buffer_is, queued_alike, marked_as, queue_refreshed, queue_considered}
+use Rattle.block_shelf.proofs.QueueSteps.{rolled_is_use, has_buffer_is, marked_as, queue_refreshed, queue_considered}
 use Rattle.block_shelf.proofs.Readied.{IsReadied, new_live, filled, filled_live, filled_places, shelf_places, place_there, some_live, live_own}
-
--- ---- lists
-
-any_same : {X : Type 0} (p : X → Bool) (xs ys : List X) → ((x : X) → p x ≡ true → Contains xs x → Contains ys x) → ((x : X) → p x ≡ true → Contains ys x → Contains xs x)
-    → list_any p xs ≡ list_any p ys
-any_same p xs ys to back = by (list_any p xs) refl
-  where
-    by : (b : Bool) → list_any p xs ≡ b → b ≡ list_any p ys
-    by true some = let one = some_at p xs some in sym (any_there p ys one.0 (to one.0 one.2 one.1) one.2)
-    by false none = sym (none_from p ys (λ y there. false_at y there (p y) refl))
-      where
-        false_at : (y : _) → Contains ys y → (b : Bool) → p y ≡ b → p y ≡ false
-        false_at y there false is = is
-        false_at y there true is = absurd (both_ways (list_any p xs) none (any_there p xs y (back y is there) is))
-
-filter_within : {X : Type 0} (p q : X → Bool) (xs : List X) → AllByRecursion (λ x. p x ≡ true → q x ≡ true) xs → filter p (filter q xs) ≡ filter p xs
-filter_within p q [] all = refl
-filter_within {X} p q (x ∷ xs) all = by (q x) (p x) refl refl (filter_within p q xs all.1)
-  where
-    by : (b c : Bool) → q x ≡ b → p x ≡ c → filter p (filter q xs) ≡ filter p xs → filter p (cond b (x ∷ filter q xs) (filter q xs)) ≡ cond c (x ∷ filter p xs) (filter p xs)
-    by true true is has rest = cond-true (p x) (x ∷ filter p (filter q xs)) (filter p (filter q xs)) has ∙ ap (λ (l : List X). x ∷ l) rest
-    by true false is has rest = cond-false (p x) (x ∷ filter p (filter q xs)) (filter p (filter q xs)) has ∙ rest
-    by false true is has rest = absurd (both_ways (q x) is (all.0 has))
-    by false false is has rest = rest
 
 -- ---- whether a block is to be vacated
 
@@ -96,7 +75,7 @@ module _ {setup : Setup} {s : State} {stream : Stream} {ready : Book} {free : Li
     buffered_same : has_buffer mid k ≡ has_buffer s.book k
     buffered_same =
         buffer_place mid k ∙ ap (list_any (λ (p : ℕ × ℕ). p.1 == k)) (filled_places digest v readied)
-        ∙ any_same (λ (p : ℕ × ℕ). p.1 == k) (shelf_places (front ++ b ∷ behind)) (places_of s.book)
+        ∙ any_alike (λ (p : ℕ × ℕ). p.1 == k) (shelf_places (front ++ b ∷ behind)) (places_of s.book)
         (λ p is there. ⊎_elim (λ (was : Contains (places_of s.book) p). was) (λ (same : p.1 ≡ b.block). absurd (other (sym (eqb-true p.1 k is) ∙ same))) (readied.come p there))
         (λ p is there. readied.kept p there)
         ∙ sym (buffer_place s.book k)

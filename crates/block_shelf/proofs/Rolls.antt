@@ -4,8 +4,8 @@ use Rattle.std.specs.Prelude.{Some, None, Contains, ◌==◌}
 use Rattle.std.proofs.lemmas.Bool.{cases_eq, cond-true, eq-eqb, eqb-true, ne_eqb, both_ways, not-true}
 use Rattle.std.proofs.lemmas.List.{get_or-set_same, get_or-set_other}
 use Rattle.std.proofs.lemmas.List.Filters.{sum_by-filter_both}
-use Rattle.law_start.proofs.Growing.{all_from, all_at, cons_cases}
-use Rattle.law_start.proofs.Members.{filter_there, filter_from, first_there}
+use Rattle.law_lists.proofs.Each.{all_from, all_at}
+use Rattle.law_lists.proofs.Members.{cons_cases, filter_there, filter_from, first_there}
 use Rattle.unit_ledger.specs.declared.roll.LiveCopy.{LiveCopy}
 use Rattle.unit_ledger.specs.Rolls.{BlockRoll, empty_roll, copies_in, copy_at, without_unit, with_roll, HaveOwnUnits}
 use Rattle.unit_ledger.proofs.Copies.{own_units-without}

@@ -3,8 +3,8 @@ use Rattle.std.proofs.Common.{◌≡◌, ◌≢◌, ⊎_elim, ℕ, ◌<◌, List
 use Rattle.std.specs.List.{AllByRecursion}
 use Rattle.std.proofs.lemmas.Bool.{cases_eq}
 use Rattle.std.proofs.lemmas.List.{length-set}
+use Rattle.law_lists.proofs.Each.{all_map}
 use Rattle.disk_model.specs.Disk.{DiskView}
-use Rattle.law_start.proofs.Each.{all_map}
 use Rattle.write_buffer.specs.Buffers.{used_units}
 use Rattle.unit_ledger.specs.Rolls.{BlockRoll, copies_in, spare_of, with_roll, GainsRoom}
 use Rattle.hold_book.specs.Holds.{Holds, HoldState, HoldsBelow, IsHeld}

@@ -2,6 +2,10 @@
 use Rattle.std.proofs.Common.{◌≡◌, ◌≢◌, ◌<◌, ℕ, true, false, List, [], map, inl, inr, sym, ◌∙◌, ap, subst, arith, refl, ne_eqb, Result, Ok, Err}
 use Rattle.std.specs.Prelude.{Contains, ◌==◌, MatchResult, IfOk, IfErr}
 use Rattle.std.specs.List.{AllByRecursion}
+use Rattle.law_lists.proofs.Between.{Parted, parted}
+use Rattle.law_lists.proofs.Each.{all_at, all_map}
+use Rattle.law_lists.proofs.Finding.{any_none}
+use Rattle.law_lists.proofs.Members.{map_there}
 use Rattle.disk_model.specs.Disk.{Images, DiskView, IsHonest}
 use Rattle.rec_format.specs.declared.version.Digest.{Digest}
 use Rattle.rec_format.specs.declared.version.Version.{Version}
@@ -15,9 +19,6 @@ use Rattle.block_format.specs.declared.geometry.Found.{Found}
 use Rattle.block_format.specs.Layout.{Body, IsBody, IsOpen, gate_sector, body_bytes}
 use Rattle.block_format.specs.Readings.{AtMostOneBody, found_from}
 use Rattle.block_flusher.specs.Images.{HasOneBody, IsBodyOf}
-use Rattle.law_start.proofs.Growing.{all_at}
-use Rattle.law_start.proofs.Each.{all_map}
-use Rattle.law_start.proofs.Members.{map_there}
 use Rattle.law_trail.specs.Trail.{Records, places_of}
 use Rattle.law_images.specs.Kept.{Shows}
 use Rattle.law_images.specs.Gates.{GateStands}
@@ -36,8 +37,7 @@ use Rattle.block_shelf.specs.Standing.{StandsFor, ImagesHold, book_buffer}
 use Rattle.block_shelf.specs.Changes.{has_buffer_in}
 use Rattle.block_shelf.specs.Scans.{ReadsAll, ReadsBody, NeedsRead, IsDamageOf, IsOfBlock, IsToldOf, IsSound}
 use Rattle.block_shelf.proofs.Between.{records_at}
-use Rattle.block_shelf.proofs.QueueSteps.{Parted, parted, has_buffer_is}
-use Rattle.law_start.proofs.Placing.{any_none}
+use Rattle.block_shelf.proofs.QueueSteps.{has_buffer_is}
 
 -- the gates differ
 sure_gates : Set ≢ Unsure
@@ -67,14 +67,6 @@ pub only_set : (gate : Gate) → gate ≢ Shut → gate ≢ Unsure → gate ≡ 
 only_set Shut shut unsure = absurd (shut refl)
 only_set Set shut unsure = refl
 only_set Unsure shut unsure = absurd (unsure refl)
-
-pub each_answer : {X E : Type 0} (P Q : X → Type 0) (R S : E → Type 0) (r : Result X E) → ((x : X) → P x → Q x) → ((e : E) → R e → S e) → MatchResult r P R → MatchResult r Q S
-each_answer P Q R S (Ok x) ok err is = ok x is
-each_answer P Q R S (Err e) ok err is = err e is
-
-pub only_err : {X E : Type 0} (P : X → Type 0) (R S : E → Type 0) (r : Result X E) → ((e : E) → R e → S e) → MatchResult r P R → IfErr r S
-only_err P R S (Ok x) err is = tt
-only_err P R S (Err e) err is = err e is
 
 pub only_ok : {X E : Type 0} (P : X → Type 0) (R : E → Type 0) (r : Result X E) → MatchResult r P R → IfOk r P
 only_ok P R (Ok x) is = is

@@ -4,6 +4,7 @@ use Rattle.std.specs.Prelude.{Contains, ◌==◌}
 use Rattle.std.specs.List.{AllByRecursion}
 use Rattle.std.proofs.lemmas.Bool.{eq-eqb, eqb-true, false≢true}
 use Rattle.std.proofs.lemmas.Nat.{mod_below}
+use Rattle.law_lists.proofs.Members.{cons_cases, first_there, rest_there, map_there, map_from, filter_there, filter_from}
 use Rattle.rec_format.specs.declared.version.Digest.{Digest}
 use Rattle.rec_format.specs.declared.version.Head.{Head}
 use Rattle.rec_format.specs.declared.version.Stamp.{Stamp}
@@ -18,8 +19,6 @@ use Rattle.block_format.specs.declared.geometry.Geometry.{Geometry}
 use Rattle.block_format.specs.declared.geometry.Found.{Found}
 use Rattle.block_format.specs.Readings.{found_from}
 use Rattle.law_start.specs.Sound.{IsShapeOf}
-use Rattle.law_start.proofs.Growing.{cons_cases}
-use Rattle.law_start.proofs.Members.{first_there, rest_there, map_there, map_from, filter_there, filter_from}
 use Rattle.law_facts.specs.Facts.{Possible, HasFacts}
 use Rattle.law_facts.specs.Asking.{FindsPossible}
 use Rattle.law_facts.proofs.Guarded.{top_is}

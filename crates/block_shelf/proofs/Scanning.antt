@@ -3,6 +3,9 @@
 use Rattle.std.proofs.Common.{◌≡◌, ◌≢◌, ◌<◌, ℕ, List, [], Result, Ok, Err, refl, sym, ◌∙◌, ap, subst}
 use Rattle.std.specs.Prelude.{Contains, MatchResult, IfErr}
 use Rattle.std.specs.List.{AllByRecursion}
+use Rattle.std.proofs.lemmas.Result.{MatchResult-weaker}
+use Rattle.law_lists.proofs.Answers.{only_err}
+use Rattle.law_lists.proofs.Each.{all_at}
 use Rattle.model_faults.specs.Counts.{Rose}
 use Rattle.disk_model.specs.Disk.{DiskView, IsDisk, IsHonest, Within}
 use Rattle.model_device.specs.Book.{Setup}
@@ -12,7 +15,6 @@ use Rattle.block_format.specs.declared.geometry.Gate.{Gate}
 use Rattle.block_format.specs.declared.geometry.Gate.TheVariants.{Shut, Set, Unsure}
 use Rattle.block_format.specs.Layout.{body_bytes}
 use Rattle.write_buffer.specs.Buffers.{BufferState}
-use Rattle.law_start.proofs.Growing.{all_at}
 use Rattle.raid_book.specs.Books.{BookState, with_scan}
 use Rattle.block_shelf.specs.declared.refusals.VacateRefusal.{VacateRefusal}
 use Rattle.block_shelf.specs.declared.refusals.VacateRefusal.TheVariants.{Memory, Fault}
@@ -25,7 +27,7 @@ use Rattle.block_shelf.proofs.Going.{goes_none}
 use Rattle.block_shelf.proofs.Looking.{goes_read}
 use Rattle.block_shelf.proofs.ReadOnly.{images_of_now, only_none, shelf_stays}
 use Rattle.block_shelf.proofs.Roomed.{later_none}
-use Rattle.block_shelf.proofs.ScanBlocks.{each_answer, only_err, only_ok, only_set, set_reads, set_sound, shut_reads, told_at, unhurt, untold}
+use Rattle.block_shelf.proofs.ScanBlocks.{only_ok, only_set, set_reads, set_sound, shut_reads, told_at, unhurt, untold}
 
 gates_differ : Unsure ≢ Shut
 gates_differ same = cc
@@ -208,12 +210,11 @@ module _ {D : Type 0} (view : D → DiskView) (is_disk : (disk : D) → IsDisk (
                     let here_is : IsShelf view here = subst (IsShelf view) same whole in
                     let looked : Goes view setup [] old s here = goes_read view setup old here s refl only (is_disk new.disk) stands in
                     let told = only.bytes honest.told in
-                    each_answer (λ found. ReadsBody old.geometry (body_bytes old.geometry block (view old.disk).seen) block (heads found)) (λ found. ReadsAll view new s block (heads found))
-                    (IsDamageOf old.geometry (body_bytes old.geometry block (view old.disk).seen) block) IsSound result
+                    MatchResult-weaker result (read honest.told)
                     (λ found reads. subst (λ (v : ShelfView D). ReadsAll view v s block (heads found)) (sym same)
                     (set_reads view setup here s here_is looked.stands (only.honest honest) (looked.safe honest safe) block lt none set (heads found)
                     (subst (λ (l : List ℕ). ReadsBody old.geometry (body_bytes old.geometry block l) block (heads found)) (sym told.1) reads)))
-                    (λ refusal damage. set_sound view setup old s is stands honest safe block lt none set refusal damage) (read honest.told);
+                    (λ refusal damage. set_sound view setup old s is stands honest safe block lt none set refusal damage);
                 waiting = λ b there at. absurd (none_has old.buffers block b none there at);
                 sure = λ sure. ap (λ (v : ShelfView D). v.gates) same;
                 fewer = λ sure honest c image. only.images honest c ((is_disk new.disk).now_since (view old.disk).moment c (only.time.stays (view old.disk).moment only.time.started) image);

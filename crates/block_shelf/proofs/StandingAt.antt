@@ -5,9 +5,8 @@ use Rattle.std.proofs.lemmas.List.{length-take-le, set-get_or, set_split}
 use Rattle.std.proofs.lemmas.List.Elements.{All-from_all_within, recursion_from_All}
 use Rattle.std.specs.Prelude.{Option, Some, None, MatchOption}
 use Rattle.std.specs.List.{AllByRecursion, AllWithin, HoldsAt}
+use Rattle.law_lists.proofs.Each.{all_map, all_parted}
 use Rattle.model_device.specs.Book.{Buffer, filling_buffer}
-use Rattle.law_start.proofs.Each.{all_map}
-use Rattle.law_start.proofs.Opening.{all_parted}
 use Rattle.write_buffer.specs.declared.phase.Phase.TheVariants.{Filling}
 use Rattle.write_buffer.specs.declared.stream.Stream.{Stream}
 use Rattle.write_buffer.specs.Buffers.{BufferState, used_units}

@@ -1,7 +1,10 @@
 -- A start from entries, and from a sound image: the state's versions are those of copies, which lie where the book says.
-use Rattle.std.proofs.Common.{◌≡◌, ⊎_elim, ℕ, ◌+◌, ◌*◌, ◌<◌, Bool, true, false, cond, List, [], ◌∷◌, map, refl, sym, ◌∙◌, ap, subst, arith}
+use Rattle.std.proofs.Common.{◌≡◌, ℕ, ◌+◌, ◌*◌, ◌<◌, Bool, true, false, cond, List, [], ◌∷◌, map, refl, sym, ◌∙◌, ap, subst}
 use Rattle.std.specs.Prelude.{Option, Some, None, IfSome, find, Contains, option_map}
 use Rattle.std.specs.List.{AllByRecursion, range_with_len}
+use Rattle.law_lists.proofs.Each.{all_from, all_at}
+use Rattle.law_lists.proofs.Finding.{found_first, found_any}
+use Rattle.law_lists.proofs.Members.{filter_from}
 use Rattle.disk_model.specs.Disk.{Images, DiskView, IsOnly}
 use Rattle.rec_format.specs.declared.version.Digest.{Digest}
 use Rattle.rec_format.specs.declared.version.Version.{Version}
@@ -23,8 +26,6 @@ use Rattle.law_start.proofs.ColdStart.{start_entry}
 use Rattle.law_start.proofs.StartLive.{start_live, entries_live}
 use Rattle.law_start.proofs.Held.{IsNewest, latest_is}
 use Rattle.law_start.proofs.Images.{one_shape}
-use Rattle.law_start.proofs.Growing.{all_from, all_at, cons_cases}
-use Rattle.law_start.proofs.Members.{first_there, rest_there, filter_from}
 use Rattle.law_start.proofs.Places.{copy_stands}
 use Rattle.law_images.specs.Gates.{GateStands}
 use Rattle.law_images.specs.Held.{AreSure}
@@ -53,17 +54,6 @@ record IsCopyOf (copies : List Copy) (d : Digest) (l : Live) (c : Copy) : Type 0
   live_is : live_copy c ≡ l
   listed : Contains copies c
   named : d ≡ c.digest
-
--- the first that passes a test
-found_first : {X : Type 0} (p : X → Bool) (xs : List X) (x : X) → Contains xs x → p x ≡ true → (y : X) × (find p xs ≡ Some y) × Contains xs y × (p y ≡ true)
-found_first p [] x there passes = absurd (omega (arith, there.1))
-found_first {X} p (z ∷ xs) x there passes = by (p z) refl (found_first p xs x)
-  where
-    by : (b : Bool) → p z ≡ b → (Contains xs x → p x ≡ true → (y : X) × (find p xs ≡ Some y) × Contains xs y × (p y ≡ true)) → (y : X) × (cond b (Some z) (find p xs) ≡ Some y)
-        × Contains (z ∷ xs) y × (p y ≡ true)
-    by true is rest = (z, refl, first_there z xs, is)
-    by false is rest = ⊎_elim (λ (e : z ≡ x). absurd (let one : p z ≡ true = ap p e ∙ passes in cc))
-        (λ (more : Contains xs x). let y = rest more passes in (y.0, y.1, rest_there z xs y.0 y.2, y.3)) (cons_cases z xs x there)
 
 module _ (copies : List Copy) (look : Digest → Option Copy) (s : State) (shows : ShowsCopies copies look s) where
   live_copied : (d : Digest) (l : Live) → live_of d s.book.live ≡ Some l → (c : Copy) × (look d ≡ Some c) × IsCopyOf copies d l c
@@ -100,16 +90,6 @@ module _ (copies : List Copy) (look : Digest → Option Copy) (s : State) (shows
 
 -- ---- a start from entries
 
--- what is found passes the test
-found_is : {X : Type 0} (p : X → Bool) (xs : List X) → IfSome (find p xs) (λ x. Contains xs x × (p x ≡ true))
-found_is p [] = tt
-found_is {X} p (z ∷ xs) = by (p z) refl (find p xs) (found_is p xs)
-  where
-    by : (b : Bool) → p z ≡ b → (o : Option X) → IfSome o (λ x. Contains xs x × (p x ≡ true)) → IfSome (cond b (Some z) o) (λ x. Contains (z ∷ xs) x × (p x ≡ true))
-    by true is o rest = (first_there z xs, is)
-    by false is None rest = tt
-    by false is (Some x) rest = (rest_there z xs x rest.0, rest.1)
-
 abbrev find_copy : List Copy → Digest → Option Copy
 find_copy found d = find (λ c. same_digest d c.digest) found
 
@@ -135,7 +115,7 @@ module _ (setup : Setup) (found : List Copy) (next_number : ℕ) where
   entries_show = record {
     entry_is = λ d. found_top d found;
     live_is = λ d. entries_live setup found next_number d;
-    there = λ d. found_is (λ c. same_digest d c.digest) found;
+    there = λ d. found_any (λ c. same_digest d c.digest) found;
   }
 
   entries_book : (entries_state setup found next_number).book ≡ cold_book setup (map live_copy found) next_number

@@ -7,17 +7,16 @@ use Rattle.std.proofs.lemmas.Bool.{cond-true, cond-false, cases_lt, cases_eq, eq
 use Rattle.std.proofs.lemmas.List.{map-append, append-nil, take_more, drop_more, take-append-drop, length-set}
 use Rattle.std.proofs.lemmas.List.Elements.{filter-append}
 use Rattle.std.proofs.lemmas.List.Sums.{sum_by-append, sum_by-cons}
+use Rattle.law_lists.proofs.Each.{all_at, all_parted}
+use Rattle.law_lists.proofs.Finding.{none_from}
+use Rattle.law_lists.proofs.Members.{filter_from}
+use Rattle.law_lists.proofs.Ranges.{range_below, filter_next}
 use Rattle.rec_format.specs.declared.version.Digest.{Digest}
 use Rattle.rec_format.specs.Versions.{block_capacity}
 use Rattle.disk_model.specs.Bytes.{Apart}
 use Rattle.block_format.specs.declared.geometry.Geometry.{Geometry}
 use Rattle.block_format.specs.Layout.{IsGeometry}
 use Rattle.model_device.specs.Book.{is_in}
-use Rattle.law_start.proofs.Growing.{all_at}
-use Rattle.law_start.proofs.Members.{filter_from}
-use Rattle.law_start.proofs.Opening.{all_parted}
-use Rattle.law_trail.proofs.Places.{none_from}
-use Rattle.law_trail.proofs.Within.{range_below}
 use Rattle.defrag_queue.specs.Queues.{requeued}
 use Rattle.defrag_queue.proofs.Marks as queue
 use Rattle.write_buffer.proofs.Sizes.{sized, body_size}
@@ -27,23 +26,6 @@ use Rattle.block_shelf.specs.declared.place.Place.{Place}
 use Rattle.block_shelf.proofs.Rolls.{roll_here, roll_there}
 use Rattle.block_shelf.proofs.Rooms.{gained}
 use Rattle.block_shelf.specs.Starting.{LiesIn, AreTwo, AreEachTwo, CanBeLive, copy_of_place, copies_at}
-
--- ---- a range with one number more
-
-pub range_more : (a n : ℕ) → range_with_len a (n + 1) ≡ range_with_len a n ++ (a + n) ∷ []
-range_more a zero = ap (λ (k : ℕ). k ∷ []) (omega arith)
-range_more a (suc n) =
-    ap (range_with_len a) (add-one (suc n)) ∙ ap (λ (l : List ℕ). a ∷ l) (ap (range_with_len (a + 1)) (sym (add-one n)) ∙ range_more (a + 1) n)
-    ∙ ap (λ (k : ℕ). (a ∷ range_with_len (a + 1) n) ++ k ∷ []) sum
-  where
-    sum : a + 1 + n ≡ a + suc n
-    sum = omega arith
-
-pub filter_more : (p : ℕ → Bool) (n : ℕ) → filter p (range_with_len 0 (n + 1)) ≡ filter p (range_with_len 0 n) ++ cond (p n) (n ∷ []) []
-filter_more p n = ap (filter p) (range_more 0 n ∙ ap (λ (k : ℕ). range_with_len 0 n ++ k ∷ []) here) ∙ filter-append p (range_with_len 0 n) (n ∷ [])
-  where
-    here : 0 + n ≡ n
-    here = omega arith
 
 -- ---- intervals that are apart
 
@@ -241,14 +223,6 @@ module _ (g : Geometry) (is_g : IsGeometry g) (live : List (Digest × Place)) (c
 
 -- ---- the blocks that pass a test, one after another
 
-pub passing : (p : ℕ → Bool) (k : ℕ) (found new : List ℕ) → found ≡ filter p (range_with_len 0 k) → p k ≡ true → new ≡ found ++ k ∷ [] → new ≡ filter p (range_with_len 0 (k + 1))
-passing p k found new is passes more =
-    more ∙ ap (λ (l : List ℕ). l ++ k ∷ []) is ∙ sym (filter_more p k ∙ ap (λ (l : List ℕ). filter p (range_with_len 0 k) ++ l) (cond-true (p k) (k ∷ []) [] passes))
-
-pub failing : (p : ℕ → Bool) (k : ℕ) (found : List ℕ) → found ≡ filter p (range_with_len 0 k) → p k ≡ false → found ≡ filter p (range_with_len 0 (k + 1))
-failing p k found is fails =
-    is ∙ sym (filter_more p k ∙ ap (λ (l : List ℕ). filter p (range_with_len 0 k) ++ l) (cond-false (p k) (k ∷ []) [] fails) ∙ append-nil (filter p (range_with_len 0 k)))
-
 -- a block that is considered behind those before it
 pub considering : (p : ℕ → Bool) (k : ℕ) → requeued (p k) k (filter p (range_with_len 0 k)) ≡ filter p (range_with_len 0 (k + 1))
 considering p k = by (p k) refl
@@ -263,5 +237,5 @@ considering p k = by (p k) refl
 
     by : (t : Bool) → p k ≡ t → requeued (p k) k before ≡ filter p (range_with_len 0 (k + 1))
     by true is = ap (λ (t : Bool). requeued t k before) is ∙ cond-false (is_in before k) before (before ++ k ∷ []) out
-        ∙ sym (filter_more p k ∙ ap (λ (l : List ℕ). before ++ l) (cond-true (p k) (k ∷ []) [] is))
-    by false is = ap (λ (t : Bool). requeued t k before) is ∙ queue.stays k before out ∙ sym (filter_more p k ∙ ap (λ (l : List ℕ). before ++ l) (cond-false (p k) (k ∷ []) [] is) ∙ append-nil before)
+        ∙ sym (filter_next p k ∙ ap (λ (l : List ℕ). before ++ l) (cond-true (p k) (k ∷ []) [] is))
+    by false is = ap (λ (t : Bool). requeued t k before) is ∙ queue.stays k before out ∙ sym (filter_next p k ∙ ap (λ (l : List ℕ). before ++ l) (cond-false (p k) (k ∷ []) [] is) ∙ append-nil before)

@@ -5,6 +5,11 @@ use Rattle.std.specs.List.{AllByRecursion, list_any, range_with_len}
 use Rattle.std.specs.FinSet as set
 use Rattle.std.proofs.lemmas.Bool.{cond-false, ne_eqb, not-true}
 use Rattle.std.proofs.lemmas.List.Sums.{sum_by-cons}
+use Rattle.std.proofs.lemmas.List.Elements.{filter_agree}
+use Rattle.law_lists.proofs.Each.{all_map, all_from}
+use Rattle.law_lists.proofs.Finding.{none_at}
+use Rattle.law_lists.proofs.Members.{filter_from}
+use Rattle.law_lists.proofs.Ranges.{range_kept_below}
 use Rattle.disk_model.specs.Bytes.{Apart}
 use Rattle.disk_model.specs.Disk.{DiskView, IsHonest}
 use Rattle.rec_format.specs.declared.version.Digest.{Digest}
@@ -12,11 +17,6 @@ use Rattle.rec_format.specs.Versions.{block_capacity, top_number}
 use Rattle.block_format.specs.declared.geometry.Geometry.{Geometry}
 use Rattle.block_format.specs.declared.geometry.Gate.{Gate}
 use Rattle.block_format.specs.Layout.{IsGeometry, device_end}
-use Rattle.law_start.proofs.Each.{all_map}
-use Rattle.law_start.proofs.Growing.{all_from, all_at}
-use Rattle.law_start.proofs.Members.{filter_from}
-use Rattle.law_trail.proofs.Places.{none_at}
-use Rattle.law_trail.proofs.Within.{range_below}
 use Rattle.unit_ledger.specs.declared.roll.LiveCopy.{LiveCopy}
 use Rattle.unit_ledger.specs.Rolls.{BlockRoll, copy_at, copies_in, rolled_use, HaveOwnUnits}
 use Rattle.defrag_queue.specs.Queues.{QueueState, is_below_mark}
@@ -49,36 +49,27 @@ unused_is (x ∷ xs) b all = by (x.1.block == b) (unused_is xs b all.1)
         (λ none. omega (arith, none, takes, sum_by-cons (λ (d : LiveCopy). d.units) (copy_of_place x) (map copy_of_place others)))
     by false rest = rest
 
-pub filter_alike : {X : Type 0} (p q : X → Bool) → ((x : X) → p x ≡ q x) → (xs : List X) → filter p xs ≡ filter q xs
-filter_alike p q same [] = refl
-filter_alike {X} p q same (x ∷ xs) = ap (λ (b : Bool). cond b (x ∷ filter p xs) (filter p xs)) (same x) ∙ ap (λ (l : List X). cond (q x) (x ∷ l) l) (filter_alike p q same xs)
-
 takes_room : (g : Geometry) (live : List (Digest × Place)) → AllByRecursion (LiesIn g) live → AllByRecursion (λ x. 1 ≤ x.1.units) live
 takes_room g live each = all_map (LiesIn g) (λ x. 1 ≤ x.1.units) live (λ x lies. lies.takes) each
 
 pub free_is : (g : Geometry) (live : List (Digest × Place)) (rolls : List BlockRoll) → CanBeLive g live → ((block : ℕ) → copies_in block rolls ≡ copies_at block live)
     → filter (λ b. rolled_use b rolls == 0) (range_with_len 0 g.blocks) ≡ blocks_without live g.blocks
 free_is g live rolls can copies =
-    filter_alike (λ b. rolled_use b rolls == 0) (λ b. not (list_any (λ (x : Digest × Place). x.1.block == b) live))
+    filter_agree (λ b. rolled_use b rolls == 0) (λ b. not (list_any (λ (x : Digest × Place). x.1.block == b) live))
     (λ b. ap (λ (cs : List LiveCopy). sum_by (λ (c : LiveCopy). c.units) cs == 0) (copies b) ∙ unused_is live b (takes_room g live can.each)) (range_with_len 0 g.blocks)
 
 -- a block is queued where what is live in it is as little
 pub queue_is : (g : Geometry) (live : List (Digest × Place)) (rolls : List BlockRoll) (lwm : ℕ) → ((block : ℕ) → copies_in block rolls ≡ copies_at block live)
     → filter (λ b. is_below_mark (block_capacity g.block_size) lwm (rolled_use b rolls) true) (range_with_len 0 g.blocks) ≡ blocks_below live g lwm
 queue_is g live rolls lwm copies =
-    filter_alike (λ b. is_below_mark (block_capacity g.block_size) lwm (rolled_use b rolls) true)
+    filter_agree (λ b. is_below_mark (block_capacity g.block_size) lwm (rolled_use b rolls) true)
     (λ b. is_below_mark (block_capacity g.block_size) lwm (sum_by (λ (c : LiveCopy). c.units) (copies_at b live)) true)
     (λ b. ap (λ (cs : List LiveCopy). is_below_mark (block_capacity g.block_size) lwm (sum_by (λ (c : LiveCopy). c.units) cs) true) (copies b)) (range_with_len 0 g.blocks)
-
--- the blocks of a device that pass a test
-pub passing_below : (p : ℕ → Bool) (blocks : ℕ) → AllByRecursion (λ b. b < blocks) (filter p (range_with_len 0 blocks))
-passing_below p blocks = all_from (λ b. b < blocks) (filter p (range_with_len 0 blocks))
-    (λ b there. all_at (λ k. k < blocks) (range_with_len 0 blocks) b (range_below 0 blocks blocks (omega arith)) (filter_from p (range_with_len 0 blocks) b there).0)
 
 pub start_queue : (g : Geometry) (limits : ShelfLimits) (p : ℕ → Bool) (q : QueueState) → (q.blocks ≡ g.blocks) × (q.capacity ≡ block_capacity g.block_size) × (q.lwm ≡ limits.lwm)
     → q.queue ≡ filter p (range_with_len 0 g.blocks)
     → IsQueueOf g limits q
-start_queue g limits p q shape is = record { blocks = shape.0; capacity = shape.1; lwm = shape.2; below = subst (AllByRecursion (λ b. b < g.blocks)) (sym is) (passing_below p g.blocks) }
+start_queue g limits p q shape is = record { blocks = shape.0; capacity = shape.1; lwm = shape.2; below = subst (AllByRecursion (λ b. b < g.blocks)) (sym is) (range_kept_below p g.blocks) }
 
 -- ---- numbers that rise are apart
 
@@ -160,7 +151,7 @@ module _ {D : Type 0} (view : D → DiskView) (disk : D) (g : Geometry) (limits 
     number = number;
     buffers = tt;
     order = tt;
-    free = passing_below is_free g.blocks;
+    free = range_kept_below is_free g.blocks;
     apart = rising_apart is_free 0 g.blocks;
     gates = count;
     rolls = size;

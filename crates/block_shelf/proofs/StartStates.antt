@@ -1,8 +1,14 @@
 -- For which states a shelf stands behind a start.
-use Rattle.std.proofs.Common.{◌≡◌, ◌⊎◌, inl, inr, ℕ, ◌+◌, ◌<◌, ◌≤◌, Bool, true, false, not, ◌&&◌, List, [], ◌∷◌, map, sum_by, refl, sym, ◌∙◌, ap, subst, arith}
+use Rattle.std.proofs.Common.{◌≡◌, ◌⊎◌, inl, inr, ℕ, ◌+◌, ◌<◌, ◌≤◌, true, false, not, ◌&&◌, List, [], ◌∷◌, map, sum_by, refl, sym, ◌∙◌, ap, subst, arith}
 use Rattle.std.specs.Prelude.{Some, filter, Contains, ◌==◌}
 use Rattle.std.specs.List.{AllByRecursion, IsDistinct, list_any, range_with_len}
 use Rattle.std.proofs.lemmas.Bool.{both_ways, false≢true, ne_eqb, eq-eqb, not-true, eqb-true}
+use Rattle.std.proofs.Math.Bool.{and-true}
+use Rattle.std.proofs.lemmas.List.Elements.{filter_agree}
+use Rattle.std.specs.Cmp.{both_ways as same_when}
+use Rattle.law_lists.proofs.Each.{all_from, all_at}
+use Rattle.law_lists.proofs.Finding.{none_from, none_at}
+use Rattle.law_lists.proofs.Members.{cons_cases, map_there, map_from, filter_there, filter_from}
 use Rattle.rec_format.specs.declared.version.Digest.{Digest}
 use Rattle.rec_format.specs.declared.version.Version.{Version}
 use Rattle.rec_format.specs.Places.{same_digest}
@@ -14,9 +20,6 @@ use Rattle.block_format.specs.declared.geometry.Geometry.{Geometry}
 use Rattle.block_format.specs.declared.geometry.Gate.{Gate}
 use Rattle.block_format.specs.Copies.{Copy}
 use Rattle.law_start.specs.Start.{live_copy}
-use Rattle.law_start.proofs.Growing.{all_from, all_at, cons_cases}
-use Rattle.law_start.proofs.Members.{map_there, map_from, filter_there, filter_from}
-use Rattle.law_trail.proofs.Places.{none_from, none_at}
 use Rattle.law_images.specs.Kept.{BookInOrder}
 use Rattle.law_images.specs.Changes.{records_by}
 use Rattle.unit_ledger.specs.declared.roll.LiveCopy.{LiveCopy}
@@ -34,7 +37,7 @@ use Rattle.block_shelf.specs.Calls.{copy_live}
 use Rattle.block_shelf.specs.Starting.{LiesIn, AreTwo, AreEachTwo, CanBeLive, StartsWith, AreLive, copy_of_place, copies_at, blocks_without, place_of_copy}
 use Rattle.block_shelf.proofs.Frees.{vacant_is, vacant_from, refreshed_free, refreshed_all}
 use Rattle.block_shelf.proofs.QueueSteps.{rolled_is_use}
-use Rattle.block_shelf.proofs.StartShelf.{filter_alike, roll_at}
+use Rattle.block_shelf.proofs.StartShelf.{roll_at}
 
 -- ---- the live copies, as the book lists them
 
@@ -122,15 +125,6 @@ refreshed_queue : (setup : Setup) (old : Book) → (refreshed setup old).queue �
 unfolding refreshed
 refreshed_queue setup old = refl
 
-pub same_when : (b c : Bool) → (b ≡ true → c ≡ true) → (c ≡ true → b ≡ true) → b ≡ c
-same_when true c to back = sym (to refl)
-same_when false true to back = back refl
-same_when false false to back = refl
-
-and_true : (b : Bool) → (b && true) ≡ b
-and_true true = refl
-and_true false = refl
-
 module _ (setup : Setup) (g : Geometry) (live : List (Digest × Place)) (can : CanBeLive g live) (lives : List Live) (same : AreSame live lives) (own : HaveOwnDigests lives) (next_number : ℕ)
     (blocks : setup.blocks ≡ g.blocks) where
   abbrev before : Book
@@ -165,7 +159,7 @@ module _ (setup : Setup) (g : Geometry) (live : List (Digest × Place)) (can : C
   begun_free : begun.free ≡ blocks_without live g.blocks
   begun_free =
       cold_free setup lives next_number ∙ refreshed_free setup before
-      ∙ filter_alike (λ b. may_be_free before b && true) (λ b. not (list_any (λ (x : Digest × Place). x.1.block == b) live)) (λ b. and_true (may_be_free before b) ∙ may_is b) (all_blocks setup)
+      ∙ filter_agree (λ b. may_be_free before b && true) (λ b. not (list_any (λ (x : Digest × Place). x.1.block == b) live)) (λ b. and-true (may_be_free before b) ∙ may_is b) (all_blocks setup)
       ∙ ap (blocks_without live) blocks
 
   pub begun_one : (l m : Live) → Contains lives l → Contains lives m → same_digest l.digest m.digest ≡ true → l ≡ m
@@ -277,8 +271,8 @@ module _ (setup : Setup) (g : Geometry) (live : List (Digest × Place)) (can : C
     pub queued_with : setup.capacity ≡ block_capacity g.block_size → setup.lwm ≡ limits.lwm → RaidStands setup shelf.raid s.raid → BooksStand setup shelf s
     queued_with capacity lwm raid = record {
       same = ap (λ (b : Book). b.queue) (is_book ∙ cold_queued setup lives next_number) ∙ refreshed_queue setup before
-          ∙ filter_alike (λ b. may_be_queued setup before b && true) (λ b. is_below_mark (block_capacity g.block_size) limits.lwm (sum_by (λ (c : LiveCopy). c.units) (copies_at b live)) true)
-          (λ b. and_true (may_be_queued setup before b) ∙ (λ i. is_below_mark (capacity i) (lwm i) (use_is b i) true)) (all_blocks setup)
+          ∙ filter_agree (λ b. may_be_queued setup before b && true) (λ b. is_below_mark (block_capacity g.block_size) limits.lwm (sum_by (λ (c : LiveCopy). c.units) (copies_at b live)) true)
+          (λ b. and-true (may_be_queued setup before b) ∙ (λ i. is_below_mark (capacity i) (lwm i) (use_is b i) true)) (all_blocks setup)
           ∙ ap (λ (n : ℕ). filter (λ b. is_below_mark (block_capacity g.block_size) limits.lwm (sum_by (λ (c : LiveCopy). c.units) (copies_at b live)) true) (range_with_len 0 n)) blocks
           ∙ sym starts.queued;
       all = λ b lt. subst (λ (book : Book). is_in book.queue b ≡ may_be_queued setup book b) (sym (is_book ∙ cold_queued setup lives next_number))

@@ -5,7 +5,7 @@ use Rattle.std.specs.List.{AllByRecursion}
 use Rattle.std.proofs.lemmas.Bool.{cases_lt}
 use Rattle.std.proofs.lemmas.List.{get_or-set_same, get_or_past}
 use Rattle.std.proofs.lemmas.List.Elements.{Contains-get_or}
-use Rattle.law_start.proofs.Growing.{all_at}
+use Rattle.law_lists.proofs.Each.{all_at}
 use Rattle.disk_model.specs.Disk.{DiskView, IsDisk, IsHonest, TornFrom, Within, meanwhile}
 use Rattle.model_device.specs.Book.{Setup}
 use Rattle.model_device.specs.Device.{State}

@@ -4,15 +4,15 @@ use Rattle.std.specs.Prelude.{Contains, IsTrue}
 use Rattle.std.specs.List.{AllByRecursion}
 use Rattle.std.proofs.lemmas.Bool.{both_ways, eq-eqb, eqb-true, false≢true}
 use Rattle.std.proofs.lemmas.List.Sorted.{IsPermutation-sym, Contains-permutation}
+use Rattle.law_lists.proofs.Each.{all_from}
+use Rattle.law_lists.proofs.Finding.{found_is}
+use Rattle.law_lists.proofs.Members.{cons_cases, map_there, map_from}
 use Rattle.rec_format.specs.declared.version.Digest.{Digest}
 use Rattle.rec_format.specs.Places.{same_digest}
 use Rattle.rec_format.proofs.Laws.{same_digest_is, same_digest_refl}
 use Rattle.model_device.specs.Book.{Setup, Live, live_of}
 use Rattle.model_device.specs.Device.{State}
 use Rattle.model_device.specs.Legal.{is_in_block}
-use Rattle.law_start.proofs.Growing.{all_from, cons_cases}
-use Rattle.law_start.proofs.Members.{map_there, map_from}
-use Rattle.law_start.proofs.Placing.{found_is}
 use Rattle.unit_ledger.specs.declared.roll.LiveCopy.{LiveCopy}
 use Rattle.unit_ledger.specs.Rolls.{copies_in, live_in_block}
 use Rattle.unit_ledger.specs.Order.{by_unit, digests_by_unit, AreByUnit}

@@ -1,14 +1,15 @@
 -- What the gates of a device tell, gate by gate.
-use Rattle.std.proofs.Common.{◌≡◌, ◌⊎◌, inl, inr, ℕ, ◌+◌, suc, zero, Bool, true, false, cond, List, [], ◌∷◌, ◌++◌, length, take, drop, refl, sym, ◌∙◌, ap, subst, arith}
+use Rattle.std.proofs.Common.{◌≡◌, inl, inr, ℕ, ◌+◌, suc, zero, Bool, true, false, cond, List, [], ◌∷◌, ◌++◌, length, take, drop, refl, sym, ◌∙◌, ap, subst, arith}
 use Rattle.std.specs.Prelude.{Option, Some, None, slice_get, option_map}
 use Rattle.std.specs.List.{AllByRecursion}
 use Rattle.std.proofs.lemmas.Bool.{false≢true}
 use Rattle.std.proofs.lemmas.List.{take-take}
+use Rattle.law_lists.proofs.Each.{all_joined}
+use Rattle.law_lists.proofs.Places.{place_cases}
 use Rattle.block_format.specs.declared.geometry.Geometry.{Geometry}
 use Rattle.block_format.specs.declared.geometry.Gate.{Gate}
 use Rattle.block_format.specs.declared.geometry.Gate.TheVariants.{Shut, Set, Unsure}
 use Rattle.block_format.specs.Layout.{gate_sector, block_place}
-use Rattle.law_start.proofs.Opening.{all_joined}
 use Rattle.cold_scan.specs.Found.{is_set, IsSure, TellsSector, AreGates, set_blocks}
 
 -- ---- read one after another
@@ -20,15 +21,6 @@ same_gate g block bytes seen gate place read same is =
     ap (take 16) (read ∙ (λ i. take 16 (drop (is i) (same i)))) ∙ take-take 16 16 (drop (block_place g block) bytes) (omega arith)
     ∙ sym (take-take 16 4096 (drop (block_place g block) bytes) (omega arith))
 
-one_more : {X : Type 0} (xs : List X) (y : X) (k : ℕ) (v : X) → slice_get (xs ++ y ∷ []) k ≡ Some v → (slice_get xs k ≡ Some v) ⊎ ((k ≡ length xs) × (Some y ≡ Some v))
-one_more [] y zero v is = inr (refl, is)
-one_more [] y (suc k) v is = cc
-one_more (x ∷ xs) y zero v is = inl is
-one_more (x ∷ xs) y (suc k) v is = elim (one_more xs y k v is) [
-  | inl before ↦ inl before
-  | inr here ↦ inr (ap suc here.0, here.1)
-]
-
 abbrev gate_or : Gate → Option Gate → Gate
 gate_or other None = other
 gate_or other (Some gate) = gate
@@ -36,7 +28,7 @@ gate_or other (Some gate) = gate
 pub gates_more : (g : Geometry) (bytes : List ℕ) (gates new : List Gate) (gate : Gate) (k : ℕ) → new ≡ gates ++ gate ∷ [] → length gates ≡ k → AreGates g bytes gates
     → TellsSector gate (gate_sector g k bytes) → AreGates g bytes new
 gates_more g bytes gates new gate k pushed count are told j other there =
-    elim (one_more gates gate j other (subst (λ (l : List Gate). slice_get l j ≡ Some other) pushed there)) [
+    elim (place_cases gates gate j other (subst (λ (l : List Gate). slice_get l j ≡ Some other) pushed there)) [
       | inl before ↦ are j other before
       | inr here ↦ subst (λ (t : Gate). TellsSector t (gate_sector g j bytes)) (ap (gate_or gate) here.1) (subst (λ (n : ℕ). TellsSector gate (gate_sector g n bytes)) (sym (here.0 ∙ count)) told)
     ]

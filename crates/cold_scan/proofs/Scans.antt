@@ -1,5 +1,5 @@
 -- What a scan of the blocks of a device comes to, block by block.
-use Rattle.std.proofs.Common.{◌≡◌, inl, inr, ℕ, ◌+◌, ◌-◌, ◌/◌, ◌≤◌, ◌<◌, max, suc, zero, true, false, List, [], ◌∷◌, ◌++◌, length, take, drop, refl, sym, ◌∙◌, ap, subst, arith, add-one, zero-add}
+use Rattle.std.proofs.Common.{◌≡◌, inl, inr, ℕ, ◌+◌, ◌-◌, ◌/◌, ◌≤◌, ◌<◌, max, suc, zero, true, false, List, [], ◌∷◌, ◌++◌, length, take, drop, refl, sym, ◌∙◌, ap, subst, arith}
 use Rattle.std.specs.Prelude.{Some, map, slice_get, option_map}
 use Rattle.std.specs.List.{AllByRecursion, range_with_len}
 use Rattle.std.proofs.lemmas.Bool.{cases_eq}
@@ -19,11 +19,12 @@ use Rattle.block_format.specs.Copies.{Copy, HasBodies, copies_from, copies_of}
 use Rattle.law_start.specs.Start.{greatest_number}
 use Rattle.block_format.specs.Refusals.{IsBlock, IsDamagedAt}
 use Rattle.block_format.proofs.BodyRecords.{units-cons}
-use Rattle.law_start.proofs.Opening.{all_joined}
 use Rattle.cold_scan.specs.declared.bodies.Taken.{Taken}
 use Rattle.cold_scan.specs.declared.header.StartCause.{StartCause}
 use Rattle.cold_scan.specs.declared.header.StartCause.TheVariants as why
 use Rattle.std.specs.BTreeMap.{IsOrdered}
+use Rattle.law_lists.proofs.Each.{all_joined}
+use Rattle.law_lists.proofs.Ranges.{range_next}
 use Rattle.rec_format.specs.Places.{digest_cmp}
 use Rattle.cold_scan.specs.declared.bodies.Kept.{Kept}
 use Rattle.cold_scan.specs.Found.{is_set, AreGates, set_blocks, kept_found, KeepsAll, HasKept, LiesBehind, IsTaken, TakesBody, StopsOn, IsStopped}
@@ -66,16 +67,6 @@ takes_body g block number body found old new long reading keeps counted greatest
 }
 
 -- ---- block after block
-
-range_more : (a n : ℕ) → range_with_len a (n + 1) ≡ range_with_len a n ++ (a + n) ∷ []
-range_more a n = rw add-one (more a n)
-  where
-    more : (b k : ℕ) → range_with_len b (suc k) ≡ range_with_len b k ++ (b + k) ∷ []
-    more b zero = ap (λ (x : ℕ). x ∷ []) (omega arith)
-    more b (suc k) = ap (λ (l : List ℕ). b ∷ l) (more (b + 1) k ∙ ap (λ (x : ℕ). range_with_len (b + 1) k ++ x ∷ []) (omega arith))
-
-range_next : (n : ℕ) → range_with_len 0 (n + 1) ≡ range_with_len 0 n ++ n ∷ []
-range_next n = range_more 0 n ∙ ap (λ (x : ℕ). range_with_len 0 n ++ x ∷ []) (zero-add n)
 
 bodies_closed : (g : Geometry) (image : List ℕ) (blocks : List ℕ) (bodies : List Body) (k : ℕ) → HasBodies g image blocks bodies → IsClosed (gate_sector g k image)
     → HasBodies g image (blocks ++ k ∷ []) bodies

@@ -1,6 +1,8 @@
 -- Each command of a node that serves, and of one that halted, means what it has to mean.
 use Rattle.std.proofs.Common.{◌≡◌, inl, inr, ℕ, zero, suc, ◌+◌, ◌<◌, true, false, List, [], ◌∷◌, length, set, refl, sym, ◌∙◌, ap, subst, arith}
 use Rattle.std.specs.Prelude.{◌≢◌, ◌⊎◌, Bool, Option, Some, None, Result, Ok, Err, MatchOption, slice_get}
+use Rattle.std.proofs.lemmas.Option.{slice_get_within, get_or_from_slice_get}
+use Rattle.law_lists.proofs.Places.{set_unchanged}
 use Rattle.disk_model.specs.Disk.{DiskView, IsDisk}
 use Rattle.rec_format.specs.declared.version.Digest.{Digest}
 use Rattle.rec_format.specs.declared.entry.Counts.{Counts}
@@ -40,18 +42,6 @@ use Rattle.core_run.proofs.Sparing.{leaves_none}
 use Rattle.core_run.proofs.Surely.{sure_at, sure_through, sure_work}
 use Rattle.core_run.proofs.Replying.{known_goes_on, stat_goes_on, flushed_goes_on, defragged_goes_on, expired_goes_on, raided_goes_on, one_digest}
 use Rattle.core_run.proofs.Nodes.{Unshown, one_shards, serves_or_halts, later_same, later_at, later_through, acts_any, acts_safe, tends_any, tends_safe}
-
--- a device that stays as it is leaves the list
-set_same : {S : Type 0} (items : List S) (place : ℕ) (item : S) → slice_get items place ≡ Some item → set items place item ≡ items
-set_same [] place item there = cc
-set_same (x ∷ items) zero item there = let same : x ≡ item = cc in ap (λ (y : _). y ∷ items) (sym same)
-set_same (x ∷ items) (suc place) item there = ap (λ (l : List _). x ∷ l) (set_same items place item there)
-
--- a place of a list is within it
-within : {S : Type 0} (items : List S) (place : ℕ) (item : S) → slice_get items place ≡ Some item → place < length items
-within [] place item there = cc
-within (x ∷ items) zero item there = omega arith
-within (x ∷ items) (suc place) item there = let less = within items place item there in omega (arith, less)
 
 module _ {D : Type 0} (view : D → DiskView) (is_disk : (disk : D) → IsDisk (view disk)) where
   -- ---- a command, whatever it is, by what it comes to from each state
@@ -145,13 +135,13 @@ module _ {D : Type 0} (view : D → DiskView) (is_disk : (disk : D) → IsDisk (
 
       from_any : (node : Node) → Each (StandsOn view) olds node → ActsFrom (StandsFor view) unknown (Halts view) Unshown false (serving olds) node c now r (serving News)
       from_any node stands =
-          let t = event_turn view (StandsOn view) (Made false (StandsOn view)) (over_any view) olds Place old new node call replies.0 (within olds Place old at) at goes replies.3 stands in
+          let t = event_turn view (StandsOn view) (Made false (StandsOn view)) (over_any view) olds Place old new node call replies.0 (slice_get_within olds Place old at) at goes replies.3 stands in
           acts_any view olds News node t.0 t.1 c now r
           (does node t.2 (events_of t.0) (at_node node t.2 (events_of t.0) (each_length (StandsOn view) olds node stands) t.5) t.3 (replies.1 ∙ ap answer_reply (sym t.4))) replies.2
 
       from_safe : (node : Node) → Each (StandsSafelyOn view) olds node → ActsFrom (StandsSafely view) (views_of view) (HaltsSafely view) Unshown true (serving olds) node c now r (serving News)
       from_safe node stands =
-          let t = event_turn view (StandsSafelyOn view) (Safely view) (over_safe view is_disk) olds Place old new node call replies.0 (within olds Place old at) at goes replies.3 stands in
+          let t = event_turn view (StandsSafelyOn view) (Safely view) (over_safe view is_disk) olds Place old new node call replies.0 (slice_get_within olds Place old at) at goes replies.3 stands in
           acts_safe view olds News node t.0 t.1 c now r
           (does node t.2 (events_of t.0) (at_node node t.2 (events_of t.0) (each_length (StandsSafelyOn view) olds node stands) t.5) t.3 (replies.1 ∙ ap answer_reply (sym t.4))) replies.2
 
@@ -161,7 +151,7 @@ module _ {D : Type 0} (view : D → DiskView) (is_disk : (disk : D) → IsDisk (
     -- what is known of a record
     module _ (now : ℕ) (r : Reply) (same : new ≡ old) (knows : (s : State) → Agrees old s → r ≡ meta_reply (seen s now digest)) where
       news_same : News ≡ olds
-      news_same = ap (λ (s : ShardView D). set olds Place s) same ∙ set_same olds Place old at
+      news_same = ap (λ (s : ShardView D). set olds Place s) same ∙ set_unchanged olds Place old (sym (get_or_from_slice_get olds Place old old at))
 
       told : (node : Node) → Each (StandsOn view) olds node → r ≡ meta_reply (seen_on (slice_get node (device_number (length node) digest)) now digest)
       told node stands =

@@ -1,5 +1,5 @@
 -- The numbers of a node are the sums of those of its devices, and no sum goes around.
-use Rattle.std.proofs.Common.{◌≡◌, ℕ, zero, suc, ◌+◌, ◌*◌, ◌-◌, ◌%◌, ◌^◌, ◌<◌, ◌≤◌, List, [], ◌∷◌, length, take, refl, ap, arith}
+use Rattle.std.proofs.Common.{◌≡◌, ℕ, zero, suc, ◌+◌, ◌*◌, ◌-◌, ◌%◌, ◌^◌, ◌<◌, ◌≤◌, [], ◌∷◌, length, take, ap, arith}
 use Rattle.std.specs.Prelude.{Some, slice_get}
 use Rattle.std.proofs.lemmas.List.Sums.{sum_by-cons}
 use Rattle.rec_format.specs.declared.entry.Counts.{Counts}
@@ -91,10 +91,3 @@ unwrapped k node few under = λ i. record {
 
 pub none_under : AreUnder 0 (node_counts [])
 none_under = record { records = omega arith; tombstones = omega arith; covered = omega arith; free = omega arith; pending = omega arith; queued = omega arith; held = omega arith }
-
--- all of a list are its first elements
-pub take_all : {X : Type 0} (k : ℕ) (xs : List X) → length xs ≤ k → take k xs ≡ xs
-take_all zero [] all = refl
-take_all zero (x ∷ xs) all = absurd (omega arith)
-take_all (suc k) [] all = refl
-take_all (suc k) (x ∷ xs) all = ap (λ (l : List _). x ∷ l) (take_all k xs (omega arith))

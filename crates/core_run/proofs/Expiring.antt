@@ -2,6 +2,7 @@
 use Rattle.std.proofs.Common.{◌≡◌, ◌≢◌, ℕ, suc, ◌+◌, ◌<◌, ◌≤◌, Bool, false, List, [], ◌++◌, refl, sym, ◌∙◌, ap, subst, arith}
 use Rattle.std.specs.Prelude.{Some, Ok, Err}
 use Rattle.std.specs.List.{AllByRecursion}
+use Rattle.law_lists.proofs.Each.{all_map}
 use Rattle.disk_model.specs.Disk.{DiskView, IsDisk}
 use Rattle.rec_format.specs.declared.version.Digest.{Digest}
 use Rattle.rec_format.specs.Places.{device_number}
@@ -13,7 +14,6 @@ use Rattle.model_device.specs.Events.{Event, Cause, expire_call, after_events}
 use Rattle.model_device.specs.Passes.{part_named}
 use Rattle.model_device.specs.Vacating.{Outcome, did, stopped}
 use Rattle.model_device.specs.Expiring.{ExpiresEach}
-use Rattle.law_start.proofs.Each.{all_map}
 use Rattle.law_sprig.proofs.OtherParts.{expired_stay}
 use Rattle.model_node.specs.Commands.{expired_entries}
 use Rattle.model_node.proofs.ByParts.{of_one_part, first_parts, expired_below, expired_in_turn}

@@ -1,6 +1,7 @@
-use Rattle.std.proofs.Common.{◌≡◌, ◌≢◌, ◌⊎◌, inl, inr, ℕ, zero, suc, ◌+◌, ◌<◌, ◌≤◌, List, [], ◌∷◌, length, set, Some, refl, sym, ◌∙◌, ap, subst, arith, below_more}
+use Rattle.std.proofs.Common.{◌≡◌, ◌≢◌, ◌⊎◌, inl, inr, ℕ, ◌+◌, ◌<◌, ◌≤◌, List, length, set, Some, refl, sym, ◌∙◌, ap, subst, arith, below_more}
 use Rattle.std.specs.Prelude.{slice_get}
-use Rattle.std.proofs.lemmas.Option.{slice_get_within}
+use Rattle.std.proofs.lemmas.Option.{slice_get_within, same_Some}
+use Rattle.law_lists.proofs.Places.{set_cases, set_other}
 use Rattle.model_faults.specs.Counts.{Rose}
 use Rattle.disk_model.specs.Disk.{DiskView, IsDisk}
 use Rattle.disk_model.specs.Runs.{Leaves, leaves_none}
@@ -10,28 +11,6 @@ use Rattle.shard_core.specs.Finding.{IsHalfFormatted}
 use Rattle.core_run.specs.Formatting.{EachDisk, IsMade, GoesOn, AllFit, StopsAt}
 
 -- ---- lists
-
--- what stands at a place behind a write
-pub set_cases : {X : Type 0} (xs : List X) (k i : ℕ) (y x : X) → slice_get (set xs k y) i ≡ Some x → ((i ≡ k) × (x ≡ y)) ⊎ ((i ≢ k) × (slice_get xs i ≡ Some x))
-set_cases [] k i y x found = absurd cc
-set_cases (z ∷ xs) zero zero y x found = inl (refl, cc)
-set_cases (z ∷ xs) zero (suc i) y x found = inr ((λ same. absurd (omega arith)), found)
-set_cases (z ∷ xs) (suc k) zero y x found = inr ((λ same. absurd (omega arith)), found)
-set_cases (z ∷ xs) (suc k) (suc i) y x found = by (set_cases xs k i y x found)
-  where
-    by : ((i ≡ k) × (x ≡ y)) ⊎ ((i ≢ k) × (slice_get xs i ≡ Some x)) → ((suc i ≡ suc k) × (x ≡ y)) ⊎ ((suc i ≢ suc k) × (slice_get xs i ≡ Some x))
-    by (inl both) = inl (ap suc both.0, both.1)
-    by (inr both) = inr ((λ same. both.0 (omega arith)), both.1)
-
-pub set_other : {X : Type 0} (xs : List X) (k i : ℕ) (y : X) → i ≢ k → slice_get (set xs k y) i ≡ slice_get xs i
-set_other [] k i y apart = refl
-set_other (z ∷ xs) zero zero y apart = absurd (apart refl)
-set_other (z ∷ xs) zero (suc i) y apart = refl
-set_other (z ∷ xs) (suc k) zero y apart = refl
-set_other (z ∷ xs) (suc k) (suc i) y apart = set_other xs k i y (λ same. apart (ap suc same))
-
-same_some : {X : Type 0} (a b : X) → Some a ≡ Some b → a ≡ b
-same_some a b is = cc
 
 module _ {D : Type 0} (view : D → DiskView) where
   -- ---- a disk that isn't touched
@@ -43,7 +22,7 @@ module _ {D : Type 0} (view : D → DiskView) where
 
   pub all_stay : ((disk : D) → IsDisk (view disk)) → (g : ℕ → Geometry) (disks : List D) → EachDisk view (λ k. GoesOn (g k)) disks disks
   all_stay is g disks k before after at_before at_after =
-      subst (λ (d : D). GoesOn (g k) (view before) (view d)) (same_some before after (sym at_before ∙ at_after)) (goes_none (g k) (view before) (is before))
+      subst (λ (d : D). GoesOn (g k) (view before) (view d)) (same_Some before after (sym at_before ∙ at_after)) (goes_none (g k) (view before) (is before))
 
   -- ---- one disk more
 
@@ -55,7 +34,7 @@ module _ {D : Type 0} (view : D → DiskView) where
     where
       by : ((k ≡ i) × (after ≡ new)) ⊎ ((k ≢ i) × (slice_get now k ≡ Some after)) → P k (view before) (view after)
       by (inl both) =
-          let before_is : before ≡ disk = same_some before disk (sym at_before ∙ ap (λ (n : ℕ). slice_get old n) both.0 ∙ at) in
+          let before_is : before ≡ disk = same_Some before disk (sym at_before ∙ ap (λ (n : ℕ). slice_get old n) both.0 ∙ at) in
           subst (λ (n : ℕ). P n (view before) (view after)) (sym both.0)
           (subst (λ (d : D). P i (view d) (view after)) (sym before_is) (subst (λ (d : D). P i (view disk) (view d)) (sym both.1) here))
       by (inr both) = other k before after both.0 at_before both.1
@@ -67,7 +46,7 @@ module _ {D : Type 0} (view : D → DiskView) where
   pub fit_more : (g : ℕ → Geometry) (disks : List D) (i : ℕ) (disk : D) → slice_get disks i ≡ Some disk → FitUpTo g disks i → device_end (g i) ≤ (view disk).extent → FitUpTo g disks (i + 1)
   fit_more g disks i disk at fits here k other below at_other =
       below_more (λ (k : ℕ). (other : D) → slice_get disks k ≡ Some other → device_end (g k) ≤ (view other).extent) i (λ k below other. fits k other below)
-      (λ other at_other. subst (λ (d : D). device_end (g i) ≤ (view d).extent) (same_some disk other (sym at ∙ at_other)) here) k below other at_other
+      (λ other at_other. subst (λ (d : D). device_end (g i) ≤ (view d).extent) (same_Some disk other (sym at ∙ at_other)) here) k below other at_other
 
   pub all_fit : (g : ℕ → Geometry) (disks : List D) (count : ℕ) → FitUpTo g disks count → length disks ≤ count → AllFit view g disks
   all_fit g disks count fits whole k disk at = let within : k < length disks = slice_get_within disks k disk at in fits k disk (omega arith) at

@@ -1,6 +1,6 @@
 -- What a node keeps over its calls, and what is seen of it.
-use Rattle.std.proofs.Common.{◌≡◌, inl, inr, Bool, true, false, ◌≤◌, ℕ, zero, suc, ◌+◌, List, [], ◌∷◌, length, set, refl, sym, ◌∙◌, ap, subst, arith}
-use Rattle.std.specs.Prelude.{Option, Some, None, Result, Ok, Err, slice_get, is_some, not, Vec, vec_capacity}
+use Rattle.std.proofs.Common.{◌≡◌, inl, inr, ◌≤◌, ℕ, zero, suc, ◌+◌, List, [], ◌∷◌, length, set, refl, sym, ◌∙◌, ap, subst, arith}
+use Rattle.std.specs.Prelude.{Option, Some, None, Result, Ok, Err, slice_get, Vec, vec_capacity}
 use Rattle.std.specs.Global.{Global}
 use Rattle.std.specs.Vec.{with_items}
 use Rattle.std.proofs.lemmas.List.{with_items_is}
@@ -156,14 +156,6 @@ module _ {D : Type 0} (set : Settings) (a b : ℕ) (shards : List (ShardView D))
 
 -- ---- what a test has told
 
-pub none_by : {X : Type 0} (o : Option X) (none : Bool) → is_some o ≡ not none → none ≡ true → o ≡ None
-none_by None none is yes_none = refl
-none_by (Some x) none is yes_none = let e : true ≡ false = is ∙ ap not yes_none in cc
-
-pub some_by : {X : Type 0} (o : Option X) (none : Bool) → is_some o ≡ not none → none ≡ false → (x : X) × (o ≡ Some x)
-some_by None none is some = let e : false ≡ true = is ∙ ap not some in cc
-some_by (Some x) none is some = (x, refl)
-
 module _ {D : Type 0} (set : Settings) (a b : ℕ) (shards : List (ShardView D)) (refused : Option (ℕ × StartCause)) (disks : List D) where
   -- the devices of one that serves
   pub devices_of : refused ≡ None → IsNode set a b (seen_so shards refused disks) → (1 ≤ length shards) × (length shards ≤ 16) × (length shards ≤ b) × AreDevices set 0 (length shards) shards
@@ -173,14 +165,6 @@ module _ {D : Type 0} (set : Settings) (a b : ℕ) (shards : List (ShardView D))
           × AreDevices set 0 (length shards) shards
       by None none is = (is.1.1, is.1.2, is.1.3, is.1.4)
       by (Some why) none is = cc
-
-pub not_some : {X : Type 0} (o : Option X) (told : Bool) → told ≡ is_some o → told ≡ false → o ≡ None
-not_some None told is none = refl
-not_some (Some x) told is none = let e : true ≡ false = sym is ∙ none in cc
-
-pub is_there : {X : Type 0} (o : Option X) (told : Bool) → told ≡ is_some o → told ≡ true → (x : X) × (o ≡ Some x)
-is_there None told is some = let e : false ≡ true = sym is ∙ some in cc
-is_there (Some x) told is some = (x, refl)
 
 -- a command of a node that serves before it and after it
 pub acts_so : {D : Type 0} (view : D → DiskView) (set : Settings) (a b : ℕ) (olds news : List (ShardView D)) (refused : Option (ℕ × StartCause)) (disks : List D) (self : NodeView D)

@@ -1,6 +1,6 @@
 -- A loop over all devices, turn by turn.
 use Rattle.std.proofs.Common.{◌≡◌, inl, inr, Bool, true, false, ℕ, zero, suc, ◌+◌, ◌<◌, ◌≤◌, List, [], ◌∷◌, length, get_or, set, refl, sym, ◌∙◌, ap, subst, arith}
-use Rattle.std.specs.Prelude.{Option, Some, None, Result, Ok, Err, IsErr, is_err, is_some, not}
+use Rattle.std.specs.Prelude.{Option, Some, None, Result, Ok, Err, is_err, is_some, not}
 use Rattle.disk_model.specs.declared.disk.DiskFault.{DiskFault}
 use Rattle.core_run.specs.Turns.{Through, WorkTurn, WorksEach, first_failed}
 
@@ -67,11 +67,6 @@ module _ {S R E : Type 0} (Does : Result R E → S → S → Type 0) (plus : R �
   work_fails why (suc k) a (o ∷ olds) (m ∷ mid) b d x through there turn =
       let first = through.1 in
       inr (first.0, first.1, subst (λ (c : R). WorksEach Does plus (Err why) c olds (set mid k x)) first.2 (work_fails why k through.0 olds mid b d x through.2 (omega arith) turn))
-
--- what holds of an error holds of an answer that is one
-pub err_alone : {A E : Type 0} (Holds : Result A E → Type 0) (r : Result A E) → IsErr r → ((fault : E) → Holds (Err fault)) → Holds r
-err_alone Holds (Ok a) is each = let e : false ≡ true = is in cc
-err_alone Holds (Err fault) is each = each fault
 
 -- ---- the first that failed
 

@@ -1,5 +1,5 @@
 -- What each device makes in a call is what the node makes: the events of all, one device after another.
-use Rattle.std.proofs.Common.{◌≡◌, ℕ, zero, suc, ◌<◌, Bool, List, [], ◌∷◌, length, get_or, set, refl, sym, ap, subst, arith}
+use Rattle.std.proofs.Common.{◌≡◌, ℕ, zero, suc, Bool, List, [], ◌∷◌, length, set, refl, sym, ap, subst}
 use Rattle.std.specs.Prelude.{Some, slice_get}
 use Rattle.disk_model.specs.Disk.{DiskView, IsDisk}
 use Rattle.disk_model.specs.Runs.{OneOf, Leaves, leaves_none}
@@ -126,9 +126,3 @@ pub each_more : {S : Type 0} (P Q : S → Slot → Type 0) → ((shard : S) (slo
 each_more P Q more [] node each = each
 each_more P Q more (x ∷ shards) [] each = absurd each
 each_more P Q more (x ∷ shards) (slot ∷ node) each = (more x slot each.0, each_more P Q more shards node each.1)
-
--- the element at a place of a list
-pub there_is : {S : Type 0} (items : List S) (place : ℕ) (d : S) → place < length items → slice_get items place ≡ Some (get_or items place d)
-there_is [] place d there = absurd (omega arith)
-there_is (x ∷ items) zero d there = refl
-there_is (x ∷ items) (suc place) d there = there_is items place d (omega arith)

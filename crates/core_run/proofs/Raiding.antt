@@ -3,6 +3,7 @@ use Rattle.std.proofs.Common.{◌≡◌, ◌≢◌, ℕ, ◌+◌, ◌*◌, ◌^�
 use Rattle.std.specs.Prelude.{◌==◌, nat_lt, nat_le, Option, Some, None, Ok, Err, MatchBool}
 use Rattle.std.proofs.lemmas.Bool.{eq-eqb}
 use Rattle.std.proofs.lemmas.List.{append-nil, append_assoc}
+use Rattle.law_lists.proofs.Each.{all_map}
 use Rattle.disk_model.specs.Disk.{DiskView, IsDisk, IsHonest}
 use Rattle.rec_format.specs.declared.version.Digest.{Digest}
 use Rattle.rec_format.specs.declared.version.Stamp.{Stamp}
@@ -20,7 +21,6 @@ use Rattle.raid_book.specs.declared.turn.RaidNext.{RaidNext}
 use Rattle.raid_book.specs.declared.turn.RaidNext.TheVariants.{Mark, Scan, Apply, Drop, Finished}
 use Rattle.raid_book.specs.Turns.{turn_of}
 use Rattle.raid_book.specs.Books.{BookState}
-use Rattle.law_start.proofs.Each.{all_map}
 use Rattle.block_shelf.specs.View.{ShelfView, AreSure}
 use Rattle.block_shelf.specs.Scans.{possible_copies}
 use Rattle.block_shelf.proofs.Surely.{sure_same}

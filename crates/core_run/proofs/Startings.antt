@@ -1,7 +1,8 @@
 -- Devices that are started one after another, and what is left of them where one is refused.
 use Rattle.std.proofs.Common.{◌≡◌, ℕ, zero, suc, ◌+◌, ◌≤◌, List, [], ◌∷◌, ◌++◌, length, refl, sym, ◌∙◌, ap, subst, arith}
 use Rattle.std.specs.Prelude.{reverse, Option, Some, None}
-use Rattle.std.proofs.lemmas.List.{reverse-append, map-append}
+use Rattle.std.proofs.lemmas.List.{map-append}
+use Rattle.law_lists.proofs.Places.{reverse_push}
 use Rattle.disk_model.specs.Disk.{DiskView}
 use Rattle.block_shelf.specs.Disks.{OnlyRead}
 use Rattle.cold_scan.specs.declared.header.StartCause.{StartCause}
@@ -67,18 +68,9 @@ module _ {D : Type 0} (view : D → DiskView) (set : Settings) (devices : ℕ) w
 
 -- ---- the last of a list
 
--- one more at the end is the first where the list is turned around
-pub turned : {X : Type 0} (front : List X) (last : X) → reverse (front ++ last ∷ []) ≡ last ∷ reverse front
-turned front last = reverse-append front (last ∷ [])
-
 -- the disks of the devices that are left, and of the last one that was stopped
 pub served_turned : {D : Type 0} (front : List (ShardView D)) (last : ShardView D) → reverse (disks_served (front ++ last ∷ [])) ≡ last.shelf.disk ∷ reverse (disks_served front)
-served_turned front last = ap reverse (map-append (λ s. s.shelf.disk) front (last ∷ [])) ∙ turned (disks_served front) last.shelf.disk
-
--- a list of no elements
-pub no_items : {X : Type 0} (items : List X) → length items ≡ 0 → items ≡ []
-no_items [] none = refl
-no_items (x ∷ items) none = absurd (omega (arith, none))
+served_turned front last = ap reverse (map-append (λ s. s.shelf.disk) front (last ∷ [])) ∙ reverse_push (disks_served front) last.shelf.disk
 
 module _ {D : Type 0} (view : D → DiskView) (set : Settings) where
   -- as many as there are disks, numbered in order

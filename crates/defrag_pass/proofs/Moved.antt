@@ -1,9 +1,10 @@
 -- A move makes one event that may follow, and sprig and shelf stand for the state after it.
 use Rattle.std.proofs.Common.{◌≡◌, ◌⊎◌, inl, inr, ℕ, ◌≤◌, max, Bool, true, false, List, [], ◌∷◌, refl, sym, ◌∙◌, ap, subst, arith}
-use Rattle.std.specs.Prelude.{◌==◌, Option, Some, None, Err, IsSome, option_map, MatchBool}
+use Rattle.std.specs.Prelude.{◌==◌, Option, Some, None, Err, IsSome, option_map}
 use Rattle.std.specs.List.{AllByRecursion}
 use Rattle.std.proofs.Math.Nat.{le_refl, le_trans}
 use Rattle.std.proofs.lemmas.Bool.{false≢true, eq-eqb}
+use Rattle.law_lists.proofs.Answers.{match_true, match_false}
 use Rattle.model_faults.specs.Counts.{Rose}
 use Rattle.rec_format.specs.declared.version.Digest.{Digest}
 use Rattle.rec_format.specs.declared.version.Version.{Version}
@@ -49,14 +50,6 @@ use Rattle.defrag_pass.specs.declared.refusal.MoveRefusal.{MoveRefusal}
 use Rattle.defrag_pass.specs.declared.refusal.MoveRefusal.TheVariants as why
 use Rattle.defrag_pass.specs.Moves.{Answers, IsShelfLeft, IsUnread, IsUndamaged, refusal_to_append}
 use Rattle.defrag_pass.proofs.Telling.{left_room}
-
-when_true : (P Q : Type 0) (b : Bool) → b ≡ true → P → MatchBool b P Q
-when_true P Q true is p = p
-when_true P Q false is p = absurd (false≢true is)
-
-when_false : (P Q : Type 0) (b : Bool) → b ≡ false → Q → MatchBool b P Q
-when_false P Q true is q = absurd (false≢true (sym is))
-when_false P Q false is q = q
 
 -- a count that didn't fall, and then rose, has risen
 pub rose_later : (a b c : ℕ) → a ≤ b → Rose b c → Rose a c
@@ -110,7 +103,7 @@ module _ {D : Type 0} (view : D → DiskView) (setup : Setup) (digest : Digest) 
       event = record { call = move_call digest block; answer = happened false; steps = []; faults_before = (view old.disk).faults; faults_after = (view old.disk).faults }
 
       may : (told : Bool) → Allowed setup told s event (move_call digest block)
-      may told = when_false _ _ (is_in_block block (live_of digest s.book.live)) out (refl, refl)
+      may told = match_false (is_in_block block (live_of digest s.book.live)) _ _ out (refl, refl)
 
   pub none_there : entry_of digest sprig.entries ≡ None → is_in_block block (live_of digest s.book.live) ≡ false
   none_there none = ap (is_in_block block) (place_is setup part sprig s stand.sprig_stands.fits.entries digest refl ∙ ap (option_map live_of_entry) none)
@@ -168,7 +161,7 @@ module _ {D : Type 0} (view : D → DiskView) (setup : Setup) (digest : Digest) 
 
       may_end : (told : Bool) (event : Event) → NoMemory event ⊎ Unless event (cause e.units) (Ends told event e.units) → Allowed setup told s event (move_call digest block)
       may_end told event ends =
-          when_true _ _ (is_in_block block (live_of digest s.book.live)) (out_of true (eq-eqb e.block block at))
+          match_true (is_in_block block (live_of digest s.book.live)) _ _ (out_of true (eq-eqb e.block block at))
           (subst (λ (o : Option Live). NoMemory event ⊎ Unless event (cause (live_units o)) (Ends told event (live_units o))) (sym live_here) ends)
 
       may_end_so : (told : Bool) (event : Event) → cause e.units ≡ None → Ends told event e.units → Allowed setup told s event (move_call digest block)

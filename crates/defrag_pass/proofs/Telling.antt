@@ -8,7 +8,7 @@ use Rattle.rec_format.specs.declared.entry.Entry.{Entry}
 use Rattle.model_device.specs.Book.{first_block}
 use Rattle.block_format.specs.declared.geometry.Geometry.{Geometry}
 use Rattle.block_format.specs.Layout.{block_place}
-use Rattle.law_start.proofs.Growing.{all_from}
+use Rattle.law_lists.proofs.Each.{all_from}
 use Rattle.write_buffer.specs.Buffers.{BufferState}
 use Rattle.block_shelf.specs.declared.place.Place.{Place}
 use Rattle.block_shelf.specs.declared.refusals.PutRefusal.{PutRefusal}

@@ -1,9 +1,9 @@
 -- The marks of the queued blocks, while a block enters or leaves.
-use Rattle.std.proofs.Common.{◌≡◌, ◌≢◌, ℕ, ◌<◌, ◌≤◌, Bool, true, false, not, cond, replicate, ◌||◌, eqb, List, [], ◌∷◌, ◌++◌, length, get_or, set, refl, ap, sym, subst, ◌∙◌, ⊎_elim, arith}
+use Rattle.std.proofs.Common.{◌≡◌, ◌≢◌, ℕ, ◌<◌, ◌≤◌, Bool, true, false, not, replicate, ◌||◌, eqb, List, [], ◌∷◌, ◌++◌, length, get_or, set, refl, ap, sym, subst, ◌∙◌, ⊎_elim, arith}
 use Rattle.std.specs.Prelude.{filter}
 use Rattle.std.specs.Bool.{beq}
 use Rattle.std.specs.List.{AllByRecursion, IsDistinct, list_any}
-use Rattle.std.proofs.lemmas.Bool.{cases_eq, cases_lt, eq-eqb, ne_eqb, eqb-true, cond-true, cond-false}
+use Rattle.std.proofs.lemmas.Bool.{cases_eq, cases_lt, eq-eqb, ne_eqb, eqb-true, cond-true, cond-false, true≢false}
 use Rattle.std.proofs.lemmas.Cmp.{nat_eq_equiv}
 use Rattle.std.proofs.lemmas.List.{get_or_read, get_or-set_same, get_or-set_other, get_or-replicate, length-replicate, length-set, length-append}
 use Rattle.std.proofs.Math.ListN.{get_or-eq_default}
@@ -11,11 +11,9 @@ use Rattle.std.proofs.lemmas.List.Folds.{list_any-append}
 use Rattle.std.proofs.lemmas.Map.Keys.{IsDistinct-push, IsDistinct-head, IsDistinct-tail, IsDistinct-cons}
 use Rattle.std.proofs.lemmas.Map.Views.{any-filter_same}
 use Rattle.std.proofs.lemmas.Map.Steps.{length-le_from_distinct_below}
+use Rattle.std.proofs.Math.Bool.{or-false, or-true}
 use Rattle.model_device.specs.Book.{is_in}
 use Rattle.defrag_queue.specs.Queues.{Marked, requeued}
-
-pub true-false : true ≡ false → ⊥
-true-false e = let P : Bool → Type 0 = λ t. cond t (Unit {0}) ⊥ in subst P e tt
 
 abbrev pub without : ℕ → List ℕ → List ℕ
 without b q = filter (λ x. not (eqb x b)) q
@@ -31,7 +29,7 @@ stays b [] e = refl
 stays b (x ∷ xs) e = by (eqb x b) refl (stays b xs)
   where
     by : (t : Bool) → eqb x b ≡ t → (is_in xs b ≡ false → without b xs ≡ xs) → without b (x ∷ xs) ≡ x ∷ xs
-    by true is rest = absurd (true-false (ap (λ y. y || is_in xs b) (sym is) ∙ e))
+    by true is rest = absurd (true≢false (ap (λ y. y || is_in xs b) (sym is) ∙ e))
     by false is rest = cond-true (not (eqb x b)) (x ∷ without b xs) (without b xs) (ap not is) ∙ ap (λ l. x ∷ l) (rest (ap (λ y. y || is_in xs b) (sym is) ∙ e))
 
 apart_from : (x b : ℕ) (q : List ℕ) → AllByRecursion (λ y. eqb x y ≡ false) q → AllByRecursion (λ y. eqb x y ≡ false) (without b q)
@@ -52,21 +50,13 @@ once_less b (x ∷ xs) h = by (eqb x b) refl (once_less b xs (IsDistinct-tail eq
         subst (λ l. IsDistinct eqb l) (sym (cond-true (not (eqb x b)) (x ∷ without b xs) (without b xs) (ap not is)))
         (IsDistinct-cons eqb x (without b xs) (apart_from x b xs (IsDistinct-head eqb x xs h)) rest)
 
-or_false : (x : Bool) → (x || false) ≡ x
-or_false true = refl
-or_false false = refl
-
-or_true : (x : Bool) → (x || true) ≡ true
-or_true true = refl
-or_true false = refl
-
 -- which blocks are in the queue, after one has entered or left
 pub in_entered : (b x : ℕ) (q : List ℕ) → x ≢ b → is_in (q ++ b ∷ []) x ≡ is_in q x
 in_entered b x q other =
-    list_any-append (λ y. eqb y x) q (b ∷ []) ∙ ap (λ t. is_in q x || (t || false)) (ne_eqb b x (λ e. other (sym e))) ∙ or_false (is_in q x)
+    list_any-append (λ y. eqb y x) q (b ∷ []) ∙ ap (λ t. is_in q x || (t || false)) (ne_eqb b x (λ e. other (sym e))) ∙ or-false (is_in q x)
 
 pub entered : (b : ℕ) (q : List ℕ) → is_in (q ++ b ∷ []) b ≡ true
-entered b q = list_any-append (λ y. eqb y b) q (b ∷ []) ∙ ap (λ t. is_in q b || (t || false)) (eq-eqb b b refl) ∙ or_true (is_in q b)
+entered b q = list_any-append (λ y. eqb y b) q (b ∷ []) ∙ ap (λ t. is_in q b || (t || false)) (eq-eqb b b refl) ∙ or-true (is_in q b)
 
 pub in_left : (b x : ℕ) (q : List ℕ) → x ≢ b → is_in (without b q) x ≡ is_in q x
 in_left b x q other =
@@ -100,7 +90,7 @@ pub few : (q : List ℕ) (m : List Bool) → Marked q m → length q ≤ length 
 few q m h = length-le_from_distinct_below q (length m) h.once below
   where
     below : (x : ℕ) → list_any (eqb x) q ≡ true → x < length m
-    below x is = ⊎_elim (λ (lt : x < length m). lt) (λ (ge : length m ≤ x). absurd (true-false (sym is ∙ flipped x q ∙ h.tells x ∙ get_or-eq_default m false ge))) (cases_lt x (length m))
+    below x is = ⊎_elim (λ (lt : x < length m). lt) (λ (ge : length m ≤ x). absurd (true≢false (sym is ∙ flipped x q ∙ h.tells x ∙ get_or-eq_default m false ge))) (cases_lt x (length m))
 
 pub fewer : (b : ℕ) (q : List ℕ) (m : List Bool) → Marked q m → b < length m → is_in q b ≡ false → length q < length m
 fewer b q m h within out =
@@ -125,15 +115,15 @@ read_mark b q m v h within e = h.tells b ∙ sym (get_or_read m b v within e fal
 -- what comparing it with another says
 pub same : (a b : Bool) → beq a b ≡ true → a ≡ b
 same true true e = refl
-same true false e = absurd (true-false (sym e))
-same false true e = absurd (true-false (sym e))
+same true false e = absurd (true≢false (sym e))
+same false true e = absurd (true≢false (sym e))
 same false false e = refl
 
 pub differs : (a b : Bool) → beq a b ≡ false → b ≡ not a
-differs true true e = absurd (true-false e)
+differs true true e = absurd (true≢false e)
 differs true false e = refl
 differs false true e = refl
-differs false false e = absurd (true-false e)
+differs false false e = absurd (true≢false e)
 
 pub none_marked : (n : ℕ) → Marked [] (replicate n false)
 unfolding IsDistinct

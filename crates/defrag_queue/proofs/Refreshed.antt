@@ -7,16 +7,14 @@ use Rattle.std.proofs.lemmas.Bool.{cases_eq, cond-true, cond-false, eq-eqb, ne_e
 use Rattle.std.proofs.lemmas.List.{append-nil}
 use Rattle.std.proofs.lemmas.List.Folds.{list_any-append}
 use Rattle.std.proofs.lemmas.Map.Views.{any-filter_same}
+use Rattle.law_lists.proofs.Filters.{filter_each}
+use Rattle.law_lists.proofs.Ranges.{range_none, range_one}
+use Rattle.law_lists.proofs.Each.{all_fewer}
 use Rattle.model_device.specs.Book.{Setup, Book, is_in, all_blocks, may_be_queued, updated, refreshed}
 use Rattle.defrag_queue.specs.Queues.{requeued}
 use Rattle.defrag_queue.proofs.Marks.{without}
 
 -- ---- lists
-
--- two tests that agree at each block of a list keep the same ones
-filter_each : (p q : ℕ → Bool) (bs : List ℕ) → AllByRecursion (λ b. p b ≡ q b) bs → filter p bs ≡ filter q bs
-filter_each p q [] each = refl
-filter_each p q (b ∷ bs) each = λ i. cond (each.0 i) (b ∷ filter_each p q bs each.1 i) (filter_each p q bs each.1 i)
 
 filter_true : (bs : List ℕ) → filter (λ b. true) bs ≡ bs
 filter_true [] = refl
@@ -39,24 +37,6 @@ module _ (limit : ℕ) (P : ℕ → Type 0) where
   pub each_of : (queue : List ℕ) → AllByRecursion (λ b. b < limit) queue → ((b : ℕ) → b < limit → is_in queue b ≡ true → P b) → AllByRecursion P queue
   each_of queue below each = over queue queue (λ b is. is) below each
 
--- a test that no block of a range passes, and one that no other does
-none_of : (p : ℕ → Bool) (from n : ℕ) → ((b : ℕ) → from ≤ b → b < from + n → p b ≡ false) → filter p (range_with_len from n) ≡ []
-none_of p from zero none = refl
-none_of p from (suc n) none =
-    cond-false (p from) (from ∷ filter p (range_with_len (from + 1) n)) (filter p (range_with_len (from + 1) n)) (none from (omega arith) (omega arith))
-    ∙ none_of p (from + 1) n (λ b low high. none b (omega (arith, low)) (omega (arith, high)))
-
-one_of : (p : ℕ → Bool) (k from n : ℕ) → from ≤ k → k < from + n → ((b : ℕ) → from ≤ b → b < from + n → b ≢ k → p b ≡ false)
-    → filter p (range_with_len from n) ≡ cond (p k) (k ∷ []) []
-one_of p k from zero low high others = absurd (omega arith)
-one_of p k from (suc n) low high others =
-    ⊎_elim (λ (e : from ≡ k).
-    ap (λ l. cond (p from) (from ∷ l) l) (none_of p (from + 1) n (λ b above within. others b (omega (arith, above)) (omega (arith, within)) (λ (same : b ≡ k). absurd (omega (arith, above, same, e)))))
-    ∙ ap (λ x. cond (p x) (x ∷ []) []) e)
-    (λ (other : from ≢ k).
-    cond-false (p from) (from ∷ filter p (range_with_len (from + 1) n)) (filter p (range_with_len (from + 1) n)) (others from (omega arith) (omega arith) other)
-    ∙ one_of p k (from + 1) n (omega (arith, other)) (omega arith) (λ b above within. others b (omega (arith, above)) (omega (arith, within)))) (cases_eq from k)
-
 in_range : (from n b : ℕ) → from ≤ b → b < from + n → is_in (range_with_len from n) b ≡ true
 in_range from zero b low high = absurd (omega arith)
 in_range from (suc n) b low high =
@@ -78,7 +58,7 @@ module _ (p : ℕ → Bool) (blocks : ℕ) (queue : List ℕ) (below : AllByRecu
 
   pub updated_none : ((b : ℕ) → b < blocks → p b ≡ is_in queue b) → updated p queue (range_with_len 0 blocks) ≡ queue
   updated_none same =
-      (λ i. kept i ++ none_of come 0 blocks (λ b low lt. new_is b (same b (omega (arith, lt)))) i) ∙ append-nil queue
+      (λ i. kept i ++ range_none come 0 blocks (λ b low lt. new_is b (same b (omega (arith, lt)))) i) ∙ append-nil queue
     where
       kept : filter p queue ≡ queue
       kept = filter_each p (λ b. true) queue (each_of blocks (λ b. p b ≡ true) queue below (λ b lt is. same b lt ∙ is)) ∙ filter_true queue
@@ -87,7 +67,7 @@ module _ (p : ℕ → Bool) (blocks : ℕ) (queue : List ℕ) (below : AllByRecu
   updated_one k within others = by (p k) (is_in queue k) refl refl
     where
       entering : filter come (range_with_len 0 blocks) ≡ cond (come k) (k ∷ []) []
-      entering = one_of come k 0 blocks (omega arith) (omega (arith, within)) (λ b low lt ne. new_is b (others b (omega (arith, lt)) ne))
+      entering = range_one come k 0 blocks (omega arith) (omega (arith, within)) (λ b low lt ne. new_is b (others b (omega (arith, lt)) ne))
 
       all_stay : p k ≡ true → filter p queue ≡ queue
       all_stay is =
@@ -160,14 +140,6 @@ refreshed_all setup old mid same below b lt =
 
 -- ---- what considering a block leaves below a limit
 
-filter_below : (n : ℕ) (p : ℕ → Bool) (queue : List ℕ) → AllByRecursion (λ b. b < n) queue → AllByRecursion (λ b. b < n) (filter p queue)
-filter_below n p [] below = tt
-filter_below n p (b ∷ bs) below = by (p b) (filter_below n p bs below.1)
-  where
-    by : (t : Bool) → AllByRecursion (λ b. b < n) (filter p bs) → AllByRecursion (λ b. b < n) (cond t (b ∷ filter p bs) (filter p bs))
-    by true rest = (below.0, rest)
-    by false rest = rest
-
 joined_below : (n k : ℕ) (queue : List ℕ) → AllByRecursion (λ b. b < n) queue → k < n → AllByRecursion (λ b. b < n) (queue ++ k ∷ [])
 joined_below n k [] below lt = (lt, tt)
 joined_below n k (b ∷ bs) below lt = (below.0, joined_below n k bs below.1 lt)
@@ -178,4 +150,4 @@ requeued_below n k true queue below lt = by (is_in queue k)
     by : (u : Bool) → AllByRecursion (λ b. b < n) (cond u queue (queue ++ k ∷ []))
     by true = below
     by false = joined_below n k queue below lt
-requeued_below n k false queue below lt = filter_below n (λ b. not (b == k)) queue below
+requeued_below n k false queue below lt = all_fewer (λ b. b < n) (λ b. not (b == k)) queue below

@@ -2,7 +2,7 @@
 use Rattle.std.proofs.Common.{◌≡◌, ◌≢◌, ℕ, zero, suc, ◌+◌, ◌-◌, ◌<◌, ◌≤◌, Bool, true, false, not, ◌||◌, eqb, List, [], ◌∷◌, ◌++◌, ◌⊎◌, inl, inr, length, get_or}
 use Rattle.std.proofs.Common.{set, replicate, refl, ap, sym, subst, ◌∙◌, ⊎_elim, arith}
 use Rattle.std.specs.List.{AllByRecursion, IsDistinct}
-use Rattle.std.proofs.lemmas.Bool.{cases_lt, eq-eqb, ne_eqb, eqb-true, cond-true, cond-false}
+use Rattle.std.proofs.lemmas.Bool.{cases_lt, eq-eqb, ne_eqb, eqb-true, cond-true, cond-false, true≢false}
 use Rattle.std.proofs.lemmas.List.{get_or-set_same, get_or-set_other, get_or-replicate, length-set, length-replicate, length-append}
 use Rattle.std.proofs.lemmas.Map.Keys.{IsDistinct-head, IsDistinct-tail}
 use Rattle.std.proofs.Math.ListN.{get_or-eq_default}
@@ -10,7 +10,8 @@ use Rattle.model_device.specs.Book.{is_in}
 use Rattle.defrag_queue.specs.Queues.{Marked}
 use Rattle.defrag_queue.specs.Rings.{link_of, walk, Linked, Ring}
 use Rattle.std.specs.Bool.{beq}
-use Rattle.defrag_queue.proofs.Marks.{without, stays, true-false, read_mark, differs as mark_differs}
+use Rattle.std.proofs.Math.Bool.{or-true}
+use Rattle.defrag_queue.proofs.Marks.{without, stays, read_mark, differs as mark_differs}
 
 -- ---- the numbers of a list
 
@@ -31,17 +32,13 @@ in_right : (y : ℕ) (xs ys : List ℕ) → In y ys → In y (xs ++ ys)
 in_right y [] ys h = h
 in_right y (x ∷ xs) ys h = inr (in_right y xs ys h)
 
-or_true : (x : Bool) → (x || true) ≡ true
-or_true true = refl
-or_true false = refl
-
 is_in-from : (y : ℕ) (xs : List ℕ) → In y xs → is_in xs y ≡ true
 is_in-from y [] h = absurd h
 is_in-from y (x ∷ xs) (inl e) = ap (λ t. t || is_in xs y) (eq-eqb x y (sym e))
-is_in-from y (x ∷ xs) (inr i) = ap (λ t. eqb x y || t) (is_in-from y xs i) ∙ or_true (eqb x y)
+is_in-from y (x ∷ xs) (inr i) = ap (λ t. eqb x y || t) (is_in-from y xs i) ∙ or-true (eqb x y)
 
 pub in_from : (y : ℕ) (xs : List ℕ) → is_in xs y ≡ true → In y xs
-in_from y [] e = absurd (true-false (sym e))
+in_from y [] e = absurd (true≢false (sym e))
 in_from y (x ∷ xs) e = by (eqb x y) refl (in_from y xs)
   where
     by : (t : Bool) → eqb x y ≡ t → (is_in xs y ≡ true → In y xs) → In y (x ∷ xs)
@@ -49,7 +46,7 @@ in_from y (x ∷ xs) e = by (eqb x y) refl (in_from y xs)
     by false is rest = inr (rest (sym (ap (λ t. t || is_in xs y) is) ∙ e))
 
 pub not_in : (y : ℕ) (xs : List ℕ) → is_in xs y ≡ false → In y xs → ⊥
-not_in y xs out i = true-false (sym (is_in-from y xs i) ∙ out)
+not_in y xs out i = true≢false (sym (is_in-from y xs i) ∙ out)
 
 out_from : (y : ℕ) (xs : List ℕ) → (In y xs → ⊥) → is_in xs y ≡ false
 out_from y xs n = by (is_in xs y) refl
@@ -60,7 +57,7 @@ out_from y xs n = by (is_in xs y) refl
 
 differs : (x : ℕ) (xs : List ℕ) → AllByRecursion (λ y. eqb x y ≡ false) xs → In x xs → ⊥
 differs x [] h i = i
-differs x (y ∷ ys) h (inl e) = true-false (sym (eq-eqb x y e) ∙ h.0)
+differs x (y ∷ ys) h (inl e) = true≢false (sym (eq-eqb x y e) ∙ h.0)
 differs x (y ∷ ys) h (inr i) = differs x ys h.1 i
 
 apart : (xs : List ℕ) → IsDistinct eqb xs → Apart xs

@@ -2,8 +2,9 @@
 use Rattle.std.proofs.Common.{◌≡◌, ◌≢◌, ℕ, ◌+◌, ◌-◌, ◌<◌, ◌≤◌, Bool, true, false, not, ◌&&◌, eqb, List, [], ◌∷◌, refl, ap, sym, subst, ◌∙◌, ⊎_elim, arith}
 use Rattle.std.specs.Prelude.{count_by}
 use Rattle.std.proofs.lemmas.Bool.{cases_eq, eq-eqb, ne_eqb, and_from, and_left, and_right}
+use Rattle.law_lists.proofs.Counts.{one_if, count_cons}
 use Rattle.hold_book.specs.Counts.{BlockCounts, count_of, HasNoZero, CountsPairs, held_by, held_by_another}
-use Rattle.hold_book.proofs.Pairs.{names, one_if, count_first, one_more, no_more}
+use Rattle.hold_book.proofs.Pairs.{names, one_more, no_more}
 
 abbrev pub of : (buffer block : ℕ) → List (ℕ × ℕ) → ℕ
 of buffer block ks = count_by (held_by buffer block) ks
@@ -30,9 +31,9 @@ split buffer b (p ∷ ks) = by (eqb p.0 buffer) (eqb p.1 b) refl refl (split buf
     by : (x y : Bool) → eqb p.0 buffer ≡ x → eqb p.1 b ≡ y → count_by (names b) ks ≡ of_others buffer b ks + of buffer b ks
         → count_by (names b) (p ∷ ks) ≡ of_others buffer b (p ∷ ks) + of buffer b (p ∷ ks)
     by x y xe ye step =
-        let one = count_first (names b) p ks ∙ ap (λ t. one_if t + count_by (names b) ks) ye in
-        let two = count_first (held_by_another buffer b) p ks ∙ (λ i. one_if (not (xe i) && ye i) + of_others buffer b ks) in
-        let three = count_first (held_by buffer b) p ks ∙ (λ i. one_if (xe i && ye i) + of buffer b ks) in
+        let one = count_cons (names b) p ks ∙ ap (λ t. one_if t + count_by (names b) ks) ye in
+        let two = count_cons (held_by_another buffer b) p ks ∙ (λ i. one_if (not (xe i) && ye i) + of_others buffer b ks) in
+        let three = count_cons (held_by buffer b) p ks ∙ (λ i. one_if (xe i && ye i) + of buffer b ks) in
         let sum : one_if y ≡ one_if (not x && y) + one_if (x && y) = parts x y in
         omega arith
 

@@ -12,9 +12,12 @@ use Rattle.std.proofs.lemmas.List.Elements.{All-from_recursion}
 use Rattle.std.proofs.lemmas.List.Sorted.{searchable_from_sorted, list_any-IsPermutation, IsPermutation-insert}
 use Rattle.std.proofs.lemmas.Map.Keys.{Less-from_sorted, sorted_from_all_adjacent, sorted_head, sorted_tail}
 use Rattle.std.specs.FinSet as set
+use Rattle.std.proofs.lemmas.List.{get_or_default}
+use Rattle.std.proofs.lemmas.Option.{slice_get-get_or}
+use Rattle.law_lists.proofs.Counts.{one_if}
 use Rattle.hold_book.specs.Holds.{pair_cmp, HoldsNoneFrom, IsFirstHeld, IsHeld, without_buffer}
 use Rattle.hold_book.specs.Pairs.{HasNoneFrom, IsFirstFrom}
-use Rattle.hold_book.proofs.Pairs.{pair_order, pair_exact, same_pair, has, contains-pairs, names, one_if, one_more, no_more}
+use Rattle.hold_book.proofs.Pairs.{pair_order, pair_exact, same_pair, has, contains-pairs, names, one_more, no_more}
 use Rattle.hold_book.proofs.Lowered.{of, of_others, split}
 use Rattle.hold_book.proofs.Released.{same_as_held, held_besides_is}
 use Rattle.hold_book.specs.Counts.{held_by}
@@ -89,12 +92,6 @@ same_pair_self q = and_from (eqb q.0 q.0) (eqb q.1 q.1) (eq-eqb q.0 q.0 refl) (e
 same_pair_is : (q p : ℕ × ℕ) → same_pair q p ≡ true → q ≡ p
 same_pair_is q p is = let two = and_parts (eqb q.0 p.0) (eqb q.1 p.1) is in λ i. (eqb-true q.0 p.0 two.0 i, eqb-true q.1 p.1 two.1 i)
 
--- within a list the default doesn't matter
-get_or_any : {X : Type 0} (xs : List X) (k : ℕ) (d e : X) → k < length xs → get_or xs k d ≡ get_or xs k e
-get_or_any [] k d e lt = absurd (omega arith)
-get_or_any (x ∷ xs) zero d e lt = refl
-get_or_any (x ∷ xs) (suc k) d e lt = get_or_any xs k d e (omega arith)
-
 pub has_there : (ps : List (ℕ × ℕ)) (q : ℕ × ℕ) → has ps q ≡ true → Contains ps q
 has_there [] q is = absurd (false≢true is)
 has_there (p ∷ ps) q is =
@@ -161,18 +158,13 @@ gap_rises ps x at rise gap = sorted_from_all_adjacent pair_order (insert ps at x
 abbrev pub IsTold : List (ℕ × ℕ) → ℕ × ℕ → Result ℕ ℕ → Type 0
 IsTold ps x r = MatchResult r (λ at. slice_get ps at ≡ Some x) (IsGap x ps)
 
-get_is : (ps : List (ℕ × ℕ)) (k : ℕ) (d : ℕ × ℕ) → k < length ps → slice_get ps k ≡ Some (get_or ps k d)
-get_is [] k d lt = absurd (omega arith)
-get_is (p ∷ ps) zero d lt = refl
-get_is (p ∷ ps) (suc k) d lt = get_is ps k d (omega arith)
-
 pub get_there : (ps : List (ℕ × ℕ)) (k : ℕ) (x : ℕ × ℕ) → slice_get ps k ≡ Some x → (k < length ps) × (get_or ps k x ≡ x)
 get_there [] k x is = absurd (grind (arith, is))
 get_there (p ∷ ps) zero x is = (omega arith, (let e : p ≡ x = cc in e))
 get_there (p ∷ ps) (suc k) x is = let rest = get_there ps k x is in (omega (arith, rest.0), rest.1)
 
 pub told_place : (ps : List (ℕ × ℕ)) (x : ℕ × ℕ) (r : Result ℕ ℕ) → AreRising ps → IsSearchInRange r (length ps) → IsBinarySearchResult (λ y. pair_cmp y x) ps r → IsTold ps x r
-told_place ps x (Ok at) rise within is = get_is ps at x within ∙ ap Some (pair_exact (get_or ps at x) x (is x))
+told_place ps x (Ok at) rise within is = slice_get-get_or ps at x within ∙ ap Some (pair_exact (get_or ps at x) x (is x))
 told_place ps x (Err at) rise within is = (within, is (comparisons_rise ps x rise))
 
 pub told_has : (ps : List (ℕ × ℕ)) (x : ℕ × ℕ) (r : Result ℕ ℕ) → IsTold ps x r → is_ok r ≡ has ps x
@@ -203,7 +195,7 @@ module _ (ps : List (ℕ × ℕ)) (rise : AreRising ps) (buffer from at : ℕ) w
   }
     where
       found : (d : ℕ × ℕ) → get_or ps at d ≡ (buffer, from)
-      found d = get_or_any ps at d (buffer, from) within ∙ is
+      found d = get_or_default ps at d (buffer, from) within ∙ is
 
   pub cut_told : (r : Result ℕ ℕ) → IsTold ps (buffer, from) r → (r ≡ Ok at) ⊎ (r ≡ Err at) → IsCut
   cut_told r told (inl is) = let there = get_there ps at (buffer, from) (subst (IsTold ps (buffer, from)) is told) in cut_found there.0 there.1
@@ -227,10 +219,10 @@ module _ (ps : List (ℕ × ℕ)) (rise : AreRising ps) (buffer from at : ℕ) w
           within,
           ⊎_elim
               (λ (same : there.0 ≡ at).
-              let is : get_or ps at d ≡ (buffer, block) = get_or_any ps at d (buffer, block) within ∙ ap (λ j. get_or ps j (buffer, block)) (sym same) ∙ there.2 in
+              let is : get_or ps at d ≡ (buffer, block) = get_or_default ps at d (buffer, block) within ∙ ap (λ j. get_or ps j (buffer, block)) (sym same) ∙ there.2 in
               (ap (λ (p : ℕ × ℕ). p.0) is, (let e = ap (λ (p : ℕ × ℕ). p.1) is in omega (arith, e))))
               (λ (apart : there.0 ≢ at).
-              let is : get_or ps there.0 d ≡ (buffer, block) = get_or_any ps there.0 d (buffer, block) lt ∙ there.2 in
+              let is : get_or ps there.0 d ≡ (buffer, block) = get_or_default ps there.0 d (buffer, block) lt ∙ there.2 in
               ⊎_elim
               (λ (less : (get_or ps at d).0 < buffer). absurd (not_low.0 less))
               (λ two. (two.0, (let less = two.1 in omega (arith, less))))
@@ -245,7 +237,7 @@ module _ (ps : List (ℕ × ℕ)) (rise : AreRising ps) (buffer from at : ℕ) w
     first_there d within own = record {
       above = (let not_low = not_less_parts (get_or ps at d) (buffer, from) (cut.high at d (omega arith) within) in
           ⊎_elim (λ (less : (get_or ps at d).1 < from). absurd (not_low.1 own less)) (λ (le : from ≤ (get_or ps at d).1). le) (cases_lt (get_or ps at d).1 from));
-      there = (at, within, get_or_any ps at (buffer, (get_or ps at d).1) d within ∙ (λ i. (own i, (get_or ps at d).1)));
+      there = (at, within, get_or_default ps at (buffer, (get_or ps at d).1) d within ∙ (λ i. (own i, (get_or ps at d).1)));
       first = λ other le lt there. let is = (at_cut other le there d).1.1 in omega (arith, is, lt);
     }
 

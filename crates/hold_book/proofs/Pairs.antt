@@ -1,5 +1,5 @@
 -- A list of pairs as a set of holds, and how many of them name a block.
-use Rattle.std.proofs.Common.{◌≡◌, ℕ, ◌+◌, ◌<◌, ◌≢◌, Bool, true, false, cond, ◌&&◌, ◌||◌, eqb, List, [], ◌∷◌, Option, Some, None, is_some, unwrap_or, Equal}
+use Rattle.std.proofs.Common.{◌≡◌, ℕ, ◌+◌, ◌<◌, ◌≢◌, Bool, true, false, ◌&&◌, ◌||◌, eqb, List, [], ◌∷◌, Option, Some, None, is_some, unwrap_or, Equal}
 use Rattle.std.proofs.Common.{refl, ap, sym, ◌∙◌, ⊎_elim, zero-add, arith}
 use Rattle.std.specs.Prelude.{count_by}
 use Rattle.std.specs.List.{list_any}
@@ -10,8 +10,8 @@ use Rattle.std.specs.FinSet as set
 use Rattle.std.proofs.lemmas.Bool.{false≢true, cases_Bool, and_from, and_parts, or_cases, or_left, or_right, eq-eqb, ne_eqb, eqb-true, cases_eq}
 use Rattle.std.proofs.lemmas.Cmp.{nat_cmp_total, on_total, then_total}
 use Rattle.std.proofs.lemmas.Map.Lookups.{exact_unsigned, exact_pairs}
-use Rattle.std.proofs.lemmas.List.Sums.{sum_by-cons}
 use Rattle.std.proofs.lemmas.List.Sorted.{sum_by-IsPermutation}
+use Rattle.law_lists.proofs.Counts.{one_if, count_cons}
 use Rattle.hold_book.specs.Holds.{pair_cmp, IsHeld, with_pair}
 
 pub pair_order : IsTotalOrder pair_cmp
@@ -48,17 +48,11 @@ hold_added ks ls p updated =
 abbrev pub names : ℕ → ℕ × ℕ → Bool
 names block p = eqb p.1 block
 
-abbrev pub one_if : Bool → ℕ
-one_if b = cond b 1 0
-
-pub count_first : (f : ℕ × ℕ → Bool) (p : ℕ × ℕ) (ks : List (ℕ × ℕ)) → count_by f (p ∷ ks) ≡ one_if (f p) + count_by f ks
-count_first f p ks = sum_by-cons (λ (x : ℕ × ℕ). cond (f x) 1 0) p ks
-
 pub one_more : (f : ℕ × ℕ → Bool) (p : ℕ × ℕ) (ks : List (ℕ × ℕ)) → f p ≡ true → count_by f (p ∷ ks) ≡ 1 + count_by f ks
-one_more f p ks passes = count_first f p ks ∙ ap (λ b. one_if b + count_by f ks) passes
+one_more f p ks passes = count_cons f p ks ∙ ap (λ b. one_if b + count_by f ks) passes
 
 pub no_more : (f : ℕ × ℕ → Bool) (p : ℕ × ℕ) (ks : List (ℕ × ℕ)) → f p ≡ false → count_by f (p ∷ ks) ≡ count_by f ks
-no_more f p ks fails = count_first f p ks ∙ ap (λ b. one_if b + count_by f ks) fails ∙ zero-add (count_by f ks)
+no_more f p ks fails = count_cons f p ks ∙ ap (λ b. one_if b + count_by f ks) fails ∙ zero-add (count_by f ks)
 
 pub named : (block : ℕ) (ks : List (ℕ × ℕ)) → 0 < count_by (names block) ks → (buffer : ℕ) × (has ks (buffer, block) ≡ true)
 named block [] some = absurd (omega arith)
@@ -78,7 +72,7 @@ name_counts buffer block (p ∷ ks) there =
     (λ (here : same_pair (buffer, block) p ≡ true).
     let more = one_more (names block) p ks (eq-eqb p.1 block (sym (eqb-true block p.1 (and_parts (eqb buffer p.0) (eqb block p.1) here).1))) in
     omega arith)
-    (λ (later : has ks (buffer, block) ≡ true). let rest = name_counts buffer block ks later in let first = count_first (names block) p ks in omega arith)
+    (λ (later : has ks (buffer, block) ≡ true). let rest = name_counts buffer block ks later in let first = count_cons (names block) p ks in omega arith)
     (or_cases (same_pair (buffer, block) p) (has ks (buffer, block)) there)
 
 -- a block is held where a pair names it

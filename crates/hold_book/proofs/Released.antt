@@ -4,9 +4,10 @@ use Rattle.std.specs.Prelude.{filter, count_by}
 use Rattle.std.specs.FinSet as set
 use Rattle.std.proofs.lemmas.Bool.{false≢true, cases_Bool, cond_both, and_parts, or_cases, or_left, or_right, eqb-true}
 use Rattle.std.proofs.lemmas.Cmp.{nat_eq_equiv}
+use Rattle.law_lists.proofs.Counts.{one_if, count_cons}
 use Rattle.hold_book.specs.Holds.{pair_cmp, IsHeld, without_buffer}
 use Rattle.hold_book.specs.Counts.{held_by, held_by_another}
-use Rattle.hold_book.proofs.Pairs.{pair_order, pair_exact, same_pair, has, contains-pairs, names, one_if, count_first, one_more, no_more, held_by_count, count_by_held}
+use Rattle.hold_book.proofs.Pairs.{pair_order, pair_exact, same_pair, has, contains-pairs, names, one_more, no_more, held_by_count, count_by_held}
 use Rattle.hold_book.proofs.Lowered.{of, of_others}
 
 -- ---- a buffer's own pairs
@@ -31,7 +32,7 @@ count_from_has buffer block (p ∷ ks) there =
     (λ (here : same_pair (buffer, block) p ≡ true).
     let more = one_more (held_by buffer block) p ks (sym (same_as_held buffer block p) ∙ here) in
     omega arith)
-    (λ (later : has ks (buffer, block) ≡ true). let rest = count_from_has buffer block ks later in let first = count_first (held_by buffer block) p ks in omega arith)
+    (λ (later : has ks (buffer, block) ≡ true). let rest = count_from_has buffer block ks later in let first = count_cons (held_by buffer block) p ks in omega arith)
     (or_cases (same_pair (buffer, block) p) (has ks (buffer, block)) there)
 
 -- ---- the pairs of others
@@ -40,7 +41,7 @@ abbrev pub is_others : ℕ → ℕ × ℕ → Bool
 is_others buffer p = not (eqb p.0 buffer)
 
 count_cond : (f : ℕ × ℕ → Bool) (b : Bool) (p : ℕ × ℕ) (ks : List (ℕ × ℕ)) → count_by f (cond b (p ∷ ks) ks) ≡ one_if (b && f p) + count_by f ks
-count_cond f true p ks = count_first f p ks
+count_cond f true p ks = count_cons f p ks
 count_cond f false p ks = sym (zero-add (count_by f ks))
 
 pub count-others : (buffer block : ℕ) (ks : List (ℕ × ℕ)) → count_by (names block) (filter (is_others buffer) ks) ≡ of_others buffer block ks
@@ -48,7 +49,7 @@ count-others buffer block [] = refl
 count-others buffer block (p ∷ ks) =
     count_cond (names block) (is_others buffer p) p (filter (is_others buffer) ks)
     ∙ ap (λ n. one_if (is_others buffer p && eqb p.1 block) + n) (count-others buffer block ks)
-    ∙ sym (count_first (held_by_another buffer block) p ks)
+    ∙ sym (count_cons (held_by_another buffer block) p ks)
 
 key_of : (q k : ℕ × ℕ) → same_pair q k ≡ true → q ≡ k
 key_of q k same =

@@ -4,6 +4,8 @@ use Rattle.std.specs.Prelude.{Option, Some, None, MatchBool, MatchOption, ◌==�
 use Rattle.std.specs.List.{AllByRecursion, list_any}
 use Rattle.std.proofs.lemmas.Bool.{and_parts, false≢true}
 use Rattle.std.proofs.lemmas.Map.Views.{Contains-from_any}
+use Rattle.law_lists.proofs.Each.{all_map, all_from, all_joined}
+use Rattle.law_lists.proofs.Members.{filter_from}
 use Rattle.rec_format.specs.declared.version.Digest.{Digest}
 use Rattle.rec_format.specs.declared.version.Stamp.{Stamp}
 use Rattle.rec_format.specs.declared.version.Version.{Version}
@@ -19,10 +21,7 @@ use Rattle.model_device.specs.Events.{choose_call, move_call, begin_call, turn_c
 use Rattle.model_device.specs.Legal
 use Rattle.rec_format.proofs.Laws.{same_digest_is}
 use Rattle.law_start.proofs.Turns.{same_turn_is}
-use Rattle.law_start.proofs.Each.{all_map}
-use Rattle.law_start.proofs.Growing.{all_from, same_not_later}
-use Rattle.law_start.proofs.Members.{filter_from}
-use Rattle.law_start.proofs.Opening.{all_joined}
+use Rattle.law_start.proofs.Growing.{same_not_later}
 use Rattle.law_facts.specs.Facts.{Possible, HasFacts, NoneOlder, Becomes}
 use Rattle.law_facts.specs.Asking.{MayTake, MayTakeAll, MayBeWritten, BecomesAlong, FactsAlong, WritesOwn, ScansAll}
 use Rattle.law_facts.proofs.Kept.{facts_along}

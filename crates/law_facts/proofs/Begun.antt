@@ -3,6 +3,8 @@ use Rattle.std.proofs.Common.{◌≡◌, inl, inr, ⊎_elim, ℕ, ◌<◌, Bool,
 use Rattle.std.proofs.lemmas.Bool.{both_ways, cond_both, cases_eq}
 use Rattle.std.specs.Prelude.{Contains, Option, Some, None}
 use Rattle.std.specs.List.{AllByRecursion, list_any}
+use Rattle.law_lists.proofs.Finding.{any_same}
+use Rattle.law_lists.proofs.Members.{rest_there}
 use Rattle.rec_format.specs.declared.version.Digest.{Digest}
 use Rattle.rec_format.specs.declared.version.Version.{Version}
 use Rattle.rec_format.specs.Places.{same_digest}
@@ -17,10 +19,9 @@ use Rattle.model_device.proofs.Numbers.{history_with_number}
 use Rattle.law_start.specs.Awaited.{IsAwaited}
 use Rattle.law_start.specs.Orderly.{NumbersBelow}
 use Rattle.law_start.specs.Holding.{begun_versions, HasRisingNumbers}
-use Rattle.law_start.proofs.Each.{SameBelow, any_same}
+use Rattle.law_start.proofs.Each.{SameBelow}
 use Rattle.law_start.proofs.HeldSteps.{sealed_pending}
 use Rattle.law_start.proofs.HeldWrites.{begun_same}
-use Rattle.law_start.proofs.Members.{rest_there}
 use Rattle.law_start.proofs.Pending.{begun_pending, begun_stays, apart_pending, apart_begun, none_pending}
 use Rattle.law_start.proofs.Placing.{placed_awaited}
 use Rattle.law_start.proofs.Stages.{IsFurther, begun_further}

@@ -3,12 +3,13 @@ use Rattle.std.proofs.Common.{◌≡◌, ◌⊎◌, inl, inr, ⊎_elim, ℕ, Boo
 use Rattle.std.proofs.lemmas.Bool.{false≢true, both_ways}
 use Rattle.std.specs.Prelude.{Contains, Option, Some, None}
 use Rattle.std.specs.List.{AllByRecursion}
+use Rattle.law_lists.proofs.Each.{all_at}
+use Rattle.law_lists.proofs.Members.{cons_cases, first_there, rest_there}
 use Rattle.rec_format.specs.declared.version.Version.{Version}
 use Rattle.rec_format.specs.Versions.{is_later, is_put, is_tombstone}
 use Rattle.model_device.specs.Histories.{Item, write, dropped, rid, cleared, top_of, is_covered, writes_of, with_number}
 use Rattle.law_start.proofs.ColdOrder.{later_trans}
-use Rattle.law_start.proofs.Growing.{all_at, cons_cases, not_both_later, same_not_later}
-use Rattle.law_start.proofs.Members.{first_there, rest_there}
+use Rattle.law_start.proofs.Growing.{not_both_later, same_not_later}
 use Rattle.law_start.specs.Orderly.{IsFalling}
 use Rattle.law_facts.specs.Guarded.{standing_writes, IsNeeded, IsGuarded}
 

@@ -2,6 +2,7 @@
 use Rattle.std.proofs.Common.{◌≡◌, ◌⊎◌, inl, ℕ, Bool, true, false, not, ◌||◌, List, [], ◌∷◌, refl, sym, ◌∙◌, ap, subst}
 use Rattle.std.specs.Prelude.{Contains}
 use Rattle.std.proofs.lemmas.Bool.{both_ways, cond_both, cond-false, not-true, false≢true}
+use Rattle.law_lists.proofs.Members.{filter_from}
 use Rattle.rec_format.specs.declared.version.Digest.{Digest}
 use Rattle.rec_format.specs.declared.version.Version.{Version}
 use Rattle.rec_format.specs.Places.{same_digest, device_number}
@@ -11,7 +12,6 @@ use Rattle.model_device.specs.Book.{Setup, Book, client, placing_number, placed,
 use Rattle.model_device.specs.Device.{State, history}
 use Rattle.model_device.specs.Steps.{wrote, removed, rid_of, uncovered, with_item, without_mark, after_step}
 use Rattle.rec_format.proofs.Laws.{same_digest_is, same_digest_refl}
-use Rattle.law_start.proofs.Members.{filter_from}
 use Rattle.law_facts.specs.Guarded.{IsNeeded, IsGuarded}
 use Rattle.law_facts.specs.Facts.{Possible, somewhere, HasFacts, NoneOlder}
 use Rattle.law_facts.specs.Asking.{MayBeWritten}

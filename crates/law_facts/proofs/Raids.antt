@@ -1,9 +1,10 @@
 -- The facts stay in the steps of a raid, and where it drops its marks no possible copy is older than a marked entry.
-use Rattle.std.proofs.Common.{◌≡◌, ◌⊎◌, inl, inr, ℕ, ◌+◌, ◌<◌, ◌≤◌, Bool, true, false, not, cond, ◌&&◌, ◌||◌, List, [], ◌∷◌, ◌++◌, refl, sym, ◌∙◌, ap, subst, arith}
+use Rattle.std.proofs.Common.{◌≡◌, ◌⊎◌, inl, inr, ℕ, ◌+◌, ◌<◌, ◌≤◌, Bool, true, false, not, cond, ◌&&◌, List, [], ◌∷◌, ◌++◌, refl, sym, ◌∙◌, ap, subst, arith}
 use Rattle.std.specs.Prelude.{Contains, Option, Some, None, ◌==◌, nat_lt, filter}
-use Rattle.std.specs.List.{list_any}
-use Rattle.std.proofs.lemmas.Bool.{both_ways, not-true, or_left, or_right, and_from, ltb-false, cases_lt}
+use Rattle.std.proofs.lemmas.Bool.{both_ways, not-true, and_from, ltb-false, cases_lt}
 use Rattle.std.proofs.lemmas.List.Elements.{Contains-append_left, Contains-append_right}
+use Rattle.law_lists.proofs.Finding.{any_there}
+use Rattle.law_lists.proofs.Members.{filter_from, filter_there}
 use Rattle.rec_format.specs.declared.version.Digest.{Digest}
 use Rattle.rec_format.specs.declared.version.Stamp.{Stamp}
 use Rattle.rec_format.specs.declared.version.Version.{Version}
@@ -15,8 +16,6 @@ use Rattle.model_device.specs.Steps.{raid_begun, raid_given_up, marked_part, sca
 use Rattle.model_device.specs.Steps.{turn_with, raid_at_begin, raid_at_end, has_older, is_older_than, part_total}
 use Rattle.rec_format.proofs.Laws.{same_digest_refl}
 use Rattle.law_start.specs.Surviving.{IsPossible, HasNoOlder}
-use Rattle.law_start.proofs.Growing.{cons_cases}
-use Rattle.law_start.proofs.Members.{filter_from, filter_there}
 use Rattle.law_facts.specs.Facts.{Possible, IsOlder, somewhere, HasFacts, IsAhead, IsInTurn, NoneOlder}
 use Rattle.law_facts.specs.Asking.{FindsOlder}
 
@@ -104,14 +103,6 @@ scanned_facts setup s possible block copies is finds facts =
 
 -- ---- what was found is compared
 
-pub any_passes : {X : Type 0} (test : X → Bool) (xs : List X) (x : X) → Contains xs x → test x ≡ true → list_any test xs ≡ true
-any_passes test [] x there passes = absurd (omega (arith, there.1))
-any_passes test (y ∷ xs) x there passes = by (cons_cases y xs x there) (λ more. any_passes test xs x more passes)
-  where
-    by : (y ≡ x) ⊎ Contains xs x → (Contains xs x → list_any test xs ≡ true) → (test y || list_any test xs) ≡ true
-    by (inl same) rest = or_left (test y) (list_any test xs) (ap test same ∙ passes)
-    by (inr more) rest = or_right (test y) (list_any test xs) (rest more)
-
 -- a digest with an older copy among those of its part loses its mark
 pub compared_facts : (setup : Setup) (s : State) (possible : Possible) (part : ℕ) → HasFacts setup s possible → HasFacts setup (after_step setup (compared_part part) s) possible
 unfolding after_step
@@ -143,7 +134,7 @@ compared_facts setup s possible part facts =
         by : (c : Bool) → (part_of setup digest == part) ≡ c → IsAhead r b digest v
         by true is =
             absurd (both_ways (has_older s mine digest) none
-            (any_passes (λ f. same_digest digest f.0 && is_older_than (stamp_of (entry s digest)) f.1) mine (digest, v.stamp)
+            (any_there (λ f. same_digest digest f.0 && is_older_than (stamp_of (entry s digest)) f.1) mine (digest, v.stamp)
             (filter_there (λ (f : Digest × Stamp). part_of setup f.0 == part) s.raid.found (digest, v.stamp) is found) (older digest e v top later)))
         by false is = inr (filter_there (λ (f : Digest × Stamp). not (part_of setup f.0 == part)) s.raid.found (digest, v.stamp) (ap not is) found)
 

@@ -3,6 +3,8 @@ use Rattle.std.proofs.Common.{◌≡◌, ⊎_elim, ℕ, Bool, true, false, cond,
 use Rattle.std.proofs.lemmas.Bool.{false≢true}
 use Rattle.std.specs.Prelude.{Contains}
 use Rattle.std.specs.List.{AllByRecursion}
+use Rattle.law_lists.proofs.Each.{all_at, all_from}
+use Rattle.law_lists.proofs.Members.{cons_cases, first_there, rest_there}
 use Rattle.rec_format.specs.declared.version.Version.{Version}
 use Rattle.rec_format.specs.Versions.{is_later}
 use Rattle.model_device.specs.Histories.{Item, write, dropped, rid, cleared, Pending, is_flushed, is_durable, writes_of}
@@ -15,9 +17,7 @@ use Rattle.law_start.specs.Start.{start_state}
 use Rattle.law_start.specs.Orderly.{IsFalling}
 use Rattle.law_start.specs.Holding.{flushed_versions, versions_in, Reflects}
 use Rattle.law_start.proofs.ColdOrder.{later_one_way, no_later_itself}
-use Rattle.law_start.proofs.Growing.{all_at, all_from, cons_cases}
 use Rattle.law_start.proofs.HeldStart.{start_reflects}
-use Rattle.law_start.proofs.Members.{first_there, rest_there}
 use Rattle.law_facts.specs.Facts.{Possible, HasFacts, copies_among}
 use Rattle.law_facts.specs.Reaching.{ReachesFlushed, IsLeft}
 use Rattle.law_facts.proofs.Starting.{start_facts}

@@ -2,6 +2,8 @@
 use Rattle.std.proofs.Common.{◌≡◌, ◌⊎◌, inl, inr, ℕ, Bool, true, false, not, List, [], ◌∷◌, ◌++◌, refl, sym, ◌∙◌, ap, subst, arith}
 use Rattle.std.specs.Prelude.{Contains, IsTrue, Option, Some, None, IfSome}
 use Rattle.std.proofs.lemmas.Bool.{both_ways, false≢true}
+use Rattle.law_lists.proofs.Each.{all_at}
+use Rattle.law_lists.proofs.Members.{cons_cases, first_there, rest_there, filter_there, filter_from}
 use Rattle.rec_format.specs.declared.version.Digest.{Digest}
 use Rattle.rec_format.specs.declared.version.Version.{Version}
 use Rattle.rec_format.specs.Places.{same_digest}
@@ -14,9 +16,8 @@ use Rattle.block_format.specs.Copies.{Copy, copies_of, copies_named, latest, ver
 use Rattle.law_start.specs.Start.{Restarts, start_state}
 use Rattle.law_start.specs.Orderly.{IsFalling}
 use Rattle.law_start.proofs.ColdStart.{start_orderly}
-use Rattle.law_start.proofs.Growing.{all_at, cons_cases, same_not_later}
+use Rattle.law_start.proofs.Growing.{same_not_later}
 use Rattle.law_start.proofs.Held.{IsNewest, latest_is, none_latest}
-use Rattle.law_start.proofs.Members.{first_there, rest_there, filter_there, filter_from}
 use Rattle.law_facts.specs.Guarded.{standing_writes, IsNeeded, IsGuarded}
 use Rattle.law_facts.specs.Facts.{Possible, somewhere, HasFacts, IsInTurn, copies_among}
 use Rattle.law_facts.proofs.Starting.{copies_within, read_written}

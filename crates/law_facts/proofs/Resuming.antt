@@ -3,6 +3,8 @@ use Rattle.std.proofs.Common.{◌≡◌, ◌⊎◌, inl, inr, ℕ, true, false, 
 use Rattle.std.proofs.lemmas.Bool.{false≢true}
 use Rattle.std.specs.Prelude.{Contains, IsTrue, Option, Some, None, IfSome}
 use Rattle.std.specs.List.{AllByRecursion}
+use Rattle.law_lists.proofs.Each.{all_at, all_from}
+use Rattle.law_lists.proofs.Members.{cons_cases, first_there, rest_there, map_there}
 use Rattle.rec_format.specs.declared.version.Digest.{Digest}
 use Rattle.rec_format.specs.declared.version.Version.{Version}
 use Rattle.rec_format.specs.Versions.{is_later}
@@ -14,9 +16,7 @@ use Rattle.law_start.specs.Start.{Restarts}
 use Rattle.law_start.specs.Orderly.{IsFalling}
 use Rattle.law_start.specs.Holding.{begun_versions, flushed_versions, versions_in}
 use Rattle.law_start.proofs.ColdOrder.{later_one_way, no_later_itself}
-use Rattle.law_start.proofs.Growing.{all_at, all_from, cons_cases}
 use Rattle.law_start.proofs.Held.{IsNewest, latest_is}
-use Rattle.law_start.proofs.Members.{first_there, rest_there, map_there}
 use Rattle.law_facts.specs.Facts.{Possible, HasFacts, copies_among}
 use Rattle.law_facts.specs.Reaching.{ReachesFlushed, IsLeft}
 use Rattle.law_facts.proofs.Reaching.{flushed_written}

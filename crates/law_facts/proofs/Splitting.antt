@@ -3,15 +3,16 @@ use Rattle.std.proofs.Common.{◌≡◌, ◌⊎◌, inl, inr, ⊎_elim, Bool, tr
 use Rattle.std.proofs.lemmas.Bool.{false≢true, and_parts, or_cases}
 use Rattle.std.specs.Prelude.{Contains, IsTrue, Some}
 use Rattle.std.specs.List.{AllByRecursion}
+use Rattle.law_lists.proofs.Each.{all_at}
+use Rattle.law_lists.proofs.Members.{cons_cases, first_there, rest_there}
 use Rattle.rec_format.specs.declared.version.Version.{Version}
 use Rattle.rec_format.specs.Versions.{is_later, is_tombstone}
 use Rattle.model_device.specs.Histories.{Item, write, dropped, rid, cleared, Pending, is_flushed, is_waiting, stage_of, has_flushed, has_flushed_tombstone}
 use Rattle.model_device.specs.Histories.{is_durable, ends_well, last_write, writes_of}
 use Rattle.law_start.specs.Orderly.{IsFalling}
 use Rattle.law_start.specs.Holding.{begun_versions, flushed_versions}
-use Rattle.law_start.proofs.Growing.{all_at, cons_cases, same_not_later}
+use Rattle.law_start.proofs.Growing.{same_not_later}
 use Rattle.law_start.proofs.Held.{begun_written}
-use Rattle.law_start.proofs.Members.{first_there, rest_there}
 use Rattle.law_facts.specs.Guarded.{standing_writes}
 
 -- ---- at a version that has begun

@@ -1,9 +1,11 @@
 -- The state after a start has the facts of the copies that were read.
-use Rattle.std.proofs.Common.{◌≡◌, ◌⊎◌, inl, inr, ℕ, ◌+◌, ◌<◌, Bool, true, false, not, List, [], ◌∷◌, refl, sym, ◌∙◌, ap, subst, arith}
+use Rattle.std.proofs.Common.{◌≡◌, ◌⊎◌, inl, inr, ℕ, ◌<◌, Bool, true, false, not, List, [], ◌∷◌, refl, sym, ◌∙◌, ap, subst, arith}
 use Rattle.std.specs.Prelude.{Contains, IsTrue}
 use Rattle.std.specs.List.{range_with_len}
 use Rattle.std.proofs.lemmas.Bool.{both_ways}
-use Rattle.std.proofs.lemmas.List.FromFn.{length-range_with_len, get_or-range_with_len}
+use Rattle.law_lists.proofs.Each.{all_map, all_at}
+use Rattle.law_lists.proofs.Members.{cons_cases, first_there}
+use Rattle.law_lists.proofs.Ranges.{range_within}
 use Rattle.rec_format.specs.declared.version.Digest.{Digest}
 use Rattle.rec_format.specs.declared.version.Version.{Version}
 use Rattle.rec_format.specs.Places.{same_digest, device_number}
@@ -20,9 +22,7 @@ use Rattle.law_start.specs.Orderly.{AreWrites, IsOrderlyHistory}
 use Rattle.law_start.proofs.ColdLogs.{as_writes, versions_of}
 use Rattle.law_start.proofs.ColdStart.{start_history, start_orderly}
 use Rattle.law_start.proofs.ColdVersions.{all_versions, each_contained}
-use Rattle.law_start.proofs.Each.{all_map}
-use Rattle.law_start.proofs.Growing.{all_at, bare_at, cons_cases}
-use Rattle.law_start.proofs.Members.{first_there}
+use Rattle.law_start.proofs.Growing.{bare_at}
 use Rattle.law_start.proofs.Places.{copy_stands}
 use Rattle.law_facts.specs.Guarded.{standing_writes, IsGuarded}
 use Rattle.law_facts.specs.Facts.{somewhere, HasFacts, copies_among}
@@ -66,12 +66,6 @@ orderly_guarded limit items P h written = record {
 
 -- ---- the copies that were read
 
-range_below : (n k : ℕ) → Contains (range_with_len 0 n) k → k < n
-range_below n k there =
-    let at : there.0 < n = omega (arith, there.1, length-range_with_len 0 n) in
-    let same : 0 + there.0 ≡ k = sym (get_or-range_with_len 0 n there.0 k at) ∙ there.2 in
-    omega arith
-
 all_writes : (versions : List Version) → writes_of (as_writes versions) ≡ versions
 all_writes [] = refl
 all_writes (v ∷ versions) = ap (λ (l : List Version). v ∷ l) (all_writes versions)
@@ -81,7 +75,7 @@ module _ (setup : Setup) (image : List ℕ) (bodies : List Body) (sound : IsSoun
   pub copies_within : (block : ℕ) (digest : Digest) (v : Version) → copies_among bodies block digest v → block < setup.blocks
   copies_within block digest v there =
       let stands = copy_stands sound.shape image (range_with_len 0 sound.shape.blocks) bodies sound.readable.blocks there.0 there.1 in
-      let below = range_below sound.shape.blocks there.0.block stands.listed in
+      let below = range_within sound.shape.blocks there.0.block stands.listed in
       omega (arith, below, there.2, sound.is_shape.blocks)
 
   start_writes : (digest : Digest) → writes_of (history (start_state setup bodies) digest) ≡ versions_of digest (copies_of bodies)

@@ -4,6 +4,8 @@ use Rattle.std.proofs.lemmas.Bool.{and_parts}
 use Rattle.std.proofs.lemmas.List.{append-nil}
 use Rattle.std.specs.Prelude.{Contains, IsTrue, Option, Some, None, IfSome}
 use Rattle.std.specs.List.{AllByRecursion}
+use Rattle.law_lists.proofs.Each.{all_map, all_at, all_from}
+use Rattle.law_lists.proofs.Members.{cons_cases, map_from, filter_from}
 use Rattle.rec_format.specs.declared.version.Digest.{Digest}
 use Rattle.rec_format.specs.declared.version.Version.{Version}
 use Rattle.rec_format.specs.Places.{same_digest, device_number}
@@ -20,10 +22,8 @@ use Rattle.law_start.specs.Orderly.{IsFalling}
 use Rattle.law_start.specs.Holding.{begun_versions, flushed_versions}
 use Rattle.law_start.proofs.ColdOrder.{no_later_trans}
 use Rattle.law_start.proofs.ColdVersions.{IsCopyRule}
-use Rattle.law_start.proofs.Each.{all_map}
-use Rattle.law_start.proofs.Growing.{all_at, all_from, cons_cases, same_not_later}
+use Rattle.law_start.proofs.Growing.{same_not_later}
 use Rattle.law_start.proofs.Held.{IsNewest, latest_is, none_latest}
-use Rattle.law_start.proofs.Members.{map_from, filter_from}
 use Rattle.law_facts.specs.Guarded.{standing_writes, IsGuarded}
 use Rattle.law_facts.specs.Facts.{Possible, somewhere, HasFacts}
 use Rattle.law_facts.specs.Reaching.{IsLeft}

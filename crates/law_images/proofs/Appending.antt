@@ -2,6 +2,7 @@
 use Rattle.std.proofs.Common.{◌≡◌, ◌⊎◌, inl, inr, ⊎_elim, ℕ, ◌<◌, ◌≤◌, Bool, false, cond, List, [], ◌∷◌, refl, sym, ◌∙◌, ap, subst, arith}
 use Rattle.std.specs.Prelude.{Contains, Option, Some, MatchOption}
 use Rattle.std.specs.List.{AllByRecursion}
+use Rattle.law_lists.proofs.Each.{all_at}
 use Rattle.rec_format.specs.declared.version.Digest.{Digest}
 use Rattle.rec_format.specs.declared.version.Version.{Version}
 use Rattle.rec_format.specs.Versions.{version_units}
@@ -14,7 +15,6 @@ use Rattle.model_device.proofs.Numbers.{history_with_number, next_number_rises}
 use Rattle.disk_model.specs.Disk.{Images}
 use Rattle.block_format.specs.declared.geometry.Geometry.{Geometry}
 use Rattle.block_format.specs.Layout.{Body}
-use Rattle.law_start.proofs.Growing.{all_at}
 use Rattle.law_start.proofs.HeldWrites.{wrote_history}
 use Rattle.law_start.proofs.Orderly.{placing_below}
 use Rattle.law_facts.specs.Asking.{MayBeWritten}

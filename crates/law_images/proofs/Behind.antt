@@ -3,6 +3,7 @@
 use Rattle.std.proofs.Common.{◌≡◌, ◌≢◌, ◌⊎◌, inl, inr, ℕ, ◌+◌, ◌<◌, ◌≤◌, List, length, take, drop, refl, sym, ◌∙◌, ap, subst, arith}
 use Rattle.std.proofs.Math.Nat.{mul-le-mul_right}
 use Rattle.std.specs.Prelude.{Contains}
+use Rattle.law_lists.proofs.Each.{all_at}
 use Rattle.disk_model.specs.Bytes.{Torn, overwrite, overwrite_torn, overwrite_there}
 use Rattle.disk_model.specs.Disk.{Images, Within}
 use Rattle.rec_format.specs.declared.version.Digest.{Digest}
@@ -15,7 +16,6 @@ use Rattle.block_format.specs.declared.geometry.Gate.{Gate}
 use Rattle.block_format.specs.declared.geometry.Gate.TheVariants.{Shut, Set, Unsure}
 use Rattle.block_format.specs.Layout.{IsGeometry, IsOpen, block_place, gate_sector, body_bytes, open_sector, Body, IsBody}
 use Rattle.block_flusher.specs.Images.{HasOneBody}
-use Rattle.law_start.proofs.Growing.{all_at}
 use Rattle.law_facts.specs.Facts.{SamePossible}
 use Rattle.law_trail.specs.Trail.{Records, WaitsIn}
 use Rattle.law_images.specs.Kept.{HaveBegun, IsLeftIn, possible_in}

@@ -4,12 +4,11 @@ use Rattle.std.proofs.lemmas.Bool.{cases_eq, eq-eqb, ne_eqb, cond-true, cond-fal
 use Rattle.std.proofs.lemmas.List.Elements.{Contains-append_left, Contains-append_right, Contains-append_cases}
 use Rattle.std.specs.Prelude.{Contains, ◌==◌}
 use Rattle.std.specs.List.{AllByRecursion}
+use Rattle.law_lists.proofs.Each.{all_map, all_from}
+use Rattle.law_lists.proofs.Members.{cons_cases, first_there}
 use Rattle.rec_format.specs.declared.version.Digest.{Digest}
 use Rattle.rec_format.specs.declared.version.Version.{Version}
 use Rattle.model_device.specs.Book.{Setup, Book, Stream, placing_number}
-use Rattle.law_start.proofs.Each.{all_map}
-use Rattle.law_start.proofs.Growing.{all_from, cons_cases}
-use Rattle.law_start.proofs.Members.{first_there}
 use Rattle.law_trail.specs.Trail.{Records, places_of, CanPlace, KeepsRecords}
 use Rattle.law_trail.specs.Numbers.{AddsNone}
 use Rattle.law_images.specs.Changes.{Appends, records_by}

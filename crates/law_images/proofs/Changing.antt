@@ -3,6 +3,8 @@ use Rattle.std.proofs.Common.{◌≡◌, ◌≢◌, ◌⊎◌, inl, inr, ⊎_eli
 use Rattle.std.proofs.lemmas.Bool.{cases_eq, both_ways, eq-eqb}
 use Rattle.std.specs.Prelude.{Contains, ◌==◌}
 use Rattle.std.specs.List.{AllByRecursion}
+use Rattle.law_lists.proofs.Each.{all_at, all_from}
+use Rattle.law_lists.proofs.Finding.{any_there}
 use Rattle.rec_format.specs.declared.version.Digest.{Digest}
 use Rattle.rec_format.specs.declared.version.Version.{Version}
 use Rattle.model_device.specs.Book.{Setup, Book, has_buffer}
@@ -12,11 +14,10 @@ use Rattle.block_format.specs.declared.geometry.Geometry.{Geometry}
 use Rattle.block_format.specs.Layout.{IsOpen, IsClosed, gate_sector, Body}
 use Rattle.block_format.specs.Copies.{IsReadable}
 use Rattle.law_start.specs.Writes.{DiffersIn}
-use Rattle.law_start.proofs.Growing.{all_at, all_from}
 use Rattle.law_facts.proofs.Stay.{facts_become}
 use Rattle.law_trail.specs.Trail.{Records, WaitsIn, places_of, NotFree}
 use Rattle.law_trail.proofs.Carrying.{bodies_kept}
-use Rattle.law_trail.proofs.Places.{buffer_place, any_there}
+use Rattle.law_trail.proofs.Places.{buffer_place}
 use Rattle.law_trail.proofs.Records.{begun_records}
 use Rattle.law_images.specs.Kept.{Shows, HaveBegun, Upholds, IsLeftIn, possible_in, IsKept}
 use Rattle.law_images.specs.Changes.{ChangesIn, ShowsRecords, OpensOver, OpensAsBefore, BringsNone, IsOpening}

@@ -2,6 +2,8 @@
 use Rattle.std.proofs.Common.{◌≡◌, ◌≢◌, ◌⊎◌, inl, inr, ⊎_elim, ℕ, ◌<◌, Bool, true, false, List, refl, sym, ◌∙◌, ap, subst, [], map, arith}
 use Rattle.std.proofs.lemmas.Bool.{both_ways, cases_eq, eq-eqb, ne_eqb, cond-true, cond-false, false≢true}
 use Rattle.std.specs.Prelude.{Contains, ◌==◌}
+use Rattle.law_lists.proofs.Each.{all_at}
+use Rattle.law_lists.proofs.Members.{map_from}
 use Rattle.rec_format.specs.declared.version.Digest.{Digest}
 use Rattle.model_device.specs.Histories.{Pending, is_begun}
 use Rattle.model_device.specs.Book.{Setup, Book, Stream, first_block, has_room, placed, pending_of, with_gate_begun, dropped_live, refreshed, Buffer}
@@ -15,9 +17,7 @@ use Rattle.block_format.specs.declared.geometry.Gate.TheVariants.{Shut, Set, Uns
 use Rattle.block_format.specs.Layout.{IsOpen, IsClosed, gate_sector, body_bytes}
 use Rattle.block_flusher.specs.Images.{IsShut, IsBodyOf}
 use Rattle.law_start.specs.Holding.{HasRisingNumbers}
-use Rattle.law_start.proofs.Growing.{all_at}
 use Rattle.law_start.proofs.HeldSteps.{sealed_pending}
-use Rattle.law_start.proofs.Members.{map_from}
 use Rattle.law_start.proofs.Pending.{begun_stays, apart_begun}
 use Rattle.law_start.proofs.Placing.{placed_awaited}
 use Rattle.law_trail.specs.Trail.{places_of}

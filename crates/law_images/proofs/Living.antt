@@ -2,6 +2,8 @@
 use Rattle.std.proofs.Common.{◌≡◌, inl, inr, ℕ, true, false, List, refl, sym, ◌∙◌, subst}
 use Rattle.std.proofs.lemmas.Bool.{both_ways, eq-eqb}
 use Rattle.std.specs.Prelude.{Contains, Option, Some, ◌==◌}
+use Rattle.law_lists.proofs.Finding.{any_there}
+use Rattle.law_lists.proofs.Members.{map_from, filter_from}
 use Rattle.rec_format.specs.declared.version.Digest.{Digest}
 use Rattle.rec_format.specs.declared.version.Version.{Version}
 use Rattle.rec_format.specs.Places.{same_digest}
@@ -15,11 +17,10 @@ use Rattle.block_format.specs.Layout.{Body}
 use Rattle.block_format.specs.Copies.{Copy, IsReadable, copies_of, copies_named}
 use Rattle.law_start.specs.Surviving.{IsPossible, HasNoOlder}
 use Rattle.law_start.proofs.Images.{one_shape}
-use Rattle.law_start.proofs.Members.{map_from, filter_from}
 use Rattle.law_facts.specs.Facts.{NoneOlder, somewhere}
 use Rattle.law_facts.proofs.Raids.{has_no_older}
 use Rattle.law_trail.specs.Trail.{Records, StoredIn, WaitsIn, places_of, Trail, stored, first, replaced, moved, moved_found, uncovered_since, LeadsOn}
-use Rattle.law_trail.proofs.Places.{any_there, buffer_place}
+use Rattle.law_trail.proofs.Places.{buffer_place}
 use Rattle.law_trail.proofs.Starting.{copy_stored}
 use Rattle.law_trail.proofs.Whole.{pending_waits}
 use Rattle.law_images.specs.Kept.{possible_in, IsKept}

@@ -3,15 +3,15 @@ use Rattle.std.proofs.Common.{◌≡◌, ◌≢◌, ◌⊎◌, inl, inr, ⊎_eli
 use Rattle.std.proofs.lemmas.Bool.{cases_eq}
 use Rattle.std.specs.Prelude.{Contains}
 use Rattle.std.specs.List.{AllByRecursion, range_with_len}
+use Rattle.law_lists.proofs.Each.{all_at, all_from}
+use Rattle.law_lists.proofs.Members.{cons_cases, first_there, rest_there}
+use Rattle.law_lists.proofs.Ranges.{range_there, range_below}
 use Rattle.rec_format.specs.Versions.{block_capacity}
 use Rattle.block_format.specs.declared.geometry.Geometry.{Geometry}
 use Rattle.block_format.specs.Layout.{IsOpen, IsClosed, IsHeader, gate_sector, body_bytes, device_end, Body, IsBody}
 use Rattle.block_format.specs.Copies.{HasBodies, IsReadable}
 use Rattle.block_format.proofs.BodyLaws.{one_body}
 use Rattle.law_start.specs.Writes.{DiffersIn}
-use Rattle.law_start.proofs.Growing.{all_at, all_from, cons_cases}
-use Rattle.law_start.proofs.Members.{first_there, rest_there, range_there}
-use Rattle.law_trail.proofs.Within.{range_below}
 use Rattle.law_images.specs.Kept.{Shows}
 
 -- a block is closed, or the image shows a body in it

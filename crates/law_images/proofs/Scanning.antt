@@ -3,6 +3,8 @@ use Rattle.std.proofs.Common.{◌≡◌, ◌⊎◌, inl, inr, ℕ, Bool, false, 
 use Rattle.std.proofs.lemmas.Bool.{both_ways, eq-eqb, and_from}
 use Rattle.std.specs.Prelude.{Contains, ◌==◌, filter}
 use Rattle.std.specs.List.{list_any}
+use Rattle.law_lists.proofs.Finding.{any_there}
+use Rattle.law_lists.proofs.Members.{map_there, filter_there}
 use Rattle.rec_format.specs.declared.version.Digest.{Digest}
 use Rattle.rec_format.specs.declared.version.Stamp.{Stamp}
 use Rattle.rec_format.specs.declared.version.Version.{Version}
@@ -16,13 +18,11 @@ use Rattle.disk_model.specs.Disk.{Images}
 use Rattle.block_format.specs.declared.geometry.Geometry.{Geometry}
 use Rattle.block_format.specs.Layout.{IsOpen, IsClosed, gate_sector, body_bytes, Body}
 use Rattle.block_flusher.specs.Images.{IsShut, HasOneBody}
-use Rattle.law_start.proofs.Members.{map_there, filter_there}
 use Rattle.law_facts.specs.Facts.{Possible}
 use Rattle.law_facts.specs.Asking.{FindsOlder, ScansAll}
-use Rattle.law_facts.proofs.Raids.{any_passes}
 use Rattle.law_trail.specs.Trail.{Records, places_of}
 use Rattle.law_trail.proofs.Flushing.{one_place}
-use Rattle.law_trail.proofs.Places.{any_there, buffer_place}
+use Rattle.law_trail.proofs.Places.{buffer_place}
 use Rattle.law_images.specs.Kept.{Shows, possible_in, IsKept}
 use Rattle.law_images.specs.Changes.{OpensOver, ShowsRecords}
 use Rattle.law_images.specs.Scans.{IsScanOf, FindsAmong, older_among}
@@ -86,7 +86,7 @@ pub older_found : (s : State) (read : List (Digest × Version)) → FindsAmong s
 older_found s read r there marked older =
     map_there (λ (x : Digest × Version). (x.0, x.1.stamp)) (filter passes read) r
     (filter_there passes read r (and_from (list_any (same_digest r.0) s.raid.marked) (is_older_than (stamp_of (entry s r.0)) r.1.stamp)
-    (any_passes (same_digest r.0) s.raid.marked r.0 marked (same_digest_refl r.0)) older) there)
+    (any_there (same_digest r.0) s.raid.marked r.0 marked (same_digest_refl r.0)) older) there)
   where
     passes : Digest × Version → Bool
     passes x = list_any (same_digest x.0) s.raid.marked && is_older_than (stamp_of (entry s x.0)) x.1.stamp

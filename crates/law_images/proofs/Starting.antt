@@ -3,6 +3,8 @@ use Rattle.std.proofs.Common.{◌≡◌, ◌⊎◌, inl, inr, ℕ, ◌+◌, ◌<
 use Rattle.std.proofs.lemmas.Bool.{false≢true}
 use Rattle.std.specs.Prelude.{Contains}
 use Rattle.std.specs.List.{AllByRecursion}
+use Rattle.law_lists.proofs.Each.{all_at, all_from}
+use Rattle.law_lists.proofs.Members.{cons_cases, first_there, rest_there, flat_map_there}
 use Rattle.rec_format.specs.declared.version.Digest.{Digest}
 use Rattle.rec_format.specs.declared.version.Version.{Version}
 use Rattle.rec_format.specs.Versions.{version_units}
@@ -18,9 +20,7 @@ use Rattle.law_start.specs.Sound.{IsShapeOf, IsSound}
 use Rattle.law_start.specs.Start.{Restarts, start_state, entries_state, live_copy}
 use Rattle.law_start.specs.Orderly.{NumbersBelow}
 use Rattle.law_start.specs.Holding.{begun_versions, HasRisingNumbers}
-use Rattle.law_start.proofs.Growing.{all_at, all_from, cons_cases}
 use Rattle.law_start.proofs.Images.{one_shape}
-use Rattle.law_start.proofs.Members.{first_there, rest_there, flat_map_there}
 use Rattle.law_facts.specs.Facts.{HasFacts, copies_among}
 use Rattle.law_facts.proofs.Stay.{facts_become}
 use Rattle.law_facts.proofs.Starting.{start_facts}

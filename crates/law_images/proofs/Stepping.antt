@@ -3,6 +3,10 @@ use Rattle.std.proofs.Common.{◌≡◌, ◌≢◌, ◌⊎◌, inl, inr, ⊎_eli
 use Rattle.std.proofs.lemmas.Bool.{both_ways, not-true, eq-eqb, false≢true, eqb-true}
 use Rattle.std.specs.Prelude.{Contains, Some, ◌==◌}
 use Rattle.std.specs.List.{AllByRecursion}
+use Rattle.law_lists.proofs.Each.{all_map, all_at, all_from}
+use Rattle.law_lists.proofs.Filters.{map_kept}
+use Rattle.law_lists.proofs.Finding.{some_at}
+use Rattle.law_lists.proofs.Members.{cons_cases, first_there, map_from, filter_from}
 use Rattle.rec_format.specs.declared.version.Digest.{Digest}
 use Rattle.rec_format.specs.declared.version.Version.{Version}
 use Rattle.model_device.specs.Book.{Setup, Buffer, with_flushed, refreshed, dropped_live}
@@ -15,9 +19,6 @@ use Rattle.block_format.specs.declared.geometry.Geometry.{Geometry}
 use Rattle.block_format.specs.Layout.{Body}
 use Rattle.block_format.specs.Copies.{IsReadable}
 use Rattle.law_start.specs.Holding.{AreRising, versions_to}
-use Rattle.law_start.proofs.Each.{all_map}
-use Rattle.law_start.proofs.Growing.{all_at, all_from, cons_cases}
-use Rattle.law_start.proofs.Members.{first_there, map_from, filter_from}
 use Rattle.law_facts.specs.Asking.{MayTake}
 use Rattle.law_facts.proofs.Stay.{facts_become}
 use Rattle.law_facts.proofs.Kept.{facts_stay}
@@ -27,10 +28,9 @@ use Rattle.law_trail.specs.Needs.{HasRoomFor, IsBacked}
 use Rattle.law_trail.specs.Numbers.{RecordsWhole, AddsNone, AddsPlaced}
 use Rattle.law_trail.proofs.Carrying.{records_kept, same_records}
 use Rattle.law_trail.proofs.Each.{step_booked, step_trailed}
-use Rattle.law_trail.proofs.Flushing.{map_kept}
 use Rattle.law_trail.proofs.Numbered.{step_numbered}
 use Rattle.law_trail.proofs.Others.{open_places}
-use Rattle.law_trail.proofs.Places.{some_at, pending_place}
+use Rattle.law_trail.proofs.Places.{pending_place}
 use Rattle.law_trail.proofs.Placing.{place, seal_places}
 use Rattle.law_trail.proofs.Records.{step_written}
 use Rattle.law_trail.proofs.Whole.{step_whole, flushed_whole}

@@ -2,6 +2,7 @@
 use Rattle.std.proofs.Common.{inr, ℕ, ◌+◌, List, [], ◌∷◌, refl}
 use Rattle.std.specs.Prelude.{Contains}
 use Rattle.std.specs.List.{AllByRecursion}
+use Rattle.law_lists.proofs.Each.{all_from, all_joined}
 use Rattle.rec_format.specs.declared.version.Digest.{Digest}
 use Rattle.rec_format.specs.declared.version.Version.{Version}
 use Rattle.rec_format.specs.Versions.{version_units}
@@ -13,8 +14,6 @@ use Rattle.block_format.specs.Layout.{Body}
 use Rattle.block_format.specs.Copies.{Copy, copies_from, copies_of}
 use Rattle.law_start.specs.Surviving.{Survives}
 use Rattle.law_start.specs.Holding.{begun_versions}
-use Rattle.law_start.proofs.Growing.{all_from}
-use Rattle.law_start.proofs.Opening.{all_joined}
 use Rattle.law_facts.specs.Reaching.{IsLeft}
 use Rattle.law_facts.proofs.Surviving.{facts_survive}
 use Rattle.law_trail.specs.Trail.{Records}

@@ -2,6 +2,7 @@
 use Rattle.std.proofs.Common.{◌≡◌, ◌≢◌, ℕ, ◌+◌, ◌-◌, ◌<◌, List, [], refl, sym, ◌∙◌, subst, arith}
 use Rattle.std.proofs.lemmas.Bool.{eq-eqb}
 use Rattle.std.specs.Prelude.{Contains, ◌==◌, false}
+use Rattle.law_lists.proofs.Finding.{any_there, any_map}
 use Rattle.rec_format.specs.declared.version.Digest.{Digest}
 use Rattle.rec_format.specs.declared.version.Version.{Version}
 use Rattle.rec_format.specs.Versions.{version_units}
@@ -18,8 +19,6 @@ use Rattle.block_flusher.specs.Images.{IsShut, IsOpened, HasOneBody}
 use Rattle.law_start.proofs.Flushing.{begun_is}
 use Rattle.law_facts.specs.Asking.{MayBeWritten}
 use Rattle.law_trail.specs.Trail.{Records, places_of}
-use Rattle.law_trail.proofs.Places.{any_there}
-use Rattle.law_start.proofs.Pending.{any_map}
 use Rattle.law_images.specs.Changes.{Appends, IsOpening}
 use Rattle.law_images.proofs.Stepping.{plain_kept, plain_places}
 use Rattle.law_images.proofs.Parts.{body_stays}

@@ -1,35 +1,8 @@
 -- Counts of the digests of a part, and of those of all parts below one.
-use Rattle.std.proofs.Common.{◌≡◌, ◌⊎◌, inl, inr, ℕ, ◌+◌, ◌<◌, ◌≤◌, Bool, true, false, cond, ◌&&◌, List, [], ◌∷◌, refl, sym, ◌∙◌, ap, arith}
-use Rattle.std.specs.Prelude.{◌==◌, filter, count_by, nat_lt}
+use Rattle.std.proofs.Common.{◌≡◌, ◌⊎◌, inl, inr, ℕ, ◌+◌, ◌<◌, ◌≤◌, Bool, true, false, ◌&&◌, refl, sym, ◌∙◌, ap, arith}
+use Rattle.std.specs.Prelude.{◌==◌, nat_lt}
 use Rattle.std.proofs.lemmas.Bool.{cases_lt, lt-ltb, le-ltb, eq-eqb, ne_eqb}
-use Rattle.std.proofs.lemmas.List.Sums.{sum_by-cons}
-
-abbrev pub one_if : Bool → ℕ
-one_if b = cond b 1 0
-
-module _ {X : Type 0} where
-  -- none passes
-  pub count_none : (p : X → Bool) (xs : List X) → ((x : X) → p x ≡ false) → 0 ≡ count_by p xs
-  count_none p [] none = refl
-  count_none p (x ∷ xs) none = let one = sum_by-cons (λ y. one_if (p y)) x xs in omega (arith, one, ap (λ (b : Bool). one_if b) (none x), count_none p xs none)
-
-  -- each that passes the first passes one of the others
-  pub count_both : (p q r : X → Bool) (xs : List X) → ((x : X) → one_if (p x) ≡ one_if (q x) + one_if (r x)) → count_by p xs ≡ count_by q xs + count_by r xs
-  count_both p q r [] each = refl
-  count_both p q r (x ∷ xs) each =
-      let one = sum_by-cons (λ y. one_if (p y)) x xs in
-      let two = sum_by-cons (λ y. one_if (q y)) x xs in
-      let three = sum_by-cons (λ y. one_if (r y)) x xs in
-      omega (arith, one, two, three, each x, count_both p q r xs each)
-
-  -- of those that pass one test, how many pass another
-  pub count_filter : (p q : X → Bool) (xs : List X) → count_by q (filter p xs) ≡ count_by (λ x. p x && q x) xs
-  count_filter p q [] = refl
-  count_filter p q (x ∷ xs) = by (p x) (count_filter p q xs) ∙ sym (sum_by-cons (λ y. one_if (p y && q y)) x xs)
-    where
-      by : (b : Bool) → count_by q (filter p xs) ≡ count_by (λ x. p x && q x) xs → count_by q (cond b (x ∷ filter p xs) (filter p xs)) ≡ one_if (b && q x) + count_by (λ x. p x && q x) xs
-      by true rest = sum_by-cons (λ y. one_if (q y)) x (filter p xs) ∙ ap (λ (n : ℕ). one_if (q x) + n) rest
-      by false rest = omega (arith, rest)
+use Rattle.law_lists.proofs.Counts.{one_if}
 
 -- a part below the next is below this one, or is this one
 pub below_next : (c : Bool) (n part : ℕ) → one_if (c && nat_lt n (part + 1)) ≡ one_if (c && nat_lt n part) + one_if (c && (n == part))

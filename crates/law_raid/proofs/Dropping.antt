@@ -5,26 +5,27 @@ use Rattle.std.specs.List.{AllByRecursion}
 use Rattle.std.proofs.lemmas.Bool.{cond-false, and_parts, and_right, lt-ltb, le-ltb, eqb-true, eqb-false, cases_lt, both_ways}
 use Rattle.std.proofs.lemmas.List.Kept.{IsStrictlySortedBy-filter}
 use Rattle.std.proofs.lemmas.List.Sums.{length-filter}
+use Rattle.law_lists.proofs.Counts.{one_if, count_both, count_filter}
+use Rattle.law_lists.proofs.Each.{all_map, all_from}
+use Rattle.law_lists.proofs.Members.{filter_from}
 use Rattle.rec_format.specs.declared.version.Digest.{Digest}
 use Rattle.rec_format.specs.declared.version.Version.{Version}
 use Rattle.rec_format.specs.Places.{same_digest, digest_cmp}
 use Rattle.rec_format.specs.Versions.{is_tombstone, is_put}
-use Rattle.law_start.proofs.Each.{all_map}
-use Rattle.law_start.proofs.Growing.{all_from}
-use Rattle.law_start.proofs.Members.{filter_from}
 use Rattle.model_device.specs.Histories.{Item, top_of}
 use Rattle.model_device.specs.Book.{Setup}
 use Rattle.model_device.specs.Device.{State, RaidState, history, history_of, entry, entry_is_covered, entry_passes, part_of, digests_of, is_eligible, is_old_enough}
 use Rattle.model_device.specs.Steps.{Step, rid_of, uncovered, done_part, after_step, after_steps, after_drop}
 use Rattle.model_device.specs.Legal.{drop_step, drop_steps, marked_in, marked_tombstones}
+use Rattle.model_device.proofs.InRow.{after_joined}
 use Rattle.law_sprig.specs.Tests.{has_digest}
 use Rattle.law_sprig.proofs.Logged.{other_part}
 use Rattle.law_sprig.proofs.Ordered.{AreInOrder, among-filter}
 use Rattle.law_sprig.proofs.Showing.{logged_order}
 use Rattle.model_node.proofs.ByParts.{of_one_part}
 use Rattle.law_raid.specs.Exact.{drop_item}
-use Rattle.law_raid.proofs.Items.{eligible_logged, digests_stay, history_with, mark_stays, after_joined, dropped_log, dropped_raid}
-use Rattle.law_raid.proofs.Counts.{one_if, count_both, count_filter, below_next}
+use Rattle.law_raid.proofs.Items.{eligible_logged, digests_stay, history_with, mark_stays, dropped_log, dropped_raid}
+use Rattle.law_raid.proofs.Counts.{below_next}
 
 module _ (setup : Setup) (now : ℕ) (s : State) (bare : Digest → Bool) where
   -- the raid removes or clears the entry

@@ -3,6 +3,7 @@ use Rattle.std.proofs.Common.{◌≡◌, ◌⊎◌, inl, inr, ℕ, ◌+◌, ◌<
 use Rattle.std.specs.Prelude.{Some, None, ◌==◌, count_by, nat_lt, nat_le, MatchBool}
 use Rattle.std.specs.List.{AllByRecursion}
 use Rattle.std.proofs.lemmas.Bool.{cond-false, and_parts, and_right, false≢true, lt-ltb, le-ltb, ltb-false}
+use Rattle.law_lists.proofs.Counts.{count_nothing}
 use Rattle.rec_format.specs.declared.version.Digest.{Digest}
 use Rattle.rec_format.specs.declared.version.Stamp.{Stamp}
 use Rattle.rec_format.specs.declared.version.Version.{Version}
@@ -20,7 +21,6 @@ use Rattle.model_node.specs.Commands.{Slot, Raids, TakesTurns, removed_by, clear
 use Rattle.model_node.proofs.Expiries.{if_refused}
 use Rattle.law_raid.specs.Exact.{SomeOlder, RaidsExactly, FindsAlong, drop_item}
 use Rattle.law_raid.proofs.Items.{at_digest, eligible_logged}
-use Rattle.law_raid.proofs.Counts.{count_none}
 use Rattle.law_raid.proofs.Dropping.{IsDropped, drops, is_tomb, is_a_put, part_dropped, turn_behind}
 use Rattle.law_raid.proofs.Marking.{IsScanned, Before, at_begin, marked_before, scanned_before, compared_before, marks_tell}
 
@@ -123,10 +123,10 @@ module _ (setup : Setup) (told : Bool) (now : ℕ) (s : State) (possible : Possi
         (none (drops setup now s (has_digest r.marked) d) d));
     digests = refl;
     marks = λ d le. by d (has_digest r.marked d) refl;
-    removed_are = count_none (λ d. (drops setup now s (has_digest r.marked) d && is_tomb setup now s (has_digest r.marked) d) && nat_lt (part_of setup d) 0) (digests_of s.log)
-        (λ d. none (drops setup now s (has_digest r.marked) d && is_tomb setup now s (has_digest r.marked) d) d);
-    cleared_are = count_none (λ d. (drops setup now s (has_digest r.marked) d && is_a_put setup now s (has_digest r.marked) d) && nat_lt (part_of setup d) 0) (digests_of s.log)
-        (λ d. none (drops setup now s (has_digest r.marked) d && is_a_put setup now s (has_digest r.marked) d) d);
+    removed_are = sym (count_nothing (λ d. (drops setup now s (has_digest r.marked) d && is_tomb setup now s (has_digest r.marked) d) && nat_lt (part_of setup d) 0) (digests_of s.log)
+        (λ d. none (drops setup now s (has_digest r.marked) d && is_tomb setup now s (has_digest r.marked) d) d));
+    cleared_are = sym (count_nothing (λ d. (drops setup now s (has_digest r.marked) d && is_a_put setup now s (has_digest r.marked) d) && nat_lt (part_of setup d) 0) (digests_of s.log)
+        (λ d. none (drops setup now s (has_digest r.marked) d && is_a_put setup now s (has_digest r.marked) d) d));
   }
     where
       none : (b : Bool) (d : Digest) → (b && nat_lt (part_of setup d) 0) ≡ false

@@ -1,5 +1,5 @@
 -- Where entries are removed or cleared one after another: what that makes of the log and of the marks.
-use Rattle.std.proofs.Common.{◌≡◌, ℕ, Bool, true, false, not, cond, ◌&&◌, ◌||◌, List, [], ◌∷◌, ◌++◌, map, refl, sym, ◌∙◌, ap, subst}
+use Rattle.std.proofs.Common.{◌≡◌, ℕ, Bool, true, false, not, cond, ◌&&◌, ◌||◌, List, [], ◌∷◌, map, refl, sym, ◌∙◌, ap, subst}
 use Rattle.std.specs.List.{AllByRecursion}
 use Rattle.std.specs.List.Sorted.{IsStrictlySortedBy}
 use Rattle.std.specs.Ordering.{is_eq}
@@ -11,7 +11,7 @@ use Rattle.rec_format.proofs.Laws.{same_digest_is}
 use Rattle.model_device.specs.Histories.{Item, rid, cleared, top_of, is_covered}
 use Rattle.model_device.specs.Book.{Setup}
 use Rattle.model_device.specs.Device.{Log, State, history_of, digests_of, entry, entry_passes, is_eligible, is_old_enough}
-use Rattle.model_device.specs.Steps.{Step, rid_of, uncovered, after_step, after_steps, without_mark}
+use Rattle.model_device.specs.Steps.{rid_of, uncovered, after_step, after_steps, without_mark}
 use Rattle.model_device.specs.Legal.{drop_step}
 use Rattle.law_sprig.specs.Tests.{has_digest}
 use Rattle.law_sprig.proofs.Ordered.{AreInOrder, IsBelowAll, one_order, order-with_digest, among-with_digest, among-filter}
@@ -108,10 +108,6 @@ mark_stays d (x ∷ xs) marked all =
     last false = refl
 
 -- ---- the steps
-
-pub after_joined : (setup : Setup) (xs ys : List Step) (s : State) → after_steps setup (xs ++ ys) s ≡ after_steps setup ys (after_steps setup xs s)
-after_joined setup [] ys s = refl
-after_joined setup (x ∷ xs) ys s = after_joined setup xs ys (after_step setup x s)
 
 module _ (setup : Setup) (s : State) where
   -- entries are removed or cleared one after another

@@ -5,18 +5,18 @@ use Rattle.std.specs.List.{AllByRecursion}
 use Rattle.std.proofs.lemmas.Bool.{both_ways, and_from, and_parts, and_cases, or_cases, or_left, or_right, eqb-false, ltb-false, cases_lt, not-false}
 use Rattle.std.proofs.lemmas.List.Elements.{Contains-append_left, Contains-append_right, Contains-append_cases}
 use Rattle.std.proofs.lemmas.List.Folds.{list_any-append}
+use Rattle.law_lists.proofs.Finding.{any_there, some_at}
+use Rattle.law_lists.proofs.Members.{filter_from, filter_there}
 use Rattle.rec_format.specs.declared.version.Digest.{Digest}
 use Rattle.rec_format.specs.declared.version.Stamp.{Stamp}
 use Rattle.rec_format.specs.declared.version.Version.{Version}
 use Rattle.rec_format.specs.Places.{same_digest}
 use Rattle.rec_format.proofs.Laws.{same_digest_is, same_digest_refl}
-use Rattle.law_start.proofs.Members.{filter_from, filter_there}
 use Rattle.model_device.specs.Book.{Setup}
 use Rattle.model_device.specs.Device.{State, RaidState, Turn, mark_turn, scan_turn, apply_turn, drop_turn, finished, entry, stamp_of, part_of, digests_of, is_eligible, eligible_in}
 use Rattle.model_device.specs.Steps.{marked_part, scanned_block, compared_part, after_step, after_scan, first_part, turn_with, has_older, is_older_than, part_total, raid_at_begin}
 use Rattle.law_facts.specs.Facts.{Possible, IsOlder, IsAhead, NoneOlder}
 use Rattle.law_facts.specs.Asking.{FindsOlder, FindsPossible}
-use Rattle.law_trail.proofs.Places.{any_there, some_at}
 use Rattle.law_sprig.specs.Tests.{has_digest}
 use Rattle.law_sprig.proofs.Ordered.{among-filter}
 use Rattle.law_raid.specs.Exact.{SomeOlder}

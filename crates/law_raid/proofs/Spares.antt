@@ -21,7 +21,8 @@ use Rattle.law_sprig.specs.Tests.{has_digest}
 use Rattle.law_sprig.proofs.Ordered.{AreInOrder, among-filter}
 use Rattle.law_sprig.proofs.Showing.{logged_order}
 use Rattle.law_raid.specs.Exact.{drop_item}
-use Rattle.law_raid.proofs.Items.{with_items, history_with, after_joined, dropped_log}
+use Rattle.model_device.proofs.InRow.{after_joined}
+use Rattle.law_raid.proofs.Items.{with_items, history_with, dropped_log}
 
 -- ---- the end of a part
 

@@ -2,12 +2,12 @@
 use Rattle.std.proofs.Common.{◌≡◌, ◌≢◌, ℕ, ◌+◌, ◌*◌, ◌≤◌, ◌<◌, Bool, true, false, not, cond, ◌&&◌, [], ◌∷◌, length, refl, sym, ◌∙◌, ap, subst, arith}
 use Rattle.std.specs.Prelude.{◌==◌, nat_lt, Some, Contains, count_by}
 use Rattle.std.proofs.lemmas.Bool.{eqb-true, eq-eqb, both_ways, and_parts, and_from, not-true, ltb-true, lt-ltb, leb-false}
+use Rattle.law_lists.proofs.Counts.{count_changed, count_joined, count_none, only_found}
 use Rattle.rec_format.specs.declared.version.Digest.{Digest}
 use Rattle.model_device.specs.Book.{Setup, Buffer, Book, Live, Stream, client, defrag, Phase, filling, sealed, opening, is_filling, same_stream, sealed_if}
 use Rattle.model_device.specs.Book.{seal_stream, filling_buffer, has_buffer, has_room, fits_in, use_of, with_new_buffer, used_more, live_of}
 use Rattle.law_room.specs.Tidy.{IsTidy, fills}
 use Rattle.law_room.specs.Room.{may_come}
-use Rattle.law_room.proofs.Counts.{count_changed, count_joined, count_none, only_found}
 use Rattle.law_room.proofs.Moving as moving
 use Rattle.law_room.proofs.Readying.{IsReadied, has_own, fresh, fresh_unused}
 

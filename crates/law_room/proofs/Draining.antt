@@ -5,6 +5,8 @@ use Rattle.std.specs.Prelude.{◌==◌, Option, Some, None, count_by, MatchOptio
 use Rattle.std.specs.List.{AllByRecursion, IsDistinct}
 use Rattle.std.proofs.lemmas.Bool.{both_ways, cond-true, cond-false, cond_both, leb-true, le-leb}
 use Rattle.std.proofs.Math.Nat.{mul-le-mul_right}
+use Rattle.law_lists.proofs.Each.{all_at, all_joined}
+use Rattle.law_lists.proofs.Finding.{find_there}
 use Rattle.rec_format.specs.declared.version.Digest.{Digest}
 use Rattle.rec_format.specs.Places.{same_digest}
 use Rattle.model_device.specs.Book.{Setup, Buffer, Book, Live, defrag, filling, sealed, is_filling, same_stream, sealed_if, seal_stream, used_more, first_block}
@@ -12,14 +14,12 @@ use Rattle.model_device.specs.Book.{filling_buffer, fits_in, has_buffer, has_roo
 use Rattle.model_device.specs.Device.{State}
 use Rattle.model_device.specs.Steps.{moved, moved_state, after_step}
 use Rattle.law_start.specs.Holding.{HasRisingNumbers}
-use Rattle.law_start.proofs.Growing.{all_at}
-use Rattle.law_start.proofs.Opening.{all_joined}
 use Rattle.law_start.proofs.Placing.{some_room}
 use Rattle.law_trail.specs.Trail.{IsBooked, CanPlace}
 use Rattle.law_trail.specs.Within.{IsWithin}
 use Rattle.law_trail.proofs.Books.{free_has_nothing, live_there}
 use Rattle.law_trail.proofs.Numbered.{placed_counted}
-use Rattle.law_trail.proofs.Placing.{placed_is, find_there}
+use Rattle.law_trail.proofs.Placing.{placed_is}
 use Rattle.law_trail.proofs.Within.{step_within}
 use Rattle.law_room.specs.Tidy.{IsTidy, fills}
 use Rattle.law_room.specs.Room.{may_come}

@@ -2,19 +2,15 @@
 use Rattle.std.proofs.Common.{◌≡◌, ◌+◌, Bool, true, false, not, cond, ◌&&◌, List, [], ◌∷◌, ◌++◌, append_assoc, refl, ap, sym, ◌∙◌, arith}
 use Rattle.std.proofs.lemmas.Bool.{and_left, and_right}
 use Rattle.std.specs.Prelude.{filter, count_by, flat_map}
+use Rattle.law_lists.proofs.Counts.{count_at}
 use Rattle.model_device.specs.Book.{Setup, Book, Buffer, Phase, filling, sealed, opening, is_filling}
 use Rattle.model_device.specs.Device.{State}
-use Rattle.model_device.specs.Steps.{Step, gate_begun, flushed_buffer, after_step, after_steps}
+use Rattle.model_device.specs.Steps.{gate_begun, flushed_buffer, after_step, after_steps}
 use Rattle.model_device.specs.Legal.{flush_of}
 use Rattle.law_room.specs.Room.{is_below, may_come}
 use Rattle.law_room.specs.Tidy.{IsTidy}
-use Rattle.law_room.proofs.Counts.{count_at}
 use Rattle.law_room.proofs.Quiet.{step_keeps}
 use Rattle.law_room.proofs.Leaving.{VacatesNone, nothing_new, one_more, opened_buffers, flushed_buffers, flushed_vacates}
-
-pub after_joined : (setup : Setup) (xs ys : List Step) (s : State) → after_steps setup (xs ++ ys) s ≡ after_steps setup ys (after_steps setup xs s)
-after_joined setup [] ys s = refl
-after_joined setup (x ∷ xs) ys s = after_joined setup xs ys (after_step setup x s)
 
 -- the block of a buffer that takes no records counts where it is below the mark
 unfilled_comes : (setup : Setup) (book : Book) (b : Buffer) → is_filling b.phase ≡ false → may_come setup book b ≡ is_below setup book b.block

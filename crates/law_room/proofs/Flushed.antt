@@ -3,19 +3,19 @@
 use Rattle.std.proofs.Common.{◌≡◌, ◌⊎◌, inl, inr, ◌+◌, ◌≤◌, Bool, true, false, List, [], ◌∷◌, ◌++◌, length, None, refl, ap, sym, subst, ◌∙◌, arith}
 use Rattle.std.specs.Prelude.{flat_map}
 use Rattle.std.specs.List.{AllByRecursion}
+use Rattle.law_lists.proofs.Each.{all_from, all_joined, all_parted}
+use Rattle.law_lists.proofs.Members.{filter_from}
 use Rattle.model_device.specs.Book.{Setup, Book, Buffer, Phase, client, defrag, filling, sealed, opening, is_filling, filling_buffer}
 use Rattle.model_device.specs.Device.{State}
 use Rattle.model_device.specs.Steps.{Step, after_steps}
 use Rattle.model_device.specs.Events.{Answer, Event, flush_sealed_call, after_event}
 use Rattle.model_device.specs.Legal.{Allowed, seal_if, seal_low, is_due, flush_of, flush_all}
 use Rattle.model_device.specs.Vacating.{IfRefused}
-use Rattle.law_start.proofs.Growing.{all_from}
-use Rattle.law_start.proofs.Members.{filter_from}
-use Rattle.law_start.proofs.Opening.{all_joined, all_parted}
+use Rattle.model_device.proofs.InRow.{after_joined}
 use Rattle.law_room.specs.Room.{left_to_vacate}
 use Rattle.law_room.specs.Tidy.{IsTidy}
 use Rattle.law_room.proofs.Quiet.{IsQuiet, Keeps, steps_keep}
-use Rattle.law_room.proofs.Emptying.{IsEmptied, filling_of, after_joined, all_flushed}
+use Rattle.law_room.proofs.Emptying.{IsEmptied, filling_of, all_flushed}
 use Rattle.law_room.proofs.Sealed.{sealed_low, after_seals, filling_found, CountsOver, seals_count, due_gathered}
 
 -- what such a call leaves where it isn't refused

@@ -10,9 +10,9 @@ use Rattle.model_device.specs.Steps.{Step, after_steps}
 use Rattle.model_device.specs.Events.{Event, after_event, after_events, steps_of}
 use Rattle.model_device.specs.Legal.{Allowed, IsLegal, last_faults, seal_if, is_due}
 use Rattle.model_device.specs.Vacating.{Outcome, can_gain, Vacates, Tends}
+use Rattle.model_device.proofs.InRow.{after_joined}
 use Rattle.law_room.specs.Room.{left_to_vacate, IsAtRest, NoneRefused, GainsRoom, TendInRow}
 use Rattle.law_room.specs.Tidy.{IsTidy}
-use Rattle.law_room.proofs.Emptying.{after_joined}
 use Rattle.law_room.proofs.Flushed.{IsFlushed, flushed, flushed_filling}
 use Rattle.law_room.proofs.Resting.{at_rest, few_nothing, none_sealed}
 use Rattle.law_room.proofs.Vacated.{HasVacated, vacated}

@@ -1,53 +1,23 @@
 -- What is brought up to date behind a change keeps a book tidy, and those that still qualify are no fewer.
-use Rattle.std.proofs.Common.{◌≡◌, ℕ, zero, suc, ◌+◌, ◌<◌, ◌≤◌, Bool, true, false, not, ◌&&◌, List, [], ◌∷◌, ◌++◌, length, length-append, refl, ap, ◌∙◌, arith}
-use Rattle.std.proofs.lemmas.Bool.{and_parts, not-true, cond-true, cond_both, ne_eqb}
-use Rattle.std.proofs.lemmas.Map.Keys.{IsDistinct-head, IsDistinct-tail, IsDistinct-cons}
+use Rattle.std.proofs.Common.{◌≡◌, ℕ, ◌<◌, ◌≤◌, Bool, true, false, not, ◌&&◌, List, length, length-append, refl, ap, arith}
+use Rattle.std.proofs.lemmas.Bool.{and_parts, not-true}
 use Rattle.std.specs.Prelude.{◌==◌, filter, count_by}
-use Rattle.std.specs.List.{AllByRecursion, IsDistinct, range_with_len}
+use Rattle.std.specs.List.{AllByRecursion, IsDistinct}
+use Rattle.law_lists.proofs.Distinct.{distinct_fewer, distinct_joined, range_once}
+use Rattle.law_lists.proofs.Each.{all_from, all_joined, all_fewer}
+use Rattle.law_lists.proofs.Filters.{filter_all}
+use Rattle.law_lists.proofs.Finding.{none_at}
+use Rattle.law_lists.proofs.Members.{filter_from}
+use Rattle.law_lists.proofs.Ranges.{range_below}
 use Rattle.rec_format.specs.Places.{same_digest}
 use Rattle.model_device.specs.Book.{Setup, Book, Stream, is_in, all_blocks, may_be_free, may_be_queued, updated, refreshed}
 use Rattle.defrag_queue.proofs.Refreshed.{refreshed_all}
 use Rattle.law_start.specs.Holding.{HasRisingNumbers}
-use Rattle.law_start.proofs.Growing.{all_from}
-use Rattle.law_start.proofs.Members.{filter_from}
-use Rattle.law_start.proofs.Opening.{all_joined}
 use Rattle.law_trail.specs.Trail.{places_of, HaveOwnBlocks}
 use Rattle.law_trail.specs.Within.{IsWithin}
 use Rattle.law_trail.proofs.Books.{refreshed_booked}
-use Rattle.law_trail.proofs.Flushing.{all_fewer}
-use Rattle.law_trail.proofs.Places.{none_at}
-use Rattle.law_trail.proofs.Within.{range_below, refreshed_within}
+use Rattle.law_trail.proofs.Within.{refreshed_within}
 use Rattle.law_room.specs.Tidy.{fills, IsTidy}
-
--- ---- lists
-
-pub filter_all : {X : Type 0} (p : X → Bool) (xs : List X) → AllByRecursion (λ x. p x ≡ true) xs → filter p xs ≡ xs
-filter_all p [] all = refl
-filter_all {X} p (x ∷ xs) all = cond-true (p x) (x ∷ filter p xs) (filter p xs) all.0 ∙ ap (λ (l : List X). x ∷ l) (filter_all p xs all.1)
-
--- where no two elements are the same, none of fewer are
-module _ {X : Type 0} (e : X → X → Bool) where
-  pub distinct_fewer : (p : X → Bool) (xs : List X) → IsDistinct e xs → IsDistinct e (filter p xs)
-  distinct_fewer p [] once = once
-  distinct_fewer p (x ∷ xs) once =
-      let rest = distinct_fewer p xs (IsDistinct-tail e x xs once) in
-      cond_both (p x) (x ∷ filter p xs) (filter p xs) (IsDistinct e)
-      (λ _. IsDistinct-cons e x (filter p xs) (all_fewer (λ y. e x y ≡ false) p xs (IsDistinct-head e x xs once)) rest) (λ _. rest)
-
-  distinct_joined : (xs ys : List X) → IsDistinct e xs → IsDistinct e ys → AllByRecursion (λ x. AllByRecursion (λ y. e x y ≡ false) ys) xs → IsDistinct e (xs ++ ys)
-  distinct_joined [] ys one other apart = other
-  distinct_joined (x ∷ xs) ys one other apart =
-      IsDistinct-cons e x (xs ++ ys) (all_joined (λ y. e x y ≡ false) xs ys (IsDistinct-head e x xs one) apart.0)
-      (distinct_joined xs ys (IsDistinct-tail e x xs one) other apart.1)
-
-range_above : (low from n : ℕ) → low < from → AllByRecursion (λ b. (low == b) ≡ false) (range_with_len from n)
-range_above low from zero lt = tt
-range_above low from (suc n) lt = (ne_eqb low from (λ (same : low ≡ from). absurd (omega (arith, same))), range_above low (from + 1) n (omega arith))
-
-range_once : (from n : ℕ) → IsDistinct (λ a b. a == b) (range_with_len from n)
-unfolding IsDistinct
-range_once from zero = tt
-range_once from (suc n) = IsDistinct-cons (λ a b. a == b) from (range_with_len (from + 1) n) (range_above from (from + 1) n (omega arith)) (range_once (from + 1) n)
 
 -- ---- blocks that qualify
 

@@ -5,20 +5,19 @@ use Rattle.std.proofs.lemmas.List.Folds.{list_any-append}
 use Rattle.std.proofs.lemmas.List.Sums.{length-filter, count_by-le-length}
 use Rattle.std.specs.Prelude.{◌==◌, filter, count_by}
 use Rattle.std.specs.List.{AllByRecursion, list_any}
+use Rattle.law_lists.proofs.Counts.{count_at}
+use Rattle.law_lists.proofs.Each.{all_map, all_parted}
+use Rattle.law_lists.proofs.Filters.{filter_all}
 use Rattle.model_device.specs.Book.{Setup, Book, Buffer, opening, is_filling, opened_if, has_buffer, is_in, may_be_queued, with_flushed, refreshed}
 use Rattle.model_device.specs.Device.{State}
 use Rattle.model_device.specs.Steps.{gate_begun, flushed_buffer, after_step}
 use Rattle.defrag_queue.specs.Queues.{requeued}
 use Rattle.defrag_queue.proofs.Refreshed.{refreshed_one}
 use Rattle.law_start.specs.Holding.{AreRising}
-use Rattle.law_start.proofs.Each.{all_map}
-use Rattle.law_start.proofs.Opening.{all_parted}
+use Rattle.law_trail.proofs.Unchanged.{queued_alike}
 use Rattle.law_room.specs.Room.{is_below, gathers_live, may_come, left_to_vacate}
 use Rattle.law_room.specs.Tidy.{IsTidy}
-use Rattle.law_room.proofs.Counts.{count_at}
-use Rattle.law_room.proofs.Keeping.{filter_all}
 use Rattle.law_room.proofs.Quiet.{left}
-use Rattle.law_room.proofs.Waiting.{queued_alike}
 
 -- ---- a list with one element of its number
 

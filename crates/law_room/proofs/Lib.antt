@@ -1,5 +1,4 @@
 mod Keeping
-mod Counts
 mod Waiting
 mod Quiet
 mod Leaving

@@ -6,7 +6,12 @@ use Rattle.std.specs.Prelude.{◌==◌, Option, Some, Contains, filter, find}
 use Rattle.std.specs.List.{AllByRecursion, IsDistinct, list_any}
 use Rattle.std.proofs.lemmas.Bool.{cases_eq, cond-true, cond-false, or_from, ne_eqb, eq-eqb, both_ways, and_from, not-true}
 use Rattle.std.proofs.lemmas.List.Sums.{length-filter, count_by-le-length}
-use Rattle.std.proofs.lemmas.Map.Keys.{IsDistinct-head, IsDistinct-tail, IsDistinct-cons}
+use Rattle.std.proofs.lemmas.Map.Keys.{IsDistinct-cons}
+use Rattle.law_lists.proofs.Counts.{count_changed}
+use Rattle.law_lists.proofs.Distinct.{distinct_fewer, kept_all, kept_but_one}
+use Rattle.law_lists.proofs.Each.{all_at, all_from}
+use Rattle.law_lists.proofs.Finding.{find_there}
+use Rattle.law_lists.proofs.Members.{filter_from}
 use Rattle.rec_format.specs.declared.version.Digest.{Digest}
 use Rattle.rec_format.specs.Places.{same_digest}
 use Rattle.model_device.specs.Book.{Setup, Buffer, Book, Live, Stream, defrag, filling_buffer, has_buffer, is_held, is_in, use_of, may_be_free, may_be_queued}
@@ -14,40 +19,19 @@ use Rattle.model_device.specs.Book.{all_blocks, refreshed, used_more, with_hold,
 use Rattle.defrag_queue.specs.Queues.{requeued}
 use Rattle.defrag_queue.proofs.Refreshed.{refreshed_one}
 use Rattle.law_start.specs.Holding.{HasRisingNumbers}
-use Rattle.law_start.proofs.Growing.{all_at, all_from}
-use Rattle.law_start.proofs.Members.{first_there, rest_there, filter_from}
 use Rattle.law_trail.specs.Trail.{IsBooked}
 use Rattle.law_trail.specs.Within.{IsWithin}
 use Rattle.law_trail.proofs.Books.{HasNothing, free_has_nothing, live_there}
 use Rattle.law_trail.proofs.Places.{buffer_place}
-use Rattle.law_trail.proofs.Placing.{use_places, find_there}
+use Rattle.law_trail.proofs.Placing.{use_places}
+use Rattle.law_trail.proofs.Unchanged.{queued_alike}
 use Rattle.law_room.specs.Tidy.{IsTidy, fills}
-use Rattle.law_room.proofs.Counts.{count_changed}
-use Rattle.law_room.proofs.Keeping.{IsSound, distinct_fewer, refreshed_tidy}
+use Rattle.law_room.proofs.Keeping.{IsSound, refreshed_tidy}
 use Rattle.law_room.proofs.Readying.{IsReadied, has_own}
-use Rattle.law_room.proofs.Waiting.{queued_alike, unused_waits_not, buffered_waits_not, waits_below, waits_not}
+use Rattle.law_room.proofs.Waiting.{unused_waits_not, buffered_waits_not, waits_below, waits_not}
 use Rattle.law_room.proofs.Uses.{share, share_here, share_apart, use_cons, use_without}
 
 -- ---- lists
-
--- where all but one of some numbers that differ pass, no more than one is lost
-kept_all : (p : ℕ → Bool) (bs : List ℕ) → ((b : ℕ) → Contains bs b → p b ≡ true) → length bs ≤ length (filter p bs)
-kept_all p [] all = omega arith
-kept_all p (b ∷ bs) all =
-    let rest = kept_all p bs (λ c there. all c (rest_there b bs c there)) in
-    let one = ap length (cond-true (p b) (b ∷ filter p bs) (filter p bs) (all b (first_there b bs))) in omega (arith, rest, one)
-
-kept_but_one : (p : ℕ → Bool) (k : ℕ) (bs : List ℕ) → IsDistinct (λ a b. a == b) bs → ((b : ℕ) → Contains bs b → b ≢ k → p b ≡ true) → length bs ≤ length (filter p bs) + 1
-kept_but_one p k [] once all = omega arith
-kept_but_one p k (b ∷ bs) once all = by (p b) (cases_eq b k) refl (kept_but_one p k bs (IsDistinct-tail (λ a c. a == c) b bs once) (λ c there. all c (rest_there b bs c there)))
-  where
-    by : (t : Bool) → (b ≡ k) ⊎ (b ≢ k) → p b ≡ t → length bs ≤ length (filter p bs) + 1 → suc (length bs) ≤ length (cond t (b ∷ filter p bs) (filter p bs)) + 1
-    by true same is rest = omega (arith, rest)
-    by false (inl e) is rest =
-        let others = kept_all p bs (λ c there. all c (rest_there b bs c there)
-        (λ (same : c ≡ k). both_ways (b == c) (all_at (λ d. (b == d) ≡ false) bs c (IsDistinct-head (λ a d. a == d) b bs once) there) (eq-eqb b c (e ∙ sym same)))) in
-        omega (arith, others)
-    by false (inr other) is rest = absurd (both_ways (p b) is (all b (first_there b bs) other))
 
 found_changed : (p : Buffer → Bool) (change : Buffer → Buffer) → ((y : Buffer) → p (change y) ≡ p y) → (bs : List Buffer) (x : Buffer) → find p bs ≡ Some x → find p (map change bs) ≡ Some (change x)
 found_changed p change keeps [] x found = absurd (cc)

@@ -1,29 +1,27 @@
 -- Sealing and flushing keep a book tidy: no block that is free or queued leaves, nothing live changes, and no hold comes.
-use Rattle.std.proofs.Common.{◌≡◌, ℕ, ◌≤◌, Bool, true, false, not, ◌&&◌, List, [], ◌∷◌, ◌++◌, length, refl, ap, sym, ◌∙◌, arith}
-use Rattle.std.proofs.lemmas.Bool.{and_parts, and_from, cond_both, false≢true}
-use Rattle.std.specs.Prelude.{◌==◌, filter}
+use Rattle.std.proofs.Common.{◌≡◌, ℕ, ◌≤◌, Bool, true, false, not, ◌&&◌, List, [], ◌∷◌, length, refl, sym, ◌∙◌, arith}
+use Rattle.std.proofs.lemmas.Bool.{and_parts, cond_both, false≢true}
+use Rattle.std.specs.Prelude.{◌==◌}
 use Rattle.std.specs.List.{AllByRecursion, list_any}
-use Rattle.model_device.specs.Book.{Setup, Book, Buffer, Live, Stream, sealed, opening, is_filling, same_stream, sealed_if, opened_if, has_buffer, is_held}
-use Rattle.model_device.specs.Book.{use_of, may_be_free, may_be_queued, with_seal, with_gate_begun, with_flushed, refreshed}
+use Rattle.law_lists.proofs.Counts.{count_changed, count_fewer}
+use Rattle.law_lists.proofs.Each.{all_map}
+use Rattle.law_lists.proofs.Finding.{any_fewer}
+use Rattle.model_device.specs.Book.{Setup, Book, Buffer, Stream, sealed, opening, is_filling, same_stream, sealed_if, opened_if, has_buffer}
+use Rattle.model_device.specs.Book.{may_be_free, may_be_queued, with_seal, with_gate_begun, with_flushed, refreshed}
 use Rattle.model_device.specs.Device.{State}
 use Rattle.model_device.specs.Steps.{Step, wrote, moved, removed, rid_of, uncovered, sealed_stream, gate_begun, flushed_buffer, closing_failed, raid_begun}
 use Rattle.model_device.specs.Steps.{raid_given_up, marked_part, scanned_block, compared_part, done_part, after_step, after_steps}
 use Rattle.defrag_queue.proofs.Refreshed.{each_of}
 use Rattle.law_start.specs.Holding.{HasRisingNumbers}
-use Rattle.law_start.proofs.Each.{all_map}
-use Rattle.law_start.proofs.Members.{filter_from}
-use Rattle.law_trail.specs.Trail.{places_of}
-use Rattle.law_trail.proofs.Books.{nothing_in}
 use Rattle.law_trail.proofs.Flushing.{flushed_booked}
 use Rattle.law_trail.proofs.Numbered.{step_numbered}
 use Rattle.law_trail.proofs.Others.{open_places, sealed_booked, begun_booked}
-use Rattle.law_trail.proofs.Places.{none_at, none_from, buffer_place}
 use Rattle.law_trail.proofs.Placing.{seal_places}
 use Rattle.law_trail.proofs.Within.{step_within}
+use Rattle.law_trail.proofs.Unchanged.{queued_alike, queued_same, without_buffer, unbuffered_still, free_still}
 use Rattle.law_room.specs.Tidy.{fills, IsTidy}
-use Rattle.law_room.proofs.Counts.{count_changed, count_fewer}
 use Rattle.law_room.proofs.Keeping.{IsSound, refreshed_tidy, free_grows, queue_grows}
-use Rattle.law_room.proofs.Waiting.{queued_alike, waits_bare}
+use Rattle.law_room.proofs.Waiting.{waits_bare}
 
 -- a step of sealing or of flushing
 abbrev pub IsQuiet : Step → Type 0
@@ -52,23 +50,6 @@ opened_fills stream chosen b =
     cond_both chosen (record b { phase = opening }) b (λ (c : Buffer). fills stream c ≡ true → fills stream b ≡ true)
     (λ _ is. absurd (false≢true (and_parts (same_stream stream b.stream) false is).1)) (λ _ is. is)
 
--- where neither places nor live copies change, the same blocks may be queued
-queued_same : (setup : Setup) (old new : Book) → places_of new ≡ places_of old → new.live ≡ old.live → (block : ℕ) → may_be_queued setup old block ≡ may_be_queued setup new block
-queued_same setup old new places live block =
-    sym (queued_alike setup old new block (buffer_place new block ∙ ap (list_any (λ (p : ℕ × ℕ). p.1 == block)) places ∙ sym (buffer_place old block))
-    (ap (λ (l : List Live). use_of (record old { live = l }) block) live))
-
--- what none of a list passes none of a part of it does
-none_fewer : {X : Type 0} (test p : X → Bool) (xs : List X) → list_any test xs ≡ false → list_any test (filter p xs) ≡ false
-none_fewer test p xs none = none_from test (filter p xs) (λ x there. none_at test xs x none (filter_from p xs x there).0)
-
-any_more : {X : Type 0} (test p : X → Bool) (xs : List X) → list_any test (filter p xs) ≡ true → list_any test xs ≡ true
-any_more test p xs some = by (list_any test xs) refl
-  where
-    by : (t : Bool) → list_any test xs ≡ t → list_any test xs ≡ true
-    by true is = is
-    by false is = absurd (false≢true (sym (none_fewer test p xs is) ∙ some))
-
 module _ (setup : Setup) (s : State) (tidy : IsTidy setup s.book) where
   -- the numbers of buffers rise whatever the log has
   counted : (step : Step) → HasRisingNumbers (after_step setup step (record s { log = [] })).book
@@ -91,7 +72,7 @@ module _ (setup : Setup) (s : State) (tidy : IsTidy setup s.book) where
       once = tidy.once;
       own = tidy.own;
       below = tidy.below;
-      queued = λ block lt. tidy.queued block lt ∙ queued_same setup s.book (with_seal stream s.book) (seal_places stream s.book.buffers) refl block;
+      queued = λ block lt. tidy.queued block lt ∙ sym (queued_same setup s.book (with_seal stream s.book) (seal_places stream s.book.buffers) refl block);
     };
     free = omega arith;
     queue = omega arith;
@@ -111,7 +92,7 @@ module _ (setup : Setup) (s : State) (tidy : IsTidy setup s.book) where
       once = tidy.once;
       own = tidy.own;
       below = tidy.below;
-      queued = λ block lt. tidy.queued block lt ∙ queued_same setup s.book (with_gate_begun number s.book) (open_places number s.book) refl block;
+      queued = λ block lt. tidy.queued block lt ∙ sym (queued_same setup s.book (with_gate_begun number s.book) (open_places number s.book) refl block);
     };
     free = omega arith;
     queue = omega arith;
@@ -122,26 +103,10 @@ module _ (setup : Setup) (s : State) (tidy : IsTidy setup s.book) where
   module _ (number : ℕ) where
     -- the book without the buffer and its holds
     abbrev pub left : Book
-    left = record s.book {
-      buffers = filter (λ b. not (b.number == number)) s.book.buffers;
-      holds = filter (λ h. not (h.0 == number)) s.book.holds;
-      flushed_numbers = s.book.flushed_numbers ++ number ∷ [];
-    }
-
-    unbuffered : (block : ℕ) → has_buffer s.book block ≡ false → has_buffer left block ≡ false
-    unbuffered block none = none_fewer (λ (b : Buffer). b.block == block) (λ b. not (b.number == number)) s.book.buffers none
-
-    still_free : (block : ℕ) → may_be_free s.book block ≡ true → may_be_free left block ≡ true
-    still_free block may =
-        let nothing = nothing_in s.book block may in
-        let two = and_parts (not (has_buffer s.book block) && (use_of s.book block == 0)) (not (is_held s.book block)) may in
-        let one = and_parts (not (has_buffer s.book block)) (use_of s.book block == 0) two.0 in
-        and_from (not (has_buffer left block) && (use_of left block == 0)) (not (is_held left block))
-        (and_from (not (has_buffer left block)) (use_of left block == 0) (ap not (unbuffered block nothing.buffer)) one.1)
-        (ap not (none_fewer (λ (h : ℕ × ℕ). h.1 == block) (λ h. not (h.0 == number)) s.book.holds nothing.hold))
+    left = without_buffer number s.book
 
     still_queued : (block : ℕ) → may_be_queued setup s.book block ≡ true → may_be_queued setup left block ≡ true
-    still_queued block may = queued_alike setup s.book left block (unbuffered block bare ∙ sym bare) refl ∙ may
+    still_queued block may = queued_alike setup s.book left block (unbuffered_still number s.book block bare ∙ sym bare) refl ∙ may
       where
         bare : has_buffer s.book block ≡ false
         bare = waits_bare setup s.book block may
@@ -169,13 +134,13 @@ module _ (setup : Setup) (s : State) (tidy : IsTidy setup s.book) where
 
     still_held : (test : ℕ × ℕ → Bool) → list_any test (refreshed setup left).holds ≡ true → list_any test s.book.holds ≡ true
     unfolding refreshed
-    still_held test some = any_more test (λ (h : ℕ × ℕ). not (h.0 == number)) s.book.holds some
+    still_held test some = any_fewer test (λ (h : ℕ × ℕ). not (h.0 == number)) s.book.holds some
 
     flushed_keeps : Keeps setup s.book (with_flushed setup number s.book)
     unfolding with_flushed
     flushed_keeps = record {
       tidy = refreshed_tidy setup left left_sound;
-      free = free_grows setup left (all_map (λ b. may_be_free s.book b ≡ true) (λ b. may_be_free left b ≡ true) s.book.free still_free tidy.booked.free);
+      free = free_grows setup left (all_map (λ b. may_be_free s.book b ≡ true) (λ b. may_be_free left b ≡ true) s.book.free (free_still number s.book) tidy.booked.free);
       queue = queue_grows setup left
           (each_of setup.blocks (λ b. may_be_queued setup left b ≡ true) s.book.queue tidy.below (λ b lt is. still_queued b (sym (tidy.queued b lt) ∙ is)));
       live = still_live;

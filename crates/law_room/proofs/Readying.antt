@@ -5,18 +5,19 @@ use Rattle.std.specs.List.{list_any}
 use Rattle.std.proofs.lemmas.Bool.{or_from, ne_eqb, eq-eqb, both_ways}
 use Rattle.std.proofs.lemmas.List.Folds.{list_any-append}
 use Rattle.std.proofs.lemmas.List.Elements.{Contains-append_cases, Contains-append_right}
+use Rattle.law_lists.proofs.Counts.{count_changed, count_joined, count_none, only_found}
+use Rattle.law_lists.proofs.Each.{all_at, all_from}
+use Rattle.law_lists.proofs.Finding.{any_there, find_there}
+use Rattle.law_lists.proofs.Members.{cons_cases, map_there, map_from, first_there}
 use Rattle.model_device.specs.Book.{Setup, Buffer, Book, Stream, client, defrag, Phase, filling, sealed, opening, same_stream, sealed_if, seal_stream}
 use Rattle.model_device.specs.Book.{first_block, filling_buffer, has_buffer, use_of, with_new_buffer}
 use Rattle.law_start.specs.Holding.{AreRising}
-use Rattle.law_start.proofs.Growing.{all_at, all_from, cons_cases}
-use Rattle.law_start.proofs.Members.{map_there, map_from, first_there}
 use Rattle.law_trail.specs.Trail.{places_of}
 use Rattle.law_trail.proofs.Books.{free_has_nothing}
 use Rattle.law_trail.proofs.Flushing.{one_place}
-use Rattle.law_trail.proofs.Places.{any_there, buffer_place}
-use Rattle.law_trail.proofs.Placing.{place, sealed_place, new_places, first_free, find_there}
+use Rattle.law_trail.proofs.Places.{buffer_place}
+use Rattle.law_trail.proofs.Placing.{place, sealed_place, new_places, first_free}
 use Rattle.law_room.specs.Tidy.{IsTidy, fills}
-use Rattle.law_room.proofs.Counts.{count_changed, count_joined, count_none, only_found}
 use Rattle.law_room.proofs.Quiet.{sealed_fills}
 
 -- ---- buffers

@@ -3,14 +3,15 @@ use Rattle.std.proofs.Common.{◌≡◌, ◌⊎◌, inl, inr, ◌+◌, ◌-◌, 
 use Rattle.std.proofs.Math.Nat.{mul-le-mul_right}
 use Rattle.std.proofs.lemmas.Bool.{and_parts, or_cases, cond-false, cond_both, false≢true, ltb-true, eqb-true, not-false, and_right, and_cases}
 use Rattle.std.specs.Prelude.{find, count_by}
+use Rattle.law_lists.proofs.Counts.{one_if, count_cons, count_changed}
 use Rattle.model_device.specs.Book.{Setup, Book, Buffer, Stream, client, defrag, Phase, filling, sealed, opening, is_filling, same_stream, sealed_if, seal_stream, filling_buffer, use_of}
 use Rattle.model_device.specs.Device.{State}
 use Rattle.model_device.specs.Steps.{after_step, after_steps}
 use Rattle.model_device.proofs.Blocks.{empty_is}
 use Rattle.model_device.specs.Legal.{seal_if, is_due, is_short, is_empty, has_gathered}
+use Rattle.law_trail.proofs.Unchanged.{other_found}
 use Rattle.law_room.specs.Room.{is_below, gathers_live, may_come}
 use Rattle.law_room.specs.Tidy.{fills}
-use Rattle.law_room.proofs.Counts.{one_if, count_cons, count_changed}
 use Rattle.law_room.proofs.Quiet.{sealed_fills}
 use Rattle.law_room.proofs.Emptying.{filling_of}
 
@@ -30,33 +31,6 @@ after_seals setup true true s = refl
 after_seals setup true false s = refl
 after_seals setup false true s = refl
 after_seals setup false false s = refl
-
--- the buffer of another stream stays
-other_found : (stream other : Stream) → same_stream other stream ≡ false → (bs : List Buffer) → filling_buffer stream (seal_stream other bs) ≡ filling_buffer stream bs
-other_found client client apart bs = absurd (false≢true (sym apart))
-other_found defrag defrag apart bs = absurd (false≢true (sym apart))
-other_found client defrag apart [] = refl
-other_found defrag client apart [] = refl
-other_found client defrag apart (b ∷ bs) = by b.stream b.phase (other_found client defrag apart bs)
-  where
-    by : (stream : Stream) (phase : Phase) → filling_buffer client (seal_stream defrag bs) ≡ filling_buffer client bs
-        → filling_buffer client (seal_stream defrag (record b { stream = stream; phase = phase } ∷ bs)) ≡ filling_buffer client (record b { stream = stream; phase = phase } ∷ bs)
-    by client filling rest = refl
-    by client sealed rest = rest
-    by client opening rest = rest
-    by defrag filling rest = rest
-    by defrag sealed rest = rest
-    by defrag opening rest = rest
-other_found defrag client apart (b ∷ bs) = by b.stream b.phase (other_found defrag client apart bs)
-  where
-    by : (stream : Stream) (phase : Phase) → filling_buffer defrag (seal_stream client bs) ≡ filling_buffer defrag bs
-        → filling_buffer defrag (seal_stream client (record b { stream = stream; phase = phase } ∷ bs)) ≡ filling_buffer defrag (record b { stream = stream; phase = phase } ∷ bs)
-    by client filling rest = rest
-    by client sealed rest = rest
-    by client opening rest = rest
-    by defrag filling rest = refl
-    by defrag sealed rest = rest
-    by defrag opening rest = rest
 
 -- that of the stream doesn't
 own_gone : (stream : Stream) (bs : List Buffer) → filling_buffer stream (seal_stream stream bs) ≡ None

@@ -17,13 +17,6 @@ unused_waits_not setup book block none =
 pub buffered_waits_not : (setup : Setup) (book : Book) (block : ℕ) → has_buffer book block ≡ true → may_be_queued setup book block ≡ false
 buffered_waits_not setup book block has = ap (λ (t : Bool). not t && nat_lt 0 (use_of book block) && nat_lt (use_of book block * 100) (setup.lwm * setup.capacity)) has
 
--- it depends on the buffer and the use alone
-pub queued_alike : (setup : Setup) (old new : Book) (block : ℕ) → has_buffer new block ≡ has_buffer old block → use_of new block ≡ use_of old block
-    → may_be_queued setup new block ≡ may_be_queued setup old block
-queued_alike setup old new block buffer live =
-    ap (λ (t : Bool). not t && nat_lt 0 (use_of new block) && nat_lt (use_of new block * 100) (setup.lwm * setup.capacity)) buffer
-    ∙ ap (λ (n : ℕ). not (has_buffer old block) && nat_lt 0 n && nat_lt (n * 100) (setup.lwm * setup.capacity)) live
-
 -- a queued block is below the mark
 pub waits_below : (setup : Setup) (book : Book) (block : ℕ) → may_be_queued setup book block ≡ true → use_of book block * 100 < setup.lwm * setup.capacity
 waits_below setup book block may =

@@ -1,5 +1,5 @@
 -- Lists of disks: at a later time, where nothing was written, and what is known of one of them.
-use Rattle.std.proofs.Common.{◌≡◌, ℕ, zero, suc, List, [], ◌∷◌, length, map, refl, sym, ap, subst}
+use Rattle.std.proofs.Common.{◌≡◌, ℕ, zero, suc, List, [], ◌∷◌, length, refl, sym, ap, subst}
 use Rattle.std.proofs.Math.Nat.{le_refl}
 use Rattle.disk_model.specs.Disk.{DiskView, IsDisk, Advances}
 use Rattle.disk_model.specs.Runs.{leaves_none}
@@ -8,11 +8,6 @@ use Rattle.shard_core.proofs.Later.{later_none, later_then}
 use Rattle.model_node.specs.Outside.{NoneFell}
 use Rattle.core_run.specs.Views.{nowhere, view_at, faults_of, AreLater}
 use Rattle.law_run.specs.Promises.{ReadAlone}
-
--- a list of what is there of each is as long
-pub as_many : {A B : Type 0} (f : A → B) (items : List A) → length (map f items) ≡ length items
-as_many f [] = refl
-as_many f (x ∷ items) = ap (λ (n : ℕ). suc n) (as_many f items)
 
 -- ---- one disk
 

@@ -2,6 +2,7 @@
 use native.Mathlib.Omega.{arith}
 use Rattle.std.proofs.Common.{◌≡◌, ℕ, zero, suc, ◌+◌, ◌<◌, ◌≤◌, List, [], ◌∷◌, length, refl, sym, subst}
 use Rattle.std.specs.Prelude.{Option, Some, None, MatchOption, slice_get}
+use Rattle.std.proofs.lemmas.List.{length-map}
 use Rattle.disk_model.specs.Disk.{DiskView, IsDisk}
 use Rattle.block_format.specs.Refusals.{Refusal, IsRefusedFor, not_formatted, other_shape, damaged_block}
 use Rattle.cold_scan.specs.declared.header.Asked.{Asked}
@@ -17,7 +18,7 @@ use Rattle.core_run.specs.Starts.{RefusesAt}
 use Rattle.law_run.specs.Concluding.{refusal_end}
 use Rattle.law_run.specs.Promises.{Ends, ReadAlone, reads_of, IsSettledOn, SettlesRefused, NeverServed, disks_between}
 use Rattle.law_run.proofs.Starting.{tells_at}
-use Rattle.law_run.proofs.Disks.{as_many, read_alone_none}
+use Rattle.law_run.proofs.Disks.{read_alone_none}
 
 some_more : {A : Type 0} (P Q : A → Type 0) (item : Option A) → ((x : A) → P x → Q x) → MatchOption item ⊥ P → MatchOption item ⊥ Q
 some_more P Q None more is = absurd is
@@ -108,7 +109,7 @@ module _ {D : Type 0} (view : D → DiskView) (set : Settings) where
     )
       where
         count : length (reads_of view old) ≡ length old
-        count = as_many (λ (disk : D). (view disk).seen) old
+        count = length-map old (λ (disk : D). (view disk).seen)
 
     start_cause : (cause : StartCause) → RefusesAt view set place 0 (length old) cause old new → Has (refusal_end place cause)
     start_cause why.Memory refuses = tt

@@ -1,6 +1,7 @@
 -- A session over started devices, and what is behind it, are a run, with its promises.
 use Rattle.std.proofs.Common.{◌≡◌, ◌⊎◌, ℕ, ◌<◌, length, Bool, true, false, List, [], refl, inl, inr, subst, sym, ap, ◌∙◌}
 use Rattle.std.specs.Prelude.{Option, None, ◌^◌}
+use Rattle.std.proofs.lemmas.List.{length-map}
 use Rattle.rec_format.specs.declared.entry.Counts.{Counts}
 use Rattle.model_faults.specs.Counts.{Rose}
 use Rattle.disk_model.specs.Disk.{DiskView, IsDisk, meanwhile}
@@ -38,7 +39,7 @@ use Rattle.law_run.specs.Concluding.{session_end, refusal_end}
 use Rattle.law_run.specs.Behind.{WasClosed, WasRefused, IsBehind}
 use Rattle.law_run.specs.Promises.{Ends, reads_of, HonestEach, OnlyEach, setups_for, AreNumbered, PassEach, StartsFound, IsCount, CountedReplies}
 use Rattle.law_run.specs.Promises.{CountedThroughout, IsServed, ServedCounting, disks_between, outside}
-use Rattle.law_run.proofs.Disks.{as_many, are_later_none, are_later_then, later_count, later_at, none_fell, read_are_later, is_disk_at}
+use Rattle.law_run.proofs.Disks.{are_later_none, are_later_then, later_count, later_at, none_fell, read_are_later, is_disk_at}
 use Rattle.law_run.proofs.Standing.{serves_or_halts, one_refusal, each_count, each_stands, each_counted}
 use Rattle.law_run.proofs.Resting.{nothing_left, now_survives, rest_on_any, rest_on_safe}
 use Rattle.law_run.proofs.Starting.{geometries_of, started_count, started_read, started_numbered, started_passes, first_setups, first_numbered, tells_at}
@@ -352,7 +353,7 @@ module _ {D : Type 0} (view : D → DiskView) where
     served_count : ServedOver (length disks)
     served_count =
         let found = found_node view set 0 (length disks) disks shards started in (
-          as_many (λ (shard : ShardView D). shard.shelf.geometry) shards ∙ started_count view set 0 (length disks) disks shards started,
+          length-map shards (λ (shard : ShardView D). shard.shelf.geometry) ∙ started_count view set 0 (length disks) disks shards started,
           started_numbered view set 0 (length disks) disks shards started,
           started_passes view set 0 (length disks) disks shards started,
           replies_from (StartsFound set 0 (length disks) (geometries_of shards) (tells_at view disks) Reads) [] found.0 found.1 found.2,
@@ -360,7 +361,7 @@ module _ {D : Type 0} (view : D → DiskView) where
 
     serving_so : IsServed set (disks_between view disks (disks_of end)) (session_end result behind) times before after
     serving_so =
-        let served : ServedOver (length Reads) = subst ServedOver (sym (as_many (λ (disk : D). (view disk).seen) disks)) served_count in
+        let served : ServedOver (length Reads) = subst ServedOver (sym (length-map disks (λ (disk : D). (view disk).seen))) served_count in
         record {
           geometries = geometries_of shards;
           count = served.0;

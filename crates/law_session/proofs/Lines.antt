@@ -6,7 +6,7 @@ use Rattle.std.proofs.lemmas.Bool.Decides.{nat_tests}
 use Rattle.std.specs.List.{AllByRecursion, flat_map}
 use Rattle.std.proofs.lemmas.List.{map-append}
 use Rattle.std.proofs.lemmas.Grind.{flat_map-append}
-use Rattle.line_proto.proofs.Falling.{all_append}
+use Rattle.law_lists.proofs.Each.{all_joined}
 use Rattle.line_proto.specs.declared.command.Command.{Command}
 use Rattle.line_proto.specs.declared.line_end.LineEnd.{LineEnd}
 use Rattle.line_proto.specs.declared.line_end.LineEnd.TheVariants.{Whole, TooLong}
@@ -59,7 +59,7 @@ pub falls_behind : (bytes rest : List ℕ) (lines more : List (List ℕ)) (open_
 falls_behind bytes rest lines more open_line whole each falls = record {
   whole = whole ∙ ap (λ (l : List ℕ). flat_map ended lines ++ l) falls.whole ∙ sym (append_assoc (flat_map ended lines) (flat_map ended more) open_line)
       ∙ ap (λ (l : List ℕ). l ++ open_line) (sym (flat_map-append ended lines more));
-  each = all_append IsOneLine lines more each falls.each;
+  each = all_joined IsOneLine lines more each falls.each;
   open_line = falls.open_line;
 }
 

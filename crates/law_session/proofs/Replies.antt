@@ -2,6 +2,8 @@
 use Rattle.std.proofs.Common.{◌≡◌, ℕ, Bool, true, false, List, [], ◌∷◌, ◌++◌, length, refl, ap}
 use Rattle.std.specs.Prelude.{◌||◌, MatchBool, flat_map}
 use Rattle.std.specs.List.{AllByRecursion}
+use Rattle.std.proofs.Math.Bool.{or-false}
+use Rattle.law_lists.proofs.Answers.{match_more}
 use Rattle.line_proto.specs.declared.reply.Reply.{Reply}
 use Rattle.line_proto.specs.declared.reply.Reply.TheVariants as reply
 use Rattle.line_proto.specs.Lines.{reply_text}
@@ -29,16 +31,6 @@ bye_in (r ∷ rs) = is_bye r || bye_in rs
 no_lines : (lines : List Served) → replies_of lines ≡ [] → lines ≡ []
 no_lines [] none = refl
 no_lines (served ∷ lines) none = cc
-
-pub match_true : (b : Bool) (P Q : Type 0) → b ≡ true → P → MatchBool b P Q
-match_true b P Q is h = rw is h
-
-pub match_false : (b : Bool) (P Q : Type 0) → b ≡ false → Q → MatchBool b P Q
-match_false b P Q is h = rw is h
-
-match_more : (b : Bool) (P Q R S : Type 0) → (P → R) → (Q → S) → MatchBool b P Q → MatchBool b R S
-match_more true P Q R S first second h = first h
-match_more false P Q R S first second h = second h
 
 pub once_of : (lines : List Served) → once_in (replies_of lines) → EndsOnce lines
 once_of [] once = tt
@@ -102,10 +94,6 @@ pub go_bye : (rs : List Reply) → AllGo rs → bye_in rs ≡ false
 go_bye [] go = refl
 go_bye (r ∷ rs) go = rw (go_not_bye r go.0) (go_bye rs go.1)
 
-or_false : (b : Bool) → (b || false) ≡ b
-or_false true = refl
-or_false false = refl
-
 last_is : (b : Bool) (rs : List Reply) → MatchBool b (Unit {0}) (rs ≡ rs)
 last_is true rs = tt
 last_is false rs = refl
@@ -115,11 +103,11 @@ last_once [] r go = last_is (goes_on r) []
 last_once (s ∷ rs) r go = rw go.0 (last_once rs r go.1)
 
 pub last_halted : (rs : List Reply) (r : Reply) → AllGo rs → halted_in (rs ++ r ∷ []) ≡ halts r
-last_halted [] r go = or_false (halts r)
+last_halted [] r go = or-false (halts r)
 last_halted (s ∷ rs) r go = rw (go_not_halts s go.0) (last_halted rs r go.1)
 
 pub last_bye : (rs : List Reply) (r : Reply) → AllGo rs → bye_in (rs ++ r ∷ []) ≡ is_bye r
-last_bye [] r go = or_false (is_bye r)
+last_bye [] r go = or-false (is_bye r)
 last_bye (s ∷ rs) r go = rw (go_not_bye s go.0) (last_bye rs r go.1)
 
 pub halts_not : (r : Reply) → (r ≡ reply.Halted → ⊥) → halts r ≡ false

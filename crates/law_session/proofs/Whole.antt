@@ -1,6 +1,8 @@
 -- A whole run: the start, the session, the closing flush.
 use Rattle.std.proofs.Common.{◌≡◌, ℕ, ◌≤◌, Bool, true, false, List, [], ◌∷◌, length, refl, sym, ◌∙◌, subst, inl, inr}
 use Rattle.std.specs.Prelude.{◌||◌, Option, Some, None, MatchOption, MatchBool, IsTrue, slice_get}
+use Rattle.std.proofs.lemmas.Bool.{MatchBool-at_true}
+use Rattle.law_lists.proofs.Answers.{match_true, match_false}
 use Rattle.disk_model.specs.Disk.{DiskView, meanwhile}
 use Rattle.disk_model.specs.Runs.{OneOf, one_of_front, one_of_back}
 use Rattle.law_start.specs.Surviving.{Survives}
@@ -23,7 +25,6 @@ use Rattle.law_session.specs.Chain.{EndsWith, InHalt, ActsOn, TendsOn, Lifted}
 use Rattle.law_session.specs.Whole.{RestsOn, RunsWhole, ClosesWith, HaltsWith, Concludes}
 use Rattle.law_session.proofs.Ends.{ran_lifts}
 use Rattle.law_session.proofs.States.{lines_setups, on_same, first_of_lines, serves_more}
-use Rattle.law_session.proofs.Replies.{match_true, match_false}
 use Rattle.law_session.proofs.Turns.{leaves_both, leaves_wider}
 
 one_state : (device : ℕ) (slot : Option Slot) (image : List ℕ) → MatchOption slot (Unit {0}) (λ s. OneOf (Survives s.setup) (states_from device [] slot) image)
@@ -31,10 +32,6 @@ one_state : (device : ℕ) (slot : Option Slot) (image : List ℕ) → MatchOpti
 one_state device None image h = tt
 one_state device (Some slot) image (inl h) = h
 one_state device (Some slot) image (inr h) = absurd h
-
-true_of : (b : Bool) (P Q : Type 0) → b ≡ true → MatchBool b P Q → P
-true_of true P Q is h = h
-true_of false P Q is h = let e : false ≡ true = is in cc
 
 -- ---- causes
 
@@ -266,7 +263,7 @@ module _ {T : Type 0} (Stands : T → Node → Type 0) (views : T → ℕ → Di
       by false goes = stood (last_node node w.lifted.served w.closing) (w.stands goes)
       by true is =
           let back = halt_last (Halts end) node w.lifted.served w.is_run.ends is (w.halt is) in
-          let none : w.closing ≡ [] = true_of (is_halted w.lifted.served) (w.closing ≡ []) (ClosesEach 0 (node_after_lines w.lifted.served node) w.closing) is w.is_run.closes in
+          let none : w.closing ≡ [] = MatchBool-at_true (w.closing ≡ []) (ClosesEach 0 (node_after_lines w.lifted.served node) w.closing) is w.is_run.closes in
           subst (λ (events : List NodeEvent). P (last_node node w.lifted.served events)) (sym none) (halted back.0 (node_after_lines w.lifted.served node) back.1)
 
   -- what a crash may leave at the end survives the last state

@@ -4,6 +4,7 @@ use Rattle.std.specs.Prelude.{count_by, option_map, MatchOption}
 use Rattle.std.proofs.lemmas.Bool.{and_left}
 use Rattle.std.proofs.lemmas.List.Sums.{sum_by-cons}
 use Rattle.std.proofs.lemmas.List.Folds.{list_any-append}
+use Rattle.law_lists.proofs.Counts.{one_if}
 use Rattle.rec_format.specs.declared.version.Digest.{Digest}
 use Rattle.rec_format.specs.declared.version.Stamp.{Stamp}
 use Rattle.rec_format.specs.declared.entry.Entry.{Entry}
@@ -121,9 +122,6 @@ module _ (found : List (Digest × Stamp)) (f : Digest × Stamp) (es : List Entry
       by d false other = entry_of-with_replaced_other d (with_mark 0 x) so_far other ∙ remarked_of before d es ∙ elsewhere d (entry_of d es) refl other
 
 -- ---- how many marks are undone
-
-abbrev one_if : Bool → ℕ
-one_if b = cond b 1 0
 
 abbrev no_more : ℕ
 no_more = 0

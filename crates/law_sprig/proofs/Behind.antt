@@ -8,6 +8,7 @@ use Rattle.std.proofs.lemmas.Bool.{cond-false, and_parts, and_right, eqb-true}
 use Rattle.std.proofs.lemmas.Cmp.{tied_itself}
 use Rattle.std.proofs.lemmas.List.{map-id}
 use Rattle.std.proofs.lemmas.List.Kept.{IsStrictlySortedBy-filter}
+use Rattle.law_lists.proofs.Filters.{filter_all}
 use Rattle.rec_format.specs.declared.version.Digest.{Digest}
 use Rattle.rec_format.specs.declared.entry.Entry.{Entry}
 use Rattle.rec_format.specs.Places.{digest_cmp, same_digest, digest_before}
@@ -24,7 +25,6 @@ use Rattle.expiry_rule.specs.Seen.{is_expired_entry}
 use Rattle.sprig_tree.specs.Entries.{digests_in, IsInDigestOrder, entry_after}
 use Rattle.sprig_tree.specs.State.{SprigState}
 use Rattle.sprig_tree.proofs.Digests.{digest_order, not_before_at, not_before_below}
-use Rattle.sprig_tree.proofs.Lists.{filter_all}
 use Rattle.law_sprig.specs.Fits.{HasEntries}
 use Rattle.law_sprig.specs.Tests.{has_digest}
 use Rattle.law_sprig.specs.Making.{digest_named, IsStepOf, AreStepsOf}

@@ -1,9 +1,10 @@
 -- All sprigs of a device over its events: the one whose part is named becomes another, and the rest fit on.
-use Rattle.std.proofs.Common.{◌≡◌, ◌≢◌, ◌⊎◌, inl, inr, ⊎_elim, ℕ, zero, suc, Bool, true, false, cond, ◌&&◌, List, [], ◌∷◌, ◌++◌, set, Option, Some, None, refl, sym, ◌∙◌, ap, subst, arith}
+use Rattle.std.proofs.Common.{◌≡◌, ◌≢◌, ◌⊎◌, inl, inr, ⊎_elim, ℕ, Bool, true, false, cond, ◌&&◌, List, [], ◌∷◌, ◌++◌, set, Option, Some, None, refl, sym, ◌∙◌, ap, subst}
 use Rattle.std.specs.Prelude.{slice_get}
 use Rattle.std.specs.List.{AllByRecursion}
 use Rattle.std.proofs.lemmas.Bool.{or_cases, false≢true}
 use Rattle.std.proofs.lemmas.List.{length-set, map-append}
+use Rattle.law_lists.proofs.Places.{set_cases}
 use Rattle.rec_format.specs.declared.version.Digest.{Digest}
 use Rattle.rec_format.specs.Places.{same_digest, digest_before, device_number, with_digest}
 use Rattle.model_device.specs.Book.{Setup, Live, live_of}
@@ -96,17 +97,6 @@ pub own_stay : (setup : Setup) (told : Bool) (s : State) (event : Event) → Nam
 own_stay setup told s event names allowed own = own_steps setup s event.call names own s event.steps (steps_are setup told s event event.call allowed) own
 
 -- ---- the sprigs
-
-pub set_cases : {X : Type 0} (xs : List X) (k i : ℕ) (y x : X) → slice_get (set xs k y) i ≡ Some x → ((i ≡ k) × (x ≡ y)) ⊎ ((i ≢ k) × (slice_get xs i ≡ Some x))
-set_cases [] k i y x found = absurd cc
-set_cases (z ∷ xs) zero zero y x found = inl (refl, cc)
-set_cases (z ∷ xs) zero (suc i) y x found = inr ((λ same. absurd (omega arith)), found)
-set_cases (z ∷ xs) (suc k) zero y x found = inr ((λ same. absurd (omega arith)), found)
-set_cases (z ∷ xs) (suc k) (suc i) y x found = by (set_cases xs k i y x found)
-  where
-    by : ((i ≡ k) × (x ≡ y)) ⊎ ((i ≢ k) × (slice_get xs i ≡ Some x)) → ((suc i ≡ suc k) × (x ≡ y)) ⊎ ((suc i ≢ suc k) × (slice_get xs i ≡ Some x))
-    by (inl both) = inl (ap suc both.0, both.1)
-    by (inr both) = inr ((λ same. both.0 (omega arith)), both.1)
 
 some_apart : (k part : ℕ) → part ≢ k → Some k ≢ Some part
 some_apart k part apart same = apart cc

@@ -1,10 +1,11 @@
 -- What a sprig becomes in the whole drop turn of its part: marked tombstones go, marked puts lose their flags, and the part is done.
-use Rattle.std.proofs.Common.{◌≡◌, ℕ, ◌≤◌, max, Bool, true, false, not, cond, List, [], ◌∷◌, ◌++◌, map, Option, Some, None, refl, sym, ◌∙◌, ap, subst, arith}
+use Rattle.std.proofs.Common.{◌≡◌, ℕ, max, Bool, true, false, not, cond, List, [], ◌∷◌, ◌++◌, map, Option, Some, None, refl, sym, ◌∙◌, ap, subst}
 use Rattle.std.specs.Prelude.{filter}
 use Rattle.std.specs.List.{AllByRecursion, cons_option}
 use Rattle.std.specs.List.Sorted.{IsStrictlySortedBy}
 use Rattle.std.specs.Ordering.{is_eq}
 use Rattle.std.proofs.lemmas.Bool.{cond-true, cond-false, false≢true, not_from_true, not_from_false}
+use Rattle.std.proofs.Math.Nat.{max-eq_left}
 use Rattle.rec_format.specs.declared.version.Digest.{Digest}
 use Rattle.rec_format.specs.declared.entry.Entry.{Entry}
 use Rattle.rec_format.specs.Places.{same_digest}
@@ -118,9 +119,6 @@ others_same s t digest item book (x ∷ xs) below same = (
   others_same s t digest item book xs below.1 same.1,
 )
 
-no_higher : (a b : ℕ) → b ≤ a → max a b ≡ a
-no_higher a b le = omega arith
-
 module _ (setup : Setup) (part : ℕ) (s : State) where
   -- the marked digests, one after another
   ending : (digests : List Digest) (t : State) (old new : SprigState) → digests_in (filter (has_mark t.raid) old.entries) ≡ digests → AreInOrder digests → AreAsBefore s t digests
@@ -166,7 +164,7 @@ module _ (setup : Setup) (part : ℕ) (s : State) where
           (entries ∙ sym (ended_replaced t.raid e to old.entries refl fits.entries.order (ap (λ (k : Digest). entry_of k old.entries) name ∙ found)
           (cond-true (has_mark t.raid e) (cond (is_tombstone_entry e) None (Some to)) (Some e) on ∙ cond-false (is_tombstone_entry e) None (Some to) put)
           (cond-false (has_mark t.raid to) (cond (is_tombstone_entry to) None (Some (without_cover to))) (Some to) off)))
-          (high ∙ sym (no_higher old.hw e.stamp.lut (time_below setup part old t d e fits.entries found)))
+          (high ∙ sym (max-eq_left (time_below setup part old t d e fits.entries found)))
           (uncovered_fits setup part old mid t d e found (record { entries = refl; high = refl }) fits)
 
       by : (o : Option Entry) → entry_of d old.entries ≡ o → passes_test (has_mark t.raid) o ≡ true → ((next : State) (mid : SprigState) → Rest next mid) → Goal (entry_passes is_tombstone (entry s d))

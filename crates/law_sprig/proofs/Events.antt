@@ -3,6 +3,7 @@ use Rattle.std.proofs.Common.{◌≡◌, ◌≢◌, ◌⊎◌, inl, inr, ⊎_eli
 use Rattle.std.specs.Prelude.{Option, Some, None, MatchBool, MatchOption, ◌==◌, flat_map, filter, nat_le, is_some, option_map}
 use Rattle.std.specs.List.{AllByRecursion}
 use Rattle.std.proofs.lemmas.Bool.{and_parts, cond_both, or_right, eqb-true, leb-false, false≢true}
+use Rattle.law_lists.proofs.Each.{all_joined}
 use Rattle.rec_format.specs.declared.version.Digest.{Digest}
 use Rattle.rec_format.specs.declared.version.Stamp.{Stamp}
 use Rattle.rec_format.specs.declared.version.Version.{Version}
@@ -19,7 +20,6 @@ use Rattle.model_device.specs.Passes
 use Rattle.model_device.specs.Legal
 use Rattle.sprig_tree.specs.State.{SprigState}
 use Rattle.law_start.proofs.Turns.{same_turn_is}
-use Rattle.law_start.proofs.Opening.{all_joined}
 use Rattle.law_sprig.specs.Fits.{FitsPart}
 use Rattle.law_sprig.specs.Sparing.{Spares, AllSpare, is_of_book, AreOfBook}
 use Rattle.law_sprig.specs.Tests.{has_digest}

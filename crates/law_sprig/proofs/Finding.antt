@@ -3,6 +3,9 @@ use Rattle.std.proofs.Common.{◌≡◌, ◌≢◌, ◌⊎◌, inl, inr, ℕ, �
 use Rattle.std.specs.Prelude.{◌==◌, option_map, slice_get, IfSome, Contains}
 use Rattle.std.specs.List.{AllByRecursion}
 use Rattle.std.proofs.lemmas.Bool.{eqb-true}
+use Rattle.law_lists.proofs.Each.{all_map, all_at, all_from}
+use Rattle.law_lists.proofs.Members.{first_there, rest_there, filter_there}
+use Rattle.law_lists.proofs.Places.{set_cases}
 use Rattle.rec_format.specs.declared.version.Digest.{Digest}
 use Rattle.rec_format.specs.Places.{same_digest}
 use Rattle.rec_format.specs.Versions.{is_later}
@@ -11,13 +14,9 @@ use Rattle.model_device.specs.Device.{part_of}
 use Rattle.rec_format.proofs.Laws.{same_digest_is, same_digest_refl}
 use Rattle.block_format.specs.Copies.{Copy, copies_named, latest, cold_copy, entry_for}
 use Rattle.law_start.specs.Cold.{copies_high}
-use Rattle.law_start.proofs.Each.{all_map}
-use Rattle.law_start.proofs.Growing.{all_at, all_from}
 use Rattle.law_start.proofs.Held.{IsNewest, latest_is}
-use Rattle.law_start.proofs.Members.{first_there, rest_there, filter_there}
 use Rattle.sprig_tree.specs.State.{SprigState}
 use Rattle.law_sprig.specs.Starting.{AllHaveLatest, HasChosen, HasLatest, first_named, TakesCopy}
-use Rattle.law_sprig.proofs.Device.{set_cases}
 use Rattle.law_sprig.proofs.Starting.{no_later_time, time_of_copy, other_copy, one_more}
 
 -- One copy more: the sprig of its part takes it, and the others stay.

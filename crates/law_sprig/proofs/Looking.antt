@@ -1,6 +1,7 @@
 -- What a step reads of a digest is what a look-up in its part's sprig says.
-use Rattle.std.proofs.Common.{◌≡◌, ℕ, zero, suc, ◌<◌, Bool, true, false, not, cond, ◌&&◌, List, [], ◌∷◌, length, Option, Some, None, is_some, refl, sym, ◌∙◌, ap, arith}
+use Rattle.std.proofs.Common.{◌≡◌, ℕ, ◌<◌, Bool, true, false, not, cond, ◌&&◌, List, Option, Some, None, is_some, refl, sym, ◌∙◌, ap, arith}
 use Rattle.std.specs.Prelude.{option_map, slice_get, MatchOption}
+use Rattle.law_lists.proofs.Places.{place_there}
 use Rattle.rec_format.specs.declared.version.Digest.{Digest}
 use Rattle.rec_format.specs.declared.version.Version.{Version}
 use Rattle.rec_format.specs.declared.entry.Entry.{Entry}
@@ -95,15 +96,10 @@ module _ (setup : Setup) (part : ℕ) (sprig : SprigState) (s : State) (h : HasE
 
 -- ---- the sprig of a digest
 
-pub some_at : {X : Type 0} (xs : List X) (i : ℕ) → i < length xs → (x : X) × (slice_get xs i ≡ Some x)
-some_at [] i lt = absurd (omega (arith, lt))
-some_at (x ∷ xs) zero lt = (x, refl)
-some_at (x ∷ xs) (suc i) lt = some_at xs i (omega (arith, lt))
-
 -- Each digest of the device has a sprig, which fits.
 pub sprig_of : (setup : Setup) (sprigs : List SprigState) (s : State) (d : Digest) → 0 < setup.devices → 0 < setup.sprigs → device_number setup.devices d ≡ setup.device → FitsParts setup sprigs s
     → (sprig : SprigState) × (slice_get sprigs (part_of setup d) ≡ Some sprig) × FitsPart setup (part_of setup d) sprig s
 sprig_of setup sprigs s d some_devices some_sprigs own fits =
     let below = part_exists setup d some_devices some_sprigs own in
-    let at = some_at sprigs (part_of setup d) (omega (arith, below, fits.count)) in
+    let at = place_there sprigs (part_of setup d) (omega (arith, below, fits.count)) in
     (at.0, at.1, fits.each (part_of setup d) at.0 at.1)

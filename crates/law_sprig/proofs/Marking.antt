@@ -8,6 +8,7 @@ use Rattle.std.proofs.lemmas.List.{append-nil, length-map}
 use Rattle.std.proofs.lemmas.List.Elements.{filter-append}
 use Rattle.std.proofs.lemmas.List.Sums.{length-filter}
 use Rattle.std.proofs.lemmas.List.Filters.{length-filter_both}
+use Rattle.law_lists.proofs.Filters.{filter_swapped}
 use Rattle.rec_format.specs.declared.version.Digest.{Digest}
 use Rattle.rec_format.specs.declared.version.Stamp.{Stamp}
 use Rattle.rec_format.specs.declared.entry.Entry.{Entry}
@@ -28,7 +29,7 @@ use Rattle.law_sprig.proofs.Alike.{Says, entries_alike}
 use Rattle.law_sprig.proofs.Ordered.{each_entry}
 use Rattle.law_sprig.proofs.Showing.{eligible_are}
 use Rattle.law_sprig.proofs.Spared.{scan_runs, scan_open, none_pass, each_of, same_filter, none_found}
-use Rattle.law_sprig.proofs.Taking.{swapped, found_shown}
+use Rattle.law_sprig.proofs.Taking.{found_shown}
 
 -- ---- other marks
 
@@ -285,7 +286,7 @@ compared_fits setup part old new s at entries high fits = fits_remarked setup pa
       most = each_remarked m s.raid.number old.entries (each_of (λ e. e.mark ≤ s.raid.number) (λ e. m e ≤ s.raid.number) old.entries
           (λ e le. cond_both (has_older_copy found e) 0 e.mark (λ n. n ≤ s.raid.number) (λ _. omega arith) (λ _. le)) fits.marks.most);
       marked =
-          swapped (λ d. part_of setup d == part) (λ d. not (has_older s found d)) s.raid.marked
+          filter_swapped (λ d. part_of setup d == part) (λ d. not (has_older s found d)) s.raid.marked
           ∙ ap (filter (λ d. not (has_older s found d))) fits.marks.marked
           ∙ digests_filtered (λ d. not (has_older s found d)) (λ e. not (has_older_copy found e)) (has_mark s.raid) old.entries
           (each_of (λ e. has_older s found e.digest ≡ has_older_copy found e) (λ e. not (has_older s found e.digest) ≡ not (has_older_copy found e)) old.entries (λ e same. ap not same)

@@ -3,6 +3,9 @@ use Rattle.std.proofs.Common.{◌≡◌, inl, inr, ℕ, ◌<◌, ◌≤◌, max,
 use Rattle.std.specs.Prelude.{◌==◌, IfSome, Contains}
 use Rattle.std.specs.List.{AllByRecursion}
 use Rattle.std.proofs.lemmas.Bool.{eqb-true, false≢true, cond-true}
+use Rattle.std.proofs.lemmas.Option.{slice_get_within}
+use Rattle.law_lists.proofs.Each.{all_at, all_from}
+use Rattle.law_lists.proofs.Members.{filter_there}
 use Rattle.rec_format.specs.declared.version.Digest.{Digest}
 use Rattle.rec_format.specs.declared.version.Stamp.{Stamp}
 use Rattle.rec_format.specs.declared.version.Version.{Version}
@@ -19,15 +22,13 @@ use Rattle.law_start.specs.Start.{Restarts}
 use Rattle.law_start.specs.Cold.{copies_high}
 use Rattle.law_start.specs.Orderly.{IsFalling}
 use Rattle.law_start.proofs.Cold.{cover_of}
-use Rattle.law_start.proofs.Growing.{all_at, all_from}
 use Rattle.law_start.proofs.Held.{IsNewest, latest_is}
-use Rattle.law_start.proofs.Members.{filter_there}
 use Rattle.law_start.proofs.StartLive.{start_live}
 use Rattle.sprig_tree.specs.State.{SprigState}
 use Rattle.law_sprig.specs.Fits.{FitsPart}
 use Rattle.law_sprig.specs.Parts.{AreOwn, FitsParts}
 use Rattle.law_sprig.specs.Starting.{HasLatest, AllHaveLatest}
-use Rattle.law_sprig.proofs.Starting.{ShowsChosen, chosen_fits, no_later_time, chosen_there, time_of_copy, within}
+use Rattle.law_sprig.proofs.Starting.{ShowsChosen, chosen_fits, no_later_time, chosen_there, time_of_copy}
 use Rattle.law_sprig.proofs.Finding.{high_within, no_copy}
 
 -- ---- a history that is kept
@@ -164,6 +165,6 @@ module _ (setup : Setup) (s new : State) (image : List ℕ) (r : Restarts setup 
   pub restart_parts : (sprigs : List SprigState) → length sprigs ≡ part_total setup → AllHaveLatest setup copies sprigs → AreOwn setup new → FitsParts setup sprigs new
   restart_parts sprigs count each own = record {
     count = count;
-    each = λ part sprig at. restart_fits part sprig (let lt = within sprigs part sprig at in omega (arith, lt, count)) (each part sprig at);
+    each = λ part sprig at. restart_fits part sprig (let lt = slice_get_within sprigs part sprig at in omega (arith, lt, count)) (each part sprig at);
     own = own;
   }

@@ -1,9 +1,11 @@
 -- A sprig takes the copies of its part one after another, and then fits the state after a start.
-use Rattle.std.proofs.Common.{◌≡◌, ◌≢◌, ◌⊎◌, inl, inr, ℕ, zero, suc, ◌<◌, ◌≤◌, max, Bool, true, false, cond, List, [], ◌∷◌, ◌++◌, map, length, Option, Some, None, refl, sym, ◌∙◌, ap, subst, arith}
+use Rattle.std.proofs.Common.{◌≡◌, ◌≢◌, ◌⊎◌, inl, inr, ℕ, ◌<◌, ◌≤◌, max, Bool, true, false, cond, List, [], ◌∷◌, ◌++◌, map, length, Option, Some, None, refl, sym, ◌∙◌, ap, subst, arith}
 use Rattle.std.specs.Prelude.{◌==◌, option_map, slice_get, MatchOption, MatchBool, IfSome, Contains}
 use Rattle.std.specs.List.{AllByRecursion}
 use Rattle.std.specs.List.Sorted.{IsStrictlySortedBy}
 use Rattle.std.proofs.lemmas.Bool.{cond-true, cond-false, both_ways, eq-eqb, ne_eqb, eqb-true, false≢true, cases_lt}
+use Rattle.std.proofs.lemmas.Option.{slice_get_within}
+use Rattle.law_lists.proofs.Members.{cons_cases, filter_from}
 use Rattle.rec_format.specs.declared.version.Digest.{Digest}
 use Rattle.rec_format.specs.declared.version.Stamp.{Stamp}
 use Rattle.rec_format.specs.declared.entry.Entry.{Entry}
@@ -21,9 +23,7 @@ use Rattle.law_start.specs.Start.{live_copy, same_write, is_later_item, with_cop
 use Rattle.law_start.specs.Cold.{copies_high, later_one}
 use Rattle.law_start.proofs.Cold.{cold_copy_more, covered_is, cover_of}
 use Rattle.law_start.proofs.ColdStart.{start_entry, start_times, start_orderly}
-use Rattle.law_start.proofs.Growing.{cons_cases}
 use Rattle.law_start.proofs.Held.{IsNewest, latest_is}
-use Rattle.law_start.proofs.Members.{filter_from}
 use Rattle.law_start.proofs.StartLive.{start_live, entries_live}
 use Rattle.sprig_tree.specs.Entries.{IsInDigestOrder, entry_of}
 use Rattle.sprig_tree.specs.State.{SprigState}
@@ -357,18 +357,13 @@ found_own : (setup : Setup) (copies : List Copy) → NoStrays setup copies → A
 found_own setup [] own = tt
 found_own setup (c ∷ copies) own = (own.0, found_own setup copies own.1)
 
-pub within : {X : Type 0} (xs : List X) (i : ℕ) (x : X) → slice_get xs i ≡ Some x → i < length xs
-within [] i x found = absurd cc
-within (y ∷ xs) zero x found = omega arith
-within (y ∷ xs) (suc i) x found = let rest = within xs i x found in omega (arith, rest)
-
 -- Sprigs that have the latest copies of their parts fit the state after a start from a sound image.
 pub start_parts : (setup : Setup) (image : List ℕ) (bodies : List Body) (sprigs : List SprigState) → IsSound setup image bodies → length sprigs ≡ part_total setup
     → ((part : ℕ) (sprig : SprigState) → slice_get sprigs part ≡ Some sprig → HasLatest setup part (copies_of bodies) sprig) → FitsParts setup sprigs (start_state setup bodies)
 unfolding start_state
 start_parts setup image bodies sprigs sound count each = record {
   count = count;
-  each = λ part sprig at. start_fits setup image bodies part sprig sound (let lt = within sprigs part sprig at in omega (arith, lt, count)) (each part sprig at);
+  each = λ part sprig at. start_fits setup image bodies part sprig sound (let lt = slice_get_within sprigs part sprig at in omega (arith, lt, count)) (each part sprig at);
   own = logged_own setup (log_of (copies_of bodies)) (copies_own setup (copies_of bodies) sound.strays);
 }
 
@@ -378,6 +373,6 @@ pub entries_parts : (setup : Setup) (found : List Copy) (next : ℕ) (sprigs : L
 unfolding entries_state
 entries_parts setup found next sprigs own count each = record {
   count = count;
-  each = λ part sprig at. entries_fit setup found next part sprig (let lt = within sprigs part sprig at in omega (arith, lt, count)) (each part sprig at);
+  each = λ part sprig at. entries_fit setup found next part sprig (let lt = slice_get_within sprigs part sprig at in omega (arith, lt, count)) (each part sprig at);
   own = logged_own setup (map (λ c. (c.digest, write c.version [])) found) (found_own setup found own);
 }

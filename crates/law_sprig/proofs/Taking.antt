@@ -3,6 +3,8 @@ use Rattle.std.proofs.Common.{◌≡◌, ℕ, ◌≤◌, max, Bool, true, false,
 use Rattle.std.specs.Prelude.{◌==◌, filter}
 use Rattle.std.specs.List.{AllByRecursion}
 use Rattle.std.proofs.lemmas.Bool.{cond-true, cond-false, eq-eqb, ne_eqb}
+use Rattle.std.proofs.Math.Nat.{max-eq_left}
+use Rattle.law_lists.proofs.Filters.{filter_swapped}
 use Rattle.rec_format.specs.declared.version.Digest.{Digest}
 use Rattle.rec_format.specs.declared.version.Stamp.{Stamp}
 use Rattle.rec_format.specs.declared.version.Version.{Version}
@@ -94,18 +96,6 @@ entries_lose setup part old new s t digest loses none others high h = record {
 
 -- ---- marks
 
-pub swapped : {X : Type 0} (p q : X → Bool) (xs : List X) → filter p (filter q xs) ≡ filter q (filter p xs)
-swapped p q [] = refl
-swapped {X} p q (x ∷ xs) = by (q x) refl (p x) refl (swapped p q xs)
-  where
-    by : (b : Bool) → q x ≡ b → (c : Bool) → p x ≡ c → filter p (filter q xs) ≡ filter q (filter p xs)
-        → filter p (cond b (x ∷ filter q xs) (filter q xs)) ≡ filter q (cond c (x ∷ filter p xs) (filter p xs))
-    by true keeps true is rest =
-        cond-true (p x) (x ∷ filter p (filter q xs)) (filter p (filter q xs)) is ∙ ap (λ (l : List X). x ∷ l) rest ∙ sym (cond-true (q x) (x ∷ filter q (filter p xs)) (filter q (filter p xs)) keeps)
-    by true keeps false is rest = cond-false (p x) (x ∷ filter p (filter q xs)) (filter p (filter q xs)) is ∙ rest
-    by false drops true is rest = rest ∙ sym (cond-false (q x) (x ∷ filter q (filter p xs)) (filter q (filter p xs)) drops)
-    by false drops false is rest = rest
-
 -- a digest is no longer marked
 pub marks_lose : (setup : Setup) (part : ℕ) (old new : List Entry) (raid : RaidState) (digest : Digest) → AllByRecursion (λ e. e.mark ≤ raid.number) new
     → digests_in (filter (has_mark raid) new) ≡ without_mark digest (digests_in (filter (has_mark raid) old)) → HasMarks setup part old raid
@@ -119,7 +109,7 @@ marks_lose setup part old new raid digest most passing h = record {
 }
   where
     fewer : marks_of setup part (record raid { marked = without_mark digest raid.marked }) ≡ without_mark digest (marks_of setup part raid)
-    fewer = swapped (λ d. part_of setup d == part) (λ d. not (same_digest digest d)) raid.marked
+    fewer = filter_swapped (λ d. part_of setup d == part) (λ d. not (same_digest digest d)) raid.marked
 
 -- an entry with mark 0 isn't marked
 pub no_mark : (setup : Setup) (part : ℕ) (entries : List Entry) (raid : RaidState) (e : Entry) → e.mark ≡ 0 → HasMarks setup part entries raid → has_mark raid e ≡ false
@@ -247,9 +237,6 @@ replaces_takes e old new there r = record {
   high = r.high;
 }
 
-no_higher : (a b : ℕ) → b ≤ a → a ≡ max a b
-no_higher a b le = omega arith
-
 -- A raid clears the cover flag of an entry: it stays without the flag and without its mark.
 pub uncovered_fits : (setup : Setup) (part : ℕ) (old new : SprigState) (s : State) (digest : Digest) (e : Entry) → entry_of digest old.entries ≡ Some e → Replaces (without_cover e) old new
     → FitsPart setup part old s → FitsPart setup part new (after_step setup (uncovered digest) s)
@@ -259,7 +246,7 @@ uncovered_fits setup part old new s digest e found replaces fits =
     (fits_put setup part old new s cleared s.book (without_cover e) (ap (part_of setup) name ∙ is.0) refl
     (replaces_takes (without_cover e) old new (there_is (entry_of e.digest old.entries) e (ap (λ (d : Digest). entry_of d old.entries) name ∙ found)) replaces)
     shown (λ d other. refl)
-    (same_high setup part s e.digest cleared s.book (ap (part_of setup) name ∙ is.0) refl ∙ no_higher (high_time setup part s.log) e.stamp.lut below) fits)
+    (same_high setup part s e.digest cleared s.book (ap (part_of setup) name ∙ is.0) refl ∙ sym (max-eq_left below)) fits)
   where
     name : e.digest ≡ digest
     name = entry_of-digest digest old.entries e found
@@ -313,7 +300,7 @@ moved_fits setup part old new s digest e block unit found place replaces fits = 
   entries = entries_take setup part old new s t to (replaces_takes to old new (there_is (entry_of e.digest old.entries) e found_too) replaces) (ap (part_of setup) name ∙ is.0)
       (subst (λ (d : Digest). IsShown t d to) (sym name) shown)
       (λ d other. record { top = m.top d; cover = m.cover d; place = m.place d (ap (same_digest d) (sym name) ∙ other) })
-      (m.high ∙ no_higher (high_time setup part s.log) e.stamp.lut below) fits.entries;
+      (m.high ∙ sym (max-eq_left below)) fits.entries;
   marks = subst (λ (r : RaidState). HasMarks setup part new.entries r) (sym m.raid)
       (subst (λ (l : List Entry). HasMarks setup part l s.raid) (sym replaces.entries)
       (record {

@@ -7,13 +7,15 @@ use Rattle.std.proofs.lemmas.Option.{slice_get_within, get_or_from_slice_get}
 use Rattle.std.proofs.lemmas.Cmp.{tied_itself}
 use Rattle.std.proofs.lemmas.List.{map-append, append-nil, take-append-drop, take_more, drop_more}
 use Rattle.std.proofs.lemmas.List.Elements.{filter_map-append}
+use Rattle.law_lists.proofs.Finding.{find_behind}
+use Rattle.law_lists.proofs.Places.{slice_get-drop}
+use Rattle.law_lists.proofs.Each.{all_map}
 use Rattle.rec_format.specs.declared.version.Digest.{Digest}
 use Rattle.rec_format.specs.declared.entry.Entry.{Entry}
 use Rattle.rec_format.specs.Places.{digest_cmp, digest_before}
 use Rattle.model_device.specs.Device.{RaidState}
 use Rattle.sprig_tree.specs.Entries.{IsInDigestOrder, entry_of, entry_after, with_replaced, without_digest}
 use Rattle.sprig_tree.proofs.Digests.{digest_order, not_before_below, not_before_at}
-use Rattle.sprig_tree.proofs.Lists.{weaker, find_behind, slice_get-drop}
 use Rattle.sprig_tree.proofs.Order.{sides}
 use Rattle.sprig_tree.proofs.Parted.{AllBelow, AllAbove, entry_of_behind, entry_of_here, entry_after_above, with_replaced-between, without_digest_behind, without_digest_here}
 use Rattle.law_sprig.specs.Becoming.{with_mark, remarked, ended_entry, raid_ended}
@@ -41,13 +43,13 @@ module _ (front rest : List Entry) (e : Entry) (order : IsInDigestOrder (front +
   pub next_is : (done : List Entry) → AllBelow e.digest done → (entry_after (Some e.digest) (done ++ rest) ≡ slice_get rest 0)
   next_is done below =
       find_behind (λ x. digest_before e.digest x.digest) done rest
-      (weaker (λ x. digest_cmp x.digest e.digest ≡ Less) (λ x. digest_before e.digest x.digest ≡ false) (λ x less. not_before_below x.digest e.digest less) done below)
+      (all_map (λ x. digest_cmp x.digest e.digest ≡ Less) (λ x. digest_before e.digest x.digest ≡ false) done (λ x less. not_before_below x.digest e.digest less) below)
       ∙ entry_after_above e.digest rest (sides front rest e order).1
 
   pub next_with : (done : List Entry) (to : Entry) → AllBelow e.digest done → to.digest ≡ e.digest → entry_after (Some e.digest) (done ++ to ∷ rest) ≡ slice_get rest 0
   next_with done to below name =
       find_behind (λ x. digest_before e.digest x.digest) done (to ∷ rest)
-      (weaker (λ x. digest_cmp x.digest e.digest ≡ Less) (λ x. digest_before e.digest x.digest ≡ false) (λ x less. not_before_below x.digest e.digest less) done below)
+      (all_map (λ x. digest_cmp x.digest e.digest ≡ Less) (λ x. digest_before e.digest x.digest ≡ false) done (λ x less. not_before_below x.digest e.digest less) below)
       ∙ cond-false (digest_before e.digest to.digest) (Some to) (entry_after (Some e.digest) rest)
       (not_before_at to.digest e.digest (ap (λ (k : Digest). digest_cmp k e.digest) name ∙ itself e.digest))
       ∙ entry_after_above e.digest rest (sides front rest e order).1

@@ -3,6 +3,7 @@ use Rattle.std.proofs.Common.{◌≡◌, ℕ, max, Bool, true, false, ◌&&◌, 
 use Rattle.std.proofs.lemmas.Bool.{cond-true, cond-false, and_parts, false≢true, eqb-true}
 use Rattle.std.specs.Prelude.{◌==◌}
 use Rattle.std.specs.List.{AllByRecursion}
+use Rattle.law_lists.proofs.Each.{all_map}
 use Rattle.rec_format.specs.declared.version.Digest.{Digest}
 use Rattle.rec_format.specs.declared.version.Stamp.{Stamp}
 use Rattle.rec_format.specs.declared.version.Version.{Version}
@@ -16,7 +17,6 @@ use Rattle.block_format.specs.Copies.{Copy}
 use Rattle.law_start.specs.Start.{with_copy, log_of}
 use Rattle.law_start.specs.Cold.{copies_high}
 use Rattle.law_start.proofs.ColdOrder.{later_than_behind, later_one_way}
-use Rattle.law_start.proofs.Each.{all_map}
 
 -- ---- copies in the order of the log
 

@@ -2,6 +2,7 @@
 use Rattle.std.proofs.Common.{◌≡◌, inl, inr, ℕ, ◌+◌, List, [], ◌∷◌, refl, sym, ◌∙◌, ap, subst}
 use Rattle.std.specs.Prelude.{IsTrue}
 use Rattle.std.specs.List.{AllByRecursion, range_with_len}
+use Rattle.law_lists.proofs.Each.{all_map, all_joined}
 use Rattle.rec_format.specs.declared.version.Digest.{Digest}
 use Rattle.rec_format.specs.declared.version.Version.{Version}
 use Rattle.rec_format.specs.Places.{same_digest}
@@ -19,8 +20,6 @@ use Rattle.law_start.specs.Cold.{copies_high}
 use Rattle.law_start.specs.Orderly.{AreWrites, IsFalling, NumbersBelow, NoBareVersions, IsOrderlyHistory, IsOrderly}
 use Rattle.law_start.proofs.ColdLogs.{as_writes, versions_of, log_history, log_times}
 use Rattle.law_start.proofs.ColdVersions.{first_of, first_is_cold, versions_falling, all_versions, no_bare_versions}
-use Rattle.law_start.proofs.Each.{all_map}
-use Rattle.law_start.proofs.Opening.{all_joined}
 
 -- ---- histories of flushed writes
 

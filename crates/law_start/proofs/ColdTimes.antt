@@ -3,6 +3,9 @@ use Rattle.std.proofs.Common.{◌≡◌, ◌⊎◌, inl, inr, ℕ, ◌≤◌, ma
 use Rattle.std.proofs.lemmas.Bool.{false≢true, eq-eqb, eqb-true}
 use Rattle.std.specs.Prelude.{◌==◌, Contains, IfSome}
 use Rattle.std.specs.List.{AllByRecursion}
+use Rattle.law_lists.proofs.Each.{all_map, all_at, all_from}
+use Rattle.law_lists.proofs.Finding.{found_is}
+use Rattle.law_lists.proofs.Members.{cons_cases, filter_there}
 use Rattle.rec_format.specs.Places.{same_digest}
 use Rattle.rec_format.specs.Versions.{is_later}
 use Rattle.model_device.specs.Book.{Setup}
@@ -12,11 +15,7 @@ use Rattle.block_format.specs.Copies.{Copy, copies_named, cold_copy}
 use Rattle.law_start.specs.Cold.{copies_high}
 use Rattle.law_start.specs.Start.{cold_copies}
 use Rattle.law_start.proofs.ColdOrder.{not_later}
-use Rattle.law_start.proofs.Each.{all_map}
-use Rattle.law_start.proofs.Growing.{all_at, all_from, cons_cases}
 use Rattle.law_start.proofs.Held.{IsNewest, latest_is, none_latest}
-use Rattle.law_start.proofs.Members.{filter_there}
-use Rattle.law_start.proofs.Placing.{found_is}
 use Rattle.law_start.proofs.StartLive.{found_first, found_among}
 
 -- a copy of the same digest that is found, and isn't earlier

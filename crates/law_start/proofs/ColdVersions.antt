@@ -3,6 +3,7 @@ use Rattle.std.proofs.Common.{◌≡◌, ◌⊎◌, inl, inr, suc, Bool, true, f
 use Rattle.std.specs.Prelude.{◌==◌, IsTrue, IfSome, Contains}
 use Rattle.std.specs.List.{AllByRecursion}
 use Rattle.std.proofs.lemmas.Bool.{cond-true, cond-false, false≢true}
+use Rattle.law_lists.proofs.Each.{all_map}
 use Rattle.rec_format.specs.declared.version.Digest.{Digest}
 use Rattle.rec_format.specs.declared.version.Stamp.{Stamp}
 use Rattle.rec_format.specs.declared.version.Version.{Version}
@@ -14,7 +15,6 @@ use Rattle.law_start.specs.Sound.{same_name, NoTwins, NoBarePuts}
 use Rattle.law_start.specs.Orderly.{IsFalling, NoBareVersions}
 use Rattle.law_start.proofs.ColdOrder.{later_trans, later_one_way, no_later_itself}
 use Rattle.law_start.proofs.ColdLogs.{same_stamp, with_version, versions_of}
-use Rattle.law_start.proofs.Each.{all_map}
 
 -- ---- each version
 

@@ -1,25 +1,18 @@
 -- Histories that grow by one write stay orderly.
 use Rattle.std.proofs.Common.{◌≡◌, ◌⊎◌, inl, inr, ⊎_elim, ℕ, ◌+◌, ◌<◌, ◌≤◌, Bool, true, false, not, ◌&&◌, List, [], ◌∷◌, refl, sym, ◌∙◌, ap, arith}
 use Rattle.std.proofs.lemmas.Bool.{and_parts, and_from, both_ways}
-use Rattle.std.proofs.lemmas.List.Elements.{All-from_recursion, recursion_from_All, All-contains, All-weaker, All-contains_itself, Contains-append_left}
-use Rattle.std.proofs.lemmas.List.Elements.{Contains-append_cases, Contains-push, Contains-push_cases}
+use Rattle.std.proofs.lemmas.List.Elements.{Contains-append_left}
+use Rattle.std.proofs.lemmas.List.Elements.{Contains-push}
 use Rattle.std.specs.Prelude.{Contains, IsTrue}
 use Rattle.std.specs.List.{AllByRecursion}
+use Rattle.law_lists.proofs.Each.{all_map, all_at, all_from}
+use Rattle.law_lists.proofs.Members.{cons_cases}
 use Rattle.rec_format.specs.declared.version.Stamp.{Stamp}
 use Rattle.rec_format.specs.declared.version.Version.{Version}
 use Rattle.rec_format.specs.Versions.{is_later, is_put, is_tombstone, IsVersion}
 use Rattle.model_device.specs.Histories.{Item, write, dropped, rid, cleared, is_covered, writes_of}
 use Rattle.rec_format.proofs.Laws.{later_fact}
 use Rattle.law_start.specs.Orderly.{NumbersBelow, NoBareVersions, IsOrderlyHistory}
-use Rattle.law_start.proofs.Each.{all_map}
-
--- ---- each element of a list
-
-pub all_at : {X : Type 0} (P : X → Type 0) (xs : List X) (x : X) → AllByRecursion P xs → Contains xs x → P x
-all_at P xs x all there = All-contains P xs x (All-from_recursion P xs all) there
-
-pub all_from : {X : Type 0} (P : X → Type 0) (xs : List X) → ((x : X) → Contains xs x → P x) → AllByRecursion P xs
-all_from P xs each = recursion_from_All P xs (All-weaker (Contains xs) P each xs (All-contains_itself xs))
 
 -- ---- the order of versions
 
@@ -56,12 +49,6 @@ all_buried : (a tomb put : Version) → IsBuried a tomb put → IsTrue (is_tombs
 all_buried a tomb put b =
     and_from (is_tombstone tomb && is_put put && is_later tomb a) (is_later put tomb)
     (and_from (is_tombstone tomb && is_put put) (is_later tomb a) (and_from (is_tombstone tomb) (is_put put) b.tombstone b.is_a_put) b.before) b.after
-
-pub cons_cases : {X : Type 0} (x : X) (xs : List X) (y : X) → Contains (x ∷ xs) y → (x ≡ y) ⊎ Contains xs y
-cons_cases x xs y there =
-    ⊎_elim (λ (first : Contains (x ∷ []) y). ⊎_elim (λ (none : Contains [] y). absurd (omega (arith, none.1))) (λ (e : x ≡ y). inl e) (Contains-push_cases [] x y first))
-    (λ (rest : Contains xs y). inr rest)
-    (Contains-append_cases (x ∷ []) xs y there)
 
 pub bare_at : (versions : List Version) (a tomb put : Version) → NoBareVersions versions → Contains versions a → Contains versions tomb → Contains versions put → IsBuried a tomb put → put.cover ≡ true
 bare_at versions a tomb put none in_a in_tomb in_put b =

@@ -2,15 +2,14 @@
 use Rattle.std.proofs.Common.{◌≡◌, ◌⊎◌, inl, inr, Bool, true, false, cond, List, [], ◌∷◌, refl, sym, subst}
 use Rattle.std.specs.Prelude.{Contains, Option, Some, None, IfSome}
 use Rattle.std.specs.List.{AllByRecursion}
+use Rattle.law_lists.proofs.Each.{all_map}
+use Rattle.law_lists.proofs.Members.{cons_cases, first_there, rest_there}
 use Rattle.rec_format.specs.declared.version.Version.{Version}
 use Rattle.rec_format.specs.Versions.{is_later}
 use Rattle.model_device.specs.Histories.{Item, write, dropped, rid, cleared, Pending, is_waiting, stage_of, writes_of}
 use Rattle.block_format.specs.Copies.{Copy, later_copy, latest}
 use Rattle.law_start.specs.Holding.{begun_versions}
 use Rattle.law_start.proofs.ColdOrder.{later_one_way, no_later_itself, no_later_trans}
-use Rattle.law_start.proofs.Each.{all_map}
-use Rattle.law_start.proofs.Growing.{cons_cases}
-use Rattle.law_start.proofs.Members.{first_there, rest_there}
 
 -- ---- what has begun was written
 

@@ -2,6 +2,8 @@
 use Rattle.std.proofs.Common.{◌≡◌, ℕ, List, [], ◌∷◌, refl, sym, ◌∙◌, ap, subst}
 use Rattle.std.specs.Prelude.{Contains, IsTrue}
 use Rattle.std.specs.List.{AllByRecursion}
+use Rattle.law_lists.proofs.Each.{all_map, all_from}
+use Rattle.law_lists.proofs.Members.{map_there, filter_there}
 use Rattle.rec_format.specs.declared.version.Digest.{Digest}
 use Rattle.rec_format.specs.declared.version.Version.{Version}
 use Rattle.rec_format.specs.Places.{same_digest}
@@ -13,12 +15,9 @@ use Rattle.block_format.specs.Copies.{Copy, copies_of, copies_named}
 use Rattle.law_start.specs.Start.{start_state}
 use Rattle.law_start.specs.Sound.{IsSound}
 use Rattle.law_start.specs.Holding.{begun_versions, flushed_versions, versions_in, Reflects}
-use Rattle.law_start.proofs.Each.{all_map}
-use Rattle.law_start.proofs.Growing.{all_from}
 use Rattle.law_start.proofs.ColdLogs.{as_writes, versions_of}
 use Rattle.law_start.proofs.ColdVersions.{all_versions, each_contained}
 use Rattle.law_start.proofs.ColdStart.{start_history}
-use Rattle.law_start.proofs.Members.{map_there, filter_there}
 
 -- flushed writes have begun, and are flushed
 begun_of_writes : (p : Pending) (versions : List Version) → begun_versions p (as_writes versions) ≡ versions

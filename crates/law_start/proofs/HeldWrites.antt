@@ -2,6 +2,7 @@
 use Rattle.std.proofs.Common.{◌≡◌, ℕ, ◌<◌, Bool, true, false, cond, List, [], ◌∷◌, refl, sym, ◌∙◌, ap, subst}
 use Rattle.std.proofs.lemmas.Bool.{cond_both}
 use Rattle.std.specs.List.{AllByRecursion, list_any}
+use Rattle.law_lists.proofs.Finding.{any_same}
 use Rattle.rec_format.specs.declared.version.Digest.{Digest}
 use Rattle.rec_format.specs.declared.version.Version.{Version}
 use Rattle.rec_format.specs.Places.{same_digest}
@@ -12,7 +13,7 @@ use Rattle.model_device.specs.Device.{State, history}
 use Rattle.model_device.specs.Steps.{wrote, after_step}
 use Rattle.law_start.specs.Orderly.{NumbersBelow}
 use Rattle.law_start.specs.Holding.{begun_versions, flushed_versions}
-use Rattle.law_start.proofs.Each.{SameBelow, any_same, flushed_same}
+use Rattle.law_start.proofs.Each.{SameBelow, flushed_same}
 
 -- ---- where of the numbers of a history the same is pending and begun
 

@@ -1,9 +1,10 @@
 -- The shape that a setup names, and what is in the blocks of an image when one block changes.
-use Rattle.std.proofs.Common.{◌≡◌, ◌≢◌, ◌⊎◌, inl, inr, ⊎_elim, ℕ, suc, zero, ◌+◌, ◌-◌, ◌*◌, ◌^◌, ◌<◌, ◌≤◌, List, [], ◌∷◌, ◌++◌, refl, sym, ◌∙◌, ap, subst, arith}
+use Rattle.std.proofs.Common.{◌≡◌, ◌≢◌, ◌⊎◌, inl, inr, ⊎_elim, ℕ, suc, ◌+◌, ◌-◌, ◌*◌, ◌^◌, ◌<◌, ◌≤◌, List, [], ◌∷◌, ◌++◌, refl, sym, ◌∙◌, ap, subst, arith}
 use Rattle.std.proofs.Math.Pow.{pow_mono}
 use Rattle.std.proofs.lemmas.Nat.{pow-add}
 use Rattle.std.proofs.lemmas.Bool.{cases_eq}
 use Rattle.std.specs.List.{AllByRecursion, range_with_len}
+use Rattle.law_lists.proofs.Ranges.{range_all, range_parts}
 use Rattle.rec_format.specs.Versions.{block_capacity}
 use Rattle.model_device.specs.Book.{Setup}
 use Rattle.block_format.specs.declared.geometry.Geometry.{Geometry}
@@ -47,21 +48,6 @@ one_shape setup g h of_g of_h is_g is_h = λ i. record { block_size = size i; bl
     devices = sym of_g.devices ∙ of_h.devices
 
 -- ---- ranges of blocks
-
--- what holds of each number of a range holds of all its numbers
-range_all : (P : ℕ → Type 0) (from n : ℕ) → ((k : ℕ) → from ≤ k → k < from + n → P k) → AllByRecursion P (range_with_len from n)
-range_all P from zero each = tt
-range_all P from (suc n) each = (each from (omega arith) (omega arith), range_all P (from + 1) n (λ k low high. each k (omega arith) (omega arith)))
-
-range_parts : (from m n : ℕ) → range_with_len from (m + n) ≡ range_with_len from m ++ range_with_len (from + m) n
-range_parts from zero n =
-    let none : zero + n ≡ n = omega arith in let same : from ≡ from + zero = omega arith in
-    ap (λ (k : ℕ). range_with_len from k) none ∙ ap (λ (k : ℕ). range_with_len k n) same
-range_parts from (suc m) n =
-    let one_more : suc m + n ≡ suc (m + n) = omega arith in let moved : from + 1 + m ≡ from + suc m = omega arith in
-    ap (λ (k : ℕ). range_with_len from k) one_more
-    ∙ ap (λ (l : List ℕ). from ∷ l) (range_parts (from + 1) m n)
-    ∙ ap (λ (k : ℕ). from ∷ range_with_len (from + 1) m ++ range_with_len k n) moved
 
 -- the blocks before one, and those behind it
 abbrev blocks_behind : Geometry → ℕ → List ℕ

@@ -6,7 +6,6 @@ pub mod Cold
 pub mod ColdLogs
 pub mod ColdVersions
 pub mod ColdStart
-pub mod Members
 pub mod Places
 pub mod Held
 pub mod HeldStart
@@ -15,7 +14,6 @@ pub mod ColdTimes
 pub mod Pending
 pub mod Stages
 pub mod HeldSteps
-pub mod Opening
 pub mod Flushing
 pub mod Placing
 pub mod HeldWrites

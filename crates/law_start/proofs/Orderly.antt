@@ -1,10 +1,11 @@
 -- The number of the buffer that a placing uses.
 use Rattle.std.proofs.Common.{◌≡◌, ℕ, ◌<◌, Bool, true, false, ◌&&◌, cond, refl, sym, subst, arith}
 use Rattle.std.specs.Prelude.{Option, Some, None}
+use Rattle.law_lists.proofs.Finding.{found_is}
 use Rattle.rec_format.specs.declared.version.Digest.{Digest}
 use Rattle.model_device.specs.Book.{Setup, Buffer, Book, Stream, same_stream, is_filling, filling_buffer, has_room, with_new_buffer, with_room, put_in, placed, number_or, placing_number, refreshed}
 use Rattle.law_start.specs.Holding.{HasRisingNumbers}
-use Rattle.law_start.proofs.Placing.{found_is, some_room}
+use Rattle.law_start.proofs.Placing.{some_room}
 
 put_in_next : (setup : Setup) (digest : Digest) (units : ℕ) (book : Book) (o : Option Buffer) → book.next_number ≡ (put_in setup digest units book o).next_number
 unfolding refreshed

@@ -3,27 +3,11 @@ use Rattle.std.proofs.Common.{◌≡◌, ◌≢◌, inl, inr, ℕ, ◌+◌, Bool
 use Rattle.std.proofs.lemmas.Bool.{and_parts, and_from, or_cases, or_left, or_right, or_from, both_ways, eqb-true, eq-eqb, false≢true, false_from_ne_true}
 use Rattle.std.specs.Prelude.{◌==◌, filter}
 use Rattle.std.specs.List.{list_any}
+use Rattle.law_lists.proofs.Filters.{map_shows}
+use Rattle.law_lists.proofs.Finding.{any_map}
 use Rattle.model_device.specs.Histories.{is_pending, is_begun}
 use Rattle.model_device.specs.Book.{Setup, Buffer, Book, Phase, Stream, filling, sealed, opening, is_opening, same_stream, sealed_if, seal_stream, used_more}
 use Rattle.model_device.specs.Book.{opened_if, with_gate_begun, with_flushed, refreshed, pending_of}
-
--- ---- tests of lists
-
-pub any_map : {X Y : Type 0} (p : Y → Bool) (f : X → Y) (xs : List X) → list_any p (map f xs) ≡ list_any (λ x. p (f x)) xs
-any_map p f [] = refl
-any_map p f (x ∷ xs) = ap (λ (b : Bool). p (f x) || b) (any_map p f xs)
-
-pub any_more : {X : Type 0} (p q : X → Bool) → ((x : X) → p x ≡ true → q x ≡ true) → (xs : List X) → list_any p xs ≡ true → list_any q xs ≡ true
-any_more p q step [] some = some
-any_more p q step (x ∷ xs) some = elim (or_cases (p x) (list_any p xs) some) [
-  | inl here ↦ or_left (q x) (list_any q xs) (step x here)
-  | inr rest ↦ or_right (q x) (list_any q xs) (any_more p q step xs rest)
-]
-
--- what is shown of each element stays
-pub map_shows : {X Y : Type 0} (show : X → Y) (change : X → X) → ((x : X) → show (change x) ≡ show x) → (xs : List X) → map show (map change xs) ≡ map show xs
-map_shows show change same [] = refl
-map_shows show change same (x ∷ xs) = ap (λ y. y ∷ map show (map change xs)) (same x) ∙ ap (λ l. show x ∷ l) (map_shows show change same xs)
 
 -- ---- what histories see of one buffer
 

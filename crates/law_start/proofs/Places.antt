@@ -4,6 +4,8 @@ use Rattle.std.proofs.lemmas.List.{append_assoc, drop-drop, drop_at}
 use Rattle.std.proofs.lemmas.List.Elements.{Contains-append_cases}
 use Rattle.std.specs.Prelude.{Contains}
 use Rattle.std.specs.List.{AllByRecursion}
+use Rattle.law_lists.proofs.Each.{all_at}
+use Rattle.law_lists.proofs.Members.{first_there, rest_there}
 use Rattle.rec_format.specs.Versions.{version_units, block_capacity}
 use Rattle.rec_format.specs.RecordText.{BeginsWith, record_text}
 use Rattle.rec_format.proofs.RecordFront.{length-text}
@@ -13,8 +15,6 @@ use Rattle.block_format.specs.Copies.{Copy, HasBodies, copies_from, copies_of}
 use Rattle.block_format.proofs.BodyLaws.{begins_text}
 use Rattle.block_format.proofs.BodyRecords.{AllRecorded, Record, units-cons}
 use Rattle.law_start.specs.Standing.{CopyStands}
-use Rattle.law_start.proofs.Growing.{all_at}
-use Rattle.law_start.proofs.Members.{first_there, rest_there}
 
 -- ---- within a body
 

@@ -1,11 +1,12 @@
 -- A placed copy waits in its buffer: the buffer is pending and hasn't begun, and of the others the same is pending and begun.
 use Rattle.std.proofs.Common.{◌≡◌, ◌≢◌, ℕ, ◌<◌, Bool, true, false, cond, ◌&&◌, ◌||◌, List, [], ◌∷◌, ◌++◌, refl, sym, ◌∙◌, ap, subst, arith}
 use Rattle.std.proofs.lemmas.List.{map-append}
-use Rattle.std.proofs.lemmas.List.Folds.{list_any-append, list_any_none}
-use Rattle.std.proofs.lemmas.List.Elements.{All-from_recursion}
+use Rattle.std.proofs.lemmas.List.Folds.{list_any-append}
 use Rattle.std.proofs.lemmas.Bool.{and_parts, and_left, and_right, or_left, or_right, or_from, eq-eqb, ne_eqb, false≢true}
-use Rattle.std.specs.Prelude.{Option, Some, None, ◌==◌, find}
-use Rattle.std.specs.List.{AllByRecursion, list_any}
+use Rattle.std.specs.Prelude.{Option, Some, None, ◌==◌}
+use Rattle.std.specs.List.{list_any}
+use Rattle.law_lists.proofs.Each.{all_map}
+use Rattle.law_lists.proofs.Finding.{any_map, found_is, any_none}
 use Rattle.rec_format.specs.declared.version.Digest.{Digest}
 use Rattle.model_device.specs.Histories.{Pending, is_pending, is_begun}
 use Rattle.model_device.specs.Book.{Setup, Buffer, Book, Phase, Stream, client, defrag, filling, sealed, opening, is_filling, is_opening, same_stream}
@@ -13,20 +14,7 @@ use Rattle.model_device.specs.Book.{seal_stream, first_block, filling_buffer, fi
 use Rattle.model_device.specs.Book.{placing_number, refreshed, pending_of}
 use Rattle.law_start.specs.Holding.{AreRising, HasRisingNumbers}
 use Rattle.law_start.specs.Awaited.{IsAwaited}
-use Rattle.law_start.proofs.Each.{all_map}
-use Rattle.law_start.proofs.Pending.{shown, any_map, seal_shown, use_shown}
-
--- what is found passes the test, and what holds of each element holds of it
-pub found_is : {X : Type 0} (P : X → Type 0) (test : X → Bool) (xs : List X) (x : X) → AllByRecursion P xs → find test xs ≡ Some x → P x × (test x ≡ true)
-found_is P test [] x all found = absurd (cc)
-found_is {X} P test (y ∷ xs) x all found = by (test y) refl found (found_is P test xs x all.1)
-  where
-    by : (b : Bool) → test y ≡ b → cond b (Some y) (find test xs) ≡ Some x → (find test xs ≡ Some x → P x × (test x ≡ true)) → P x × (test x ≡ true)
-    by true is found rest = let same : y ≡ x = cc in subst (λ (z : X). P z × (test z ≡ true)) same (all.0, is)
-    by false is found rest = rest found
-
-pub any_none : {X : Type 0} (p : X → Bool) (xs : List X) → AllByRecursion (λ x. p x ≡ false) xs → list_any p xs ≡ false
-any_none p xs all = list_any_none p xs (All-from_recursion (λ x. p x ≡ false) xs all)
+use Rattle.law_start.proofs.Pending.{shown, seal_shown, use_shown}
 
 filling_unopened : (phase : Phase) → is_filling phase ≡ true → is_opening phase ≡ false
 filling_unopened filling is = refl

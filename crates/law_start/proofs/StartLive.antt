@@ -3,6 +3,7 @@ use Rattle.std.proofs.Common.{◌≡◌, ◌⊎◌, inl, inr, ⊎_elim, ℕ, Boo
 use Rattle.std.proofs.lemmas.Bool.{cond-true, cond-false, both_ways}
 use Rattle.std.specs.Prelude.{Contains, IfSome, find, option_map}
 use Rattle.std.specs.List.{AllByRecursion, filter_map, cons_option}
+use Rattle.law_lists.proofs.Members.{cons_cases, first_there, rest_there, filter_from}
 use Rattle.rec_format.specs.declared.version.Digest.{Digest}
 use Rattle.rec_format.specs.Places.{same_digest, digest_before, with_digest}
 use Rattle.model_device.specs.Book.{Setup, live_of, refreshed, cold_book}
@@ -10,9 +11,7 @@ use Rattle.rec_format.proofs.Laws.{same_digest_is, same_digest_refl}
 use Rattle.block_format.specs.Layout.{Body}
 use Rattle.block_format.specs.Copies.{Copy, copies_of, copies_named, latest, cold_copy}
 use Rattle.law_start.specs.Start.{live_copy, names_of_copies, cold_copies, start_state, entries_state}
-use Rattle.law_start.proofs.Growing.{cons_cases}
 use Rattle.law_start.proofs.Held.{IsNewest, latest_is}
-use Rattle.law_start.proofs.Members.{first_there, rest_there, filter_from}
 
 -- the first of some copies that is of a digest
 abbrev find_named : Digest → List Copy → Option Copy

@@ -2,13 +2,13 @@
 use Rattle.std.proofs.Common.{◌≡◌, ℕ, ◌≤◌, Bool, true, false, ◌&&◌, List, [], ◌∷◌, refl}
 use Rattle.std.specs.Prelude.{is_some, filter, flat_map, nat_le}
 use Rattle.std.specs.List.{AllByRecursion}
+use Rattle.law_lists.proofs.Each.{all_joined}
 use Rattle.model_device.specs.Book.{Setup, Book, Buffer, Phase, Stream, client, defrag, filling, sealed, opening, filling_buffer}
 use Rattle.model_device.specs.Device.{State}
 use Rattle.model_device.specs.Steps.{Step, sealed_stream, gate_begun, flushed_buffer, closing_failed, after_steps}
 use Rattle.model_device.specs.Events.{Event, Call, Answer}
 use Rattle.model_device.specs.Legal.{Allowed, flush_of, flush_between, seal_if, seal_all, is_due, seal_low}
 use Rattle.disk_model.specs.Disk.{DiskView, IsHonest}
-use Rattle.law_start.proofs.Opening.{all_joined}
 use Rattle.sprig_tree.specs.State.{SprigState}
 use Rattle.law_sprig.specs.Sparing.{is_of_book, AreOfBook}
 use Rattle.law_sprig.proofs.Writing.{book_fits}

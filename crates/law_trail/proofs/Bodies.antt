@@ -4,13 +4,13 @@ use Rattle.std.proofs.lemmas.Bool.{both_ways}
 use Rattle.std.proofs.lemmas.List.Elements.{Contains-append_left, Contains-append_right, Contains-append_cases}
 use Rattle.std.specs.Prelude.{Contains}
 use Rattle.std.specs.List.{AllByRecursion}
+use Rattle.law_lists.proofs.Each.{all_at}
+use Rattle.law_lists.proofs.Members.{cons_cases, rest_there}
 use Rattle.rec_format.specs.declared.version.Digest.{Digest}
 use Rattle.model_device.specs.Histories.{Item}
 use Rattle.model_device.specs.Book.{Book, has_buffer}
 use Rattle.model_device.specs.Device.{State}
 use Rattle.block_format.specs.Layout.{Body}
-use Rattle.law_start.proofs.Growing.{all_at, cons_cases}
-use Rattle.law_start.proofs.Members.{rest_there}
 use Rattle.law_trail.specs.Trail.{Records, Trail, stored, first, replaced, moved, moved_found, uncovered_since, blocks_of, IsTrailed, IsBooked, NotFree}
 use Rattle.law_trail.proofs.Books.{held_not_free}
 use Rattle.law_trail.proofs.Carrying.{bodies_kept}

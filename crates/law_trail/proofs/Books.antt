@@ -1,18 +1,19 @@
 -- What a book keeps of its blocks: what is live or held isn't free, and after each change what is free may be so.
-use Rattle.std.proofs.Common.{◌≡◌, ◌≢◌, ⊎_elim, ℕ, ◌≤◌, Bool, true, false, not, cond, ◌&&◌, List, [], ◌∷◌, Option, Some, None, refl, sym, ◌∙◌, ap, subst, arith}
+use Rattle.std.proofs.Common.{◌≡◌, ◌≢◌, ℕ, ◌≤◌, Bool, true, false, not, cond, ◌&&◌, List, [], ◌∷◌, Option, Some, None, refl, sym, ◌∙◌, ap, subst, arith}
 use Rattle.std.proofs.lemmas.Bool.{and_parts, both_ways, not-true, eq-eqb, eqb-true, cond_both, cond-false}
-use Rattle.std.proofs.lemmas.List.Sums.{sum_by-cons}
-use Rattle.std.specs.Prelude.{◌==◌, filter, sum_by, Contains}
+use Rattle.std.specs.Prelude.{◌==◌, filter, Contains}
 use Rattle.std.specs.List.{AllByRecursion}
+use Rattle.law_lists.proofs.Counts.{part_of_sum}
+use Rattle.law_lists.proofs.Each.{all_at, all_from}
+use Rattle.law_lists.proofs.Finding.{any_there}
+use Rattle.law_lists.proofs.Members.{first_there, rest_there, filter_there}
 use Rattle.rec_format.specs.declared.version.Digest.{Digest}
 use Rattle.rec_format.specs.Places.{same_digest}
 use Rattle.model_device.specs.Book.{Setup, Book, Live, has_buffer, is_held, use_of, may_be_free, refreshed, live_of, without_live}
 use Rattle.model_device.proofs.Laws.{free_qualifies}
 use Rattle.rec_format.proofs.Laws.{same_digest_is}
-use Rattle.law_start.proofs.Growing.{all_at, all_from, cons_cases}
-use Rattle.law_start.proofs.Members.{first_there, rest_there, filter_there}
 use Rattle.law_trail.specs.Trail.{places_of, HaveOwnBlocks, IsBooked, NotFree}
-use Rattle.law_trail.proofs.Places.{any_there, hold_held}
+use Rattle.law_trail.proofs.Places.{hold_held}
 
 -- ---- what isn't free
 
@@ -36,12 +37,6 @@ pub held_not_free : (book : Book) (number block : ℕ) → IsBooked book → Con
 held_not_free book number block booked held =
     all_from (λ b. b ≢ block) book.free
     (λ b there same. both_ways (is_held book block) (subst (λ (k : ℕ). is_held book k ≡ false) same (free_has_nothing book b booked there).hold) (hold_held book number block held))
-
-part_of_sum : {X : Type 0} (f : X → ℕ) (xs : List X) (x : X) → Contains xs x → f x ≤ sum_by f xs
-part_of_sum f [] x there = absurd (omega (arith, there.1))
-part_of_sum f (y ∷ xs) x there =
-    ⊎_elim (λ (e : y ≡ x). let same : f y ≡ f x = ap f e in omega (arith, sum_by-cons f y xs, same))
-    (λ (more : Contains xs x). omega (arith, sum_by-cons f y xs, part_of_sum f xs x more)) (cons_cases y xs x there)
 
 -- nor is one with a live copy
 pub used_not_free : (book : Book) (l : Live) → IsBooked book → Contains book.live l → NotFree book l.block

@@ -2,13 +2,13 @@
 use Rattle.std.proofs.Common.{◌≡◌, ℕ, false, List, [], ◌∷◌, Option, Some, None, refl, sym, subst}
 use Rattle.std.specs.Prelude.{Contains}
 use Rattle.std.specs.List.{AllByRecursion}
+use Rattle.law_lists.proofs.Each.{all_at}
 use Rattle.rec_format.specs.declared.version.Digest.{Digest}
 use Rattle.rec_format.specs.declared.version.Version.{Version}
 use Rattle.model_device.specs.Histories.{Item}
 use Rattle.model_device.specs.Book.{Book, Live, has_buffer, live_of}
 use Rattle.model_device.specs.Device.{State, history}
 use Rattle.block_format.specs.Layout.{Body}
-use Rattle.law_start.proofs.Growing.{all_at}
 use Rattle.law_trail.specs.Trail.{Records, places_of, StoredIn, WaitsIn, Trail, stored, first, replaced, moved, moved_found, uncovered_since, LeadsOn}
 use Rattle.law_trail.specs.Trail.{IsTrailed, IsBooked, NotFree, KeepsRecords, KeepsBodies}
 use Rattle.law_trail.proofs.Books.{held_not_free, live_not_free}

@@ -3,17 +3,17 @@ use Rattle.std.proofs.Common.{◌≡◌, ◌≢◌, ◌⊎◌, inl, inr, ℕ, �
 use Rattle.std.proofs.lemmas.Bool.{cases_eq, eq-eqb, ne_eqb, not_from_true, not_from_false, cond-true, cond-false}
 use Rattle.std.specs.Prelude.{◌==◌, Contains}
 use Rattle.std.specs.List.{AllByRecursion, range_with_len}
+use Rattle.law_lists.proofs.Each.{all_at}
+use Rattle.law_lists.proofs.Members.{filter_there}
+use Rattle.law_lists.proofs.Ranges.{range_below}
 use Rattle.rec_format.specs.Versions.{block_capacity}
 use Rattle.model_device.specs.Device.{State}
 use Rattle.block_format.specs.declared.geometry.Geometry.{Geometry}
 use Rattle.block_format.specs.Layout.{IsOpen, IsClosed, gate_sector, device_end, Body, IsBody, IsHeader}
 use Rattle.block_format.specs.Copies.{HasBodies, IsReadable}
 use Rattle.law_start.specs.Writes.{DiffersIn}
-use Rattle.law_start.proofs.Growing.{all_at}
-use Rattle.law_start.proofs.Members.{filter_there}
 use Rattle.law_trail.specs.Trail.{Records, IsTrailed, IsBooked, without_body}
 use Rattle.law_trail.proofs.Carrying.{bodies_kept}
-use Rattle.law_trail.proofs.Within.{range_below}
 
 module _ (g : Geometry) (block : ℕ) (old new : List ℕ) (differs : DiffersIn g block old new) (closed : IsClosed (gate_sector g block new)) where
   abbrev IsLeft : List ℕ → Type 0

@@ -1,8 +1,12 @@
 -- Trails are kept when a buffer is flushed: the copies that waited in it are stored.
-use Rattle.std.proofs.Common.{◌≡◌, ◌≢◌, ◌⊎◌, inl, inr, ℕ, Bool, true, false, not, cond, List, [], ◌∷◌, ◌++◌, map, Option, Some, None, refl, sym, ◌∙◌, ap, subst, arith}
+use Rattle.std.proofs.Common.{◌≡◌, ◌≢◌, ◌⊎◌, inl, inr, ℕ, Bool, true, false, not, List, [], ◌∷◌, ◌++◌, Option, Some, None, sym, ◌∙◌, ap, subst, arith}
 use Rattle.std.proofs.lemmas.Bool.{cases_eq, both_ways, not-true, not_from_false, eq-eqb, eqb-true, ne_eqb, false_from_ne_true, cond_both}
 use Rattle.std.specs.Prelude.{◌==◌, filter, Contains}
-use Rattle.std.specs.List.{AllByRecursion, list_any}
+use Rattle.std.specs.List.{list_any}
+use Rattle.law_lists.proofs.Each.{all_at, all_fewer}
+use Rattle.law_lists.proofs.Filters.{map_kept}
+use Rattle.law_lists.proofs.Finding.{none_at, none_from}
+use Rattle.law_lists.proofs.Members.{cons_cases, filter_there, filter_from}
 use Rattle.rec_format.specs.declared.version.Digest.{Digest}
 use Rattle.rec_format.specs.declared.version.Version.{Version}
 use Rattle.model_device.specs.Histories.{Item, write}
@@ -10,18 +14,12 @@ use Rattle.model_device.specs.Book.{Setup, Book, Live, has_buffer, with_flushed,
 use Rattle.model_device.specs.Device.{State, history}
 use Rattle.model_device.specs.Steps.{flushed_buffer, after_step}
 use Rattle.block_format.specs.Layout.{Body}
-use Rattle.law_start.proofs.Growing.{all_at, cons_cases}
-use Rattle.law_start.proofs.Members.{filter_there, filter_from}
 use Rattle.law_trail.specs.Trail.{Records, places_of, StoredIn, WaitsIn, Trail, stored, first, replaced, moved, moved_found, uncovered_since, LeadsOn, IsTrailed, HaveOwnBlocks, IsBooked, HasBody}
-use Rattle.law_trail.proofs.Places.{none_at, none_from, buffer_place}
+use Rattle.law_trail.proofs.Places.{buffer_place}
 use Rattle.law_trail.proofs.Books.{refreshed_booked}
 use Rattle.law_trail.proofs.Placing.{place}
 
 -- ---- places that are apart
-
-pub all_fewer : {X : Type 0} (P : X → Type 0) (test : X → Bool) (xs : List X) → AllByRecursion P xs → AllByRecursion P (filter test xs)
-all_fewer P test [] all = tt
-all_fewer P test (x ∷ xs) all = let rest = all_fewer P test xs all.1 in cond_both (test x) (x ∷ filter test xs) (filter test xs) (AllByRecursion P) (λ _. (all.0, rest)) (λ _. rest)
 
 pub apart_fewer : (test : ℕ × ℕ → Bool) (ps : List (ℕ × ℕ)) → HaveOwnBlocks ps → HaveOwnBlocks (filter test ps)
 apart_fewer test [] apart = tt
@@ -42,15 +40,6 @@ one_place (x ∷ ps) p q apart in_p in_q same = by (cons_cases x ps p in_p) (con
     by (inl a) (inr b) rest = absurd (other q b (ap (λ (y : ℕ × ℕ). y.1) a ∙ same))
     by (inr a) (inl b) rest = absurd (other p a (ap (λ (y : ℕ × ℕ). y.1) b ∙ sym same))
     by (inr a) (inr b) rest = rest a b
-
-pub map_kept : {X Y : Type 0} (f : X → Y) (test : Y → Bool) (xs : List X) → map f (filter (λ x. test (f x)) xs) ≡ filter test (map f xs)
-map_kept f test [] = refl
-map_kept f test (x ∷ xs) = by (test (f x)) (map_kept f test xs)
-  where
-    by : (b : Bool) → map f (filter (λ x. test (f x)) xs) ≡ filter test (map f xs)
-        → map f (cond b (x ∷ filter (λ x. test (f x)) xs) (filter (λ x. test (f x)) xs)) ≡ cond b (f x ∷ filter test (map f xs)) (filter test (map f xs))
-    by true rest = ap (λ l. f x ∷ l) rest
-    by false rest = rest
 
 -- ---- a buffer is flushed
 

@@ -3,6 +3,7 @@ use Rattle.std.proofs.Common.{◌≡◌, ◌⊎◌, inl, inr, ⊎_elim, ℕ, ◌
 use Rattle.std.proofs.lemmas.Bool.{false≢true, cond_both}
 use Rattle.std.specs.Prelude.{◌==◌, nat_le, nat_lt, filter, flat_map, is_some, MatchBool, MatchOption, if◌then◌else◌}
 use Rattle.std.specs.List.{AllByRecursion}
+use Rattle.law_lists.proofs.Each.{all_joined, all_parted}
 use Rattle.rec_format.specs.declared.version.Digest.{Digest}
 use Rattle.rec_format.specs.declared.version.Stamp.{Stamp}
 use Rattle.rec_format.specs.declared.version.Version.{Version}
@@ -19,7 +20,6 @@ use Rattle.model_device.specs.Legal.{put_reserve, tombstone_reserve, move_reserv
 use Rattle.model_device.specs.Legal.{Unless, the_stamp, Entombs, first_cause, not_expected, seen_generation, put_refusal, new_put, Removes, WhereReads}
 use Rattle.model_device.specs.Legal.{DamageFound, DiskFails, is_in_block, live_units, drop_step, marked_in, drop_steps, TurnEnds, same_turn, queue_front}
 use Rattle.model_device.specs.Legal.{Allowed, Follows, IsLegal}
-use Rattle.law_start.proofs.Opening.{all_joined, all_parted}
 use Rattle.law_trail.specs.Trail.{IsBooked, CanPlace}
 use Rattle.law_trail.specs.Needs.{HasRoomFor, HasRoomThrough}
 use Rattle.law_trail.proofs.Each.{step_booked}

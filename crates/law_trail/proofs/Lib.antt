@@ -18,3 +18,4 @@ pub mod Legal
 pub mod Worked
 pub mod Whole
 pub mod Closing
+pub mod Unchanged

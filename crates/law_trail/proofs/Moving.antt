@@ -2,6 +2,7 @@
 use Rattle.std.proofs.Common.{◌≡◌, ℕ, ◌≤◌, Bool, true, false, cond, ◌&&◌, List, [], ◌∷◌, Option, Some, refl, sym, ◌∙◌, ap, subst}
 use Rattle.std.proofs.lemmas.Bool.{and_parts, cond-false}
 use Rattle.std.specs.Prelude.{Contains}
+use Rattle.law_lists.proofs.Each.{all_at}
 use Rattle.rec_format.specs.declared.version.Digest.{Digest}
 use Rattle.rec_format.specs.declared.version.Version.{Version}
 use Rattle.rec_format.specs.Places.{same_digest}
@@ -12,7 +13,6 @@ use Rattle.model_device.specs.Steps.{moved, moved_state, after_step}
 use Rattle.rec_format.proofs.Laws.{same_digest_is}
 use Rattle.model_device.proofs.Numbers.{history_with_number}
 use Rattle.block_format.specs.Layout.{Body}
-use Rattle.law_start.proofs.Growing.{all_at}
 use Rattle.law_trail.specs.Trail.{Records, Trail, LeadsOn, IsTrailed, IsBooked, CanPlace}
 use Rattle.law_trail.proofs.Books.{live_there, live_not_free}
 use Rattle.law_trail.proofs.Placing.{PlacesCopy, placed_is}

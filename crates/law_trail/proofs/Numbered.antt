@@ -3,6 +3,7 @@ use Rattle.std.proofs.Common.{◌≡◌, ℕ, ◌+◌, ◌<◌, ◌≤◌, Bool,
 use Rattle.std.proofs.lemmas.Bool.{cond_both}
 use Rattle.std.specs.Prelude.{◌==◌, filter}
 use Rattle.std.specs.List.{AllByRecursion}
+use Rattle.law_lists.proofs.Each.{all_map, all_joined, all_fewer}
 use Rattle.rec_format.specs.declared.version.Digest.{Digest}
 use Rattle.rec_format.specs.declared.version.Version.{Version}
 use Rattle.rec_format.specs.Places.{same_digest}
@@ -19,13 +20,10 @@ use Rattle.rec_format.proofs.Laws.{same_digest_is}
 use Rattle.model_device.proofs.Numbers.{history_with_number, next_number_rises}
 use Rattle.law_start.specs.Orderly.{NumbersBelow}
 use Rattle.law_start.specs.Holding.{AreRising, HasRisingNumbers}
-use Rattle.law_start.proofs.Each.{all_map}
 use Rattle.law_start.proofs.Growing.{numbers_rise}
-use Rattle.law_start.proofs.Opening.{all_joined}
 use Rattle.law_start.proofs.Orderly.{placing_below}
 use Rattle.law_start.proofs.HeldWrites.{wrote_case}
 use Rattle.law_trail.specs.Numbers.{HasNumbers}
-use Rattle.law_trail.proofs.Flushing.{all_fewer}
 use Rattle.law_trail.proofs.Moving.{other_history}
 use Rattle.law_trail.proofs.Placing.{sealed_place, used_place, opened_place}
 

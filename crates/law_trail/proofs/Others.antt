@@ -3,6 +3,8 @@ use Rattle.std.proofs.Common.{◌≡◌, ℕ, ◌≤◌, Bool, true, false, not,
 use Rattle.std.proofs.lemmas.Bool.{cond_both}
 use Rattle.std.specs.Prelude.{◌==◌, Contains}
 use Rattle.std.specs.List.{AllByRecursion, list_any}
+use Rattle.law_lists.proofs.Each.{all_joined, all_map}
+use Rattle.law_lists.proofs.Filters.{map_shows}
 use Rattle.rec_format.specs.declared.version.Digest.{Digest}
 use Rattle.rec_format.specs.Places.{same_digest}
 use Rattle.model_device.specs.Histories.{Item, dropped, rid, cleared, top_of}
@@ -12,9 +14,6 @@ use Rattle.model_device.specs.Device.{State, history}
 use Rattle.model_device.specs.Steps.{removed, rid_of, uncovered, sealed_stream, gate_begun, closing_failed, with_item, after_step}
 use Rattle.rec_format.proofs.Laws.{same_digest_is}
 use Rattle.block_format.specs.Layout.{Body}
-use Rattle.law_start.proofs.Opening.{all_joined}
-use Rattle.law_start.proofs.Each.{all_map}
-use Rattle.law_start.proofs.Pending.{map_shows}
 use Rattle.law_trail.specs.Trail.{Records, places_of, uncovered_since, LeadsOn, IsTrailed, HaveOwnBlocks, IsBooked}
 use Rattle.law_trail.proofs.Places.{buffer_place}
 use Rattle.law_trail.proofs.Books.{refreshed_booked, fewer_live, others_live, none_live}

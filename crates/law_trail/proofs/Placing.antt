@@ -4,18 +4,19 @@ use Rattle.std.proofs.lemmas.Bool.{false≢true, or_from, ne_eqb, eq-eqb, both_w
 use Rattle.std.proofs.lemmas.List.{map-append}
 use Rattle.std.proofs.lemmas.List.Folds.{list_any-append}
 use Rattle.std.proofs.lemmas.List.Elements.{Contains-append_left, Contains-append_cases}
-use Rattle.std.specs.Prelude.{Option, Some, ◌==◌, find, Contains}
+use Rattle.std.specs.Prelude.{Option, Some, ◌==◌, Contains}
 use Rattle.std.specs.List.{AllByRecursion, list_any}
+use Rattle.law_lists.proofs.Each.{all_at}
+use Rattle.law_lists.proofs.Filters.{map_shows}
+use Rattle.law_lists.proofs.Finding.{none_at, find_there}
+use Rattle.law_lists.proofs.Members.{cons_cases, first_there, map_there}
 use Rattle.rec_format.specs.declared.version.Digest.{Digest}
 use Rattle.model_device.specs.Book.{Setup, Buffer, Book, Live, Stream, Phase, filling, sealed, opening, is_filling, same_stream, sealed_if, seal_stream}
 use Rattle.model_device.specs.Book.{first_block, filling_buffer, has_buffer, has_room, with_new_buffer, with_room, used_more, opened_if, with_hold, put_in}
 use Rattle.model_device.specs.Book.{placed, placing_number, refreshed, live_of, without_live}
-use Rattle.law_start.proofs.Growing.{all_at, cons_cases}
-use Rattle.law_start.proofs.Members.{first_there, rest_there, map_there}
-use Rattle.law_start.proofs.Pending.{map_shows}
 use Rattle.law_start.proofs.Placing.{room_of}
 use Rattle.law_trail.specs.Trail.{places_of, HaveOwnBlocks, IsBooked, NotFree, CanPlace}
-use Rattle.law_trail.proofs.Places.{none_at, buffer_place}
+use Rattle.law_trail.proofs.Places.{buffer_place}
 use Rattle.law_trail.proofs.Books.{free_has_nothing, refreshed_booked, fewer_live}
 
 -- ---- changes of a buffer that keep its place
@@ -119,14 +120,6 @@ ready_is setup stream units book booked can = by (has_room setup stream units bo
     by false (inr some) = new_ready stream book booked some
 
 -- ---- the copy is placed
-
-pub find_there : {X : Type 0} (test : X → Bool) (xs : List X) (x : X) → find test xs ≡ Some x → Contains xs x
-find_there test [] x found = absurd (cc)
-find_there {X} test (y ∷ xs) x found = by (test y) found (find_there test xs x)
-  where
-    by : (b : Bool) → cond b (Some y) (find test xs) ≡ Some x → (find test xs ≡ Some x → Contains xs x) → Contains (y ∷ xs) x
-    by true found rest = let same : y ≡ x = cc in subst (λ (z : X). Contains (y ∷ xs) z) same (first_there y xs)
-    by false found rest = rest_there y xs x (rest found)
 
 -- The copy is live in the block of the buffer of this number, which holds the block of the copy before. Places and holds of before stay,
 -- and no block has a buffer that had none and wasn't free.

@@ -3,6 +3,8 @@ use Rattle.std.proofs.Common.{◌≡◌, ◌⊎◌, inl, inr, ℕ, ◌+◌, Bool
 use Rattle.std.proofs.lemmas.Bool.{both_ways, cond_both}
 use Rattle.std.specs.Prelude.{Contains}
 use Rattle.std.specs.List.{AllByRecursion}
+use Rattle.law_lists.proofs.Each.{all_map}
+use Rattle.law_lists.proofs.Members.{cons_cases, first_there, rest_there, map_there, filter_there, flat_map_there}
 use Rattle.rec_format.specs.declared.version.Digest.{Digest}
 use Rattle.rec_format.specs.declared.version.Version.{Version}
 use Rattle.rec_format.specs.Places.{same_digest}
@@ -16,9 +18,6 @@ use Rattle.block_format.specs.Copies.{Copy, copies_from, copies_of, copies_named
 use Rattle.law_start.specs.Orderly.{IsFalling}
 use Rattle.law_start.specs.Holding.{flushed_versions, versions_in}
 use Rattle.law_start.proofs.ColdOrder.{later_one_way, no_later_itself}
-use Rattle.law_start.proofs.Each.{all_map}
-use Rattle.law_start.proofs.Growing.{cons_cases}
-use Rattle.law_start.proofs.Members.{first_there, rest_there, map_there, filter_there, flat_map_there}
 use Rattle.law_trail.specs.Trail.{Records, StoredIn, WaitsIn, Trail, stored, first, replaced, moved, moved_found, uncovered_since, LeadsOn, IsTrailed, IsReached}
 use Rattle.law_trail.proofs.Places.{placed_pending}
 

@@ -3,6 +3,9 @@ use Rattle.std.proofs.Common.{◌≡◌, inr, ⊎_elim, ℕ, Bool, true, false, 
 use Rattle.std.proofs.lemmas.Bool.{or_left, or_right, eq-eqb, eqb-true, false≢true, cond_both, cond-true, cond-false}
 use Rattle.std.specs.Prelude.{◌==◌, Contains, MatchOption}
 use Rattle.std.specs.List.{AllByRecursion, list_any}
+use Rattle.law_lists.proofs.Each.{all_map, all_at, all_from}
+use Rattle.law_lists.proofs.Finding.{any_more}
+use Rattle.law_lists.proofs.Members.{cons_cases, first_there, rest_there}
 use Rattle.rec_format.specs.declared.version.Digest.{Digest}
 use Rattle.rec_format.specs.declared.version.Version.{Version}
 use Rattle.rec_format.specs.Places.{same_digest}
@@ -15,10 +18,6 @@ use Rattle.model_device.specs.Steps.{raid_given_up, marked_part, scanned_block, 
 use Rattle.rec_format.proofs.Laws.{same_digest_is, same_digest_refl}
 use Rattle.model_device.proofs.Numbers.{history_with_number}
 use Rattle.law_start.specs.Holding.{begun_versions}
-use Rattle.law_start.proofs.Each.{all_map}
-use Rattle.law_start.proofs.Growing.{all_at, all_from, cons_cases}
-use Rattle.law_start.proofs.Members.{first_there, rest_there}
-use Rattle.law_start.proofs.Pending.{any_more}
 use Rattle.law_start.proofs.Stages.{stage_from}
 use Rattle.law_start.proofs.HeldWrites.{written_item, wrote_case}
 use Rattle.law_trail.specs.Trail.{Records}

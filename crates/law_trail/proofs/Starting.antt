@@ -4,6 +4,7 @@ use Rattle.std.proofs.lemmas.Bool.{false≢true}
 use Rattle.std.proofs.lemmas.List.Elements.{Contains-append_cases}
 use Rattle.std.specs.Prelude.{Contains, IfSome, option_map}
 use Rattle.std.specs.List.{AllByRecursion}
+use Rattle.law_lists.proofs.Members.{cons_cases, first_there, rest_there, filter_from}
 use Rattle.rec_format.specs.declared.version.Digest.{Digest}
 use Rattle.rec_format.specs.declared.version.Version.{Version}
 use Rattle.rec_format.specs.Places.{same_digest}
@@ -16,8 +17,6 @@ use Rattle.block_format.specs.Layout.{Body}
 use Rattle.block_format.specs.Copies.{Copy, copies_from, copies_of, copies_named, latest, cold_copy, version_of}
 use Rattle.law_start.specs.Sound.{NoTwins, IsSound}
 use Rattle.law_start.specs.Start.{live_copy, cold_copies, greatest_number, start_state, Restarts}
-use Rattle.law_start.proofs.Growing.{cons_cases}
-use Rattle.law_start.proofs.Members.{first_there, rest_there, filter_from}
 use Rattle.law_start.proofs.Held.{IsNewest, latest_is}
 use Rattle.law_start.proofs.ColdLogs.{as_writes, versions_of}
 use Rattle.law_start.proofs.ColdVersions.{first_of, first_is_cold}

@@ -3,6 +3,9 @@ use Rattle.std.proofs.Common.{◌≡◌, ◌⊎◌, inl, inr, ℕ, ◌<◌, ◌�
 use Rattle.std.proofs.lemmas.Bool.{and_parts, both_ways, eqb-true, false≢true, cond_both, cond-true, cond-false, cases_lt, eqb-false, eq-eqb, ne_eqb}
 use Rattle.std.specs.Prelude.{◌==◌, Contains, MatchOption}
 use Rattle.std.specs.List.{AllByRecursion, list_any}
+use Rattle.law_lists.proofs.Each.{all_map, all_at}
+use Rattle.law_lists.proofs.Finding.{any_none, any_there, some_at}
+use Rattle.law_lists.proofs.Members.{cons_cases, first_there, rest_there}
 use Rattle.rec_format.specs.declared.version.Digest.{Digest}
 use Rattle.rec_format.specs.declared.version.Version.{Version}
 use Rattle.rec_format.specs.Places.{same_digest}
@@ -20,17 +23,15 @@ use Rattle.law_start.specs.Start.{start_state}
 use Rattle.law_start.specs.Orderly.{NumbersBelow}
 use Rattle.law_start.specs.Holding.{versions_to}
 use Rattle.law_start.specs.Awaited.{IsAwaited}
-use Rattle.law_start.proofs.Each.{all_map}
-use Rattle.law_start.proofs.Growing.{all_at, numbers_rise, cons_cases}
-use Rattle.law_start.proofs.Members.{first_there, rest_there}
+use Rattle.law_start.proofs.Growing.{numbers_rise}
 use Rattle.law_start.proofs.Pending.{begun_pending, apart_pending, none_pending}
 use Rattle.law_start.proofs.HeldSteps.{sealed_pending}
-use Rattle.law_start.proofs.Placing.{placed_awaited, any_none, less_apart}
+use Rattle.law_start.proofs.Placing.{placed_awaited, less_apart}
 use Rattle.law_start.proofs.VersionsTo.{wrote_versions}
 use Rattle.law_trail.specs.Trail.{Records, places_of, WaitsIn}
 use Rattle.law_trail.specs.Needs.{IsBacked}
 use Rattle.law_trail.specs.Numbers.{HasNumbers, RecordsWhole}
-use Rattle.law_trail.proofs.Places.{any_there, some_at, pending_place}
+use Rattle.law_trail.proofs.Places.{pending_place}
 use Rattle.law_trail.proofs.Moving.{other_history}
 
 -- ---- what went to a number

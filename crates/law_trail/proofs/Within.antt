@@ -1,8 +1,13 @@
 -- Books keep to the blocks of the device.
-use Rattle.std.proofs.Common.{◌≡◌, ◌⊎◌, inl, inr, ℕ, zero, suc, ◌+◌, ◌<◌, ◌≤◌, Bool, true, false, not, cond, ◌&&◌, List, [], ◌∷◌, ◌++◌, length, map, Option, Some, None, sym, subst, arith}
+use Rattle.std.proofs.Common.{◌≡◌, ◌⊎◌, inl, inr, ℕ, ◌+◌, ◌<◌, ◌≤◌, Bool, true, false, not, cond, ◌&&◌, List, [], ◌∷◌, ◌++◌, length, map, Option, Some, None, sym, subst, arith}
 use Rattle.std.proofs.lemmas.Bool.{false≢true}
 use Rattle.std.specs.Prelude.{◌==◌, filter, MatchOption, IfSome}
-use Rattle.std.specs.List.{AllByRecursion, range_with_len, filter_map, cons_option}
+use Rattle.std.specs.List.{AllByRecursion, filter_map, cons_option}
+use Rattle.law_lists.proofs.Each.{all_at, all_joined, all_fewer}
+use Rattle.law_lists.proofs.Filters.{map_kept}
+use Rattle.law_lists.proofs.Finding.{find_there}
+use Rattle.law_lists.proofs.Members.{map_there, filter_from}
+use Rattle.law_lists.proofs.Ranges.{range_below}
 use Rattle.rec_format.specs.declared.version.Digest.{Digest}
 use Rattle.rec_format.specs.Places.{same_digest}
 use Rattle.rec_format.specs.Versions.{version_units}
@@ -16,23 +21,15 @@ use Rattle.model_device.specs.Steps.{raid_given_up, marked_part, scanned_block, 
 use Rattle.block_format.specs.Layout.{Body}
 use Rattle.block_format.specs.Copies.{Copy, copies_from, copies_of, copies_named, latest, cold_copy}
 use Rattle.law_start.specs.Start.{live_copy, names_of_copies, cold_copies, greatest_number, start_state}
-use Rattle.law_start.proofs.Growing.{all_at}
-use Rattle.law_start.proofs.Members.{map_there, filter_from}
 use Rattle.law_start.proofs.Held.{IsNewest, latest_is}
-use Rattle.law_start.proofs.Opening.{all_joined}
 use Rattle.law_start.proofs.Placing.{room_of}
 use Rattle.law_trail.specs.Trail.{places_of, CanPlace}
 use Rattle.law_trail.specs.Needs.{HasRoomFor}
 use Rattle.law_trail.specs.Within.{IsWithin}
-use Rattle.law_trail.proofs.Flushing.{all_fewer, map_kept}
 use Rattle.law_trail.proofs.Others.{open_places}
-use Rattle.law_trail.proofs.Placing.{place, seal_places, use_places, find_there, first_free, new_places}
+use Rattle.law_trail.proofs.Placing.{place, seal_places, use_places, first_free, new_places}
 
 -- ---- free blocks
-
-pub range_below : (from n limit : ℕ) → from + n ≤ limit → AllByRecursion (λ b. b < limit) (range_with_len from n)
-range_below from zero limit le = tt
-range_below from (suc n) limit le = (omega arith, range_below (from + 1) n limit (omega arith))
 
 device_blocks : (setup : Setup) → AllByRecursion (λ b. b < setup.blocks) (all_blocks setup)
 device_blocks setup = range_below 0 setup.blocks setup.blocks (omega arith)

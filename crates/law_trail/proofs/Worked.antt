@@ -2,6 +2,7 @@
 -- move is. Through all steps a trail leads on.
 use Rattle.std.proofs.Common.{◌≡◌, ◌⊎◌, inl, inr, ℕ, false, List, [], ◌∷◌, refl, ap, subst, arith}
 use Rattle.std.specs.Prelude.{Contains, ◌==◌, if◌then◌else◌}
+use Rattle.law_lists.proofs.Members.{cons_cases, first_there, rest_there}
 use Rattle.rec_format.specs.declared.version.Digest.{Digest}
 use Rattle.rec_format.specs.declared.version.Version.{Version}
 use Rattle.rec_format.specs.Versions.{a_put}
@@ -13,8 +14,6 @@ use Rattle.block_format.specs.Layout.{Body}
 use Rattle.block_format.specs.Copies.{copies_of}
 use Rattle.law_start.specs.Sound.{NoTwins}
 use Rattle.law_start.specs.Start.{start_state}
-use Rattle.law_start.proofs.Growing.{cons_cases}
-use Rattle.law_start.proofs.Members.{first_there, rest_there}
 use Rattle.law_trail.specs.Trail.{Records, places_of, IsTrailed, IsBooked}
 use Rattle.law_trail.specs.Needs.{HasRoomFor, IsBacked}
 use Rattle.law_trail.proofs.Starting.{start_booked, start_trailed}

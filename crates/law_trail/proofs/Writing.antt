@@ -2,6 +2,7 @@
 use Rattle.std.proofs.Common.{◌≡◌, ℕ, ◌≤◌, Bool, true, false, cond, List, [], ◌∷◌, Option, Some, None, refl, sym, ◌∙◌, ap, subst, arith}
 use Rattle.std.proofs.lemmas.Bool.{cond-true, cond-false}
 use Rattle.std.specs.Prelude.{Contains}
+use Rattle.law_lists.proofs.Members.{first_there, rest_there}
 use Rattle.rec_format.specs.declared.version.Digest.{Digest}
 use Rattle.rec_format.specs.declared.version.Version.{Version}
 use Rattle.rec_format.specs.Places.{same_digest}
@@ -12,7 +13,6 @@ use Rattle.model_device.specs.Device.{State, history}
 use Rattle.model_device.specs.Steps.{wrote, after_step}
 use Rattle.rec_format.proofs.Laws.{same_digest_is}
 use Rattle.block_format.specs.Layout.{Body}
-use Rattle.law_start.proofs.Members.{first_there, rest_there}
 use Rattle.law_trail.specs.Trail.{Records, WaitsIn, Trail, stored, first, replaced, moved, moved_found, uncovered_since, LeadsOn, IsTrailed, IsBooked, CanPlace}
 use Rattle.law_trail.proofs.Books.{others_live, live_not_free}
 use Rattle.law_trail.proofs.Placing.{PlacesCopy, placed_is}

@@ -3,22 +3,19 @@ use Rattle.std.proofs.Common.{Bool, true, false, subst, ◌≡◌, ℕ, ◌+◌,
 use Rattle.std.proofs.lemmas.Bool.Decides.{nat_tests}
 use Rattle.std.proofs.lemmas.Grind.{flat_map-append}
 use Rattle.std.proofs.lemmas.List.{append-nil, map-append}
-use Rattle.std.specs.List.{AllByRecursion, flat_map}
+use Rattle.std.specs.List.{flat_map}
+use Rattle.law_lists.proofs.Each.{all_joined}
 use Rattle.line_proto.specs.declared.line_end.LineEnd.{LineEnd}
 use Rattle.line_proto.specs.declared.line_end.LineEnd.TheVariants.{Whole, TooLong}
 use Rattle.line_proto.specs.Lines.{line_limit}
 use Rattle.line_proto.specs.Stream.{IsOneLine, ended, line_end, FallInto, Kept, KeepsBytes, nothing_kept, with_bytes, open_end, BeginsWithLine}
-
-pub all_append : {X : Type 0} (P : X → Type 0) (xs ys : List X) → AllByRecursion P xs → AllByRecursion P ys → AllByRecursion P (xs ++ ys)
-all_append P [] ys one two = two
-all_append P (x ∷ xs) ys one two = (one.0, all_append P xs ys one.1 two)
 
 -- bytes without an LF go on with the open line
 falls_on : (bytes : List ℕ) (lines : List (List ℕ)) (rest more : List ℕ) → FallInto bytes lines rest → IsOneLine more → FallInto (bytes ++ more) lines (rest ++ more)
 falls_on bytes lines rest more falls one_line = record {
   whole = ap (λ (l : List ℕ). l ++ more) falls.whole ∙ append_assoc (flat_map ended lines) rest more;
   each = falls.each;
-  open_line = all_append _ rest more falls.open_line one_line;
+  open_line = all_joined _ rest more falls.open_line one_line;
 }
 
 -- an LF ends it
@@ -28,7 +25,7 @@ falls_over bytes lines rest falls = record {
       ap (λ (l : List ℕ). l ++ 10 ∷ []) falls.whole ∙ append_assoc (flat_map ended lines) rest (10 ∷ [])
       ∙ ap (λ (l : List ℕ). flat_map ended lines ++ l) (sym (append-nil (rest ++ 10 ∷ [])))
       ∙ sym (flat_map-append ended lines (rest ∷ [])) ∙ sym (append-nil (flat_map ended (lines ++ rest ∷ [])));
-  each = all_append IsOneLine lines (rest ∷ []) falls.each (falls.open_line, tt);
+  each = all_joined IsOneLine lines (rest ∷ []) falls.each (falls.open_line, tt);
   open_line = tt;
 }
 
@@ -40,7 +37,7 @@ falls_further bytes piece lines rest more after one two = record {
       ap (λ (l : List ℕ). l ++ piece) one.whole ∙ append_assoc (flat_map ended lines) rest piece
       ∙ ap (λ (l : List ℕ). flat_map ended lines ++ l) two.whole ∙ sym (append_assoc (flat_map ended lines) (flat_map ended more) after)
       ∙ ap (λ (l : List ℕ). l ++ after) (sym (flat_map-append ended lines more));
-  each = all_append IsOneLine lines more one.each two.each;
+  each = all_joined IsOneLine lines more one.each two.each;
   open_line = two.open_line;
 }
 

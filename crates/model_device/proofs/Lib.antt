@@ -3,3 +3,4 @@ pub mod Numbers
 pub mod Examples
 pub mod Refused
 pub mod Blocks
+pub mod InRow

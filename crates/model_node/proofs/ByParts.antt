@@ -4,12 +4,11 @@ use Rattle.std.specs.Prelude.{◌==◌, filter, nat_le}
 use Rattle.std.specs.List.{AllByRecursion}
 use Rattle.std.proofs.lemmas.Bool.{cond-true, cond-false, le-leb, lt-leb, eqb-true, eqb-false, ne_eqb}
 use Rattle.std.proofs.lemmas.List.{append-nil, append_assoc}
+use Rattle.law_lists.proofs.Each.{all_map, all_joined}
 use Rattle.rec_format.specs.declared.version.Digest.{Digest}
 use Rattle.rec_format.specs.Versions.{is_expired_put}
 use Rattle.model_device.specs.Book.{Setup}
 use Rattle.model_device.specs.Device.{State, entry, entry_passes, part_of, digests_of}
-use Rattle.law_start.proofs.Each.{all_map}
-use Rattle.law_start.proofs.Opening.{all_joined}
 use Rattle.model_node.specs.Commands.{into_parts, by_parts, expired_entries}
 
 module _ (setup : Setup) where

@@ -4,6 +4,7 @@ use Rattle.std.specs.Prelude.{Option, Some, None, MatchOption, MatchBool, IsTrue
 use Rattle.std.specs.List.{AllByRecursion}
 use Rattle.std.proofs.lemmas.List.{append-nil}
 use Rattle.std.proofs.lemmas.Bool.{eqb-true, eqb-false}
+use Rattle.law_lists.proofs.Each.{all_joined, all_map}
 use Rattle.rec_format.specs.declared.version.Digest.{Digest}
 use Rattle.rec_format.specs.declared.version.Stamp.{Stamp}
 use Rattle.rec_format.specs.declared.version.Version.{Version}
@@ -14,8 +15,6 @@ use Rattle.model_device.specs.Events.{Cause, Answer, stamp_given, happened, foun
 use Rattle.model_device.specs.Events.{marks_undone, part_ended, raid_over, refused, Event, put_call, delete_call, expire_call, get_call, after_event}
 use Rattle.model_device.specs.Legal.{Follows, Allowed, Only, Unless, WriteEnds, Entombs, Removes, WhereReads, no_write, the_stamp, tombstone_reserve, put_refusal, new_put}
 use Rattle.model_device.specs.Vacating.{Outcome, did, stopped, IfRefused}
-use Rattle.line_proto.proofs.Falling.{all_append}
-use Rattle.law_start.proofs.Each.{all_map}
 use Rattle.law_trail.specs.Numbers.{HasNumbers}
 use Rattle.line_proto.specs.declared.command.Command.{Command}
 use Rattle.line_proto.specs.declared.command.Command.TheVariants as command
@@ -210,7 +209,7 @@ removals_keep told device (e ∷ work) node slot at numbers commit all legal =
           there = rest.there;
           keeps = λ d is_flushed. rest.keeps d (removal_stays slot.setup told slot.state e.event d commit numbers is_flushed call.0 call.1 all.0.1 allowed);
           flushed = steps_are rest.after true is
-              (all_append (flushed_if_wrote rest.after.state) e.event.steps (steps_on device work) (flushed_on after.state rest.after.state e.event.steps rest.keeps mine_flushed) rest.flushed);
+              (all_joined (flushed_if_wrote rest.after.state) e.event.steps (steps_on device work) (flushed_on after.state rest.after.state e.event.steps rest.keeps mine_flushed) rest.flushed);
         }
     by false is rest_of =
         let rest = rest_of slot (place_other e.device device (slot_after e.event) node (eqb-false e.device device is) ∙ at) numbers commit in
@@ -225,7 +224,7 @@ numbered_at (x ∷ node) (suc device) slot numbers at = numbered_at node device 
 removed_each : (now device : ℕ) (node : Node) (a b x y : ℕ) (work : List NodeEvent) → EachDevice (Expires now) device node a b work (did x y) → AllByRecursion HasRemovedOn work
 removed_each now device [] a b x y work each = subst (AllByRecursion HasRemovedOn) (sym each.0) tt
 removed_each now device (slot ∷ slots) a b x y work (mine, rest, is, how) = subst (AllByRecursion HasRemovedOn) (sym is) (elim how [
-  | inl goes ↦ all_append HasRemovedOn (map (on_device device) mine) rest (on_each HasRemoved device mine (all_removed now (expired_entries slot.setup now slot.state) 0 goes.0 goes.1 mine goes.2))
+  | inl goes ↦ all_joined HasRemovedOn (map (on_device device) mine) rest (on_each HasRemoved device mine (all_removed now (expired_entries slot.setup now slot.state) 0 goes.0 goes.1 mine goes.2))
       (removed_each now (device + 1) slots (a + goes.0) (b + goes.1) x y rest goes.3)
   | inr stops ↦ let never : did x y ≡ stopped stops.0 = stops.3 in absurd cc
 ])

@@ -1,8 +1,8 @@
 -- A write that waits for its flush is flushed when it is answered as done.
-use Rattle.std.proofs.Common.{◌≡◌, ℕ, ◌+◌, ◌≤◌, Bool, true, false, not, cond, ◌&&◌, ◌||◌, List, [], ◌∷◌, ◌++◌, map, refl, sym, ap, ◌∙◌, subst, arith, inl, inr}
+use Rattle.std.proofs.Common.{◌≡◌, ℕ, ◌+◌, ◌≤◌, Bool, true, false, not, cond, ◌&&◌, List, [], ◌∷◌, ◌++◌, map, refl, sym, ap, ◌∙◌, subst, arith, inl, inr}
 use Rattle.std.specs.Prelude.{Option, Some, ◌==◌, nat_le, filter, flat_map}
 use Rattle.std.specs.List.{AllByRecursion, list_any}
-use Rattle.std.proofs.lemmas.Bool.{and_parts, and_from, or_cases, or_left, or_right, false≢true, eqb-true, eq-eqb, le-leb}
+use Rattle.std.proofs.lemmas.Bool.{and_parts, and_from, or_cases, or_left, or_right, false≢true, eqb-true, eq-eqb, le-leb, or_parts, or_from}
 use Rattle.rec_format.specs.declared.version.Digest.{Digest}
 use Rattle.rec_format.specs.declared.version.Version.{Version}
 use Rattle.rec_format.specs.Versions.{version_units}
@@ -13,20 +13,12 @@ use Rattle.model_device.specs.Device.{State, history_of}
 use Rattle.model_device.specs.Steps.{Step, wrote, sealed_stream, gate_begun, flushed_buffer, wrote_state, after_step, after_steps}
 use Rattle.model_device.specs.Legal.{flush_of, flush_between, commit_seal, commit_flush}
 use Rattle.std.proofs.lemmas.List.Folds.{list_any-append}
-use Rattle.line_proto.proofs.Falling.{all_append}
+use Rattle.law_lists.proofs.Each.{all_joined}
 use Rattle.model_device.proofs.Laws.{history_hit}
 use Rattle.law_start.proofs.Placing.{room_of}
 use Rattle.model_node.specs.Run.{top_is_flushed, flushed_if_wrote}
 
 -- ---- buffers of a number
-
-none_parts : (a b : Bool) → (a || b) ≡ false → (a ≡ false) × (b ≡ false)
-none_parts true b e = cc
-none_parts false b e = (refl, e)
-
-none_from : (a b : Bool) → a ≡ false → b ≡ false → (a || b) ≡ false
-none_from true b first then = cc
-none_from false b first then = then
 
 -- no buffer of this number is pending
 abbrev HasNone : ℕ → List Buffer → Type 0
@@ -39,17 +31,17 @@ opened_number false b = refl
 begun_none : (m n : ℕ) (bs : List Buffer) → HasNone n bs → HasNone n (map (λ b. opened_if (b.number == m) b) bs)
 begun_none m n [] none = none
 begun_none m n (b ∷ bs) none =
-    let parts = none_parts (b.number == n) (is_pending (map (λ x. (x.number, is_opening x.phase)) bs) n) none in
-    none_from ((opened_if (b.number == m) b).number == n) _ (ap (λ (k : ℕ). k == n) (opened_number (b.number == m) b) ∙ parts.0) (begun_none m n bs parts.1)
+    let parts = or_parts (b.number == n) (is_pending (map (λ x. (x.number, is_opening x.phase)) bs) n) none in
+    or_from ((opened_if (b.number == m) b).number == n) _ (ap (λ (k : ℕ). k == n) (opened_number (b.number == m) b) ∙ parts.0) (begun_none m n bs parts.1)
 
 filter_none : (keep : Buffer → Bool) (n : ℕ) (bs : List Buffer) → HasNone n bs → HasNone n (filter keep bs)
 filter_none keep n [] none = none
 filter_none keep n (b ∷ bs) none =
-    let parts = none_parts (b.number == n) (is_pending (map (λ x. (x.number, is_opening x.phase)) bs) n) none in
+    let parts = or_parts (b.number == n) (is_pending (map (λ x. (x.number, is_opening x.phase)) bs) n) none in
     kept (keep b) parts.0 (filter_none keep n bs parts.1)
   where
     kept : (c : Bool) → (b.number == n) ≡ false → HasNone n (filter keep bs) → HasNone n (cond c (b ∷ filter keep bs) (filter keep bs))
-    kept true here rest = none_from (b.number == n) _ here rest
+    kept true here rest = or_from (b.number == n) _ here rest
     kept false here rest = rest
 
 filter_gone : (n : ℕ) (bs : List Buffer) → HasNone n (filter (λ b. not (b.number == n)) bs)
@@ -59,7 +51,7 @@ filter_gone n (b ∷ bs) = kept (b.number == n) refl (filter_gone n bs)
     kept : (c : Bool) → (b.number == n) ≡ c → HasNone n (filter (λ x. not (x.number == n)) bs)
         → HasNone n (cond (not c) (b ∷ filter (λ x. not (x.number == n)) bs) (filter (λ x. not (x.number == n)) bs))
     kept true here rest = rest
-    kept false here rest = none_from (b.number == n) _ here rest
+    kept false here rest = or_from (b.number == n) _ here rest
 
 -- ---- the steps of a flush
 
@@ -113,7 +105,7 @@ flush_steps number block stream used opening = (tt, tt)
 
 pub all_flush_steps : (bs : List Buffer) → AllByRecursion FlushStep (flat_map flush_of bs)
 all_flush_steps [] = tt
-all_flush_steps (b ∷ bs) = all_append FlushStep (flush_of b) (flat_map flush_of bs) (flush_steps b.number b.block b.stream b.used b.phase) (all_flush_steps bs)
+all_flush_steps (b ∷ bs) = all_joined FlushStep (flush_of b) (flat_map flush_of bs) (flush_steps b.number b.block b.stream b.used b.phase) (all_flush_steps bs)
 
 -- a buffer of this number that no longer takes records
 abbrev is_ready : ℕ → Buffer → Bool

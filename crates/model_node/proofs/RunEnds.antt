@@ -1,9 +1,10 @@
 -- What a run doesn't end with. No line but a restart halts, so a run that was served without one ends with no refused device; and one
 -- that took nothing ends with none that failed, where nothing is pending when it starts.
-use Rattle.std.proofs.Common.{◌≡◌, ℕ, zero, suc, Bool, true, false, ◌||◌, List, [], ◌∷◌, ◌++◌, length, map, refl, inl, inr, subst, sym, ap, ◌∙◌}
+use Rattle.std.proofs.Common.{◌≡◌, ℕ, zero, suc, Bool, true, false, List, [], ◌∷◌, ◌++◌, length, map, refl, inl, inr, subst, sym, ap, ◌∙◌}
 use Rattle.std.specs.List.{AllByRecursion}
 use Rattle.model_node.specs.declared.run_end.DeviceRefusal.{DeviceRefusal}
 use Rattle.std.specs.Prelude.{Option, Some, None, IfSome, MatchOption, MatchBool, IsTrue, is_some, flat_map, slice_get}
+use Rattle.std.proofs.lemmas.Bool.{or_from}
 use Rattle.rec_format.specs.declared.version.Digest.{Digest}
 use Rattle.rec_format.specs.declared.version.Stamp.{Stamp}
 use Rattle.rec_format.specs.declared.version.Version.{Version}
@@ -155,15 +156,11 @@ line_goes left told node (Some line) served other (inl does) legal = elim does.4
   | inr ends ↦ absurd (other (subst (IsCommandLine line) ends.0 does.2))
 ]
 
-neither : (a b : Bool) → a ≡ false → b ≡ false → (a || b) ≡ false
-neither true b first second = cc
-neither false b first second = second
-
 -- of a run without a restart
 pub none_halts : (left : ImagesLeft) (told : Bool) (node : Node) (lines : List Served) → AllByRecursion (λ s. IsNoRestart s.line) lines → ServesAll left told node lines → is_halted lines ≡ false
 none_halts left told node [] others serves = refl
 none_halts left told node (served ∷ lines) others serves =
-    neither (halts served.reply) (is_halted lines) (line_goes left told node served.line served others.0 serves.0.answers serves.0.work)
+    or_from (halts served.reply) (is_halted lines) (line_goes left told node served.line served others.0 serves.0.answers serves.0.work)
     (none_halts left told (node_after_line served node) lines others.1 serves.1)
 
 -- ---- nothing was taken

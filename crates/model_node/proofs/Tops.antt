@@ -3,6 +3,7 @@ use Rattle.std.proofs.Common.{◌≡◌, inl, inr, ℕ, ◌<◌, Bool, true, fal
 use Rattle.std.specs.Prelude.{Option, Some, None, MatchBool, filter, ◌&&◌, nat_le}
 use Rattle.std.specs.List.{AllByRecursion}
 use Rattle.std.proofs.lemmas.Bool.{cond-false}
+use Rattle.law_lists.proofs.Each.{all_joined, all_map}
 use Rattle.rec_format.specs.declared.version.Digest.{Digest}
 use Rattle.rec_format.specs.declared.version.Stamp.{Stamp}
 use Rattle.rec_format.specs.declared.version.Version.{Version}
@@ -17,9 +18,7 @@ use Rattle.model_device.specs.Events.{Event, Cause, Answer, happened, refused, e
 use Rattle.model_device.specs.Legal.{Allowed, Only, Unless, WriteEnds, Entombs, Removes, no_write, the_stamp, tombstone_reserve, commit_seal, commit_flush, flush_between}
 use Rattle.model_device.specs.Vacating.{IfRefused}
 use Rattle.model_device.proofs.Laws.{step_keeps_flushed}
-use Rattle.line_proto.proofs.Falling.{all_append}
 use Rattle.law_start.specs.Orderly.{NumbersBelow}
-use Rattle.law_start.proofs.Each.{all_map}
 use Rattle.law_trail.specs.Numbers.{HasNumbers}
 use Rattle.law_trail.proofs.Numbered.{step_numbered}
 use Rattle.model_node.specs.Run.{newest_is_flushed, top_is_flushed, flushed_if_wrote}
@@ -115,7 +114,7 @@ module _ (setup : Setup) (d : Digest) where
             steps_stay s steps numbers
             (subst (AllByRecursion (WritesOther d)) (sym flat) (
               other,
-              all_append (WritesOther d) (commit_seal setup) (commit_flush setup number (after_steps setup (wrote digest v ∷ commit_seal setup) s)) (seal_other setup.commit)
+              all_joined (WritesOther d) (commit_seal setup) (commit_flush setup number (after_steps setup (wrote digest v ∷ commit_seal setup) s)) (seal_other setup.commit)
                   (flushes_other setup.commit (after_steps setup (wrote digest v ∷ commit_seal setup) s)),
             )) flushed
 

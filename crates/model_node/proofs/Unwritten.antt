@@ -2,6 +2,7 @@
 use Rattle.std.proofs.Common.{◌≡◌, ◌⊎◌, ℕ, zero, suc, ◌+◌, Bool, true, false, cond, List, [], ◌∷◌, ◌++◌, length, map, refl, sym, subst, inl, inr}
 use Rattle.std.specs.Prelude.{Option, Some, None, MatchBool, MatchOption, ◌&&◌, ◌==◌, nat_le, slice_get, is_some}
 use Rattle.std.specs.List.{AllByRecursion}
+use Rattle.law_lists.proofs.Each.{all_joined, all_parted, all_map}
 use Rattle.rec_format.specs.declared.version.Digest.{Digest}
 use Rattle.rec_format.specs.Versions.{is_tombstone, top_number}
 use Rattle.model_device.specs.Book.{Setup, Book, Stream, client, defrag, filling_buffer, has_room, live_of}
@@ -13,9 +14,6 @@ use Rattle.model_device.specs.Legal.{Follows, Allowed, FlushEnds, NoMemory, Only
 use Rattle.model_device.specs.Legal.{WhereReads, is_in_block, live_units, move_reserve, no_place, queue_front, seal_if, seal_all, flush_all}
 use Rattle.model_node.specs.Commands.{Slot, Node, NodeEvent, at_place, slot_after, on_device, IsLegalOn, EachDevice, Flushes, Defragments, TakesTurns, removed_by, cleared_by, Raids}
 use Rattle.model_device.specs.Vacating.{Outcome, did, stopped, moved_by, MovesOut, Vacates, VacatesUpTo}
-use Rattle.line_proto.proofs.Falling.{all_append}
-use Rattle.law_start.proofs.Opening.{all_parted}
-use Rattle.law_start.proofs.Each.{all_map}
 use Rattle.model_node.specs.Run.{steps_on, flushed_if_wrote}
 use Rattle.model_node.proofs.Flushing.{FlushStep, all_flush_steps}
 use Rattle.model_node.proofs.Expiries.{if_refused}
@@ -45,15 +43,15 @@ seal_writes_none true stream = (tt, tt)
 seal_writes_none false stream = tt
 
 seals_write_none : (book : Book) → AllByRecursion WritesNone (seal_all book)
-seals_write_none book = all_append WritesNone (seal_if (is_some (filling_buffer client book.buffers)) client) (seal_if (is_some (filling_buffer defrag book.buffers)) defrag)
+seals_write_none book = all_joined WritesNone (seal_if (is_some (filling_buffer client book.buffers)) client) (seal_if (is_some (filling_buffer defrag book.buffers)) defrag)
     (seal_writes_none (is_some (filling_buffer client book.buffers)) client) (seal_writes_none (is_some (filling_buffer defrag book.buffers)) defrag)
 
 ends_unwritten : (event : Event) (first rest : List Step) → AllByRecursion WritesNone first → AllByRecursion WritesNone rest → FlushEnds event first rest → AllByRecursion WritesNone event.steps
 ends_unwritten event first rest before behind (inl done) =
-    subst (λ (steps : List Step). AllByRecursion WritesNone steps) (sym done.0) (all_append WritesNone first rest before behind)
+    subst (λ (steps : List Step). AllByRecursion WritesNone steps) (sym done.0) (all_joined WritesNone first rest before behind)
 ends_unwritten event first rest before behind (inr fault) =
     subst (λ (steps : List Step). AllByRecursion WritesNone steps) (sym fault.3)
-    (all_append WritesNone first fault.2 before (all_parted WritesNone fault.2 (fault.4.0 ∷ fault.4.1) (subst (λ (steps : List Step). AllByRecursion WritesNone steps) fault.4.2 behind)).0)
+    (all_joined WritesNone first fault.2 before (all_parted WritesNone fault.2 (fault.4.0 ∷ fault.4.1) (subst (λ (steps : List Step). AllByRecursion WritesNone steps) fault.4.2 behind)).0)
 
 flush_unwritten : (slot : Slot) (told : Bool) (event : Event) → Follows slot.setup told slot.state slot.faults event → event.call ≡ flush_call → AllByRecursion WritesNone event.steps
 flush_unwritten slot told event follows is =
@@ -142,7 +140,7 @@ turn_ends_unwritten setup told s event (scan_turn block) now (inr (inr (inr no_m
 turn_ends_unwritten setup told s event (apply_turn part) now ends = step_made event (compared_part part) tt ends.1
 turn_ends_unwritten setup told s event (drop_turn part) now ends =
     subst (AllByRecursion WritesNone) (sym ends.1)
-    (all_append WritesNone (map (drop_step s) (marked_in setup part s)) (done_part part ∷ []) (drops_unwritten s (marked_in setup part s)) (tt, tt))
+    (all_joined WritesNone (map (drop_step s) (marked_in setup part s)) (done_part part ∷ []) (drops_unwritten s (marked_in setup part s)) (tt, tt))
 turn_ends_unwritten setup told s event finished now only = none_made event only.1
 
 turn_unwritten : (slot : Slot) (told : Bool) (event : Event) (number : ℕ) (turn : Turn) (now : ℕ) → Allowed slot.setup told slot.state event (turn_call number turn now)
@@ -200,9 +198,9 @@ defrags_unwriting setup (suc n) s count vacated events outcome (mine, rest, is, 
         → (Vacates setup s mine (did 0 0) × (rest ≡ []) × (outcome ≡ did count vacated))
         ⊎ ((x : ℕ) × Vacates setup s mine (did x 1) × VacatesUpTo setup n (after_events setup mine s) (count + x) (vacated + 1) rest outcome)
         ⊎ ((cause : Cause) × Vacates setup s mine (stopped cause) × (rest ≡ []) × (outcome ≡ stopped cause)) → AreUnwriting (mine ++ rest)
-    by more (inl none) = all_append (λ event. IsUnwriting event.call) mine rest (vacates_unwriting setup s mine (did 0 0) none.0) (subst AreUnwriting (sym none.1) tt)
-    by more (inr (inl some)) = all_append (λ event. IsUnwriting event.call) mine rest (vacates_unwriting setup s mine (did some.0 1) some.1) (more some.0 some.2)
-    by more (inr (inr stops)) = all_append (λ event. IsUnwriting event.call) mine rest (vacates_unwriting setup s mine (stopped stops.0) stops.1) (subst AreUnwriting (sym stops.2) tt)
+    by more (inl none) = all_joined (λ event. IsUnwriting event.call) mine rest (vacates_unwriting setup s mine (did 0 0) none.0) (subst AreUnwriting (sym none.1) tt)
+    by more (inr (inl some)) = all_joined (λ event. IsUnwriting event.call) mine rest (vacates_unwriting setup s mine (did some.0 1) some.1) (more some.0 some.2)
+    by more (inr (inr stops)) = all_joined (λ event. IsUnwriting event.call) mine rest (vacates_unwriting setup s mine (stopped stops.0) stops.1) (subst AreUnwriting (sym stops.2) tt)
 
 -- ---- the events of a raid
 
@@ -241,9 +239,9 @@ all_unwriting : (Work : Slot → List Event → Outcome → Type 0) → ((slot :
 all_unwriting Work each_is device [] a b work outcome each = subst (λ (events : List NodeEvent). AllByRecursion IsUnwritingOn events) (sym each.0) tt
 all_unwriting Work each_is device (slot ∷ slots) a b work outcome each =
     subst (λ (events : List NodeEvent). AllByRecursion IsUnwritingOn events) (sym each.2) (elim each.3 [
-      | inl goes ↦ all_append IsUnwritingOn (map (on_device device) each.0) each.1 (on_each (λ event. IsUnwriting event.call) device each.0 (each_is slot each.0 (did goes.0 goes.1) goes.2))
+      | inl goes ↦ all_joined IsUnwritingOn (map (on_device device) each.0) each.1 (on_each (λ event. IsUnwriting event.call) device each.0 (each_is slot each.0 (did goes.0 goes.1) goes.2))
           (all_unwriting Work each_is (device + 1) slots (a + goes.0) (b + goes.1) each.1 outcome goes.3)
-      | inr stops ↦ all_append IsUnwritingOn (map (on_device device) each.0) each.1 (on_each (λ event. IsUnwriting event.call) device each.0 (each_is slot each.0 (stopped stops.0) stops.1))
+      | inr stops ↦ all_joined IsUnwritingOn (map (on_device device) each.0) each.1 (on_each (λ event. IsUnwriting event.call) device each.0 (each_is slot each.0 (stopped stops.0) stops.1))
           (subst (λ (events : List NodeEvent). AllByRecursion IsUnwritingOn events) (sym stops.2) tt)
     ])
 
@@ -272,5 +270,5 @@ calls_write_nothing told node (e ∷ work) all legal device =
     chosen (e.device == device) (calls_write_nothing told (at_place e.device (slot_after e.event) node) work all.1 legal.1 device)
   where
     chosen : (c : Bool) → AllByRecursion WritesNone (steps_on device work) → AllByRecursion WritesNone (cond c (e.event.steps ++ steps_on device work) (steps_on device work))
-    chosen true behind = all_append WritesNone e.event.steps (steps_on device work) (on_one told (slice_get node e.device) e.event legal.0 all.0) behind
+    chosen true behind = all_joined WritesNone e.event.steps (steps_on device work) (on_one told (slice_get node e.device) e.event legal.0 all.0) behind
     chosen false behind = behind

@@ -7,8 +7,9 @@ use Rattle.std.proofs.lemmas.Bool.{cases_Bool}
 use Rattle.std.proofs.lemmas.Bool.Decides.{nat_tests}
 use Rattle.std.proofs.lemmas.List.{append-nil, take_all, take-append-le, length-take}
 use Rattle.std.proofs.lemmas.List.Sums.{sum_by_push}
+use Rattle.law_lists.proofs.Each.{all_joined}
 use Rattle.line_proto.specs.Stream.{FallInto, IsOneLine, ended}
-use Rattle.line_proto.proofs.Falling.{all_append, falls_further}
+use Rattle.line_proto.proofs.Falling.{falls_further}
 use Rattle.node_gen.specs.declared.counts.ReplyCounts.{ReplyCounts}
 use Rattle.node_gen.specs.Replies.{capped, first_word, lines_with, counts_of, one_more_of}
 use Rattle.node_gen.specs.Falling.{Fallen, with_byte, with_bytes, fallen, IsCounted}
@@ -22,7 +23,7 @@ with_bytes-push f (b ∷ bytes) byte = with_bytes-push (with_byte f b) bytes byt
 -- the open line goes on
 falls_on : (written rest : List ℕ) (lines : List (List ℕ)) (byte : ℕ) → FallInto written lines rest → byte ≢ 10 → FallInto (written ++ byte ∷ []) lines (rest ++ byte ∷ [])
 falls_on written rest lines byte falls other =
-    let longer : IsOneLine (rest ++ byte ∷ []) = all_append _ rest (byte ∷ []) falls.open_line (other, tt) in
+    let longer : IsOneLine (rest ++ byte ∷ []) = all_joined _ rest (byte ∷ []) falls.open_line (other, tt) in
     subst (λ (l : List (List ℕ)). FallInto (written ++ byte ∷ []) l (rest ++ byte ∷ [])) (append-nil lines)
     (falls_further written (byte ∷ []) lines rest [] (rest ++ byte ∷ []) falls (record { whole = refl; each = tt; open_line = longer }))
 

@@ -1,7 +1,7 @@
 -- The ends of a session.
 use Rattle.std.proofs.Common.{◌≡◌, ℕ, ◌+◌, ◌<◌, List, [], ◌∷◌, ◌++◌, length, map, Option, refl, sym, ◌∙◌, ap, subst, inl, inr, arith}
 use Rattle.std.specs.Prelude.{◌⊎◌}
-use Rattle.std.proofs.lemmas.List.{append-nil}
+use Rattle.std.proofs.lemmas.List.{append-nil, nil_from_length}
 use Rattle.line_proto.specs.declared.command.Command.{Command}
 use Rattle.line_proto.specs.declared.reply.Reply.{Reply}
 use Rattle.line_proto.specs.declared.line_end.LineEnd.{LineEnd}
@@ -19,16 +19,12 @@ use Rattle.node_session.specs.Session.{HasAllTurns, HasSomeTurns, StopsAfter, En
 use Rattle.node_session.proofs.Running.{serves_on, serves_one}
 use Rattle.node_session.proofs.Sending.{shortens_on, short_on}
 
-empty_of : {X : Type 0} (xs : List X) → length xs ≡ 0 → xs ≡ []
-empty_of [] none = refl
-empty_of (x ∷ xs) none = absurd (omega arith)
-
 -- a piece of no bytes changes nothing
 pub takes_none : (taken taken' piece : List ℕ) → length piece ≡ 0 → taken' ≡ taken ++ piece → taken' ≡ taken
-takes_none taken taken' piece none is = is ∙ ap (λ (l : List ℕ). taken ++ l) (empty_of piece none) ∙ append-nil taken
+takes_none taken taken' piece none is = is ∙ ap (λ (l : List ℕ). taken ++ l) (nil_from_length piece none) ∙ append-nil taken
 
 pub joins_none : (bytes piece : List ℕ) → length piece ≡ 0 → bytes ++ piece ≡ bytes
-joins_none bytes piece none = ap (λ (l : List ℕ). bytes ++ l) (empty_of piece none) ∙ append-nil bytes
+joins_none bytes piece none = ap (λ (l : List ℕ). bytes ++ l) (nil_from_length piece none) ∙ append-nil bytes
 
 pub shortens_end : (first second third : Option (List ℕ)) (bytes piece : List ℕ) → length piece ≡ 0 → Shortens first second bytes → Shortens second third piece → Shortens first third bytes
 shortens_end first second third bytes piece none one two = subst (λ (l : List ℕ). Shortens first third l) (joins_none bytes piece none) (shortens_on first second third bytes piece one two)

@@ -9,8 +9,10 @@ use Rattle.node_session.specs.declared.stop.Stop.{Stop}
 use Rattle.node_session.specs.Turns.{Times, HasTurns, StopsAmong, GoesThrough, ServesSome}
 use Rattle.node_session.specs.Session.{HasFirstTurns, HasSomeTurns, StopsAfter}
 use Rattle.std.proofs.lemmas.Grind.{flat_map-append}
-use Rattle.std.proofs.lemmas.List.{map-append}
-use Rattle.line_proto.proofs.Falling.{all_append, falls_further}
+use Rattle.std.proofs.lemmas.List.{map-append, length-map}
+use Rattle.law_lists.proofs.Between.{all_own}
+use Rattle.law_lists.proofs.Each.{all_joined, all_front}
+use Rattle.line_proto.proofs.Falling.{falls_further}
 use Rattle.node_session.proofs.Running.{serves_on}
 
 -- each line takes a byte at least
@@ -21,13 +23,9 @@ count_lines (line ∷ lines) = omega (arith, count_lines lines, length-append (e
 pub count_of_falls : (bytes : List ℕ) (lines : List (List ℕ)) (rest : List ℕ) → FallInto bytes lines rest → length lines + length rest ≤ length bytes
 count_of_falls bytes lines rest falls = omega (arith, ap length falls.whole, length-append (flat_map ended lines) rest, count_lines lines)
 
-pub length-map : {X Y : Type 0} (f : X → Y) (xs : List X) → length (map f xs) ≡ length xs
-length-map f [] = refl
-length-map f (x ∷ xs) = omega (arith, length-map f xs)
-
 -- what is kept has no more lines than bytes
 pub count_ready : (kept : Kept) (bytes : List ℕ) → KeepsBytes kept bytes → length kept.ready ≤ length bytes
-count_ready kept bytes stands = omega (arith, ap length stands.are_ready, length-map line_end stands.lines, count_of_falls bytes stands.lines stands.rest stands.falls)
+count_ready kept bytes stands = omega (arith, ap length stands.are_ready, length-map stands.lines line_end, count_of_falls bytes stands.lines stands.rest stands.falls)
 
 no_lf : (line more : List ℕ) → IsOneLine (line ++ 10 ∷ more) → ⊥
 no_lf [] more one = one.0 refl
@@ -90,14 +88,6 @@ halved (text ∷ texts) (end ∷ before) after is =
       of_first = λ i. head i ∷ rest.of_first i;
     }
 
-all_first : {X : Type 0} (P : X → Type 0) (xs ys : List X) → AllByRecursion P (xs ++ ys) → AllByRecursion P xs
-all_first P [] ys all = tt
-all_first P (x ∷ xs) ys all = (all.0, all_first P xs ys all.1)
-
-all_at : {X : Type 0} (P : X → Type 0) (xs : List X) (y : X) (ys : List X) → AllByRecursion P (xs ++ y ∷ ys) → P y
-all_at P [] y ys all = all.0
-all_at P (x ∷ xs) y ys all = all_at P xs y ys all.1
-
 -- what the turns of one more piece leave
 pub record Further {T : Type 0} (acts : T → Command → ℕ → Reply → T → Type 0) (tends : T → T → Type 0) (bytes : List ℕ) (kept : Kept) (count : ℕ) (old : T) (times : Times) (output : List ℕ)
     (new : T) (later : Times) : Type 0 where
@@ -130,7 +120,7 @@ module _ {T : Type 0} (acts : T → Command → ℕ → Reply → T → Type 0) 
       counted = stands.counted;
       is_partial = stands.is_partial;
     };
-    counted = omega (arith, counts, ap length stands.are_ready, length-map line_end stands.lines, length-append lines stands.lines);
+    counted = omega (arith, counts, ap length stands.are_ready, length-map stands.lines line_end, length-append lines stands.lines);
   }
 
   pub stops_after : (left : Option (List ℕ)) (output : List ℕ) (new : T) (later : Times) (count : ℕ) (stop : Stop) → StopsAmong acts tends kept.ready count mid then output new later stop
@@ -150,8 +140,8 @@ module _ {T : Type 0} (acts : T → Command → ℕ → Reply → T → Type 0) 
         lines = lines ++ at.first;
         rest = ended at.text ++ after;
         whole = whole ∙ split;
-        each = all_append IsOneLine lines at.first falls.each (all_first IsOneLine at.first (at.text ∷ at.last) each_more);
-        counted = omega (arith, stops.counted, ap length at.of_first, length-map line_end at.first, length-append lines at.first);
+        each = all_joined IsOneLine lines at.first falls.each (all_front IsOneLine at.first (at.text ∷ at.last) each_more);
+        counted = omega (arith, stops.counted, ap length at.of_first, length-map at.first line_end, length-append lines at.first);
         told = told ++ stops.told;
         mid = stops.mid;
         then = stops.then;
@@ -161,7 +151,7 @@ module _ {T : Type 0} (acts : T → Command → ℕ → Reply → T → Type 0) 
             subst (λ (l : List LineEnd). HasTurns acts tends l old times (told ++ stops.told) stops.mid stops.then) ends
             (serves_on acts tends (map line_end lines) stops.before old times told stops.told mid then stops.mid stops.then serves stops.serves);
         line = stops.line;
-        takes_up = record { how = inl (at.text, after, refl, all_at IsOneLine at.first at.text at.last each_more, at.of_text) };
+        takes_up = record { how = inl (at.text, after, refl, all_own IsOneLine at.first at.text at.last each_more, at.of_text) };
         last = stops.last;
         stops = stops.stops;
         all = ap (λ (l : List ℕ). told ++ l) stops.all ∙ sym (append_assoc told stops.told stops.last);
@@ -181,7 +171,7 @@ module _ {T : Type 0} (acts : T → Command → ℕ → Reply → T → Type 0) 
         rest = flat_map ended at.last ++ stands.rest;
         whole = falls_all.whole ∙ ap (λ (l : List (List ℕ)). flat_map ended l ++ stands.rest) order ∙ ap (λ (l : List ℕ). l ++ stands.rest) (flat_map-append ended (lines ++ at.first) at.last)
             ∙ append_assoc (flat_map ended (lines ++ at.first)) (flat_map ended at.last) stands.rest;
-        each = all_first IsOneLine (lines ++ at.first) at.last (subst (AllByRecursion IsOneLine) order falls_all.each);
+        each = all_front IsOneLine (lines ++ at.first) at.last (subst (AllByRecursion IsOneLine) order falls_all.each);
         serves = subst (λ (l : List LineEnd). HasTurns acts tends l old times (told ++ output) new later) ends
             (serves_on acts tends (map line_end lines) through.before old times told output mid then new later serves through.serves);
       }

@@ -4,6 +4,7 @@ use Rattle.std.specs.List.{All}
 use Rattle.std.proofs.lemmas.Bool.{cond-true, cond-false, cond_both, lt-ltb, le-ltb, ltb-true, cases_lt}
 use Rattle.std.proofs.lemmas.List.Elements.{All-nil, All-cons, All-head, All-tail, All-weaker, All-filter}
 use Rattle.std.proofs.lemmas.List.Kept.{AllPairs-filter}
+use Rattle.std.proofs.lemmas.Option.{same_Some}
 use Rattle.model_device.specs.Steps.{least}
 use Rattle.raid_book.specs.declared.found.FoundCopy.{FoundCopy}
 use Rattle.raid_book.specs.declared.turn.RaidNext.{RaidNext}
@@ -19,9 +20,6 @@ none_found : (found : List FoundCopy) → least_part found ≡ None → found �
 none_found [] e = refl
 none_found (c ∷ found) e = absurd (cc)
 
-pub same_value : (a b : ℕ) → Some a ≡ Some b → a ≡ b
-same_value a b e = cc
-
 -- the least part is no greater than any, and is one of them
 least_found : (count : ℕ) (found : List FoundCopy) (m : ℕ) → least_part found ≡ Some m → All (λ c. c.part < count) found → All (λ c. m ≤ c.part) found × (m < count)
 least_found count [] m e below = absurd (cc)
@@ -35,13 +33,13 @@ least_found count (c ∷ found) m e below = after (λ k is. least_found count fo
 
     after : ((k : ℕ) → least_part found ≡ Some k → All (λ d. k ≤ d.part) found × (k < count)) → (o : Option ℕ) → least_part found ≡ o → All (λ d. m ≤ d.part) (c ∷ found) × (m < count)
     after earlier None is =
-        let own : c.part ≡ m = same_value c.part m (ap (λ (o : Option ℕ). Some (least o c.part)) (sym is) ∙ e) in (
+        let own : c.part ≡ m = same_Some c.part m (ap (λ (o : Option ℕ). Some (least o c.part)) (sym is) ∙ e) in (
           All-cons (λ (d : FoundCopy). m ≤ d.part) c found (omega arith)
               (subst (All (λ (d : FoundCopy). m ≤ d.part)) (sym (none_found found is)) (All-nil (λ (d : FoundCopy). m ≤ d.part))),
           omega (arith, here),
         )
     after earlier (Some k) is =
-        let own : cond (ltb k c.part) k c.part ≡ m = same_value (least (Some k) c.part) m (ap (λ (o : Option ℕ). Some (least o c.part)) (sym is) ∙ e) in
+        let own : cond (ltb k c.part) k c.part ≡ m = same_Some (least (Some k) c.part) m (ap (λ (o : Option ℕ). Some (least o c.part)) (sym is) ∙ e) in
         let rest = earlier k is in
         ⊎_elim
         (λ lower. let same : k ≡ m = sym (cond-true (ltb k c.part) k c.part (lt-ltb k c.part lower)) ∙ own in

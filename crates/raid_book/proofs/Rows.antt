@@ -6,12 +6,13 @@ use Rattle.std.specs.List.{All, remove}
 use Rattle.std.specs.List.Sorted.{IsPartitionedBy, IsPartitionPoint, IsSortedBy, IsStableBy, ties}
 use Rattle.std.proofs.lemmas.Bool.{cond-true, cond-false, ltb-true, ltb-false, leb-true, lt-ltb, le-ltb, le-leb, ne_eqb, eq-eqb, not_from_false, not_from_true, cases_order, cases_lt}
 use Rattle.std.proofs.lemmas.List.{map-append, take-append-drop, drop_more, append-nil, get_or_default, take_all}
-use Rattle.std.proofs.lemmas.List.Elements.{filter-append, filter_agree, All-nil, All-cons, All-head, All-tail, All-weaker}
+use Rattle.std.proofs.lemmas.List.Elements.{filter-append, filter_agree, All-nil, All-cons, All-head, All-tail, All-weaker, recursion_from_All}
 use Rattle.std.proofs.lemmas.List.Sorted.{sorted_far, IsStrictWeakOrder-flip, IsStrictWeakOrder-by_number}
 use Rattle.std.specs.Cmp.{IsStrictWeakOrder}
+use Rattle.law_lists.proofs.Filters.{filter_all, filter_none}
 use Rattle.raid_book.specs.declared.found.FoundCopy.{FoundCopy}
 use Rattle.block_format.specs.declared.geometry.Found.{Found}
-use Rattle.raid_book.proofs.Lists.{All-front, All-rest, filter_all, filter_none}
+use Rattle.raid_book.proofs.Lists.{All-front, All-rest}
 use Rattle.raid_book.specs.Found.{Falls, IsEndOf, copy_in, copies_for, without_part, with_parts}
 
 -- ---- the copies of a part
@@ -26,7 +27,9 @@ pub copies_for-other : (part : ℕ) (x : FoundCopy) (xs : List FoundCopy) → (x
 copies_for-other part x xs other = ap (map copy_in) (cond-false (eqb x.part part) (x ∷ filter (λ c. eqb c.part part) xs) (filter (λ c. eqb c.part part) xs) (ne_eqb x.part part other))
 
 no_copies : (part : ℕ) (xs : List FoundCopy) → All (λ c. c.part ≡ part → ⊥) xs → copies_for part xs ≡ []
-no_copies part xs others = ap (map copy_in) (filter_none (λ c. eqb c.part part) xs (All-weaker (λ c. c.part ≡ part → ⊥) (λ c. eqb c.part part ≡ false) (λ c other. ne_eqb c.part part other) xs others))
+no_copies part xs others =
+    ap (map copy_in) (filter_none (λ c. eqb c.part part) xs (recursion_from_All (λ c. eqb c.part part ≡ false) xs
+    (All-weaker (λ c. c.part ≡ part → ⊥) (λ c. eqb c.part part ≡ false) (λ c other. ne_eqb c.part part other) xs others)))
 
 -- ---- rows whose parts fall
 
@@ -49,7 +52,8 @@ without_first part xs at bound first point =
     let kept = All-front (λ c. others c ≡ true) xs at bound (λ k d le lt. not_from_false _ (ne_eqb _ _ (λ same. omega (arith, same, ltb-true _ _ (point.0 k d le lt))))) in
     let gone = All-rest (λ c. others c ≡ false) xs at (λ k d le lt. not_from_true _ (eq-eqb _ _ (omega (arith, first k d lt, ltb-false _ _ (point.1 k d le lt))))) in
     sym (append-nil (take at xs))
-    ∙ (λ i. sym (filter_all others (take at xs) kept) i ++ sym (filter_none others (drop at xs) gone) i)
+    ∙ (λ i. sym (filter_all others (take at xs) (recursion_from_All (λ c. others c ≡ true) (take at xs) kept)) i
+    ++ sym (filter_none others (drop at xs) (recursion_from_All (λ c. others c ≡ false) (drop at xs) gone)) i)
     ∙ sym (filter-append others (take at xs) (drop at xs))
     ∙ ap (filter others) (take-append-drop at xs)
 

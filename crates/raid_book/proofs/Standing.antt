@@ -3,6 +3,7 @@ use Rattle.std.proofs.Common.{◌≡◌, ℕ, ◌+◌, Bool, true, false, not, e
 use Rattle.std.specs.Prelude.{filter, map, ◌==◌}
 use Rattle.std.proofs.lemmas.Bool.{cond-true, cond-false, eq-eqb, eqb-true, ne_eqb, not_from_false, cases_eq}
 use Rattle.std.proofs.lemmas.List.Elements.{filter-append}
+use Rattle.law_lists.proofs.Filters.{filter_out, filter_twice}
 use Rattle.rec_format.specs.declared.version.Digest.{Digest}
 use Rattle.rec_format.specs.declared.version.Stamp.{Stamp}
 use Rattle.model_device.specs.Book.{Setup}
@@ -17,7 +18,6 @@ use Rattle.raid_book.specs.Found.{copy_in, copies_for, without_part, least_part,
 use Rattle.raid_book.specs.Turns.{turn_of, after_mark, after_drop, turn_with}
 use Rattle.raid_book.specs.Books.{BookState, with_scan, after_turn}
 use Rattle.raid_book.specs.Raids.{TurnsStand, RaidStands, RaidStandsBut, found_copies, found_parts}
-use Rattle.raid_book.proofs.Lists.{filter_out, filter_twice}
 use Rattle.raid_book.proofs.Rows.{copies_for-own, copies_for-other}
 use Rattle.raid_book.proofs.Leasts.{least_part-same}
 

@@ -6,6 +6,8 @@ use Rattle.std.proofs.Math.Nat.{mul-le-mul_left}
 use Rattle.std.proofs.lemmas.Bool.{and_parts, false≢true, not-true, or_left, eq-eqb, ltb-true}
 use Rattle.std.proofs.lemmas.List.{length-map}
 use Rattle.std.proofs.lemmas.List.Sums.{sum_by-cons}
+use Rattle.law_lists.proofs.Each.{all_from}
+use Rattle.law_lists.proofs.Finding.{found_is}
 use Rattle.rec_format.specs.declared.version.Digest.{Digest}
 use Rattle.rec_format.specs.declared.version.Version.{Version}
 use Rattle.rec_format.specs.Places.{same_digest, device_number, with_digest, digest_before}
@@ -15,8 +17,6 @@ use Rattle.model_device.specs.Book.{Setup, Book, Live, has_buffer, use_of, may_b
 use Rattle.model_device.specs.Device.{State, Log, entry, history_of, digests_of}
 use Rattle.model_device.specs.Legal.{queue_front, is_in_block}
 use Rattle.disk_model.specs.Disk.{DiskView}
-use Rattle.law_start.proofs.Growing.{all_from}
-use Rattle.law_start.proofs.Placing.{found_is}
 use Rattle.unit_ledger.specs.declared.roll.LiveCopy.{LiveCopy}
 use Rattle.unit_ledger.specs.Rolls.{copies_in}
 use Rattle.unit_ledger.specs.Order.{into_order, by_unit}

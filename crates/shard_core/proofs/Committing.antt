@@ -2,14 +2,13 @@
 use Rattle.std.proofs.Common.{◌≡◌, ◌≢◌, inr, ℕ, Bool, true, false, cond, ◌&&◌, List, [], ◌∷◌, map, refl, sym, ◌∙◌, ap, subst}
 use Rattle.std.specs.Prelude.{Some, Contains}
 use Rattle.std.specs.List.{AllByRecursion}
+use Rattle.law_lists.proofs.Each.{all_at}
+use Rattle.law_lists.proofs.Finding.{find_there, found_is}
+use Rattle.law_lists.proofs.Members.{map_there, map_from}
 use Rattle.model_device.specs.Book.{Setup, Buffer, client, sealed, is_filling, same_stream, filling_buffer, sealed_if, seal_stream}
 use Rattle.model_device.specs.Device.{State}
 use Rattle.model_device.specs.Steps.{sealed_stream, after_step}
 use Rattle.disk_model.specs.Disk.{DiskView}
-use Rattle.law_trail.proofs.Placing.{find_there}
-use Rattle.law_start.proofs.Growing.{all_at}
-use Rattle.law_start.proofs.Members.{map_there, map_from}
-use Rattle.law_start.proofs.Placing.{found_is}
 use Rattle.write_buffer.specs.Buffers.{BufferState}
 use Rattle.block_shelf.specs.View.{ShelfView, IsShelf, is_unsealed}
 use Rattle.block_shelf.specs.Standing.{StandsFor, book_buffer}

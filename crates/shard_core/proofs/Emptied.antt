@@ -3,6 +3,9 @@ use Rattle.std.proofs.Common.{◌≡◌, ◌⊎◌, inl, inr, ℕ, ◌≤◌, Bo
 use Rattle.std.specs.Prelude.{Option, Some, None, ◌==◌, filter, sum_by, Contains, MatchBool}
 use Rattle.std.specs.List.{AllByRecursion}
 use Rattle.std.proofs.lemmas.Bool.{both_ways, eq-eqb, eqb-true, false≢true, cond-false, false_from_ne_true}
+use Rattle.law_lists.proofs.Each.{all_at, all_from}
+use Rattle.law_lists.proofs.Finding.{found_is, any_there}
+use Rattle.law_lists.proofs.Members.{cons_cases}
 use Rattle.rec_format.specs.declared.version.Digest.{Digest}
 use Rattle.rec_format.specs.Places.{same_digest}
 use Rattle.rec_format.proofs.Laws.{same_digest_refl}
@@ -11,11 +14,9 @@ use Rattle.model_device.specs.Device.{State}
 use Rattle.model_device.specs.Steps.{Step, closing_failed, moved, moved_state, after_step, after_steps}
 use Rattle.model_device.specs.Events.{Event, Cause, happened, refused, no_memory, damaged, disk_fault, move_call, after_event}
 use Rattle.model_device.specs.Legal.{Allowed, NoMemory, Only, Unless, DamageFound, DiskFails, is_in_block, live_units, no_place, move_reserve}
-use Rattle.law_start.proofs.Growing.{all_at, all_from, cons_cases}
-use Rattle.law_start.proofs.Placing.{found_is}
 use Rattle.law_trail.specs.Trail.{IsBooked, CanPlace, places_of}
 use Rattle.law_trail.proofs.Books.{live_there, live_not_free, others_live}
-use Rattle.law_trail.proofs.Places.{any_there, buffer_place}
+use Rattle.law_trail.proofs.Places.{buffer_place}
 use Rattle.law_trail.proofs.Placing.{PlacesCopy, placed_is}
 use Rattle.law_trail.proofs.Room.{place_there}
 use Rattle.block_shelf.specs.Standing.{IsListed}

@@ -9,10 +9,11 @@ use Rattle.model_device.specs.Events.{Event, Call, Answer, Cause, stamp_given, h
 use Rattle.model_device.specs.Events.{block_scanned, marks_undone, part_ended, raid_over, refused, after_event, after_events, steps_of, states_of}
 use Rattle.model_device.specs.Legal.{IsLegal, last_faults}
 use Rattle.model_device.specs.Vacating.{IfRefused}
+use Rattle.model_device.proofs.InRow.{after_joined}
 use Rattle.law_start.specs.Surviving.{Survives}
 use Rattle.block_shelf.specs.View.{ShelfView}
 use Rattle.block_shelf.specs.Standing.{IsPlaced}
-use Rattle.block_shelf.proofs.Going.{after_joined, stays}
+use Rattle.block_shelf.proofs.Going.{stays}
 use Rattle.law_steps.specs.Standing.{ShelfIsSafe}
 use Rattle.law_steps.specs.Events.{MakesEvent}
 use Rattle.shard_core.specs.View.{ShardView, setup_of}

@@ -3,6 +3,7 @@ use Rattle.std.proofs.Common.{◌≡◌, inl, inr, ℕ, ◌+◌, ◌^◌, ◌<�
 use Rattle.std.specs.Prelude.{Option, Some, None, Result, Ok, Err, MatchBool, MatchOption, filter, nat_lt, nat_le, slice_get}
 use Rattle.std.proofs.lemmas.Bool.{both_ways}
 use Rattle.std.proofs.lemmas.List.{append-nil, length-append}
+use Rattle.law_lists.proofs.Places.{place_there}
 use Rattle.disk_model.specs.Disk.{DiskView, IsDisk, IsHonest}
 use Rattle.rec_format.specs.declared.version.Digest.{Digest}
 use Rattle.rec_format.specs.declared.version.Stamp.{Stamp}
@@ -40,7 +41,6 @@ use Rattle.shard_core.specs.Stands.{Agrees, IsWhole}
 use Rattle.shard_core.specs.Calls.{Makes, cause_of_write, delete_answer}
 use Rattle.shard_core.specs.Vacating.{MakesEvents}
 use Rattle.shard_core.specs.Expiring.{AreBare, IsExpiring, IsOfRemoval, entries_in, expired_left}
-use Rattle.shard_core.proofs.Places.{get_some}
 use Rattle.shard_core.proofs.Tallies.{few_expired}
 use Rattle.shard_core.proofs.Making.{setup_same}
 use Rattle.shard_core.proofs.Events.{RunsBy, if_refused, after_all, runs_none, runs_one, runs_then, makes_events, runs_made}
@@ -202,7 +202,7 @@ pub record IsSprigOf {D : Type 0} (shard : ShardView D) (part : ℕ) (s : State)
 
 sprig_there : {D : Type 0} (shard : ShardView D) (part : ℕ) (s : State) → part < part_total (setup_of shard) → Agrees shard s → IsSprigOf shard part s
 sprig_there shard part s below agrees =
-    let one = get_some shard.sprigs part (subst (λ (n : ℕ). part < n) (sym agrees.sprigs.count) below) in
+    let one = place_there shard.sprigs part (subst (λ (n : ℕ). part < n) (sym agrees.sprigs.count) below) in
     record { sprig = one.0; at = one.1; fits = agrees.sprigs.each part one.0 one.1 }
 
 module _ {D : Type 0} (shard : ShardView D) (part now : ℕ) (s : State) (below : part < part_total (setup_of shard)) (agrees : Agrees shard s) where

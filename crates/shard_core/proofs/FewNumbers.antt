@@ -3,10 +3,10 @@ use Rattle.std.proofs.Common.{◌≡◌, ℕ, ◌<◌, ◌≤◌, ◌^◌, List,
 use Rattle.std.proofs.lemmas.Bool.{eqb-true}
 use Rattle.std.proofs.lemmas.List.{length-map}
 use Rattle.std.proofs.lemmas.Map.Steps.{length-le_from_distinct_below}
+use Rattle.law_lists.proofs.Finding.{some_at}
 use Rattle.model_device.specs.Book.{held_blocks}
 use Rattle.model_device.specs.Device.{State}
 use Rattle.disk_model.specs.Disk.{DiskView}
-use Rattle.law_trail.proofs.Places.{some_at}
 use Rattle.hold_book.specs.Holds.{Holds, HoldsBelow, CountsHeld}
 use Rattle.block_shelf.specs.View.{IsShelf}
 use Rattle.block_shelf.specs.Standing.{book_buffer}

@@ -1,18 +1,20 @@
 -- A flush of the sealed buffers up to a number, one after another: what each step adds, and how it ends.
 use Rattle.std.proofs.Common.{inl, inr, ◌≡◌, ◌≢◌, ℕ, ◌+◌, ◌<◌, ◌≤◌, ◌^◌, true, false, List, [], ◌∷◌, ◌++◌, map, length, refl, sym, ◌∙◌, ap, subst, arith, append_assoc}
-use Rattle.std.specs.Prelude.{◌⊎◌, Option, Some, None, Result, Ok, Err, IfOk, OnErr, MatchOption}
+use Rattle.std.specs.Prelude.{◌⊎◌, Option, Some, None, Result, Ok, Err, IfOk, MatchOption}
 use Rattle.std.specs.List.{AllByRecursion}
 use Rattle.std.proofs.lemmas.Bool.{false≢true}
 use Rattle.std.proofs.lemmas.List.{append-nil, length-append}
 use Rattle.std.specs.Result.{IsErr}
+use Rattle.law_lists.proofs.Between.{all_without, all_instead}
+use Rattle.law_lists.proofs.Each.{all_map}
 use Rattle.model_faults.specs.Counts.{Rose}
 use Rattle.model_device.specs.Book.{Setup, Buffer}
 use Rattle.model_device.specs.Device.{State}
 use Rattle.model_device.specs.Steps.{Step, after_steps}
 use Rattle.model_device.specs.Legal.{first_sealed, flush_all, flush_between, flush_first, flush_count, StopsIn}
+use Rattle.model_device.proofs.InRow.{after_joined}
 use Rattle.disk_model.specs.Disk.{DiskView, IsHonest}
 use Rattle.law_start.specs.Sound.{IsShapeOf}
-use Rattle.law_start.proofs.Each.{all_map}
 use Rattle.block_format.specs.declared.geometry.Gate.TheVariants.{Unsure}
 use Rattle.write_buffer.specs.declared.phase.Phase.TheVariants.{GateBegun}
 use Rattle.write_buffer.specs.Buffers.{BufferState, with_phase}
@@ -21,9 +23,8 @@ use Rattle.block_shelf.specs.View.{ShelfView, IsShelf, IsBufferOf, IsSetupOf, Sa
 use Rattle.block_shelf.specs.Standing.{StandsFor, book_buffer}
 use Rattle.block_shelf.specs.Flushes.{FirstSealed, FirstLeaves, FirstStays, FlushMakes, with_disk, with_opening}
 use Rattle.block_shelf.specs.Calls.{Goes}
-use Rattle.block_shelf.proofs.Between.{all_without, all_instead}
 use Rattle.block_shelf.proofs.Blocks.{at_most}
-use Rattle.block_shelf.proofs.Going.{after_joined, goes_then}
+use Rattle.block_shelf.proofs.Going.{goes_then}
 use Rattle.shard_core.specs.Calls.{FlushesAll}
 use Rattle.shard_core.specs.Writing.{EndsRight}
 use Rattle.shard_core.proofs.FlushSteps.{up_to, flushes, all_up_to, none_up_to, first_then, last_then, last_left, comes_to, still_most, still_ends}
@@ -228,14 +229,6 @@ Fewer result old new = IfOk result (λ number. MatchOption number (new ≡ old) 
 pub where_err : {E : Type 0} (result : Result ℕ E) (whole steps : List Step) → IsErr result → StopsIn whole steps → FlushesAll result whole steps
 where_err (Ok n) whole steps is stops = absurd (false≢true is)
 where_err (Err e) whole steps is stops = stops
-
-pub where_ok : {T E : Type 0} (result : Result T E) (P : T → Type 0) → IsErr result → IfOk result P
-where_ok (Ok x) P is = absurd (false≢true is)
-where_ok (Err e) P is = tt
-
-pub on_err : {T E : Type 0} (result : Result T E) (P : Type 0) → P → OnErr result P
-on_err (Ok x) P p = tt
-on_err (Err e) P p = p
 
 pub rose_since : (a b c : ℕ) → a ≤ b → Rose b c → Rose a c
 rose_since a b c le rose room = omega (arith, le, rose room)

@@ -5,20 +5,18 @@ use Rattle.std.specs.List.{AllByRecursion}
 use Rattle.std.proofs.lemmas.Bool.{false≢true, cond-true, cond-false, and_from, and_right, le-leb, lt-leb}
 use Rattle.std.proofs.lemmas.List.Elements.{Contains-append_cases}
 use Rattle.std.proofs.lemmas.List.Sums.{sum_by-append}
+use Rattle.law_lists.proofs.Between.{all_own, all_without, other_there}
+use Rattle.law_lists.proofs.Each.{all_map, all_at, all_joined, all_parted}
 use Rattle.model_device.specs.Book.{Buffer, Phase, Stream, filling, sealed, opening, is_filling}
 use Rattle.model_device.specs.Device.{State}
 use Rattle.model_device.specs.Steps.{Step, flushed_buffer}
 use Rattle.model_device.specs.Legal.{flush_of, first_sealed, flush_first, is_flush, flush_count, StopsIn}
-use Rattle.law_start.proofs.Each.{all_map}
-use Rattle.law_start.proofs.Growing.{all_at}
-use Rattle.law_start.proofs.Opening.{all_joined, all_parted}
 use Rattle.write_buffer.specs.declared.phase.Phase as write_phase
 use Rattle.write_buffer.specs.declared.phase.Phase.TheVariants.{Filling, Sealed, BodyDone, GateBegun}
 use Rattle.write_buffer.specs.Buffers.{BufferState}
 use Rattle.block_shelf.specs.View.{StandInOrder, is_unsealed}
 use Rattle.block_shelf.specs.Standing.{book_buffer, book_phase}
 use Rattle.block_shelf.specs.Flushes.{FirstSealed}
-use Rattle.block_shelf.proofs.Between.{all_own, all_without, other_there}
 use Rattle.block_shelf.proofs.Filling.{phase_fills}
 use Rattle.shard_core.specs.Writing.{EndsRight}
 

@@ -1,9 +1,14 @@
 -- The latest copies that a start found are those of the entries of the sprigs, and the live ones of a shelf.
-use Rattle.std.proofs.Common.{◌≡◌, inl, inr, ⊎_elim, ℕ, ◌+◌, ◌<◌, ◌≤◌, Bool, true, false, not, cond, List, [], ◌∷◌, length, take, refl, sym, ◌∙◌, ap, subst, arith}
+use Rattle.std.proofs.Common.{◌≡◌, inl, inr, ℕ, ◌+◌, ◌<◌, ◌≤◌, Bool, true, false, not, cond, List, [], ◌∷◌, length, take, refl, sym, ◌∙◌, ap, subst, arith}
 use Rattle.std.proofs.lemmas.Bool.{both_ways, eq-eqb, eqb-true, cond-true}
 use Rattle.std.proofs.lemmas.Option.{slice_get_within, slice_get_cases}
 use Rattle.std.specs.Prelude.{Option, Some, None, Contains, option_map, slice_get, get_or, ◌==◌, ◌⊎◌}
-use Rattle.std.specs.List.{AllByRecursion, list_any, filter_map, cons_option, range_with_len}
+use Rattle.std.specs.List.{AllByRecursion, list_any, range_with_len}
+use Rattle.std.proofs.lemmas.List.Elements.{filter_agree}
+use Rattle.std.specs.Cmp.{both_ways as same_tests}
+use Rattle.law_lists.proofs.Each.{all_map, all_at, all_from}
+use Rattle.law_lists.proofs.Finding.{any_there, some_at, find_there}
+use Rattle.law_lists.proofs.Members.{first_there, rest_there, map_there, map_from, filter_from, filter_map_from}
 use Rattle.rec_format.specs.declared.version.Digest.{Digest}
 use Rattle.rec_format.specs.declared.entry.Entry.{Entry}
 use Rattle.rec_format.specs.Places.{same_digest, device_number}
@@ -20,11 +25,7 @@ use Rattle.block_format.specs.Layout.{Body}
 use Rattle.block_format.specs.Copies.{Copy, copies_of, cold_copy, entry_for}
 use Rattle.law_start.specs.Start.{start_state, cold_copies, names_of_copies, greatest_number}
 use Rattle.law_start.specs.Sound.{IsSound, NoStrays}
-use Rattle.law_start.proofs.Each.{all_map}
-use Rattle.law_start.proofs.Growing.{all_at, all_from, cons_cases}
-use Rattle.law_start.proofs.Members.{first_there, rest_there, map_there, map_from, filter_from}
 use Rattle.law_start.proofs.StartLive.{found_first, found_among}
-use Rattle.law_trail.proofs.Places.{any_there, some_at}
 use Rattle.sprig_tree.specs.State.{SprigState}
 use Rattle.sprig_tree.proofs.Laws.{entry_of-digest}
 use Rattle.law_sprig.specs.Parts.{FitsParts}
@@ -36,7 +37,6 @@ use Rattle.law_sprig.proofs.Starting.{chosen_there, start_parts, entries_parts}
 use Rattle.block_shelf.specs.declared.place.Place.{Place}
 use Rattle.block_shelf.specs.View.{AreApart}
 use Rattle.block_shelf.specs.Starting.{LiesIn, AreTwo, AreEachTwo, CanBeLive, AreLive, blocks_without, place_of_copy}
-use Rattle.block_shelf.proofs.StartShelf.{filter_alike}
 use Rattle.shard_core.specs.declared.settings.Settings.{Settings}
 use Rattle.shard_core.specs.declared.index.Finding.{Finding}
 use Rattle.shard_core.specs.Sprigs.{entry_in, held, all_entries}
@@ -48,20 +48,12 @@ use Rattle.cold_scan.specs.Found.{found_state}
 use Rattle.cold_scan.specs.Found.{LiesBehind}
 use Rattle.shard_core.specs.Finding.{IsFinding, live_places, latest_copies}
 use Rattle.shard_core.proofs.FoundOnce.{found_once}
-use Rattle.shard_core.proofs.FoundEntries.{HaveOwnDigests, each_sprig, each_among, find_there, held_there, own_digests}
+use Rattle.shard_core.proofs.FoundEntries.{HaveOwnDigests, each_sprig, each_among, held_there, own_digests}
 use Rattle.shard_core.proofs.Showing.{sound_own}
 use Rattle.shard_core.proofs.Opened.{opened_apart}
 use Rattle.shard_core.proofs.CopyPlaces.{AreOneOrApart, copies_apart}
 
 -- ---- the latest of some copies
-
-filter_map_from : {X Y : Type 0} (f : X → Option Y) (xs : List X) (y : Y) → Contains (filter_map f xs) y → (x : X) × (f x ≡ Some y)
-filter_map_from f [] y there = absurd (omega (arith, there.1))
-filter_map_from {X} {Y} f (x ∷ xs) y there = by (f x) refl there (filter_map_from f xs y)
-  where
-    by : (o : Option Y) → f x ≡ o → Contains (cons_option o (filter_map f xs)) y → (Contains (filter_map f xs) y → (z : X) × (f z ≡ Some y)) → (z : X) × (f z ≡ Some y)
-    by None is kept rest = rest kept
-    by (Some z) is kept rest = ⊎_elim (λ (same : z ≡ y). (x, is ∙ ap Some same)) rest (cons_cases z (filter_map f xs) y kept)
 
 module _ (copies : List Copy) where
   cold_named : (c : Copy) → Contains (cold_copies copies) c → cold_copy c.digest copies ≡ Some c
@@ -100,11 +92,6 @@ two_places (e ∷ es) own apart = (all_from (AreTwo (placed e)) (live_places es)
 
 units_enough : (n : ℕ) → 1 ≤ units_for n
 units_enough n = omega arith
-
-same_tests : (p q : Bool) → (p ≡ true → q ≡ true) → (q ≡ true → p ≡ true) → p ≡ q
-same_tests true q f g = sym (f refl)
-same_tests false true f g = g refl
-same_tests false false f g = refl
 
 module _ (g : Geometry) (set : Settings) (gates : List Gate) (bodies : List Body) (finding : Finding) (found : IsFinding g set gates g.blocks bodies finding) where
   abbrev setup : Setup
@@ -220,7 +207,7 @@ module _ (g : Geometry) (set : Settings) (gates : List Gate) (bodies : List Body
 
     -- the blocks in which none of them lies
     pub free_are : blocks_without (live_places index) g.blocks ≡ blocks_behind g.blocks latest
-    free_are = filter_alike (λ b. not (list_any (in_block b) (live_places index))) (λ b. not (list_any (copy_in b) latest))
+    free_are = filter_agree (λ b. not (list_any (in_block b) (live_places index))) (λ b. not (list_any (copy_in b) latest))
         (λ b. ap not (same_tests (list_any (in_block b) (live_places index)) (list_any (copy_in b) latest) (to b) (back b))) (range_with_len 0 g.blocks)
       where
         in_block : ℕ → Digest × Place → Bool

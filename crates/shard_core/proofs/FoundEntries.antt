@@ -1,17 +1,16 @@
 -- The entries of sprigs, all together: no two are of one digest, where each sprig is that of its part.
-use Rattle.std.proofs.Common.{◌≡◌, ℕ, suc, ◌+◌, ◌≤◌, Bool, true, false, List, [], ◌∷◌, ◌++◌, Option, Some, None, Greater, refl, ap, subst, arith, cond}
-use Rattle.std.specs.Prelude.{Contains, slice_get, find}
+use Rattle.std.proofs.Common.{◌≡◌, ℕ, suc, ◌+◌, ◌≤◌, Bool, true, false, List, [], ◌∷◌, ◌++◌, Option, Some, None, Greater, refl, ap, subst, arith}
+use Rattle.std.specs.Prelude.{Contains, slice_get}
 use Rattle.std.specs.List.{AllByRecursion}
+use Rattle.law_lists.proofs.Each.{all_map, all_at, all_from, all_joined}
+use Rattle.law_lists.proofs.Finding.{find_there}
+use Rattle.law_lists.proofs.Members.{first_there, rest_there, flat_map_there}
 use Rattle.rec_format.specs.declared.version.Digest.{Digest}
 use Rattle.rec_format.specs.declared.entry.Entry.{Entry}
 use Rattle.rec_format.specs.Places.{digest_cmp, same_digest}
 use Rattle.rec_format.proofs.Laws.{same_digest_is}
 use Rattle.model_device.specs.Book.{Setup}
 use Rattle.model_device.specs.Device.{part_of}
-use Rattle.law_start.proofs.Each.{all_map}
-use Rattle.law_start.proofs.Growing.{all_at, all_from}
-use Rattle.law_start.proofs.Members.{first_there, rest_there, flat_map_there}
-use Rattle.law_start.proofs.Opening.{all_joined}
 use Rattle.sprig_tree.specs.Entries.{IsInDigestOrder}
 use Rattle.sprig_tree.specs.State.{SprigState}
 use Rattle.sprig_tree.proofs.Digests.{other_above}
@@ -31,14 +30,6 @@ pub each_among : (P : Entry → Type 0) (sprigs : List SprigState) → ((k : ℕ
     → AllByRecursion P (all_entries sprigs)
 each_among P [] each = tt
 each_among P (x ∷ sprigs) each = all_joined P x.entries (all_entries sprigs) (each 0 x refl) (each_among P sprigs (λ k sprig at. each (suc k) sprig at))
-
-pub find_there : {X : Type 0} (p : X → Bool) (xs : List X) (x : X) → find p xs ≡ Some x → Contains xs x
-find_there p [] x is = absurd (cc)
-find_there p (y ∷ xs) x is = by (p y) is (find_there p xs x)
-  where
-    by : (b : Bool) → cond b (Some y) (find p xs) ≡ Some x → (find p xs ≡ Some x → Contains xs x) → Contains (y ∷ xs) x
-    by true at rest = let same : y ≡ x = cc in subst (Contains (y ∷ xs)) same (first_there y xs)
-    by false at rest = rest_there y xs x (rest at)
 
 -- an entry that is held is one of them
 pub held_there : (setup : Setup) (d : Digest) (sprigs : List SprigState) (e : Entry) → held setup d sprigs ≡ Some e → Contains (all_entries sprigs) e

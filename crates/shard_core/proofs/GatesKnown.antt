@@ -3,6 +3,7 @@ use Rattle.std.proofs.Common.{◌≡◌, ◌≢◌, inl, inr, ℕ, List, length,
 use Rattle.std.specs.List.{AllByRecursion, range_with_len}
 use Rattle.std.proofs.lemmas.Option.{slice_get-get_or}
 use Rattle.std.proofs.lemmas.List.Elements.{Contains-get_or}
+use Rattle.law_lists.proofs.Each.{all_at}
 use Rattle.disk_model.specs.Disk.{Images, IsOnly}
 use Rattle.block_format.specs.declared.geometry.Geometry.{Geometry}
 use Rattle.block_format.specs.declared.geometry.Gate.{Gate}
@@ -13,8 +14,6 @@ use Rattle.block_format.specs.Refusals.{IsBlock}
 use Rattle.block_flusher.specs.Images.{IsBodyOf}
 use Rattle.law_images.specs.Gates.{GateStands}
 use Rattle.law_images.specs.Held.{AreSure}
-use Rattle.law_start.proofs.Each.{all_map}
-use Rattle.law_start.proofs.Growing.{all_at}
 use Rattle.block_shelf.specs.View.{GatesStand, gate_at}
 use Rattle.block_shelf.specs.View as shelf
 use Rattle.cold_scan.specs.Found.{IsSure, TellsSector, AreGates}

@@ -8,6 +8,8 @@ use Rattle.std.specs.BTreeMap.{BTreeMap, is_at}
 use Rattle.std.proofs.lemmas.Bool.{both_ways, eqb-true}
 use Rattle.std.proofs.lemmas.Map.Entries.{btree_map_get_place, place_from_lookup}
 use Rattle.std.proofs.lemmas.Map.Keys.{IsDistinct-from_sorted, IsDistinct-head, IsDistinct-tail}
+use Rattle.law_lists.proofs.Each.{all_map, all_at, all_from, all_from_places}
+use Rattle.law_lists.proofs.Members.{first_there, rest_there, filter_there, filter_from}
 use Rattle.rec_format.specs.declared.version.Digest.{Digest}
 use Rattle.rec_format.specs.declared.entry.Entry.{Entry}
 use Rattle.rec_format.specs.Places.{same_digest, device_number, digest_cmp}
@@ -18,10 +20,7 @@ use Rattle.model_device.specs.Device.{part_of}
 use Rattle.block_format.specs.declared.geometry.Geometry.{Geometry}
 use Rattle.block_format.specs.Copies.{Copy, copies_named, latest, cold_copy, entry_for}
 use Rattle.law_start.specs.Cold.{copies_high}
-use Rattle.law_start.proofs.Each.{all_map}
-use Rattle.law_start.proofs.Growing.{all_at, all_from}
 use Rattle.law_start.proofs.Held.{IsNewest, latest_is}
-use Rattle.law_start.proofs.Members.{first_there, rest_there, filter_there, filter_from}
 use Rattle.sprig_tree.proofs.Digests.{digest_order}
 use Rattle.sprig_tree.specs.State.{SprigState}
 use Rattle.law_sprig.specs.Starting.{HasLatest}
@@ -123,10 +122,6 @@ kept_some : (o : Option Copy) (k : Kept) → option_map kept_of o ≡ Some k →
 kept_some None k is = absurd cc
 kept_some (Some c) k is = (c, refl, cc)
 
-at_each : {X : Type 0} (P : X → Type 0) (xs : List X) → ((i : ℕ) (x : X) → slice_get xs i ≡ Some x → P x) → AllByRecursion P xs
-at_each P [] each = tt
-at_each P (x ∷ xs) each = (each 0 x refl, at_each P xs (λ i y at. each (suc i) y at))
-
 -- each key is that of its copy
 pub key_is : (own : List Copy) (e : Digest × Kept) → (one : IsOne own e) → e.0 ≡ one.0.digest
 key_is own e one = same_digest_is e.0 one.0.digest (chosen_there e.0 own one.0 one.1).1
@@ -150,7 +145,7 @@ module _ (g : Geometry) (copies : List Copy) (m : BTreeMap Digest Kept) (has : H
   of_device = own_copies g.device g.devices copies
 
   pub each_one : AllByRecursion (IsOne of_device) m.entries
-  each_one = at_each (IsOne of_device) m.entries (λ i e at. kept_some (cold_copy e.0 of_device) e.1 (sym (has.each e.0) ∙ btree_map_get_place digest_order m i e.0 e.1 has.ordered at))
+  each_one = all_from_places (IsOne of_device) m.entries (λ i e at. kept_some (cold_copy e.0 of_device) e.1 (sym (has.each e.0) ∙ btree_map_get_place digest_order m i e.0 e.1 has.ordered at))
 
   pub are_chosen : (all : AllByRecursion (IsOne of_device) m.entries) → AreChosen of_device (chosen_of of_device m.entries all)
   are_chosen all = record {

@@ -5,12 +5,12 @@ use Rattle.std.specs.List.{AllByRecursion}
 use Rattle.std.proofs.lemmas.List.{append-nil, length-set}
 use Rattle.std.proofs.lemmas.Option.{slice_get_within, get_or_from_slice_get}
 use Rattle.std.proofs.lemmas.List.Elements.{Contains-get_or, filter-append}
+use Rattle.law_lists.proofs.Each.{all_at}
 use Rattle.rec_format.specs.Places.{device_number}
 use Rattle.model_device.specs.Book.{Setup}
 use Rattle.model_device.specs.Device.{part_of}
 use Rattle.model_device.specs.Steps.{part_total}
 use Rattle.block_format.specs.Copies.{Copy, entry_for}
-use Rattle.law_start.proofs.Growing.{all_at}
 use Rattle.sprig_tree.specs.State.{SprigState}
 use Rattle.law_sprig.specs.Starting.{HasLatest, TakesLater, AllHaveLatest}
 use Rattle.law_sprig.proofs.Starting.{none_yet}

@@ -2,6 +2,8 @@
 use Rattle.std.proofs.Common.{◌≡◌, ℕ, ◌<◌, ◌≤◌, Bool, true, false, List, ◌++◌, length, set, get_or, refl, sym, ◌∙◌, ap, subst, inl, inr}
 use Rattle.std.specs.Prelude.{Some, None, Result, Ok, Err, OnErr, slice_get}
 use Rattle.std.specs.List.{AllByRecursion}
+use Rattle.std.proofs.lemmas.Option.{slice_get_read}
+use Rattle.law_lists.proofs.Each.{all_get, all_set}
 use Rattle.model_faults.specs.Counts.{Rose}
 use Rattle.model_device.specs.Book.{Setup}
 use Rattle.model_device.specs.Device.{State, part_of}
@@ -11,7 +13,7 @@ use Rattle.model_device.specs.Passes.{part_named}
 use Rattle.sprig_tree.specs.State.{SprigState}
 use Rattle.law_sprig.specs.Parts.{FitsParts, NamesOwn}
 use Rattle.law_sprig.proofs.Device.{parts_fit_on, parts_become}
-use Rattle.shard_core.proofs.Each.{all_get, all_set, get_there, set_same}
+use Rattle.shard_core.proofs.Each.{set_same}
 use Rattle.model_device.specs.Legal.{Allowed, FlushEnds, flush_all}
 use Rattle.disk_model.specs.Disk.{DiskView}
 use Rattle.block_shelf.specs.View.{IsSetupOf, ShelfView}
@@ -72,7 +74,7 @@ whole_made view call answer old new whole shape limits s made = record {
 module _ {D : Type 0} (view : D → DiskView) (part : ℕ) (old new : ShardView D) (k : ℕ) (before after : SprigState) (shape : SameSetup old new) (place : k ≡ part) (there : k < length old.sprigs)
     (at : before ≡ get_or old.sprigs k before) (becomes : new.sprigs ≡ set old.sprigs k after) where
   pub part_at : slice_get old.sprigs part ≡ Some before
-  part_at = subst (λ (n : ℕ). slice_get old.sprigs n ≡ Some before) place (get_there old.sprigs k before there at)
+  part_at = subst (λ (n : ℕ). slice_get old.sprigs n ≡ Some before) place (slice_get_read old.sprigs (length old.sprigs) k before refl there at)
 
   -- where the shard stands for a state, so do the sprig and the shelf
   pub part_stands : (s : State) → Agrees old s → StandTogether (setup_of old) part before old.shelf s
@@ -120,7 +122,7 @@ module _ {D : Type 0} (view : D → DiskView) (digest : Digest) (old new : Shard
   step_stands s agrees = part_stands view part old new k before after shape place there at becomes s agrees
 
   pub sprigs_same : SameSprig before after → AreSame old.sprigs new.sprigs
-  sprigs_same same = subst (AreSame old.sprigs) (sym becomes) (set_same old.sprigs k before after (get_there old.sprigs k before there at) same)
+  sprigs_same same = subst (AreSame old.sprigs) (sym becomes) (set_same old.sprigs k before after (slice_get_read old.sprigs (length old.sprigs) k before refl there at) same)
 
   pub lifted : (call : Call) (answer : Answer) → NamesOwn (setup_of old) call → part_named (setup_of old) call ≡ Some part → (s : State) → Agrees old s
       → StepMakes view (setup_of old) part call answer old.shelf s after new.shelf → Makes view call answer old s new

@@ -1,6 +1,6 @@
 -- The copies of a device's entries stand at places of their own, and a device has at most 2^32 places.
-use Rattle.std.proofs.Common.{Less, ◌≡◌, ◌≢◌, ℕ, zero, suc, ◌+◌, ◌*◌, ◌^◌, ◌<◌, ◌≤◌, Bool, true, false, cond, List, [], ◌∷◌, length, refl, sym, ◌∙◌, ap, subst, arith}
-use Rattle.std.specs.Prelude.{Option, Some, None, Contains, filter, map, find, count_by, slice_get}
+use Rattle.std.proofs.Common.{Less, ◌≡◌, ◌≢◌, ℕ, ◌+◌, ◌*◌, ◌^◌, ◌<◌, ◌≤◌, Bool, true, List, [], ◌∷◌, length, refl, sym, ◌∙◌, ap, subst, arith}
+use Rattle.std.specs.Prelude.{Option, Some, None, Contains, filter, map, count_by, slice_get}
 use Rattle.std.specs.List.{AllByRecursion}
 use Rattle.std.specs.List.Sorted.{IsStrictlySortedBy}
 use Rattle.std.specs.Ordering.{is_eq}
@@ -8,6 +8,9 @@ use Rattle.std.proofs.lemmas.Bool.{false≢true}
 use Rattle.std.proofs.lemmas.List.{length-map}
 use Rattle.std.proofs.lemmas.List.Kept.{IsStrictlySortedBy-filter}
 use Rattle.std.proofs.lemmas.List.Sums.{length-filter}
+use Rattle.law_lists.proofs.Each.{all_kept}
+use Rattle.law_lists.proofs.Finding.{find_there, found_passes}
+use Rattle.law_lists.proofs.Places.{place_there}
 use Rattle.rec_format.specs.declared.version.Digest.{Digest}
 use Rattle.rec_format.specs.declared.version.Version.{Version}
 use Rattle.rec_format.specs.declared.entry.Entry.{Entry}
@@ -16,7 +19,6 @@ use Rattle.rec_format.proofs.Laws.{same_digest_is, same_digest_refl}
 use Rattle.model_device.specs.Book.{Live, live_of, live_of_entry}
 use Rattle.model_device.specs.Device.{State, entry, part_of, digests_of}
 use Rattle.disk_model.specs.Disk.{DiskView}
-use Rattle.law_trail.proofs.Placing.{find_there}
 use Rattle.unit_ledger.specs.declared.roll.LiveCopy.{LiveCopy}
 use Rattle.unit_ledger.specs.Rolls.{copies_in}
 use Rattle.sprig_tree.specs.State.{SprigState}
@@ -34,33 +36,9 @@ use Rattle.shard_core.specs.View.{ShardView, setup_of}
 
 -- ---- lists
 
--- what is found passes
-found_passes : {X : Type 0} (test : X → Bool) (xs : List X) (x : X) → find test xs ≡ Some x → test x ≡ true
-found_passes test [] x found = absurd (cc)
-found_passes {X} test (y ∷ xs) x found = by (test y) refl found (found_passes test xs x)
-  where
-    by : (b : Bool) → test y ≡ b → cond b (Some y) (find test xs) ≡ Some x → (find test xs ≡ Some x → test x ≡ true) → test x ≡ true
-    by true is found rest = let same : y ≡ x = cc in subst (λ (z : X). test z ≡ true) same is
-    by false is found rest = rest found
-
--- of what passes a test more holds
-each_kept : {X : Type 0} (P Q : X → Type 0) (test : X → Bool) (xs : List X) → ((x : X) → P x → test x ≡ true → Q x) → AllByRecursion P xs → AllByRecursion Q (filter test xs)
-each_kept P Q test [] more all = tt
-each_kept P Q test (x ∷ xs) more all = by (test x) refl (each_kept P Q test xs more all.1)
-  where
-    by : (b : Bool) → test x ≡ b → AllByRecursion Q (filter test xs) → AllByRecursion Q (cond b (x ∷ filter test xs) (filter test xs))
-    by true is rest = (more x all.0 is, rest)
-    by false is rest = rest
-
 -- a digest doesn't come before itself
 never_below : (d : Digest) → digest_cmp d d ≡ Less → ⊥
 never_below d less = false≢true (sym (ap is_eq less) ∙ same_digest_refl d)
-
--- a place within a list has an item
-pub get_some : {X : Type 0} (xs : List X) (i : ℕ) → i < length xs → (x : X) × (slice_get xs i ≡ Some x)
-get_some [] i lt = absurd (omega (arith, lt))
-get_some (x ∷ xs) zero lt = (x, refl)
-get_some (x ∷ xs) (suc i) lt = get_some xs i (omega (arith, lt))
 
 -- ---- one place for each copy
 
@@ -99,7 +77,7 @@ module _ {D : Type 0} (view : D → DiskView) (shard : ShardView D) (s : State) 
 
   -- a digest that has an entry has a copy
   copied : (d : Digest) → device_number shard.shelf.geometry.devices d ≡ shard.shelf.geometry.device → (v : Version) → entry s d ≡ Some v → IsCopied d
-  copied d own v top = at (get_some shard.sprigs (part_of (setup_of shard) d) exists)
+  copied d own v top = at (place_there shard.sprigs (part_of (setup_of shard) d) exists)
     where
       exists : part_of (setup_of shard) d < length shard.sprigs
       exists = subst (λ (n : ℕ). part_of (setup_of shard) d < n) (sym agrees.sprigs.count)
@@ -150,6 +128,6 @@ module _ {D : Type 0} (view : D → DiskView) (shard : ShardView D) (s : State) 
   few_entries test some =
       let ds : List Digest = filter test (digests_of s.log) in
       let order = IsStrictlySortedBy-filter digest_cmp test (digests_of s.log) (logged_order s.log) in
-      let all = each_kept (λ d. device_number shard.shelf.geometry.devices d ≡ shard.shelf.geometry.device) IsCopied test (digests_of s.log)
+      let all = all_kept (λ d. device_number shard.shelf.geometry.devices d ≡ shard.shelf.geometry.device) IsCopied test (digests_of s.log)
       (λ d own passes. let one = some d passes in copied d own one.0 one.1) agrees.sprigs.own in
       subst (λ (n : ℕ). n ≤ 2 ^ 32) (length-map ds number ∙ length-filter test (digests_of s.log)) (few (2 ^ 32) (map number ds) (apart ds order all) (small ds all))

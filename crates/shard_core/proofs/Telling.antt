@@ -1,7 +1,8 @@
 -- The damage that a vacating tells is that of a move.
-use Rattle.std.proofs.Common.{◌≡◌, ◌<◌, ℕ, Bool, List, length, set, Result, Ok, Err, sym, ◌∙◌, ap, subst}
+use Rattle.std.proofs.Common.{◌≡◌, ◌<◌, ℕ, Bool, List, length, set, Result, Ok, Err, refl, sym, ◌∙◌, ap, subst}
 use Rattle.std.specs.Prelude.{Option, Some, IfErr, MatchResult, slice_get}
 use Rattle.std.proofs.lemmas.List.{get_or-set_same, length-set}
+use Rattle.std.proofs.lemmas.Option.{slice_get_read}
 use Rattle.rec_format.specs.declared.version.Digest.{Digest}
 use Rattle.rec_format.specs.declared.entry.Entry.{Entry}
 use Rattle.model_device.specs.Book.{Setup}
@@ -19,14 +20,14 @@ use Rattle.shard_core.specs.declared.refusals.DefragCause.TheVariants as why
 use Rattle.shard_core.specs.Sprigs.{entry_in, held}
 use Rattle.shard_core.specs.View.{ShardView, setup_of}
 use Rattle.shard_core.specs.Vacating.{IsDamageIn, move_cause}
-use Rattle.shard_core.proofs.Each.{get_there}
 
 -- the entry of a digest whose sprig was changed
 pub held_set : (setup : Setup) (digest : Digest) (sprigs : List SprigState) (k : ℕ) (sprig : SprigState) → k ≡ part_of setup digest → k < length sprigs
     → held setup digest (set sprigs k sprig) ≡ entry_of digest sprig.entries
 held_set setup digest sprigs k sprig place there =
     let within : k < length (set sprigs k sprig) = subst (λ (n : ℕ). k < n) (sym (length-set sprigs k sprig)) there in
-    let here : slice_get (set sprigs k sprig) k ≡ Some sprig = get_there (set sprigs k sprig) k sprig within (sym (get_or-set_same sprigs k sprig sprig there)) in
+    let here : slice_get (set sprigs k sprig) k ≡ Some sprig =
+    slice_get_read (set sprigs k sprig) (length (set sprigs k sprig)) k sprig refl within (sym (get_or-set_same sprigs k sprig sprig there)) in
     ap (entry_in digest) (subst (λ (n : ℕ). slice_get (set sprigs k sprig) n ≡ Some sprig) place here)
 
 module _ {D : Type 0} (Told : Type 0) (view : D → DiskView) (block : ℕ) (new : ShardView D) where

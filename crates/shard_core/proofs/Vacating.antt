@@ -3,6 +3,7 @@ use Rattle.std.proofs.Common.{◌≡◌, ℕ, ◌+◌, Bool, false, List, [], �
 use Rattle.std.specs.Prelude.{Ok, Err}
 use Rattle.std.proofs.lemmas.List.{append-nil}
 use Rattle.std.proofs.lemmas.List.Sums.{sum_by-cons}
+use Rattle.law_lists.proofs.Each.{all_joined}
 use Rattle.disk_model.specs.Disk.{DiskView, IsDisk, IsHonest}
 use Rattle.rec_format.specs.declared.version.Digest.{Digest}
 use Rattle.model_device.specs.Book.{Setup, use_of}
@@ -10,7 +11,6 @@ use Rattle.model_device.specs.Device.{State}
 use Rattle.model_device.specs.Events.{Event, Call, Answer, Cause, happened, refused, move_call, after_event, after_events}
 use Rattle.model_device.specs.Legal.{Allowed}
 use Rattle.model_device.specs.Vacating.{Outcome, did, stopped, IfRefused, MovesOut, moved_by, moved_count}
-use Rattle.law_start.proofs.Opening.{all_joined}
 use Rattle.law_steps.specs.Events.{MakesEvent}
 use Rattle.shard_core.specs.declared.refusals.DefragCause.{DefragCause}
 use Rattle.shard_core.specs.View.{ShardView, SameSetup, setup_of}

@@ -2,6 +2,7 @@
 use Rattle.std.proofs.Common.{◌≡◌, inl, inr, ℕ, ◌≤◌, Bool, true, false, List, [], ◌∷◌, ◌++◌, refl, sym, ◌∙◌, ap, subst}
 use Rattle.std.specs.Prelude.{Option, Some, None, Result, Ok, Err, if◌then◌else◌}
 use Rattle.std.specs.List.{AllByRecursion}
+use Rattle.law_lists.proofs.Each.{all_parted}
 use Rattle.model_faults.specs.Counts.{Rose}
 use Rattle.rec_format.specs.declared.version.Digest.{Digest}
 use Rattle.rec_format.specs.declared.version.Version.{Version}
@@ -16,7 +17,6 @@ use Rattle.disk_model.specs.Disk.{DiskView, IsHonest}
 use Rattle.law_facts.specs.Facts.{Possible, HasFacts}
 use Rattle.law_facts.specs.Asking.{MayBeWritten}
 use Rattle.law_facts.proofs.Writable.{next_is_later}
-use Rattle.law_start.proofs.Opening.{all_parted}
 use Rattle.sprig_tree.specs.State.{SprigState}
 use Rattle.law_sprig.specs.Becoming.{TakesEntry}
 use Rattle.law_sprig.proofs.Taking.{wrote_fits, put_each}

@@ -6,6 +6,8 @@ use Rattle.std.proofs.lemmas.Bool.{eqb-true, eq-eqb, ne_eqb, not_from_false}
 use Rattle.std.proofs.lemmas.List.{append-nil}
 use Rattle.std.proofs.lemmas.List.Sums.{count_by-le-length}
 use Rattle.std.proofs.lemmas.List.Folds.{list_any-append}
+use Rattle.law_lists.proofs.Counts.{one_if}
+use Rattle.law_lists.proofs.Filters.{filter_out, filter_twice}
 use Rattle.rec_format.specs.declared.version.Digest.{Digest}
 use Rattle.rec_format.specs.declared.version.Stamp.{Stamp}
 use Rattle.rec_format.specs.declared.entry.Entry.{Entry}
@@ -20,7 +22,6 @@ use Rattle.law_sprig.specs.Becoming.{with_mark, remarked, mark_left}
 use Rattle.law_sprig.proofs.Applying.{copy_passed, copy_found, undone_more}
 use Rattle.raid_book.specs.declared.found.FoundCopy.{FoundCopy}
 use Rattle.raid_book.specs.Found.{copy_in, copies_for, without_part}
-use Rattle.raid_book.proofs.Lists.{filter_out, filter_twice}
 use Rattle.block_shelf.specs.View.{ShelfView}
 use Rattle.shard_raid.specs.Marks.{HasHighTime, HasMarksBy, is_marked_by, if_later, with_unmarked, Unmarks}
 use Rattle.shard_raid.proofs.Times.{times_remarked, high_stays}
@@ -55,9 +56,6 @@ has_mark_is number e = mark_is number e (raid_of number).next (runs_as number)
 
 no_mark : (number : ℕ) (e : Entry) → e.mark ≡ 0 → has_mark (raid_of number) e ≡ false
 no_mark number e zero = has_mark_is number e ∙ ap (λ (b : Bool). not b && (e.mark == number)) (eq-eqb e.mark 0 zero)
-
-abbrev pub one_if : Bool → ℕ
-one_if b = cond b 1 0
 
 -- ---- copies
 

@@ -8,6 +8,7 @@ use Rattle.std.proofs.lemmas.Grind.{flat_map-append}
 use Rattle.std.proofs.lemmas.List.{append-nil, take_all, drop_all, take_more, length-take}
 use Rattle.std.proofs.lemmas.List.Sums.{count_by-le-length, sum_by_more}
 use Rattle.std.proofs.lemmas.Option.{slice_get_within, get_or_from_slice_get}
+use Rattle.law_lists.proofs.Counts.{one_if}
 use Rattle.disk_model.specs.Disk.{DiskView, IsDisk, IsHonest}
 use Rattle.rec_format.specs.declared.version.Digest.{Digest}
 use Rattle.rec_format.specs.declared.entry.Entry.{Entry}
@@ -15,6 +16,7 @@ use Rattle.rec_format.specs.Places.{same_digest}
 use Rattle.model_device.specs.Book.{Setup}
 use Rattle.model_device.specs.Device.{State}
 use Rattle.model_device.specs.Steps.{Step, after_steps}
+use Rattle.model_device.proofs.InRow.{after_joined}
 use Rattle.sprig_tree.specs.Entries.{IsInDigestOrder, entry_of, entry_after, with_replaced, without_digest}
 use Rattle.sprig_tree.specs.State.{SprigState}
 use Rattle.sprig_tree.proofs.Laws.{entry_of-at}
@@ -23,13 +25,13 @@ use Rattle.law_sprig.specs.Tests.{is_put_entry, is_tombstone_entry}
 use Rattle.law_sprig.specs.Becoming.{without_cover, ended_entry, raid_ended}
 use Rattle.law_sprig.proofs.Turns.{end_found, goes_at, becomes_at, left_at, next_left_at}
 use Rattle.block_shelf.specs.View.{ShelfView}
-use Rattle.block_shelf.proofs.Going.{after_joined, goes_none, goes_then}
+use Rattle.block_shelf.proofs.Going.{goes_none, goes_then}
 use Rattle.law_steps.specs.Standing.{StandTogether}
 use Rattle.shard_raid.specs.Marks.{HasHighTime, is_marked_by}
 use Rattle.shard_raid.specs.Ends.{left_by, EndsMarked, EndsOne, end_steps, StandAtEnd, GoTogether, SameDisk}
 use Rattle.shard_raid.proofs.Times.{below_found}
 use Rattle.shard_raid.proofs.Walking.{left_from, past_all, fewer_left}
-use Rattle.shard_raid.proofs.Comparing.{raid_of, has_mark_is, one_if}
+use Rattle.shard_raid.proofs.Comparing.{raid_of, has_mark_is}
 use Rattle.shard_raid.proofs.OneEnd.{stand_on}
 
 abbrev pub is_gone : ℕ → Entry → Bool

@@ -4,6 +4,7 @@ use Rattle.std.specs.Prelude.{◌==◌, Option, Contains, option_map}
 use Rattle.std.specs.List.{AllByRecursion}
 use Rattle.std.proofs.lemmas.Bool.{ne_eqb}
 use Rattle.std.proofs.lemmas.Map.Views.{Contains-from_any}
+use Rattle.law_lists.proofs.Members.{filter_from}
 use Rattle.disk_model.specs.Disk.{DiskView, IsDisk}
 use Rattle.rec_format.specs.declared.version.Digest.{Digest}
 use Rattle.rec_format.specs.declared.entry.Entry.{Entry}
@@ -11,7 +12,6 @@ use Rattle.rec_format.proofs.Laws.{same_digest_is}
 use Rattle.model_device.specs.Book.{Setup, live_of_entry}
 use Rattle.model_device.specs.Device.{State, drop_turn, part_of}
 use Rattle.model_device.specs.Steps.{Step, rid_of, uncovered, after_steps}
-use Rattle.law_start.proofs.Members.{filter_from}
 use Rattle.law_facts.specs.Facts.{NoneOlder}
 use Rattle.law_facts.proofs.Raids.{none_older}
 use Rattle.law_trail.proofs.Books.{live_there}

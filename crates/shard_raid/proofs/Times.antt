@@ -1,6 +1,7 @@
 -- The high time of a sprig stays where an entry is put in place of one of its digest with the same time.
-use Rattle.std.proofs.Common.{◌≡◌, ℕ, ◌≤◌, max, Bool, true, false, cond, List, [], ◌∷◌, Some, subst, arith}
+use Rattle.std.proofs.Common.{◌≡◌, ℕ, ◌≤◌, max, Bool, true, false, cond, List, [], ◌∷◌, Some, subst}
 use Rattle.std.specs.List.{AllByRecursion}
+use Rattle.std.proofs.Math.Nat.{max-eq_left}
 use Rattle.rec_format.specs.declared.version.Digest.{Digest}
 use Rattle.rec_format.specs.declared.entry.Entry.{Entry}
 use Rattle.rec_format.specs.Places.{same_digest}
@@ -18,12 +19,9 @@ below_found high d (x ∷ es) e all found = by (same_digest d x.digest) found (b
     by true here rest = let same : x ≡ e = cc in subst (λ (y : Entry). y.stamp.lut ≤ high) same all.0
     by false more rest = rest more
 
-no_higher : (high time : ℕ) → time ≤ high → max high time ≡ high
-no_higher high time le = omega arith
-
 -- no time that is found is higher
 pub high_stays : (old : SprigState) (d : Digest) (e : Entry) → entry_of d old.entries ≡ Some e → HasHighTime old → max old.hw e.stamp.lut ≡ old.hw
-high_stays old d e found high = no_higher old.hw e.stamp.lut (below_found old.hw d old.entries e high found)
+high_stays old d e found high = max-eq_left (below_found old.hw d old.entries e high found)
 
 -- other marks are no other times
 pub times_remarked : (P : ℕ → Type 0) (mark_for : Entry → ℕ) (es : List Entry) → AllByRecursion (λ x. P x.stamp.lut) es → AllByRecursion (λ x. P x.stamp.lut) (remarked mark_for es)

@@ -4,13 +4,14 @@ use Rattle.std.specs.List.{slice_get, insert, remove}
 use Rattle.std.specs.List.Sorted.{IsSearchInRange, IsBinarySearchResult}
 use Rattle.std.specs.Ordering.{is_eq}
 use Rattle.std.proofs.lemmas.List.{take-append-drop, drop_more, get_or_default, set_split}
+use Rattle.law_lists.proofs.Each.{all_taken, all_dropped}
+use Rattle.law_lists.proofs.Places.{slice_get-drop}
 use Rattle.rec_format.specs.declared.version.Digest.{Digest}
 use Rattle.rec_format.specs.declared.entry.Entry.{Entry}
 use Rattle.rec_format.specs.Places.{digest_cmp}
 use Rattle.rec_format.proofs.Laws.{same_digest_is}
 use Rattle.sprig_tree.specs.Entries.{IsInDigestOrder, entry_of, entry_after, with_entry, with_replaced, without_digest}
 use Rattle.sprig_tree.specs.Search.{IsPlaceOf, IsGapFor}
-use Rattle.sprig_tree.proofs.Lists.{taken, dropped, slice_get-drop}
 use Rattle.sprig_tree.proofs.Parted
 use Rattle.sprig_tree.proofs.Parted.{AllBelow, AllAbove}
 use Rattle.sprig_tree.proofs.Order.{comparisons_rise, sides, order_between, order_without, order_replaced}
@@ -80,10 +81,10 @@ module _ (entry : Entry) (es : List Entry) (at : ℕ) (order : IsInDigestOrder e
 
 module _ (digest : Digest) (es : List Entry) (at : ℕ) (gap : IsGapFor digest es at) where
   gap_below : AllBelow digest (take at es)
-  gap_below = taken (λ e. digest_cmp e.digest digest ≡ Less) es at (λ k d lt. gap.parted.0 k d (omega arith) lt)
+  gap_below = all_taken (λ e. digest_cmp e.digest digest ≡ Less) es at (λ k d lt. gap.parted.0 k d (omega arith) lt)
 
   gap_above : AllAbove digest (drop at es)
-  gap_above = dropped (λ e. digest_cmp e.digest digest ≡ Greater) es at (λ k d le lt. gap.parted.1 k d le lt)
+  gap_above = all_dropped (λ e. digest_cmp e.digest digest ≡ Greater) es at (λ k d le lt. gap.parted.1 k d le lt)
 
   whole : take at es ++ drop at es ≡ es
   whole = take-append-drop at es

@@ -1,5 +1,4 @@
 pub mod Digests
-pub mod Lists
 pub mod Parted
 pub mod Order
 pub mod Found

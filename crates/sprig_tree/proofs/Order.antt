@@ -7,13 +7,13 @@ use Rattle.std.proofs.lemmas.Bool.{cond_both}
 use Rattle.std.proofs.lemmas.List.{length-map, get_or-map}
 use Rattle.std.proofs.lemmas.List.Sorted.{searchable_from_sorted}
 use Rattle.std.proofs.lemmas.Map.Keys.{Less-from_sorted}
+use Rattle.law_lists.proofs.Each.{all_joined, all_front, all_back}
 use Rattle.rec_format.specs.declared.version.Digest.{Digest}
 use Rattle.rec_format.specs.declared.entry.Entry.{Entry}
 use Rattle.rec_format.specs.Places.{digest_cmp, same_digest}
 use Rattle.rec_format.proofs.Laws.{same_digest_is}
 use Rattle.sprig_tree.specs.Entries.{digests_in, IsInDigestOrder, with_replaced}
 use Rattle.sprig_tree.proofs.Digests.{digest_order, greater_back, less_back}
-use Rattle.sprig_tree.proofs.Lists.{both_parts, front_part, back_part}
 use Rattle.sprig_tree.proofs.Parted.{AllBelow, AllAbove}
 
 -- a digest is below those of all later entries
@@ -45,7 +45,7 @@ order-cons e es above h = (first_below e.digest es above, h)
 pub sides : (front rest : List Entry) (e : Entry) → IsInDigestOrder (front ++ e ∷ rest) → AllBelow e.digest front × AllAbove e.digest rest
 sides [] rest e h = (tt, order_first e rest h)
 sides (x ∷ xs) rest e h =
-    let above : AllAbove x.digest (e ∷ rest) = back_part (λ y. digest_cmp y.digest x.digest ≡ Greater) xs (e ∷ rest) (order_first x (xs ++ e ∷ rest) h) in
+    let above : AllAbove x.digest (e ∷ rest) = all_back (λ y. digest_cmp y.digest x.digest ≡ Greater) xs (e ∷ rest) (order_first x (xs ++ e ∷ rest) h) in
     let inner = sides xs rest e (order_rest x (xs ++ e ∷ rest) h) in
     ((less_back e.digest x.digest above.0, inner.0), inner.1)
 
@@ -54,7 +54,7 @@ order_between entry [] rest below above h = order-cons entry rest above h
 order_between entry (x ∷ xs) rest below above h =
     let P = λ (y : Entry). digest_cmp y.digest x.digest ≡ Greater in
     let old = order_first x (xs ++ rest) h in
-    order-cons x (xs ++ entry ∷ rest) (both_parts P xs (entry ∷ rest) (front_part P xs rest old) (greater_back x.digest entry.digest below.0, back_part P xs rest old))
+    order-cons x (xs ++ entry ∷ rest) (all_joined P xs (entry ∷ rest) (all_front P xs rest old) (greater_back x.digest entry.digest below.0, all_back P xs rest old))
     (order_between entry xs rest below.1 above (order_rest x (xs ++ rest) h))
 
 pub order_without : (front rest : List Entry) (e : Entry) → IsInDigestOrder (front ++ e ∷ rest) → IsInDigestOrder (front ++ rest)
@@ -62,8 +62,8 @@ order_without [] rest e h = order_rest e rest h
 order_without (x ∷ xs) rest e h =
     let P = λ (y : Entry). digest_cmp y.digest x.digest ≡ Greater in
     let old = order_first x (xs ++ e ∷ rest) h in
-    let after : AllAbove x.digest (e ∷ rest) = back_part P xs (e ∷ rest) old in
-    order-cons x (xs ++ rest) (both_parts P xs rest (front_part P xs (e ∷ rest) old) after.1) (order_without xs rest e (order_rest x (xs ++ e ∷ rest) h))
+    let after : AllAbove x.digest (e ∷ rest) = all_back P xs (e ∷ rest) old in
+    order-cons x (xs ++ rest) (all_joined P xs rest (all_front P xs (e ∷ rest) old) after.1) (order_without xs rest e (order_rest x (xs ++ e ∷ rest) h))
 
 -- a replacement keeps each digest
 pub digests_in-with_replaced : (entry : Entry) (es : List Entry) → digests_in (with_replaced entry es) ≡ digests_in es

@@ -5,12 +5,14 @@ use Rattle.std.specs.List.{AllByRecursion, slice_get}
 use Rattle.std.proofs.lemmas.Bool.{cond-true, cond-false, not_from_false, not_from_true}
 use Rattle.std.proofs.lemmas.List.{map-append}
 use Rattle.std.proofs.lemmas.List.Elements.{filter-append}
+use Rattle.law_lists.proofs.Filters.{filter_all, map_nothing}
+use Rattle.law_lists.proofs.Finding.{find_behind, find_nothing}
+use Rattle.law_lists.proofs.Each.{all_map}
 use Rattle.rec_format.specs.declared.version.Digest.{Digest}
 use Rattle.rec_format.specs.declared.entry.Entry.{Entry}
 use Rattle.rec_format.specs.Places.{digest_cmp, same_digest, digest_before}
 use Rattle.sprig_tree.specs.Entries.{entry_of, entry_after, with_entry, with_replaced, without_digest}
 use Rattle.sprig_tree.proofs.Digests.{other_below, other_above, same_at, not_before_below, not_before_at, before_above}
-use Rattle.sprig_tree.proofs.Lists.{weaker, find_behind, find_nothing, filter_all, map_nothing}
 
 abbrev pub AllBelow : Digest → List Entry → Type 0
 AllBelow digest entries = AllByRecursion (λ e. digest_cmp e.digest digest ≡ Less) entries
@@ -20,7 +22,7 @@ AllAbove digest entries = AllByRecursion (λ e. digest_cmp e.digest digest ≡ G
 
 module _ (digest : Digest) (front rest : List Entry) (below : AllBelow digest front) where
   others_in_front : AllByRecursion (λ e. same_digest digest e.digest ≡ false) front
-  others_in_front = weaker (λ e. digest_cmp e.digest digest ≡ Less) (λ e. same_digest digest e.digest ≡ false) (λ e less. other_below e.digest digest less) front below
+  others_in_front = all_map (λ e. digest_cmp e.digest digest ≡ Less) (λ e. same_digest digest e.digest ≡ false) front (λ e less. other_below e.digest digest less) below
 
   pub entry_of_behind : entry_of digest (front ++ rest) ≡ entry_of digest rest
   entry_of_behind = find_behind (λ e. same_digest digest e.digest) front rest others_in_front
@@ -28,14 +30,14 @@ module _ (digest : Digest) (front rest : List Entry) (below : AllBelow digest fr
   pub entry_after_behind : entry_after (Some digest) (front ++ rest) ≡ entry_after (Some digest) rest
   entry_after_behind =
       find_behind (λ e. digest_before digest e.digest) front rest
-      (weaker (λ e. digest_cmp e.digest digest ≡ Less) (λ e. digest_before digest e.digest ≡ false) (λ e less. not_before_below e.digest digest less) front below)
+      (all_map (λ e. digest_cmp e.digest digest ≡ Less) (λ e. digest_before digest e.digest ≡ false) front (λ e less. not_before_below e.digest digest less) below)
 
   pub without_digest_behind : without_digest digest (front ++ rest) ≡ front ++ without_digest digest rest
   without_digest_behind =
       let keep = λ (e : Entry). not (same_digest digest e.digest) in
       filter-append keep front rest
       ∙ ap (λ l. l ++ filter keep rest)
-      (filter_all keep front (weaker (λ e. same_digest digest e.digest ≡ false) (λ e. keep e ≡ true) (λ e other. not_from_false (same_digest digest e.digest) other) front others_in_front))
+      (filter_all keep front (all_map (λ e. same_digest digest e.digest ≡ false) (λ e. keep e ≡ true) front (λ e other. not_from_false (same_digest digest e.digest) other) others_in_front))
 
 with_entry_behind : (entry : Entry) (front rest : List Entry) → AllBelow entry.digest front → with_entry entry (front ++ rest) ≡ front ++ with_entry entry rest
 with_entry_behind entry [] rest below = refl
@@ -52,14 +54,14 @@ with_entry-between entry front rest below above = with_entry_behind entry front 
 
 module _ (digest : Digest) (rest : List Entry) (above : AllAbove digest rest) where
   others_above : AllByRecursion (λ e. same_digest digest e.digest ≡ false) rest
-  others_above = weaker (λ e. digest_cmp e.digest digest ≡ Greater) (λ e. same_digest digest e.digest ≡ false) (λ e greater. other_above e.digest digest greater) rest above
+  others_above = all_map (λ e. digest_cmp e.digest digest ≡ Greater) (λ e. same_digest digest e.digest ≡ false) rest (λ e greater. other_above e.digest digest greater) above
 
   pub entry_of_above : entry_of digest rest ≡ None
   entry_of_above = find_nothing (λ e. same_digest digest e.digest) rest others_above
 
   pub without_digest_above : without_digest digest rest ≡ rest
   without_digest_above = filter_all (λ e. not (same_digest digest e.digest)) rest
-      (weaker (λ e. same_digest digest e.digest ≡ false) (λ e. not (same_digest digest e.digest) ≡ true) (λ e other. not_from_false (same_digest digest e.digest) other) rest others_above)
+      (all_map (λ e. same_digest digest e.digest ≡ false) (λ e. not (same_digest digest e.digest) ≡ true) rest (λ e other. not_from_false (same_digest digest e.digest) other) others_above)
 
 pub entry_after_above : (digest : Digest) (rest : List Entry) → AllAbove digest rest → entry_after (Some digest) rest ≡ slice_get rest 0
 entry_after_above digest [] above = refl
@@ -89,7 +91,7 @@ module _ (entry : Entry) where
   replaced_others : (es : List Entry) → AllByRecursion (λ e. same_digest entry.digest e.digest ≡ false) es → with_replaced entry es ≡ es
   replaced_others es others =
       map_nothing (λ e. cond (same_digest entry.digest e.digest) entry e) es
-      (weaker (λ e. same_digest entry.digest e.digest ≡ false) (λ e. cond (same_digest entry.digest e.digest) entry e ≡ e) unchanged es others)
+      (all_map (λ e. same_digest entry.digest e.digest ≡ false) (λ e. cond (same_digest entry.digest e.digest) entry e ≡ e) es unchanged others)
 
   pub with_replaced-between : (front rest : List Entry) (e : Entry) → AllBelow entry.digest front → digest_cmp e.digest entry.digest ≡ Equal → AllAbove entry.digest rest
       → with_replaced entry (front ++ e ∷ rest) ≡ front ++ entry ∷ rest

@@ -2,8 +2,8 @@ use Rattle.std.proofs.Common.{◌≡◌, ◌≤◌, ℕ, deque_capacity, Global,
 use Rattle.std.specs.Prelude.{◌==◌}
 use Rattle.std.specs.declared.collections.VecDeque.{VecDeque}
 use Rattle.std.proofs.lemmas.Bool.{eq-eqb, ne_eqb}
+use Rattle.law_lists.proofs.Ranges.{filter_passing, filter_failing}
 use Rattle.unit_ledger.specs.Rolls.{rolled_use}
-use Rattle.block_shelf.proofs.StartRolls.{passing, failing}
 use Rattle.block_shelf.proofs.start.unused_blocks.Goals as goal
 use Rattle.block_shelf.proofs.start.unused_blocks.Goals.{then-used-eq0+in_ok-push_back, else-used-eq0}
 
@@ -15,13 +15,13 @@ loop-block-preserved c =
     elim c.if-used-eq0.branch [
       | then-used-eq0+in_ok-push_back w ↦
           let grown = w.push_back.ensures.capacity in (
-            passing (λ b. rolled_use b c.args.ledger.now == 0) k c.loop-block.free.items c.if-used-eq0.free.items c.loop-block.invariant.0
+            filter_passing (λ b. rolled_use b c.args.ledger.now == 0) k c.loop-block.free.items c.if-used-eq0.free.items c.loop-block.invariant.0
                 (eq-eqb (rolled_use k c.args.ledger.now) 0 (sym same ∙ w.if-used-eq0.true))
                 (ap (λ (q : VecDeque ℕ Global). q.items) w.free-is ∙ w.in_ok-push_back.ensures.items),
             subst (λ (q : VecDeque ℕ Global). c.args.blocks ≤ deque_capacity q) (sym w.free-is) (omega (arith, grown, room)),
           )
       | else-used-eq0 w ↦ (
-        failing (λ b. rolled_use b c.args.ledger.now == 0) k c.if-used-eq0.free.items (ap (λ (q : VecDeque ℕ Global). q.items) w.free-is ∙ c.loop-block.invariant.0)
+        filter_failing (λ b. rolled_use b c.args.ledger.now == 0) k c.if-used-eq0.free.items (ap (λ (q : VecDeque ℕ Global). q.items) w.free-is ∙ c.loop-block.invariant.0)
             (ne_eqb (rolled_use k c.args.ledger.now) 0 (λ none. w.if-used-eq0.false (same ∙ none))),
         subst (λ (q : VecDeque ℕ Global). c.args.blocks ≤ deque_capacity q) (sym w.free-is) room,
       )

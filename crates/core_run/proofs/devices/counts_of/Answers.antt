@@ -1,12 +1,14 @@
 use Rattle.std.proofs.Common.{◌≡◌, ◌+◌, ◌*◌, ℕ, suc, take, arith, ap, sym, subst, ◌∙◌, refl}
 use Rattle.std.specs.Prelude.{Some}
+use Rattle.std.proofs.lemmas.List.{take_all}
+use Rattle.std.proofs.lemmas.Option.{slice_get-get_or}
 use Rattle.shard_core.specs.Numbers.{AreFew, counts_of}
 use Rattle.shard_core.specs.View.{ShardView}
 use Rattle.model_node.specs.Commands.{Node, node_counts}
 use Rattle.core_run.specs.Standing.{StandsOn}
 use Rattle.core_run.specs.Turns.{wrapped_sum}
-use Rattle.core_run.proofs.Making.{slot_at, each_length, there_is}
-use Rattle.core_run.proofs.Counting.{wrapped_counts, AreUnder, most_of_one, none_under, under_more, wrapped_more, unwrapped, take_all}
+use Rattle.core_run.proofs.Making.{slot_at, each_length}
+use Rattle.core_run.proofs.Counting.{wrapped_counts, AreUnder, most_of_one, none_under, under_more, wrapped_more, unwrapped}
 use Rattle.core_run.proofs.devices.counts_of.Goals as goal
 
 pub loop-shard-init : goal.loop-shard-init
@@ -16,7 +18,7 @@ pub loop-shard-preserved : goal.loop-shard-preserved
 loop-shard-preserved g c = λ node each.
     let k = c.loop-shard.shard-index in
     let here = slot_at (StandsOn g.D.Disk.view) c.args.shards.now node k c.shard-item.result each
-    (there_is c.args.shards.now k c.shard-item.result c.loop-shard-test.true ∙ ap (λ (s : ShardView g.row.D.Denot). Some s) (sym c.shard-item.is)) in
+    (slice_get-get_or c.args.shards.now k c.shard-item.result c.loop-shard-test.true ∙ ap (λ (s : ShardView g.row.D.Denot). Some s) (sym c.shard-item.is)) in
     let told : c.counts.result ≡ counts_of here.0.state = c.counts.ensures.state here.0.state here.2.agrees in
     let so_far = c.loop-shard.invariant node each in
     let next : suc k ≡ k + 1 = omega arith in

@@ -1,8 +1,9 @@
 use Rattle.std.proofs.Common.{ℕ, ◌+◌, ◌<◌, sym, subst, arith, refl, get_or, set}
 use Rattle.std.specs.Prelude.{Result, Ok, Err}
+use Rattle.law_lists.proofs.Answers.{err_alone}
 use Rattle.disk_model.specs.declared.disk.DiskFault.{DiskFault}
 use Rattle.core_run.specs.Turns.{WorkTurn, FlushesOn, FlushesEach, plus_one}
-use Rattle.core_run.proofs.Looping.{through_next, through_all, worked_all, work_fails, err_alone, one_fault}
+use Rattle.core_run.proofs.Looping.{through_next, through_all, worked_all, work_fails, one_fault}
 use Rattle.core_run.proofs.devices.flush_each.Goals as goal
 
 pub loop-shard-init : goal.loop-shard-init

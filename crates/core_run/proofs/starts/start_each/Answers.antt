@@ -1,10 +1,11 @@
 use Rattle.std.proofs.Common.{◌≡◌, ◌∷◌, ◌+◌, [], ℕ, List, length, arith, ap, sym, subst, ◌∙◌, refl}
 use Rattle.std.specs.Prelude.{reverse}
-use Rattle.std.proofs.lemmas.List.{append-nil}
+use Rattle.std.proofs.lemmas.List.{append-nil, nil_from_length}
+use Rattle.law_lists.proofs.Places.{reverse_push}
 use Rattle.shard_core.specs.View.{ShardView}
 use Rattle.core_run.specs.Views.{asked}
 use Rattle.core_run.specs.Starts.{Started, NotStarted, Starting, StopsAt}
-use Rattle.core_run.proofs.Startings.{starts_one, starts_all, stops_next, turned, no_items}
+use Rattle.core_run.proofs.Startings.{starts_one, starts_all, stops_next}
 use Rattle.core_run.proofs.starts.start_each.Goals as goal
 
 pub loop-disk-init : goal.loop-disk-init
@@ -58,7 +59,7 @@ loop-disk-preserved g c =
       read = e.read;
       sure = e.sure;
     } in
-    let left : reverse c.loop-disk.disks.items ≡ c.in-Some.disk ∷ reverse c.pop.new.self.items = ap reverse popped.items ∙ turned c.pop.new.self.items c.in-Some.disk in
+    let left : reverse c.loop-disk.disks.items ≡ c.in-Some.disk ∷ reverse c.pop.new.self.items = ap reverse popped.items ∙ reverse_push c.pop.new.self.items c.in-Some.disk in
     let here : c.len-device.result ≡ 0 + length c.loop-disk.shards.items = let is = c.len-device.ensures ∙ c.loop-disk.shards.ok.0 in omega (arith, is) in
     record {
       starting = subst (λ (s : List (ShardView g.row.D.Denot)). Starting g.D.Disk.view c.args.set 0 c.args.devices disks s (reverse c.pop.new.self.items)) (sym pushed.items)
@@ -78,11 +79,11 @@ returns-in-Err-clause-starts g c =
     let disks : List g.row.D.Denot = reverse c.args.disks.now.items in
     let refused : NotStarted g.D.Disk.view c.args.set (asked c.len-device.result c.args.devices) c.in-Err.field-0.cause c.in-Some.disk c.in-Err.field-0.disk =
     record { read = e.read; bytes = e.begins; settled = e.settled; rose = e.cause; again = e.again } in
-    let left : reverse c.loop-disk.disks.items ≡ c.in-Some.disk ∷ reverse c.pop.new.self.items = ap reverse popped.items ∙ turned c.pop.new.self.items c.in-Some.disk in
+    let left : reverse c.loop-disk.disks.items ≡ c.in-Some.disk ∷ reverse c.pop.new.self.items = ap reverse popped.items ∙ reverse_push c.pop.new.self.items c.in-Some.disk in
     let here : c.len-device.result ≡ 0 + length c.loop-disk.shards.items = let is = c.len-device.ensures ∙ c.loop-disk.shards.ok.0 in omega (arith, is) in
     let place : c.len-device.result ≡ length c.loop-disk.shards.items = c.len-device.ensures ∙ c.loop-disk.shards.ok.0 in
     subst (λ (l : List g.row.D.Denot). StopsAt g.D.Disk.view c.args.set c.len-device.result 0 c.args.devices c.in-Err.field-0.cause disks c.loop-disk.shards.items l)
-    (sym (ap reverse pushed.items ∙ turned c.pop.new.self.items c.in-Err.field-0.disk))
+    (sym (ap reverse pushed.items ∙ reverse_push c.pop.new.self.items c.in-Err.field-0.disk))
     (subst (λ (n : ℕ). StopsAt g.D.Disk.view c.args.set n 0 c.args.devices c.in-Err.field-0.cause disks c.loop-disk.shards.items (c.in-Err.field-0.disk ∷ reverse c.pop.new.self.items)) (sym place)
     (stops_next g.D.Disk.view c.args.set c.args.devices 0 disks c.loop-disk.shards.items c.in-Some.disk c.in-Err.field-0.disk (reverse c.pop.new.self.items) c.in-Err.field-0.cause
     (subst (λ (l : List g.row.D.Denot). Starting g.D.Disk.view c.args.set 0 c.args.devices disks c.loop-disk.shards.items l) left c.loop-disk.invariant.starting)
@@ -95,7 +96,7 @@ returns-in-Err-clause-room g c =
 pub returns-clause-starts : goal.returns-clause-starts
 returns-clause-starts g c =
     let popped = c.in_default.ensures {u = tt} in
-    let none : c.pop.new.self.items ≡ [] = no_items c.pop.new.self.items (sym c.pop.new.self.ok.0 ∙ popped.cases.1) in
+    let none : c.pop.new.self.items ≡ [] = nil_from_length c.pop.new.self.items (sym c.pop.new.self.ok.0 ∙ popped.cases.1) in
     let none_left : reverse c.loop-disk.disks.items ≡ [] = ap reverse (popped.items ∙ append-nil c.pop.new.self.items ∙ none) in
     (starts_all g.D.Disk.view c.args.set c.args.devices 0 (reverse c.args.disks.now.items) c.loop-disk.shards.items (reverse c.loop-disk.disks.items) c.loop-disk.invariant.starting none_left, none)
 

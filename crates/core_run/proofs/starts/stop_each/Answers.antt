@@ -1,9 +1,9 @@
 use Rattle.std.proofs.Common.{◌≡◌, ◌++◌, ◌∷◌, [], List, arith, ap, sym, ◌∙◌, refl}
 use Rattle.std.specs.Prelude.{reverse}
-use Rattle.std.proofs.lemmas.List.{append-nil, append_assoc}
+use Rattle.std.proofs.lemmas.List.{append-nil, append_assoc, nil_from_length}
 use Rattle.shard_core.specs.View.{ShardView}
 use Rattle.core_run.specs.Views.{disks_served}
-use Rattle.core_run.proofs.Startings.{served_turned, no_items}
+use Rattle.core_run.proofs.Startings.{served_turned}
 use Rattle.core_run.proofs.starts.stop_each.Goals as goal
 
 pub loop-shard-init : goal.loop-shard-init
@@ -43,12 +43,12 @@ pub returns-clause-disks : goal.returns-clause-disks
 returns-clause-disks g c =
     let popped = c.in_default.ensures {u = tt} in
     let disks : List g.row.D.Denot = c.loop-shard.disks.items in
-    let none : c.pop.new.self.items ≡ [] = no_items c.pop.new.self.items (sym c.pop.new.self.ok.0 ∙ popped.cases.1) in
+    let none : c.pop.new.self.items ≡ [] = nil_from_length c.pop.new.self.items (sym c.pop.new.self.ok.0 ∙ popped.cases.1) in
     let all_none : c.loop-shard.shards.items ≡ [] = popped.items ∙ append-nil c.pop.new.self.items ∙ none in
     sym (append-nil disks) ∙ sym (ap (λ (s : List (ShardView g.row.D.Denot)). disks ++ reverse (disks_served s)) all_none) ∙ c.loop-shard.invariant.disks
 
 pub returns-clause-none : goal.returns-clause-none
-returns-clause-none g c = no_items c.pop.new.self.items (sym c.pop.new.self.ok.0 ∙ (c.in_default.ensures {u = tt}).cases.1)
+returns-clause-none g c = nil_from_length c.pop.new.self.items (sym c.pop.new.self.ok.0 ∙ (c.in_default.ensures {u = tt}).cases.1)
 
 pub returns-clause-room : goal.returns-clause-room
 returns-clause-room g c = ((c.in_default.ensures {u = tt}).capacity ∙ c.loop-shard.invariant.shards_room, c.loop-shard.invariant.disks_room)

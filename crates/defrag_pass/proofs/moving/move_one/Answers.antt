@@ -223,10 +223,12 @@ pub returns-in_err-version-clause-sure : goal.returns-in_err-version-clause-sure
 returns-in_err-version-clause-sure g c = sure_read g.D.Disk.view c.args.shelf.now c.read_for.new.shelf c.read_for.ensures.disk c.read_for.ensures.same
 
 pub returns-in-Ok-clause-sure : goal.returns-in-Ok-clause-sure
-returns-in-Ok-clause-sure g c = sure_then g.D.Disk.view c.args.shelf.now c.read_for.new.shelf c.append.new.self (sure_read g.D.Disk.view c.args.shelf.now c.read_for.new.shelf c.read_for.ensures.disk c.read_for.ensures.same) c.append.ensures.sure
+returns-in-Ok-clause-sure g c = sure_then g.D.Disk.view c.args.shelf.now c.read_for.new.shelf c.append.new.self
+    (sure_read g.D.Disk.view c.args.shelf.now c.read_for.new.shelf c.read_for.ensures.disk c.read_for.ensures.same) c.append.ensures.sure
 
 pub returns-clause-sure : goal.returns-clause-sure
-returns-clause-sure g c = sure_then g.D.Disk.view c.args.shelf.now c.read_for.new.shelf c.append.new.self (sure_read g.D.Disk.view c.args.shelf.now c.read_for.new.shelf c.read_for.ensures.disk c.read_for.ensures.same) c.append.ensures.sure
+returns-clause-sure g c = sure_then g.D.Disk.view c.args.shelf.now c.read_for.new.shelf c.append.new.self
+    (sure_read g.D.Disk.view c.args.shelf.now c.read_for.new.shelf c.read_for.ensures.disk c.read_for.ensures.same) c.append.ensures.sure
 
 -- ---- what is told, and what is left
 

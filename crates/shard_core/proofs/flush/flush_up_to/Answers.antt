@@ -1,6 +1,8 @@
 use Rattle.std.proofs.Common.{inl, inr, ◌≡◌, ◌≢◌, ◌+◌, ◌<◌, ◌≤◌, ◌^◌, true, false, ℕ, [], refl, sym, ◌∙◌, ap, subst, arith}
 use Rattle.std.specs.Prelude.{Option, Some, None, Result, Ok, Err, OnErr}
 use Rattle.std.specs.List.{AllByRecursion}
+use Rattle.std.proofs.lemmas.Result.{IfOk-from_err}
+use Rattle.law_lists.proofs.Answers.{on_err}
 use Rattle.model_faults.specs.Counts.{Rose}
 use Rattle.model_device.specs.Legal.{flush_between}
 use Rattle.disk_model.specs.Disk.{IsDisk}
@@ -10,7 +12,7 @@ use Rattle.block_shelf.specs.Flushes.{FirstLeaves, FirstStays}
 use Rattle.block_shelf.proofs.Going.{goes_none}
 use Rattle.shard_core.proofs.Later.{later_none, later_then, shape_then}
 use Rattle.shard_core.proofs.FlushLoop.{Stepped, Fewer, fits_before, one_fewer, setup_stays, went_on, went_all, went_through, went_stopped, quiet_on, most_on}
-use Rattle.shard_core.proofs.FlushLoop.{ends_on, all_gone, whole_still, stays_some, stays_quiet, where_err, where_ok, on_err, rose_since}
+use Rattle.shard_core.proofs.FlushLoop.{ends_on, all_gone, whole_still, stays_some, stays_quiet, where_err, rose_since}
 use Rattle.block_shelf.proofs.Surely.{sure_none, sure_then}
 use Rattle.shard_core.proofs.Keeping.{flushes_none, flushes_more, flushes_stopped, flushes_here}
 use Rattle.shard_core.proofs.flush.flush_up_to.Goals as goal
@@ -69,11 +71,11 @@ pub returns-in_err-number-clause-whole : goal.returns-in_err-number-clause-whole
 returns-in_err-number-clause-whole g c = whole_still g.D.Disk.view c.args.shelf.now c.loop-number.shelf c.loop-number.invariant.whole c.flush_step.ensures.whole
 
 pub returns-in_err-number-clause-few : goal.returns-in_err-number-clause-few
-returns-in_err-number-clause-few g c = where_ok c.from_residual.result (λ n. n < 2 ^ 60) c.from_residual.ensures.0
+returns-in_err-number-clause-few g c = IfOk-from_err c.from_residual.result (λ n. n < 2 ^ 60) c.from_residual.ensures.0
 
 pub returns-in_err-number-clause-all : goal.returns-in_err-number-clause-all
 returns-in_err-number-clause-all g c =
-    where_ok c.from_residual.result (λ n. AllByRecursion (λ b. b.number ≤ c.args.last) c.args.shelf.now.buffers
+    IfOk-from_err c.from_residual.result (λ n. AllByRecursion (λ b. b.number ≤ c.args.last) c.args.shelf.now.buffers
     → AllByRecursion (λ b. is_unsealed b.phase ≡ true) c.flush_step.new.self.buffers) c.from_residual.ensures.0
 
 pub returns-in_err-number-clause-cause : goal.returns-in_err-number-clause-cause

@@ -1,5 +1,6 @@
 use Rattle.std.proofs.Common.{◌≡◌, ℕ, ◌+◌, Bool, true, false, refl, sym, ◌∙◌, ap, arith}
-use Rattle.shard_raid.proofs.Comparing.{begins, one_more, few, one_if, rest_on}
+use Rattle.law_lists.proofs.Counts.{one_if}
+use Rattle.shard_raid.proofs.Comparing.{begins, one_more, few, rest_on}
 use Rattle.raid_book.specs.Found.{copies_for}
 use Rattle.shard_raid.proofs.compare.compare_found.Goals as goal
 

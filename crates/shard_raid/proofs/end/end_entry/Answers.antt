@@ -1,6 +1,7 @@
-use Rattle.std.proofs.Common.{◌≡◌, ℕ, ◌≤◌, max, cond, sym, ◌∙◌, ap, subst, arith}
+use Rattle.std.proofs.Common.{◌≡◌, ℕ, max, cond, sym, ◌∙◌, ap, subst}
 use Rattle.std.specs.Prelude.{List, [], ◌∷◌}
 use Rattle.std.proofs.lemmas.Bool.{cond-true, cond-false}
+use Rattle.std.proofs.Math.Nat.{max-eq_left}
 use Rattle.rec_format.specs.Versions.{is_tomb_kind}
 use Rattle.rec_format.specs.declared.entry.Entry.{Entry}
 use Rattle.model_device.specs.Steps.{Step, rid_of, uncovered}
@@ -12,9 +13,6 @@ use Rattle.shard_raid.specs.Marks.{is_marked_by}
 use Rattle.shard_raid.specs.Ends.{GoTogether}
 use Rattle.shard_raid.proofs.OneEnd.{none_older_than, go_nowhere, go_uncovered}
 use Rattle.shard_raid.proofs.end.end_entry.Goals as goal
-
-no_higher : (high time : ℕ) → time ≤ high → max high time ≡ high
-no_higher high time le = omega arith
 
 is_put : (old new : SprigState) (x e : Entry) → new ≡ record old { entries = with_replaced x old.entries; hw = max old.hw x.stamp.lut } → x ≡ without_cover e
     → new ≡ record old { entries = with_replaced (without_cover e) old.entries; hw = max old.hw e.stamp.lut }
@@ -62,5 +60,5 @@ returns-in-Put-clause-sprig g c =
       entries = ap (λ (v : SprigState). v.entries) put
           ∙ sym (cond-true (is_marked_by c.args.number e) (cond (is_tombstone_entry e) (without_digest e.digest es) (with_replaced (without_cover e) es)) es marked
           ∙ cond-false (is_tombstone_entry e) (without_digest e.digest es) (with_replaced (without_cover e) es) (ap is_tomb_kind c.in-Put.is));
-      high = λ below. ap (λ (v : SprigState). v.hw) put ∙ no_higher c.args.sprig.now.hw e.stamp.lut below;
+      high = λ below. ap (λ (v : SprigState). v.hw) put ∙ max-eq_left below;
     }

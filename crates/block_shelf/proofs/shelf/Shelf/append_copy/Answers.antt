@@ -1,4 +1,5 @@
 use Rattle.std.proofs.Common.{◌≡◌, ◌≤◌, ℕ, Err, length, sym, ◌∙◌, ap, subst}
+use Rattle.law_lists.proofs.Answers.{passed_on}
 use Rattle.rec_format.specs.Places.{device_number}
 use Rattle.rec_format.specs.Versions.{version_units, block_capacity}
 use Rattle.block_shelf.specs.declared.refusals.PutRefusal.{PutRefusal}
@@ -7,7 +8,6 @@ use Rattle.block_shelf.specs.Calls.{IsPriorIn}
 use Rattle.block_shelf.specs.Changes.{CanTake, HasRoomAt, SameButRoom, with_begun}
 use Rattle.block_shelf.specs.Appends.{AppendsCopy, ready_for, stream_of, with_first_shut}
 use Rattle.block_shelf.proofs.Roomed.{room_prior}
-use Rattle.block_shelf.proofs.Begun.{passed_on}
 use Rattle.block_shelf.proofs.Appended.{begun_prior, shut_prior}
 use Rattle.block_shelf.proofs.FoundRoom.{stands_within, told_room, told_no_room, can_in_room, can_in_new}
 use Rattle.block_shelf.proofs.Appending.{too_big_for, lacks_memory, cannot_begin, appends_in_room, appends_in_new}

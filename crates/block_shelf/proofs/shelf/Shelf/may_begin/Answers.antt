@@ -1,5 +1,5 @@
 use Rattle.std.proofs.Common.{◌≡◌, ◌<◌, ◌≤◌, length, map, sym, ◌∙◌, arith}
-use Rattle.law_start.proofs.Each.{all_map}
+use Rattle.law_lists.proofs.Each.{all_map}
 use Rattle.write_buffer.specs.Buffers.{BufferState}
 use Rattle.block_shelf.specs.View.{IsBufferOf}
 use Rattle.block_shelf.proofs.Blocks.{at_most, apart_back, few}

@@ -2,6 +2,9 @@ use Rattle.std.proofs.Common.{◌≡◌, ◌<◌, ◌∷◌, ◌++◌, ℕ, List
 use Rattle.std.specs.Prelude.{slice_set}
 use Rattle.std.specs.List.{AllByRecursion}
 use Rattle.std.proofs.lemmas.List.{set-set}
+use Rattle.std.proofs.lemmas.Result.{MatchResult-from_err}
+use Rattle.law_lists.proofs.Answers.{on_err}
+use Rattle.law_lists.proofs.Between.{all_own}
 use Rattle.model_faults.specs.Counts.{Rose}
 use Rattle.disk_model.specs.Disk.{IsHonest}
 use Rattle.model_device.specs.Book.{Setup}
@@ -16,12 +19,9 @@ use Rattle.block_shelf.specs.View.{ShelfView, IsShelf, IsBufferOf, HasItsBody, i
 use Rattle.block_shelf.specs.Standing.{StandsFor}
 use Rattle.block_shelf.specs.Calls.{Goes}
 use Rattle.block_shelf.specs.Flushes.{IsFirstAt, gate_steps, with_opening}
-use Rattle.block_shelf.proofs.Begun.{on_err}
-use Rattle.block_shelf.proofs.Between.{all_own}
 use Rattle.block_shelf.proofs.FirstSealed.{FoundAt, IsFirstWith, found_at, first_is, set_first}
 use Rattle.block_shelf.proofs.FlushShelf.{KeepsDisk}
 use Rattle.block_shelf.proofs.FlushGate.{begun_phase, tried_gate_shelf, tried_gate_goes, done_gate_shelf, done_gate_goes}
-use Rattle.block_shelf.proofs.FlushWhole.{told_fault}
 use Rattle.block_shelf.proofs.shelf.Shelf.open.Goals as goal
 
 pub invariant_of-self : goal.invariant_of-self
@@ -133,7 +133,7 @@ returns-in_err-open_gate-clause-changed g c first =
     } in
     let b : BufferState = c.index_mut-buffer.result.now in
     let gates : List Gate = slice_set old.gates c.block-block.result Unsure in
-    told_fault _ _ c.from_residual.result c.from_residual.ensures.0 (λ fault.
+    MatchResult-from_err c.from_residual.result _ _ c.from_residual.ensures.0 (λ fault.
     subst (λ (v : ShelfView g.row.D.Denot). (first : IsFirstAt c.args.at v.buffers)
     → record old { disk = c.open_gate.new.disk; buffers = slice_set old.buffers c.args.at c.set_phase.new.self; gates = gates }
     ≡ with_opening c.open_gate.new.disk Unsure v first.sealed) c.self.view_is

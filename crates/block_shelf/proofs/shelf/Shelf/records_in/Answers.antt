@@ -1,6 +1,8 @@
 use Rattle.std.proofs.Common.{arith, rules, ◌≡◌, ◌≢◌, ◌+◌, ◌*◌, ◌-◌, ℕ, List, length, ◌∙◌, ap, subst}
 use Rattle.std.specs.Prelude.{MatchResult}
 use Rattle.std.specs.List.{AllByRecursion}
+use Rattle.std.proofs.lemmas.Result.{MatchResult-weaker}
+use Rattle.law_lists.proofs.Answers.{passed_on, only_err}
 use Rattle.rec_format.specs.Versions.{block_capacity}
 use Rattle.block_format.specs.declared.geometry.Gate.{Gate}
 use Rattle.block_format.specs.declared.geometry.Gate.TheVariants.{Shut}
@@ -8,9 +10,8 @@ use Rattle.block_format.specs.Layout.{IsBody}
 use Rattle.write_buffer.specs.Buffers.{BufferState, bytes_of, body_in}
 use Rattle.write_buffer.proofs.Sizes.{sized, body_size}
 use Rattle.block_shelf.specs.View.{gate_at}
-use Rattle.block_shelf.specs.Scans.{ReadsIn, ReadsAll, ReadsBody, IsDamageOf, IsSound}
-use Rattle.block_shelf.proofs.Begun.{passed_on}
-use Rattle.block_shelf.proofs.ScanBlocks.{each_answer, only_err, no_damage, buffer_found}
+use Rattle.block_shelf.specs.Scans.{ReadsIn, ReadsBody, IsDamageOf, IsSound}
+use Rattle.block_shelf.proofs.ScanBlocks.{no_damage, buffer_found}
 use Rattle.block_shelf.proofs.Scanning.{reads_memory, reads_unclosed, reads_shut, reads_disk}
 use Rattle.block_shelf.proofs.shelf.Shelf.records_in.Goals as goal
 
@@ -31,13 +32,12 @@ returns-in-Some g c =
     subst (λ (l : List ℕ). IsBody (block_capacity shelf.geometry.block_size) l (body_in b)) c.body.ensures.bytes
     (subst (λ (n : ℕ). IsBody n c.body.result.now (body_in b)) c.in-Some.ensures.capacity.0 c.body.ensures.body) in
     reads_memory g.D.Disk.view g.met.D.Disk.is_disk c.args.block shelf _ c.found_in.result c.found_in.ensures.quiet
-    (λ setup s honest stands safe. each_answer (λ found. ReadsBody shelf.geometry bytes c.args.block found.items) (λ found. ReadsAll g.D.Disk.view shelf s c.args.block found.items)
-    (IsDamageOf shelf.geometry bytes c.args.block) IsSound c.found_in.result
+    (λ setup s honest stands safe. MatchResult-weaker c.found_in.result
+    (subst (λ (t : List ℕ). MatchResult c.found_in.result (λ found. ReadsBody shelf.geometry t c.args.block found.items) (IsDamageOf shelf.geometry t c.args.block)) c.body.ensures.bytes
+    (c.found_in.ensures.read shelf.geometry long))
     (λ found reads. buffer_found g.D.Disk.view setup shelf s is stands honest safe c.args.block b c.in-Some.ensures.some.0 c.in-Some.ensures.some.1 c.found_in.ensures.one_body
     is_body found.items reads)
-    (λ refusal damage. no_damage shelf.geometry bytes c.args.block refusal (body_in b, is_body, c.in-Some.ensures.some.1) damage)
-    (subst (λ (t : List ℕ). MatchResult c.found_in.result (λ found. ReadsBody shelf.geometry t c.args.block found.items) (IsDamageOf shelf.geometry t c.args.block)) c.body.ensures.bytes
-    (c.found_in.ensures.read shelf.geometry long)))
+    (λ refusal damage. no_damage shelf.geometry bytes c.args.block refusal (body_in b, is_body, c.in-Some.ensures.some.1) damage))
     (only_err (λ found. ReadsBody shelf.geometry bytes c.args.block found.items) (IsDamageOf shelf.geometry bytes c.args.block) IsSound c.found_in.result
     (λ refusal damage. no_damage shelf.geometry bytes c.args.block refusal (body_in b, is_body, c.in-Some.ensures.some.1) damage)
     (subst (λ (t : List ℕ). MatchResult c.found_in.result (λ found. ReadsBody shelf.geometry t c.args.block found.items) (IsDamageOf shelf.geometry t c.args.block)) c.body.ensures.bytes

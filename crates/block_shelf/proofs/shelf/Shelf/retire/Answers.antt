@@ -1,6 +1,7 @@
 use Rattle.std.proofs.Common.{◌≡◌, ◌≢◌, ◌<◌, ◌≤◌, ◌++◌, arith, ℕ, List, [], ◌∷◌, length, refl, sym, ap, subst, ◌∙◌}
 use Rattle.std.specs.List.{AllByRecursion}
 use Rattle.std.specs.VecDeque.{deque_capacity}
+use Rattle.law_lists.proofs.Between.{all_own}
 use Rattle.model_device.specs.Book.{Setup}
 use Rattle.model_device.specs.Device.{State}
 use Rattle.model_device.specs.Steps.{flushed_buffer}
@@ -16,7 +17,6 @@ use Rattle.block_shelf.specs.Calls.{Goes}
 use Rattle.block_shelf.specs.Changes.{with_requeued, with_flushed}
 use Rattle.block_shelf.specs.Flushes.{IsFirstAt, IsWithoutFirst}
 use Rattle.block_shelf.specs.LetGo.{IsLetGo}
-use Rattle.block_shelf.proofs.Between.{all_own}
 use Rattle.block_shelf.proofs.Blocks.{apart_back}
 use Rattle.block_shelf.proofs.FirstSealed.{FoundAt, IsFirstWith, found_at, first_is, left_first}
 use Rattle.block_shelf.proofs.FlushLeaving.{retired_unlisted, retired_shelf, retired_is, retired_goes}

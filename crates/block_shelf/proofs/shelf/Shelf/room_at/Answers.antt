@@ -1,5 +1,5 @@
 use Rattle.std.proofs.Common.{◌≡◌, sym, ap, subst}
-use Rattle.law_start.proofs.Each.{all_map}
+use Rattle.law_lists.proofs.Each.{all_map}
 use Rattle.rec_format.specs.Versions.{block_capacity}
 use Rattle.block_shelf.specs.View.{ShelfView, IsBufferOf}
 use Rattle.block_shelf.specs.Changes.{FillsAt, HasRoom, HasRoomAt}

@@ -1,6 +1,7 @@
 use Rattle.std.proofs.Common.{arith, ◌≡◌, ◌<◌, ℕ, Ok, Err, List, [], map, sym, ◌∙◌, ap, subst}
 use Rattle.std.specs.List.{All}
 use Rattle.std.proofs.lemmas.List.Elements.{All-from_recursion}
+use Rattle.law_lists.proofs.Answers.{passed_on}
 use Rattle.disk_model.specs.Disk.{IsHonest}
 use Rattle.rec_format.specs.declared.version.Digest.{Digest}
 use Rattle.rec_format.specs.declared.version.Stamp.{Stamp}
@@ -20,7 +21,6 @@ use Rattle.block_shelf.specs.View.{ShelfView, IsSetupOf, records_of, gate_at}
 use Rattle.block_shelf.specs.Standing.{ImagesHold}
 use Rattle.block_shelf.specs.Calls.{Goes}
 use Rattle.block_shelf.specs.Scans.{ScansIn, ReadsAll, own_found, possible_copies}
-use Rattle.block_shelf.proofs.Begun.{passed_on}
 use Rattle.block_shelf.proofs.Scanning.{reads_at, unread, wanting_memory, taken_in}
 use Rattle.block_shelf.proofs.RaidTurns.{goes_scanned, raided_shelf}
 use Rattle.block_shelf.proofs.ScanFinds.{own_finds, own_only, parts_below}

@@ -1,6 +1,8 @@
 use Rattle.std.proofs.Common.{◌≡◌, ◌<◌, ℕ, ◌+◌, ◌*◌, ◌∷◌, ◌++◌, [], List, refl, sym, ap, ◌∙◌, subst}
 use Rattle.std.specs.List.{AllByRecursion}
 use Rattle.std.specs.Prelude.{slice_set}
+use Rattle.law_lists.proofs.Answers.{on_err}
+use Rattle.law_lists.proofs.Between.{all_own}
 use Rattle.disk_model.specs.Disk.{IsHonest}
 use Rattle.block_flusher.specs.Images.{HasOneBody}
 use Rattle.model_faults.specs.Counts.{Rose}
@@ -14,8 +16,6 @@ use Rattle.block_shelf.specs.View.{ShelfView, IsShelf, IsBufferOf}
 use Rattle.block_shelf.specs.Standing.{StandsFor}
 use Rattle.block_shelf.specs.Calls.{Goes}
 use Rattle.block_shelf.specs.Flushes.{IsFirstAt, with_body}
-use Rattle.block_shelf.proofs.Begun.{on_err}
-use Rattle.block_shelf.proofs.Between.{all_own}
 use Rattle.block_shelf.proofs.FirstSealed.{FoundAt, IsFirstWith, found_at, first_is, set_first}
 use Rattle.block_shelf.proofs.FlushShelf.{KeepsDisk}
 use Rattle.block_shelf.proofs.FlushBody.{settled_phase, shut_before, tried_shelf, tried_goes, done_shelf, done_goes}

@@ -1,8 +1,9 @@
 use Rattle.std.proofs.Common.{◌++◌, List, length, ap, sym, ◌∙◌, arith}
 use Rattle.std.specs.Prelude.{reverse, vec_capacity}
 use Rattle.std.proofs.lemmas.List.{append-nil}
+use Rattle.law_lists.proofs.Answers.{none_by, some_by}
 use Rattle.core_run.specs.Views.{disks_served, disks_of}
-use Rattle.core_run.proofs.Keeping.{node_serves, node_halts, none_by, some_by, no_disks, devices_of}
+use Rattle.core_run.proofs.Keeping.{node_serves, node_halts, no_disks, devices_of}
 use Rattle.core_run.proofs.node.Node.stop.Goals as goal
 use Rattle.core_run.proofs.node.Node.stop.Goals.{then-is_none, else-is_none}
 

@@ -1,5 +1,7 @@
 use Rattle.std.proofs.Common.{◌≡◌, ◌<◌, ◌≤◌, ℕ, List, length, get_or, set, arith, sym, subst, ap, ◌∙◌}
 use Rattle.std.specs.Prelude.{Some, slice_get, option_map, vec_len, vec_capacity}
+use Rattle.std.proofs.lemmas.Option.{slice_get-get_or}
+use Rattle.law_lists.proofs.Answers.{not_some, is_there}
 use Rattle.disk_model.specs.declared.disk.DiskFault.{DiskFault}
 use Rattle.rec_format.specs.Places.{device_number}
 use Rattle.line_proto.specs.declared.command.Command.{Command}
@@ -10,9 +12,9 @@ use Rattle.core_run.specs.Views.{NodeView}
 use Rattle.core_run.specs.Standing.{Each, StandsOn}
 use Rattle.core_run.specs.Calls.{Acts}
 use Rattle.core_run.specs.Turns.{FlushesOn, FlushesEach, plus_one, DefragsOn, DefragsEach, plus_both, ExpiresOn, ExpiresAll, RaidsOn, RaidsEach}
-use Rattle.core_run.proofs.Making.{there_is}
 use Rattle.core_run.proofs.Commands.{digest_acts, flush_acts, defrag_acts, expire_acts, raid_acts, stat_acts, acts_halted}
-use Rattle.core_run.proofs.Keeping.{few_served, SameEach, all_kept, all_act, node_kept, node_halts, acts_so, same_all, devices_of, device_at, same_at, same_worked, not_some, is_there}
+use Rattle.core_run.proofs.Keeping.{few_served, SameEach, all_kept, all_act, node_kept, node_halts, acts_so, same_all, devices_of, device_at, same_at}
+use Rattle.core_run.proofs.Keeping.{same_worked}
 use Rattle.core_run.proofs.node.NodeStore.act.Given.{Over}
 use Rattle.core_run.proofs.node.NodeStore.act.Goals as goal
 
@@ -107,7 +109,7 @@ restart-requires g c =
 -- the device of the digest
 device_there : {X : Type 0} (shards : List X) (n len device from : ℕ) (x : X) → len ≡ n → n ≡ length shards → device < len → from ≡ device → x ≡ get_or shards from x → slice_get shards from ≡ Some x
 device_there shards n len device from x len_is n_is below is value =
-    let within : from < length shards = omega (arith, len_is, n_is, below, is) in there_is shards from x within ∙ ap (λ y. Some y) (sym value)
+    let within : from < length shards = omega (arith, len_is, n_is, below, is) in slice_get-get_or shards from x within ∙ ap (λ y. Some y) (sym value)
 
 pub act_on-requires-clause-place : goal.act_on-requires-clause-place
 act_on-requires-clause-place g c =

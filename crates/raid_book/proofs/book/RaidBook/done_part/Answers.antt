@@ -1,4 +1,5 @@
 use Rattle.std.proofs.Common.{◌≡◌, ℕ, subst, sym, ap, ◌∙◌}
+use Rattle.std.proofs.lemmas.Option.{same_Some}
 use Rattle.model_device.specs.Passes.{turn_part}
 use Rattle.model_device.specs.Steps.{after_step, marked_part, compared_part, done_part}
 use Rattle.raid_book.specs.declared.turn.RaidNext.{RaidNext}
@@ -8,7 +9,7 @@ use Rattle.raid_book.specs.Turns.{turn_of, turn_with}
 use Rattle.raid_book.specs.Books.{BookState, IsBook}
 use Rattle.raid_book.specs.Fields.{book_of}
 use Rattle.raid_book.specs.Raids.{RaidStands, RaidStandsBut}
-use Rattle.raid_book.proofs.Books.{book_compared, same_value, falls_without, after_turn-fields}
+use Rattle.raid_book.proofs.Books.{book_compared, falls_without, after_turn-fields}
 use Rattle.raid_book.proofs.Standing.{marked_stands, compared_stands, ended_stands}
 use Rattle.raid_book.proofs.book.RaidBook.done_part.Goals as goal
 
@@ -19,7 +20,7 @@ pub invariant_of-self-in-Apply : goal.invariant_of-self-in-Apply
 invariant_of-self-in-Apply c =
     let b = book_of c.self.inside in
     let named : b.next ≡ Apply c.args.part = c.in-Apply.is ∙ ap (λ (n : ℕ). Apply n)
-    (same_value c.in-Apply.field-0 c.args.part (ap (λ (n : RaidNext). turn_part (turn_of n)) (sym c.in-Apply.is ∙ ap (λ (v : BookState). v.next) c.self.view_is) ∙ c.requires)) in
+    (same_Some c.in-Apply.field-0 c.args.part (ap (λ (n : RaidNext). turn_part (turn_of n)) (sym c.in-Apply.is ∙ ap (λ (v : BookState). v.next) c.self.view_is) ∙ c.requires)) in
     let comes = c.turn_with-self-inside.ensures ∙ ap (turn_with b.blocks b.scanned) (c.first_of.ensures ∙ ap least_part c.deref.ensures.value) in
     subst IsBook (sym (after_turn-fields b c.args.part c.drop_first.new.row.items c.turn_with-self-inside.result c.drop_first.ensures comes)) (book_compared b c.args.part named c.self.invariant)
 

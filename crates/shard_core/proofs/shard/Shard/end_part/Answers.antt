@@ -1,4 +1,5 @@
 use Rattle.std.proofs.Common.{◌≡◌, ◌<◌, ℕ, length, set, refl, sym, ap, ◌∙◌, subst, arith, Ok}
+use Rattle.law_lists.proofs.Places.{set_unchanged}
 use Rattle.model_device.specs.Device.{State, drop_turn}
 use Rattle.model_device.specs.Steps.{part_total}
 use Rattle.model_device.specs.Events.{turn_call, part_ended}
@@ -14,7 +15,6 @@ use Rattle.law_steps.specs.Events.{StepMakes}
 use Rattle.shard_core.specs.Stands.{Agrees}
 use Rattle.shard_core.specs.Calls.{Makes}
 use Rattle.shard_core.specs.Raids.{AreFewEnds, TakesTurn}
-use Rattle.shard_core.proofs.Each.{set_at}
 use Rattle.shard_core.proofs.Making.{setup_is, part_at, part_stands, whole_made}
 use Rattle.shard_core.proofs.Raiding.{few_ends, part_there, turn_made, turn_taken}
 use Rattle.shard_core.proofs.Tallies.{tally_behind}
@@ -99,5 +99,5 @@ raid_end-removed-requires-clause-stand g c =
       stands.0,
       setup_is was c.self.invariant.whole,
       part_stands g.D.Disk.view c.args.part was was c.args.part c.index_mut.result.now c.index_mut.result.now (record { geometry = refl; set = refl }) refl within c.index_mut.ensures.value
-          (sym (set_at was.sprigs c.args.part c.index_mut.result.now c.index_mut.ensures.value)) stands.0 stands.1,
+          (sym (set_unchanged was.sprigs c.args.part c.index_mut.result.now c.index_mut.ensures.value)) stands.0 stands.1,
     )

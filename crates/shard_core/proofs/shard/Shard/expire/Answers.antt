@@ -1,5 +1,6 @@
 use Rattle.std.proofs.Common.{arith, ◌≡◌, ◌<◌, false, length, set, refl, sym, ap, ◌∙◌, subst}
 use Rattle.std.specs.Prelude.{Option, IsOk}
+use Rattle.law_lists.proofs.Places.{set_unchanged}
 use Rattle.rec_format.specs.declared.entry.Entry.{Entry}
 use Rattle.rec_format.specs.Places.{device_number}
 use Rattle.model_device.specs.Device.{State, part_of}
@@ -10,7 +11,6 @@ use Rattle.shard_core.specs.Sprigs.{held}
 use Rattle.shard_core.specs.View.{ShardView, SameSetup, setup_of}
 use Rattle.shard_core.specs.Stands.{Agrees}
 use Rattle.shard_core.specs.Calls.{Makes, delete_answer}
-use Rattle.shard_core.proofs.Each.{set_at}
 use Rattle.shard_core.proofs.Making.{whole_made, step_stands, lifted, held_at}
 use Rattle.shard_core.proofs.Tallies.{tally_behind}
 use Rattle.shard_core.proofs.shard.Shard.expire.Given.{Over}
@@ -27,7 +27,7 @@ expire_step-answer-requires-clause-stand g c =
       stands.0,
       step_stands g.D.Disk.view c.args.digest.now old old c.part_of-part.result c.index_mut.result.now c.index_mut.result.now
           (record { geometry = refl; set = refl }) place there c.index_mut.ensures.value
-          (sym (set_at old.sprigs c.part_of-part.result c.index_mut.result.now c.index_mut.ensures.value)) stands.0 stands.1,
+          (sym (set_unchanged old.sprigs c.part_of-part.result c.index_mut.result.now c.index_mut.ensures.value)) stands.0 stands.1,
     )
 
 made : (g : Over) (c : goal.After-self-2-1 g) (s : State)

@@ -1,5 +1,6 @@
 use Rattle.std.proofs.Common.{◌≡◌, List, ◌<◌, length, set, refl, sym, ap, ◌∙◌, subst}
 use Rattle.std.specs.Prelude.{Some, IfErr, Contains}
+use Rattle.law_lists.proofs.Places.{set_unchanged}
 use Rattle.rec_format.specs.declared.entry.Entry.{Entry}
 use Rattle.rec_format.specs.Places.{device_number}
 use Rattle.model_device.specs.Device.{State, part_of}
@@ -16,7 +17,6 @@ use Rattle.shard_core.specs.Sprigs.{held}
 use Rattle.shard_core.specs.View.{ShardView, SameSetup, setup_of}
 use Rattle.shard_core.specs.Stands.{Agrees}
 use Rattle.shard_core.specs.Calls.{Makes, GetsStored, read_answer}
-use Rattle.shard_core.proofs.Each.{set_at}
 use Rattle.shard_core.proofs.Making.{whole_made, step_stands, lifted, held_at}
 use Rattle.shard_core.proofs.Tallies.{tally_same}
 use Rattle.shard_core.proofs.shard.Shard.get.Given.{Over}
@@ -34,7 +34,7 @@ get_step-requires-clause-stand g c =
       stands.0,
       step_stands g.D.Disk.view c.args.digest.now old old c.part_of-part.result c.index_mut.result.now c.index_mut.result.now
           (record { geometry = refl; set = refl }) place there c.index_mut.ensures.value
-          (sym (set_at old.sprigs c.part_of-part.result c.index_mut.result.now c.index_mut.ensures.value)) stands.0 stands.1,
+          (sym (set_unchanged old.sprigs c.part_of-part.result c.index_mut.result.now c.index_mut.ensures.value)) stands.0 stands.1,
     )
 
 made : (g : Over) (c : goal.After-self-1 g) (s : State)
@@ -88,7 +88,7 @@ returns-clause-in_memory g c =
     (sym (held_at g.D.Disk.view c.args.digest.now old new c.part_of-part.result c.index_mut.result.now c.get_step.new.sprig shape place there c.index_mut.ensures.value refl)
     ∙ is) there_b at in
     let kept : set old.sprigs c.part_of-part.result c.get_step.new.sprig ≡ old.sprigs = ap (set old.sprigs c.part_of-part.result) c.get_step.ensures.sprig
-    ∙ set_at old.sprigs c.part_of-part.result c.index_mut.result.now c.index_mut.ensures.value in (
+    ∙ set_unchanged old.sprigs c.part_of-part.result c.index_mut.result.now c.index_mut.ensures.value in (
       ap (λ (x : ShelfView g.row.D.Denot). let y : ShardView g.row.D.Denot = record { shelf = x; set = old.set; sprigs = new.sprigs } in y) got.0
           ∙ ap (λ (l : List SprigState). let y : ShardView g.row.D.Denot = record { shelf = old.shelf; set = old.set; sprigs = l } in y) kept,
       got.1,

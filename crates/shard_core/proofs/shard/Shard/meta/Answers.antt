@@ -1,9 +1,9 @@
 use Rattle.std.proofs.Common.{◌≡◌, ◌<◌, length, refl, sym, ap, ◌∙◌, subst}
+use Rattle.law_lists.proofs.Places.{set_unchanged}
 use Rattle.model_device.specs.Device.{State, seen, part_of}
 use Rattle.shard_core.specs.View.{ShardView, setup_of}
 use Rattle.shard_core.specs.Stands.{Agrees}
 use Rattle.shard_core.specs.Calls.{meta_of}
-use Rattle.shard_core.proofs.Each.{set_at}
 use Rattle.shard_core.proofs.Making.{step_stands}
 use Rattle.shard_core.proofs.shard.Shard.meta.Goals as goal
 
@@ -16,4 +16,4 @@ returns g c =
     subst (λ (v : ShardView g.row.D.Denot). (s : State) → Agrees v s → c.meta_step.result ≡ meta_of (seen s c.args.now c.args.digest.now)) c.self.view_is
     (λ s agrees. c.meta_step.ensures (setup_of old) s
     (step_stands g.D.Disk.view c.args.digest.now old old c.part_of.result c.index.result.now c.index.result.now (record { geometry = refl; set = refl }) place there c.index.ensures
-    (sym (set_at old.sprigs c.part_of.result c.index.result.now c.index.ensures)) s agrees).sprig_stands)
+    (sym (set_unchanged old.sprigs c.part_of.result c.index.result.now c.index.ensures)) s agrees).sprig_stands)

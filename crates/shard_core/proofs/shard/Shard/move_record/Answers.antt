@@ -1,4 +1,5 @@
 use Rattle.std.proofs.Common.{arith, ◌≡◌, ◌<◌, length, set, refl, sym, ap, ◌∙◌, subst}
+use Rattle.law_lists.proofs.Places.{set_unchanged}
 use Rattle.rec_format.specs.Places.{device_number}
 use Rattle.model_device.specs.Device.{State, part_of}
 use Rattle.model_device.specs.Events.{Answer, move_call}
@@ -11,7 +12,6 @@ use Rattle.model_device.specs.Book.{Setup}
 use Rattle.shard_core.proofs.Telling.{held_set, moved_damage}
 use Rattle.defrag_pass.specs.Moves.{Answers}
 use Rattle.shard_core.proofs.Causes.{moved_so}
-use Rattle.shard_core.proofs.Each.{set_at}
 use Rattle.shard_core.proofs.Making.{setup_is, setup_same, whole_made, step_stands, lifted}
 use Rattle.shard_core.proofs.Tallies.{tally_behind}
 use Rattle.shard_core.proofs.shard.Shard.move_record.Given.{Over}
@@ -30,7 +30,7 @@ move_one-answer-requires-clause-stand g c =
       setup_is old c.self.invariant.whole,
       step_stands g.D.Disk.view c.args.digest.now old old c.part_of-part.result c.index_mut.result.now c.index_mut.result.now
           (record { geometry = refl; set = refl }) place there c.index_mut.ensures.value
-          (sym (set_at old.sprigs c.part_of-part.result c.index_mut.result.now c.index_mut.ensures.value)) stands.0 stands.1,
+          (sym (set_unchanged old.sprigs c.part_of-part.result c.index_mut.result.now c.index_mut.ensures.value)) stands.0 stands.1,
     )
 
 made : (g : Over) (c : goal.After-move_answer g) (s : State)

@@ -1,7 +1,9 @@
-use Rattle.std.proofs.Common.{◌≡◌, ℕ, ◌<◌, Bool, true, false, cond, List, ◌∷◌, length, get_or, Bor, sym, ap, ◌∙◌, subst, arith}
+use Rattle.std.proofs.Common.{◌≡◌, ℕ, ◌<◌, Bool, true, false, cond, List, ◌∷◌, length, get_or, Bor, refl, sym, ap, ◌∙◌, subst, arith}
 use Rattle.std.specs.Prelude.{Option, Some, None, filter, is_some, slice_get}
 use Rattle.std.specs.Option.{option_copied}
 use Rattle.std.proofs.lemmas.Bool.{cond-true, cond-false}
+use Rattle.std.proofs.lemmas.Option.{slice_get_read}
+use Rattle.law_lists.proofs.Filters.{filter_swapped}
 use Rattle.rec_format.specs.declared.version.Digest.{Digest}
 use Rattle.rec_format.specs.declared.entry.Entry.{Entry}
 use Rattle.model_device.specs.Passes.{is_behind}
@@ -10,11 +12,9 @@ use Rattle.expiry_rule.specs.Seen.{expired_entry, is_expired_entry}
 use Rattle.sprig_tree.specs.Entries.{digests_in, entry_after}
 use Rattle.sprig_tree.specs.State.{SprigState}
 use Rattle.law_sprig.proofs.Behind.{behind, walk_from, entries_behind}
-use Rattle.law_sprig.proofs.Taking.{swapped}
 use Rattle.shard_core.specs.Expiring.{entries_in, expired_left}
 use Rattle.shard_core.specs.View.{ShardView, setup_of}
 use Rattle.shard_core.specs.Stands.{IsWhole}
-use Rattle.shard_core.proofs.Each.{get_there}
 use Rattle.shard_core.proofs.shard.Shard.next_expired.Goals as goal
 
 -- the entries from one on, and those behind a digest
@@ -40,14 +40,14 @@ left_from : {D : Type 0} (shard : ShardView D) (part now : ℕ) (last : Option D
     → expired_left shard part now last ≡ digests_in (filter (is_expired_entry now) (rest_from next sprig.entries))
 left_from shard part now last sprig next at same =
     ap (λ (o : Option SprigState). digests_in (filter (λ e. is_behind last e.digest) (filter (is_expired_entry now) (entries_in o)))) at
-    ∙ ap digests_in (swapped (λ e. is_behind last e.digest) (is_expired_entry now) sprig.entries ∙ sym same)
+    ∙ ap digests_in (filter_swapped (λ e. is_behind last e.digest) (is_expired_entry now) sprig.entries ∙ sym same)
 
 -- the sprig of the part
 sprig_at : {D : Type 0} (inside self : ShardView D) → inside ≡ self → IsWhole inside → (part : ℕ) → part < part_total (setup_of self) → (sprig : SprigState)
     → sprig ≡ get_or inside.sprigs part sprig → slice_get self.sprigs part ≡ Some sprig
 sprig_at {D} inside self is whole part below sprig at =
     let within : part < length inside.sprigs = subst (λ (n : ℕ). part < n) (sym whole.stands.1.sprigs.count) (subst (λ (v : ShardView D). part < part_total (setup_of v)) (sym is) below) in
-    subst (λ (v : ShardView D). slice_get v.sprigs part ≡ Some sprig) is (get_there inside.sprigs part sprig within at)
+    subst (λ (v : ShardView D). slice_get v.sprigs part ≡ Some sprig) is (slice_get_read inside.sprigs (length inside.sprigs) part sprig refl within at)
 
 pub loop-next-init : goal.loop-next-init
 loop-next-init g c =

@@ -1,0 +1,10 @@
+pub mod Each
+pub mod Members
+pub mod Between
+pub mod Filters
+pub mod Finding
+pub mod Counts
+pub mod Ranges
+pub mod Distinct
+pub mod Places
+pub mod Answers
