@@ -1,5 +1,5 @@
 -- Each command of a node that serves, and of one that halted, means what it has to mean.
-use Rattle.std.proofs.Common.{◌≡◌, inl, inr, ℕ, zero, suc, ◌+◌, ◌<◌, true, false, List, [], ◌∷◌, length, set, refl, sym, ◌∙◌, ap, subst, arith}
+use Rattle.std.proofs.Common.{◌≡◌, inl, inr, ℕ, zero, suc, ◌+◌, ◌<◌, true, false, List, [], ◌∷◌, length, map, set, refl, sym, ◌∙◌, ap, subst, arith}
 use Rattle.std.specs.Prelude.{◌≢◌, ◌⊎◌, Bool, Option, Some, None, Result, Ok, Err, MatchOption, slice_get}
 use Rattle.std.proofs.lemmas.Option.{slice_get_within, get_or_from_slice_get}
 use Rattle.law_lists.proofs.Places.{set_unchanged}
@@ -13,6 +13,7 @@ use Rattle.model_device.specs.Events.{Event, Call, put_call, get_call, delete_ca
 use Rattle.block_shelf.specs.View.{AreSure, records_of, gate_at}
 use Rattle.block_shelf.specs.Scans.{possible_copies}
 use Rattle.law_raid.specs.Exact.{RaidsExactly, RaidSpares, RaidLeavesNone}
+use Rattle.law_raid.specs.Told.{RaidsAll}
 use Rattle.line_proto.specs.declared.reply.LineFault.{LineFault}
 use Rattle.line_proto.specs.declared.command.Command.{Command}
 use Rattle.line_proto.specs.declared.command.Command.TheVariants as command
@@ -20,28 +21,31 @@ use Rattle.line_proto.specs.declared.reply.Reply.{Reply}
 use Rattle.line_proto.specs.declared.reply.Reply.TheVariants as reply
 use Rattle.cold_scan.specs.declared.header.StartCause.{StartCause}
 use Rattle.model_device.specs.Vacating.{Outcome, did, stopped}
-use Rattle.model_node.specs.Commands.{Slot, Node, NodeEvent, Does, on_device, answer_reply, meta_reply, seen_on, flushed_reply, defragged_reply, expired_reply, raided_reply, node_counts}
-use Rattle.model_node.specs.Run.{Carries}
+use Rattle.model_node.specs.Commands.{Slot, Node, NodeEvent, Does, EachDevice, Raids, on_device, node_counts}
+use Rattle.model_node.specs.Commands.{answer_reply, meta_reply, seen_on, flushed_reply, defragged_reply, expired_reply, raided_reply}
+use Rattle.model_node.specs.Run.{ImagesLeft, Carries}
 use Rattle.model_node.specs.Meaning.{ActsFrom, left_between}
 use Rattle.shard_core.specs.View.{ShardView, setup_of}
 use Rattle.shard_core.specs.Stands.{Agrees}
 use Rattle.shard_core.specs.Calls.{GetsStored}
 use Rattle.shard_core.specs.declared.refusals.DefragCause.{DefragCause}
 use Rattle.shard_core.specs.declared.refusals.WriteRefusal.{WriteRefusal}
-use Rattle.core_run.specs.Views.{NodeView, serving, halted, disks_served, views_of, unknown, AreLater}
+use Rattle.core_run.specs.Views.{NodeView, serving, halted, disks_served, views_of, view_at, unknown, AreLater}
 use Rattle.core_run.specs.Standing.{Each, StandsOn, StandsSafelyOn, StandsFor, StandsSafely, Halts, HaltsSafely}
-use Rattle.core_run.specs.Shown.{ShowsOn}
+use Rattle.core_run.specs.Shown.{RaidsOf, ShowsOn}
 use Rattle.core_run.specs.Calls.{digest_of, RepliesStored, RaidedExactly, Acts, Tends}
-use Rattle.core_run.specs.Sure.{StaySure}
+use Rattle.core_run.specs.Sure.{AreSureSince, StaySure}
 use Rattle.core_run.specs.Turns.{GoesOn, RepliesTo, RepliesOn, TendTurn, Through, WorksEach, plus_one, plus_both, IsFlushed, FlushesOn, FlushesEach}
-use Rattle.core_run.specs.Turns.{IsDefragged, DefragsOn, DefragsEach, IsExpired, ExpiresOn, ExpiresAll, IsRaided, RaidsOn, RaidsEach}
-use Rattle.core_run.proofs.Places.{events_of, nones, no_events}
-use Rattle.core_run.proofs.Making.{Made, slot_at, each_length, each_more, along_none}
-use Rattle.core_run.proofs.Acting.{Safely, over_any, over_safe, event_turn, flush_turns, defrag_turns, expire_turns, raid_turns, tend_turns}
+use Rattle.core_run.specs.Turns.{IsDefragged, DefragsOn, DefragsEach, IsExpired, ExpiresOn, ExpiresAll, IsRaided, RaidsOn, IsRaid, RaidsEach, slot_for}
+use Rattle.core_run.proofs.Places.{moved, events_of, slots_after, node_after_of, nones, no_events}
+use Rattle.core_run.proofs.Making.{Made, Along, slot_at, each_length, each_more, along_none}
+use Rattle.core_run.proofs.Acting.{Safely, over_any, over_safe, each_moved, event_turn, flush_turns, defrag_turns, expire_turns, raid_turns, tend_turns}
 use Rattle.core_run.proofs.Sparing.{leaves_none}
+use Rattle.core_run.proofs.Taking.{device_leaves, device_takes}
+use Rattle.shard_core.proofs.Events.{runs_made}
 use Rattle.core_run.proofs.Surely.{sure_at, sure_through, sure_work}
-use Rattle.core_run.proofs.Replying.{known_goes_on, stat_goes_on, flushed_goes_on, defragged_goes_on, expired_goes_on, raided_goes_on, one_digest}
-use Rattle.core_run.proofs.Nodes.{Unshown, one_shards, serves_or_halts, later_same, later_at, later_through, acts_any, acts_safe, tends_any, tends_safe}
+use Rattle.core_run.proofs.Replying.{known_goes_on, stat_goes_on, flushed_goes_on, defragged_goes_on, expired_goes_on, raided_goes_on, only_raid, one_digest}
+use Rattle.core_run.proofs.Nodes.{Unshown, RaidShown, one_shards, serves_or_halts, later_same, later_at, later_through, acts_any, acts_safe, tends_any, tends_safe}
 
 module _ {D : Type 0} (view : D → DiskView) (is_disk : (disk : D) → IsDisk (view disk)) where
   -- ---- a command, whatever it is, by what it comes to from each state
@@ -52,7 +56,8 @@ module _ {D : Type 0} (view : D → DiskView) (is_disk : (disk : D) → IsDisk (
       (exact : c ≡ command.Raid → (removed cleared : ℕ) → r ≡ reply.Raided removed cleared → (node : Node) → Each (StandsSafelyOn view) olds node
       → RaidedExactly view now olds node news removed cleared)
       (any : (node : Node) → Each (StandsOn view) olds node → ActsFrom (StandsFor view) unknown (Halts view) Unshown false (serving olds) node c now r (serving news))
-      (safe : (node : Node) → Each (StandsSafelyOn view) olds node → ActsFrom (StandsSafely view) (views_of view) (HaltsSafely view) Unshown true (serving olds) node c now r (serving news)) where
+      (safe : (node : Node) → Each (StandsSafelyOn view) olds node
+      → ActsFrom (StandsSafely view) (views_of view) (HaltsSafely view) (RaidShown view c) true (serving olds) node c now r (serving news)) where
     -- nothing was started again
     not_restarted : (views : NodeView D → ℕ → DiskView) (told : Bool) (node : Node) (work : List NodeEvent) (restarted : Option Node)
         → Carries (left_between views (serving olds) (serving news)) told node c now work restarted r → restarted ≡ None
@@ -64,14 +69,26 @@ module _ {D : Type 0} (view : D → DiskView) (is_disk : (disk : D) → IsDisk (
 
     shows_of : (views : NodeView D → ℕ → DiskView) (told : Bool) (node : Node) (work : List NodeEvent) (restarted : Option Node)
         → Carries (left_between views (serving olds) (serving news)) told node c now work restarted r → (r ≡ reply.Halted → ⊥)
-        → ShowsOn view told (serving olds) node now r work restarted (serving news)
-    shows_of views told node work restarted carried goes = record {
+        → (told ≡ true → RaidsOf view (serving olds) node now r work restarted (serving news)) → ShowsOn view told (serving olds) node now r work restarted (serving news)
+    shows_of views told node work restarted carried goes raids = record {
       again = λ fresh is. absurd (none_is fresh (sym (not_restarted views told node work restarted carried) ∙ is));
       refused = λ is. absurd (goes is);
+      sure = λ fresh is. absurd (none_is fresh (sym (not_restarted views told node work restarted carried) ∙ is));
+      raided = raids;
     }
       where
         none_is : (fresh : Node) → None ≡ Some fresh → ⊥
         none_is fresh is = cc
+
+    -- only of a raid there is something to say
+    raids_of : (node : Node) (work : List NodeEvent) (restarted : Option Node)
+        → Carries (left_between (views_of view) (serving olds) (serving news)) true node c now work restarted r
+        → (c ≡ command.Raid → RaidsOf view (serving olds) node now r work restarted (serving news)) → RaidsOf view (serving olds) node now r work restarted (serving news)
+    raids_of node work restarted (inl made) shown removed cleared is = shown (only_raid node c now work r removed cleared made.1 is) removed cleared is
+    raids_of node work restarted (inr ends) shown removed cleared is = absurd (other ends.0)
+
+    not_told : false ≡ true → ⊥
+    not_told is = cc
 
     pub acts_serving : Acts view (serving olds) c now r (serving news)
     acts_serving = record {
@@ -87,7 +104,7 @@ module _ {D : Type 0} (view : D → DiskView) (is_disk : (disk : D) → IsDisk (
             stands = a.stands;
             leaves = a.leaves;
             halt = a.halt;
-            shows = shows_of unknown false node a.work a.restarted a.carried (λ is. halts_never node _ (a.halt is));
+            shows = shows_of unknown false node a.work a.restarted a.carried (λ is. halts_never node _ (a.halt is)) (λ is. absurd (not_told is));
           };
       safe = λ node stands.
           let here = subst (λ (s : List (ShardView D)). Each (StandsSafelyOn view) s node) (sym (one_shards olds stands.0 stands.1)) stands.2 in
@@ -100,7 +117,7 @@ module _ {D : Type 0} (view : D → DiskView) (is_disk : (disk : D) → IsDisk (
             stands = a.stands;
             leaves = a.leaves;
             halt = a.halt;
-            shows = shows_of (views_of view) true node a.work a.restarted a.carried (λ is. halts_never node _ (a.halt is).halts);
+            shows = shows_of (views_of view) true node a.work a.restarted a.carried (λ is. halts_never node _ (a.halt is).halts) (λ is. raids_of node a.work a.restarted a.carried a.shows);
           };
       stored = λ shards same. subst (λ (s : List (ShardView D)). RepliesStored view s c now r) (one_shards olds shards same) stored;
       again = λ shards same is. absurd (other is);
@@ -139,11 +156,13 @@ module _ {D : Type 0} (view : D → DiskView) (is_disk : (disk : D) → IsDisk (
           acts_any view olds News node t.0 t.1 c now r
           (does node t.2 (events_of t.0) (at_node node t.2 (events_of t.0) (each_length (StandsOn view) olds node stands) t.5) t.3 (replies.1 ∙ ap answer_reply (sym t.4))) replies.2
 
-      from_safe : (node : Node) → Each (StandsSafelyOn view) olds node → ActsFrom (StandsSafely view) (views_of view) (HaltsSafely view) Unshown true (serving olds) node c now r (serving News)
+      from_safe : (node : Node) → Each (StandsSafelyOn view) olds node
+          → ActsFrom (StandsSafely view) (views_of view) (HaltsSafely view) (RaidShown view c) true (serving olds) node c now r (serving News)
       from_safe node stands =
           let t = event_turn view (StandsSafelyOn view) (Safely view) (over_safe view is_disk) olds Place old new node call replies.0 (slice_get_within olds Place old at) at goes replies.3 stands in
           acts_safe view olds News node t.0 t.1 c now r
-          (does node t.2 (events_of t.0) (at_node node t.2 (events_of t.0) (each_length (StandsSafelyOn view) olds node stands) t.5) t.3 (replies.1 ∙ ap answer_reply (sym t.4))) replies.2
+          (does node t.2 (events_of t.0) (at_node node t.2 (events_of t.0) (each_length (StandsSafelyOn view) olds node stands) t.5) t.3 (replies.1 ∙ ap answer_reply (sym t.4)))
+          replies.2 (λ raid. absurd (none raid))
 
       event_acts : Acts view (serving olds) c now r (serving News)
       event_acts = acts_serving olds News c now r later (sure_at view olds Place old new at goes) other stored (λ is. absurd (none is)) from_any from_safe
@@ -172,11 +191,11 @@ module _ {D : Type 0} (view : D → DiskView) (is_disk : (disk : D) → IsDisk (
           (no_events (length olds), told node stands) (goes_on node stands)
 
       know_safe : (node : Node) → Each (StandsSafelyOn view) olds node
-          → ActsFrom (StandsSafely view) (views_of view) (HaltsSafely view) Unshown true (serving olds) node (command.Meta digest) now r (serving olds)
+          → ActsFrom (StandsSafely view) (views_of view) (HaltsSafely view) (RaidShown view (command.Meta digest)) true (serving olds) node (command.Meta digest) now r (serving olds)
       know_safe node stands =
           let plain = each_more (StandsSafelyOn view) (StandsOn view) (λ shard slot s. s.stands) olds node stands in
           acts_safe view olds olds node (nones (length olds)) (along_none (Safely view) (StandsSafelyOn view) (over_safe view is_disk).rests olds node stands) (command.Meta digest) now r
-          (no_events (length olds), told node plain) (goes_on node plain)
+          (no_events (length olds), told node plain) (goes_on node plain) (λ raid. cc)
 
       meta_acts : Acts view (serving olds) (command.Meta digest) now r (serving News)
       meta_acts = subst (λ (s : List (ShardView D)). Acts view (serving olds) (command.Meta digest) now r (serving s)) (sym news_same)
@@ -248,7 +267,7 @@ module _ {D : Type 0} (view : D → DiskView) (is_disk : (disk : D) → IsDisk (
       acts_any view olds news node t.0 t.1 command.Flush now r (t.2.0, t.2.2, is t.2.0 t.2.1) (λ h. flushed_goes_on t.2.0 (sym (is t.2.0 t.2.1) ∙ h)))
       (λ node stands.
       let t = flush_turns view (StandsSafelyOn view) (Safely view) (over_safe view is_disk) flushed olds news node each stands in
-      acts_safe view olds news node t.0 t.1 command.Flush now r (t.2.0, t.2.2, is t.2.0 t.2.1) (λ h. flushed_goes_on t.2.0 (sym (is t.2.0 t.2.1) ∙ h)))
+      acts_safe view olds news node t.0 t.1 command.Flush now r (t.2.0, t.2.2, is t.2.0 t.2.1) (λ h. flushed_goes_on t.2.0 (sym (is t.2.0 t.2.1) ∙ h)) (λ raid. cc))
 
   pub defrag_acts : (result : Result (ℕ × ℕ) DefragCause) (olds news : List (ShardView D)) (now : ℕ) (r : Reply) → DefragsEach view result olds news
       → ((outcome : Outcome) → IsDefragged result outcome → r ≡ defragged_reply outcome) → Acts view (serving olds) command.Defrag now r (serving news)
@@ -260,7 +279,7 @@ module _ {D : Type 0} (view : D → DiskView) (is_disk : (disk : D) → IsDisk (
       acts_any view olds news node t.0 t.1 command.Defrag now r (t.2.0, t.2.2, is t.2.0 t.2.1) (λ h. defragged_goes_on t.2.0 (sym (is t.2.0 t.2.1) ∙ h)))
       (λ node stands.
       let t = defrag_turns view (StandsSafelyOn view) (Safely view) (over_safe view is_disk) result olds news node each stands in
-      acts_safe view olds news node t.0 t.1 command.Defrag now r (t.2.0, t.2.2, is t.2.0 t.2.1) (λ h. defragged_goes_on t.2.0 (sym (is t.2.0 t.2.1) ∙ h)))
+      acts_safe view olds news node t.0 t.1 command.Defrag now r (t.2.0, t.2.2, is t.2.0 t.2.1) (λ h. defragged_goes_on t.2.0 (sym (is t.2.0 t.2.1) ∙ h)) (λ raid. cc))
 
   pub expire_acts : (result : Result ℕ WriteRefusal) (olds news : List (ShardView D)) (now : ℕ) (r : Reply) → ExpiresAll view now result olds news
       → ((outcome : Outcome) → IsExpired result outcome → r ≡ expired_reply outcome) → Acts view (serving olds) command.Expire now r (serving news)
@@ -272,7 +291,7 @@ module _ {D : Type 0} (view : D → DiskView) (is_disk : (disk : D) → IsDisk (
       acts_any view olds news node t.0 t.1 command.Expire now r (t.2.0, t.2.2, is t.2.0 t.2.1) (λ h. expired_goes_on t.2.0 (sym (is t.2.0 t.2.1) ∙ h)))
       (λ node stands.
       let t = expire_turns view (StandsSafelyOn view) (Safely view) (over_safe view is_disk) now result olds news node each stands in
-      acts_safe view olds news node t.0 t.1 command.Expire now r (t.2.0, t.2.2, is t.2.0 t.2.1) (λ h. expired_goes_on t.2.0 (sym (is t.2.0 t.2.1) ∙ h)))
+      acts_safe view olds news node t.0 t.1 command.Expire now r (t.2.0, t.2.2, is t.2.0 t.2.1) (λ h. expired_goes_on t.2.0 (sym (is t.2.0 t.2.1) ∙ h)) (λ raid. cc))
 
   -- ---- a raid
 
@@ -325,6 +344,100 @@ module _ {D : Type 0} (view : D → DiskView) (is_disk : (disk : D) → IsDisk (
       let both : raided_reply (stopped t.2.1.0) ≡ reply.Raided removed cleared = ap raided_reply (sym t.2.1.2) ∙ sym (is t.2.0 t.2.1) ∙ told in
       absurd cc
 
+  -- What each may leave before it and behind it, of a raid of each device, comes to what all did.
+  abbrev LeftBy : List (ShardView D) → ImagesLeft
+  LeftBy shards = λ device. (view_at view (disks_served shards) device).may_leave
+
+  abbrev Took : (now : ℕ) (olds news : List (ShardView D)) (node : Node) (mines : List (List Event)) (sums a : ℕ × ℕ) → Type 0
+  Took now olds news node mines sums a = (counts : List ℕ) → AreSureSince view counts olds → (others : ℕ × ℕ) × (sums.0 ≡ a.0 + others.0) × (sums.1 ≡ a.1 + others.1)
+      × RaidsAll counts (LeftBy olds) (LeftBy news) now node (slots_after mines node) others.0 others.1
+
+  abbrev RaidTurned : (now : ℕ) (sums a : ℕ × ℕ) (olds news : List (ShardView D)) (node : Node) → Type 0
+  RaidTurned now sums a olds news node = (mines : List (List Event)) × Along (Safely view) olds news node mines
+      × EachDevice (Raids now) 0 node a.0 a.1 (events_of mines) (did sums.0 sums.1) × Took now olds news node mines sums a
+
+  took_one : (now : ℕ) (sums a : ℕ × ℕ) (old new : ShardView D) (olds news : List (ShardView D)) (slot : Slot) (node : Node) (one : ℕ × ℕ) (raids : RaidsOn view now (Ok one) old new)
+      (stands : StandsSafelyOn view old slot) (mines : List (List Event)) → Took now olds news node mines sums (plus_both a one)
+      → Took now (old ∷ olds) (new ∷ news) (slot ∷ node) ((raids.makes slot.state stands.stands.agrees).events ∷ mines) sums a
+  took_one now sums a old new olds news slot node one raids stands mines rest [] since = absurd since
+  took_one now sums a old new olds news slot node one raids stands mines rest (count ∷ counts) since =
+      let more = rest counts since.1 in (
+        (one.0 + more.0.0, one.1 + more.0.1),
+        omega (arith, more.1),
+        omega (arith, more.2),
+        (
+          one.0,
+          one.1,
+          more.0,
+          refl,
+          refl,
+          device_leaves view now old new slot one raids stands,
+          device_takes view now old new slot one raids stands count since.0,
+          more.3,
+        ),
+      )
+
+  raid_shown : (now : ℕ) (sums a : ℕ × ℕ) (olds news : List (ShardView D)) (node : Node) → WorksEach (RaidsOn view now) plus_both (Ok sums) a olds news → Each (StandsSafelyOn view) olds node
+      → RaidTurned now sums a olds news node
+  raid_shown now sums a [] news node each stands = (
+    [],
+    (each.0, stands, refl),
+    subst (λ (x : Node). EachDevice (Raids now) 0 x a.0 a.1 [] (did sums.0 sums.1)) (sym stands) (refl, ap (λ (r : ℕ × ℕ). did r.0 r.1) each.1),
+    λ counts since.
+        let same = each.1 in (
+          (0, 0),
+          omega (arith, ap (λ (p : ℕ × ℕ). p.0) same),
+          omega (arith, ap (λ (p : ℕ × ℕ). p.1) same),
+          subst (λ (x : Node). RaidsAll counts (LeftBy []) (LeftBy news) now x (slots_after [] x) 0 0) (sym stands) (refl, refl),
+        ),
+  )
+  raid_shown now sums a (old ∷ olds) [] node each stands = absurd each
+  raid_shown now sums a (old ∷ olds) (new ∷ news) [] each stands = absurd stands
+  raid_shown now sums a (old ∷ olds) (new ∷ news) (slot ∷ node) (one, raids, more) stands =
+      let on = stands.0.stands in
+      let m = raids.makes slot.state on.agrees in
+      let same : slot_for view old slot.state ≡ slot = λ i. record { setup = sym on.setup_is i; state = slot.state; faults = sym on.faults_is i } in
+      let rest = raid_shown now sums (plus_both a one) olds news node more stands.1 in (
+        m.events ∷ rest.0,
+        ((over_safe view is_disk).many old new raids.goes slot m.events (runs_made view old new slot.state (IsRaid view old new now slot.state (Ok one)) m) stands.0, rest.1),
+        (
+          m.events,
+          map moved (events_of rest.0),
+          refl,
+          inl (
+            one.0,
+            one.1,
+            subst (Raids now slot m.events) m.works.1 (subst (λ (x : Slot). Raids now x m.events m.works.0) same m.works.2),
+            each_moved (Raids now) 0 node (a.0 + one.0) (a.1 + one.1) (events_of rest.0) (did sums.0 sums.1) rest.2,
+          ),
+        ),
+        took_one now sums a old new olds news slot node one raids stands.0 rest.0 rest.3,
+      )
+
+  raid_safe : (result : Result (ℕ × ℕ) LineFault) (olds news : List (ShardView D)) (now : ℕ) (r : Reply) → RaidsEach view now result olds news
+      → ((outcome : Outcome) → IsRaided result outcome → r ≡ raided_reply outcome) → (node : Node) → Each (StandsSafelyOn view) olds node
+      → ActsFrom (StandsSafely view) (views_of view) (HaltsSafely view) (RaidShown view command.Raid) true (serving olds) node command.Raid now r (serving news)
+  raid_safe (Ok sums) olds news now r each is node stands =
+      let t = raid_shown now sums (0, 0) olds news node each stands in
+      let told : r ≡ reply.Raided sums.0 sums.1 = is (did sums.0 sums.1) refl in
+      acts_safe view olds news node t.0 t.1 command.Raid now r (did sums.0 sums.1, t.2, told) (λ h. raided_goes_on (did sums.0 sums.1) (sym told ∙ h))
+      (λ raid removed cleared so counts since.
+      let took = t.3 counts since in
+      let both : reply.Raided sums.0 sums.1 ≡ reply.Raided removed cleared = sym told ∙ so in
+      let one : sums.0 ≡ removed = cc in
+      let two : sums.1 ≡ cleared = cc in
+      let gone : took.0.0 ≡ removed = omega (arith, took.1, one) in
+      let bare : took.0.1 ≡ cleared = omega (arith, took.2, two) in
+      subst (λ (x : Node). RaidsAll counts (LeftBy olds) (LeftBy news) now node x removed cleared) (sym (node_after_of t.0 node))
+      (subst (λ (n : ℕ). RaidsAll counts (LeftBy olds) (LeftBy news) now node (slots_after t.0 node) n cleared) gone
+      (subst (λ (n : ℕ). RaidsAll counts (LeftBy olds) (LeftBy news) now node (slots_after t.0 node) took.0.0 n) bare took.3)))
+  raid_safe (Err fault) olds news now r each is node stands =
+      let t = raid_turns view (StandsSafelyOn view) (Safely view) (over_safe view is_disk) now (Err fault) olds news node each stands in
+      acts_safe view olds news node t.0 t.1 command.Raid now r (t.2.0, t.2.2, is t.2.0 t.2.1) (λ h. raided_goes_on t.2.0 (sym (is t.2.0 t.2.1) ∙ h))
+      (λ raid removed cleared so.
+      let both : raided_reply (stopped t.2.1.0) ≡ reply.Raided removed cleared = ap raided_reply (sym t.2.1.2) ∙ sym (is t.2.0 t.2.1) ∙ so in
+      absurd cc)
+
   pub raid_acts : (result : Result (ℕ × ℕ) LineFault) (olds news : List (ShardView D)) (now : ℕ) (r : Reply) → RaidsEach view now result olds news
       → ((outcome : Outcome) → IsRaided result outcome → r ≡ raided_reply outcome) → Acts view (serving olds) command.Raid now r (serving news)
   raid_acts result olds news now r each is =
@@ -334,9 +447,7 @@ module _ {D : Type 0} (view : D → DiskView) (is_disk : (disk : D) → IsDisk (
       (λ node stands.
       let t = raid_turns view (StandsOn view) (Made false (StandsOn view)) (over_any view) now result olds news node each stands in
       acts_any view olds news node t.0 t.1 command.Raid now r (t.2.0, t.2.2, is t.2.0 t.2.1) (λ h. raided_goes_on t.2.0 (sym (is t.2.0 t.2.1) ∙ h)))
-      (λ node stands.
-      let t = raid_turns view (StandsSafelyOn view) (Safely view) (over_safe view is_disk) now result olds news node each stands in
-      acts_safe view olds news node t.0 t.1 command.Raid now r (t.2.0, t.2.2, is t.2.0 t.2.1) (λ h. raided_goes_on t.2.0 (sym (is t.2.0 t.2.1) ∙ h)))
+      (λ node stands. raid_safe result olds news now r each is node stands)
 
   -- ---- the numbers
 
@@ -350,7 +461,7 @@ module _ {D : Type 0} (view : D → DiskView) (is_disk : (disk : D) → IsDisk (
       (λ node stands.
       let plain = each_more (StandsSafelyOn view) (StandsOn view) (λ shard slot s. s.stands) olds node stands in
       acts_safe view olds olds node (nones (length olds)) (along_none (Safely view) (StandsSafelyOn view) (over_safe view is_disk).rests olds node stands) command.Stat now (reply.StatOf counts)
-      (no_events (length olds), ap reply.StatOf (told node plain)) (stat_goes_on counts))
+      (no_events (length olds), ap reply.StatOf (told node plain)) (stat_goes_on counts) (λ raid. cc))
 
   -- ---- tending
 

@@ -5,6 +5,7 @@ pub mod Looping
 pub mod Defragging
 pub mod Expiring
 pub mod Sparing
+pub mod Taking
 pub mod Raiding
 pub mod Startings
 pub mod Counting

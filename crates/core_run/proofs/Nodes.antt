@@ -5,6 +5,7 @@ use Rattle.disk_model.specs.Disk.{DiskView, IsDisk}
 use Rattle.block_shelf.specs.Disks.{IsLater}
 use Rattle.model_device.specs.Events.{Event}
 use Rattle.line_proto.specs.declared.command.Command.{Command}
+use Rattle.line_proto.specs.declared.command.Command.TheVariants as command
 use Rattle.line_proto.specs.declared.reply.Reply.{Reply}
 use Rattle.line_proto.specs.declared.reply.Reply.TheVariants as reply
 use Rattle.cold_scan.specs.declared.header.StartCause.{StartCause}
@@ -15,6 +16,7 @@ use Rattle.shard_core.specs.View.{ShardView}
 use Rattle.shard_core.proofs.Later.{later_none}
 use Rattle.core_run.specs.Views.{NodeView, serving, halted, disks_served, views_of, unknown, AreLater}
 use Rattle.core_run.specs.Standing.{StandsOn, StandsSafelyOn, StandsFor, StandsSafely, Halts, HaltsSafely}
+use Rattle.core_run.specs.Shown.{RaidsOf}
 use Rattle.core_run.proofs.Places.{events_of}
 use Rattle.core_run.proofs.Making.{Made, LeftOn, Along, along_legal, along_after, along_left, nothing_left}
 use Rattle.core_run.proofs.Acting.{Safely, along_both}
@@ -37,6 +39,10 @@ one_disks a b c d same = ap (λ n. n.disks) same
 -- nothing is said of what a call shows
 abbrev pub Unshown : {T : Type 0} → Showing T
 Unshown old node now r work restarted new = Unit {0}
+
+-- of a raid it is said what it has done
+abbrev pub RaidShown : {D : Type 0} → (view : D → DiskView) → Command → Showing (NodeView D)
+RaidShown view c old node now r work restarted new = c ≡ command.Raid → RaidsOf view old node now r work restarted new
 
 -- ---- time
 
@@ -112,9 +118,9 @@ module _ {D : Type 0} (view : D → DiskView) (olds news : List (ShardView D)) (
     left : LeavesEach (views_of view) node (λ device. states_while device Work node) (serving olds) (serving news)
     left = along_left view olds news node mines (along_both (Made true (StandsSafelyOn view)) (LeftOn view) olds news node mines along).1
 
-    pub acts_safe : (c : Command) (now : ℕ) (r : Reply) → Does node c now Work r → r ≢ reply.Halted
-        → ActsFrom (StandsSafely view) (views_of view) (HaltsSafely view) Unshown true (serving olds) node c now r (serving news)
-    acts_safe c now r does goes = record {
+    pub acts_safe : (c : Command) (now : ℕ) (r : Reply) → Does node c now Work r → r ≢ reply.Halted → RaidShown view c (serving olds) node now r Work None (serving news)
+        → ActsFrom (StandsSafely view) (views_of view) (HaltsSafely view) (RaidShown view c) true (serving olds) node c now r (serving news)
+    acts_safe c now r does goes shown = record {
       work = Work;
       restarted = None;
       carried = inl (refl, does);
@@ -122,7 +128,7 @@ module _ {D : Type 0} (view : D → DiskView) (olds news : List (ShardView D)) (
       stands = λ _. stands_safely;
       leaves = left;
       halt = λ is. absurd (goes is);
-      shows = tt;
+      shows = shown;
     }
 
     pub tends_safe : TendsEach 0 node Work → TendsFrom (StandsSafely view) (views_of view) true (serving olds) node (serving news)

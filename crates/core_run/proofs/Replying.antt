@@ -1,5 +1,5 @@
 -- What the replies to the devices' answers are not.
-use Rattle.std.proofs.Common.{◌≡◌, ℕ, Bool, true, false}
+use Rattle.std.proofs.Common.{◌≡◌, ℕ, Bool, true, false, List, refl, sym, ◌∙◌}
 use Rattle.std.specs.Prelude.{Option, Some, None, Result, Ok, Err}
 use Rattle.rec_format.specs.declared.version.Digest.{Digest}
 use Rattle.rec_format.specs.declared.version.Stamp.{Stamp}
@@ -10,9 +10,13 @@ use Rattle.block_shelf.specs.declared.refusals.ReadRefusal.TheVariants as read
 use Rattle.shard_core.specs.declared.refusals.WriteRefusal.{WriteRefusal}
 use Rattle.shard_core.specs.declared.refusals.WriteRefusal.TheVariants as write
 use Rattle.shard_core.specs.Calls.{write_answer, delete_answer, read_answer}
+use Rattle.line_proto.specs.declared.command.Command.{Command}
+use Rattle.line_proto.specs.declared.command.Command.TheVariants as command
+use Rattle.line_proto.specs.declared.reply.Reply.{Reply}
 use Rattle.line_proto.specs.declared.reply.Reply.TheVariants as reply
+use Rattle.model_device.specs.Events.{Answer, stamp_given, happened, found_version, counted, block_chosen, raid_numbered, marks_made, block_scanned, marks_undone, part_ended, raid_over, refused}
 use Rattle.model_device.specs.Vacating.{Outcome, did, stopped}
-use Rattle.model_node.specs.Commands.{answer_reply, meta_reply, flushed_reply, defragged_reply, expired_reply, raided_reply}
+use Rattle.model_node.specs.Commands.{Node, NodeEvent, Does, node_counts, answer_reply, meta_reply, flushed_reply, defragged_reply, expired_reply, raided_reply}
 
 -- ---- no reply halts
 
@@ -69,6 +73,54 @@ expired_goes_on (stopped cause) e = cc
 pub raided_goes_on : (outcome : Outcome) → raided_reply outcome ≡ reply.Halted → ⊥
 raided_goes_on (did a b) e = cc
 raided_goes_on (stopped cause) e = cc
+
+-- ---- only a raid is replied as one
+
+answer_no_raid : (answer : Answer) (a b : ℕ) → answer_reply answer ≡ reply.Raided a b → ⊥
+answer_no_raid (stamp_given stamp) a b e = cc
+answer_no_raid (happened true) a b e = cc
+answer_no_raid (happened false) a b e = cc
+answer_no_raid (found_version None) a b e = cc
+answer_no_raid (found_version (Some v)) a b e = cc
+answer_no_raid (counted n) a b e = cc
+answer_no_raid (block_chosen block) a b e = cc
+answer_no_raid (raid_numbered number) a b e = cc
+answer_no_raid (marks_made n) a b e = cc
+answer_no_raid (block_scanned n) a b e = cc
+answer_no_raid (marks_undone n) a b e = cc
+answer_no_raid (part_ended removed cleared) a b e = cc
+answer_no_raid raid_over a b e = cc
+answer_no_raid (refused cause) a b e = cc
+
+known_no_raid : (v : Option Version) (a b : ℕ) → meta_reply v ≡ reply.Raided a b → ⊥
+known_no_raid None a b e = cc
+known_no_raid (Some v) a b e = cc
+
+flushed_no_raid : (outcome : Outcome) (a b : ℕ) → flushed_reply outcome ≡ reply.Raided a b → ⊥
+flushed_no_raid (did x y) a b e = cc
+flushed_no_raid (stopped cause) a b e = cc
+
+defragged_no_raid : (outcome : Outcome) (a b : ℕ) → defragged_reply outcome ≡ reply.Raided a b → ⊥
+defragged_no_raid (did x y) a b e = cc
+defragged_no_raid (stopped cause) a b e = cc
+
+expired_no_raid : (outcome : Outcome) (a b : ℕ) → expired_reply outcome ≡ reply.Raided a b → ⊥
+expired_no_raid (did x y) a b e = cc
+expired_no_raid (stopped cause) a b e = cc
+
+pub only_raid : (node : Node) (c : Command) (now : ℕ) (work : List NodeEvent) (r : Reply) (a b : ℕ) → Does node c now work r → r ≡ reply.Raided a b → c ≡ command.Raid
+only_raid node (command.Put digest ttl expect payload) now work r a b does is = absurd (answer_no_raid does.0.answer a b (sym does.3 ∙ is))
+only_raid node (command.Get digest) now work r a b does is = absurd (answer_no_raid does.0.answer a b (sym does.3 ∙ is))
+only_raid node (command.Meta digest) now work r a b does is = absurd (known_no_raid _ a b (sym does.1 ∙ is))
+only_raid node (command.Del digest) now work r a b does is = absurd (answer_no_raid does.0.answer a b (sym does.3 ∙ is))
+only_raid node (command.Bury digest) now work r a b does is = absurd (answer_no_raid does.0.answer a b (sym does.3 ∙ is))
+only_raid node command.Flush now work r a b does is = absurd (flushed_no_raid does.0 a b (sym does.2 ∙ is))
+only_raid node command.Defrag now work r a b does is = absurd (defragged_no_raid does.0 a b (sym does.2 ∙ is))
+only_raid node command.Expire now work r a b does is = absurd (expired_no_raid does.0 a b (sym does.2 ∙ is))
+only_raid node command.Raid now work r a b does is = refl
+only_raid node command.Stat now work r a b does is = let both : reply.StatOf (node_counts node) ≡ reply.Raided a b = sym does.1 ∙ is in absurd cc
+only_raid node command.Restart now work r a b does is = absurd does
+only_raid node command.Quit now work r a b does is = let both : reply.Bye ≡ reply.Raided a b = sym does.1 ∙ is in absurd cc
 
 pub one_digest : (a b : Digest) → ◌≡◌ {A = Option Digest} (Some a) (Some b) → a ≡ b
 one_digest a b is = cc

@@ -27,7 +27,8 @@ use Rattle.core_run.specs.Standing.{Each, StandsOn, StandsSafelyOn, StandsFor, S
 use Rattle.core_run.specs.Shown.{ShowsOn}
 use Rattle.core_run.specs.Calls.{Acts, Restarted}
 use Rattle.core_run.proofs.Making.{each_length, each_more, nothing_left}
-use Rattle.core_run.proofs.Surely.{sure_again}
+use Rattle.core_run.specs.Sure.{AreSureSince}
+use Rattle.core_run.proofs.Surely.{sure_again, sure_now}
 use Rattle.core_run.proofs.Nodes.{one_shards, serves_or_halts}
 use Rattle.core_run.proofs.Replying.{restart_goes_on}
 use Rattle.core_run.proofs.Reading.{ReadEach, read_later, starts_read, refuses_read, left_read, counted_now, same_states, counts_now, counts_before, left_now, place_within, refused_rose, not_refused}
@@ -166,9 +167,9 @@ module _ {D : Type 0} (view : D → DiskView) (set : Settings) where
       reply_is after stands = ap (λ (c : Counts). reply.Restarted c.records c.tombstones) (told after stands)
 
       started_shows : (told : Bool) (node after : Node) → length node ≡ length olds
-          → ((place : ℕ) → On after place (IsStartedFrom told (0 + place) (length olds) (view_at view (disks_served olds) place)))
+          → ((place : ℕ) → On after place (IsStartedFrom told (0 + place) (length olds) (view_at view (disks_served olds) place))) → Each (StandsOn view) fresh after
           → ShowsOn view told (serving olds) node now (reply.Restarted counts.records counts.tombstones) [] (Some after) (serving fresh)
-      started_shows told node after many from = record {
+      started_shows told node after many from stands = record {
         again = λ new is goes device.
             let one : after ≡ new = cc in
             let here : 0 + device ≡ device = omega arith in
@@ -176,6 +177,10 @@ module _ {D : Type 0} (view : D → DiskView) (set : Settings) where
             (subst (λ (n : ℕ). On after device (IsStartedFrom told device n (view_at view (disks_served olds) device))) (sym many)
             (subst (λ (n : ℕ). On after device (IsStartedFrom told n (length olds) (view_at view (disks_served olds) device))) here (from device)));
         refused = λ is. absurd (restart_goes_on counts.records counts.tombstones is);
+        sure = λ new is.
+            let one : after ≡ new = cc in
+            subst (λ (n : Node). AreSureSince view (counts_of n) fresh) one (sure_now view set 0 (length olds) (disks_served olds) fresh after starts stands);
+        raided = λ is removed cleared other. cc;
       }
 
       any : (node : Node) → Each (StandsOn view) olds node
@@ -190,7 +195,7 @@ module _ {D : Type 0} (view : D → DiskView) (set : Settings) where
             stands = λ goes. (fresh, refl, made.stands);
             leaves = nothing_left (serving olds) (serving fresh) node _;
             halt = λ is. absurd (restart_goes_on counts.records counts.tombstones is);
-            shows = started_shows false node made.after (each_length (StandsOn view) olds node stands) made.from;
+            shows = started_shows false node made.after (each_length (StandsOn view) olds node stands) made.from made.stands;
           }
 
       safe : (node : Node) → Each (StandsSafelyOn view) olds node
@@ -208,7 +213,7 @@ module _ {D : Type 0} (view : D → DiskView) (set : Settings) where
             stands = λ goes. (fresh, refl, made.stands);
             leaves = left_read view is_disk olds (disks_served fresh) node stands read;
             halt = λ is. absurd (restart_goes_on counts.records counts.tombstones is);
-            shows = started_shows true node made.after (each_length (StandsSafelyOn view) olds node stands) made.from;
+            shows = started_shows true node made.after (each_length (StandsSafelyOn view) olds node stands) made.from plain;
           }
 
       pub restart_done : Acts view (serving olds) command.Restart now (reply.Restarted counts.records counts.tombstones) (serving fresh)
@@ -255,6 +260,8 @@ module _ {D : Type 0} (view : D → DiskView) (set : Settings) where
           length-map olds (λ (s : ShardView D). s.shelf.disk) ∙ sym many,
           subst (λ (n : ℕ). RefusesAt view set reason.0 0 n reason.1 (disks_served olds) disks) (sym many) refuses,
         );
+        sure = λ fresh is. tt;
+        raided = λ is removed cleared other. cc;
       }
 
       any_refused : (node : Node) → Each (StandsOn view) olds node

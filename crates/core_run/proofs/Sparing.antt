@@ -67,7 +67,7 @@ module _ (setup : Setup) (g : Geometry) (s after : State) (records : Records) (g
     copy = stored.copy;
   })
 
-  none_left : (digest : Digest) → NoneOlder s (possible_in g after.book records (loosened g gates images)) digest → (e : Version) → entry s digest ≡ Some e → HasNoOlder setup after images digest e
+  pub none_left : (digest : Digest) → NoneOlder s (possible_in g after.book records (loosened g gates images)) digest → (e : Version) → entry s digest ≡ Some e → HasNoOlder setup after images digest e
   none_left digest none e top v is = by (is_later e v) refl
     where
       by : (b : Bool) → is_later e v ≡ b → b ≡ false

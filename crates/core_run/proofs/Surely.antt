@@ -1,5 +1,5 @@
 -- Since when no gate of a device is unsure: behind a start, and through the calls of all devices.
-use Rattle.std.proofs.Common.{◌≡◌, ◌⊎◌, inl, inr, ℕ, zero, suc, ◌+◌, List, [], ◌∷◌, length, set, sym, subst}
+use Rattle.std.proofs.Common.{◌≡◌, ◌⊎◌, inl, inr, ℕ, zero, suc, ◌+◌, List, [], ◌∷◌, length, set, sym, subst, arith}
 use Rattle.std.proofs.Math.Nat.{le_trans}
 use Rattle.std.specs.Prelude.{Some, Result, Ok, Err, slice_get}
 use Rattle.model_faults.specs.Counts.{Rose}
@@ -12,6 +12,9 @@ use Rattle.core_run.specs.Views.{serving, disks_served, faults_of}
 use Rattle.core_run.specs.Starts.{StartsEach}
 use Rattle.core_run.specs.Sure.{IsSureSince, AreSureSince, StaySure}
 use Rattle.core_run.specs.Turns.{GoesOn, Through, WorksEach}
+use Rattle.core_run.specs.Standing.{Each, StandsOn}
+use Rattle.model_node.specs.Commands.{Node}
+use Rattle.model_node.specs.Outside.{counts_of}
 
 module _ {D : Type 0} (view : D → DiskView) where
   -- ---- one device
@@ -81,3 +84,13 @@ module _ {D : Type 0} (view : D → DiskView) where
   sure_begun set device devices (disk ∷ disks) [] starts = tt
   sure_begun set device devices (disk ∷ disks) (shard ∷ shards) starts =
       (record { later = starts.0.read.later; sure = inl starts.0.sure }, sure_begun set (device + 1) devices disks shards starts.1)
+
+  -- and since those that it has then itself
+  pub sure_now : (set : Settings) (device devices : ℕ) (disks : List D) (shards : List (ShardView D)) (node : Node) → StartsEach view set device devices disks shards
+      → Each (StandsOn view) shards node → AreSureSince view (counts_of node) shards
+  sure_now set device devices disks [] node starts stands = tt
+  sure_now set device devices disks (shard ∷ shards) [] starts stands = absurd stands
+  sure_now set device devices [] (shard ∷ shards) (slot ∷ node) starts stands = let none : shard ∷ shards ≡ [] = starts in absurd cc
+  sure_now set device devices (disk ∷ disks) (shard ∷ shards) (slot ∷ node) starts stands =
+      let same = stands.0.faults_is in
+      (record { later = omega (arith, same); sure = inl starts.0.sure }, sure_now set (device + 1) devices disks shards node starts.1 stands.1)

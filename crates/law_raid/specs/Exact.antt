@@ -1,13 +1,14 @@
 -- Crate law_raid. What a raid that takes every turn has done at its end.
-use Rattle.std.specs.Prelude.{ℕ, Bool, true, ◌&&◌, List, [], ◌∷◌, count_by, Some, ◌≡◌, ◌⊎◌, if◌then◌else◌, MatchBool}
+use Rattle.std.specs.Prelude.{ℕ, Bool, true, ◌&&◌, List, [], ◌∷◌, count_by, Some, ◌≡◌, ◌⊎◌, if◌then◌else◌, MatchBool, Contains}
 use Rattle.rec_format.specs.declared.version.Digest.{Digest}
 use Rattle.rec_format.specs.declared.version.Version.{Version}
-use Rattle.rec_format.specs.Versions.{is_put, is_tombstone}
-use Rattle.model_device.specs.Histories.{Item, rid, cleared}
-use Rattle.model_device.specs.Book.{Setup}
+use Rattle.rec_format.specs.Versions.{is_later, is_put, is_tombstone}
+use Rattle.model_device.specs.Histories.{Item, rid, cleared, is_pending}
+use Rattle.model_device.specs.Book.{Setup, pending_of}
 use Rattle.model_device.specs.Device.{State, history, entry, entry_passes, digests_of, is_eligible}
 use Rattle.model_device.specs.Events.{Event, after_event}
-use Rattle.law_start.specs.Surviving.{HasNoOlder}
+use Rattle.law_start.specs.Surviving.{IsStored, HasNoOlder}
+use Rattle.law_trail.specs.Numbers.{versions_for}
 use Rattle.law_facts.specs.Facts.{Possible, IsOlder, NoneOlder}
 use Rattle.law_facts.specs.Asking.{ScansAll, ScansOnly}
 
@@ -37,6 +38,25 @@ RaidSpares s possible after = (digest : Digest) → (history after digest ≡ hi
 abbrev pub RaidLeavesNone : Setup → State → (after : State) → (images : List ℕ → Type 0) → Type 0
 RaidLeavesNone setup s after images =
     (digest : Digest) → (history after digest ≡ history s digest) ⊎ ((e : Version) → entry s digest ≡ Some e → HasNoOlder setup after images digest e)
+
+-- A version of the digest may wait in a buffer that isn't flushed: it went there, or a start found it, and then no move of it is told in its history.
+abbrev pub MayWait : State → Digest → Version → Type 0
+MayWait s digest v = (number : ℕ) × (is_pending (pending_of s.book) number ≡ true) × Contains (versions_for number (history s digest)) v
+
+-- a version of the digest that is older than this one may wait in a buffer, or one of these images has it
+abbrev pub HasOlder : Setup → State → (images : List ℕ → Type 0) → Digest → Version → Type 0
+HasOlder setup s images digest e = (v : Version) × (is_later e v ≡ true) × (MayWait s digest v ⊎ IsStored setup images digest v)
+
+-- By what could be left when it began: a raid from this state removed just those tombstones that are old enough, and cleared just the covers of those
+-- covered puts, of which no older copy was possible, and told how many. `bare` tells of which digests none was; of any other an older version was in an
+-- image, or may have waited in a buffer.
+pub record RaidTakesJust (setup : Setup) (now : ℕ) (s : State) (images : List ℕ → Type 0) (removed cleared : ℕ) (after : State) : Type 0 where
+  pub bare : Digest → Bool
+  pub bare_is : (digest : Digest) → is_eligible setup now s digest ≡ true → (e : Version) → entry s digest ≡ Some e
+      → MatchBool (bare digest) (HasNoOlder setup s images digest e) (HasOlder setup s images digest e)
+  pub removed_are : removed ≡ count_by (λ d. (is_eligible setup now s d && bare d) && entry_passes is_tombstone (entry s d)) (digests_of s.log)
+  pub cleared_are : cleared ≡ count_by (λ d. (is_eligible setup now s d && bare d) && entry_passes is_put (entry s d)) (digests_of s.log)
+  pub histories : (digest : Digest) → history after digest ≡ (if is_eligible setup now s digest && bare digest then drop_item s digest ∷ history s digest else history s digest)
 
 -- each scan of these events finds what it has to, and nothing but what is possible; what is possible stays the same up to the last scan
 abbrev pub FindsAlong : Setup → Possible → State → List Event → Type 0

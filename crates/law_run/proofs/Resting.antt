@@ -36,7 +36,12 @@ now_survives node device image survives = one_of_now device (slice_get node devi
 
 module _ {D : Type 0} (view : D → DiskView) where
   quits_show : (told : Bool) (store : NodeView D) (node : Node) (now : ℕ) → ShowsOn view told store node now reply.Bye [] None store
-  quits_show told store node now = record { again = λ fresh is goes. absurd (none_is fresh is); refused = λ is. absurd (bye_goes is) }
+  quits_show told store node now = record {
+    again = λ fresh is goes. absurd (none_is fresh is);
+    refused = λ is. absurd (bye_goes is);
+    sure = λ fresh is. absurd (none_is fresh is);
+    raided = λ is removed cleared other. cc;
+  }
     where
       none_is : (fresh : Node) → None ≡ Some fresh → ⊥
       none_is fresh is = cc

@@ -27,6 +27,7 @@ use Rattle.model_node.specs.Meaning.{ClosesFrom, Enters}
 use Rattle.core_run.specs.Views.{NodeView, serving, halted, disks_served, disks_of, views_of, view_at, unknown, faults_of, AreLater}
 use Rattle.core_run.specs.Starts.{StartsEach}
 use Rattle.core_run.specs.Shown.{ShowsOn}
+use Rattle.core_run.proofs.Surely.{sure_now}
 use Rattle.core_run.specs.Standing.{StandsOn, StandsSafelyOn, StandsFor, StandsSafely, Each, Halts, HaltsSafely}
 use Rattle.core_run.specs.Calls.{Acts, Tends, ClosedSo}
 use Rattle.law_session.specs.Chain.{InHalt, ShowsAll, ActsOn, TendsOn, EndsWith}
@@ -217,17 +218,19 @@ module _ {D : Type 0} (view : D → DiskView) where
     -- ---- what the lines show
 
     acts_later : (o : NodeView D) (c : Command) (now : ℕ) (r : Reply) (n : NodeView D) → Acts view o c now r n → LaterNode view o n
-    acts_later o c now r n acts = (acts.later, λ reason kept is. (acts.stays reason kept is).1)
+    acts_later o c now r n acts = (acts.later, acts.sure, λ reason kept is. (acts.stays reason kept is).1)
 
     tends_later : (o n : NodeView D) → Tends view o n → LaterNode view o n
-    tends_later o n tends = (tends.later, tends.stays)
+    tends_later o n tends = (tends.later, tends.sure, tends.stays)
 
     abbrev Shown : (told : Bool) → RunEnd → Node → List Served → Type 0
-    Shown told how_ends first lines = ShownEach view told how_ends disks first lines (disks_of end)
+    Shown told how_ends first lines = ShownEach view told how_ends (counts_of first) disks first lines (disks_of end)
 
-    lines_shown : (told : Bool) (first : Node) (served : List Served) → ShowsAll (ShowsOn view told) (LaterNode view) old first served new → Shown told (session_end result behind) first served
-    lines_shown told first served shown =
-        lines_show view failed new end behind counted how result told is_disk disks (disks_of end) old first served from_entry (later_behind failed new end behind counted is_disk how) shown
+    lines_shown : (told : Bool) (first : Node) (served : List Served) → Each (StandsOn view) shards first → ShowsAll (ShowsOn view told) (LaterNode view) old first served new
+        → Shown told (session_end result behind) first served
+    lines_shown told first served stands shown =
+        lines_show view failed new end behind counted how result told is_disk (counts_of first) disks (disks_of end) old first served
+        (sure_now view set 0 (length disks) disks shards first started stands) from_entry (later_behind failed new end behind counted is_disk how) shown
 
     -- ---- the promises
 
@@ -257,7 +260,7 @@ module _ {D : Type 0} (view : D → DiskView) where
                 (λ goes. let stands = w.lifted.stands goes in (stands.0, stands.1)) at_new at_end how input_limit result w.lifted.ends w.says source sink)
                 (λ (device : ℕ). (nothing_left old old first (λ n. []) device).time),
             count_at failed new end behind counted how first w.lifted.served w.closing w.stands (λ is. halt_last (Halts view new) first w.lifted.served w.lifted.once is w.lifted.halt),
-            lines_shown false first w.lifted.served w.lifted.shown,
+            lines_shown false first w.lifted.served agree w.lifted.shown,
           ),
         )
 
@@ -339,7 +342,7 @@ module _ {D : Type 0} (view : D → DiskView) where
               count_at failed new end behind counted how First w.lifted.served w.closing
                   (λ goes. let stands = w.stands goes in (stands.0, stands.1, each_stands view stands.0 (last_node First w.lifted.served w.closing) stands.2))
                   (λ is. let at = halt_last (HaltsSafely view new) First w.lifted.served w.lifted.once is w.lifted.halt in (at.0, at.1.halts)),
-              lines_shown true First w.lifted.served w.lifted.shown,
+              lines_shown true First w.lifted.served agreed w.lifted.shown,
             ),
           )
 

@@ -1,8 +1,7 @@
 -- What a session shows of its store is what the lines of a run show of its disks.
 use native.Mathlib.Omega.{arith}
-use Rattle.std.proofs.Common.{◌≡◌, ◌⊎◌, ℕ, zero, suc, ◌+◌, ◌<◌, Bool, true, false, List, [], ◌∷◌, length, refl, sym, ◌∙◌, ap, subst, inl, inr}
+use Rattle.std.proofs.Common.{◌≡◌, ◌⊎◌, ℕ, zero, suc, ◌+◌, ◌<◌, Bool, List, [], ◌∷◌, length, refl, sym, ◌∙◌, ap, subst, inl, inr}
 use Rattle.std.specs.Prelude.{◌≢◌, Option, Some, None, MatchOption}
-use Rattle.model_faults.specs.Counts.{Rose}
 use Rattle.rec_format.specs.declared.entry.Counts.{Counts}
 use Rattle.rec_format.specs.Versions.{bounded_time}
 use Rattle.disk_model.specs.Disk.{DiskView, IsDisk}
@@ -14,34 +13,36 @@ use Rattle.cold_scan.specs.Starting.{IsRefused, FaultRose}
 use Rattle.shard_core.specs.declared.settings.Settings.{Settings}
 use Rattle.node_session.specs.declared.ended.Ended.{Ended}
 use Rattle.node_session.specs.declared.ended.Ended.TheVariants.{Finish, Quit, SourceFault, SinkFault, Memory, Halted, Long}
-use Rattle.line_proto.specs.declared.reply.Reply.{Reply}
 use Rattle.line_proto.specs.declared.reply.Reply.TheVariants as reply
 use Rattle.model_node.specs.declared.run_end.RunEnd.{RunEnd}
-use Rattle.model_node.specs.Commands.{Node, NodeEvent}
+use Rattle.model_node.specs.Commands.{Node}
 use Rattle.model_node.specs.Run.{Served, node_after_line}
+use Rattle.model_node.specs.Outside.{counts_of}
 use Rattle.model_node.specs.Shown.{TakenWith, FrontIsTaken, IsRefusedSo, Shows}
 use Rattle.core_run.specs.Views.{NodeView, halted, disks_of, view_at, asked, AreLater}
 use Rattle.core_run.specs.Starts.{RefusesAt}
+use Rattle.core_run.specs.Sure.{AreSureSince, StaySure}
 use Rattle.core_run.specs.Shown.{ShowsOn}
 use Rattle.law_session.specs.Chain.{ShowsLine, ShowsAll}
 use Rattle.law_run.specs.Concluding.{refusal_end, session_end}
 use Rattle.law_run.specs.Behind.{WasClosed, WasRefused}
-use Rattle.law_run.specs.Shown.{ShownEach}
+use Rattle.law_run.specs.Shown.{counts_or, RaidShows, ShownEach}
 use Rattle.law_run.proofs.Disks.{are_later_none, are_later_then}
 use Rattle.law_run.proofs.Standing.{serves_or_halts, one_refusal}
 
--- a node is later than one from before: its disks are, and one that halted stays as it is
+-- A node is later than one from before: its disks are, no gate of it becomes unsure where no count of faults rises, and one that halted stays as it is.
 abbrev pub LaterNode : {D : Type 0} → (view : D → DiskView) → (old new : NodeView D) → Type 0
-LaterNode {D} view old new = AreLater view (disks_of old) (disks_of new) × ((reason : ℕ × StartCause) (disks : List D) → old ≡ halted reason disks → new ≡ old)
+LaterNode {D} view old new = AreLater view (disks_of old) (disks_of new) × StaySure view old new × ((reason : ℕ × StartCause) (disks : List D) → old ≡ halted reason disks → new ≡ old)
 
 module _ {D : Type 0} (view : D → DiskView) where
   pub later_node_none : ((disk : D) → IsDisk (view disk)) → (n : NodeView D) → LaterNode view n n
-  later_node_none is_disk n = (are_later_none view is_disk (disks_of n), λ reason disks is. refl)
+  later_node_none is_disk n = (are_later_none view is_disk (disks_of n), (λ counts sure. sure), λ reason disks is. refl)
 
   pub later_node_then : (old mid new : NodeView D) → LaterNode view old mid → LaterNode view mid new → LaterNode view old new
   later_node_then old mid new first second = (
     are_later_then view (disks_of old) (disks_of mid) (disks_of new) first.0 second.0,
-    λ reason disks is. let same : mid ≡ old = first.1 reason disks is in second.1 reason disks (same ∙ is) ∙ same,
+    (λ counts sure. second.1 counts (first.1 counts sure)),
+    λ reason disks is. let same : mid ≡ old = first.2 reason disks is in second.2 reason disks (same ∙ is) ∙ same,
   )
 
   -- ---- the device that a restart was refused for
@@ -143,7 +144,7 @@ module _ {D : Type 0} (view : D → DiskView) where
     refused_so after reason disks is later devices before then so = by how
       where
         halts : new ≡ halted reason disks
-        halts = later.1 reason disks is ∙ is
+        halts = later.2 reason disks is ∙ is
 
         by : WasClosed view failed new end behind counted ⊎ WasRefused new end behind counted → IsRefusedSo (session_end result behind) devices before then
         by (inl c) = absurd (serves_or_halts c.shards reason disks (sym c.serves ∙ halts))
@@ -177,6 +178,27 @@ module _ {D : Type 0} (view : D → DiskView) where
               (refusal_so r.0 r.1.0 (length node) (disks_of before) r.2 r.1.1 r.4 r.5));
         }
 
+    -- a raid
+    raid_shows : (before after : NodeView D) (node : Node) (served : Served) (since : List ℕ) → AreSureSince view since before.shards → ShowsLine (ShowsOn view told) before node served after
+        → RaidShows told since (view_at view (disks_of before)) (view_at view (disks_of after)) node served
+    raid_shows before after node served since sure shown is now removed cleared at replied =
+        (subst (λ (time : Option ℕ). MatchOption time ((served.restarted ≡ None) × (served.work ≡ []) × (served.reply ≢ reply.Halted))
+        (λ now. ShowsOn view told before node (bounded_time now) served.reply served.work served.restarted after)) at shown).raided is removed cleared replied since sure
+
+    -- since when it is known of each gate whether it is set, behind a line
+    sure_behind : (before after : NodeView D) (node : Node) (served : Served) (since : List ℕ) → AreSureSince view since before.shards → LaterNode view before after
+        → ShowsLine (ShowsOn view told) before node served after → AreSureSince view (counts_or since served.restarted) after.shards
+    sure_behind before after node served since sure later shown = by served.restarted refl
+      where
+        of : (time : Option ℕ) (fresh : Node) → served.restarted ≡ Some fresh → MatchOption time ((served.restarted ≡ None) × (served.work ≡ []) × (served.reply ≢ reply.Halted))
+            (λ now. ShowsOn view told before node (bounded_time now) served.reply served.work served.restarted after) → AreSureSince view (counts_of fresh) after.shards
+        of None fresh is idle = absurd (none_is fresh (sym idle.0 ∙ is))
+        of (Some now) fresh is one = one.sure fresh is
+
+        by : (restarted : Option Node) → served.restarted ≡ restarted → AreSureSince view (counts_or since served.restarted) after.shards
+        by None is = subst (λ (r : Option Node). AreSureSince view (counts_or since r) after.shards) (sym is) (later.1 since sure)
+        by (Some fresh) is = subst (λ (r : Option Node). AreSureSince view (counts_or since r) after.shards) (sym is) (of served.time fresh is shown)
+
     shows_later : ((disk : D) → IsDisk (view disk)) → (old : NodeView D) (node : Node) (lines : List Served)
         → ShowsAll (ShowsOn view told) (LaterNode view) old node lines new → LaterNode view old new
     shows_later is_disk old node [] shown = shown
@@ -184,16 +206,18 @@ module _ {D : Type 0} (view : D → DiskView) where
         later_node_then old shown.1 new (later_node_then old shown.0 shown.1 shown.2 shown.3) (shows_later is_disk shown.1 (node_after_line served node) lines shown.5)
 
     -- All lines, from the disks of the start up to those that are handed back.
-    pub lines_show : ((disk : D) → IsDisk (view disk)) → (disks last : List D) (old : NodeView D) (node : Node) (lines : List Served)
-        → AreLater view disks (disks_of old) → AreLater view (disks_of new) last
-        → ShowsAll (ShowsOn view told) (LaterNode view) old node lines new → ShownEach view told (session_end result behind) disks node lines last
-    lines_show is_disk disks last old node [] entry back shown =
+    pub lines_show : ((disk : D) → IsDisk (view disk)) → (since : List ℕ) (disks last : List D) (old : NodeView D) (node : Node) (lines : List Served)
+        → AreSureSince view since old.shards → AreLater view disks (disks_of old) → AreLater view (disks_of new) last
+        → ShowsAll (ShowsOn view told) (LaterNode view) old node lines new → ShownEach view told (session_end result behind) since disks node lines last
+    lines_show is_disk since disks last old node [] sure entry back shown =
         are_later_then view disks (disks_of old) last entry (are_later_then view (disks_of old) (disks_of new) last shown.0 back)
-    lines_show is_disk disks last old node (served ∷ lines) entry back shown = (
+    lines_show is_disk since disks last old node (served ∷ lines) sure entry back shown = (
       disks_of shown.0,
       disks_of shown.1,
       are_later_then view disks (disks_of old) (disks_of shown.0) entry shown.2.0,
       shown.3.0,
       line_shows shown.0 shown.1 node served (shows_later is_disk shown.1 (node_after_line served node) lines shown.5) shown.4,
-      lines_show is_disk (disks_of shown.1) last shown.1 (node_after_line served node) lines (are_later_none view is_disk (disks_of shown.1)) back shown.5,
+      raid_shows shown.0 shown.1 node served since (shown.2.1 since sure) shown.4,
+      lines_show is_disk (counts_or since served.restarted) (disks_of shown.1) last shown.1 (node_after_line served node) lines
+          (sure_behind shown.0 shown.1 node served since (shown.2.1 since sure) shown.3 shown.4) (are_later_none view is_disk (disks_of shown.1)) back shown.5,
     )

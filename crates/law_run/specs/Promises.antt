@@ -20,7 +20,7 @@ use Rattle.model_node.specs.declared.run_end.RunEnd.{RunEnd}
 use Rattle.model_node.specs.declared.run_end.RunEnd.TheVariants.{DeviceRefused}
 use Rattle.model_node.specs.Commands.{Slot, Node, NodeEvent, node_counts}
 use Rattle.model_node.specs.Run.{ImagesLeft, Served, is_halted, last_node}
-use Rattle.model_node.specs.Outside.{Outside}
+use Rattle.model_node.specs.Outside.{Outside, counts_of}
 use Rattle.model_node.specs.RunEnd.{status_of, note_of, HasStartCause}
 use Rattle.model_node.specs.Headline.{StartsFrom, HoldsReplies, HoldsThroughout}
 use Rattle.law_run.specs.Shown.{ShownEach}
@@ -82,7 +82,7 @@ disks_between view old new = record {
   read_alone = ReadAlone view old new;
   since = λ device. meanwhile (view_at view old device) (view_at view new device);
   now = λ device. (view_at view new device).may_leave;
-  shows = λ told how first lines. ShownEach view told how old first lines new;
+  shows = λ told how first lines. ShownEach view told how (counts_of first) old first lines new;
 }
 
 -- ---- where it starts
