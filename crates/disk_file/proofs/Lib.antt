@@ -1,3 +1,5 @@
 pub mod Minded
 pub mod Moving
 pub mod Copied
+pub mod Filling
+pub mod Naming

@@ -6,7 +6,7 @@ use Rattle.std.proofs.lemmas.List.{drop-drop}
 use Rattle.std.proofs.lemmas.Slice.{take-put_mid}
 use borrow.Rule.Slice.PartMut.{put_mid, mid_of, same_len_mid}
 use Rattle.disk_model.specs.Bytes.{range, Torn, torn_refl}
-use Rattle.disk_file.specs.Calls.{Call, read_call, write_call, sync_call, let_go_call, length_call, bytes_read, bytes_written, AreReads, AreWrites, IsRead, WritesOn}
+use Rattle.disk_file.specs.Calls.{Call, read_call, write_call, sync_call, let_go_call, length_call, deed_call, bytes_read, bytes_written, AreReads, AreWrites, IsRead, WritesOn}
 use Rattle.disk_file.specs.Told.{Gives, Puts, Tears}
 
 -- the calls so far, and one more
@@ -17,6 +17,7 @@ bytes_read-append (write_call place given taken ∷ calls) more = bytes_read-app
 bytes_read-append (sync_call went_well ∷ calls) more = bytes_read-append calls more
 bytes_read-append (let_go_call ∷ calls) more = bytes_read-append calls more
 bytes_read-append (length_call found ∷ calls) more = bytes_read-append calls more
+bytes_read-append (deed_call deed ∷ calls) more = bytes_read-append calls more
 
 reads_on : (place end : ℕ) (calls : List Call) (at room : ℕ) (bytes : List ℕ) → AreReads place end calls → at ≡ place + length (bytes_read calls) → at + room ≤ end
     → AreReads place end (calls ++ read_call at room bytes ∷ [])
@@ -27,6 +28,7 @@ reads_on place end (write_call at' given taken ∷ calls) at room bytes so_far i
 reads_on place end (sync_call went_well ∷ calls) at room bytes so_far is within = absurd so_far
 reads_on place end (let_go_call ∷ calls) at room bytes so_far is within = absurd so_far
 reads_on place end (length_call found ∷ calls) at room bytes so_far is within = absurd so_far
+reads_on place end (deed_call deed ∷ calls) at room bytes so_far is within = absurd so_far
 
 -- a range and the one behind it
 gives_on : (told : Option (List ℕ)) (place at : ℕ) (bytes more : List ℕ) → at ≡ place + length bytes → Gives told place bytes → Gives told at more → Gives told place (bytes ++ more)
@@ -111,7 +113,7 @@ read_done place at out told old now x so_far within reached = (
 pub read_failed : {T E : Type 0} (place at : ℕ) (out : List ℕ) (told : Option (List ℕ)) (old now : List Call) (e : E) → ReadTo place at out told old now → IsRead {T = T} place out (Err e) old now
 read_failed place at out told old now e so_far = record { calls = so_far.calls; since = so_far.since; in_place = so_far.in_place; whole = tt }
 
-bytes_written-append : (calls more : List Call) → bytes_written (calls ++ more) ≡ bytes_written calls ++ bytes_written more
+pub bytes_written-append : (calls more : List Call) → bytes_written (calls ++ more) ≡ bytes_written calls ++ bytes_written more
 bytes_written-append [] more = refl
 bytes_written-append (read_call place room bytes ∷ calls) more = bytes_written-append calls more
 bytes_written-append (write_call place given taken ∷ calls) more = ap (λ (l : List ℕ). taken ++ l) (bytes_written-append calls more)
@@ -119,6 +121,7 @@ bytes_written-append (write_call place given taken ∷ calls) more = ap (λ (l :
 bytes_written-append (sync_call went_well ∷ calls) more = bytes_written-append calls more
 bytes_written-append (let_go_call ∷ calls) more = bytes_written-append calls more
 bytes_written-append (length_call found ∷ calls) more = bytes_written-append calls more
+bytes_written-append (deed_call deed ∷ calls) more = bytes_written-append calls more
 
 writes_on : (place : ℕ) (bytes : List ℕ) (calls : List Call) (at : ℕ) (given taken : List ℕ) → AreWrites place bytes calls → at ≡ place + length (bytes_written calls)
     → drop (length (bytes_written calls)) bytes ≡ given → AreWrites place bytes (calls ++ write_call at given taken ∷ [])
@@ -133,6 +136,7 @@ writes_on place bytes (read_call at' room' bytes' ∷ calls) at given taken so_f
 writes_on place bytes (sync_call went_well ∷ calls) at given taken so_far is left = absurd so_far
 writes_on place bytes (let_go_call ∷ calls) at given taken so_far is left = absurd so_far
 writes_on place bytes (length_call found ∷ calls) at given taken so_far is left = absurd so_far
+writes_on place bytes (deed_call deed ∷ calls) at given taken so_far is left = absurd so_far
 
 -- a smaller part of the range was torn once more
 torn_more : (place n at k : ℕ) (old mid new : List ℕ) → place ≤ at → at + k ≤ place + n → Torn place n old mid → Torn at k mid new → Torn place n old new

@@ -2,15 +2,26 @@
 use Rattle.std.specs.Prelude.{◌≡◌, ◌⊎◌, ℕ, ◌+◌, ◌≤◌, ◌==◌, Bool, true, false, List, [], ◌∷◌, ◌++◌, length, take, drop, map, Option, Some, None, Result, Ok, Err, OnOk, IsTrue, if◌then◌else◌}
 use Rattle.disk_file.specs.Spans.{Waiting, after_sync}
 
+-- What is done with a device besides reading and writing it: it is opened under a name, to be written too or not, or made under a name that
+-- nothing has; it is looked at, and is a file or not; it is locked; it is synced with its length; its name is synced in its folder. The last
+-- three go well or not.
+pub data Deed : Type 0 where
+  opened : (name : List ℕ) (writes : Bool) → Deed
+  made : (name : List ℕ) → Deed
+  seen : (is_file : Bool) → Deed
+  locked settled : (went_well : Bool) → Deed
+  named : (name : List ℕ) (went_well : Bool) → Deed
+
 -- At a place there was room for so many bytes, and a read gave these, which are none where it failed. Bytes were given to be written at a
 -- place, of which these were taken, which are none where it failed. A sync went well or not. What the system keeps in memory was let go
--- of. The file's length was asked for, and told or not.
+-- of. The file's length was asked for, and told or not. Or it was one of these deeds.
 pub data Call : Type 0 where
   read_call : (place room : ℕ) (bytes : List ℕ) → Call
   write_call : (place : ℕ) (given taken : List ℕ) → Call
   sync_call : (went_well : Bool) → Call
   let_go_call : Call
   length_call : (found : Option ℕ) → Call
+  deed_call : Deed → Call
 
 -- so many bytes of these were moved, none where the call failed
 abbrev pub moved : {E : Type 0} → Result ℕ E → List ℕ → List ℕ
@@ -29,6 +40,7 @@ bytes_read (write_call place given taken ∷ calls) = bytes_read calls
 bytes_read (sync_call went_well ∷ calls) = bytes_read calls
 bytes_read (let_go_call ∷ calls) = bytes_read calls
 bytes_read (length_call found ∷ calls) = bytes_read calls
+bytes_read (deed_call deed ∷ calls) = bytes_read calls
 
 abbrev pub bytes_written : List Call → List ℕ
 bytes_written [] = []
@@ -37,6 +49,7 @@ bytes_written (write_call place given taken ∷ calls) = taken ++ bytes_written 
 bytes_written (sync_call went_well ∷ calls) = bytes_written calls
 bytes_written (let_go_call ∷ calls) = bytes_written calls
 bytes_written (length_call found ∷ calls) = bytes_written calls
+bytes_written (deed_call deed ∷ calls) = bytes_written calls
 
 -- Reads alone, each at the place to which those before it came, and none behind the end.
 abbrev pub AreReads : (place end : ℕ) → List Call → Type 0
@@ -46,6 +59,7 @@ AreReads place end (write_call at given taken ∷ calls) = ⊥
 AreReads place end (sync_call went_well ∷ calls) = ⊥
 AreReads place end (let_go_call ∷ calls) = ⊥
 AreReads place end (length_call found ∷ calls) = ⊥
+AreReads place end (deed_call deed ∷ calls) = ⊥
 
 -- Writes alone, each at the place to which those before it came, of bytes from the front of those that are left.
 abbrev pub AreWrites : (place : ℕ) (bytes : List ℕ) → List Call → Type 0
@@ -55,6 +69,7 @@ AreWrites place bytes (write_call at given taken ∷ calls) = (at ≡ place) × 
 AreWrites place bytes (sync_call went_well ∷ calls) = ⊥
 AreWrites place bytes (let_go_call ∷ calls) = ⊥
 AreWrites place bytes (length_call found ∷ calls) = ⊥
+AreWrites place bytes (deed_call deed ∷ calls) = ⊥
 
 -- A read into a buffer from a place on calls for bytes of that range alone. Where it went well, the bytes in the buffer are those that the
 -- file gave, one after another.
@@ -100,7 +115,13 @@ call_of (kind ∷ place ∷ count ∷ [], bytes) =
     if kind == 0 then read_call place count bytes
     else (if kind == 1 then write_call place bytes (take count bytes)
     else (if kind == 2 then sync_call (count == 1)
-    else (if kind == 3 then length_call (if place == 1 then Some count else None) else let_go_call)))
+    else (if kind == 3 then length_call (if place == 1 then Some count else None)
+    else (if kind == 5 then deed_call (opened bytes (count == 1))
+    else (if kind == 6 then deed_call (made bytes)
+    else (if kind == 7 then deed_call (locked (count == 1))
+    else (if kind == 8 then deed_call (settled (count == 1))
+    else (if kind == 9 then deed_call (named bytes (count == 1))
+    else (if kind == 10 then deed_call (seen (count == 1)) else let_go_call)))))))))
 call_of (numbers, bytes) = let_go_call
 
 abbrev pub calls_of : List (List ℕ × List ℕ) → List Call

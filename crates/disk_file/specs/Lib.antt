@@ -4,3 +4,4 @@ pub mod Bytes
 pub mod Calls
 pub mod Told
 pub mod Memory
+pub mod Devices

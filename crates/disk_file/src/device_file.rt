@@ -1,12 +1,15 @@
 // Devices by their names: what is there is opened, and where nothing is there a new file is made.
-use crate::{FileDisk, SystemFile, Watch};
+ghost use Rattle.std.specs.Prelude.{◌≡◌, ◌≤◌, ◌++◌, ◌∷◌, [], Bool, Option, true, false, replicate, IfOk, OnOk, OnErr};
+ghost use Rattle.disk_file.specs.Calls.{deed_call, locked, WritesOn};
+ghost use Rattle.disk_file.specs.Devices.{AreZeros, calls_to_find, is_file, is_file_kind, is_one, IsWhole, IsFront, IsFilled, IsHad, IsLeft};
+ghost use Rattle.disk_file.specs.declared.devices.Look.{Look};
+
+use crate::whole::write_whole;
+use crate::{Devices, FileDisk, Kind, Look, OpenedFile, Watch};
 use std::alloc::Global;
-use std::fs::{File, FileType, Metadata, OpenOptions, TryLockError, metadata, remove_file};
+use std::fs::TryLockError;
 use std::io;
-use std::io::{ErrorKind, Seek, SeekFrom};
-use std::os::unix::fs::{FileExt, FileTypeExt, MetadataExt};
-use std::path::Path;
-use std::rt::Files;
+use std::io::ErrorKind;
 use thiserror::Error;
 
 /// How many bytes of a new file are written at once.
@@ -32,102 +35,113 @@ pub enum OpenFault {
 
 // What was found under a name, open and locked; its length in bytes.
 #[derive(Drop)]
-struct Found {
-    file: File,
-    is_file: bool,
+struct Found<F: OpenedFile> {
+    file: F,
+    kind: Kind,
     len: u64,
 }
 
 /// At `Ok` the whole file or block device of this name, open to read and write and locked, so that no other process opens it like this
 /// meanwhile; nothing was written. A refusal tells why it isn't opened.
-pub fn open_device<R: Files<File = File>>(
-    rt: &R,
-    name: &str,
-) -> Result<FileDisk<SystemFile>, OpenFault> {
-    let found = find(rt, name, true)?;
-    Ok(FileDisk::new(SystemFile::new(found.file), found.len))
+pub fn open_device<D: Devices>(devices: &D, name: &str) -> Result<FileDisk<D::File>, OpenFault>
+    ensures { IfOk result (λ disk. IsWhole name.now true disk) }
+{
+    let found = find(devices, name, true)?;
+    Ok(FileDisk::new(found.file, found.len))
 }
 
 /// The same, open for reading alone, so it may be one that the user may not write: each write to it is a fault. It is locked likewise.
-pub fn open_to_read<R: Files<File = File>>(
-    rt: &R,
-    name: &str,
-) -> Result<FileDisk<SystemFile>, OpenFault> {
-    let found = find(rt, name, false)?;
-    Ok(FileDisk::new(SystemFile::new(found.file), found.len))
+pub fn open_to_read<D: Devices>(devices: &D, name: &str) -> Result<FileDisk<D::File>, OpenFault>
+    ensures { IfOk result (λ disk. IsWhole name.now false disk) }
+{
+    let found = find(devices, name, false)?;
+    Ok(FileDisk::new(found.file, found.len))
 }
 
 /// Whether two names are of one file, or of one block device. It isn't where nothing is there.
-pub fn are_one<R: Files<File = File>>(rt: &R, name: &str, other: &str) -> bool {
-    let (Ok(one), Ok(two)) = (metadata(rt, name), metadata(rt, other)) else {
+pub fn are_one<D: Devices>(devices: &D, name: &str, other: &str) -> bool
+    ensures { (one two : Option Look) × D.finds devices.now name.now one × D.finds devices.now other.now two × (result ≡ is_one one two) }
+{
+    let (Ok(one), Ok(two)) = (devices.look(name), devices.look(other)) else {
         return false;
     };
-    if one.file_type().is_block_device() && two.file_type().is_block_device() {
-        return one.rdev() == two.rdev();
+    if one.kind == Kind::Block && two.kind == Kind::Block {
+        return one.drive == two.drive;
     }
-    one.dev() == two.dev() && one.ino() == two.ino()
+    one.lies_on == two.lies_on && one.number == two.number
 }
 
 /// At `Ok` a locked file of `len` bytes, where nothing had this name: each byte was written once, and they and its folder were synced.
 /// Where that fails the file is removed again. What is there already is opened as by `open_device`: of a block device it is the first
 /// `len` bytes, a longer file is refused, and what is shorter is handed on as it is.
-pub fn make_device<R: Files<File = File>, W: Watch>(
-    rt: &R,
+pub fn make_device<D: Devices, W: Watch>(
+    devices: &mut D,
     alloc: Global,
     name: &str,
     len: u64,
     watch: &mut W,
-) -> Result<FileDisk<SystemFile>, OpenFault> {
-    let file = match File::create_new(rt, name) {
+) -> Result<FileDisk<D::File>, OpenFault>
+    ensures had { IfOk result (λ disk. IsHad name.now len disk (D.changes devices.old) (D.changes devices.new)) }
+    ensures left { OnErr result (IsLeft name.now (D.changes devices.old) (D.changes devices.new)) }
+{
+    let mut file = match devices.make(name) {
         Ok(file) => file,
-        Err(error) if error.kind() == ErrorKind::AlreadyExists => return open_up_to(rt, name, len),
+        Err(error) if error.kind() == ErrorKind::AlreadyExists => {
+            return open_up_to(devices, name, len);
+        }
         Err(error) => return Err(OpenFault::Unmade(error)),
     };
-    let made = fill_locked(rt, alloc, name, &file, len, watch);
+    let made = fill_locked(devices, alloc, name, &mut file, len, watch);
     watch.end();
     if let Err(fault) = made {
-        let _ = remove_file(rt, name);
+        let _ = devices.remove(name);
         return Err(fault);
     }
-    Ok(FileDisk::new(SystemFile::new(file), len))
+    Ok(FileDisk::new(file, len))
 }
 
 // The first bytes of what is there, at most so many.
-fn open_up_to<R: Files<File = File>>(
-    rt: &R,
+fn open_up_to<D: Devices>(
+    devices: &D,
     name: &str,
     asked: u64,
-) -> Result<FileDisk<SystemFile>, OpenFault> {
-    let Found { file, is_file, len } = find(rt, name, true)?;
-    if is_file && len > asked {
+) -> Result<FileDisk<D::File>, OpenFault>
+    ensures { IfOk result (λ disk. IsFront name.now asked disk) }
+{
+    let Found { file, kind, len } = find(devices, name, true)?;
+    if kind == Kind::File && len > asked {
         return Err(OpenFault::Longer { len, asked });
     }
-    Ok(FileDisk::new(SystemFile::new(file), len.min(asked)))
+    Ok(FileDisk::new(file, len.min(asked)))
 }
 
 // Opens what is there, to read and, where that is asked for, to write. The kind is looked at before too: a pipe that is opened to read
 // alone would wait for its writer.
-fn find<R: Files<File = File>>(rt: &R, name: &str, writes: bool) -> Result<Found, OpenFault> {
-    storage_kind(metadata(rt, name))?;
-    let opened = OpenOptions::new().read(true).write(writes).open(rt, name);
-    let mut file = opened.map_err(refusal)?;
-    let kind = storage_kind(file.metadata())?;
-    lock(&file)?;
-    let len = file.seek(SeekFrom::End(0)).map_err(OpenFault::Refused)?;
-    Ok(Found {
-        file,
-        is_file: kind.is_file(),
-        len,
-    })
+fn find<D: Devices>(devices: &D, name: &str, writes: bool) -> Result<Found<D::File>, OpenFault>
+    ensures { IfOk result (λ found. D.File.past found.file ≡ calls_to_find name.now writes (is_file_kind found.kind) found.len) }
+{
+    storage_kind(devices.look(name).map(|look| look.kind))?;
+    let mut file = match devices.open(name, writes) {
+        Ok(file) => file,
+        Err(error) => return Err(refusal(error)),
+    };
+    let kind = storage_kind(devices.kind_of(&mut file))?;
+    lock(devices, &mut file)?;
+    match file.len() {
+        Ok(len) => Ok(Found { file, kind, len }),
+        Err(error) => Err(OpenFault::Refused(error)),
+    }
 }
 
 // The kind of what was found: a file or a block device, as nothing else can be a device.
-fn storage_kind(found: io::Result<Metadata>) -> Result<FileType, OpenFault> {
-    let kind = found.map_err(refusal)?.file_type();
-    if !kind.is_file() && !kind.is_block_device() {
-        return Err(OpenFault::NoStorage);
+fn storage_kind(found: io::Result<Kind>) -> Result<Kind, OpenFault>
+    ensures { IfOk result (λ kind. is_file found ≡ is_file_kind kind) }
+{
+    match found {
+        Ok(Kind::Other) => Err(OpenFault::NoStorage),
+        Ok(kind) => Ok(kind),
+        Err(error) => Err(refusal(error)),
     }
-    Ok(kind)
 }
 
 // Why something can't be opened.
@@ -139,8 +153,10 @@ fn refusal(error: io::Error) -> OpenFault {
     }
 }
 
-fn lock(file: &File) -> Result<(), OpenFault> {
-    match file.try_lock() {
+fn lock<D: Devices>(devices: &D, file: &mut D::File) -> Result<(), OpenFault>
+    ensures { OnOk result (D.File.past file.new ≡ D.File.past file.old ++ deed_call (locked true) ∷ []) }
+{
+    match devices.lock(file) {
         Ok(()) => Ok(()),
         Err(TryLockError::WouldBlock) => Err(OpenFault::InUse),
         Err(TryLockError::Error(error)) => Err(OpenFault::Refused(error)),
@@ -148,37 +164,53 @@ fn lock(file: &File) -> Result<(), OpenFault> {
 }
 
 // Locks a new file, and writes and syncs it and its folder.
-fn fill_locked<R: Files<File = File>, W: Watch>(
-    rt: &R,
+fn fill_locked<D: Devices, W: Watch>(
+    devices: &D,
     alloc: Global,
     name: &str,
-    file: &File,
+    file: &mut D::File,
     len: u64,
     watch: &mut W,
-) -> Result<(), OpenFault> {
-    lock(file)?;
-    fill(alloc, file, len, watch).map_err(OpenFault::Unmade)?;
-    sync_folder(rt, name).map_err(OpenFault::Unmade)
+) -> Result<(), OpenFault>
+    ensures { OnOk result (IsFilled name.now len (D.File.past file.old) (D.File.past file.new)) }
+{
+    lock(devices, file)?;
+    if let Err(error) = fill(alloc, file, len, watch) {
+        return Err(OpenFault::Unmade(error));
+    }
+    if let Err(error) = devices.settle(file) {
+        return Err(OpenFault::Unmade(error));
+    }
+    match devices.sync_folder(name, file) {
+        Ok(()) => Ok(()),
+        Err(error) => Err(OpenFault::Unmade(error)),
+    }
 }
 
-// Writes so many zeros from the front on, and syncs them. Each byte is written, so that the drive has room for all.
-fn fill<W: Watch>(alloc: Global, file: &File, len: u64, watch: &mut W) -> io::Result<()> {
-    let zeros = vec![in alloc; 0; PIECE as usize]?;
+// So many zeros.
+fn zeros_of(alloc: Global, count: usize) -> io::Result<Vec<u8>>
+    requires { 1 ≤ count }
+    ensures { IfOk result (λ zeros. AreZeros zeros.items) }
+{
+    Ok(vec![in alloc; 0; count]?)
+}
+
+// Writes so many zeros from the front on. Each byte is written, so that the drive has room for all.
+fn fill<F: OpenedFile, W: Watch>(
+    alloc: Global,
+    file: &mut F,
+    len: u64,
+    watch: &mut W,
+) -> io::Result<()>
+    ensures { OnOk result (WritesOn 0 (replicate len 0) result (F.past file.old) (F.past file.new)) }
+{
+    let zeros = zeros_of(alloc, PIECE as usize)?;
     let mut done = 0;
     while done < len {
-        let count = (len - done).min(PIECE);
-        file.write_all_at(&zeros[..count as usize], done)?;
+        let count = (len - done).min(zeros.len() as u64);
+        write_whole(file, done, &zeros[..count as usize])?;
         done += count;
         watch.tell(done, len);
     }
-    file.sync_all()
-}
-
-// The name of a new file is kept by its folder.
-fn sync_folder<R: Files<File = File>>(rt: &R, name: &str) -> io::Result<()> {
-    let folder = match Path::new(name).parent() {
-        Some(folder) if !folder.as_str().is_empty() => folder.as_str(),
-        _ => ".",
-    };
-    File::open(rt, folder)?.sync_all()
+    Ok(())
 }

@@ -15,6 +15,23 @@ pub const LENGTH: u64 = 3;
 
 pub const LET_GO: u64 = 4;
 
+pub const OPENED: u64 = 5;
+
+pub const MADE: u64 = 6;
+
+pub const LOCKED: u64 = 7;
+
+pub const SETTLED: u64 = 8;
+
+pub const NAMED: u64 = 9;
+
+pub const SEEN: u64 = 10;
+
+// What is kept of files that are made and removed.
+pub const MAKES: u64 = 0;
+
+pub const REMOVES: u64 = 1;
+
 /// A list of calls that only clauses read. It takes no memory, and its methods do nothing when they run.
 #[derive(Drop)]
 pub struct History {

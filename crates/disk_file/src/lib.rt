@@ -3,20 +3,24 @@
 #![tactic(auto)]
 
 mod device_file;
+mod devices;
 mod file_disk;
 mod history;
 mod memory_file;
 mod opened_file;
 mod standard;
+mod system_devices;
 mod system_file;
 mod unsynced;
 mod watch;
 mod whole;
 
 pub use device_file::{OpenFault, are_one, make_device, open_device, open_to_read};
+pub use devices::{Devices, Kind, Look};
 pub use file_disk::FileDisk;
 pub use memory_file::{MemoryFile, Turn};
 pub use opened_file::OpenedFile;
 pub use standard::fill_standard;
+pub use system_devices::SystemDevices;
 pub use system_file::SystemFile;
 pub use watch::Watch;

@@ -1,6 +1,6 @@
 // A file of the system. Each method makes one call and keeps in mind, for clauses alone, what was asked and what came of it.
-ghost use Rattle.std.specs.Prelude.{◌≡◌, [], None};
-ghost use Rattle.disk_file.specs.Calls.{calls_of};
+ghost use Rattle.std.specs.Prelude.{◌≡◌, ◌∷◌, ◌++◌, [], None, if◌then◌else◌};
+ghost use Rattle.disk_file.specs.Calls.{call_of, calls_of};
 
 use crate::OpenedFile;
 use crate::history::{History, LENGTH, LET_GO, READ, SYNC, WRITE};
@@ -36,6 +36,19 @@ impl SystemFile {
             file,
             history: History::new(),
         }
+    }
+
+    /// The file itself.
+    pub(crate) fn file(&self) -> &File {
+        &self.file
+    }
+
+    /// Keeps one more deed in mind, by its kind, whether it went well, and a name.
+    pub(crate) fn note(&mut self, kind: u64, went_well: bool, name: &str)
+        ensures { self.new ≡ self.old ++ call_of (kind ∷ 0 ∷ (if went_well then 1 else 0) ∷ [], name.now) ∷ [] }
+    {
+        self.history
+            .note(&[kind, 0, u64::from(went_well)], name.as_bytes());
     }
 }
 

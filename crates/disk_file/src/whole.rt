@@ -5,7 +5,8 @@ ghost use Rattle.disk_file.specs.Told.{Gives, Puts, Tears};
 
 use crate::OpenedFile;
 use disk_model::DiskFault;
-use std::io::ErrorKind;
+use std::io;
+use std::io::{Error, ErrorKind};
 
 /// At `Ok` `out` has what stands from a place on. A call that was interrupted is made again; one that gives nothing is at the end.
 pub fn read_whole<F: OpenedFile>(file: &mut F, place: u64, out: &mut [u8]) -> Result<(), DiskFault>
@@ -30,7 +31,7 @@ pub fn read_whole<F: OpenedFile>(file: &mut F, place: u64, out: &mut [u8]) -> Re
 }
 
 /// At `Ok` the bytes stand from a place on. A call that was interrupted is made again; where one takes nothing there is no room.
-pub fn write_whole<F: OpenedFile>(file: &mut F, place: u64, bytes: &[u8]) -> Result<(), DiskFault>
+pub fn write_whole<F: OpenedFile>(file: &mut F, place: u64, bytes: &[u8]) -> io::Result<()>
     requires { place + length bytes.now < 2 ^ 64 }
     ensures calls { WritesOn place bytes.now result (F.past file.old) (F.past file.new) }
     ensures puts { OnOk result (Puts (F.told file.old) place bytes.now (F.told file.new)) }
@@ -42,13 +43,13 @@ pub fn write_whole<F: OpenedFile>(file: &mut F, place: u64, bytes: &[u8]) -> Res
             return Ok(());
         }
         match file.write_some(place + at as u64, &bytes[at..]) {
-            Ok(0) => return Err(DiskFault),
+            Ok(0) => return Err(Error::new(ErrorKind::WriteZero, "failed to write whole buffer")),
             Ok(count) => at += count,
             Err(error) if error.kind() == ErrorKind::Interrupted => {}
-            Err(_) => return Err(DiskFault),
+            Err(error) => return Err(error),
         }
     }
-    Err(DiskFault)
+    Err(ErrorKind::Interrupted.into())
 }
 
 /// Whether a sync went well. Behind one that failed the system counts pages as written that it couldn't write: it gives them to reads, and

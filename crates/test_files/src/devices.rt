@@ -1,5 +1,7 @@
 // Devices that are opened and made, and what can't be one.
-use disk_file::{OpenFault, Watch, are_one, fill_standard, make_device, open_device, open_to_read};
+use disk_file::{
+    OpenFault, SystemDevices, Watch, are_one, fill_standard, make_device, open_device, open_to_read,
+};
 use disk_model::{Disk, DiskFault};
 use std::fs;
 use std::process::Abort;
@@ -38,7 +40,7 @@ impl Watch for Told {
 
 // Why this isn't opened.
 fn refusal_of(rt: &HostRuntime, name: &str) -> Option<OpenFault> {
-    open_device(rt, name).err()
+    open_device(&SystemDevices::new(rt), name).err()
 }
 
 #[test]
@@ -47,12 +49,13 @@ fn a_new_device_is_written_whole_and_locked(rt: HostRuntime) -> Result<(), Fail>
     let len = 2 * MIB + 5;
     let _ = fs::remove_file(&rt, name);
     let mut told = Told::new();
-    let made = make_device(&rt, rt.alloc(), name, len, &mut told)?;
+    let mut devices = SystemDevices::new(&rt);
+    let made = make_device(&mut devices, rt.alloc(), name, len, &mut told)?;
     assert_eq!(rt; (made.len(), told.times, told.last), (len, 3, (len, len)));
     assert!(rt; told.ended);
     assert!(rt; matches!(refusal_of(&rt, name), Some(OpenFault::InUse)));
     drop(made);
-    assert_eq!(rt; open_device(&rt, name)?.len(), len);
+    assert_eq!(rt; open_device(&devices, name)?.len(), len);
     fs::remove_file(&rt, name)?;
     Ok(())
 }
@@ -62,12 +65,13 @@ fn a_file_that_is_there_is_never_made_anew(rt: HostRuntime) -> Result<(), Fail> 
     let name = "disk_file_there";
     fs::write(&rt, name, b"something")?;
     let mut told = Told::new();
+    let mut devices = SystemDevices::new(&rt);
     assert_eq!(rt;
-        make_device(&rt, rt.alloc(), name, MIB, &mut told)?.len(),
+        make_device(&mut devices, rt.alloc(), name, MIB, &mut told)?.len(),
         9
     );
     assert_eq!(rt; told.times, 0);
-    match make_device(&rt, rt.alloc(), name, 8, &mut told) {
+    match make_device(&mut devices, rt.alloc(), name, 8, &mut told) {
         Err(OpenFault::Longer { len, asked }) => assert_eq!(rt; (len, asked), (9, 8)),
         _ => panic!(rt; "a longer file was taken"),
     }
@@ -92,7 +96,7 @@ fn is_only_read<D: Disk>(rt: &impl Abort, disk: &mut D) {
 fn what_is_opened_to_read_is_not_written(rt: HostRuntime) -> Result<(), Fail> {
     let name = "disk_file_read";
     fs::write(&rt, name, b"something")?;
-    let mut disk = open_to_read(&rt, name)?;
+    let mut disk = open_to_read(&SystemDevices::new(&rt), name)?;
     is_only_read(&rt, &mut disk);
     assert!(rt; matches!(refusal_of(&rt, name), Some(OpenFault::InUse)));
     drop(disk);
@@ -107,15 +111,16 @@ fn two_names_may_be_of_one_file(rt: HostRuntime) -> Result<(), Fail> {
     let (one, other) = ("disk_file_one", "disk_file_other");
     let _ = fs::remove_file(&rt, other);
     fs::write(&rt, one, b"something")?;
-    assert!(rt; are_one(&rt, one, one));
-    assert!(rt; are_one(&rt, one, "./disk_file_one"));
-    assert!(rt; !are_one(&rt, one, other));
-    assert!(rt; !are_one(&rt, other, other));
+    let devices = SystemDevices::new(&rt);
+    assert!(rt; are_one(&devices, one, one));
+    assert!(rt; are_one(&devices, one, "./disk_file_one"));
+    assert!(rt; !are_one(&devices, one, other));
+    assert!(rt; !are_one(&devices, other, other));
     fs::write(&rt, other, b"something")?;
-    assert!(rt; !are_one(&rt, one, other));
+    assert!(rt; !are_one(&devices, one, other));
     fs::remove_file(&rt, other)?;
     fs::hard_link(&rt, one, other)?;
-    assert!(rt; are_one(&rt, one, other));
+    assert!(rt; are_one(&devices, one, other));
     fs::remove_file(&rt, one)?;
     fs::remove_file(&rt, other)?;
     Ok(())
@@ -124,6 +129,7 @@ fn two_names_may_be_of_one_file(rt: HostRuntime) -> Result<(), Fail> {
 #[test]
 fn what_cannot_be_a_device_is_refused(rt: HostRuntime) -> Result<(), Fail> {
     let missing = "disk_file_missing";
+    let mut devices = SystemDevices::new(&rt);
     let _ = fs::remove_file(&rt, missing);
     assert!(rt; matches!(refusal_of(&rt, missing), Some(OpenFault::Missing)));
     for name in [".", "/dev/null"] {
@@ -132,12 +138,21 @@ fn what_cannot_be_a_device_is_refused(rt: HostRuntime) -> Result<(), Fail> {
             "{name}"
         );
         assert!(rt;
-            matches!(open_to_read(&rt, name).err(), Some(OpenFault::NoStorage)),
+            matches!(
+                open_to_read(&devices, name).err(),
+                Some(OpenFault::NoStorage)
+            ),
             "{name}"
         );
     }
     let mut told = Told::new();
-    let made = make_device(&rt, rt.alloc(), "disk_file_missing/device", MIB, &mut told);
+    let made = make_device(
+        &mut devices,
+        rt.alloc(),
+        "disk_file_missing/device",
+        MIB,
+        &mut told,
+    );
     assert!(rt; matches!(made, Err(OpenFault::Unmade(_))));
     Ok(())
 }

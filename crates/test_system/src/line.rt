@@ -1,6 +1,6 @@
 // The line that tells how far work is, where no scenario comes: while a file is made, to what is no terminal, of no work or more than all of
 // it, and beside a clock's fork; and that lines are served.
-use disk_file::make_device;
+use disk_file::{SystemDevices, make_device};
 use disk_model::Disk;
 use io_traits::{Clock, ListClock};
 use node_progress::{CountedClock, Progress};
@@ -133,7 +133,14 @@ fn length_of_made<E: Eprint + IsTerminal + Drop>(
 ) -> Result<u64, Fail> {
     let name = "test_system_made";
     let _ = fs::remove_file(rt, name);
-    let made = make_device(rt, rt.alloc(), name, 2 << 20, &mut progress.making())?;
+    let mut devices = SystemDevices::new(rt);
+    let made = make_device(
+        &mut devices,
+        rt.alloc(),
+        name,
+        2 << 20,
+        &mut progress.making(),
+    )?;
     let len = made.len();
     fs::remove_file(rt, name)?;
     Ok(len)

@@ -1,6 +1,5 @@
-use Rattle.std.proofs.Common.{ℕ, ◌+◌, refl, arith}
-use Rattle.disk_file.proofs.Moving.{WroteTo, wrote_none, write_step, write_lost, wrote_done, wrote_failed, room}
-use Rattle.disk_file.proofs.whole.write_whole.Given.{Over}
+use Rattle.std.proofs.Common.{ℕ, refl, arith}
+use Rattle.disk_file.proofs.Moving.{wrote_none, write_step, write_lost, wrote_done, wrote_failed, room}
 use Rattle.disk_file.proofs.whole.write_whole.Goals as goal
 use Rattle.disk_file.proofs.whole.write_whole.Goals.{in-Ok, in-Err}
 
@@ -14,28 +13,16 @@ pub returns-then-at-bytes-clause-puts : goal.returns-then-at-bytes-clause-puts
 returns-then-at-bytes-clause-puts g c = (wrote_done {T = ℕ} {E = ℕ} _ _ _ _ _ _ _ 0 c.loop.invariant.so_far c.loop.invariant.within c.if-at-bytes.true).1
 
 -- a call that took nothing
-none_taken : (g : Over) (c : goal.In-Ok-eq0 g) → WroteTo c.args.place (c.loop.at + c.in-Ok-eq0.field-0) c.args.bytes.now (g.F.OpenedFile.told c.args.file.now)
-    (g.F.OpenedFile.told c.write_some.new.self) (g.F.OpenedFile.past c.args.file.now) (g.F.OpenedFile.past c.write_some.new.self)
-none_taken g c =
-    let called = rw c.in-Ok-eq0.is at c.write_some.ensures in
-    write_step _ c.loop.at c.in-Ok-eq0.field-0 _ c.args.bytes.now _ _ _ _ _ _ c.loop.invariant.so_far c.loop.invariant.within called.bound refl called.leaves called.past
-
 pub returns-in-Ok-eq0-clause-calls : goal.returns-in-Ok-eq0-clause-calls
-returns-in-Ok-eq0-clause-calls g c = (wrote_failed _ _ _ _ _ _ _ _ (none_taken g c)).0
-
-pub returns-in-Ok-eq0-clause-tears : goal.returns-in-Ok-eq0-clause-tears
-returns-in-Ok-eq0-clause-tears g c = (wrote_failed {T = ℕ} {E = ℕ} _ _ _ _ _ _ _ 0 (none_taken g c)).1
+returns-in-Ok-eq0-clause-calls g c =
+    let called = rw c.in-Ok-eq0.is at c.write_some.ensures in
+    (wrote_failed _ _ _ _ _ _ _ _
+    (write_step _ c.loop.at c.in-Ok-eq0.field-0 _ c.args.bytes.now _ _ _ _ _ _ c.loop.invariant.so_far c.loop.invariant.within called.bound refl called.leaves called.past)).0
 
 -- a call that failed
-failed : (g : Over) (c : goal.In-Err-2 g) → WroteTo c.args.place c.loop.at c.args.bytes.now (g.F.OpenedFile.told c.args.file.now)
-    (g.F.OpenedFile.told c.write_some.new.self) (g.F.OpenedFile.past c.args.file.now) (g.F.OpenedFile.past c.write_some.new.self)
-failed g c = write_lost _ c.loop.at _ c.args.bytes.now _ _ _ _ _ _ c.loop.invariant.so_far c.loop.invariant.within refl c.in-Err-2.ensures.leaves c.in-Err-2.ensures.past
-
 pub returns-in-Err-2-clause-calls : goal.returns-in-Err-2-clause-calls
-returns-in-Err-2-clause-calls g c = (wrote_failed _ _ _ _ _ _ _ _ (failed g c)).0
-
-pub returns-in-Err-2-clause-tears : goal.returns-in-Err-2-clause-tears
-returns-in-Err-2-clause-tears g c = (wrote_failed {T = ℕ} {E = ℕ} _ _ _ _ _ _ _ 0 (failed g c)).1
+returns-in-Err-2-clause-calls g c =
+    (wrote_failed _ _ _ _ _ _ _ _ (write_lost _ c.loop.at _ c.args.bytes.now _ _ _ _ _ _ c.loop.invariant.so_far c.loop.invariant.within refl c.in-Err-2.ensures.leaves c.in-Err-2.ensures.past)).0
 
 pub returns-clause-calls : goal.returns-clause-calls
 returns-clause-calls g c = (wrote_failed _ _ _ _ _ _ _ _ c.loop.invariant.so_far).0
