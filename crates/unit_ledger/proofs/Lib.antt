@@ -1,4 +1,1 @@
-pub mod Copies
-pub mod Lives
-pub mod Order
-pub mod Examples
+mod Examples
