@@ -1,6 +1,6 @@
 -- Two readings of the same bytes are the same: bodies, and places of first faults.
-use Rattle.std.proofs.Common.{◌≡◌, inl, inr, ⊎_elim, ℕ, ◌+◌, ◌*◌, ◌^◌, ◌<◌, ◌≤◌, List, [], ◌∷◌, ◌++◌, length, take, drop, refl, sym, ap, ◌∙◌, subst, arith}
-use Rattle.std.proofs.lemmas.List.{append-nil, append_assoc, append_cancel_left, drop-drop, length-append, nil_from_length, take-append-drop, take_at}
+use Rattle.std.proofs.Common.{◌≡◌, inl, inr, ⊎_elim, ℕ, ◌+◌, ◌-◌, ◌*◌, ◌/◌, ◌^◌, ◌<◌, ◌≤◌, List, [], ◌∷◌, ◌++◌, length, map, take, drop, refl, sym, ap, ◌∙◌, subst, arith}
+use Rattle.std.proofs.lemmas.List.{append-nil, append_assoc, append_cancel_left, drop-drop, length-append, length-map, nil_from_length, take-append-drop, take_at}
 use Rattle.std.proofs.lemmas.List.Sums.{sum_by-append}
 use Rattle.std.proofs.lemmas.Bool.{cases_order}
 use Rattle.rec_format.specs.declared.version.Digest.{Digest}
@@ -9,10 +9,10 @@ use Rattle.rec_format.specs.Versions.{version_units}
 use Rattle.rec_format.specs.RecordText.{BeginsWith, CanBeRecorded, record_text}
 use Rattle.rec_format.proofs.RecordFront.{length-text, only_one}
 use Rattle.block_format.specs.declared.geometry.Found.{Found}
-use Rattle.block_format.specs.Layout.{Body, FailsBehind, IsBody, IsFaultAt, IsHead, IsRecordAt, body_head_text, records_text, units_of_records}
+use Rattle.block_format.specs.Layout.{Body, FailsBehind, IsBody, IsFaultAt, IsHead, IsRecordAt, body_head_text, most_records, records_text, units_of_records}
 use Rattle.block_format.specs.declared.geometry.BodyRefusal.{BodyRefusal}
 use Rattle.block_format.specs.declared.geometry.BodyRefusal.TheVariants.{Bad, Memory}
-use Rattle.block_format.specs.Readings.{AreUnreadBy, IsUnreadBy, AtMostOneBody, AtMostOneFault, HasRecords, IsReading, StopsAt, body_capacity}
+use Rattle.block_format.specs.Readings.{AreThere, AreUnreadBy, IsListing, IsNumbered, IsUnreadAt, IsUnreadBy, AtMostOneBody, AtMostOneFault, HasDigests, HasRecords, IsReading, StopsAt, body_capacity, found_from}
 use Rattle.block_format.proofs.BodyRecords.{AllRecorded, Record, units-cons}
 use Rattle.block_format.proofs.HeadFields.{count_of_head, fields_of_head, number_of_head}
 
@@ -177,6 +177,10 @@ one_fault capacity bytes block p q small (inl e) (inr f) = absurd (e.0 f.number 
 one_fault capacity bytes block p q small (inr e) (inl f) = absurd (f.0 e.number e.count e.units e.head)
 one_fault capacity bytes block p q small (inr e) (inr f) = same_place capacity bytes block p q small e f
 
+-- the capacity of bytes that may be a body is small
+pub small_body : (n : ℕ) → n ≤ 1044480 → (n - 32) / 16 < 2 ^ 32
+small_body n h = omega arith
+
 -- ---- what was read
 
 pub reading_of : (bytes : List ℕ) (block number count units : ℕ) (found : List Found) → IsHead (body_capacity bytes) bytes number count units block
@@ -205,6 +209,37 @@ reading_of bytes block number count units found head has =
       found_is = has.found_is;
     }
 
+pub numbered_of : (bytes : List ℕ) (block number count units : ℕ) → IsHead (body_capacity bytes) bytes number count units block → AreThere bytes count units → IsNumbered bytes block number
+numbered_of bytes block number count units head there =
+    let r = reading_of bytes block number count units there.0 head there.1 in
+    record { body = r.body; is_body = r.is_body; block_is = r.block_is; number_is = r.number_is }
+
+-- the digests of heads are those of their records
+digests_from : (unit : ℕ) (rs : List Record) → map (λ (f : Found). f.head.digest) (found_from unit rs) ≡ map (λ (r : Record). r.0) rs
+digests_from unit [] = refl
+digests_from unit (r ∷ rs) = ap (λ (ds : List Digest). r.0 ∷ ds) (digests_from (unit + version_units r.1) rs)
+
+pub listing_of : (bytes : List ℕ) (block number count units : ℕ) (digests : List Digest) → IsHead (body_capacity bytes) bytes number count units block → HasDigests bytes count units digests
+    → IsListing bytes block digests
+listing_of bytes block number count units digests head has =
+    let r = reading_of bytes block number count units has.0 head has.1 in
+    record {
+      body = r.body;
+      is_body = r.is_body;
+      block_is = r.block_is;
+      digests_are = has.2 ∙ ap (map (λ (f : Found). f.head.digest)) r.found_is ∙ digests_from 0 r.body.records;
+    }
+
+-- each record takes at least three units
+three_each : (rs : List Record) → 3 * length rs ≤ units_of_records rs
+three_each [] = omega arith
+three_each (r ∷ rs) = omega (arith, three_each rs, units-cons r rs)
+
+pub few_listed : (bytes : List ℕ) (block : ℕ) (digests : List Digest) → IsListing bytes block digests → length digests ≤ most_records (body_capacity bytes)
+few_listed bytes block digests is =
+    let size : length digests ≡ length is.body.records = ap length is.digests_are ∙ length-map is.body.records (λ (r : Record). r.0) in
+    omega (arith, size, three_each is.body.records, is.is_body.units)
+
 pub fault_of : (bytes : List ℕ) (block number count units place : ℕ) → IsHead (body_capacity bytes) bytes number count units block → StopsAt bytes count units place
     → FailsBehind (body_capacity bytes) bytes block place
 fault_of bytes block number count units place head stops =
@@ -228,9 +263,13 @@ fault_of bytes block number count units place head stops =
           stops.fault;
     }
 
-pub unread_of : (bytes : List ℕ) (block number count units : ℕ) (refusal : BodyRefusal) → body_capacity bytes < 2 ^ 32 → IsHead (body_capacity bytes) bytes number count units block
-    → AreUnreadBy bytes count units refusal → IsUnreadBy bytes block refusal
-unread_of bytes block number count units (Bad place) small head stops =
+pub unread_at : (bytes : List ℕ) (block number count units place : ℕ) → body_capacity bytes < 2 ^ 32 → IsHead (body_capacity bytes) bytes number count units block
+    → StopsAt bytes count units place → IsUnreadAt bytes block place
+unread_at bytes block number count units place small head stops =
     let fault : IsFaultAt (body_capacity bytes) bytes block place = inr (fault_of bytes block number count units place head stops) in
     (fault, fault_refuses (body_capacity bytes) bytes block place small fault)
+
+pub unread_of : (bytes : List ℕ) (block number count units : ℕ) (refusal : BodyRefusal) → body_capacity bytes < 2 ^ 32 → IsHead (body_capacity bytes) bytes number count units block
+    → AreUnreadBy bytes count units refusal → IsUnreadBy bytes block refusal
+unread_of bytes block number count units (Bad place) small head stops = unread_at bytes block number count units place small head stops
 unread_of bytes block number count units Memory small head stops = tt

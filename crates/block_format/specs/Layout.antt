@@ -1,5 +1,5 @@
 -- Crate block_format. The bytes of a device: the header, the gate of a block, and its body.
-use Rattle.std.specs.Prelude.{ℕ, ◌+◌, ◌-◌, ◌*◌, ◌^◌, ◌<◌, ◌≤◌, List, ◌++◌, length, take, drop, replicate, flat_map, sum_by, codes, ◌≡◌, ◌≢◌, ◌⊎◌}
+use Rattle.std.specs.Prelude.{ℕ, ◌+◌, ◌-◌, ◌*◌, ◌/◌, ◌^◌, ◌<◌, ◌≤◌, List, ◌++◌, length, take, drop, replicate, flat_map, sum_by, codes, ◌≡◌, ◌≢◌, ◌⊎◌}
 use Rattle.std.specs.List.{AllByRecursion}
 use Rattle.std.specs.Int.{to_le_bytes, w16, w32, w64}
 use Rattle.rec_format.specs.declared.version.Digest.{Digest}
@@ -96,6 +96,10 @@ pub record IsBody (capacity : ℕ) (bytes : List ℕ) (body : Body) : Type 0 whe
   pub records : AllByRecursion (λ r. CanBeRecorded r.0 r.1) body.records
   pub behind : List ℕ
   pub text : bytes ≡ body_text body ++ behind
+
+-- the most records that a body of so many units has: each takes at least three
+abbrev pub most_records : (capacity : ℕ) → ℕ
+most_records capacity = capacity / 3
 
 -- ---- bytes that aren't a body
 

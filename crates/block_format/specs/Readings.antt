@@ -1,5 +1,5 @@
 -- Crate block_format. What a reading of a body gives.
-use Rattle.std.specs.Prelude.{ℕ, ◌+◌, ◌-◌, ◌*◌, ◌/◌, ◌^◌, ◌<◌, ◌≤◌, List, [], ◌∷◌, length, take, drop, ◌≡◌, ◌≢◌, ◌⊎◌, ⊤}
+use Rattle.std.specs.Prelude.{ℕ, ◌+◌, ◌-◌, ◌*◌, ◌/◌, ◌^◌, ◌<◌, ◌≤◌, List, [], ◌∷◌, length, map, take, drop, ◌≡◌, ◌≢◌, ◌⊎◌, ⊤}
 use Rattle.std.specs.List.{AllByRecursion}
 use Rattle.rec_format.specs.declared.version.Digest.{Digest}
 use Rattle.rec_format.specs.declared.version.Version.{Version}
@@ -41,6 +41,14 @@ pub record HasRecords (bytes : List ℕ) (count used : ℕ) (found : List Found)
   pub used_is : units_of_records records ≡ used
   pub found_is : found ≡ found_from 0 records
 
+-- so many records of so many units stand behind the head
+abbrev pub AreThere : List ℕ → (count used : ℕ) → Type 0
+AreThere bytes count used = (found : List Found) × HasRecords bytes count used found
+
+-- and these are their digests
+abbrev pub HasDigests : List ℕ → (count used : ℕ) → List Digest → Type 0
+HasDigests bytes count used digests = (found : List Found) × HasRecords bytes count used found × (digests ≡ map (λ f. f.head.digest) found)
+
 -- the records behind a head of so many records and units have their first fault at this place
 pub record StopsAt (bytes : List ℕ) (count units place : ℕ) : Type 0 where
   pub done : ℕ
@@ -68,9 +76,27 @@ pub record IsReading (bytes : List ℕ) (block number : ℕ) (found : List Found
   pub number_is : body.number ≡ number
   pub found_is : found ≡ found_from 0 body.records
 
+-- these bytes begin with a body of this block and this number
+pub record IsNumbered (bytes : List ℕ) (block number : ℕ) : Type 0 where
+  pub body : Body
+  pub is_body : IsBody (body_capacity bytes) bytes body
+  pub block_is : body.block ≡ block
+  pub number_is : body.number ≡ number
+
+-- these bytes begin with a body of this block, and these are the digests of its records in their order
+pub record IsListing (bytes : List ℕ) (block : ℕ) (digests : List Digest) : Type 0 where
+  pub body : Body
+  pub is_body : IsBody (body_capacity bytes) bytes body
+  pub block_is : body.block ≡ block
+  pub digests_are : digests ≡ map (λ r. r.0) body.records
+
+-- no body of this block is there, and the first fault is at this place
+abbrev pub IsUnreadAt : List ℕ → (block place : ℕ) → Type 0
+IsUnreadAt bytes block place = IsFaultAt (body_capacity bytes) bytes block place × HasNoBody bytes block
+
 -- a body is refused by the place of its first fault, or by want of memory
 abbrev pub IsUnreadBy : List ℕ → (block : ℕ) → BodyRefusal → Type 0
-IsUnreadBy bytes block (Bad place) = IsFaultAt (body_capacity bytes) bytes block place × HasNoBody bytes block
+IsUnreadBy bytes block (Bad place) = IsUnreadAt bytes block place
 IsUnreadBy bytes block Memory = ⊤
 
 -- ---- laws

@@ -1,6 +1,6 @@
 // The header of a device.
 ghost use Rattle.std.specs.Prelude.{◌≡◌, ◌↔◌, IsTrue, Some, length};
-ghost use Rattle.block_format.specs.Layout.{IsBlockSize, IsGeometry, IsHeader, header_front, header_text};
+ghost use Rattle.block_format.specs.Layout.{IsBlockSize, IsGeometry, IsHeader, header_front, header_text, most_records};
 ghost use Rattle.rec_format.specs.Versions.{block_capacity};
 
 use crate::gate::SECTOR_BYTES;
@@ -16,6 +16,13 @@ pub fn capacity(block_size: u32) -> u32
     ensures { result ≡ block_capacity block_size }
 {
     block_size.saturating_sub(4128) / 16
+}
+
+/// How many records a body of so many units can have: each takes at least three.
+pub fn most_records(capacity: u32) -> u32
+    ensures { result ≡ most_records capacity }
+{
+    capacity / 3
 }
 
 /// The bytes of the header before its zeros.

@@ -13,7 +13,6 @@ use Rattle.block_format.specs.declared.geometry.Gate.TheVariants.{Shut, Unsure}
 use Rattle.block_format.specs.Layout.{block_place}
 use Rattle.law_images.specs.Gates.{GateStands}
 use Rattle.write_buffer.specs.declared.stream.Stream.{Stream}
-use Rattle.unit_ledger.specs.Rolls.{BlockRoll, copies_in, spare_of}
 use Rattle.hold_book.specs.Holds.{HoldState}
 use Rattle.block_shelf.specs.declared.place.Class.{Class}
 use Rattle.block_shelf.specs.declared.refusals.PutRefusal.{PutRefusal}
@@ -121,7 +120,6 @@ module _ {D : Type 0} (view : D → DiskView) (is_disk : (disk : D) → IsDisk (
         begun = tt;
         ready = tt;
         whole = tt;
-        space = tt;
         hold = tt;
         refused = left_as_it_was old refusal unfailed;
         goes = λ setup s stands. subst (λ (steps : List Step). Goes view setup steps old s old) (sym (unfailed_steps refusal unfailed)) (goes_nowhere view is_disk setup s old stands);
@@ -138,7 +136,6 @@ module _ {D : Type 0} (view : D → DiskView) (is_disk : (disk : D) → IsDisk (
     begun = tt;
     ready = tt;
     whole = tt;
-    space = tt;
     hold = tt;
     refused = same;
     goes = λ setup s stands. goes_room view is_disk setup s old new same stands;
@@ -151,20 +148,12 @@ module _ {D : Type 0} (view : D → DiskView) (is_disk : (disk : D) → IsDisk (
   }
 
   -- memory was taken, and then it begins
-  module _ (none : begin_refusal (kept_free kind) old ≡ None) (mid new : ShelfView D) (same : SameButRoom old mid) (space : 1 ≤ spare_of (first_block old.free) mid.rolls)
-      (hold : 1 ≤ mid.holds.spare) where
+  module _ (none : begin_refusal (kept_free kind) old ≡ None) (mid new : ShelfView D) (same : SameButRoom old mid) (hold : 1 ≤ mid.holds.spare) where
     abbrev Begun : Type 0
     Begun = new ≡ with_begun (stream_of kind) (with_first_shut new.disk mid)
 
     now_ready : Begun → SameButRoom (with_first_shut new.disk old) (ready_for new old)
-    now_ready begun =
-        let rolls : new.rolls ≡ mid.rolls = ap (λ (x : ShelfView D). x.rolls) begun in
-        record {
-          rest = refl;
-          size = ap length rolls ∙ same.size;
-          copies = λ k. ap (copies_in k) rolls ∙ same.copies k;
-          holds = ap (λ (x : ShelfView D). x.holds.holds) begun ∙ same.holds;
-        }
+    now_ready begun = record { rest = refl; holds = ap (λ (x : ShelfView D). x.holds.holds) begun ∙ same.holds }
 
     why : (r : Answer) → IfErr r (IsAppendRefusal None) → MatchResult r (λ done. begin_refusal (kept_free kind) old ≡ None) (IsAppendRefusal (begin_refusal (kept_free kind) old))
     why (Ok done) refusal = none
@@ -184,8 +173,6 @@ module _ {D : Type 0} (view : D → DiskView) (is_disk : (disk : D) → IsDisk (
       begun = on_ok r (new ≡ with_begun (stream_of kind) (ready_for new old)) begins.begun (λ begun. begun ∙ ap (with_begun (stream_of kind)) (ready_is (stream_of kind) old mid new same begun));
       ready = on_ok r (SameButRoom (with_first_shut new.disk old) (ready_for new old)) begins.begun now_ready;
       whole = now_whole r begins.begun begins.whole;
-      space = on_ok r (1 ≤ spare_of (first_block old.free) new.rolls) begins.begun
-          (λ begun. subst (λ (rolls : List BlockRoll). 1 ≤ spare_of (first_block old.free) rolls) (sym (ap (λ (x : ShelfView D). x.rolls) begun)) space);
       hold = on_ok r (1 ≤ new.holds.spare) begins.begun (λ begun. subst (λ (holds : HoldState). 1 ≤ holds.spare) (sym (ap (λ (x : ShelfView D). x.holds) begun)) hold);
       refused = left_behind (stream_of kind) old mid new same r begins.refusal begins.refused;
       goes = λ setup s stands. goes_begun (stream_of kind) old mid new same view setup s r begins.begun (begins.goes setup s (room_stands old mid same setup s stands));

@@ -10,7 +10,6 @@ use Rattle.model_device.specs.Device.{State}
 use Rattle.model_device.specs.Steps.{Step, states_through}
 use Rattle.law_start.specs.Surviving.{Survives}
 use Rattle.write_buffer.specs.declared.stream.Stream.{Stream}
-use Rattle.unit_ledger.specs.Rolls.{BlockRoll}
 use Rattle.hold_book.specs.Holds.{HoldState}
 use Rattle.block_shelf.specs.declared.refusals.PutRefusal.{PutRefusal}
 use Rattle.block_shelf.specs.declared.refusals.PutRefusal.TheVariants.{Big, Spent, Load, Space, Memory, Fault}
@@ -51,8 +50,7 @@ module _ {D : Type 0} (stream : Stream) (old mid new : ShelfView D) (same : Same
   pub ready_is : new ≡ with_begun stream (with_first_shut new.disk mid) → with_first_shut new.disk mid ≡ ready_for new old
   ready_is begun =
       ap (with_first_shut new.disk) same.rest
-      ∙ ap (λ (rolls : List BlockRoll). record (with_first_shut new.disk old) { rolls = rolls; holds = mid.holds }) (sym (ap (λ (x : ShelfView D). x.rolls) begun))
-      ∙ ap (λ (holds : HoldState). record (with_first_shut new.disk old) { rolls = new.rolls; holds = holds }) (sym (ap (λ (x : ShelfView D). x.holds) begun))
+      ∙ ap (λ (holds : HoldState). record (with_first_shut new.disk old) { holds = holds }) (sym (ap (λ (x : ShelfView D). x.holds) begun))
 
   pub goes_begun : (view : D → DiskView) (setup : Setup) (s : State) (r : Result (Unit {0}) PutRefusal) → OnOk r (new ≡ with_begun stream (with_first_shut new.disk mid))
       → MatchResult r (λ done. Goes view setup [] mid s (with_first_shut new.disk mid)) (λ refusal. Goes view setup (refused_steps refusal) mid s new)
@@ -68,17 +66,13 @@ module _ {D : Type 0} (stream : Stream) (old mid new : ShelfView D) (same : Same
   left_behind (Err (Load pending)) why left = absurd (no_cause (overload pending) why)
   left_behind (Err (Space free)) why left = absurd (no_cause (no_space free) why)
   left_behind (Err Memory) why left = record {
-    rest = left.rest ∙ ap (λ (x : ShelfView D). record x { rolls = new.rolls; holds = new.holds }) same.rest;
-    size = left.size ∙ same.size;
-    copies = λ k. left.copies k ∙ same.copies k;
+    rest = left.rest ∙ ap (λ (x : ShelfView D). record x { holds = new.holds }) same.rest;
     holds = left.holds ∙ same.holds;
   }
   left_behind (Err Fault) why left = (
     subst (λ (x : ShelfView D). gate_at x.gates (first_block x.free) ≢ Shut) same.rest left.0,
     record {
-      rest = left.1.rest ∙ ap (λ (x : ShelfView D). record (with_first_unclosed new.disk x) { rolls = new.rolls; holds = new.holds }) same.rest;
-      size = left.1.size ∙ same.size;
-      copies = λ k. left.1.copies k ∙ same.copies k;
+      rest = left.1.rest ∙ ap (λ (x : ShelfView D). record (with_first_unclosed new.disk x) { holds = new.holds }) same.rest;
       holds = left.1.holds ∙ same.holds;
     },
   )

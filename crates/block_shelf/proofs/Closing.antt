@@ -85,7 +85,7 @@ module _ {D : Type 0} (view : D → DiskView) (shelf : ShelfView D) (disk : D) (
     free = is.free;
     apart = is.apart;
     gates = length-set shelf.gates block gate ∙ is.gates;
-    rolls = is.rolls;
+    lives = is.lives;
     each = is.each;
     held = is.held;
     vacant = is.vacant;

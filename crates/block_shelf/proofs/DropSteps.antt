@@ -18,8 +18,7 @@ use Rattle.model_device.specs.Device.{State, entry, history}
 use Rattle.model_device.specs.Steps.{Step, with_item, after_step, states_through}
 use Rattle.law_start.specs.Surviving.{Survives}
 use Rattle.write_buffer.specs.Buffers.{BufferState, used_units}
-use Rattle.unit_ledger.specs.declared.roll.LiveCopy.{LiveCopy}
-use Rattle.unit_ledger.specs.Rolls.{BlockRoll, copies_in, copy_at, live_in_block, rolled_use}
+use Rattle.block_shelf.specs.Lives.{LiveCopy, copies_in, use_in, copy_at, live_in_block, lives_without}
 use Rattle.defrag_queue.specs.Queues.{QueueState, requeued}
 use Rattle.hold_book.specs.Holds.{Holds, IsHeld, has_hold, with_pair, HoldState, HoldsBelow}
 use Rattle.hold_book.proofs.Laws.{has_hold-with_hold}
@@ -33,19 +32,19 @@ use Rattle.law_images.proofs.Holding.{plain_holds}
 use Rattle.law_images.proofs.Stepping.{plain_book}
 use Rattle.raid_book.specs.Raids.{SameButMarks}
 use Rattle.block_shelf.specs.declared.place.Place.{Place}
-use Rattle.block_shelf.specs.View.{ShelfView, IsShelf, IsRoll, IsSetupOf, ArePacked, IsUnused, AreApart, records_of, gate_at}
+use Rattle.block_shelf.specs.View.{ShelfView, IsShelf, IsLiveList, IsSetupOf, ArePacked, IsUnused, AreApart, records_of, gate_at}
 use Rattle.block_shelf.specs.Standing.{HasCopy, HasRecord, StandsFor, BooksStand, IsPlaced, ImagesHold, LivesSame, book_buffer}
 use Rattle.block_shelf.specs.Calls.{Goes, copy_live}
 use Rattle.block_shelf.specs.Scans.{possible_copies}
-use Rattle.block_shelf.specs.Changes.{has_buffer_in, without_copy, with_free, with_requeued, rolls_without}
+use Rattle.block_shelf.specs.Changes.{has_buffer_in, without_copy, with_free, with_requeued}
 use Rattle.block_shelf.proofs.Blocks.{apart_push, apart_back, few}
 use Rattle.block_shelf.proofs.Frees.{IsVacant, vacant_from, vacant_is}
 use Rattle.block_shelf.proofs.Dropping.{dropped_book, dropped_buffers, dropped_next, dropped_holds, dropped_lives, left_live, stays_live, dropped_listed}
 use Rattle.block_shelf.proofs.Dropping.{dropped_frees, fewer, fewer_own, fewer_units, use_elsewhere}
 use Rattle.block_shelf.proofs.Going.{stays}
 use Rattle.block_shelf.proofs.Keeping.{have_fewer}
-use Rattle.block_shelf.proofs.QueueSteps.{has_buffer_is, marked_as, queue_considered, rolled_is_use}
-use Rattle.block_shelf.proofs.Rolls.{same_unit, left_roll, left_packed, no_copies, each_left, left_there, left_from}
+use Rattle.block_shelf.proofs.QueueSteps.{has_buffer_is, marked_as, queue_considered, use_in_is}
+use Rattle.block_shelf.proofs.Lives.{same_unit, left_list, left_packed, no_copies, each_left, left_there, left_from}
 
 -- ---- what every shelf keeps
 
@@ -66,7 +65,7 @@ held_shelf view shelf holds below free is = record {
   free = is.free;
   apart = is.apart;
   gates = is.gates;
-  rolls = is.rolls;
+  lives = is.lives;
   each = is.each;
   held = below;
   vacant = is.vacant;
@@ -92,10 +91,10 @@ one_held holds number block (b ∷ free) apart unheld = (
 
 module _ {D : Type 0} (view : D → DiskView) (shelf : ShelfView D) (is : IsShelf view shelf) where
   -- a block with a live copy isn't free
-  pub live_unlisted : (block : ℕ) → (copies_in block shelf.rolls ≡ [] → ⊥) → AllByRecursion (λ b. b ≢ block) shelf.free
-  live_unlisted block some = all_map (λ b. copies_in b shelf.rolls ≡ []) (λ b. b ≢ block) shelf.free (λ b none e. some (subst (λ (k : ℕ). copies_in k shelf.rolls ≡ []) e none)) is.vacant
+  pub live_unlisted : (block : ℕ) → (copies_in block shelf.lives ≡ [] → ⊥) → AllByRecursion (λ b. b ≢ block) shelf.free
+  live_unlisted block some = all_map (λ b. copies_in b shelf.lives ≡ []) (λ b. b ≢ block) shelf.free (λ b none e. some (subst (λ (k : ℕ). copies_in k shelf.lives ≡ []) e none)) is.vacant
 
-  pub taken_shelf : (place : Place) → place.block < shelf.geometry.blocks → (copies_in place.block shelf.rolls ≡ [] → ⊥) → IsShelf view (without_copy place shelf)
+  pub taken_shelf : (place : Place) → place.block < shelf.geometry.blocks → (copies_in place.block shelf.lives ≡ [] → ⊥) → IsShelf view (without_copy place shelf)
   taken_shelf place below some = record {
     geometry = is.geometry;
     limits = is.limits;
@@ -106,16 +105,16 @@ module _ {D : Type 0} (view : D → DiskView) (shelf : ShelfView D) (is : IsShel
     free = is.free;
     apart = is.apart;
     gates = is.gates;
-    rolls = length-set shelf.rolls place.block _ ∙ is.rolls;
-    each = λ k. each_left (λ j cs. IsRoll cs) place.block place.unit shelf.rolls lt k (is.each k) (λ roll. left_roll place.unit (copies_in place.block shelf.rolls) roll);
+    lives = length-set shelf.lives place.block _ ∙ is.lives;
+    each = λ k. each_left (λ j cs. IsLiveList cs) place.block place.unit shelf.lives lt k (is.each k) (λ list. left_list place.unit (copies_in place.block shelf.lives) list);
     held = is.held;
-    vacant = all_map (λ b. copies_in b shelf.rolls ≡ []) (λ b. copies_in b (rolls_without place.block place.unit shelf.rolls) ≡ []) shelf.free
-        (λ b none. each_left (λ j cs. cs ≡ []) place.block place.unit shelf.rolls lt b none (λ here. absurd (some here))) is.vacant;
+    vacant = all_map (λ b. copies_in b shelf.lives ≡ []) (λ b. copies_in b (lives_without place.block place.unit shelf.lives) ≡ []) shelf.free
+        (λ b none. each_left (λ j cs. cs ≡ []) place.block place.unit shelf.lives lt b none (λ here. absurd (some here))) is.vacant;
     unheld = is.unheld;
-    packed = all_map (λ b. ArePacked (used_units b) (copies_in b.block shelf.rolls))
-        (λ b. ArePacked (used_units b) (copies_in b.block (rolls_without place.block place.unit shelf.rolls))) shelf.buffers
-        (λ b packed. each_left (λ j cs. ArePacked (used_units b) cs) place.block place.unit shelf.rolls lt b.block packed
-        (λ here. left_packed place.unit (used_units b) (copies_in place.block shelf.rolls) here)) is.packed;
+    packed = all_map (λ b. ArePacked (used_units b) (copies_in b.block shelf.lives))
+        (λ b. ArePacked (used_units b) (copies_in b.block (lives_without place.block place.unit shelf.lives))) shelf.buffers
+        (λ b packed. each_left (λ j cs. ArePacked (used_units b) cs) place.block place.unit shelf.lives lt b.block packed
+        (λ here. left_packed place.unit (used_units b) (copies_in place.block shelf.lives) here)) is.packed;
     waits = is.waits;
     ready = is.ready;
     stand = is.stand;
@@ -124,8 +123,8 @@ module _ {D : Type 0} (view : D → DiskView) (shelf : ShelfView D) (is : IsShel
     raid = is.raid;
   }
     where
-      lt : place.block < length shelf.rolls
-      lt = subst (λ (n : ℕ). place.block < n) (sym is.rolls) below
+      lt : place.block < length shelf.lives
+      lt = subst (λ (n : ℕ). place.block < n) (sym is.lives) below
 
   module _ (block : ℕ) (below : block < shelf.geometry.blocks) (unlisted : AllByRecursion (λ b. b ≢ block) shelf.free) where
     pub freed_shelf : IsUnused shelf block → IsShelf view (with_free block shelf)
@@ -141,10 +140,10 @@ module _ {D : Type 0} (view : D → DiskView) (shelf : ShelfView D) (is : IsShel
           (apart_push (map (λ b. b.block) shelf.buffers ++ shelf.free) block is.apart
           (all_joined (λ x. x ≢ block) (map (λ b. b.block) shelf.buffers) shelf.free (blocks shelf.buffers unused.buffers) unlisted));
       gates = is.gates;
-      rolls = is.rolls;
+      lives = is.lives;
       each = is.each;
       held = is.held;
-      vacant = all_joined (λ b. copies_in b shelf.rolls ≡ []) shelf.free (block ∷ []) is.vacant (unused.live, tt);
+      vacant = all_joined (λ b. copies_in b shelf.lives ≡ []) shelf.free (block ∷ []) is.vacant (unused.live, tt);
       unheld = all_joined (λ b. IsHeld shelf.holds.holds b → ⊥) shelf.free (block ∷ []) is.unheld (unused.holds, tt);
       packed = is.packed;
       waits = is.waits;
@@ -174,11 +173,11 @@ module _ {D : Type 0} (view : D → DiskView) (is_disk : (disk : D) → IsDisk (
   abbrev after : State
   after = with_item digest item (dropped_live setup digest s.book) s
 
-  abbrev rolls : List BlockRoll
-  rolls = rolls_without place.block place.unit shelf.rolls
+  abbrev lives : List (List LiveCopy)
+  lives = lives_without place.block place.unit shelf.lives
 
-  lt : place.block < length shelf.rolls
-  lt = subst (λ (n : ℕ). place.block < n) (sym is.rolls) below
+  lt : place.block < length shelf.lives
+  lt = subst (λ (n : ℕ). place.block < n) (sym is.lives) below
 
   abbrev booked : IsBooked s.book
   booked = stands.order.booked
@@ -190,17 +189,17 @@ module _ {D : Type 0} (view : D → DiskView) (is_disk : (disk : D) → IsDisk (
   the_copy : (k : ℕ) (c : LiveCopy) → Contains s.book.live (live_in_block k c) → same_digest digest c.digest ≡ true → live_in_block k c ≡ copy_live digest place
   the_copy k c there same = sym (stands.listed.one (copy_live digest place) (live_in_block k c) live there same)
 
-  lives_left : LivesSame rolls after.book
+  lives_left : LivesSame lives after.book
   lives_left = record {
     known = λ k c there.
         let left = left_live setup s digest (live_in_block k c) (subst (λ (l : List Live). Contains l (live_in_block k c)) (dropped_lives setup s digest) there) in
-        left_there place.block place.unit shelf.rolls lt k c (stands.lives.known k c left.0)
+        left_there place.block place.unit shelf.lives lt k c (stands.lives.known k c left.0)
         (λ here at.
-        let one = same_unit (copies_in place.block shelf.rolls) (is.each place.block).own c copy
-        (subst (λ (j : ℕ). Contains (copies_in j shelf.rolls) c) here (stands.lives.known k c left.0)) (stands.lives.known place.block copy live) at in
+        let one = same_unit (copies_in place.block shelf.lives) (is.each place.block).own c copy
+        (subst (λ (j : ℕ). Contains (copies_in j shelf.lives) c) here (stands.lives.known k c left.0)) (stands.lives.known place.block copy live) at in
         both_ways (same_digest digest c.digest) left.1 (ap (λ (x : LiveCopy). same_digest digest x.digest) one ∙ same_digest_refl digest));
     there = λ k c there.
-        let was = left_from place.block place.unit shelf.rolls lt k c there in
+        let was = left_from place.block place.unit shelf.lives lt k c there in
         let is_live = stands.lives.there k c was.0 in
         subst (λ (l : List Live). Contains l (live_in_block k c)) (sym (dropped_lives setup s digest))
         (stays_live setup s digest (live_in_block k c) is_live
@@ -282,12 +281,12 @@ module _ {D : Type 0} (view : D → DiskView) (is_disk : (disk : D) → IsDisk (
   lt_setup : place.block < setup.blocks
   lt_setup = subst (λ (n : ℕ). place.block < n) (sym of_shelf.shape.blocks) below
 
-  use_is : rolled_use place.block rolls ≡ use_of (fewer setup s digest) place.block
-  use_is = rolled_is_use rolls (fewer setup s digest) place.block (record {
+  use_is : use_in place.block lives ≡ use_of (fewer setup s digest) place.block
+  use_is = use_in_is lives (fewer setup s digest) place.block (record {
     known = λ k c there. lives_left.known k c (subst (λ (l : List Live). Contains l (live_in_block k c)) (sym (dropped_lives setup s digest)) there);
     there = λ k c there. subst (λ (l : List Live). Contains l (live_in_block k c)) (dropped_lives setup s digest) (lives_left.there k c there);
   })
-      (each_left (λ j cs. IsRoll cs) place.block place.unit shelf.rolls lt place.block (is.each place.block) (λ roll. left_roll place.unit (copies_in place.block shelf.rolls) roll))
+      (each_left (λ j cs. IsLiveList cs) place.block place.unit shelf.lives lt place.block (is.each place.block) (λ list. left_list place.unit (copies_in place.block shelf.lives) list))
       (fewer_own setup s digest booked stands.listed)
 
   dropped_raid : SameButMarks s.raid after.raid
@@ -298,7 +297,7 @@ module _ {D : Type 0} (view : D → DiskView) (is_disk : (disk : D) → IsDisk (
       queue_considered setup shelf (record requeued_view { free = free }) s after refl dropped_raid (fewer setup s digest) (dropped_book setup s digest) refl
       (subst (λ (n : ℕ). AllByRecursion (λ b. b < n) shelf.queue.queue) (sym of_shelf.shape.blocks) is.queue.below) queued place.block lt_setup
       (ap (λ (t : Bool). requeued t place.block shelf.queue.queue)
-      (marked_as setup shelf (fewer setup s digest) place.block (rolled_use place.block rolls) (not (has_buffer_in shelf.buffers place.block)) of_shelf is.queue use_is
+      (marked_as setup shelf (fewer setup s digest) place.block (use_in place.block lives) (not (has_buffer_in shelf.buffers place.block)) of_shelf is.queue use_is
       (ap not (has_buffer_is shelf.buffers (fewer setup s digest) place.block stands.buffers))))
       (λ b lt other. queued_alike setup s.book (fewer setup s digest) b refl
       (ap (sum_by (λ (l : Live). l.units)) (use_elsewhere digest b s.book.live
@@ -334,7 +333,7 @@ module _ {D : Type 0} (view : D → DiskView) (is_disk : (disk : D) → IsDisk (
     live = λ m there at.
         let c : LiveCopy = record { digest = m.digest; unit = m.unit; units = m.units } in
         let known = lives_left.known m.block c (subst (λ (l : List Live). Contains l m) (sym (dropped_lives setup s digest)) there) in
-        let none = subst (λ (l : List LiveCopy). Contains l c) unused.live (subst (λ (k : ℕ). Contains (copies_in k rolls) c) at known) in omega (arith, none.1);
+        let none = subst (λ (l : List LiveCopy). Contains l c) unused.live (subst (λ (k : ℕ). Contains (copies_in k lives) c) at known) in omega (arith, none.1);
     holds = λ n there. unused.holds (n, stands.holds.known n place.block there);
   }
 
@@ -344,7 +343,7 @@ module _ {D : Type 0} (view : D → DiskView) (is_disk : (disk : D) → IsDisk (
         (λ b there at. vacant.places b.number (subst (λ (l : List (ℕ × ℕ)). Contains l (b.number, place.block)) (sym places_same)
         (subst (λ (k : ℕ). Contains (map {B = ℕ × ℕ} (λ (x : BufferState). (x.number, x.block)) shelf.buffers) (b.number, k)) at
         (map_there (λ (x : BufferState). (x.number, x.block)) shelf.buffers b there))));
-    live = no_copies (copies_in place.block rolls)
+    live = no_copies (copies_in place.block lives)
         (λ c there. vacant.live (live_in_block place.block c)
         (subst (λ (l : List Live). Contains l (live_in_block place.block c)) (dropped_lives setup s digest) (lives_left.there place.block c there)) refl);
     holds = λ held. vacant.holds held.0 (stands.holds.there held.0 place.block held.1);

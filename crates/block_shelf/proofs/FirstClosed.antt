@@ -17,7 +17,7 @@ use Rattle.law_start.specs.Surviving.{Survives}
 use Rattle.write_buffer.specs.Buffers.{BufferState}
 use Rattle.post_cache.specs.Bodies.{CacheState}
 use Rattle.hold_book.specs.Holds.{IsHeld}
-use Rattle.unit_ledger.specs.Rolls.{copies_in}
+use Rattle.block_shelf.specs.Lives.{copies_in}
 use Rattle.law_images.specs.Gates.{GateStands}
 use Rattle.block_shelf.specs.View.{ShelfView, IsShelf, AreApart, gate_at}
 use Rattle.block_shelf.specs.Disks.{IsLater}
@@ -61,10 +61,10 @@ passed_shelf view shelf is = record {
   free = back_all (λ b. b < shelf.geometry.blocks) shelf.free is.free;
   apart = back_apart (map (λ b. b.block) shelf.buffers) shelf.free is.apart;
   gates = is.gates;
-  rolls = is.rolls;
+  lives = is.lives;
   each = is.each;
   held = is.held;
-  vacant = back_all (λ b. copies_in b shelf.rolls ≡ []) shelf.free is.vacant;
+  vacant = back_all (λ b. copies_in b shelf.lives ≡ []) shelf.free is.vacant;
   unheld = back_all (λ b. IsHeld shelf.holds.holds b → ⊥) shelf.free is.unheld;
   packed = is.packed;
   waits = is.waits;

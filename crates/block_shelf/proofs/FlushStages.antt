@@ -15,7 +15,7 @@ use Rattle.write_buffer.specs.declared.phase.Phase.{Phase}
 use Rattle.write_buffer.specs.declared.phase.Phase.TheVariants.{BodyDone, GateBegun}
 use Rattle.write_buffer.specs.Buffers.{BufferState, with_phase}
 use Rattle.hold_book.specs.Holds.{HoldState, without_buffer}
-use Rattle.unit_ledger.specs.Rolls.{rolled_use}
+use Rattle.block_shelf.specs.Lives.{use_in}
 use Rattle.defrag_queue.specs.Queues.{QueueState, considered}
 use Rattle.post_cache.specs.Bodies.{CacheState}
 use Rattle.block_shelf.specs.Changes.{with_flushed}
@@ -52,7 +52,7 @@ first_later p sealed at buffers first = record {
 -- what leaves it out, by the buffer that was found
 pub without_first : {D : Type 0} (number at : ℕ) (old new : ShelfView D) (first : IsFirstAt at old.buffers) (bs : List BufferState) (b : BufferState) (holds : HoldState) (free : List ℕ)
     → bs ≡ first.sealed.front ++ first.sealed.behind → b ≡ first.sealed.buffer
-    → new ≡ record old { buffers = bs; holds = holds; free = free; queue = considered old.queue b.block (rolled_use b.block old.rolls) true; cache = with_flushed b old.cache }
+    → new ≡ record old { buffers = bs; holds = holds; free = free; queue = considered old.queue b.block (use_in b.block old.lives) true; cache = with_flushed b old.cache }
     → holds.holds ≡ without_buffer old.holds.holds number → IsWithoutFirst number first.sealed old new
 without_first {D} number at old new first bs b holds free left same is unheld = record {
   rest =
@@ -60,7 +60,7 @@ without_first {D} number at old new first bs b holds free left same is unheld = 
         buffers = l;
         holds = holds;
         free = free;
-        queue = considered old.queue b.block (rolled_use b.block old.rolls) true;
+        queue = considered old.queue b.block (use_in b.block old.lives) true;
         cache =
             with_flushed b old.cache;
       }) left
@@ -68,7 +68,7 @@ without_first {D} number at old new first bs b holds free left same is unheld = 
         buffers = others;
         holds = holds;
         free = free;
-        queue = considered old.queue x.block (rolled_use x.block old.rolls) true;
+        queue = considered old.queue x.block (use_in x.block old.lives) true;
         cache =
             with_flushed x old.cache;
       }) same
@@ -81,7 +81,7 @@ without_first {D} number at old new first bs b holds free left same is unheld = 
     others = first.sealed.front ++ first.sealed.behind
 
     queue : QueueState
-    queue = considered old.queue first.sealed.buffer.block (rolled_use first.sealed.buffer.block old.rolls) true
+    queue = considered old.queue first.sealed.buffer.block (use_in first.sealed.buffer.block old.lives) true
 
     cache : CacheState BufferState
     cache = with_flushed first.sealed.buffer old.cache
@@ -146,7 +146,7 @@ module _ {D : Type 0} (at : ℕ) (old : ShelfView D) (first : IsFirstAt at old.b
         own = own;
         gates = ap (λ (v : ShelfView D). v.gates) leaves_it.rest;
         holds = leaves_it.unheld;
-        rolls = ap (λ (v : ShelfView D). v.rolls) leaves_it.rest;
+        lives = ap (λ (v : ShelfView D). v.lives) leaves_it.rest;
         queue = ap (λ (v : ShelfView D). v.queue) leaves_it.rest;
         cache = ap (λ (v : ShelfView D). v.cache) leaves_it.rest;
         next = ap (λ (v : ShelfView D). v.next_number) leaves_it.rest;

@@ -5,10 +5,8 @@ use Rattle.std.proofs.lemmas.List.{length_push, length-append}
 use Rattle.rec_format.specs.declared.version.Digest.{Digest}
 use Rattle.rec_format.specs.declared.version.Version.{Version}
 use Rattle.rec_format.specs.Versions.{block_capacity}
-use Rattle.model_device.specs.Book.{first_block}
 use Rattle.write_buffer.specs.declared.stream.Stream.{Stream}
 use Rattle.write_buffer.specs.Buffers.{BufferState, with_record}
-use Rattle.unit_ledger.specs.Rolls.{spare_of}
 use Rattle.block_shelf.specs.declared.place.Place.{Place}
 use Rattle.block_shelf.specs.View.{ShelfView}
 use Rattle.block_shelf.specs.Changes.{StandsAt, CanTake, HasRoom, HasRoomAt, SameButRoom, begun_buffer, sealed_in, with_begun}
@@ -31,14 +29,12 @@ stands_within at buffers s = subst (λ (l : List BufferState). at < length l) (s
 -- ---- the buffer takes the copy
 
 -- where memory was taken for it
-pub can_in_room : {D : Type 0} (stream : Stream) (units at : ℕ) (old mid : ShelfView D) → SameButRoom old mid → (room : HasRoomAt stream units at old.buffers)
-    → 1 ≤ spare_of room.stands.buffer.block mid.rolls → CanTake units at mid
-can_in_room {D} stream units at old mid same room space =
+pub can_in_room : {D : Type 0} (stream : Stream) (units at : ℕ) (old mid : ShelfView D) → SameButRoom old mid → HasRoomAt stream units at old.buffers → CanTake units at mid
+can_in_room {D} stream units at old mid same room =
     let s = room.stands in record {
       stands = record { front = s.front; buffer = s.buffer; behind = s.behind; parts = ap (λ (x : ShelfView D). x.buffers) same.rest ∙ s.parts; before = s.before };
       fills = room.fills;
       room = room.room;
-      space = space;
     }
 
 -- the buffer that has begun is the last one
@@ -54,13 +50,11 @@ begun_stands {D} stream old begun mid at n is place count = record {
 }
 
 pub can_in_new : {D : Type 0} (stream : Stream) (units : ℕ) (old begun mid : ShelfView D) (at n : ℕ) → mid ≡ with_begun stream (ready_for begun old) → at ≡ n - 1 → n ≡ length mid.buffers
-    → units ≤ block_capacity old.geometry.block_size
-    → 1 ≤ spare_of (first_block old.free) begun.rolls → CanTake units at mid
-can_in_new {D} stream units old begun mid at n is place count small space = record {
+    → units ≤ block_capacity old.geometry.block_size → CanTake units at mid
+can_in_new {D} stream units old begun mid at n is place count small = record {
   stands = begun_stands stream old begun mid at n is place count;
   fills = refl;
   room = let sum : units ≡ 0 + units = omega arith in subst (λ (m : ℕ). m ≤ block_capacity old.geometry.block_size) sum small;
-  space = subst (λ (x : ShelfView D). 1 ≤ spare_of (first_block old.free) x.rolls) (sym is) space;
 }
 
 -- ---- the gates, and what is kept

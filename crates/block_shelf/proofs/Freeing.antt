@@ -9,10 +9,9 @@ use Rattle.std.proofs.Math.Seq.{take-length}
 use Rattle.law_lists.proofs.Each.{all_map, all_from, all_joined}
 use Rattle.law_lists.proofs.Finding.{any_none}
 use Rattle.law_lists.proofs.Ranges.{filter_next}
-use Rattle.unit_ledger.specs.declared.roll.LiveCopy.{LiveCopy}
+use Rattle.block_shelf.specs.Lives.{LiveCopy, copies_in, use_in}
 use Rattle.write_buffer.specs.Buffers.{BufferState}
-use Rattle.unit_ledger.specs.Rolls.{BlockRoll, copies_in, rolled_use}
-use Rattle.block_shelf.specs.View.{AreApart, IsRoll}
+use Rattle.block_shelf.specs.View.{AreApart, IsLiveList}
 use Rattle.block_shelf.specs.Changes.{has_buffer_in}
 use Rattle.block_shelf.specs.LetGo.{IsBare, IsFreeOrLetGo}
 use Rattle.block_shelf.proofs.Blocks.{apart_push, few}
@@ -30,12 +29,12 @@ none_has buffers block n none within all =
     sym (any_none (λ b. b.block == block) buffers (all_map (λ b. b.block ≢ block) (λ b. (b.block == block) ≡ false) buffers (λ b other. ne_eqb b.block block other)
     (subst (AllByRecursion (λ b. b.block ≢ block)) (ap (λ (m : ℕ). take m buffers) (let e : n ≡ length buffers = omega (arith, within, all) in e) ∙ take-length buffers) none)))
 
-pub told_bare : (buffers : List BufferState) (rolls : List BlockRoll) (block n : ℕ) → n ≡ rolled_use block rolls → IsRoll (copies_in block rolls)
-    → AllByRecursion (λ b. b.block ≢ block) buffers → MatchBool (n == 0) (IsBare buffers rolls block) (IsBare buffers rolls block → ⊥)
-told_bare buffers rolls block n same roll unbuffered = by (n == 0) refl
+pub told_bare : (buffers : List BufferState) (lives : List (List LiveCopy)) (block n : ℕ) → n ≡ use_in block lives → IsLiveList (copies_in block lives)
+    → AllByRecursion (λ b. b.block ≢ block) buffers → MatchBool (n == 0) (IsBare buffers lives block) (IsBare buffers lives block → ⊥)
+told_bare buffers lives block n same list unbuffered = by (n == 0) refl
   where
-    by : (b : Bool) → (n == 0) ≡ b → MatchBool b (IsBare buffers rolls block) (IsBare buffers rolls block → ⊥)
-    by true is = record { unbuffered = unbuffered; dead = no_units (copies_in block rolls) roll.takes (sym same ∙ eqb-true n 0 is) }
+    by : (b : Bool) → (n == 0) ≡ b → MatchBool b (IsBare buffers lives block) (IsBare buffers lives block → ⊥)
+    by true is = record { unbuffered = unbuffered; dead = no_units (copies_in block lives) list.takes (sym same ∙ eqb-true n 0 is) }
     by false is = λ bare. eqb-false n 0 is (same ∙ ap (sum_by (λ (c : LiveCopy). c.units)) bare.dead)
 
 -- ---- one block after another

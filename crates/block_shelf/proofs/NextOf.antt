@@ -4,7 +4,7 @@ use Rattle.std.specs.Prelude.{IsTrue}
 use Rattle.std.proofs.lemmas.Bool.{both_ways, cases_lt}
 use Rattle.hold_book.specs.Holds.{Holds, HoldsBelow, HoldsNoneFrom, IsFirstHeld, has_hold}
 use Rattle.write_buffer.specs.Buffers.{BufferState}
-use Rattle.unit_ledger.specs.Rolls.{BlockRoll}
+use Rattle.block_shelf.specs.Lives.{LiveCopy}
 use Rattle.block_shelf.specs.LetGo.{IsOf, HasNoneOf, IsFirstOf, IsLetGo}
 use Rattle.block_shelf.proofs.Freeing.{AreFreed, freed_to}
 
@@ -58,9 +58,9 @@ of_below blocks number own holds block lt below (inr held) = below number block 
 
 -- ---- and become free
 
-module _ (number own : ℕ) (before after : Holds) (buffers : List BufferState) (rolls : List BlockRoll) (blocks : ℕ) (old : List ℕ) (from : ℕ) (free : List ℕ) where
+module _ (number own : ℕ) (before after : Holds) (buffers : List BufferState) (lives : List (List LiveCopy)) (blocks : ℕ) (old : List ℕ) (from : ℕ) (free : List ℕ) where
   abbrev pub Goes : ℕ → Type 0
-  Goes = IsLetGo number own before after buffers rolls
+  Goes = IsLetGo number own before after buffers lives
 
   module _ (within : from ≤ blocks) (are : AreFreed blocks Goes old from free) where
     -- the next one comes, those between don't

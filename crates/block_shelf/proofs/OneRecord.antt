@@ -12,15 +12,14 @@ use Rattle.rec_format.specs.declared.version.Digest.{Digest}
 use Rattle.rec_format.specs.declared.version.Version.{Version}
 use Rattle.rec_format.specs.Places.{device_number}
 use Rattle.rec_format.specs.Versions.{version_units}
-use Rattle.unit_ledger.specs.declared.roll.LiveCopy.{LiveCopy}
-use Rattle.unit_ledger.specs.Rolls.{BlockRoll, copies_in, copy_at}
-use Rattle.unit_ledger.proofs.Copies.{own_units-push}
+use Rattle.block_shelf.specs.Lives.{LiveCopy, copies_in, copy_at, lives_with}
+use Rattle.block_shelf.proofs.OwnUnits.{own_units-push}
 use Rattle.write_buffer.specs.declared.phase.Phase.TheVariants.{Filling}
 use Rattle.write_buffer.specs.Buffers.{BufferState, used_units, with_record}
-use Rattle.block_shelf.specs.View.{ShelfView, IsShelf, IsBufferOf, IsCacheOf, StandsBefore, StandInOrder, AreApart, IsRoll, ArePacked, WaitsShut, HasItsBody, is_written}
-use Rattle.block_shelf.specs.Changes.{with_written, rolls_with}
+use Rattle.block_shelf.specs.View.{ShelfView, IsShelf, IsBufferOf, IsCacheOf, StandsBefore, StandInOrder, AreApart, IsLiveList, ArePacked, WaitsShut, HasItsBody, is_written}
+use Rattle.block_shelf.specs.Changes.{with_written}
 use Rattle.block_shelf.proofs.Blocks.{apart_from}
-use Rattle.block_shelf.proofs.Rolls.{roll_here, roll_there}
+use Rattle.block_shelf.proofs.Lives.{list_here, list_there}
 
 -- ---- an element behind so many others
 
@@ -82,25 +81,25 @@ below_unit unit [] takes ends = refl
 below_unit unit (c ∷ cs) takes ends =
     cond-false (c.unit == unit) (Some c) (copy_at unit cs) (ne_eqb c.unit unit (λ e. let t = takes.0 in let f = ends.0 in absurd (omega (arith, e, t, f)))) ∙ below_unit unit cs takes.1 ends.1
 
-roll_more : (c : LiveCopy) (cs : List LiveCopy) → IsRoll cs → 1 ≤ c.units → copy_at c.unit cs ≡ None → IsRoll (cs ++ c ∷ [])
-roll_more c cs roll takes none = record { own = own_units-push c cs roll.own none; takes = all_joined (λ d. 1 ≤ d.units) cs (c ∷ []) roll.takes (takes, tt) }
+list_more : (c : LiveCopy) (cs : List LiveCopy) → IsLiveList cs → 1 ≤ c.units → copy_at c.unit cs ≡ None → IsLiveList (cs ++ c ∷ [])
+list_more c cs list takes none = record { own = own_units-push c cs list.own none; takes = all_joined (λ d. 1 ≤ d.units) cs (c ∷ []) list.takes (takes, tt) }
 
 -- what a shelf says of one of its buffers
 pub record OneBuffer {D : Type 0} (shelf : ShelfView D) (b : BufferState) : Type 0 where
   pub is : IsBufferOf shelf.geometry shelf.next_number b
-  pub packed : ArePacked (used_units b) (copies_in b.block shelf.rolls)
+  pub packed : ArePacked (used_units b) (copies_in b.block shelf.lives)
   -- no live copy begins where the next record comes
-  pub none_at : copy_at (used_units b) (copies_in b.block shelf.rolls) ≡ None
+  pub none_at : copy_at (used_units b) (copies_in b.block shelf.lives) ≡ None
 
 pub one_buffer : {D : Type 0} (view : D → DiskView) (shelf : ShelfView D) (front : List BufferState) (b : BufferState) (behind : List BufferState) → IsShelf view shelf
     → shelf.buffers ≡ front ++ b ∷ behind → OneBuffer shelf b
 one_buffer view shelf front b behind is parts =
-    let packed = (all_parted (λ c. ArePacked (used_units c) (copies_in c.block shelf.rolls)) front (b ∷ behind)
-    (subst (AllByRecursion (λ c. ArePacked (used_units c) (copies_in c.block shelf.rolls))) parts is.packed)).1.0 in
+    let packed = (all_parted (λ c. ArePacked (used_units c) (copies_in c.block shelf.lives)) front (b ∷ behind)
+    (subst (AllByRecursion (λ c. ArePacked (used_units c) (copies_in c.block shelf.lives))) parts is.packed)).1.0 in
     record {
       is = (all_parted (IsBufferOf shelf.geometry shelf.next_number) front (b ∷ behind) (subst (AllByRecursion (IsBufferOf shelf.geometry shelf.next_number)) parts is.buffers)).1.0;
       packed = packed;
-      none_at = below_unit (used_units b) (copies_in b.block shelf.rolls) (is.each b.block).takes packed.ends;
+      none_at = below_unit (used_units b) (copies_in b.block shelf.lives) (is.each b.block).takes packed.ends;
     }
 
 module _ {D : Type 0} (view : D → DiskView) (shelf : ShelfView D) (digest : Digest) (v : Version) (front : List BufferState) (b : BufferState) (behind : List BufferState)
@@ -109,8 +108,8 @@ module _ {D : Type 0} (view : D → DiskView) (shelf : ShelfView D) (digest : Di
   abbrev copy : LiveCopy
   copy = record { digest = digest; unit = used_units b; units = version_units v }
 
-  abbrev rolls : List BlockRoll
-  rolls = rolls_with b.block copy shelf.rolls
+  abbrev lives : List (List LiveCopy)
+  lives = lives_with b.block copy shelf.lives
 
   abbrev more : BufferState
   more = with_record digest v b
@@ -118,47 +117,47 @@ module _ {D : Type 0} (view : D → DiskView) (shelf : ShelfView D) (digest : Di
   one : OneBuffer shelf b
   one = one_buffer view shelf front b behind is parts
 
-  lt : b.block < length shelf.rolls
-  lt = subst (λ (n : ℕ). b.block < n) (sym is.rolls) one.is.block
+  lt : b.block < length shelf.lives
+  lt = subst (λ (n : ℕ). b.block < n) (sym is.lives) one.is.block
 
   apart : OwnBlock b.block front behind shelf.free
   apart = own_block front b behind shelf.free (subst (λ (bs : List BufferState). AreApart (map (λ c. c.block) bs ++ shelf.free)) parts is.apart)
 
-  roll_at : (k : ℕ) → IsRoll (copies_in k rolls)
-  roll_at k =
-      ⊎_elim (λ (e : k ≡ b.block). subst (λ (j : ℕ). IsRoll (copies_in j rolls)) (sym e)
-      (subst IsRoll (sym (roll_here b.block _ shelf.rolls lt)) (roll_more copy (copies_in b.block shelf.rolls) (is.each b.block) takes one.none_at)))
-      (λ (other : k ≢ b.block). subst IsRoll (sym (roll_there b.block k _ shelf.rolls other)) (is.each k)) (cases_eq k b.block)
+  list_at : (k : ℕ) → IsLiveList (copies_in k lives)
+  list_at k =
+      ⊎_elim (λ (e : k ≡ b.block). subst (λ (j : ℕ). IsLiveList (copies_in j lives)) (sym e)
+      (subst IsLiveList (sym (list_here b.block _ shelf.lives lt)) (list_more copy (copies_in b.block shelf.lives) (is.each b.block) takes one.none_at)))
+      (λ (other : k ≢ b.block). subst IsLiveList (sym (list_there b.block k _ shelf.lives other)) (is.each k)) (cases_eq k b.block)
 
   used_more : used_units more ≡ used_units b + version_units v
   used_more = sum_by_push (λ r. version_units r.1) b.records (digest, v)
 
-  packed_more : ArePacked (used_units more) (copies_in b.block rolls)
-  packed_more = subst (ArePacked (used_units more)) (sym (roll_here b.block _ shelf.rolls lt)) (record {
-    ends = all_joined (λ c. c.unit + c.units ≤ used_units more) (copies_in b.block shelf.rolls) (copy ∷ [])
-        (all_map (λ c. c.unit + c.units ≤ used_units b) (λ c. c.unit + c.units ≤ used_units more) (copies_in b.block shelf.rolls) (λ c le. omega (arith, le, used_more)) one.packed.ends)
+  packed_more : ArePacked (used_units more) (copies_in b.block lives)
+  packed_more = subst (ArePacked (used_units more)) (sym (list_here b.block _ shelf.lives lt)) (record {
+    ends = all_joined (λ c. c.unit + c.units ≤ used_units more) (copies_in b.block shelf.lives) (copy ∷ [])
+        (all_map (λ c. c.unit + c.units ≤ used_units b) (λ c. c.unit + c.units ≤ used_units more) (copies_in b.block shelf.lives) (λ c le. omega (arith, le, used_more)) one.packed.ends)
         (omega (arith, used_more), tt);
-    sum = let pushed = sum_by_push (λ (c : LiveCopy). c.units) (copies_in b.block shelf.rolls) copy in let was = one.packed.sum in omega (arith, pushed, was, used_more);
+    sum = let pushed = sum_by_push (λ (c : LiveCopy). c.units) (copies_in b.block shelf.lives) copy in let was = one.packed.sum in omega (arith, pushed, was, used_more);
   })
 
   -- another buffer in its place, where the others stay as they are
   changed : (P : BufferState → Type 0) → AllByRecursion P shelf.buffers → (P b → P more) → AllByRecursion P (front ++ more ∷ behind)
   changed P all this = all_but_one P P front b more behind (subst (AllByRecursion P) parts all) (λ c h. h) this
 
-  still_packed : AllByRecursion (λ c. ArePacked (used_units c) (copies_in c.block rolls)) (front ++ more ∷ behind)
+  still_packed : AllByRecursion (λ c. ArePacked (used_units c) (copies_in c.block lives)) (front ++ more ∷ behind)
   still_packed =
-      let was = all_parted (λ c. ArePacked (used_units c) (copies_in c.block shelf.rolls)) front (b ∷ behind)
-      (subst (AllByRecursion (λ c. ArePacked (used_units c) (copies_in c.block shelf.rolls))) parts is.packed) in
-      all_joined (λ c. ArePacked (used_units c) (copies_in c.block rolls)) front (more ∷ behind) (others front apart.front was.0) (packed_more, others behind apart.behind was.1.1)
+      let was = all_parted (λ c. ArePacked (used_units c) (copies_in c.block shelf.lives)) front (b ∷ behind)
+      (subst (AllByRecursion (λ c. ArePacked (used_units c) (copies_in c.block shelf.lives))) parts is.packed) in
+      all_joined (λ c. ArePacked (used_units c) (copies_in c.block lives)) front (more ∷ behind) (others front apart.front was.0) (packed_more, others behind apart.behind was.1.1)
     where
-      others : (bs : List BufferState) → AllByRecursion (λ c. c.block ≢ b.block) bs → AllByRecursion (λ c. ArePacked (used_units c) (copies_in c.block shelf.rolls)) bs
-          → AllByRecursion (λ c. ArePacked (used_units c) (copies_in c.block rolls)) bs
+      others : (bs : List BufferState) → AllByRecursion (λ c. c.block ≢ b.block) bs → AllByRecursion (λ c. ArePacked (used_units c) (copies_in c.block shelf.lives)) bs
+          → AllByRecursion (λ c. ArePacked (used_units c) (copies_in c.block lives)) bs
       others [] elsewhere all = tt
-      others (c ∷ bs) elsewhere all = (subst (ArePacked (used_units c)) (sym (roll_there b.block c.block _ shelf.rolls elsewhere.0)) all.0, others bs elsewhere.1 all.1)
+      others (c ∷ bs) elsewhere all = (subst (ArePacked (used_units c)) (sym (list_there b.block c.block _ shelf.lives elsewhere.0)) all.0, others bs elsewhere.1 all.1)
 
-  still_vacant : (ks : List ℕ) → AllByRecursion (λ k. k ≢ b.block) ks → AllByRecursion (λ k. copies_in k shelf.rolls ≡ []) ks → AllByRecursion (λ k. copies_in k rolls ≡ []) ks
+  still_vacant : (ks : List ℕ) → AllByRecursion (λ k. k ≢ b.block) ks → AllByRecursion (λ k. copies_in k shelf.lives ≡ []) ks → AllByRecursion (λ k. copies_in k lives ≡ []) ks
   still_vacant [] others none = tt
-  still_vacant (k ∷ ks) others none = (roll_there b.block k _ shelf.rolls others.0 ∙ none.0, still_vacant ks others.1 none.1)
+  still_vacant (k ∷ ks) others none = (list_there b.block k _ shelf.lives others.0 ∙ none.0, still_vacant ks others.1 none.1)
 
   pub written_shelf : IsShelf view (with_written digest v front b behind shelf)
   written_shelf = record {
@@ -179,8 +178,8 @@ module _ {D : Type 0} (view : D → DiskView) (shelf : ShelfView D) (digest : Di
     cache = subst (λ (l : List ℕ). IsCacheOf shelf.geometry shelf.limits l shelf.cache) (ap (map (λ c. c.block)) parts ∙ sym (blocks_same b digest v behind front)) is.cache;
     raid = is.raid;
     gates = is.gates;
-    rolls = length-set shelf.rolls b.block _ ∙ is.rolls;
-    each = roll_at;
+    lives = length-set shelf.lives b.block _ ∙ is.lives;
+    each = list_at;
     held = is.held;
     vacant = still_vacant shelf.free apart.free is.vacant;
     unheld = is.unheld;

@@ -20,8 +20,7 @@ use Rattle.model_device.specs.Legal.{seal_if, is_short, is_empty, has_gathered, 
 use Rattle.write_buffer.specs.declared.stream.Stream.{Stream}
 use Rattle.write_buffer.specs.declared.stream.Stream.TheVariants.{Client, Defrag}
 use Rattle.write_buffer.specs.Buffers.{BufferState, used_units}
-use Rattle.unit_ledger.specs.declared.roll.LiveCopy.{LiveCopy}
-use Rattle.unit_ledger.specs.Rolls.{copies_in, live_in_block}
+use Rattle.block_shelf.specs.Lives.{LiveCopy, copies_in, live_in_block}
 use Rattle.hold_book.specs.Holds.{has_hold}
 use Rattle.block_shelf.specs.View.{ShelfView, IsShelf, IsSetupOf, IsBufferOf, StandInOrder, fills, is_stream}
 use Rattle.block_shelf.specs.Standing.{StandsFor, BooksStand, book_stream}
@@ -72,10 +71,10 @@ over_filling stream shelf b order there is n number false told = λ over.
 module _ {D : Type 0} (view : D → DiskView) (shelf : ShelfView D) (is : IsShelf view shelf) (setup : Setup) (s : State) (set : IsSetupOf setup shelf) (stands : StandsFor setup shelf s)
     (books : BooksStand setup shelf s) where
   -- nothing is live in a block where its use is none
-  use_none : (block : ℕ) → use_of s.book block ≡ 0 → copies_in block shelf.rolls ≡ []
-  use_none block none = over (copies_in block shelf.rolls) (λ c there. there) (is.each block).takes
+  use_none : (block : ℕ) → use_of s.book block ≡ 0 → copies_in block shelf.lives ≡ []
+  use_none block none = over (copies_in block shelf.lives) (λ c there. there) (is.each block).takes
     where
-      over : (cs : List LiveCopy) → ((c : LiveCopy) → Contains cs c → Contains (copies_in block shelf.rolls) c) → AllByRecursion (λ c. 1 ≤ c.units) cs → cs ≡ []
+      over : (cs : List LiveCopy) → ((c : LiveCopy) → Contains cs c → Contains (copies_in block shelf.lives) c) → AllByRecursion (λ c. 1 ≤ c.units) cs → cs ≡ []
       over [] within takes = refl
       over (c ∷ cs) within takes =
           let live = stands.lives.there block c (within c (first_there c cs)) in
@@ -83,12 +82,12 @@ module _ {D : Type 0} (view : D → DiskView) (shelf : ShelfView D) (is : IsShel
           (filter_there (λ (l : Live). l.block == block) s.book.live (live_in_block block c) (eq-eqb block block refl) live) in
           let one = takes.0 in absurd (omega (arith, none, part, one))
 
-  none_use : (block : ℕ) → copies_in block shelf.rolls ≡ [] → use_of s.book block ≡ 0
+  none_use : (block : ℕ) → copies_in block shelf.lives ≡ [] → use_of s.book block ≡ 0
   none_use block dead = ap (sum_by (λ (l : Live). l.units)) (filter_none (λ (l : Live). l.block == block) s.book.live
       (all_from (λ l. (l.block == block) ≡ false) s.book.live (λ l there. ne_eqb l.block block (λ at.
       let c : LiveCopy = record { digest = l.digest; unit = l.unit; units = l.units } in
       let known = stands.lives.known l.block c there in
-      let gone = subst (λ (cs : List LiveCopy). Contains cs c) dead (subst (λ (b : ℕ). Contains (copies_in b shelf.rolls) c) at known) in omega (arith, gone.1)))))
+      let gone = subst (λ (cs : List LiveCopy). Contains cs c) dead (subst (λ (b : ℕ). Contains (copies_in b shelf.lives) c) at known) in omega (arith, gone.1)))))
 
   module _ (stream : Stream) where
     abbrev found : Option Buffer

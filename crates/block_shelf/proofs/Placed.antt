@@ -9,55 +9,53 @@ use Rattle.rec_format.specs.Places.{same_digest}
 use Rattle.rec_format.proofs.Laws.{same_digest_refl}
 use Rattle.model_device.specs.Book.{Setup, Live, live_of}
 use Rattle.model_device.specs.Device.{State}
-use Rattle.unit_ledger.specs.declared.roll.LiveCopy.{LiveCopy}
-use Rattle.unit_ledger.specs.Rolls.{BlockRoll, copies_in, live_in_block}
+use Rattle.block_shelf.specs.Lives.{LiveCopy, copies_in, live_in_block, lives_without, lives_with}
 use Rattle.hold_book.specs.Holds.{Holds, has_hold, with_pair}
 use Rattle.hold_book.proofs.Laws.{has_hold-with_hold}
 use Rattle.law_trail.proofs.Books.{live_there}
 use Rattle.block_shelf.specs.declared.place.Place.{Place}
-use Rattle.block_shelf.specs.View.{IsRoll}
+use Rattle.block_shelf.specs.View.{IsLiveList}
 use Rattle.block_shelf.specs.Standing.{IsListed, LivesSame}
 use Rattle.block_shelf.specs.Calls.{copy_live}
-use Rattle.block_shelf.specs.Changes.{rolls_without, rolls_with}
-use Rattle.block_shelf.proofs.Rolls.{roll_here, roll_there, same_unit, left_there, left_from}
+use Rattle.block_shelf.proofs.Lives.{list_here, list_there, same_unit, left_there, left_from}
 use Rattle.block_shelf.proofs.Readied.{some_live}
 use Rattle.block_shelf.proofs.Written.{Replaces, Holding}
 
 -- the copy of a digest is gone, and the others are there
-pub record IsGone (digest : Digest) (old mid : List BlockRoll) : Type 0 where
+pub record IsGone (digest : Digest) (old mid : List (List LiveCopy)) : Type 0 where
   pub size : length mid ≡ length old
   pub kept : (k : ℕ) (c : LiveCopy) → Contains (copies_in k old) c → same_digest digest c.digest ≡ false → Contains (copies_in k mid) c
   pub from : (k : ℕ) (c : LiveCopy) → Contains (copies_in k mid) c → Contains (copies_in k old) c × (same_digest digest c.digest ≡ false)
 
-module _ (setup : Setup) (s : State) (digest : Digest) (rolls : List BlockRoll) (lives : LivesSame rolls s.book) (listed : IsListed setup s.book) where
-  pub gone_none : live_of digest s.book.live ≡ None → IsGone digest rolls rolls
+module _ (setup : Setup) (s : State) (digest : Digest) (lives : List (List LiveCopy)) (agree : LivesSame lives s.book) (listed : IsListed setup s.book) where
+  pub gone_none : live_of digest s.book.live ≡ None → IsGone digest lives lives
   gone_none none = record {
     size = refl;
     kept = λ k c there other. there;
     from = λ k c there. (
       there,
       false_from_ne_true (same_digest digest c.digest)
-          (λ same. let some = some_live digest s.book.live (live_in_block k c) (lives.there k c there) same in clash (live_of digest s.book.live) some.0 none some.1),
+          (λ same. let some = some_live digest s.book.live (live_in_block k c) (agree.there k c there) same in clash (live_of digest s.book.live) some.0 none some.1),
     );
   }
     where
       clash : (o : Option Live) (l : Live) → o ≡ None → o ≡ Some l → ⊥
       clash o l a b = cc
 
-  pub gone_some : (p : Place) → live_of digest s.book.live ≡ Some (copy_live digest p) → p.block < length rolls → IsRoll (copies_in p.block rolls)
-      → IsGone digest rolls (rolls_without p.block p.unit rolls)
-  gone_some p is lt roll = record {
-    size = length-set rolls p.block _;
-    kept = λ k c there other. left_there p.block p.unit rolls lt k c there
+  pub gone_some : (p : Place) → live_of digest s.book.live ≡ Some (copy_live digest p) → p.block < length lives → IsLiveList (copies_in p.block lives)
+      → IsGone digest lives (lives_without p.block p.unit lives)
+  gone_some p is lt list = record {
+    size = length-set lives p.block _;
+    kept = λ k c there other. left_there p.block p.unit lives lt k c there
         (λ here at.
-        let one = same_unit (copies_in p.block rolls) roll.own c (record { digest = digest; unit = p.unit; units = p.units }) (subst (λ (j : ℕ). Contains (copies_in j rolls) c) here there)
-        (lives.known p.block (record { digest = digest; unit = p.unit; units = p.units }) live) at in
+        let one = same_unit (copies_in p.block lives) list.own c (record { digest = digest; unit = p.unit; units = p.units }) (subst (λ (j : ℕ). Contains (copies_in j lives) c) here there)
+        (agree.known p.block (record { digest = digest; unit = p.unit; units = p.units }) live) at in
         both_ways (same_digest digest c.digest) other (ap (λ (x : LiveCopy). same_digest digest x.digest) one ∙ same_digest_refl digest));
     from = λ k c there.
-        let was = left_from p.block p.unit rolls lt k c there in (
+        let was = left_from p.block p.unit lives lt k c there in (
           was.0,
           false_from_ne_true (same_digest digest c.digest)
-              (λ same. let one = listed.one (copy_live digest p) (live_in_block k c) live (lives.there k c was.0) same in was.1 (ap (λ (l : Live). l.block) (sym one))
+              (λ same. let one = listed.one (copy_live digest p) (live_in_block k c) live (agree.there k c was.0) same in was.1 (ap (λ (l : Live). l.block) (sym one))
               (ap (λ (l : Live). l.unit) (sym one))),
         );
   }
@@ -65,27 +63,28 @@ module _ (setup : Setup) (s : State) (digest : Digest) (rolls : List BlockRoll) 
       live : Contains s.book.live (copy_live digest p)
       live = live_there digest s.book.live (copy_live digest p) is
 
-pub replaces_from : (digest : Digest) (old mid : List BlockRoll) (block : ℕ) (copy : LiveCopy) → block < length old → IsGone digest old mid → Replaces digest copy block old (rolls_with block copy mid)
+pub replaces_from : (digest : Digest) (old mid : List (List LiveCopy)) (block : ℕ) (copy : LiveCopy) → block < length old → IsGone digest old mid
+    → Replaces digest copy block old (lives_with block copy mid)
 replaces_from digest old mid block copy lt gone = record {
   kept = λ k c there other. over k c (gone.kept k c there other);
-  here = subst (λ (l : List LiveCopy). Contains l copy) (sym (roll_here block _ mid below)) (Contains-push (copies_in block mid) copy);
+  here = subst (λ (l : List LiveCopy). Contains l copy) (sym (list_here block _ mid below)) (Contains-push (copies_in block mid) copy);
   from = λ k c there.
       ⊎_elim (λ (e : k ≡ block).
       ⊎_elim (λ (was : Contains (copies_in block mid) c). inl (gone.from k c (subst (λ (j : ℕ). Contains (copies_in j mid) c) (sym e) was))) (λ (same : copy ≡ c). inr (e, sym same))
-      (Contains-push_cases (copies_in block mid) copy c (subst (λ (l : List LiveCopy). Contains l c) (roll_here block _ mid below)
-      (subst (λ (j : ℕ). Contains (copies_in j (rolls_with block copy mid)) c) e there))))
-      (λ (other : k ≢ block). inl (gone.from k c (subst (λ (l : List LiveCopy). Contains l c) (roll_there block k _ mid other) there))) (cases_eq k block);
+      (Contains-push_cases (copies_in block mid) copy c (subst (λ (l : List LiveCopy). Contains l c) (list_here block _ mid below)
+      (subst (λ (j : ℕ). Contains (copies_in j (lives_with block copy mid)) c) e there))))
+      (λ (other : k ≢ block). inl (gone.from k c (subst (λ (l : List LiveCopy). Contains l c) (list_there block k _ mid other) there))) (cases_eq k block);
 }
   where
     below : block < length mid
     below = subst (λ (n : ℕ). block < n) (sym gone.size) lt
 
-    over : (k : ℕ) (c : LiveCopy) → Contains (copies_in k mid) c → Contains (copies_in k (rolls_with block copy mid)) c
+    over : (k : ℕ) (c : LiveCopy) → Contains (copies_in k mid) c → Contains (copies_in k (lives_with block copy mid)) c
     over k c there =
-        ⊎_elim (λ (e : k ≡ block). subst (λ (j : ℕ). Contains (copies_in j (rolls_with block copy mid)) c) (sym e)
-        (subst (λ (l : List LiveCopy). Contains l c) (sym (roll_here block _ mid below))
+        ⊎_elim (λ (e : k ≡ block). subst (λ (j : ℕ). Contains (copies_in j (lives_with block copy mid)) c) (sym e)
+        (subst (λ (l : List LiveCopy). Contains l c) (sym (list_here block _ mid below))
         (Contains-append_left (copies_in block mid) (copy ∷ []) c (subst (λ (j : ℕ). Contains (copies_in j mid) c) e there))))
-        (λ (other : k ≢ block). subst (λ (l : List LiveCopy). Contains l c) (sym (roll_there block k _ mid other)) there) (cases_eq k block)
+        (λ (other : k ≢ block). subst (λ (l : List LiveCopy). Contains l c) (sym (list_there block k _ mid other)) there) (cases_eq k block)
 
 -- ---- holds
 

@@ -16,7 +16,7 @@ use Rattle.model_device.specs.Book.{Setup, Book, Live, live_of, without_live}
 use Rattle.model_device.specs.Device.{State, entry}
 use Rattle.block_format.specs.Layout.{IsRecordAt, body_bytes}
 use Rattle.write_buffer.specs.Buffers.{BufferState, used_units, with_record}
-use Rattle.unit_ledger.specs.Rolls.{BlockRoll, copies_in}
+use Rattle.block_shelf.specs.Lives.{LiveCopy, copies_in}
 use Rattle.hold_book.specs.Holds.{HoldState}
 use Rattle.defrag_queue.specs.Queues.{QueueState}
 use Rattle.post_cache.specs.Bodies.{CacheState, kept_at}
@@ -24,7 +24,7 @@ use Rattle.post_cache.proofs.Laws.{absent-all}
 use Rattle.law_trail.proofs.Books.{others_live}
 use Rattle.block_shelf.specs.declared.place.Class.{Class}
 use Rattle.block_shelf.specs.declared.place.Place.{Place}
-use Rattle.block_shelf.specs.View.{ShelfView, IsShelf, IsRoll, IsSetupOf, records_of, gate_at}
+use Rattle.block_shelf.specs.View.{ShelfView, IsShelf, IsLiveList, IsSetupOf, records_of, gate_at}
 use Rattle.block_shelf.specs.Standing.{HasCopy, HasRecord, StandsBehind, StandsFor, IsPlaced, ImagesHold}
 use Rattle.block_shelf.specs.Calls.{prior_live}
 use Rattle.block_shelf.specs.Changes.{with_written}
@@ -43,13 +43,13 @@ module _ {D : Type 0} (view : D → DiskView) (setup : Setup) (kind : Class) (s 
     {ready : Book} {free : List ℕ} {cache : CacheState BufferState} {next_number : ℕ} {front : List BufferState} {b : BufferState} {behind : List BufferState}
     (taker : IsTaker view setup kind s digest v shelf ready free cache next_number front b behind)
     (prior : Option Place) (live : live_of digest s.book.live ≡ prior_live digest prior)
-    (rolls : List BlockRoll) (holds : HoldState) (gone : IsGone digest shelf.rolls rolls) (holding : Holding b.number (live_of digest s.book.live) shelf.holds.holds holds.holds) where
+    (lives : List (List LiveCopy)) (holds : HoldState) (gone : IsGone digest shelf.lives lives) (holding : Holding b.number (live_of digest s.book.live) shelf.holds.holds holds.holds) where
   abbrev t : State
   t = copied setup kind digest v s
 
   -- the shelf behind it, before the block of the copy before is considered, and then
   abbrev mid : ShelfView D
-  mid = with_written digest v front b behind (record (with_buffers (front ++ b ∷ behind) free cache next_number shelf) { rolls = rolls; holds = holds })
+  mid = with_written digest v front b behind (record (with_buffers (front ++ b ∷ behind) free cache next_number shelf) { lives = lives; holds = holds })
 
   abbrev new : ShelfView D
   new = record mid { queue = queue_behind prior mid }
@@ -135,10 +135,10 @@ module _ {D : Type 0} (view : D → DiskView) (setup : Setup) (kind : Class) (s 
   stand_then : (x : QueueState) → StandsFor setup (record mid { queue = x }) t
   stand_then x =
       stands_after made shelf (record mid { queue = x }) taker.readied stands taker.appends refl
-      (replaces_from digest shelf.rolls rolls b.block _ (subst (λ (n : ℕ). b.block < n) (sym is.rolls) one.is.block) gone) holding taker.entries one.is.block taker.room (own.front, own.behind)
+      (replaces_from digest shelf.lives lives b.block _ (subst (λ (n : ℕ). b.block < n) (sym is.lives) one.is.block) gone) holding taker.entries one.is.block taker.room (own.front, own.behind)
       (have_copied HasCopy cache.kept s t digest (new_live digest v b) live_here unkept live_there made.entry_there taker.kept)
 
-  pub puts : ((k : ℕ) → IsRoll (copies_in k mid.rolls)) → Puts view setup kind digest v shelf s new (record { block = b.block; unit = used_units b; units = version_units v })
+  pub puts : ((k : ℕ) → IsLiveList (copies_in k mid.lives)) → Puts view setup kind digest v shelf s new (record { block = b.block; unit = used_units b; units = version_units v })
   puts each = record {
     live = live_here;
     stands = stand_then (queue_behind prior mid);

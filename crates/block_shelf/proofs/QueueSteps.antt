@@ -17,18 +17,17 @@ use Rattle.block_format.specs.declared.geometry.Geometry.{Geometry}
 use Rattle.law_trail.specs.Trail.{places_of}
 use Rattle.law_trail.proofs.Unchanged.{queued_same}
 use Rattle.write_buffer.specs.Buffers.{BufferState}
-use Rattle.unit_ledger.specs.declared.roll.LiveCopy.{LiveCopy}
-use Rattle.unit_ledger.specs.Rolls.{BlockRoll, HaveOwnUnits, copies_in, copy_at, rolled_use, live_in_block}
+use Rattle.block_shelf.specs.Lives.{LiveCopy, copies_in, use_in, copy_at, HaveOwnUnits, live_in_block}
 use Rattle.defrag_queue.specs.Queues.{QueueState, is_below_mark, requeued, considered}
 use Rattle.defrag_queue.proofs.Refreshed.{refreshed_one, refreshed_none, refreshed_all, requeued_below}
 use Rattle.raid_book.specs.Books.{BookState}
 use Rattle.raid_book.specs.Raids.{RaidStands, SameButMarks}
 use Rattle.raid_book.proofs.Marks.{marks_aside}
 use Rattle.block_shelf.specs.declared.place.ShelfLimits.{ShelfLimits}
-use Rattle.block_shelf.specs.View.{ShelfView, IsShelf, IsRoll, IsQueueOf, IsSetupOf}
+use Rattle.block_shelf.specs.View.{ShelfView, IsShelf, IsLiveList, IsQueueOf, IsSetupOf}
 use Rattle.block_shelf.specs.Standing.{HaveOwnDigests, LivesSame, BooksStand, book_buffer}
 use Rattle.block_shelf.specs.Changes.{has_buffer_in}
-use Rattle.block_shelf.proofs.Rolls.{copy_found}
+use Rattle.block_shelf.proofs.Lives.{copy_found}
 
 -- ---- live copies
 
@@ -61,9 +60,9 @@ own_digests_more l live own = (
 )
 
 -- the copies of a block begin at units of their own
-rolled_once : (block : ℕ) (cs : List LiveCopy) → HaveOwnUnits cs → StandOnce (map (live_in_block block) cs)
-rolled_once block [] own = tt
-rolled_once block (c ∷ cs) own = (all_from (λ m. live_in_block block c ≢ m) (map (live_in_block block) cs) apart, rolled_once block cs own.1)
+listed_once : (block : ℕ) (cs : List LiveCopy) → HaveOwnUnits cs → StandOnce (map (live_in_block block) cs)
+listed_once block [] own = tt
+listed_once block (c ∷ cs) own = (all_from (λ m. live_in_block block c ≢ m) (map (live_in_block block) cs) apart, listed_once block cs own.1)
   where
     apart : (m : Live) → Contains (map (live_in_block block) cs) m → live_in_block block c ≢ m
     apart m there same =
@@ -79,25 +78,25 @@ sum_in_block block (c ∷ cs) =
     ∙ sym (sum_by-cons (λ (d : LiveCopy). d.units) c cs)
 
 -- what is live in a block takes as many units in the book as in the shelf
-pub rolled_is_use : (rolls : List BlockRoll) (book : Book) (block : ℕ) → LivesSame rolls book → IsRoll (copies_in block rolls) → HaveOwnDigests book.live → rolled_use block rolls ≡ use_of book block
-rolled_is_use rolls book block lives roll own =
-    sym (sum_in_block block (copies_in block rolls))
-    ∙ same_sum (λ (l : Live). l.units) (map (live_in_block block) (copies_in block rolls)) (filter (λ (l : Live). l.block == block) book.live) (rolled_once block (copies_in block rolls) roll.own)
+pub use_in_is : (lives : List (List LiveCopy)) (book : Book) (block : ℕ) → LivesSame lives book → IsLiveList (copies_in block lives) → HaveOwnDigests book.live → use_in block lives ≡ use_of book block
+use_in_is lives book block agree list own =
+    sym (sum_in_block block (copies_in block lives))
+    ∙ same_sum (λ (l : Live). l.units) (map (live_in_block block) (copies_in block lives)) (filter (λ (l : Live). l.block == block) book.live) (listed_once block (copies_in block lives) list.own)
     (once_kept (λ (l : Live). l.block == block) book.live (own_digests_once book.live own)) to back
   where
-    to : (l : Live) → Contains (map (live_in_block block) (copies_in block rolls)) l → Contains (filter (λ (m : Live). m.block == block) book.live) l
+    to : (l : Live) → Contains (map (live_in_block block) (copies_in block lives)) l → Contains (filter (λ (m : Live). m.block == block) book.live) l
     to l there =
-        let one = map_from (live_in_block block) (copies_in block rolls) l there in
-        filter_there (λ (m : Live). m.block == block) book.live l (eq-eqb l.block block (ap (λ (m : Live). m.block) (sym one.2))) (subst (Contains book.live) one.2 (lives.there block one.0 one.1))
+        let one = map_from (live_in_block block) (copies_in block lives) l there in
+        filter_there (λ (m : Live). m.block == block) book.live l (eq-eqb l.block block (ap (λ (m : Live). m.block) (sym one.2))) (subst (Contains book.live) one.2 (agree.there block one.0 one.1))
 
-    back : (l : Live) → Contains (filter (λ (m : Live). m.block == block) book.live) l → Contains (map (live_in_block block) (copies_in block rolls)) l
+    back : (l : Live) → Contains (filter (λ (m : Live). m.block == block) book.live) l → Contains (map (live_in_block block) (copies_in block lives)) l
     back l there =
         let was = filter_from (λ (m : Live). m.block == block) book.live l there in
         let at : l.block ≡ block = eqb-true l.block block was.1 in
         let c : LiveCopy = record { digest = l.digest; unit = l.unit; units = l.units } in
         let is : live_in_block block c ≡ l = ap (λ (k : ℕ). live_in_block k c) (sym at) in
-        subst (Contains (map (live_in_block block) (copies_in block rolls))) is
-        (map_there (live_in_block block) (copies_in block rolls) c (lives.known block c (subst (Contains book.live) (sym is) was.0)))
+        subst (Contains (map (live_in_block block) (copies_in block lives))) is
+        (map_there (live_in_block block) (copies_in block lives) c (agree.known block c (subst (Contains book.live) (sym is) was.0)))
 
 -- ---- buffers
 
@@ -181,7 +180,7 @@ queue_shelf view shelf queue is queue_is = record {
   free = is.free;
   apart = is.apart;
   gates = is.gates;
-  rolls = is.rolls;
+  lives = is.lives;
   each = is.each;
   held = is.held;
   vacant = is.vacant;

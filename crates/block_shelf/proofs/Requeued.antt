@@ -17,7 +17,7 @@ use Rattle.model_device.specs.Book.{Setup, Book, Live, has_buffer, use_of, may_b
 use Rattle.model_device.specs.Device.{State}
 use Rattle.write_buffer.specs.declared.stream.Stream.{Stream}
 use Rattle.write_buffer.specs.Buffers.{BufferState}
-use Rattle.unit_ledger.specs.Rolls.{copies_in, rolled_use}
+use Rattle.block_shelf.specs.Lives.{copies_in, use_in}
 use Rattle.defrag_queue.specs.Queues.{QueueState, considered, is_below_mark, requeued}
 use Rattle.law_trail.specs.Trail.{places_of, IsBooked}
 use Rattle.law_trail.proofs.Books.{HasNothing, live_there, free_has_nothing}
@@ -25,12 +25,12 @@ use Rattle.law_trail.proofs.Places.{buffer_place}
 use Rattle.law_trail.proofs.Unchanged.{queued_alike}
 use Rattle.raid_book.specs.Raids.{SameButMarks}
 use Rattle.block_shelf.specs.declared.place.Place.{Place}
-use Rattle.block_shelf.specs.View.{ShelfView, IsShelf, IsRoll, IsSetupOf}
+use Rattle.block_shelf.specs.View.{ShelfView, IsShelf, IsLiveList, IsSetupOf}
 use Rattle.block_shelf.specs.Standing.{IsListed, StandsFor, BooksStand}
 use Rattle.block_shelf.specs.Calls.{copy_live, prior_live}
 use Rattle.block_shelf.specs.Changes.{has_buffer_in}
 use Rattle.block_shelf.specs.Appends.{with_prior_requeued}
-use Rattle.block_shelf.proofs.QueueSteps.{rolled_is_use, has_buffer_is, marked_as, queue_refreshed, queue_considered}
+use Rattle.block_shelf.proofs.QueueSteps.{use_in_is, has_buffer_is, marked_as, queue_refreshed, queue_considered}
 use Rattle.block_shelf.proofs.Readied.{IsReadied, new_live, filled, filled_live, filled_places, shelf_places, place_there, some_live, live_own}
 
 -- ---- whether a block is to be vacated
@@ -111,7 +111,7 @@ module _ {setup : Setup} {s : State} {stream : Stream} {ready : Book} {free : Li
 -- the queue where the block of the copy before is considered, if there is one
 abbrev pub queue_behind : {D : Type 0} → Option Place → ShelfView D → QueueState
 queue_behind None shelf = shelf.queue
-queue_behind (Some p) shelf = considered shelf.queue p.block (rolled_use p.block shelf.rolls) (not (has_buffer_in shelf.buffers p.block))
+queue_behind (Some p) shelf = considered shelf.queue p.block (use_in p.block shelf.lives) (not (has_buffer_in shelf.buffers p.block))
 
 pub requeued_is : {D : Type 0} (prior : Option Place) (shelf : ShelfView D) → with_prior_requeued prior shelf ≡ record shelf { queue = queue_behind prior shelf }
 requeued_is None shelf = refl
@@ -128,7 +128,7 @@ module _ {D : Type 0} (view : D → DiskView) {setup : Setup} {s : State} {strea
     {behind : List BufferState} (digest : Digest) (v : Version)
     (readied : IsReadied setup s stream (version_units v) ready free next_number front b behind) (t : State) (booked : t.book ≡ refreshed setup (filled digest v readied))
     (old mid new : ShelfView D) (raid : new.raid ≡ old.raid) (marks : SameButMarks s.raid t.raid) (is : IsShelf view old) (stands : StandsFor setup old s) (setup_is : IsSetupOf setup old)
-    (same : mid.queue ≡ old.queue) (then : StandsFor setup mid t) (each : (k : ℕ) → IsRoll (copies_in k mid.rolls)) where
+    (same : mid.queue ≡ old.queue) (then : StandsFor setup mid t) (each : (k : ℕ) → IsLiveList (copies_in k mid.lives)) where
   pub queue_after : (prior : Option Place) → live_of digest s.book.live ≡ prior_live digest prior → new.queue ≡ queue_behind prior mid → BooksStand setup old s → BooksStand setup new t
   queue_after prior live queue was = by prior live queue
     where
@@ -143,9 +143,9 @@ module _ {D : Type 0} (view : D → DiskView) {setup : Setup} {s : State} {strea
           queue_considered setup old new s t raid marks (filled digest v readied) booked readied.was_queued below was p.block
           (all_at (λ l. l.block < setup.blocks) s.book.live (copy_live digest p) stands.order.within.live (live_there digest s.book.live (copy_live digest p) live))
           (ap (λ (q : QueueState). q.queue) queue
-          ∙ ap (λ (q : QueueState). requeued (is_below_mark q.capacity q.lwm (rolled_use p.block mid.rolls) (not (has_buffer_in mid.buffers p.block))) p.block q.queue) same
+          ∙ ap (λ (q : QueueState). requeued (is_below_mark q.capacity q.lwm (use_in p.block mid.lives) (not (has_buffer_in mid.buffers p.block))) p.block q.queue) same
           ∙ ap (λ (x : Bool). requeued x p.block old.queue.queue)
-          (marked_as setup old t.book p.block (rolled_use p.block mid.rolls) (not (has_buffer_in mid.buffers p.block)) setup_is is.queue
-          (rolled_is_use mid.rolls t.book p.block then.lives (each p.block) then.listed.own) (ap not (has_buffer_is mid.buffers t.book p.block then.buffers))
+          (marked_as setup old t.book p.block (use_in p.block mid.lives) (not (has_buffer_in mid.buffers p.block)) setup_is is.queue
+          (use_in_is mid.lives t.book p.block then.lives (each p.block) then.listed.own) (ap not (has_buffer_is mid.buffers t.book p.block then.buffers))
           ∙ ap (λ (x : Book). may_be_queued setup x p.block) booked ∙ refreshed_queued setup (filled digest v readied) p.block))
           (λ k lt other. still_queued digest v readied stands.order.booked stands.listed k (λ l found at. other (sym at ∙ prior_block digest p (live_of digest s.book.live) l live found)))

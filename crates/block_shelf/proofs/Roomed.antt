@@ -1,13 +1,11 @@
 -- Memory is taken, and nothing else has changed: the state stays, and so do the images.
-use Rattle.std.proofs.Common.{◌≡◌, inl, List, [], ◌∷◌, refl, sym, ◌∙◌, ap, subst, arith}
-use Rattle.std.specs.Prelude.{Option, Some, None, IsTrue, IsSomeAnd, Contains}
+use Rattle.std.proofs.Common.{◌≡◌, inl, [], ◌∷◌, refl, sym, ◌∙◌, ap, subst, arith}
+use Rattle.std.specs.Prelude.{Option, Some, None, IsTrue}
 use Rattle.disk_model.specs.Disk.{DiskView, IsDisk}
 use Rattle.disk_model.specs.Runs.{OneOf, Leaves, leaves_none}
 use Rattle.model_device.specs.Book.{Setup}
 use Rattle.model_device.specs.Device.{State}
 use Rattle.law_start.specs.Surviving.{Survives}
-use Rattle.unit_ledger.specs.declared.roll.LiveCopy.{LiveCopy}
-use Rattle.unit_ledger.specs.Rolls.{copy_at}
 use Rattle.hold_book.specs.Holds.{Holds, has_hold}
 use Rattle.law_images.proofs.Held.{held_survives}
 use Rattle.block_shelf.specs.declared.place.Place.{Place}
@@ -20,7 +18,7 @@ use Rattle.block_shelf.proofs.Rooms.{roomed_shelf}
 
 module _ {D : Type 0} (old new : ShelfView D) (same : SameButRoom old new) where
   pub room_shelf : (view : D → DiskView) → IsShelf view old → IsShelf view new
-  room_shelf view is = subst (IsShelf view) (sym same.rest) (roomed_shelf view old new.rolls new.holds is (record { size = same.size; copies = same.copies }) same.holds)
+  room_shelf view is = subst (IsShelf view) (sym same.rest) (roomed_shelf view old new.holds is same.holds)
 
   pub room_stands : (setup : Setup) (s : State) → StandsFor setup old s → StandsFor setup new s
   room_stands setup s stands = subst (λ (x : ShelfView D). StandsFor setup x s) (sym same.rest) (record {
@@ -31,10 +29,7 @@ module _ {D : Type 0} (old new : ShelfView D) (same : SameButRoom old new) where
       known = λ n k there. subst (λ (h : Holds). IsTrue (has_hold h n k)) (sym same.holds) (stands.holds.known n k there);
       there = λ n k held. stands.holds.there n k (subst (λ (h : Holds). IsTrue (has_hold h n k)) same.holds held);
     };
-    lives = record {
-      known = λ k c there. subst (λ (l : List LiveCopy). Contains l c) (sym (same.copies k)) (stands.lives.known k c there);
-      there = λ k c there. stands.lives.there k c (subst (λ (l : List LiveCopy). Contains l c) (same.copies k) there);
-    };
+    lives = stands.lives;
     listed = stands.listed;
     order = stands.order;
     entries = stands.entries;
@@ -56,18 +51,16 @@ module _ {D : Type 0} (old new : ShelfView D) (same : SameButRoom old new) where
   pub room_prior : (prior : Option Place) → IsPriorIn old prior → IsPriorIn new prior
   room_prior prior there = subst (λ (x : ShelfView D). IsPriorIn x prior) (sym same.rest) (over prior there)
     where
-      over : (p : Option Place) → IsPriorIn old p → IsPriorIn (record old { rolls = new.rolls; holds = new.holds }) p
+      over : (p : Option Place) → IsPriorIn old p → IsPriorIn (record old { holds = new.holds }) p
       over None there = tt
-      over (Some p) there = (there.0, subst (λ (l : List LiveCopy). IsSomeAnd (copy_at p.unit l) (λ c. c.units ≡ p.units)) (sym (same.copies p.block)) there.1)
+      over (Some p) there = there
 
 pub room_none : {D : Type 0} (shelf : ShelfView D) → SameButRoom shelf shelf
-room_none shelf = record { rest = refl; size = refl; copies = λ k. refl; holds = refl }
+room_none shelf = record { rest = refl; holds = refl }
 
 pub room_then : {D : Type 0} (old mid new : ShelfView D) → SameButRoom old mid → SameButRoom mid new → SameButRoom old new
 room_then {D} old mid new first then = record {
-  rest = then.rest ∙ ap (λ (x : ShelfView D). record x { rolls = new.rolls; holds = new.holds }) first.rest;
-  size = then.size ∙ first.size;
-  copies = λ k. then.copies k ∙ first.copies k;
+  rest = then.rest ∙ ap (λ (x : ShelfView D). record x { holds = new.holds }) first.rest;
   holds = then.holds ∙ first.holds;
 }
 

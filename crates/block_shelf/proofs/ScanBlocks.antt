@@ -1,6 +1,6 @@
 -- What a scan reads of a block is all that may be in it and nothing else, and over a sound image nothing of it is damaged.
-use Rattle.std.proofs.Common.{◌≡◌, ◌≢◌, ◌<◌, ℕ, true, false, List, [], map, inl, inr, sym, ◌∙◌, ap, subst, arith, refl, ne_eqb, Result, Ok, Err}
-use Rattle.std.specs.Prelude.{Contains, ◌==◌, MatchResult, IfOk, IfErr}
+use Rattle.std.proofs.Common.{◌≡◌, ◌≢◌, ◌<◌, ◌-◌, ◌/◌, ℕ, length, true, false, List, [], map, inl, inr, sym, ◌∙◌, ap, subst, arith, refl, ne_eqb, Result, Ok, Err}
+use Rattle.std.specs.Prelude.{Contains, ◌==◌, IfErr}
 use Rattle.std.specs.List.{AllByRecursion}
 use Rattle.law_lists.proofs.Between.{Parted, parted}
 use Rattle.law_lists.proofs.Each.{all_at, all_map}
@@ -16,8 +16,8 @@ use Rattle.block_format.specs.declared.geometry.Geometry.{Geometry}
 use Rattle.block_format.specs.declared.geometry.Gate.{Gate}
 use Rattle.block_format.specs.declared.geometry.Gate.TheVariants.{Shut, Set, Unsure}
 use Rattle.block_format.specs.declared.geometry.Found.{Found}
-use Rattle.block_format.specs.Layout.{Body, IsBody, IsOpen, gate_sector, body_bytes}
-use Rattle.block_format.specs.Readings.{AtMostOneBody, found_from}
+use Rattle.block_format.specs.Layout.{Body, IsBody, IsFaultAt, IsOpen, gate_sector, body_bytes}
+use Rattle.block_format.specs.Readings.{AtMostOneBody, IsUnreadAt, body_capacity, found_from}
 use Rattle.block_flusher.specs.Images.{HasOneBody, IsBodyOf}
 use Rattle.law_trail.specs.Trail.{Records, places_of}
 use Rattle.law_images.specs.Kept.{Shows}
@@ -35,7 +35,7 @@ use Rattle.block_shelf.specs.declared.refusals.VacateRefusal.TheVariants.{Damage
 use Rattle.block_shelf.specs.View.{ShelfView, IsShelf, IsBufferOf, WaitsShut, HasItsBody, StandInOrder, records_of, gate_at, is_written, has_begun}
 use Rattle.block_shelf.specs.Standing.{StandsFor, ImagesHold, book_buffer}
 use Rattle.block_shelf.specs.Changes.{has_buffer_in}
-use Rattle.block_shelf.specs.Scans.{ReadsAll, ReadsBody, NeedsRead, IsDamageOf, IsOfBlock, IsToldOf, IsSound}
+use Rattle.block_shelf.specs.Scans.{ReadsAll, ReadsBody, NeedsRead, IsDamageOf, IsOfBlock, IsRefusalOf, IsToldOf, IsSound}
 use Rattle.block_shelf.proofs.Between.{records_at}
 use Rattle.block_shelf.proofs.QueueSteps.{has_buffer_is}
 
@@ -52,6 +52,21 @@ no_damage g bytes block (Damaged other place) is damage = damage.2 is
 no_damage g bytes block Memory is damage = tt
 no_damage g bytes block Fault is damage = tt
 
+-- the fault that was found in bytes is damage of theirs
+pub damage_there : (g : Geometry) (bytes : List ℕ) (block place : ℕ) → length bytes ≡ g.block_size - 4096 → IsUnreadAt bytes block place → IsDamageOf g bytes block (Damaged block place)
+damage_there g bytes block place long is =
+    let one : body_capacity bytes ≡ block_capacity g.block_size = ap (λ (n : ℕ). n / 16) (omega (arith, long)) in (
+      refl,
+      subst (λ (n : ℕ). IsFaultAt n bytes block place) one is.0,
+      λ b. is.1 b.0 (subst (λ (n : ℕ). IsBody n bytes b.0) (sym one) b.1) b.2,
+    )
+
+-- a refusal tells damage where there is some
+pub refusal_damage : (g : Geometry) (bytes : List ℕ) (block : ℕ) (refusal : VacateRefusal) → IsRefusalOf g bytes block refusal → IsDamageOf g bytes block refusal
+refusal_damage g bytes block (Damaged other place) is = is
+refusal_damage g bytes block Memory is = tt
+refusal_damage g bytes block Fault is = tt
+
 -- where there is none nothing is told
 pub undamaged : (g : Geometry) (bytes : List ℕ) (block : ℕ) (refusal : VacateRefusal) → IsSound refusal → IsDamageOf g bytes block refusal
 undamaged g bytes block (Damaged other place) sound = absurd sound
@@ -67,10 +82,6 @@ pub only_set : (gate : Gate) → gate ≢ Shut → gate ≢ Unsure → gate ≡ 
 only_set Shut shut unsure = absurd (shut refl)
 only_set Set shut unsure = refl
 only_set Unsure shut unsure = absurd (unsure refl)
-
-pub only_ok : {X E : Type 0} (P : X → Type 0) (R : E → Type 0) (r : Result X E) → MatchResult r P R → IfOk r P
-only_ok P R (Ok x) is = is
-only_ok P R (Err e) is = tt
 
 -- what is told of a block that is read from the disk
 pub told_at : {D A : Type 0} (shelf : ShelfView D) (block : ℕ) (result : Result A VacateRefusal) → NeedsRead shelf block → IfErr result (IsOfBlock block) → IfErr result (IsToldOf shelf block)

@@ -22,12 +22,12 @@ use Rattle.block_shelf.specs.View.{ShelfView, IsShelf, IsSetupOf, gate_at}
 use Rattle.block_shelf.specs.Disks.{IsLater, OnlyRead}
 use Rattle.block_shelf.specs.Standing.{StandsFor, BooksStand, ImagesHold}
 use Rattle.block_shelf.specs.Calls.{Goes}
-use Rattle.block_shelf.specs.Scans.{ClosesUnsure, ReadsBlock, ReadsIn, ScansIn, ReadsAll, ReadsBody, FindsBody, NeedsRead, IsDamageOf, IsOfBlock, IsToldOf, IsSound, Scans}
+use Rattle.block_shelf.specs.Scans.{ClosesUnsure, ReadsBlock, ReadsIn, ScansIn, ReadsAll, ReadsBody, FindsBody, NeedsRead, IsDamageOf, IsOfBlock, IsRefusalOf, IsToldOf, IsSound, Scans}
 use Rattle.block_shelf.proofs.Going.{goes_none}
 use Rattle.block_shelf.proofs.Looking.{goes_read}
-use Rattle.block_shelf.proofs.ReadOnly.{images_of_now, only_none, shelf_stays}
+use Rattle.block_shelf.proofs.ReadOnly.{shelf_read}
 use Rattle.block_shelf.proofs.Roomed.{later_none}
-use Rattle.block_shelf.proofs.ScanBlocks.{only_ok, only_set, set_reads, set_sound, shut_reads, told_at, unhurt, untold}
+use Rattle.block_shelf.proofs.ScanBlocks.{only_set, refusal_damage, set_reads, set_sound, shut_reads, told_at, unhurt, untold}
 
 gates_differ : Unsure ≢ Shut
 gates_differ same = cc
@@ -35,7 +35,7 @@ gates_differ same = cc
 refusals_differ : Memory ≢ Fault
 refusals_differ same = cc
 
-no_error : {A E : Type 0} (a : A) (e : E) → Ok a ≡ Err e → ⊥
+pub no_error : {A E : Type 0} (a : A) (e : E) → Ok a ≡ Err e → ⊥
 no_error a e same = cc
 
 same_error : {A E : Type 0} (a b : Result A E) (e f : E) → a ≡ Err e → b ≡ Err f → a ≡ b → e ≡ f
@@ -133,7 +133,7 @@ module _ {D : Type 0} (view : D → DiskView) (is_disk : (disk : D) → IsDisk (
         fewer = λ sure. absurd (no_error tt e (sym (closing.quiet sure).0));
         damaged = λ told. subst (IsDamageOf old.geometry (body_bytes old.geometry block (view old.disk).seen) block) (sym closing.failed) tt;
         told = subst (IsToldOf old block) (sym closing.failed) tt;
-        there = λ told needs. tt;
+        there = λ told needs. subst (IsRefusalOf old.geometry (body_bytes old.geometry block (view old.disk).seen) block) (sym closing.failed) tt;
         rest = closing.rest;
         cause = λ same. closing.cause;
         later = closing.later;
@@ -180,7 +180,7 @@ module _ {D : Type 0} (view : D → DiskView) (is_disk : (disk : D) → IsDisk (
 
           pub reads_disk : (new : ShelfView D) (result : Result A VacateRefusal)
               → ((view mid.disk).tells → let bytes = body_bytes mid.geometry block (view mid.disk).seen in MatchResult result (λ found. ReadsBody mid.geometry bytes block (heads found))
-              (IsDamageOf mid.geometry bytes block))
+              (IsRefusalOf mid.geometry bytes block))
               → IfErr result (IsOfBlock block) → (result ≡ Err Fault → Rose (view mid.disk).faults (view new.disk).faults) → OnlyRead (view mid.disk) (view new.disk) → IsShelf view new
               → new ≡ record mid { disk = new.disk } → ReadsIn view block old new heads result
           reads_disk new result read of_block cause only whole same =
@@ -188,9 +188,9 @@ module _ {D : Type 0} (view : D → DiskView) (is_disk : (disk : D) → IsDisk (
               let set : gate_at old.gates block ≡ Set = was (λ (v : ShelfView D). gate_at v.gates block ≡ Set) (only_set (gate_at mid.gates block) open_gate closing.sure) in
               let is : IsShelf view old = was (IsShelf view) closing.whole in
               let read_old : (view old.disk).tells → MatchResult result (λ found. ReadsBody old.geometry (body_bytes old.geometry block (view old.disk).seen) block (heads found))
-              (IsDamageOf old.geometry (body_bytes old.geometry block (view old.disk).seen) block) =
+              (IsRefusalOf old.geometry (body_bytes old.geometry block (view old.disk).seen) block) =
               was (λ (v : ShelfView D). (view v.disk).tells → MatchResult result (λ found. ReadsBody v.geometry (body_bytes v.geometry block (view v.disk).seen) block (heads found))
-              (IsDamageOf v.geometry (body_bytes v.geometry block (view v.disk).seen) block)) read in
+              (IsRefusalOf v.geometry (body_bytes v.geometry block (view v.disk).seen) block)) read in
               let only_old : OnlyRead (view old.disk) (view new.disk) = was (λ (v : ShelfView D). OnlyRead (view v.disk) (view new.disk)) only in
               let same_old : new ≡ record old { disk = new.disk } = was (λ (v : ShelfView D). new ≡ record v { disk = new.disk }) same in
               let rose : result ≡ Err Fault → Rose (view old.disk).faults (view new.disk).faults =
@@ -199,7 +199,7 @@ module _ {D : Type 0} (view : D → DiskView) (is_disk : (disk : D) → IsDisk (
             where
               by_old : (new : ShelfView D) (result : Result A VacateRefusal)
                   → ((view old.disk).tells → MatchResult result (λ found. ReadsBody old.geometry (body_bytes old.geometry block (view old.disk).seen) block (heads found))
-                  (IsDamageOf old.geometry (body_bytes old.geometry block (view old.disk).seen) block))
+                  (IsRefusalOf old.geometry (body_bytes old.geometry block (view old.disk).seen) block))
                   → IfErr result (IsToldOf old block) → (result ≡ Err Fault → Rose (view old.disk).faults (view new.disk).faults) → OnlyRead (view old.disk) (view new.disk) → IsShelf view new
                   → new ≡ record old { disk = new.disk } → IsShelf view old → gate_at old.gates block ≡ Set
                   → ReadsIn view block old new heads result
@@ -214,16 +214,17 @@ module _ {D : Type 0} (view : D → DiskView) (is_disk : (disk : D) → IsDisk (
                     (λ found reads. subst (λ (v : ShelfView D). ReadsAll view v s block (heads found)) (sym same)
                     (set_reads view setup here s here_is looked.stands (only.honest honest) (looked.safe honest safe) block lt none set (heads found)
                     (subst (λ (l : List ℕ). ReadsBody old.geometry (body_bytes old.geometry block l) block (heads found)) (sym told.1) reads)))
-                    (λ refusal damage. set_sound view setup old s is stands honest safe block lt none set refusal damage);
+                    (λ refusal is_refusal. set_sound view setup old s is stands honest safe block lt none set refusal
+                    (refusal_damage old.geometry (body_bytes old.geometry block (view old.disk).seen) block refusal is_refusal));
                 waiting = λ b there at. absurd (none_has old.buffers block b none there at);
                 sure = λ sure. ap (λ (v : ShelfView D). v.gates) same;
                 fewer = λ sure honest c image. only.images honest c ((is_disk new.disk).now_since (view old.disk).moment c (only.time.stays (view old.disk).moment only.time.started) image);
                 damaged = λ told. only_err (λ found. ReadsBody old.geometry (body_bytes old.geometry block (view old.disk).seen) block (heads found))
-                    (IsDamageOf old.geometry (body_bytes old.geometry block (view old.disk).seen) block)
-                    (IsDamageOf old.geometry (body_bytes old.geometry block (view old.disk).seen) block) result (λ refusal damage. damage) (read told);
+                    (IsRefusalOf old.geometry (body_bytes old.geometry block (view old.disk).seen) block)
+                    (IsDamageOf old.geometry (body_bytes old.geometry block (view old.disk).seen) block) result
+                    (refusal_damage old.geometry (body_bytes old.geometry block (view old.disk).seen) block) (read told);
                 told = told_here;
-                there = λ told needs. only_ok (λ found. ReadsBody old.geometry (body_bytes old.geometry block (view old.disk).seen) block (heads found))
-                    (IsDamageOf old.geometry (body_bytes old.geometry block (view old.disk).seen) block) result (read told);
+                there = λ told needs. read told;
                 rest = same ∙ ap (λ (l : List Gate). record old { disk = new.disk; gates = l }) (sym (ap (λ (v : ShelfView D). v.gates) same));
                 cause = cause;
                 later = record { time = only.time; count = only.later; size = only.size };
@@ -243,7 +244,7 @@ module _ {D : Type 0} (view : D → DiskView) (is_disk : (disk : D) → IsDisk (
       fewer = reads.fewer;
       damaged = reads.damaged;
       told = reads.told;
-      there = λ told needs. tt;
+      there = reads.there;
       sound = reads.all;
       rest = reads.rest ∙ ap (λ (v : ShelfView D). record old { disk = new.disk; gates = new.gates; raid = v.raid }) (sym reads.rest);
       cause = λ same. reads.cause (ap Err (same_error (Err e) (Err Fault) e Fault refl refl same));
@@ -261,7 +262,7 @@ module _ {D : Type 0} (view : D → DiskView) (is_disk : (disk : D) → IsDisk (
       fewer = reads.fewer;
       damaged = λ told. tt;
       told = tt;
-      there = λ told needs. tt;
+      there = λ told needs. let is = reads.there told needs in (is.body, is.is_body, is.placed);
       sound = λ setup s honest stands safe. tt;
       rest = reads.rest ∙ ap (λ (v : ShelfView D). record old { disk = new.disk; gates = new.gates; raid = v.raid }) (sym reads.rest);
       cause = λ same. absurd (refusals_differ (same_error (Err Memory) (Err Fault) Memory Fault refl refl same));
@@ -297,26 +298,16 @@ module _ {D : Type 0} (view : D → DiskView) (is_disk : (disk : D) → IsDisk (
   -- ---- the disk
 
   module _ {A : Type 0} (heads : A → List Found) (is : IsShelf view old) where
-    pub block_unread : ReadsBlock view block old old heads (Err Memory)
-    block_unread = record {
-      read = λ told. tt;
-      of_block = tt;
-      cause = λ same. absurd (refusals_differ (same_error (Err Memory) (Err Fault) Memory Fault refl refl same));
-      disk = only_none (view old.disk) (is_disk old.disk);
-      whole = is;
-      same = refl;
-    }
-
     pub block_read : (disk : D) → OnlyRead (view old.disk) (view disk) → (result : Result A VacateRefusal)
         → ((view old.disk).tells → let bytes = body_bytes old.geometry block (view old.disk).seen in MatchResult result (λ found. ReadsBody old.geometry bytes block (heads found))
-        (IsDamageOf old.geometry bytes block))
+        (IsRefusalOf old.geometry bytes block))
         → IfErr result (IsOfBlock block) → (result ≡ Err Fault → Rose (view old.disk).faults (view disk).faults) → ReadsBlock view block old (record old { disk = disk }) heads result
     block_read disk only result read of_block cause = record {
       read = read;
       of_block = of_block;
       cause = cause;
       disk = only;
-      whole = shelf_stays view old disk is only.size only.was_honest (λ honest. images_of_now (view old.disk) (view disk) (is_disk disk) only.time (only.images honest));
+      whole = shelf_read view is_disk old disk is only;
       same = refl;
     }
 

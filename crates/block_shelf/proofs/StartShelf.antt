@@ -17,8 +17,7 @@ use Rattle.rec_format.specs.Versions.{block_capacity, top_number}
 use Rattle.block_format.specs.declared.geometry.Geometry.{Geometry}
 use Rattle.block_format.specs.declared.geometry.Gate.{Gate}
 use Rattle.block_format.specs.Layout.{IsGeometry, device_end}
-use Rattle.unit_ledger.specs.declared.roll.LiveCopy.{LiveCopy}
-use Rattle.unit_ledger.specs.Rolls.{BlockRoll, copy_at, copies_in, rolled_use, HaveOwnUnits}
+use Rattle.block_shelf.specs.Lives.{LiveCopy, copies_in, use_in, copy_at, HaveOwnUnits}
 use Rattle.defrag_queue.specs.Queues.{QueueState, is_below_mark}
 use Rattle.write_buffer.specs.Buffers.{BufferState}
 use Rattle.post_cache.specs.Bodies.{CacheState}
@@ -29,9 +28,9 @@ use Rattle.raid_book.specs.Books.{BookState, empty_book}
 use Rattle.rec_format.specs.Places.{part_count}
 use Rattle.block_shelf.specs.declared.place.Place.{Place}
 use Rattle.block_shelf.specs.declared.place.ShelfLimits.{ShelfLimits}
-use Rattle.block_shelf.specs.View.{ShelfView, IsShelf, IsQueueOf, IsCacheOf, IsRoll, AreLimits, AreApart, GatesStand, IsRaidOf}
+use Rattle.block_shelf.specs.View.{ShelfView, IsShelf, IsQueueOf, IsCacheOf, IsLiveList, AreLimits, AreApart, GatesStand, IsRaidOf}
 use Rattle.block_shelf.specs.Starting.{LiesIn, CanBeLive, copy_of_place, copies_at, blocks_below, blocks_without}
-use Rattle.block_shelf.proofs.StartRolls.{AreAllApart, each_at, apart_at}
+use Rattle.block_shelf.proofs.StartLives.{AreAllApart, each_at, apart_at}
 
 -- ---- the blocks without a live copy
 
@@ -52,17 +51,17 @@ unused_is (x ∷ xs) b all = by (x.1.block == b) (unused_is xs b all.1)
 takes_room : (g : Geometry) (live : List (Digest × Place)) → AllByRecursion (LiesIn g) live → AllByRecursion (λ x. 1 ≤ x.1.units) live
 takes_room g live each = all_map (LiesIn g) (λ x. 1 ≤ x.1.units) live (λ x lies. lies.takes) each
 
-pub free_is : (g : Geometry) (live : List (Digest × Place)) (rolls : List BlockRoll) → CanBeLive g live → ((block : ℕ) → copies_in block rolls ≡ copies_at block live)
-    → filter (λ b. rolled_use b rolls == 0) (range_with_len 0 g.blocks) ≡ blocks_without live g.blocks
-free_is g live rolls can copies =
-    filter_agree (λ b. rolled_use b rolls == 0) (λ b. not (list_any (λ (x : Digest × Place). x.1.block == b) live))
+pub free_is : (g : Geometry) (live : List (Digest × Place)) (lives : List (List LiveCopy)) → CanBeLive g live → ((block : ℕ) → copies_in block lives ≡ copies_at block live)
+    → filter (λ b. use_in b lives == 0) (range_with_len 0 g.blocks) ≡ blocks_without live g.blocks
+free_is g live lives can copies =
+    filter_agree (λ b. use_in b lives == 0) (λ b. not (list_any (λ (x : Digest × Place). x.1.block == b) live))
     (λ b. ap (λ (cs : List LiveCopy). sum_by (λ (c : LiveCopy). c.units) cs == 0) (copies b) ∙ unused_is live b (takes_room g live can.each)) (range_with_len 0 g.blocks)
 
 -- a block is queued where what is live in it is as little
-pub queue_is : (g : Geometry) (live : List (Digest × Place)) (rolls : List BlockRoll) (lwm : ℕ) → ((block : ℕ) → copies_in block rolls ≡ copies_at block live)
-    → filter (λ b. is_below_mark (block_capacity g.block_size) lwm (rolled_use b rolls) true) (range_with_len 0 g.blocks) ≡ blocks_below live g lwm
-queue_is g live rolls lwm copies =
-    filter_agree (λ b. is_below_mark (block_capacity g.block_size) lwm (rolled_use b rolls) true)
+pub queue_is : (g : Geometry) (live : List (Digest × Place)) (lives : List (List LiveCopy)) (lwm : ℕ) → ((block : ℕ) → copies_in block lives ≡ copies_at block live)
+    → filter (λ b. is_below_mark (block_capacity g.block_size) lwm (use_in b lives) true) (range_with_len 0 g.blocks) ≡ blocks_below live g lwm
+queue_is g live lives lwm copies =
+    filter_agree (λ b. is_below_mark (block_capacity g.block_size) lwm (use_in b lives) true)
     (λ b. is_below_mark (block_capacity g.block_size) lwm (sum_by (λ (c : LiveCopy). c.units) (copies_at b live)) true)
     (λ b. ap (λ (cs : List LiveCopy). is_below_mark (block_capacity g.block_size) lwm (sum_by (λ (c : LiveCopy). c.units) cs) true) (copies b)) (range_with_len 0 g.blocks)
 
@@ -90,7 +89,7 @@ rising_apart p from (suc n) = by (p from) (rising_apart p (from + 1) n)
     by true rest = (above p (from + 1) n from (omega arith), rest)
     by false rest = rest
 
--- ---- the rolls
+-- ---- the lives
 
 own_units : (cs : List LiveCopy) → AreAllApart cs → AllByRecursion (λ c. 1 ≤ c.units) cs → HaveOwnUnits cs
 own_units [] apart takes = tt
@@ -111,8 +110,8 @@ none_at_block b live none = ap (map copy_of_place) (over live (all_from (λ x. (
     over [] all = refl
     over (x ∷ xs) all = cond-false (x.1.block == b) (x ∷ filter (λ (y : Digest × Place). y.1.block == b) xs) (filter (λ (y : Digest × Place). y.1.block == b) xs) all.0 ∙ over xs all.1
 
-pub roll_at : (g : Geometry) (live : List (Digest × Place)) → CanBeLive g live → (b : ℕ) → IsRoll (copies_at b live)
-roll_at g live can b = record {
+pub list_at : (g : Geometry) (live : List (Digest × Place)) → CanBeLive g live → (b : ℕ) → IsLiveList (copies_at b live)
+list_at g live can b = record {
   own = own_units (copies_at b live) (apart_at b live can.two) takes;
   takes = takes;
 }
@@ -122,7 +121,7 @@ roll_at g live can b = record {
 
 -- ---- the shelf
 
-module _ {D : Type 0} (view : D → DiskView) (disk : D) (g : Geometry) (limits : ShelfLimits) (gates : List Gate) (live : List (Digest × Place)) (next_number : ℕ) (rolls : List BlockRoll)
+module _ {D : Type 0} (view : D → DiskView) (disk : D) (g : Geometry) (limits : ShelfLimits) (gates : List Gate) (live : List (Digest × Place)) (next_number : ℕ) (lives : List (List LiveCopy))
     (holds : HoldState) (queue : QueueState) (cache : CacheState BufferState) (raid : BookState) where
   abbrev pub begun_with : List ℕ → ShelfView D
   begun_with free = record {
@@ -131,7 +130,7 @@ module _ {D : Type 0} (view : D → DiskView) (disk : D) (g : Geometry) (limits 
     limits = limits;
     buffers = [];
     gates = gates;
-    rolls = rolls;
+    lives = lives;
     holds = holds;
     free = free;
     queue = queue;
@@ -141,7 +140,7 @@ module _ {D : Type 0} (view : D → DiskView) (disk : D) (g : Geometry) (limits 
   }
 
   pub start_shelf : IsGeometry g → device_end g ≤ (view disk).extent → AreLimits limits → (1 ≤ next_number) × (next_number ≤ top_number + 1) → length gates ≡ g.blocks
-      → (IsHonest (view disk) → GatesStand g (view disk).may_leave gates) → CanBeLive g live → length rolls ≡ g.blocks → ((block : ℕ) → copies_in block rolls ≡ copies_at block live)
+      → (IsHonest (view disk) → GatesStand g (view disk).may_leave gates) → CanBeLive g live → length lives ≡ g.blocks → ((block : ℕ) → copies_in block lives ≡ copies_at block live)
       → holds.holds ≡ set.empty → IsQueueOf g limits queue → cache ≡ record { kept = []; limit = limits.cache }
       → raid ≡ empty_book (part_count g.device g.devices limits.sprigs) g.blocks → IsShelf view (begun_with (blocks_without live g.blocks))
   start_shelf geometry room are number count stand can size copies none queued nothing no_raid = record {
@@ -154,10 +153,10 @@ module _ {D : Type 0} (view : D → DiskView) (disk : D) (g : Geometry) (limits 
     free = range_kept_below is_free g.blocks;
     apart = rising_apart is_free 0 g.blocks;
     gates = count;
-    rolls = size;
-    each = λ b. subst IsRoll (sym (copies b)) (roll_at g live can b);
+    lives = size;
+    each = λ b. subst IsLiveList (sym (copies b)) (list_at g live can b);
     held = subst (HoldsBelow g.blocks) (sym none) (HoldsBelow-empty g.blocks);
-    vacant = all_from (λ b. copies_in b rolls ≡ []) (blocks_without live g.blocks)
+    vacant = all_from (λ b. copies_in b lives ≡ []) (blocks_without live g.blocks)
         (λ b there. copies b ∙ none_at_block b live (not-true (list_any (λ (x : Digest × Place). x.1.block == b) live) (filter_from is_free (range_with_len 0 g.blocks) b there).1));
     unheld = all_from (λ b. IsHeld holds.holds b → ⊥) (blocks_without live g.blocks)
         (λ b there held. let lt : b < 0 = HoldsBelow-empty 0 held.0 b (subst (λ (h : Holds). IsTrue (has_hold h held.0 b)) none held.1) in absurd (omega (arith, lt)));

@@ -22,8 +22,7 @@ use Rattle.block_format.specs.Copies.{Copy}
 use Rattle.law_start.specs.Start.{live_copy}
 use Rattle.law_images.specs.Kept.{BookInOrder}
 use Rattle.law_images.specs.Changes.{records_by}
-use Rattle.unit_ledger.specs.declared.roll.LiveCopy.{LiveCopy}
-use Rattle.unit_ledger.specs.Rolls.{live_in_block}
+use Rattle.block_shelf.specs.Lives.{LiveCopy, live_in_block}
 use Rattle.defrag_queue.specs.Queues.{is_below_mark}
 use Rattle.defrag_queue.proofs.Refreshed as queue
 use Rattle.hold_book.specs.Holds.{Holds, has_hold}
@@ -31,13 +30,13 @@ use Rattle.hold_book.proofs.Laws.{has_hold-empty}
 use Rattle.raid_book.specs.Raids.{RaidStands}
 use Rattle.block_shelf.specs.declared.place.Place.{Place}
 use Rattle.block_shelf.specs.declared.place.ShelfLimits.{ShelfLimits}
-use Rattle.block_shelf.specs.View.{ShelfView, IsRoll}
+use Rattle.block_shelf.specs.View.{ShelfView, IsLiveList}
 use Rattle.block_shelf.specs.Standing.{StandsFor, BooksStand, IsOfEntry, HaveOwnDigests, IsListed, HoldsSame, LivesSame}
 use Rattle.block_shelf.specs.Calls.{copy_live}
 use Rattle.block_shelf.specs.Starting.{LiesIn, AreTwo, AreEachTwo, CanBeLive, StartsWith, AreLive, copy_of_place, copies_at, blocks_without, place_of_copy}
 use Rattle.block_shelf.proofs.Frees.{vacant_is, vacant_from, refreshed_free, refreshed_all}
-use Rattle.block_shelf.proofs.QueueSteps.{rolled_is_use}
-use Rattle.block_shelf.proofs.StartShelf.{roll_at}
+use Rattle.block_shelf.proofs.QueueSteps.{use_in_is}
+use Rattle.block_shelf.proofs.StartShelf.{list_at}
 
 -- ---- the live copies, as the book lists them
 
@@ -193,7 +192,7 @@ module _ (setup : Setup) (g : Geometry) (live : List (Digest × Place)) (can : C
       limits = limits;
       buffers = [];
       gates = gates;
-      rolls = shelf.rolls;
+      lives = shelf.lives;
       holds = shelf.holds;
       free = blocks_without live g.blocks;
       queue =
@@ -209,7 +208,7 @@ module _ (setup : Setup) (g : Geometry) (live : List (Digest × Place)) (can : C
       there = λ number block held. absurd (false≢true (sym (ap (λ (h : Holds). has_hold h number block) starts.unheld ∙ has_hold-empty number block) ∙ held));
     }
 
-    lives_same : LivesSame shelf.rolls begun
+    lives_same : LivesSame shelf.lives begun
     lives_same = record {
       known = λ block c there.
           let one = same.only (live_in_block block c) (subst (λ (x : List Live). Contains x (live_in_block block c)) (cold_lives setup lives next_number) there) in
@@ -250,7 +249,7 @@ module _ (setup : Setup) (g : Geometry) (live : List (Digest × Place)) (can : C
       free = ap (λ (b : Book). b.free) is_book ∙ begun_free;
       next = ap (λ (b : Book). b.next_number) is_book ∙ cold_next setup lives next_number;
       holds = subst (HoldsSame shelf.holds.holds) (sym is_book) holds_same;
-      lives = subst (LivesSame shelf.rolls) (sym is_book) lives_same;
+      lives = subst (LivesSame shelf.lives) (sym is_book) lives_same;
       listed = subst (IsListed setup) (sym is_book) begun_listed;
       order = order;
       entries = λ l there. of_entry versions l (subst (λ (x : List Live). Contains x l) (ap (λ (b : Book). b.live) is_book ∙ cold_lives setup lives next_number) there);
@@ -261,10 +260,10 @@ module _ (setup : Setup) (g : Geometry) (live : List (Digest × Place)) (can : C
 
     use_is : (b : ℕ) → use_of before b ≡ sum_by (λ c. c.units) (copies_at b live)
     use_is b =
-        sym (rolled_is_use shelf.rolls before b (record {
+        sym (use_in_is shelf.lives before b (record {
           known = λ k c there. lives_same.known k c (subst (λ (x : List Live). Contains x (live_in_block k c)) (sym (cold_lives setup lives next_number)) there);
           there = λ k c there. subst (λ (x : List Live). Contains x (live_in_block k c)) (cold_lives setup lives next_number) (lives_same.there k c there);
-        }) (subst IsRoll (sym (starts.copies b)) (roll_at g live can b)) own)
+        }) (subst IsLiveList (sym (starts.copies b)) (list_at g live can b)) own)
         ∙ ap (sum_by (λ (c : LiveCopy). c.units)) (starts.copies b)
 
     -- Those of little use are queued, the lowest first.

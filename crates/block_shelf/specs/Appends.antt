@@ -19,14 +19,14 @@ use Rattle.write_buffer.specs.declared.stream.Stream.{Stream}
 use Rattle.write_buffer.specs.declared.stream.Stream.TheVariants.{Client, Defrag}
 use Rattle.write_buffer.specs.Buffers.{BufferState, used_units}
 use Rattle.hold_book.specs.Holds.{with_pair}
-use Rattle.unit_ledger.specs.Rolls.{copies_in}
+use Rattle.block_shelf.specs.Lives.{copies_in}
 use Rattle.law_facts.specs.Asking.{MayBeWritten}
 use Rattle.block_shelf.specs.declared.place.Place.{Place}
 use Rattle.block_shelf.specs.declared.place.Class.{Class}
 use Rattle.block_shelf.specs.declared.place.Class.TheVariants as class
 use Rattle.block_shelf.specs.declared.refusals.PutRefusal.{PutRefusal}
 use Rattle.block_shelf.specs.declared.refusals.PutRefusal.TheVariants as put
-use Rattle.block_shelf.specs.View.{ShelfView, IsShelf, IsRoll, IsSetupOf, SameShape, gate_at}
+use Rattle.block_shelf.specs.View.{ShelfView, IsShelf, IsLiveList, IsSetupOf, SameShape, gate_at}
 use Rattle.block_shelf.specs.Disks.{IsLater}
 use Rattle.block_shelf.specs.Standing.{StandsFor, BooksStand, ImagesHold, IsPlaced, HasRecord, book_stream}
 use Rattle.block_shelf.specs.Calls.{Goes, copy_live, prior_live}
@@ -108,9 +108,9 @@ with_first_shut disk shelf = with_gate_known disk (first_block shelf.free) Shut 
 abbrev pub with_first_unclosed : {D : Type 0} → D → ShelfView D → ShelfView D
 with_first_unclosed disk shelf = record (with_gate_known disk (first_block shelf.free) Unsure shelf) { free = first_to_back shelf.free }
 
--- the shelf on which a buffer has begun, before that: memory was taken, and the gate of the first free block is shut
+-- the shelf on which a buffer has begun, before that: room for a hold was taken, and the gate of the first free block is shut
 abbrev pub ready_for : {D : Type 0} → (new old : ShelfView D) → ShelfView D
-ready_for new old = record (with_first_shut new.disk old) { rolls = new.rolls; holds = new.holds }
+ready_for new old = record (with_first_shut new.disk old) { holds = new.holds }
 
 -- Nothing has changed, but for memory that was taken where more was wanting. After a fault the first free block, whose gate wasn't
 -- known to be shut, is at the back of the free ones with an unsure gate, and nothing else has changed.
@@ -195,7 +195,7 @@ pub record PutsHere {D : Type 0} (view : D → DiskView) (at units : ℕ) (diges
   pub disk : new.disk ≡ old.disk
   pub shape : SameShape old new
   pub whole : IsShelf view old
-  pub each : (block : ℕ) → IsRoll (copies_in block new.rolls)
+  pub each : (block : ℕ) → IsLiveList (copies_in block new.lives)
 
 -- A copy is appended, or this is why not. The disk is called only where a buffer begins behind a gate that isn't known
 -- to be shut, and changes only there.

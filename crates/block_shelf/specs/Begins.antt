@@ -7,7 +7,6 @@ use Rattle.model_device.specs.Device.{State}
 use Rattle.block_format.specs.declared.geometry.Gate.TheVariants.{Shut}
 use Rattle.block_format.specs.Layout.{block_place}
 use Rattle.write_buffer.specs.declared.stream.Stream.{Stream}
-use Rattle.unit_ledger.specs.Rolls.{spare_of}
 use Rattle.block_shelf.specs.declared.place.Class.{Class}
 use Rattle.block_shelf.specs.declared.refusals.PutRefusal.{PutRefusal}
 use Rattle.block_shelf.specs.declared.refusals.PutRefusal.TheVariants as put
@@ -33,13 +32,12 @@ pub record BeginsIn {D : Type 0} (view : D → DiskView) (stream : Stream) (old 
   pub later : IsLater (view old.disk) (view new.disk)
   pub honest : IsHonest (view old.disk) → IsHonest (view new.disk)
 
--- One begins for a copy of a class, and there is memory for a live copy in it and for a hold, or this is why not.
+-- One begins for a copy of a class, and there is memory for a hold, or this is why not.
 pub record BeginsFor {D : Type 0} (view : D → DiskView) (kind : Class) (old new : ShelfView D) (result : Result (Unit {0}) PutRefusal) : Type 0 where
   pub refusal : MatchResult result (λ done. begin_refusal (kept_free kind) old ≡ None) (IsAppendRefusal (begin_refusal (kept_free kind) old))
   pub begun : OnOk result (new ≡ with_begun (stream_of kind) (ready_for new old))
   pub ready : OnOk result (SameButRoom (with_first_shut new.disk old) (ready_for new old))
   pub whole : OnOk result (IsShelf view (ready_for new old))
-  pub space : OnOk result (1 ≤ spare_of (first_block old.free) new.rolls)
   pub hold : OnOk result (1 ≤ new.holds.spare)
   pub refused : IfErr result (IsLeftBy old new)
   pub goes : (setup : Setup) (s : State) → StandsFor setup old s

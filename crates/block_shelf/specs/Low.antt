@@ -4,7 +4,7 @@ use Rattle.rec_format.specs.Versions.{block_capacity}
 use Rattle.write_buffer.specs.declared.stream.Stream.{Stream}
 use Rattle.write_buffer.specs.declared.stream.Stream.TheVariants.{Client, Defrag}
 use Rattle.write_buffer.specs.Buffers.{BufferState, used_units}
-use Rattle.unit_ledger.specs.Rolls.{copies_in}
+use Rattle.block_shelf.specs.Lives.{copies_in}
 use Rattle.hold_book.specs.Holds.{has_hold}
 use Rattle.block_shelf.specs.View.{ShelfView, fills}
 use Rattle.block_shelf.specs.Changes.{sealed_in}
@@ -13,7 +13,7 @@ use Rattle.block_shelf.specs.Changes.{sealed_in}
 pub record HoldsDead {D : Type 0} (shelf : ShelfView D) (number : ℕ) : Type 0 where
   pub block : ℕ
   pub held : IsTrue (has_hold shelf.holds.holds number block)
-  pub dead : copies_in block shelf.rolls ≡ []
+  pub dead : copies_in block shelf.lives ≡ []
 
 -- so does the buffer that takes the records of a stream
 pub record FillsOverDead {D : Type 0} (stream : Stream) (shelf : ShelfView D) : Type 0 where

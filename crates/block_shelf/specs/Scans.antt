@@ -1,5 +1,5 @@
 -- Crate block_shelf. What a raid's scan of a block finds, and what it makes.
-use Rattle.std.specs.Prelude.{◌≡◌, ◌≢◌, ℕ, ◌==◌, List, [], ◌∷◌, map, filter, Contains, Result, Ok, Err, IfOk, IfErr, MatchResult, OnOk, OnErr}
+use Rattle.std.specs.Prelude.{◌≡◌, ◌≢◌, ℕ, ◌==◌, List, [], ◌∷◌, map, filter, Contains, Result, Ok, Err, IfErr, MatchResult, OnOk, OnErr}
 use Rattle.std.specs.List.{AllByRecursion}
 use Rattle.model_faults.specs.Counts.{Rose}
 use Rattle.disk_model.specs.Disk.{DiskView, IsHonest, Within}
@@ -76,6 +76,12 @@ IsDamageOf g bytes block (Damaged other place) = (other ≡ block) × IsFaultAt 
 IsDamageOf g bytes block Memory = Unit {0}
 IsDamageOf g bytes block Fault = Unit {0}
 
+-- the same, and memory is wanting only where these bytes are a body of the block
+abbrev pub IsRefusalOf : Geometry → List ℕ → (block : ℕ) → VacateRefusal → Type 0
+IsRefusalOf g bytes block (Damaged other place) = IsDamageOf g bytes block (Damaged other place)
+IsRefusalOf g bytes block Memory = IsBodyOf g block bytes
+IsRefusalOf g bytes block Fault = Unit {0}
+
 -- there is no damage
 abbrev pub IsSound : VacateRefusal → Type 0
 IsSound (Damaged block place) = ⊥
@@ -123,7 +129,8 @@ pub record ReadsIn {D A : Type 0} (view : D → DiskView) (block : ℕ) (old new
   pub fewer : gate_at old.gates block ≢ Unsure → IsHonest (view old.disk) → Within (view old.disk).may_leave (view new.disk).may_leave
   pub damaged : (view old.disk).tells → IfErr result (IsDamageOf old.geometry (body_bytes old.geometry block (view old.disk).seen) block)
   pub told : IfErr result (IsToldOf old block)
-  pub there : (view old.disk).tells → NeedsRead old block → IfOk result (λ found. ReadsBody old.geometry (body_bytes old.geometry block (view old.disk).seen) block (heads found))
+  pub there : (view old.disk).tells → NeedsRead old block
+      → let bytes = body_bytes old.geometry block (view old.disk).seen in MatchResult result (λ found. ReadsBody old.geometry bytes block (heads found)) (IsRefusalOf old.geometry bytes block)
   pub rest : new ≡ record old { disk = new.disk; gates = new.gates }
   pub cause : result ≡ Err Fault → Rose (view old.disk).faults (view new.disk).faults
   pub later : IsLater (view old.disk) (view new.disk)
@@ -140,7 +147,8 @@ pub record ScansIn {D : Type 0} (view : D → DiskView) (block : ℕ) (old new :
   pub fewer : gate_at old.gates block ≢ Unsure → IsHonest (view old.disk) → Within (view old.disk).may_leave (view new.disk).may_leave
   pub damaged : (view old.disk).tells → IfErr result (IsDamageOf old.geometry (body_bytes old.geometry block (view old.disk).seen) block)
   pub told : IfErr result (IsToldOf old block)
-  pub there : (view old.disk).tells → NeedsRead old block → OnOk result (FindsBody old.geometry old.limits.sprigs (body_bytes old.geometry block (view old.disk).seen) block new.raid)
+  pub there : (view old.disk).tells → NeedsRead old block
+      → let bytes = body_bytes old.geometry block (view old.disk).seen in MatchResult result (λ done. FindsBody old.geometry old.limits.sprigs bytes block new.raid) (IsRefusalOf old.geometry bytes block)
   pub sound : (setup : Setup) (s : State) → IsHonest (view old.disk) → StandsFor setup old s → ImagesHold setup view old s → IfErr result IsSound
   pub rest : new ≡ record old { disk = new.disk; gates = new.gates; raid = new.raid }
   pub cause : result ≡ Err Fault → Rose (view old.disk).faults (view new.disk).faults
@@ -150,7 +158,7 @@ pub record ScansIn {D : Type 0} (view : D → DiskView) (block : ℕ) (old new :
 -- The heads of the records of a block are read from the disk, or the damage that is there is told.
 pub record ReadsBlock {D A : Type 0} (view : D → DiskView) (block : ℕ) (old new : ShelfView D) (heads : A → List Found) (result : Result A VacateRefusal) : Type 0 where
   pub read : (view old.disk).tells
-      → let bytes = body_bytes old.geometry block (view old.disk).seen in MatchResult result (λ found. ReadsBody old.geometry bytes block (heads found)) (IsDamageOf old.geometry bytes block)
+      → let bytes = body_bytes old.geometry block (view old.disk).seen in MatchResult result (λ found. ReadsBody old.geometry bytes block (heads found)) (IsRefusalOf old.geometry bytes block)
   pub of_block : IfErr result (IsOfBlock block)
   pub cause : result ≡ Err Fault → Rose (view old.disk).faults (view new.disk).faults
   pub disk : OnlyRead (view old.disk) (view new.disk)

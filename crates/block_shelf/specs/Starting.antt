@@ -1,5 +1,5 @@
 -- Crate block_shelf. How a shelf begins behind a start.
-use Rattle.std.specs.Prelude.{ℕ, ◌+◌, ◌*◌, ◌<◌, ◌≤◌, ◌≡◌, true, false, not, sum_by, ◌==◌, List, [], ◌∷◌, length, map, filter, Contains}
+use Rattle.std.specs.Prelude.{◌-◌, ℕ, ◌+◌, ◌*◌, ◌<◌, ◌≤◌, ◌≡◌, true, false, not, sum_by, ◌==◌, List, [], ◌∷◌, length, map, filter, Contains}
 use Rattle.std.specs.List.{AllByRecursion, IsDistinct, list_any, range_with_len}
 use Rattle.std.specs.FinSet as set
 use Rattle.rec_format.specs.declared.version.Digest.{Digest}
@@ -11,8 +11,7 @@ use Rattle.block_format.specs.declared.geometry.Geometry.{Geometry}
 use Rattle.block_format.specs.declared.geometry.Gate.{Gate}
 use Rattle.block_format.specs.Layout.{IsRecordAt, body_bytes}
 use Rattle.block_format.specs.Copies.{Copy}
-use Rattle.unit_ledger.specs.declared.roll.LiveCopy.{LiveCopy}
-use Rattle.unit_ledger.specs.Rolls.{BlockRoll, copies_in, rolled_use}
+use Rattle.block_shelf.specs.Lives.{LiveCopy, copies_in, use_in}
 use Rattle.defrag_queue.specs.Queues.{QueueState, is_below_mark}
 use Rattle.raid_book.specs.Books.{BookState, empty_book}
 use Rattle.post_cache.specs.Bodies.{CacheState}
@@ -70,7 +69,7 @@ pub record StartsWith {D : Type 0} (disk : D) (g : Geometry) (limits : ShelfLimi
     limits = limits;
     buffers = [];
     gates = gates;
-    rolls = shelf.rolls;
+    lives = shelf.lives;
     holds = shelf.holds;
     free = blocks_without live g.blocks;
     queue = shelf.queue;
@@ -78,7 +77,7 @@ pub record StartsWith {D : Type 0} (disk : D) (g : Geometry) (limits : ShelfLimi
     raid = empty_book (part_count g.device g.devices limits.sprigs) g.blocks;
     next_number = next_number;
   }
-  pub copies : (block : ℕ) → copies_in block shelf.rolls ≡ copies_at block live
+  pub copies : (block : ℕ) → copies_in block shelf.lives ≡ copies_at block live
   pub unheld : shelf.holds.holds ≡ set.empty
   pub queue : IsQueueOf g limits shelf.queue
   pub queued : shelf.queue.queue ≡ blocks_below live g limits.lwm
@@ -99,12 +98,13 @@ abbrev pub AllHave : Geometry → Images → List Copy → Type 0
 AllHave g images found = (c : Copy) → Contains found c → (image : List ℕ) → images image → IsRecordAt (body_bytes g c.block image) (32 + 16 * c.unit) c.digest c.version
 
 -- what a shelf of these live copies keeps in memory from its start on
-pub record KeepsFor (g : Geometry) (limits : ShelfLimits) (live : List (Digest × Place)) (ledger : List BlockRoll) (unused : List ℕ) (places : ℕ) (waiting : QueueState) (bodies : CacheState BufferState) (book : BookState) : Type 0 where
+pub record KeepsFor (g : Geometry) (limits : ShelfLimits) (live : List (Digest × Place)) (ledger : List (List LiveCopy)) (unused : List ℕ) (places : ℕ) (waiting : QueueState) (bodies : CacheState BufferState) (book : BookState) (room : List ℕ) : Type 0 where
   pub size : length ledger ≡ g.blocks
   pub copies : (block : ℕ) → copies_in block ledger ≡ copies_at block live
   pub free : unused ≡ blocks_without live g.blocks
   pub memory : g.blocks ≤ places
   pub shape : (waiting.blocks ≡ g.blocks) × (waiting.capacity ≡ block_capacity g.block_size) × (waiting.lwm ≡ limits.lwm)
-  pub queue : waiting.queue ≡ filter (λ b. is_below_mark (block_capacity g.block_size) limits.lwm (rolled_use b ledger) true) (range_with_len 0 g.blocks)
+  pub queue : waiting.queue ≡ filter (λ b. is_below_mark (block_capacity g.block_size) limits.lwm (use_in b ledger) true) (range_with_len 0 g.blocks)
   pub cache : bodies ≡ record { kept = []; limit = limits.cache }
   pub raid : book ≡ empty_book (part_count g.device g.devices limits.sprigs) g.blocks
+  pub body : length room ≡ g.block_size - 4096

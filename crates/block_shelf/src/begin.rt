@@ -25,7 +25,7 @@ impl<D: Disk> Shelf<D> {
     {
         self.may_begin(class)?;
         let block = self.free[0];
-        self.reserve(alloc, block)?;
+        self.reserve(block)?;
         let Ok(buffer) = Buffer::new(alloc, self.next_number, block, self.geometry.block_size)
         else {
             return Err(PutRefusal::Memory);

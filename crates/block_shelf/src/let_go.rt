@@ -2,15 +2,15 @@
 ghost use Rattle.std.specs.Prelude.{◌≡◌, ◌≢◌, ◌≤◌, ◌<◌, ◌++◌, ◌↔◌, ℕ, Bool, length, filter, IsTrue, MatchBool, MatchOption};
 ghost use Rattle.std.specs.List.{AllByRecursion, range_with_len};
 ghost use Rattle.std.specs.VecDeque.{deque_capacity};
-ghost use Rattle.unit_ledger.specs.Rolls.{copies_in};
+ghost use Rattle.block_shelf.specs.Lives.{copies_in};
 ghost use Rattle.hold_book.specs.Holds.{HoldsBelow, without_buffer};
-ghost use Rattle.block_shelf.specs.View.{AreApart, IsRoll};
+ghost use Rattle.block_shelf.specs.View.{AreApart, IsLiveList};
 ghost use Rattle.block_shelf.specs.Changes.{has_buffer_in};
 ghost use Rattle.block_shelf.specs.LetGo.{HasNoneOf, IsFirstOf, IsBare, IsLetGo, IsFreeOrLetGo};
 
+use crate::ledger::LiveLedger;
 use hold_book::HoldBook;
 use std::collections::VecDeque;
-use unit_ledger::Ledger;
 use write_buffer::Buffer;
 
 // Each block that a flushed buffer lets go comes to the back of the free ones, in rising number: of its own and those that it holds
@@ -19,14 +19,14 @@ pub(crate) fn free_let_go(
     number: u64,
     own: u32,
     buffers: &[Buffer],
-    ledger: &Ledger,
+    ledger: &LiveLedger,
     holds: &HoldBook,
     free: &mut VecDeque<u32>,
 )
     requires own { own < length ledger.now }
     requires held { HoldsBelow (length ledger.now) holds.now.holds }
     requires few { length ledger.now ≤ 65536 }
-    requires each { (block : ℕ) → IsRoll (copies_in block ledger.now) }
+    requires each { (block : ℕ) → IsLiveList (copies_in block ledger.now) }
     requires room { length ledger.now ≤ deque_capacity free.old }
     requires below { AllByRecursion (λ b. b < length ledger.now) free.old.items }
     requires apart { AreApart free.old.items }
@@ -61,9 +61,9 @@ fn next_of(holds: &HoldBook, number: u64, own: u32, from: u32) -> Option<u32>
 }
 
 // Whether no buffer has a block, and nothing in it is live.
-pub(crate) fn is_bare(buffers: &[Buffer], ledger: &Ledger, block: u32) -> bool
+pub(crate) fn is_bare(buffers: &[Buffer], ledger: &LiveLedger, block: u32) -> bool
     requires below { block < length ledger.now }
-    requires each { IsRoll (copies_in block ledger.now) }
+    requires each { IsLiveList (copies_in block ledger.now) }
     ensures { MatchBool result (IsBare buffers.now ledger.now block) (IsBare buffers.now ledger.now block → ⊥) }
 {
     if has_block(buffers, block) {

@@ -7,7 +7,7 @@ ghost use Rattle.model_device.specs.Book.{Setup};
 ghost use Rattle.model_device.specs.Device.{State, entry_is_covered};
 ghost use Rattle.model_device.specs.Steps.{removed, rid_of};
 ghost use Rattle.law_facts.specs.Facts.{NoneOlder};
-ghost use Rattle.unit_ledger.specs.Rolls.{copies_in, copy_at};
+ghost use Rattle.block_shelf.specs.Lives.{copies_in, copy_at};
 ghost use Rattle.block_shelf.specs.View.{IsShelf, SameShape, IsSetupOf, IsUnused};
 ghost use Rattle.block_shelf.specs.Standing.{StandsFor, ImagesHold};
 ghost use Rattle.block_shelf.specs.Scans.{possible_copies};
@@ -24,7 +24,7 @@ impl<D: Disk> Shelf<D> {
     /// ones. It takes no memory.
     pub fn drop_live(&mut self, place: Place)
         requires block { place.block < self.old.geometry.blocks }
-        requires live { IsSomeAnd (copy_at place.unit (copies_in place.block self.old.rolls)) (λ c. c.units ≡ place.units) }
+        requires live { IsSomeAnd (copy_at place.unit (copies_in place.block self.old.lives)) (λ c. c.units ≡ place.units) }
         ensures dropped { (setup : Setup) (s : State) (digest : DigestValue) → IsSetupOf setup self.old → StandsFor setup self.old s
             → Contains s.book.live (copy_live digest place) → entry_is_covered s digest ≡ false → Goes D.view setup (removed digest ∷ []) self.old s self.new }
 
@@ -50,12 +50,12 @@ impl<D: Disk> Shelf<D> {
     // The copy at a place leaves the live ones of its block.
     fn take_live(&mut self, place: Place)
         requires block { place.block < self.old.geometry.blocks }
-        requires live { IsSomeAnd (copy_at place.unit (copies_in place.block self.old.rolls)) (λ c. c.units ≡ place.units) }
+        requires live { IsSomeAnd (copy_at place.unit (copies_in place.block self.old.lives)) (λ c. c.units ≡ place.units) }
         ensures taken { self.new ≡ without_copy place self.old }
         ensures unlisted { AllByRecursion (λ b. b ≢ place.block) self.old.free }
         ensures whole { IsShelf D.view self.old }
     {
-        let _left = self.ledger.drop_live(place.block, place.unit, place.units);
+        self.ledger.drop_live(place);
     }
 
     // Whether no buffer has a block, nothing in it is live, and no buffer holds it.

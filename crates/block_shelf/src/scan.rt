@@ -18,12 +18,12 @@ ghost use Rattle.block_shelf.specs.Disks.{IsLater};
 ghost use Rattle.block_shelf.specs.View.{IsShelf, IsSetupOf, AreSure, gate_at};
 ghost use Rattle.block_shelf.specs.Standing.{StandsFor, BooksStand, ImagesHold};
 ghost use Rattle.block_shelf.specs.Calls.{Goes};
-ghost use Rattle.block_shelf.specs.Scans.{Scans, ScansIn, ReadsIn, ReadsBlock, ReadsBody, FindsBody, NeedsRead, ClosesUnsure, IsDamageOf, IsOfBlock, IsToldOf, IsSound, own_found, possible_copies};
+ghost use Rattle.block_shelf.specs.Scans.{Scans, ScansIn, ReadsIn, ReadsBlock, ReadsBody, FindsBody, NeedsRead, ClosesUnsure, IsDamageOf, IsOfBlock, IsRefusalOf, IsToldOf, IsSound, own_found, possible_copies};
 
 use crate::close::shut_gate;
+use crate::load::load_body;
 use crate::{NoMemory, Shelf, VacateRefusal};
-use block_flusher::start_of_block;
-use block_format::{BodyRefusal, Found, Gate, Geometry, SECTOR_BYTES, read_body};
+use block_format::{BodyRefusal, Found, Gate, Geometry, check_body, read_body};
 use disk_model::Disk;
 use partition_map::{device_of, part_number};
 use raid_book::RaidNext;
@@ -51,10 +51,12 @@ impl<D: Disk> Shelf<D> {
         ensures alike { (setup : Setup) (s : State) → AreSure self.old.gates → IsHonest (D.view self.old.disk) → StandsFor setup self.old s → ImagesHold setup D.view self.old s
             → SamePossible (possible_copies D.view self.old s) (possible_copies D.view self.new s) }
 
-        // Where the disk is read, a disk that tells its bytes has a body of the block, whose records are found, or the damage that is told.
-        // Over every disk damage is told of no other block, and over an honest disk whose image was sound there is none.
+        // Where the disk is read, a disk that tells its bytes has a body of the block, whose records are found, or the damage that is told:
+        // memory is wanting only where a body of the block stands there. Over every disk damage is told of no other block, and over an
+        // honest disk whose image was sound there is none.
         ensures there { (D.view self.old.disk).tells → (block : ℕ) → self.old.raid.next ≡ turn.Scan block → NeedsRead self.old block
-            → OnOk result (FindsBody self.old.geometry self.old.limits.sprigs (body_bytes self.old.geometry block (D.view self.old.disk).seen) block self.new.raid) }
+            → MatchResult result (λ scanned. FindsBody self.old.geometry self.old.limits.sprigs (body_bytes self.old.geometry block (D.view self.old.disk).seen) block self.new.raid)
+            (IsRefusalOf self.old.geometry (body_bytes self.old.geometry block (D.view self.old.disk).seen) block) }
         ensures told { (block : ℕ) → self.old.raid.next ≡ turn.Scan block → IfErr result (IsToldOf self.old block) }
         ensures damaged { (D.view self.old.disk).tells → (block : ℕ) → self.old.raid.next ≡ turn.Scan block → IfErr result (IsDamageOf self.old.geometry (body_bytes self.old.geometry block (D.view self.old.disk).seen) block) }
         ensures sound { (setup : Setup) (s : State) → IsHonest (D.view self.old.disk) → StandsFor setup self.old s → ImagesHold setup D.view self.old s → IfErr result IsSound }
@@ -139,27 +141,25 @@ impl<D: Disk> Shelf<D> {
         requires block { block < self.old.geometry.blocks }
         ensures { ReadsBlock D.view block self.old self.new (λ found. found.items) result }
     {
-        let size = self.geometry.block_size as usize - SECTOR_BYTES;
-        let Ok(mut body) = vec![in alloc; 0; size] else {
-            return Err(VacateRefusal::Memory);
-        };
-        let place = start_of_block(&self.geometry, block) + SECTOR_BYTES as u64;
-        let Ok(()) = self.disk.read_at(place, &mut body) else {
+        let Ok(()) = load_body(&mut self.disk, &self.geometry, block, &mut self.body) else {
             return Err(VacateRefusal::Fault);
         };
-        found_in(alloc, &body, block)
+        found_in(alloc, &self.body, block)
     }
 }
 
-// The heads of the records of a body.
+// The heads of the records of a body. It is looked at as a whole before memory is taken for what it has.
 fn found_in(alloc: Global, body: &[u8], block: u32) -> Result<Vec<Found>, VacateRefusal>
     requires head { 32 ≤ length body.now }
     requires size { length body.now ≤ 1044480 }
-    ensures read { (g : Geometry) → length body.now ≡ g.block_size - 4096 → MatchResult result (λ found. ReadsBody g body.now block found.items) (IsDamageOf g body.now block) }
+    ensures read { (g : Geometry) → length body.now ≡ g.block_size - 4096 → MatchResult result (λ found. ReadsBody g body.now block found.items) (IsRefusalOf g body.now block) }
     ensures of_block { IfErr result (IsOfBlock block) }
     ensures quiet { result ≢ Err VacateRefusal.Fault }
     ensures one_body { AtMostOneBody }
 {
+    if let Err(place) = check_body(body, block) {
+        return Err(VacateRefusal::Damaged { block, place });
+    }
     match read_body(alloc, body, block) {
         Ok((_, found)) => Ok(found),
         Err(BodyRefusal::Bad { place }) => Err(VacateRefusal::Damaged { block, place }),

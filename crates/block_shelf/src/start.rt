@@ -11,15 +11,16 @@ ghost use Rattle.block_format.specs.Copies.{Copy, copies_of};
 ghost use Rattle.law_start.specs.Sound.{IsSound};
 ghost use Rattle.law_start.specs.Start.{cold_copies, greatest_number, start_state, entries_state};
 ghost use Rattle.law_images.specs.Held.{AreSure};
-ghost use Rattle.unit_ledger.specs.Rolls.{copies_in, rolled_use};
+ghost use Rattle.block_shelf.specs.Lives.{copies_in, use_in};
 ghost use Rattle.defrag_queue.specs.Queues.{is_below_mark};
 ghost use Rattle.raid_book.specs.Books.{empty_book};
 ghost use Rattle.block_shelf.specs.View.{AreLimits, GatesStand, IsSetupOf, gate_at};
 ghost use Rattle.block_shelf.specs.Standing.{StandsFor, BooksStand, IsPlaced, ImagesHold};
 ghost use Rattle.block_shelf.specs.Starting.{CanBeLive, KeepsFor, StartsWith, AreLive, AllHave, copies_at};
 
+use crate::ledger::LiveLedger;
 use crate::{NoMemory, Place, Shelf, ShelfLimits};
-use block_format::{Gate, Geometry, capacity};
+use block_format::{Gate, Geometry, SECTOR_BYTES, capacity};
 use defrag_queue::Queue;
 use disk_model::Disk;
 use hold_book::HoldBook;
@@ -29,7 +30,6 @@ use raid_book::RaidBook;
 use rec_format::Digest;
 use std::alloc::Global;
 use std::collections::VecDeque;
-use unit_ledger::Ledger;
 use write_buffer::Buffer;
 
 // The ledger of a device, in which these copies are live.
@@ -37,24 +37,23 @@ fn ledger_of(
     alloc: Global,
     geometry: &Geometry,
     live: &[(Digest, Place)],
-) -> Result<Ledger, NoMemory>
+) -> Result<LiveLedger, NoMemory>
     requires geometry { IsGeometry geometry.now }
     requires live { CanBeLive geometry.now live.now }
-    ensures size { IfOk result (λ rolls. length rolls ≡ geometry.now.blocks) }
-    ensures copies { IfOk result (λ rolls. (block : ℕ) → copies_in block rolls ≡ copies_at block live.now) }
+    ensures size { IfOk result (λ lives. length lives ≡ geometry.now.blocks) }
+    ensures copies { IfOk result (λ lives. (block : ℕ) → copies_in block lives ≡ copies_at block live.now) }
 {
-    let mut ledger = Ledger::new(alloc, geometry.blocks)?;
+    let mut ledger = LiveLedger::new(alloc, geometry.blocks)?;
     for (digest, place) in live {
-        ledger.reserve(alloc, place.block)?;
-        ledger.add(place.block, place.unit, place.units, digest);
+        ledger.add(*place, digest);
     }
     Ok(ledger)
 }
 
 // The blocks in which nothing is live, the lowest first, with room for all blocks.
-fn unused_blocks(alloc: Global, blocks: u32, ledger: &Ledger) -> Result<VecDeque<u32>, NoMemory>
+fn unused_blocks(alloc: Global, blocks: u32, ledger: &LiveLedger) -> Result<VecDeque<u32>, NoMemory>
     requires { length ledger.now ≡ blocks }
-    ensures blocks { IfOk result (λ free. free.items ≡ filter (λ b. rolled_use b ledger.now == 0) (range_with_len 0 blocks)) }
+    ensures blocks { IfOk result (λ free. free.items ≡ filter (λ b. use_in b ledger.now == 0) (range_with_len 0 blocks)) }
     ensures room { IfOk result (λ free. blocks ≤ deque_capacity free) }
 {
     let mut free = VecDeque::with_capacity(alloc, blocks as usize)?;
@@ -71,11 +70,11 @@ fn queue_of(
     alloc: Global,
     geometry: &Geometry,
     lwm: u32,
-    ledger: &Ledger,
+    ledger: &LiveLedger,
 ) -> Result<Queue, NoMemory>
     requires { length ledger.now ≡ geometry.now.blocks }
     ensures shape { IfOk result (λ queue. (queue.blocks ≡ geometry.now.blocks) × (queue.capacity ≡ block_capacity geometry.now.block_size) × (queue.lwm ≡ lwm)) }
-    ensures blocks { IfOk result (λ queue. queue.queue ≡ filter (λ b. is_below_mark (block_capacity geometry.now.block_size) lwm (rolled_use b ledger.now) true) (range_with_len 0 geometry.now.blocks)) }
+    ensures blocks { IfOk result (λ queue. queue.queue ≡ filter (λ b. is_below_mark (block_capacity geometry.now.block_size) lwm (use_in b ledger.now) true) (range_with_len 0 geometry.now.blocks)) }
 {
     let mut queue = Queue::new(alloc, geometry.blocks, capacity(geometry.block_size), lwm)?;
     for block in 0..geometry.blocks {
@@ -85,14 +84,15 @@ fn queue_of(
 }
 
 // What a shelf keeps in memory from its start on: its live copies, its free blocks, with room for all, the blocks that are to be vacated,
-// and no flushed buffer, with room for as many as may be kept.
+// no flushed buffer, with room for as many as may be kept, the book of its raids, and room for the body of one block.
 #[derive(Drop)]
 struct Kept {
-    ledger: Ledger,
+    ledger: LiveLedger,
     free: VecDeque<u32>,
     queue: Queue,
     cache: Cache<Buffer>,
     raid: RaidBook,
+    body: Vec<u8>,
 }
 
 fn kept_of(
@@ -104,7 +104,7 @@ fn kept_of(
     requires geometry { IsGeometry geometry.now }
     requires live { CanBeLive geometry.now live.now }
     requires limits { AreLimits limits.now }
-    ensures { IfOk result (λ kept. KeepsFor geometry.now limits.now live.now kept.ledger kept.free.items (deque_capacity kept.free) kept.queue kept.cache kept.raid) }
+    ensures { IfOk result (λ kept. KeepsFor geometry.now limits.now live.now kept.ledger kept.free.items (deque_capacity kept.free) kept.queue kept.cache kept.raid kept.body.items) }
 {
     let ledger = ledger_of(alloc, geometry, live)?;
     let free = unused_blocks(alloc, geometry.blocks, &ledger)?;
@@ -112,12 +112,14 @@ fn kept_of(
     let cache = Cache::new(alloc, limits.cache)?;
     let parts = parts_of(geometry.device, geometry.devices, limits.sprigs);
     let raid = RaidBook::new(alloc, parts, geometry.blocks)?;
+    let body = vec![in alloc; 0; geometry.block_size as usize - SECTOR_BYTES]?;
     Ok(Kept {
         ledger,
         free,
         queue,
         cache,
         raid,
+        body,
     })
 }
 
@@ -168,6 +170,7 @@ impl<D: Disk> Shelf<D> {
             queue,
             cache,
             raid,
+            body,
         } = kept;
         Ok(Shelf {
             disk,
@@ -182,6 +185,7 @@ impl<D: Disk> Shelf<D> {
             cache,
             raid,
             next_number,
+            body,
         })
     }
 }

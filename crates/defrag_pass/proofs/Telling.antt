@@ -130,7 +130,7 @@ no_damage_told Told view block found shelf put.Fault = tt
 -- ---- what is left
 
 pub same_room : {D : Type 0} (x y : ShelfView D) → y ≡ x → SameButRoom x y
-same_room x y is = subst (SameButRoom x) (sym is) (record { rest = refl; size = refl; copies = λ block. refl; holds = refl })
+same_room x y is = subst (SameButRoom x) (sym is) (record { rest = refl; holds = refl })
 
 pub left_asked : {D : Type 0} (view : D → DiskView) (shelf : ShelfView D) (refusal : PutRefusal) → (refusal ≢ put.Memory) × (refusal ≢ put.Fault)
     → IsShelfLeft view shelf shelf (refusal_to_append refusal)

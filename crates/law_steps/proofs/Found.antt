@@ -9,8 +9,7 @@ use Rattle.model_device.specs.Book.{Setup, live_of, live_of_entry}
 use Rattle.model_device.specs.Device.{State, part_of}
 use Rattle.disk_model.specs.Disk.{DiskView}
 use Rattle.law_trail.proofs.Books.{live_there}
-use Rattle.unit_ledger.specs.declared.roll.LiveCopy.{LiveCopy}
-use Rattle.unit_ledger.specs.Rolls.{copies_in}
+use Rattle.block_shelf.specs.Lives.{LiveCopy, copies_in}
 use Rattle.sprig_tree.specs.Entries.{IsInDigestOrder, entry_of}
 use Rattle.sprig_tree.specs.State.{SprigState}
 use Rattle.law_sprig.specs.Fits.{HasMarks}
@@ -19,7 +18,7 @@ use Rattle.law_sprig.proofs.Alike.{Says}
 use Rattle.block_shelf.specs.View.{ShelfView, IsShelf}
 use Rattle.block_shelf.specs.Standing.{IsOfEntry}
 use Rattle.block_shelf.specs.Calls.{IsPriorIn, copy_live, prior_live}
-use Rattle.block_shelf.proofs.Rolls.{copy_found}
+use Rattle.block_shelf.proofs.Lives.{copy_found}
 use Rattle.std.specs.List.{AllByRecursion}
 use Rattle.law_steps.specs.Sprigs.{SameSprig, place_of}
 use Rattle.law_steps.specs.Standing.{SprigStands, StandTogether}
@@ -79,5 +78,5 @@ module _ {D : Type 0} (setup : Setup) (digest : Digest) (sprig : SprigState) (sh
       by (Some e) is =
           let copy : LiveCopy = record { digest = e.digest; unit = e.unit; units = e.units } in
           let there = stand.shelf_stands.stands.lives.known e.block copy (live_there digest s.book.live (live_of_entry e) (live_found e is)) in
-          let at = copy_found (copies_in e.block shelf.rolls) copy (whole.each e.block).own there in
+          let at = copy_found (copies_in e.block shelf.lives) copy (whole.each e.block).own there in
           ((lies_found e is).lies.block, subst (λ (o : Option LiveCopy). IsSomeAnd o (λ c. c.units ≡ e.units)) (sym at) refl)

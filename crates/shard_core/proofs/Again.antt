@@ -118,7 +118,7 @@ module _ {D : Type 0} (view : D → DiskView) (shard : ShardView D) (s new : Sta
     free = ap (λ (b : Book). b.free) r.book ∙ stands.free;
     next = ap (λ (b : Book). b.next_number) r.book ∙ stands.next;
     holds = subst (HoldsSame shard.shelf.holds.holds) (sym r.book) stands.holds;
-    lives = subst (LivesSame shard.shelf.rolls) (sym r.book) stands.lives;
+    lives = subst (LivesSame shard.shelf.lives) (sym r.book) stands.lives;
     listed = subst (IsListed setup) (sym r.book) stands.listed;
     order = book_in_order (subst (IsInOrder setup new) no_records restart_is_kept.order);
     entries = λ l there. entry_lies l (stands.entries l (subst (λ (b : Book). Contains b.live l) r.book there));

@@ -17,14 +17,13 @@ use Rattle.model_device.specs.Book.{Setup, Book, Live, has_buffer, use_of, may_b
 use Rattle.model_device.specs.Device.{State, Log, entry, history_of, digests_of}
 use Rattle.model_device.specs.Legal.{queue_front, is_in_block}
 use Rattle.disk_model.specs.Disk.{DiskView}
-use Rattle.unit_ledger.specs.declared.roll.LiveCopy.{LiveCopy}
-use Rattle.unit_ledger.specs.Rolls.{copies_in}
-use Rattle.unit_ledger.specs.Order.{into_order, by_unit}
+use Rattle.block_shelf.specs.Lives.{LiveCopy, copies_in}
+use Rattle.block_shelf.specs.Order.{into_order, by_unit}
 use Rattle.block_shelf.specs.declared.vacate.Vacancy.{Vacancy}
 use Rattle.block_shelf.specs.View.{IsShelf}
 use Rattle.block_shelf.specs.Vacating.{IsNextOf, VacatesFrom}
-use Rattle.block_shelf.proofs.QueueSteps.{rolled_is_use}
-use Rattle.block_shelf.proofs.StartRolls.{capacity_most}
+use Rattle.block_shelf.proofs.QueueSteps.{use_in_is}
+use Rattle.block_shelf.proofs.StartLives.{capacity_most}
 use Rattle.shard_core.specs.View.{ShardView, setup_of}
 use Rattle.shard_core.specs.Stands.{Agrees, IsWhole}
 use Rattle.shard_core.specs.Vacating.{LiesAmong}
@@ -117,8 +116,8 @@ module _ {D : Type 0} (view : D → DiskView) (shard : ShardView D) (s : State) 
 
     pub told_few : IsWhole shard → IsShelf view shard.shelf → IsNextOf shard.shelf (Some v) → length v.digests.items < 2 ^ 16
     told_few whole is next =
-        let copies : List LiveCopy = copies_in v.block shard.shelf.rolls in
+        let copies : List LiveCopy = copies_in v.block shard.shelf.lives in
         let count : length v.digests.items ≡ length copies = ap length next.told ∙ length-map (by_unit copies) (λ (c : LiveCopy). c.digest) ∙ as_many copies in
-        let used = rolled_is_use shard.shelf.rolls s.book v.block agrees.shelf.stands.lives (is.each v.block) agrees.shelf.stands.listed.own in
+        let used = use_in_is shard.shelf.lives s.book v.block agrees.shelf.stands.lives (is.each v.block) agrees.shelf.stands.listed.own in
         let few = low_few (use_of s.book v.block) shard.set.lwm (setup_of shard).capacity queued.low whole.settings.lwm (capacity_most shard.shelf.geometry is.geometry) in
         omega (arith, count, each_takes copies (is.each v.block).takes, used, few)

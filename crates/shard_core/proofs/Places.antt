@@ -19,8 +19,7 @@ use Rattle.rec_format.proofs.Laws.{same_digest_is, same_digest_refl}
 use Rattle.model_device.specs.Book.{Live, live_of, live_of_entry}
 use Rattle.model_device.specs.Device.{State, entry, part_of, digests_of}
 use Rattle.disk_model.specs.Disk.{DiskView}
-use Rattle.unit_ledger.specs.declared.roll.LiveCopy.{LiveCopy}
-use Rattle.unit_ledger.specs.Rolls.{copies_in}
+use Rattle.block_shelf.specs.Lives.{LiveCopy, copies_in}
 use Rattle.sprig_tree.specs.State.{SprigState}
 use Rattle.sprig_tree.specs.Entries.{entry_of}
 use Rattle.law_sprig.proofs.Alike.{Says}
@@ -29,8 +28,8 @@ use Rattle.law_sprig.proofs.Ordered.{AreInOrder, IsBelowAll}
 use Rattle.law_sprig.proofs.Showing.{logged_order}
 use Rattle.block_shelf.specs.View.{IsShelf, AreApart}
 use Rattle.block_shelf.proofs.Blocks.{few}
-use Rattle.block_shelf.proofs.Rolls.{same_unit}
-use Rattle.block_shelf.proofs.StartRolls.{capacity_most}
+use Rattle.block_shelf.proofs.Lives.{same_unit}
+use Rattle.block_shelf.proofs.StartLives.{capacity_most}
 use Rattle.shard_core.specs.Stands.{Agrees, IsWhole}
 use Rattle.shard_core.specs.View.{ShardView, setup_of}
 
@@ -101,8 +100,8 @@ module _ {D : Type 0} (view : D → DiskView) (shard : ShardView D) (s : State) 
       let a : LiveCopy = record { digest = one.live.digest; unit = one.live.unit; units = one.live.units } in
       let b : LiveCopy = record { digest = two.live.digest; unit = two.live.unit; units = two.live.units } in
       let lives = agrees.shelf.stands.lives in
-      let copies = same_unit (copies_in one.live.block shard.shelf.rolls) (is.each one.live.block).own a b
-      (lives.known one.live.block a l.among) (subst (λ (k : ℕ). Contains (copies_in k shard.shelf.rolls) b) (sym block) (lives.known two.live.block b m.among)) unit in
+      let copies = same_unit (copies_in one.live.block shard.shelf.lives) (is.each one.live.block).own a b
+      (lives.known one.live.block a l.among) (subst (λ (k : ℕ). Contains (copies_in k shard.shelf.lives) b) (sym block) (lives.known two.live.block b m.among)) unit in
       let same_one : d ≡ e = l.own ∙ ap (λ (c : LiveCopy). c.digest) copies ∙ sym m.own in
       never_below e (subst (λ (x : Digest). digest_cmp x e ≡ Less) same_one less)
 

@@ -25,13 +25,18 @@ use Rattle.block_shelf.specs.Scans.{Scans, IsSound, possible_copies}
 use Rattle.law_steps.specs.Standing.{ShelfStands}
 use Rattle.law_steps.proofs.Making.{event_of}
 use Rattle.shard_raid.specs.declared.scan.RaidRefusal.{RaidRefusal}
-use Rattle.shard_raid.specs.Scans.{ScanMakes, IsDamageOf, IsToldOf, refusal_to_scan, cause_of, scan_answer}
+use Rattle.shard_raid.specs.Scans.{ScanMakes, IsDamageOf, IsRefusalOf, IsToldOf, refusal_to_scan, cause_of, scan_answer}
 
 -- damage is told of what the shelf told it of
 pub damage_told : (g : Geometry) (bytes : List ℕ) (block : ℕ) (refusal : VacateRefusal) → shelf.IsDamageOf g bytes block refusal → IsDamageOf g bytes block (refusal_to_scan refusal)
 damage_told g bytes block (vacate.Damaged other place) damage = damage
 damage_told g bytes block vacate.Memory damage = tt
 damage_told g bytes block vacate.Fault damage = tt
+
+pub refusal_told : (g : Geometry) (bytes : List ℕ) (block : ℕ) (refusal : VacateRefusal) → shelf.IsRefusalOf g bytes block refusal → IsRefusalOf g bytes block (refusal_to_scan refusal)
+refusal_told g bytes block (vacate.Damaged other place) is = is
+refusal_told g bytes block vacate.Memory is = is
+refusal_told g bytes block vacate.Fault is = tt
 
 pub told_of : {D : Type 0} (old : ShelfView D) (block : ℕ) (refusal : VacateRefusal) → shelf.IsToldOf old block refusal → IsToldOf old block (refusal_to_scan refusal)
 told_of old block (vacate.Damaged other place) told = told

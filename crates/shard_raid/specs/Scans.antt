@@ -57,6 +57,13 @@ IsDamageOf g bytes block (Damaged other place) = shelf.IsDamageOf g bytes block 
 IsDamageOf g bytes block Memory = Unit {0}
 IsDamageOf g bytes block Fault = Unit {0}
 
+-- the same, and memory is wanting only where these bytes are a body of the block
+abbrev pub IsRefusalOf : Geometry → List ℕ → (block : ℕ) → RaidRefusal → Type 0
+IsRefusalOf g bytes block (Stale number next) = Unit {0}
+IsRefusalOf g bytes block (Damaged other place) = shelf.IsRefusalOf g bytes block (vacate.Damaged other place)
+IsRefusalOf g bytes block Memory = shelf.IsRefusalOf g bytes block vacate.Memory
+IsRefusalOf g bytes block Fault = Unit {0}
+
 -- From a state for which the shelf stood, the scan of a block makes one event. Over an honest disk whose image was sound that event finds
 -- each copy in the block that is older than a marked entry: one that waits, and one that a crash may leave. It finds nothing but copies that wait
 -- there or that a crash may leave.

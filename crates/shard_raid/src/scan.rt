@@ -1,5 +1,5 @@
 // How a raid scans a block.
-ghost use Rattle.std.specs.Prelude.{◌≡◌, ℕ, Err, IfOk, IfErr, OnOk, OnErr};
+ghost use Rattle.std.specs.Prelude.{◌≡◌, ℕ, Err, IfOk, IfErr, OnOk, OnErr, MatchResult};
 ghost use Rattle.model_faults.specs.Counts.{Rose};
 ghost use Rattle.disk_model.specs.Disk.{IsHonest};
 ghost use Rattle.model_device.specs.Book.{Setup};
@@ -12,7 +12,7 @@ ghost use Rattle.block_shelf.specs.View.{AreSure, IsSetupOf};
 ghost use Rattle.block_shelf.specs.Standing.{ImagesHold};
 ghost use Rattle.block_shelf.specs.Scans.{FindsBody, NeedsRead, possible_copies};
 ghost use Rattle.law_steps.specs.Standing.{ShelfStands};
-ghost use Rattle.shard_raid.specs.Scans.{ScanMakes, IsOfTurn, IsDamageOf, IsToldOf, refusal_to_scan};
+ghost use Rattle.shard_raid.specs.Scans.{ScanMakes, IsOfTurn, IsDamageOf, IsRefusalOf, IsToldOf, refusal_to_scan};
 
 use block_shelf::{Shelf, VacateRefusal};
 use disk_model::Disk;
@@ -49,10 +49,11 @@ pub fn raid_scan<D: Disk>(alloc: Global, shelf: &mut Shelf<D>) -> Result<u32, Ra
     ensures alike { (setup : Setup) (s : State) → AreSure shelf.old.gates → IsHonest (D.view shelf.old.disk) → ShelfStands setup shelf.old s → ImagesHold setup D.view shelf.old s
         → SamePossible (possible_copies D.view shelf.old s) (possible_copies D.view shelf.new s) }
 
-    // Where the disk is read, a disk that tells its bytes has a body of the block, whose records are found, or the damage that is told.
-    // Over every disk damage is told of no other block.
+    // Where the disk is read, a disk that tells its bytes has a body of the block, whose records are found, or the damage that is told:
+    // memory is wanting only where a body of the block stands there. Over every disk damage is told of no other block.
     ensures there { (D.view shelf.old.disk).tells → (block : ℕ) → shelf.old.raid.next ≡ RaidNext.Scan block → NeedsRead shelf.old block
-        → OnOk result (FindsBody shelf.old.geometry shelf.old.limits.sprigs (body_bytes shelf.old.geometry block (D.view shelf.old.disk).seen) block shelf.new.raid) }
+        → MatchResult result (λ scanned. FindsBody shelf.old.geometry shelf.old.limits.sprigs (body_bytes shelf.old.geometry block (D.view shelf.old.disk).seen) block shelf.new.raid)
+        (IsRefusalOf shelf.old.geometry (body_bytes shelf.old.geometry block (D.view shelf.old.disk).seen) block) }
     ensures told { (block : ℕ) → shelf.old.raid.next ≡ RaidNext.Scan block → IfErr result (IsToldOf shelf.old block) }
     ensures damaged { (D.view shelf.old.disk).tells → (block : ℕ) → shelf.old.raid.next ≡ RaidNext.Scan block
         → IfErr result (IsDamageOf shelf.old.geometry (body_bytes shelf.old.geometry block (D.view shelf.old.disk).seen) block) }

@@ -1,6 +1,10 @@
-use Rattle.std.proofs.Common.{◌∙◌, rules}
+use Rattle.std.proofs.Common.{◌∙◌, arith, rules}
+use Rattle.write_buffer.proofs.Sizes.{sized}
 use Rattle.block_shelf.proofs.StartShelf.{free_is}
 use Rattle.block_shelf.proofs.start.kept_of.Goals as goal
+
+pub overflow_sub-geometry : goal.overflow_sub-geometry
+overflow_sub-geometry c = let s = sized c.args.geometry.now.block_size c.requires.geometry.block_size in omega (arith, s.low)
 
 pub returns : goal.returns
 returns c = record {
@@ -12,4 +16,5 @@ returns c = record {
   queue = c.in_ok-queue.ensures.blocks;
   cache = search rules;
   raid = search rules;
+  body = search rules;
 }

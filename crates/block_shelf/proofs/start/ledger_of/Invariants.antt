@@ -1,5 +1,5 @@
 use Rattle.std.proofs.Common.{◌≡◌, ℕ, take, length}
-use Rattle.unit_ledger.specs.Rolls.{copies_in}
+use Rattle.block_shelf.specs.Lives.{copies_in}
 use Rattle.block_shelf.specs.Starting.{copies_at}
 use Rattle.block_shelf.proofs.start.ledger_of.Given as goal
 

@@ -2,7 +2,7 @@ use Rattle.std.proofs.Common.{◌≡◌, true}
 use Rattle.std.specs.Prelude.{filter}
 use Rattle.std.specs.List.{range_with_len}
 use Rattle.rec_format.specs.Versions.{block_capacity}
-use Rattle.unit_ledger.specs.Rolls.{rolled_use}
+use Rattle.block_shelf.specs.Lives.{use_in}
 use Rattle.defrag_queue.specs.Queues.{is_below_mark}
 use Rattle.block_shelf.proofs.start.queue_of.Given as goal
 
@@ -11,5 +11,5 @@ invariant-loop-block l = record {
   blocks : l.queue.blocks ≡ l.geometry.blocks;
   capacity : l.queue.capacity ≡ block_capacity l.geometry.block_size;
   mark : l.queue.lwm ≡ l.lwm;
-  queued : l.queue.queue ≡ filter (λ b. is_below_mark (block_capacity l.geometry.block_size) l.lwm (rolled_use b l.ledger) true) (range_with_len 0 l.block);
+  queued : l.queue.queue ≡ filter (λ b. is_below_mark (block_capacity l.geometry.block_size) l.lwm (use_in b l.ledger) true) (range_with_len 0 l.block);
 }

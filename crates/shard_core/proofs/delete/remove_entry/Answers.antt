@@ -13,7 +13,7 @@ use Rattle.law_trail.proofs.Books.{live_there}
 use Rattle.tomb_rules.specs.Covers.{cover_of}
 use Rattle.sprig_tree.specs.Entries.{entry_of}
 use Rattle.sprig_tree.specs.State.{SprigState}
-use Rattle.unit_ledger.specs.Rolls.{copies_in, copy_at}
+use Rattle.block_shelf.specs.Lives.{copies_in, copy_at}
 use Rattle.law_sprig.proofs.Looking.{cover_is}
 use Rattle.block_shelf.specs.Disks.{IsLater}
 use Rattle.block_shelf.specs.declared.place.Place.{Place}
@@ -55,7 +55,7 @@ drop_live-requires-clause-live g c =
     let stands = c.requires.stand in
     let there = subst (λ (o : Option Entry). IsPriorIn c.args.shelf.now (option_map place_of o)) c.requires.found
     (prior_stands setup c.args.digest.now c.args.sprig.now c.args.shelf.now stands.0 stands.1 g.D.Disk.view c.geometry.ensures.whole) in
-    subst (λ (p : Place). IsSomeAnd (copy_at p.unit (copies_in p.block c.args.shelf.now.rolls)) (λ x. x.units ≡ p.units)) (sym c.place_of_entry-place.ensures) there.1
+    subst (λ (p : Place). IsSomeAnd (copy_at p.unit (copies_in p.block c.args.shelf.now.lives)) (λ x. x.units ≡ p.units)) (sym c.place_of_entry-place.ensures) there.1
 
 -- the state says of the digest whether it is covered as its entry does
 covers : (setup : Setup) (digest : Digest) (sprig : SprigState) (s : State) (e : Entry) {D : Type 0} → (shelf : ShelfView D) → StandTogether setup (part_of setup digest) sprig shelf s

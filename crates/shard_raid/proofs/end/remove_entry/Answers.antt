@@ -2,7 +2,7 @@ use Rattle.std.proofs.Common.{◌≡◌, sym, ap, subst, arith}
 use Rattle.std.specs.Prelude.{IsSomeAnd, Contains}
 use Rattle.block_format.specs.declared.geometry.Geometry.{Geometry}
 use Rattle.sprig_tree.specs.State.{SprigState}
-use Rattle.unit_ledger.specs.Rolls.{copies_in, copy_at}
+use Rattle.block_shelf.specs.Lives.{copies_in, copy_at}
 use Rattle.block_shelf.specs.declared.place.Place.{Place}
 use Rattle.block_shelf.specs.Calls.{copy_live}
 use Rattle.shard_raid.proofs.OneEnd.{is_live, is_placed, lies_below, go_removed}
@@ -18,7 +18,7 @@ pub drop_live-requires-clause-live : goal.drop_live-requires-clause-live
 drop_live-requires-clause-live g c =
     let stand = c.requires.stand in
     let there = is_placed stand.0 stand.2 c.args.sprig.now c.args.shelf.now stand.1 stand.3 c.args.entry.now c.requires.found g.D.Disk.view c.geometry.ensures.whole in
-    subst (λ (p : Place). IsSomeAnd (copy_at p.unit (copies_in p.block c.args.shelf.now.rolls)) (λ x. x.units ≡ p.units)) (sym c.place_of_entry-place.ensures) there.1
+    subst (λ (p : Place). IsSomeAnd (copy_at p.unit (copies_in p.block c.args.shelf.now.lives)) (λ x. x.units ≡ p.units)) (sym c.place_of_entry-place.ensures) there.1
 
 pub returns-clause-goes : goal.returns-clause-goes
 returns-clause-goes g c setup s part stand none =

@@ -2,8 +2,8 @@ use Rattle.std.proofs.Common.{ap, subst, Err, ◌∙◌, sym}
 use Rattle.block_format.specs.Layout.{body_bytes}
 use Rattle.block_shelf.specs.declared.refusals.VacateRefusal.{VacateRefusal}
 use Rattle.shard_raid.specs.declared.scan.RaidRefusal.{RaidRefusal}
-use Rattle.shard_raid.specs.Scans.{ScanMakes, IsDamageOf, IsToldOf}
-use Rattle.shard_raid.proofs.Scanning.{makes_scanned, makes_given_up, damage_told, told_of}
+use Rattle.shard_raid.specs.Scans.{ScanMakes, IsDamageOf, IsRefusalOf, IsToldOf}
+use Rattle.shard_raid.proofs.Scanning.{makes_scanned, makes_given_up, damage_told, refusal_told, told_of}
 use Rattle.shard_raid.proofs.scan.raid_scan.Goals as goal
 
 pub returns-in-Ok-clause-makes : goal.returns-in-Ok-clause-makes
@@ -25,6 +25,12 @@ returns-in-Err-clause-damaged g c tells block at =
 
 pub returns-in-Ok-clause-there : goal.returns-in-Ok-clause-there
 returns-in-Ok-clause-there g c tells block at needs = c.in-Ok.ensures.there tells block at needs
+
+pub returns-in-Err-clause-there : goal.returns-in-Err-clause-there
+returns-in-Err-clause-there g c tells block at needs =
+    let bytes = body_bytes c.args.shelf.now.geometry block (g.D.Disk.view c.args.shelf.now.disk).seen in
+    subst (IsRefusalOf c.args.shelf.now.geometry bytes block) (sym c.scan_refusal.ensures)
+    (refusal_told c.args.shelf.now.geometry bytes block c.in-Err.refusal (c.in-Err.ensures.there tells block at needs))
 
 pub returns-in-Err-clause-told : goal.returns-in-Err-clause-told
 returns-in-Err-clause-told g c block at =

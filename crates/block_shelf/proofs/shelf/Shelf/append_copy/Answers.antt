@@ -82,7 +82,7 @@ put_here-requires-clause-room g c =
       | in-Some+in_ok-reserve_at-in-Some w ↦
           let room : HasRoomAt stream n w.in-Some.at old.buffers =
           told_room c.stream_of.result stream n n w.in-Some.at w.in-Some.at old.buffers c.stream_of.ensures (λ i. n) (λ i. w.in-Some.at) w.in-Some.ensures in
-          let can = can_in_room stream n w.in-Some.at old w.reserve_at.new.self w.reserve_at.ensures.same room (w.in_ok-reserve_at-in-Some.ensures.space room.stands) in
+          let can = can_in_room stream n w.in-Some.at old w.reserve_at.new.self w.reserve_at.ensures.same room in
           subst (λ (k : ℕ). CanTake n k c.match-room_at.self) (sym w.at-is) (subst (CanTake n w.in-Some.at) (sym w.self-is) can)
       | in-None+in_ok-begin-in-None w ↦
           let e = w.in_ok-begin-in-None.ensures in
@@ -93,7 +93,7 @@ put_here-requires-clause-room g c =
           ∙ ap (λ (x : ShelfView g.row.D.Denot). length x.buffers) (sym w.self-is) in
           let small : n ≤ block_capacity old.geometry.block_size =
           subst (λ (m : ℕ). n ≤ m) (c.capacity-capacity.ensures ∙ ap (λ (x : ShelfView g.row.D.Denot). block_capacity x.geometry.block_size) c.self.view_is) c.if-units-capacity.false in
-          can_in_new stream n old begun mid at w.len.result is_begun w.at-is count small e.space
+          can_in_new stream n old begun mid at w.len.result is_begun w.at-is count small
     ]
 
 pub put_here-requires-clause-prior : goal.put_here-requires-clause-prior

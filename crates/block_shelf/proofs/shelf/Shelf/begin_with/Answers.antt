@@ -30,7 +30,7 @@ invariant_of-self-in_default-shut_gate g c =
       buffers = c.self.inside.buffers.items;
       gates =
           c.self.inside.gates.items;
-      rolls = c.self.inside.ledger;
+      lives = c.self.inside.ledger;
       holds = c.self.inside.holds;
       free = c.self.inside.free.items;
       queue = c.self.inside.queue;
@@ -53,6 +53,7 @@ invariant_of-self-in_default-shut_gate g c =
           (c.rotate_left.ensures.items ∙ turned old.free)))
           (unclosed_shelf d.view law.is_disk old disk c.block-block.result is some at e.later e.honest e.was_honest e.images c.shut_gate.new.gates e.stands known),
       subst (λ (n : ℕ). c.self.inside.geometry.blocks ≤ n) (sym c.rotate_left.ensures.capacity) c.self.invariant.1,
+      c.self.invariant.2,
     )
 
 pub returns-in_default : goal.returns-in_default
@@ -64,7 +65,7 @@ returns-in_default g c =
       limits = c.self.inside.limits;
       buffers = bs;
       gates = c.self.inside.gates.items;
-      rolls = c.self.inside.ledger;
+      lives = c.self.inside.ledger;
       holds = c.self.inside.holds;
       free = c.self.inside.free.items;
       queue = c.self.inside.queue;
@@ -86,7 +87,7 @@ returns-in_default-shut_gate g c =
       buffers = c.self.inside.buffers.items;
       gates =
           c.self.inside.gates.items;
-      rolls = c.self.inside.ledger;
+      lives = c.self.inside.ledger;
       holds = c.self.inside.holds;
       free = c.self.inside.free.items;
       queue = c.self.inside.queue;
@@ -130,7 +131,7 @@ invariant_of-self-2 g c =
       buffers = c.self.inside.buffers.items;
       gates =
           c.self.inside.gates.items;
-      rolls = c.self.inside.ledger;
+      lives = c.self.inside.ledger;
       holds = c.self.inside.holds;
       free = c.self.inside.free.items;
       queue = c.self.inside.queue;
@@ -166,6 +167,7 @@ invariant_of-self-2 g c =
           (shut_shelf d.view law.is_disk old disk c.block-block.result is some at e.later e.honest e.was_honest e.images c.shut_gate.new.gates e.stands known)
           c.args.buffer.stream number some shut),
       subst (λ (n : ℕ). c.self.inside.geometry.blocks ≤ n) (sym c.pop_front.ensures.capacity) c.self.invariant.1,
+      c.self.invariant.2,
     )
 
 pub returns : goal.returns
@@ -179,7 +181,7 @@ returns g c =
       buffers = c.self.inside.buffers.items;
       gates =
           c.self.inside.gates.items;
-      rolls = c.self.inside.ledger;
+      lives = c.self.inside.ledger;
       holds = c.self.inside.holds;
       free = c.self.inside.free.items;
       queue = c.self.inside.queue;

@@ -28,7 +28,7 @@ invariant_of-self g c =
       buffers = c.self.inside.buffers.items;
       gates =
           c.self.inside.gates.items;
-      rolls = c.self.inside.ledger;
+      lives = c.self.inside.ledger;
       holds = c.self.inside.holds;
       free = c.self.inside.free.items;
       queue = c.self.inside.queue;
@@ -48,6 +48,7 @@ invariant_of-self g c =
       subst (λ (l : List Gate). IsShelf d.view (record old { disk = disk; gates = l })) (sym gates)
           (closed_shelf d.view law.is_disk old disk c.args.block is lt unbuffered e.later e.honest e.was_honest e.images c.shut_gate.new.gates e.stands Unsure known),
       c.self.invariant.1,
+      c.self.invariant.2,
     )
 
 pub returns-in_default : goal.returns-in_default
@@ -61,7 +62,7 @@ returns-in_default g c =
       buffers = c.self.inside.buffers.items;
       gates =
           c.self.inside.gates.items;
-      rolls = c.self.inside.ledger;
+      lives = c.self.inside.ledger;
       holds = c.self.inside.holds;
       free = c.self.inside.free.items;
       queue = c.self.inside.queue;
@@ -99,7 +100,7 @@ invariant_of-self-2 g c =
       buffers = c.self.inside.buffers.items;
       gates =
           c.self.inside.gates.items;
-      rolls = c.self.inside.ledger;
+      lives = c.self.inside.ledger;
       holds = c.self.inside.holds;
       free = c.self.inside.free.items;
       queue = c.self.inside.queue;
@@ -119,6 +120,7 @@ invariant_of-self-2 g c =
       subst (λ (l : List Gate). IsShelf d.view (record old { disk = disk; gates = l })) (sym gates)
           (closed_shelf d.view law.is_disk old disk c.args.block is lt unbuffered e.later e.honest e.was_honest e.images c.shut_gate.new.gates e.stands Shut known),
       c.self.invariant.1,
+      c.self.invariant.2,
     )
 
 pub returns : goal.returns
@@ -132,7 +134,7 @@ returns g c =
       buffers = c.self.inside.buffers.items;
       gates =
           c.self.inside.gates.items;
-      rolls = c.self.inside.ledger;
+      lives = c.self.inside.ledger;
       holds = c.self.inside.holds;
       free = c.self.inside.free.items;
       queue = c.self.inside.queue;

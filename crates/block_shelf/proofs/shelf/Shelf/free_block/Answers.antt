@@ -16,7 +16,7 @@ unwrap-requires g c =
       buffers = c.self.inside.buffers.items;
       gates =
           c.self.inside.gates.items;
-      rolls = c.self.inside.ledger;
+      lives = c.self.inside.ledger;
       holds = c.self.inside.holds;
       free = c.self.inside.free.items;
       queue = c.self.inside.queue;
@@ -40,7 +40,7 @@ invariant_of-self g c =
       buffers = c.self.inside.buffers.items;
       gates =
           c.self.inside.gates.items;
-      rolls = c.self.inside.ledger;
+      lives = c.self.inside.ledger;
       holds = c.self.inside.holds;
       free = c.self.inside.free.items;
       queue = c.self.inside.queue;
@@ -60,7 +60,7 @@ invariant_of-self g c =
             limits = c.self.inside.limits;
             buffers = c.self.inside.buffers.items;
             gates = c.self.inside.gates.items;
-            rolls = c.self.inside.ledger;
+            lives = c.self.inside.ledger;
             holds = c.self.inside.holds;
             free = free;
             queue = c.self.inside.queue;
@@ -71,4 +71,5 @@ invariant_of-self g c =
           })) (sym more)
           (freed_shelf d.view old c.self.invariant.0 c.args.block below unlisted (subst (λ (v : ShelfView g.row.D.Denot). IsUnused v c.args.block) (sym c.self.view_is) c.requires.unused)),
       (let grows = c.push_back-put.ensures.capacity in omega (arith, grows, room)),
+      c.self.invariant.2,
     )

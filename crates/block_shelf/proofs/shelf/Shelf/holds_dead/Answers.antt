@@ -9,5 +9,5 @@ returns-then-used-eq0 g c =
     subst (λ (v : ShelfView g.row.D.Denot). HoldsDead v c.args.number) c.self.view_is (record {
       block = c.in-Some.block;
       held = c.in-Some.ensures.held;
-      dead = none_used _ (c.self.invariant.0.each c.in-Some.block).takes (sym c.used.ensures.value ∙ c.if-used-eq0.true);
+      dead = none_used _ (c.self.invariant.0.each c.in-Some.block).takes (sym c.used.ensures ∙ c.if-used-eq0.true);
     })

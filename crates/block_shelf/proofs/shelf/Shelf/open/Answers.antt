@@ -35,7 +35,7 @@ invariant_of-self g c =
       buffers = c.self.inside.buffers.items;
       gates =
           c.self.inside.gates.items;
-      rolls = c.self.inside.ledger;
+      lives = c.self.inside.ledger;
       holds = c.self.inside.holds;
       free = c.self.inside.free.items;
       queue = c.self.inside.queue;
@@ -64,6 +64,7 @@ invariant_of-self g c =
           (tried_gate_shelf d.view old new first.front b first.behind first.parts c.self.invariant.0 call first.has is_body c.block-block.result c.block-block.ensures
           c.open_gate.ensures.images),
       c.self.invariant.1,
+      c.self.invariant.2,
     )
 
 pub returns-in_err-open_gate-clause-goes : goal.returns-in_err-open_gate-clause-goes
@@ -77,7 +78,7 @@ returns-in_err-open_gate-clause-goes g c =
       buffers = c.self.inside.buffers.items;
       gates =
           c.self.inside.gates.items;
-      rolls = c.self.inside.ledger;
+      lives = c.self.inside.ledger;
       holds = c.self.inside.holds;
       free = c.self.inside.free.items;
       queue = c.self.inside.queue;
@@ -123,7 +124,7 @@ returns-in_err-open_gate-clause-changed g c first =
       buffers = c.self.inside.buffers.items;
       gates =
           c.self.inside.gates.items;
-      rolls = c.self.inside.ledger;
+      lives = c.self.inside.ledger;
       holds = c.self.inside.holds;
       free = c.self.inside.free.items;
       queue = c.self.inside.queue;
@@ -155,7 +156,7 @@ invariant_of-self-2 g c =
       buffers = c.self.inside.buffers.items;
       gates =
           c.self.inside.gates.items;
-      rolls = c.self.inside.ledger;
+      lives = c.self.inside.ledger;
       holds = c.self.inside.holds;
       free = c.self.inside.free.items;
       queue = c.self.inside.queue;
@@ -184,6 +185,7 @@ invariant_of-self-2 g c =
           (sym to) (done_gate_shelf d.view old new first.front b first.behind first.parts c.self.invariant.0 call first.has is_body c.block-block.result c.block-block.ensures
           c.open_gate.ensures.images (λ honest. c.in_ok-open_gate.ensures.opened (call.was_honest honest).told)),
       c.self.invariant.1,
+      c.self.invariant.2,
     )
 
 pub returns-clause-goes : goal.returns-clause-goes
@@ -197,7 +199,7 @@ returns-clause-goes g c =
       buffers = c.self.inside.buffers.items;
       gates =
           c.self.inside.gates.items;
-      rolls = c.self.inside.ledger;
+      lives = c.self.inside.ledger;
       holds = c.self.inside.holds;
       free = c.self.inside.free.items;
       queue = c.self.inside.queue;
@@ -246,7 +248,7 @@ returns-clause-changed g c =
       buffers = c.self.inside.buffers.items;
       gates =
           c.self.inside.gates.items;
-      rolls = c.self.inside.ledger;
+      lives = c.self.inside.ledger;
       holds = c.self.inside.holds;
       free = c.self.inside.free.items;
       queue = c.self.inside.queue;
@@ -314,7 +316,7 @@ open_gate-requires-clause-block g c =
       buffers = c.self.inside.buffers.items;
       gates =
           c.self.inside.gates.items;
-      rolls = c.self.inside.ledger;
+      lives = c.self.inside.ledger;
       holds = c.self.inside.holds;
       free = c.self.inside.free.items;
       queue = c.self.inside.queue;
@@ -340,7 +342,7 @@ index_mut-requires g c =
       buffers = c.self.inside.buffers.items;
       gates =
           c.self.inside.gates.items;
-      rolls = c.self.inside.ledger;
+      lives = c.self.inside.ledger;
       holds = c.self.inside.holds;
       free = c.self.inside.free.items;
       queue = c.self.inside.queue;
@@ -366,7 +368,7 @@ open_gate-requires-clause-settled g c honest image left =
       buffers = c.self.inside.buffers.items;
       gates =
           c.self.inside.gates.items;
-      rolls = c.self.inside.ledger;
+      lives = c.self.inside.ledger;
       holds = c.self.inside.holds;
       free = c.self.inside.free.items;
       queue = c.self.inside.queue;

@@ -1,42 +1,21 @@
-use Rattle.std.proofs.Common.{◌≡◌, ◌≢◌, ⊎_elim, ℕ, ◌+◌, ◌<◌, ◌≤◌, List, length, refl, sym, ◌∙◌, ap, subst, arith}
+use Rattle.std.proofs.Common.{◌≡◌, ℕ, ◌<◌, List, refl, sym, ◌∙◌, ap, subst}
 use Rattle.std.specs.Prelude.{Option}
-use Rattle.std.proofs.lemmas.Bool.{cases_eq}
-use Rattle.std.proofs.lemmas.List.{get_or-set_same, get_or-set_other}
 use Rattle.block_format.specs.declared.geometry.Geometry.{Geometry}
 use Rattle.write_buffer.specs.Buffers.{BufferState}
-use Rattle.unit_ledger.specs.Rolls.{BlockRoll, copies_in, empty_roll, spare_of}
+use Rattle.block_shelf.specs.Lives.{LiveCopy, copies_in}
 use Rattle.hold_book.specs.Holds.{with_pair}
 use Rattle.block_shelf.specs.declared.place.Place.{Place}
-use Rattle.block_shelf.specs.View.{ShelfView, IsShelf, IsRoll}
+use Rattle.block_shelf.specs.View.{ShelfView, IsShelf, IsLiveList}
 use Rattle.block_shelf.specs.Calls.{IsPriorIn}
-use Rattle.block_shelf.specs.Changes.{CanTake, StandsAt, rolls_without, with_requeued, with_written, without_copy}
+use Rattle.block_shelf.specs.Changes.{CanTake, StandsAt, with_requeued, with_written, without_copy}
 use Rattle.block_shelf.specs.Appends.{IsPlaceFor, PutsCopy}
 use Rattle.block_shelf.proofs.OneRecord.{read_at}
 use Rattle.block_shelf.proofs.shelf.Shelf.put_here.Goals as goal
 
--- a copy that goes leaves no less room
-room_left : (block unit : ℕ) (rolls : List BlockRoll) (k : ℕ) → block < length rolls → spare_of k rolls ≤ spare_of k (rolls_without block unit rolls)
-room_left block unit rolls k lt =
-    ⊎_elim (λ (e : k ≡ block).
-    let now : spare_of k (rolls_without block unit rolls) ≡ spare_of block rolls + 1 = ap (λ (j : ℕ). spare_of j (rolls_without block unit rolls)) e
-    ∙ ap (λ (r : BlockRoll). r.spare) (get_or-set_same rolls block _ empty_roll lt) in
-    let was : spare_of k rolls ≡ spare_of block rolls = ap (λ (j : ℕ). spare_of j rolls) e in omega (arith, now, was))
-    (λ (other : k ≢ block). let same : spare_of k (rolls_without block unit rolls) ≡ spare_of k rolls =
-    ap (λ (r : BlockRoll). r.spare) (get_or-set_other rolls block k _ empty_roll other) in omega (arith, same)) (cases_eq k block)
-
 pub write-place-requires-clause-room : goal.write-place-requires-clause-room
 write-place-requires-clause-room g c =
-    let p : Place = c.in-Some.before in
-    let old = c.args.self.now in
     let can = c.requires.room in
-    let there = subst (IsPriorIn old) c.in-Some.is c.requires.prior in
-    let lt : p.block < length old.rolls = subst (λ (n : ℕ). p.block < n)
-    (sym (ap (λ (x : ShelfView g.row.D.Denot). length x.rolls) (sym c.self.view_is) ∙ c.self.invariant.0.rolls ∙ ap (λ (x : ShelfView g.row.D.Denot). x.geometry.blocks) c.self.view_is))
-    there.0 in
-    let spare = can.space in
-    let more = room_left p.block p.unit old.rolls can.stands.buffer.block lt in
-    subst (CanTake {D = g.row.D.Denot} c.args.units c.args.at) (sym c.replace.ensures.taken)
-    (record { stands = can.stands; fills = can.fills; room = can.room; space = omega (arith, spare, more) })
+    subst (CanTake {D = g.row.D.Denot} c.args.units c.args.at) (sym c.replace.ensures.taken) (record { stands = can.stands; fills = can.fills; room = can.room })
 
 -- the same place in the list behind a replacement
 abbrev stands_still : {D : Type 0} (old new : ShelfView D) (p : Place) (at : ℕ) → new ≡ record (without_copy p old) { holds = new.holds } → StandsAt at old.buffers → StandsAt at new.buffers
@@ -53,11 +32,11 @@ requeue-requires g c =
 
 -- what the parts leave of the shelf
 all_is : {D : Type 0} (old replaced written new : ShelfView D) (p : Place) → replaced ≡ record (without_copy p old) { holds = replaced.holds } → (w : ShelfView D)
-    → written ≡ record replaced { buffers = w.buffers; rolls = w.rolls } → new ≡ with_requeued p.block written
-    → new ≡ record old { buffers = w.buffers; rolls = w.rolls; holds = replaced.holds; queue = new.queue }
+    → written ≡ record replaced { buffers = w.buffers; lives = w.lives } → new ≡ with_requeued p.block written
+    → new ≡ record old { buffers = w.buffers; lives = w.lives; holds = replaced.holds; queue = new.queue }
 all_is {D} old replaced written new p taken w was requeued =
-    requeued ∙ ap (λ (x : ShelfView D). record x { queue = (with_requeued p.block written).queue }) (was ∙ ap (λ (x : ShelfView D). record x { buffers = w.buffers; rolls = w.rolls }) taken)
-    ∙ ap (λ (x : ShelfView D). record old { buffers = w.buffers; rolls = w.rolls; holds = replaced.holds; queue = x.queue }) (sym requeued)
+    requeued ∙ ap (λ (x : ShelfView D). record x { queue = (with_requeued p.block written).queue }) (was ∙ ap (λ (x : ShelfView D). record x { buffers = w.buffers; lives = w.lives }) taken)
+    ∙ ap (λ (x : ShelfView D). record old { buffers = w.buffers; lives = w.lives; holds = replaced.holds; queue = x.queue }) (sym requeued)
 
 pub returns-in-Some : goal.returns-in-Some
 returns-in-Some g c =
@@ -69,7 +48,7 @@ returns-in-Some g c =
     let at_rest = stands_still old c.replace.new.self p c.args.at c.replace.ensures.taken c.requires.room.stands in
     let all = all_is old c.replace.new.self c.write-place.new.self c.requeue.new.self p c.replace.ensures.taken
     (with_written digest v at_rest.front at_rest.buffer at_rest.behind c.replace.new.self) (c.write-place.ensures.written at_rest).0 c.requeue.ensures in
-    let rolls : c.requeue.new.self.rolls ≡ c.write-place.new.self.rolls = ap (λ (x : ShelfView g.row.D.Denot). x.rolls) c.requeue.ensures in
+    let lives : c.requeue.new.self.lives ≡ c.write-place.new.self.lives = ap (λ (x : ShelfView g.row.D.Denot). x.lives) c.requeue.ensures in
     record {
       put = λ s.
           let parts = ap (λ (x : ShelfView g.row.D.Denot). x.buffers) c.self.view_is ∙ s.parts in
@@ -92,7 +71,7 @@ returns-in-Some g c =
             ap (λ (x : ShelfView g.row.D.Denot). x.raid) all;
       };
       whole = subst (IsShelf g.D.Disk.view) c.self.view_is c.self.invariant.0;
-      each = λ block. subst (λ (l : List BlockRoll). IsRoll (copies_in block l)) (sym rolls) (c.write-place.ensures.each block);
+      each = λ block. subst (λ (l : List (List LiveCopy)). IsLiveList (copies_in block l)) (sym lives) (c.write-place.ensures.each block);
     }
 
 pub returns-in-None : goal.returns-in-None

@@ -10,8 +10,8 @@ use Rattle.block_format.specs.Layout.{IsBody}
 use Rattle.write_buffer.specs.Buffers.{BufferState, bytes_of, body_in}
 use Rattle.write_buffer.proofs.Sizes.{sized, body_size}
 use Rattle.block_shelf.specs.View.{gate_at}
-use Rattle.block_shelf.specs.Scans.{ReadsIn, ReadsBody, IsDamageOf, IsSound}
-use Rattle.block_shelf.proofs.ScanBlocks.{no_damage, buffer_found}
+use Rattle.block_shelf.specs.Scans.{ReadsIn, ReadsBody, IsRefusalOf, IsSound}
+use Rattle.block_shelf.proofs.ScanBlocks.{no_damage, refusal_damage, buffer_found}
 use Rattle.block_shelf.proofs.Scanning.{reads_memory, reads_unclosed, reads_shut, reads_disk}
 use Rattle.block_shelf.proofs.shelf.Shelf.records_in.Goals as goal
 
@@ -33,14 +33,16 @@ returns-in-Some g c =
     (subst (λ (n : ℕ). IsBody n c.body.result.now (body_in b)) c.in-Some.ensures.capacity.0 c.body.ensures.body) in
     reads_memory g.D.Disk.view g.met.D.Disk.is_disk c.args.block shelf _ c.found_in.result c.found_in.ensures.quiet
     (λ setup s honest stands safe. MatchResult-weaker c.found_in.result
-    (subst (λ (t : List ℕ). MatchResult c.found_in.result (λ found. ReadsBody shelf.geometry t c.args.block found.items) (IsDamageOf shelf.geometry t c.args.block)) c.body.ensures.bytes
+    (subst (λ (t : List ℕ). MatchResult c.found_in.result (λ found. ReadsBody shelf.geometry t c.args.block found.items) (IsRefusalOf shelf.geometry t c.args.block)) c.body.ensures.bytes
     (c.found_in.ensures.read shelf.geometry long))
     (λ found reads. buffer_found g.D.Disk.view setup shelf s is stands honest safe c.args.block b c.in-Some.ensures.some.0 c.in-Some.ensures.some.1 c.found_in.ensures.one_body
     is_body found.items reads)
-    (λ refusal damage. no_damage shelf.geometry bytes c.args.block refusal (body_in b, is_body, c.in-Some.ensures.some.1) damage))
-    (only_err (λ found. ReadsBody shelf.geometry bytes c.args.block found.items) (IsDamageOf shelf.geometry bytes c.args.block) IsSound c.found_in.result
-    (λ refusal damage. no_damage shelf.geometry bytes c.args.block refusal (body_in b, is_body, c.in-Some.ensures.some.1) damage)
-    (subst (λ (t : List ℕ). MatchResult c.found_in.result (λ found. ReadsBody shelf.geometry t c.args.block found.items) (IsDamageOf shelf.geometry t c.args.block)) c.body.ensures.bytes
+    (λ refusal is_refusal. no_damage shelf.geometry bytes c.args.block refusal (body_in b, is_body, c.in-Some.ensures.some.1)
+    (refusal_damage shelf.geometry bytes c.args.block refusal is_refusal)))
+    (only_err (λ found. ReadsBody shelf.geometry bytes c.args.block found.items) (IsRefusalOf shelf.geometry bytes c.args.block) IsSound c.found_in.result
+    (λ refusal is_refusal. no_damage shelf.geometry bytes c.args.block refusal (body_in b, is_body, c.in-Some.ensures.some.1)
+    (refusal_damage shelf.geometry bytes c.args.block refusal is_refusal))
+    (subst (λ (t : List ℕ). MatchResult c.found_in.result (λ found. ReadsBody shelf.geometry t c.args.block found.items) (IsRefusalOf shelf.geometry t c.args.block)) c.body.ensures.bytes
     (c.found_in.ensures.read shelf.geometry long)))
     b c.in-Some.ensures.some.0 c.in-Some.ensures.some.1
 

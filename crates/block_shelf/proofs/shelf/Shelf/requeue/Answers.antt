@@ -12,7 +12,7 @@ invariant_of-self g c =
       limits = i.limits;
       buffers = i.buffers.items;
       gates = i.gates.items;
-      rolls = i.ledger;
+      lives = i.ledger;
       holds = i.holds;
       free = i.free.items;
       queue = i.queue;
@@ -25,4 +25,5 @@ invariant_of-self g c =
           (subst (IsQueueOf old.geometry old.limits) (sym c.consider.ensures)
           (considered_is old.geometry old.limits old.queue c.args.block c.used-used.result (not c.has_block-flushed.result) lt c.self.invariant.0.queue)),
       c.self.invariant.1,
+      c.self.invariant.2,
     )

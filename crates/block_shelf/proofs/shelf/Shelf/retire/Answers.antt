@@ -25,7 +25,7 @@ use Rattle.block_shelf.proofs.shelf.Shelf.retire.Goals as goal
 
 pub free_let_go-requires-clause-held : goal.free_let_go-requires-clause-held
 free_let_go-requires-clause-held g c =
-    subst (λ (n : ℕ). HoldsBelow n c.self.inside.holds.holds) (sym c.self.invariant.0.rolls) c.self.invariant.0.held
+    subst (λ (n : ℕ). HoldsBelow n c.self.inside.holds.holds) (sym c.self.invariant.0.lives) c.self.invariant.0.held
 
 pub free_let_go-requires-clause-each : goal.free_let_go-requires-clause-each
 free_let_go-requires-clause-each g c =
@@ -33,16 +33,16 @@ free_let_go-requires-clause-each g c =
 
 pub free_let_go-requires-clause-below : goal.free_let_go-requires-clause-below
 free_let_go-requires-clause-below g c =
-    subst (λ (n : ℕ). AllByRecursion (λ b. b < n) c.self.inside.free.items) (sym c.self.invariant.0.rolls) c.self.invariant.0.free
+    subst (λ (n : ℕ). AllByRecursion (λ b. b < n) c.self.inside.free.items) (sym c.self.invariant.0.lives) c.self.invariant.0.free
 
 pub free_let_go-requires-clause-room : goal.free_let_go-requires-clause-room
 free_let_go-requires-clause-room g c =
-    subst (λ (n : ℕ). n ≤ deque_capacity c.self.inside.free) (sym c.self.invariant.0.rolls) c.self.invariant.1
+    subst (λ (n : ℕ). n ≤ deque_capacity c.self.inside.free) (sym c.self.invariant.0.lives) c.self.invariant.1
 
 pub free_let_go-requires-clause-few : goal.free_let_go-requires-clause-few
 free_let_go-requires-clause-few g c =
     let most = c.self.invariant.0.geometry.blocks in
-    omega (arith, most, c.self.invariant.0.rolls)
+    omega (arith, most, c.self.invariant.0.lives)
 
 pub free_let_go-requires-clause-own : goal.free_let_go-requires-clause-own
 free_let_go-requires-clause-own g c =
@@ -53,7 +53,7 @@ free_let_go-requires-clause-own g c =
       buffers = c.self.inside.buffers.items;
       gates =
           c.self.inside.gates.items;
-      rolls = c.self.inside.ledger;
+      lives = c.self.inside.ledger;
       holds = c.self.inside.holds;
       free = c.self.inside.free.items;
       queue = c.self.inside.queue;
@@ -67,7 +67,7 @@ free_let_go-requires-clause-own g c =
     (subst (λ (v : ShelfView g.row.D.Denot). IsFirstWith (λ x. x.phase ≡ GateBegun) c.args.at v.buffers) (sym c.self.view_is) (c.requires.first, c.requires.begun c.requires.first))
     c.remove-buffer.ensures.value in
     let own = all_own (IsBufferOf old.geometry old.next_number) first.front b first.behind (subst (AllByRecursion (IsBufferOf old.geometry old.next_number)) first.parts c.self.invariant.0.buffers) in
-    subst (λ (n : ℕ). c.block-block.result < n) (sym c.self.invariant.0.rolls) (subst (λ (k : ℕ). k < old.geometry.blocks) (sym c.block-block.ensures) own.block)
+    subst (λ (n : ℕ). c.block-block.result < n) (sym c.self.invariant.0.lives) (subst (λ (k : ℕ). k < old.geometry.blocks) (sym c.block-block.ensures) own.block)
 
 pub free_let_go-requires-clause-apart : goal.free_let_go-requires-clause-apart
 free_let_go-requires-clause-apart g c = apart_back _ _ c.self.invariant.0.apart
@@ -82,7 +82,7 @@ free_let_go-requires-clause-others g c =
       buffers = c.self.inside.buffers.items;
       gates =
           c.self.inside.gates.items;
-      rolls = c.self.inside.ledger;
+      lives = c.self.inside.ledger;
       holds = c.self.inside.holds;
       free = c.self.inside.free.items;
       queue = c.self.inside.queue;
@@ -98,11 +98,11 @@ free_let_go-requires-clause-others g c =
     let rest : c.remove-buffer.new.self.items ≡ first.front ++ first.behind = first.left c.remove-buffer.new.self.items c.remove-buffer.ensures.items in
     let seen : c.deref.result.now ≡ first.front ++ first.behind = c.deref.ensures.value ∙ rest in
     let holds : HoldState = record { holds = without_buffer old.holds.holds c.number-number.result; spare = 0 } in
-    subst (λ (bs : List BufferState). (k : ℕ) → k < length old.rolls
-    → IsLetGo c.number-number.result c.block-block.result old.holds.holds (without_buffer old.holds.holds c.number-number.result) bs old.rolls k
+    subst (λ (bs : List BufferState). (k : ℕ) → k < length old.lives
+    → IsLetGo c.number-number.result c.block-block.result old.holds.holds (without_buffer old.holds.holds c.number-number.result) bs old.lives k
     → AllByRecursion (λ f. f ≢ k) old.free) (sym seen)
     (retired_unlisted d.view old first.front b first.behind first.parts c.self.invariant.0 holds c.number-number.result c.block-block.result c.number-number.ensures.number
-    c.block-block.ensures refl (length old.rolls) c.self.invariant.0.rolls)
+    c.block-block.ensures refl (length old.lives) c.self.invariant.0.lives)
 
 pub invariant_of-self : goal.invariant_of-self
 invariant_of-self g c =
@@ -114,7 +114,7 @@ invariant_of-self g c =
       buffers = c.self.inside.buffers.items;
       gates =
           c.self.inside.gates.items;
-      rolls = c.self.inside.ledger;
+      lives = c.self.inside.ledger;
       holds = c.self.inside.holds;
       free = c.self.inside.free.items;
       queue = c.self.inside.queue;
@@ -136,9 +136,10 @@ invariant_of-self g c =
           (record old { buffers = c.remove-buffer.new.self.items; holds = c.release.new.self; free = c.free_let_go.new.free.items; cache = cache })) (sym kept)
           (subst (λ (bs : List BufferState). IsShelf d.view (record old { buffers = bs; holds = c.release.new.self; free = c.free_let_go.new.free.items; cache = with_flushed b old.cache })) (sym rest)
           (retired_shelf d.view old first.front b first.behind first.parts c.self.invariant.0 c.release.new.self c.number-number.result c.block-block.result c.number-number.ensures.number
-          c.block-block.ensures c.release.ensures (length old.rolls) c.self.invariant.0.rolls c.free_let_go.new.free.items each c.free_let_go.ensures.below
+          c.block-block.ensures c.release.ensures (length old.lives) c.self.invariant.0.lives c.free_let_go.new.free.items each c.free_let_go.ensures.below
           c.free_let_go.ensures.apart)),
-      rw c.self.invariant.0.rolls at c.free_let_go.ensures.room,
+      rw c.self.invariant.0.lives at c.free_let_go.ensures.room,
+      c.self.invariant.2,
     )
 
 pub returns-clause-goes : goal.returns-clause-goes
@@ -152,7 +153,7 @@ returns-clause-goes g c =
       buffers = c.self.inside.buffers.items;
       gates =
           c.self.inside.gates.items;
-      rolls = c.self.inside.ledger;
+      lives = c.self.inside.ledger;
       holds = c.self.inside.holds;
       free = c.self.inside.free.items;
       queue = c.self.inside.queue;
@@ -176,14 +177,14 @@ returns-clause-goes g c =
     (c.requires.first, c.requires.opened c.requires.first)) c.remove-buffer.ensures.value).has in
     let is_body : IsBody b.capacity (bytes_of b) (body_in b) = subst (λ (l : List ℕ). IsBody b.capacity l (body_in b)) c.body-body.ensures.bytes c.body-body.ensures.body in
     let goes = retired_goes d.view old first.front b first.behind first.parts c.self.invariant.0 holds c.number-number.result c.block-block.result c.number-number.ensures.number
-    c.block-block.ensures c.release.ensures (length old.rolls) c.self.invariant.0.rolls free each c.free_let_go.ensures.below c.free_let_go.ensures.apart freed (law.is_disk old.disk)
+    c.block-block.ensures c.release.ensures (length old.lives) c.self.invariant.0.lives free each c.free_let_go.ensures.below c.free_let_go.ensures.apart freed (law.is_disk old.disk)
     (ap is_written first.has) gate is_body in
     let kept : c.keep.new.self ≡ with_flushed b old.cache = c.keep.ensures.kept ∙ ap (λ (k : ℕ). record old.cache { kept = with_kept_body old.cache.limit k b old.cache.kept }) c.block-block.ensures in
     let final = c.requeue.ensures ∙ ap (λ (cache : CacheState BufferState). with_requeued c.block-block.result
     (record old { buffers = c.remove-buffer.new.self.items; holds = holds; free = free; cache = cache })) kept
     ∙ ap (λ (bs : List BufferState). with_requeued c.block-block.result (record old { buffers = bs; holds = holds; free = free; cache = with_flushed b old.cache })) rest
     ∙ retired_is d.view old first.front b first.behind first.parts c.self.invariant.0 holds c.number-number.result c.block-block.result c.number-number.ensures.number
-    c.block-block.ensures c.release.ensures (length old.rolls) c.self.invariant.0.rolls free each c.free_let_go.ensures.below c.free_let_go.ensures.apart in
+    c.block-block.ensures c.release.ensures (length old.lives) c.self.invariant.0.lives free each c.free_let_go.ensures.below c.free_let_go.ensures.apart in
     subst (λ (v : ShelfView g.row.D.Denot). (setup : Setup) (s : State) → IsSetupOf setup v → StandsFor setup v s
     → Goes d.view setup (flushed_buffer c.number-number.result ∷ []) v s c.requeue.new.self) c.self.view_is
     (subst (λ (new : ShelfView g.row.D.Denot). (setup : Setup) (s : State) → IsSetupOf setup old → StandsFor setup old s
@@ -204,7 +205,7 @@ returns-clause-left g c =
       buffers = c.self.inside.buffers.items;
       gates =
           c.self.inside.gates.items;
-      rolls = c.self.inside.ledger;
+      lives = c.self.inside.ledger;
       holds = c.self.inside.holds;
       free = c.self.inside.free.items;
       queue = c.self.inside.queue;
@@ -227,7 +228,7 @@ returns-clause-left g c =
     (record old { buffers = c.remove-buffer.new.self.items; holds = holds; free = free; cache = cache })) kept
     ∙ ap (λ (bs : List BufferState). with_requeued c.block-block.result (record old { buffers = bs; holds = holds; free = free; cache = with_flushed b old.cache })) rest
     ∙ retired_is d.view old first.front b first.behind first.parts c.self.invariant.0 holds c.number-number.result c.block-block.result c.number-number.ensures.number
-    c.block-block.ensures c.release.ensures (length old.rolls) c.self.invariant.0.rolls free each c.free_let_go.ensures.below c.free_let_go.ensures.apart in
+    c.block-block.ensures c.release.ensures (length old.lives) c.self.invariant.0.lives free each c.free_let_go.ensures.below c.free_let_go.ensures.apart in
     let unheld = c.release.ensures in
     subst (λ (v : ShelfView g.row.D.Denot). (first : IsFirstAt c.args.at v.buffers) → IsWithoutFirst c.number-number.result first.sealed v c.requeue.new.self) c.self.view_is
     (λ other. without_first c.number-number.result c.args.at old c.requeue.new.self other (first.front ++ first.behind) b holds free

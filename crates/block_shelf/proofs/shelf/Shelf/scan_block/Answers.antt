@@ -49,7 +49,7 @@ invariant_of-self g c =
       buffers = c.self.inside.buffers.items;
       gates =
           c.self.inside.gates.items;
-      rolls = c.self.inside.ledger;
+      lives = c.self.inside.ledger;
       holds = c.self.inside.holds;
       free = c.self.inside.free.items;
       queue = c.self.inside.queue;
@@ -65,6 +65,7 @@ invariant_of-self g c =
             blocks = ap (λ (b : BookState). b.blocks) c.in_default-scanned.ensures.err ∙ was.blocks;
           }),
       c.self.invariant.1,
+      c.self.invariant.2,
     )
 
 pub invariant_of-self-2 : goal.invariant_of-self-2
@@ -76,7 +77,7 @@ invariant_of-self-2 g c =
       buffers = c.self.inside.buffers.items;
       gates =
           c.self.inside.gates.items;
-      rolls = c.self.inside.ledger;
+      lives = c.self.inside.ledger;
       holds = c.self.inside.holds;
       free = c.self.inside.free.items;
       queue = c.self.inside.queue;
@@ -88,6 +89,7 @@ invariant_of-self-2 g c =
       raided_shelf g.D.Disk.view here c.scanned.new.self c.self.invariant.0
           (record { parts = ap (λ (b : BookState). b.parts) c.in-Ok-scanned.ensures.book ∙ was.parts; blocks = ap (λ (b : BookState). b.blocks) c.in-Ok-scanned.ensures.book ∙ was.blocks }),
       c.self.invariant.1,
+      c.self.invariant.2,
     )
 
 pub scanned-requires-clause-below : goal.scanned-requires-clause-below
@@ -111,7 +113,7 @@ returns-in_default-scanned g c =
       buffers = c.self.inside.buffers.items;
       gates =
           c.self.inside.gates.items;
-      rolls = c.self.inside.ledger;
+      lives = c.self.inside.ledger;
       holds = c.self.inside.holds;
       free = c.self.inside.free.items;
       queue = c.self.inside.queue;
@@ -134,7 +136,7 @@ returns g c =
       buffers = c.self.inside.buffers.items;
       gates =
           c.self.inside.gates.items;
-      rolls = c.self.inside.ledger;
+      lives = c.self.inside.ledger;
       holds = c.self.inside.holds;
       free = c.self.inside.free.items;
       queue = c.self.inside.queue;

@@ -7,7 +7,7 @@ use Rattle.block_format.specs.Layout.{body_bytes}
 use Rattle.block_shelf.specs.Disks.{IsLater}
 use Rattle.block_shelf.specs.View.{ShelfView}
 use Rattle.block_shelf.specs.Calls.{Goes}
-use Rattle.block_shelf.specs.Scans.{FindsBody, NeedsRead, IsDamageOf, IsToldOf, possible_copies}
+use Rattle.block_shelf.specs.Scans.{FindsBody, NeedsRead, IsDamageOf, IsRefusalOf, IsToldOf, possible_copies}
 use Rattle.block_shelf.proofs.Going.{goes_then}
 use Rattle.block_shelf.proofs.RaidTurns.{goes_given_up}
 use Rattle.block_shelf.proofs.Unsure.{sure_at, same_possible}
@@ -110,6 +110,12 @@ returns-in-Ok-clause-there g c told block turn =
     let same : block ≡ c.in-Scan.block = grind (arith, turn, c.in-Scan.ensures.value) in
     subst (λ (k : ℕ). NeedsRead old k → FindsBody old.geometry old.limits.sprigs (body_bytes old.geometry k (g.D.Disk.view old.disk).seen) k c.scan_block.new.self.raid) (sym same)
     (c.in-Ok.ensures.there told)
+
+pub returns-in-Err-clause-there : goal.returns-in-Err-clause-there
+returns-in-Err-clause-there g c told block turn =
+    let old = c.args.self.now in
+    let same : block ≡ c.in-Scan.block = grind (arith, turn, c.in-Scan.ensures.value) in
+    subst (λ (k : ℕ). NeedsRead old k → IsRefusalOf old.geometry (body_bytes old.geometry k (g.D.Disk.view old.disk).seen) k c.in-Err.refusal) (sym same) (c.in-Err.ensures.there told)
 
 pub returns-in-Err-clause-damaged : goal.returns-in-Err-clause-damaged
 returns-in-Err-clause-damaged g c told block turn =

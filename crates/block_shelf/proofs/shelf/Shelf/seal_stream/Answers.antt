@@ -27,7 +27,7 @@ invariant_of-self g c =
             limits = c.self.inside.limits;
             buffers = bs;
             gates = c.self.inside.gates.items;
-            rolls =
+            lives =
                 c.self.inside.ledger;
             holds = c.self.inside.holds;
             free = c.self.inside.free.items;
@@ -38,6 +38,7 @@ invariant_of-self g c =
           }))
           (sym same) (sealed_shelf (sealed_in c.args.stream) (seals_in c.args.stream) d.view _ c.self.invariant.0),
       c.self.invariant.1,
+      c.self.invariant.2,
     )
 
 pub returns-clause-is : goal.returns-clause-is
@@ -51,7 +52,7 @@ returns-clause-is g c =
       limits = c.self.inside.limits;
       buffers = bs;
       gates = c.self.inside.gates.items;
-      rolls = c.self.inside.ledger;
+      lives = c.self.inside.ledger;
       holds = c.self.inside.holds;
       free = c.self.inside.free.items;
       queue = c.self.inside.queue;

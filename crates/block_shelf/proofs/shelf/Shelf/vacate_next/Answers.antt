@@ -1,22 +1,37 @@
-use Rattle.std.proofs.Common.{List, sym, ◌∙◌, ap, subst}
-use Rattle.std.specs.Prelude.{Contains}
-use Rattle.rec_format.specs.declared.version.Digest.{Digest}
+use Rattle.std.proofs.Common.{◌≡◌, ℕ, Some, Ok, Option, sym, ◌∙◌, ap}
+use Rattle.law_lists.proofs.Answers.{err_is}
 use Rattle.model_device.specs.Legal.{queue_front}
-use Rattle.unit_ledger.specs.Rolls.{BlockRoll, copies_in}
-use Rattle.unit_ledger.specs.Order.{by_unit, digests_by_unit, AreByUnit}
 use Rattle.block_shelf.specs.View.{ShelfView}
-use Rattle.block_shelf.proofs.Vacating.{live_told, told_live}
+use Rattle.block_shelf.specs.Scans.{IsSound}
+use Rattle.block_shelf.proofs.Scanning.{no_error}
+use Rattle.block_shelf.proofs.Vacating.{next_sound, next_all}
 use Rattle.block_shelf.proofs.shelf.Shelf.vacate_next.Goals as goal
 
-pub returns-clause-chosen : goal.returns-clause-chosen
-returns-clause-chosen g c setup s queued stands =
-    let same = ap (λ (v : ShelfView g.row.D.Denot). v.rolls) c.self.view_is in
-    let ordered = subst (λ (rolls : List BlockRoll). AreByUnit (copies_in c.in-Some.block rolls) (by_unit (copies_in c.in-Some.block rolls))) same c.in-Ok.ensures.order in
-    let digests = c.in-Ok.ensures.value ∙ ap (λ (rolls : List BlockRoll). digests_by_unit (copies_in c.in-Some.block rolls)) same in
-    record {
-      front = ap queue_front (queued.same ∙ sym (ap (λ (v : ShelfView g.row.D.Denot). v.queue.queue) c.self.view_is)) ∙ sym c.in-Some.ensures;
-      told = λ digest. (
-        λ there. told_live setup c.args.self.now s stands c.in-Some.block ordered digest (subst (λ (ds : List Digest). Contains ds digest) digests there),
-        λ live. subst (λ (ds : List Digest). Contains ds digest) (sym digests) (live_told setup c.args.self.now s stands c.in-Some.block ordered digest live),
-      );
-    }
+same_block : (a b : ℕ) → ◌≡◌ {A = Option ℕ} (Some a) (Some b) → a ≡ b
+same_block a b e = cc
+
+pub returns-in_err-list_records-clause-kept : goal.returns-in_err-list_records-clause-kept
+returns-in_err-list_records-clause-kept g c block b front there at =
+    let here = c.in-Some.ensures ∙ ap (λ (v : ShelfView g.row.D.Denot). queue_front v.queue.queue) c.self.view_is in
+    let same = same_block c.in-Some.block block (here ∙ front) in
+    absurd (no_error tt c.in_err-list_records.field-0.0 (sym (c.in_err-list_records.ensures.listed.kept b there (at ∙ sym same)).0))
+
+pub returns-in_err-list_records-clause-sound : goal.returns-in_err-list_records-clause-sound
+returns-in_err-list_records-clause-sound g c setup s honest stands queued safe =
+    let here = c.in-Some.ensures ∙ ap (λ (v : ShelfView g.row.D.Denot). queue_front v.queue.queue) c.self.view_is in
+    let lists = c.in_err-list_records.ensures.listed in
+    err_is c.from_residual.result c.in_err-list_records.field-0.0 IsSound c.from_residual.ensures.1
+    (next_sound g.D.Disk.view setup c.args.self.now s honest stands queued safe lists.whole c.in-Some.block (sym here) c.in_err-list_records.field-0.0 lists.read lists.told)
+
+pub returns-clause-kept : goal.returns-clause-kept
+returns-clause-kept g c block b front there at =
+    let here = c.in-Some.ensures ∙ ap (λ (v : ShelfView g.row.D.Denot). queue_front v.queue.queue) c.self.view_is in
+    let same = same_block c.in-Some.block block (here ∙ front) in
+    let kept = c.list_records.ensures.listed.kept b there (at ∙ sym same) in
+    (ap (λ (k : ℕ). Ok (Some k)) same, kept.1, kept.2)
+
+pub returns-clause-all : goal.returns-clause-all
+returns-clause-all g c setup s honest stands queued safe =
+    let here = c.in-Some.ensures ∙ ap (λ (v : ShelfView g.row.D.Denot). queue_front v.queue.queue) c.self.view_is in
+    next_all g.D.Disk.view setup c.args.self.now s honest stands queued safe c.list_records.ensures.listed.whole c.in-Some.block (sym here) c.list_records.new.self
+    c.list_records.new.digests.items c.in_ok-list_records.ensures.listed

@@ -41,7 +41,7 @@ write_body-requires-clause-shut g c =
       buffers = c.self.inside.buffers.items;
       gates =
           c.self.inside.gates.items;
-      rolls = c.self.inside.ledger;
+      lives = c.self.inside.ledger;
       holds = c.self.inside.holds;
       free = c.self.inside.free.items;
       queue = c.self.inside.queue;
@@ -67,7 +67,7 @@ invariant_of-self g c =
       buffers = c.self.inside.buffers.items;
       gates =
           c.self.inside.gates.items;
-      rolls = c.self.inside.ledger;
+      lives = c.self.inside.ledger;
       holds = c.self.inside.holds;
       free = c.self.inside.free.items;
       queue = c.self.inside.queue;
@@ -93,6 +93,7 @@ invariant_of-self g c =
           (tried_shelf d.view old new first.front b first.behind first.parts c.self.invariant.0 call first.has c.block.result c.block.ensures c.write_body.ensures.images
           c.write_body.ensures.shut),
       c.self.invariant.1,
+      c.self.invariant.2,
     )
 
 pub returns-in_err-write_body-clause-goes : goal.returns-in_err-write_body-clause-goes
@@ -106,7 +107,7 @@ returns-in_err-write_body-clause-goes g c =
       buffers = c.self.inside.buffers.items;
       gates =
           c.self.inside.gates.items;
-      rolls = c.self.inside.ledger;
+      lives = c.self.inside.ledger;
       holds = c.self.inside.holds;
       free = c.self.inside.free.items;
       queue = c.self.inside.queue;
@@ -145,7 +146,7 @@ invariant_of-self-2 g c =
       buffers = c.self.inside.buffers.items;
       gates =
           c.self.inside.gates.items;
-      rolls = c.self.inside.ledger;
+      lives = c.self.inside.ledger;
       holds = c.self.inside.holds;
       free = c.self.inside.free.items;
       queue = c.self.inside.queue;
@@ -176,6 +177,7 @@ invariant_of-self-2 g c =
           (done_shelf d.view old new first.front b first.behind first.parts c.self.invariant.0 call first.has c.block.result c.block.ensures c.write_body.ensures.images
           c.write_body.ensures.shut body),
       c.self.invariant.1,
+      c.self.invariant.2,
     )
 
 pub returns-clause-goes : goal.returns-clause-goes
@@ -189,7 +191,7 @@ returns-clause-goes g c =
       buffers = c.self.inside.buffers.items;
       gates =
           c.self.inside.gates.items;
-      rolls = c.self.inside.ledger;
+      lives = c.self.inside.ledger;
       holds = c.self.inside.holds;
       free = c.self.inside.free.items;
       queue = c.self.inside.queue;
@@ -228,7 +230,7 @@ returns-clause-changed g c =
       buffers = c.self.inside.buffers.items;
       gates =
           c.self.inside.gates.items;
-      rolls = c.self.inside.ledger;
+      lives = c.self.inside.ledger;
       holds = c.self.inside.holds;
       free = c.self.inside.free.items;
       queue = c.self.inside.queue;
@@ -293,7 +295,7 @@ write_body-requires-clause-block g c =
       buffers = c.self.inside.buffers.items;
       gates =
           c.self.inside.gates.items;
-      rolls = c.self.inside.ledger;
+      lives = c.self.inside.ledger;
       holds = c.self.inside.holds;
       free = c.self.inside.free.items;
       queue = c.self.inside.queue;

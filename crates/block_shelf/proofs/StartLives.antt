@@ -1,4 +1,4 @@
--- The live copies of a start in the blocks' rolls.
+-- The live copies of a start in the blocks' lives.
 use Rattle.std.proofs.Common.{◌≡◌, ◌≢◌, ◌⊎◌, inl, inr, ⊎_elim, ℕ, ◌+◌, ◌-◌, ◌<◌, ◌≤◌, min, zero, suc, Bool, true, false, cond, List, [], ◌∷◌, ◌++◌, map, length}
 use Rattle.std.proofs.Common.{take, drop, get_or, sum_by, refl, sym, ◌∙◌, ap, subst, arith, add-one, append_assoc}
 use Rattle.std.specs.Prelude.{None, Some, filter, ◌==◌}
@@ -20,11 +20,9 @@ use Rattle.model_device.specs.Book.{is_in}
 use Rattle.defrag_queue.specs.Queues.{requeued}
 use Rattle.defrag_queue.proofs.Marks as queue
 use Rattle.write_buffer.proofs.Sizes.{sized, body_size}
-use Rattle.unit_ledger.specs.declared.roll.LiveCopy.{LiveCopy}
-use Rattle.unit_ledger.specs.Rolls.{BlockRoll, copy_at, copies_in, rolled_use, with_roll, GainsRoom}
+use Rattle.block_shelf.specs.Lives.{LiveCopy, copies_in, use_in, copy_at, lives_with}
 use Rattle.block_shelf.specs.declared.place.Place.{Place}
-use Rattle.block_shelf.proofs.Rolls.{roll_here, roll_there}
-use Rattle.block_shelf.proofs.Rooms.{gained}
+use Rattle.block_shelf.proofs.Lives.{list_here, list_there}
 use Rattle.block_shelf.specs.Starting.{LiesIn, AreTwo, AreEachTwo, CanBeLive, copy_of_place, copies_at}
 
 -- ---- intervals that are apart
@@ -175,15 +173,15 @@ module _ (g : Geometry) (is_g : IsGeometry g) (front : List (Digest × Place)) (
       ends [] each = tt
       ends (y ∷ ys) each = ((λ same. each.0.within), ends ys each.1)
 
-  -- the rolls with it
-  pub next_rolls : (old new : List BlockRoll) (spare : ℕ) → length old ≡ g.blocks → ((block : ℕ) → copies_in block old ≡ copies_at block front)
-      → new ≡ with_roll x.1.block (record { copies = copies_in x.1.block old ++ copy_of_place x ∷ []; spare = spare }) old → (block : ℕ) → copies_in block new ≡ copies_at block (front ++ x ∷ [])
-  next_rolls old new spare size each is block =
+  -- the lives with it
+  pub next_lives : (old new : List (List LiveCopy)) → length old ≡ g.blocks → ((block : ℕ) → copies_in block old ≡ copies_at block front)
+      → new ≡ lives_with x.1.block (copy_of_place x) old → (block : ℕ) → copies_in block new ≡ copies_at block (front ++ x ∷ [])
+  next_lives old new size each is block =
       ⊎_elim (λ (e : block ≡ x.1.block). subst (λ (k : ℕ). copies_in k new ≡ copies_at k (front ++ x ∷ [])) (sym e)
-      (ap (copies_in x.1.block) is ∙ roll_here x.1.block _ old (omega (arith, size, next_block)) ∙ ap (λ (l : List LiveCopy). l ++ copy_of_place x ∷ []) (each x.1.block)
+      (ap (copies_in x.1.block) is ∙ list_here x.1.block _ old (omega (arith, size, next_block)) ∙ ap (λ (l : List LiveCopy). l ++ copy_of_place x ∷ []) (each x.1.block)
       ∙ sym (at_more x.1.block front x ∙ ap (λ (l : List LiveCopy). copies_at x.1.block front ++ l) (cond-true (x.1.block == x.1.block) (copy_of_place x ∷ []) [] (eq-eqb x.1.block x.1.block refl)))))
       (λ (other : block ≢ x.1.block).
-      ap (copies_in block) is ∙ roll_there x.1.block block _ old other ∙ each block
+      ap (copies_in block) is ∙ list_there x.1.block block _ old other ∙ each block
       ∙ sym (at_more block front x ∙ ap (λ (l : List LiveCopy). copies_at block front ++ l)
       (cond-false (x.1.block == block) (copy_of_place x ∷ []) [] (ne_eqb x.1.block block (λ e. other (sym e)))) ∙ append-nil (copies_at block front)))
       (cases_eq block x.1.block)
@@ -191,7 +189,7 @@ module _ (g : Geometry) (is_g : IsGeometry g) (front : List (Digest × Place)) (
 -- ---- a step of the loop
 
 module _ (g : Geometry) (is_g : IsGeometry g) (live : List (Digest × Place)) (can : CanBeLive g live) (i : ℕ) (lt : i < length live) (other : Digest × Place)
-    (old mid : List BlockRoll) (size : length old ≡ g.blocks) (each : (block : ℕ) → copies_in block old ≡ copies_at block (take i live)) where
+    (old : List (List LiveCopy)) (size : length old ≡ g.blocks) (each : (block : ℕ) → copies_in block old ≡ copies_at block (take i live)) where
   abbrev x : Digest × Place
   x = get_or live i other
 
@@ -201,25 +199,20 @@ module _ (g : Geometry) (is_g : IsGeometry g) (live : List (Digest × Place)) (c
   pub step_block : x.1.block < length old
   step_block = let lies = next_block g is_g (take i live) x (drop (i + 1) live) can_split in omega (arith, lies, size)
 
-  module _ (gains : GainsRoom x.1.block old mid) where
-    mid_each : (block : ℕ) → copies_in block mid ≡ copies_at block (take i live)
-    mid_each block = (gained x.1.block old mid step_block gains).copies block ∙ each block
+  pub step_absent : copy_at x.1.unit (copies_in x.1.block old) ≡ None
+  step_absent = ap (copy_at x.1.unit) (each x.1.block) ∙ next_absent g is_g (take i live) x (drop (i + 1) live) can_split
 
-    pub step_absent : copy_at x.1.unit (copies_in x.1.block mid) ≡ None
-    step_absent = ap (copy_at x.1.unit) (mid_each x.1.block) ∙ next_absent g is_g (take i live) x (drop (i + 1) live) can_split
+  pub step_fits : use_in x.1.block old + x.1.units ≤ 65278
+  step_fits =
+      let same = ap (sum_by (λ (c : LiveCopy). c.units)) (each x.1.block) in
+      let fits = next_fits g is_g (take i live) x (drop (i + 1) live) can_split in omega (arith, same, fits)
 
-    pub step_fits : rolled_use x.1.block mid + x.1.units ≤ 65278
-    step_fits =
-        let same = ap (sum_by (λ (c : LiveCopy). c.units)) (mid_each x.1.block) in
-        let fits = next_fits g is_g (take i live) x (drop (i + 1) live) can_split in omega (arith, same, fits)
-
-    pub step_each : (new : List BlockRoll) (spare : ℕ) → new ≡ with_roll x.1.block (record { copies = copies_in x.1.block mid ++ copy_of_place x ∷ []; spare = spare }) mid
-        → (length new ≡ g.blocks) × ((block : ℕ) → copies_in block new ≡ copies_at block (take (i + 1) live))
-    step_each new spare is = (
-      ap length is ∙ length-set mid x.1.block _ ∙ (gained x.1.block old mid step_block gains).size ∙ size,
-      λ block. next_rolls g is_g (take i live) x (drop (i + 1) live) can_split mid new spare ((gained x.1.block old mid step_block gains).size ∙ size) mid_each is block
-          ∙ ap (copies_at block) (sym (take_more live i other lt)),
-    )
+  pub step_each : (new : List (List LiveCopy)) → new ≡ lives_with x.1.block (copy_of_place x) old
+      → (length new ≡ g.blocks) × ((block : ℕ) → copies_in block new ≡ copies_at block (take (i + 1) live))
+  step_each new is = (
+    ap length is ∙ length-set old x.1.block _ ∙ size,
+    λ block. next_lives g is_g (take i live) x (drop (i + 1) live) can_split old new size each is block ∙ ap (copies_at block) (sym (take_more live i other lt)),
+  )
 
 -- ---- the blocks that pass a test, one after another
 

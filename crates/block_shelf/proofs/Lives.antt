@@ -6,19 +6,17 @@ use Rattle.std.proofs.lemmas.List.{get_or-set_same, get_or-set_other}
 use Rattle.std.proofs.lemmas.List.Filters.{sum_by-filter_both}
 use Rattle.law_lists.proofs.Each.{all_from, all_at}
 use Rattle.law_lists.proofs.Members.{cons_cases, filter_there, filter_from, first_there}
-use Rattle.unit_ledger.specs.declared.roll.LiveCopy.{LiveCopy}
-use Rattle.unit_ledger.specs.Rolls.{BlockRoll, empty_roll, copies_in, copy_at, without_unit, with_roll, HaveOwnUnits}
-use Rattle.unit_ledger.proofs.Copies.{own_units-without}
-use Rattle.block_shelf.specs.View.{IsRoll, ArePacked}
-use Rattle.block_shelf.specs.Changes.{rolls_without}
+use Rattle.block_shelf.specs.Lives.{LiveCopy, copies_in, copy_at, without_unit, HaveOwnUnits, with_list, lives_without}
+use Rattle.block_shelf.proofs.OwnUnits.{own_units-without}
+use Rattle.block_shelf.specs.View.{IsLiveList, ArePacked}
 
--- ---- one block has another roll
+-- ---- one block has another list
 
-pub roll_here : (block : ℕ) (roll : BlockRoll) (rolls : List BlockRoll) → block < length rolls → copies_in block (with_roll block roll rolls) ≡ roll.copies
-roll_here block roll rolls lt = ap (λ (r : BlockRoll). r.copies) (get_or-set_same rolls block roll empty_roll lt)
+pub list_here : (block : ℕ) (list : List LiveCopy) (lives : List (List LiveCopy)) → block < length lives → copies_in block (with_list block list lives) ≡ list
+list_here block list lives lt = get_or-set_same lives block list [] lt
 
-pub roll_there : (block k : ℕ) (roll : BlockRoll) (rolls : List BlockRoll) → k ≢ block → copies_in k (with_roll block roll rolls) ≡ copies_in k rolls
-roll_there block k roll rolls other = ap (λ (r : BlockRoll). r.copies) (get_or-set_other rolls block k roll empty_roll other)
+pub list_there : (block k : ℕ) (list : List LiveCopy) (lives : List (List LiveCopy)) → k ≢ block → copies_in k (with_list block list lives) ≡ copies_in k lives
+list_there block k list lives other = get_or-set_other lives block k list [] other
 
 -- ---- copies that begin at units of their own
 
@@ -62,10 +60,10 @@ same_unit (x ∷ xs) own a b in_a in_b same =
 
 -- ---- the copy at a unit goes
 
-pub left_roll : (unit : ℕ) (cs : List LiveCopy) → IsRoll cs → IsRoll (without_unit unit cs)
-left_roll unit cs roll = record {
-  own = own_units-without unit cs roll.own;
-  takes = all_from (λ c. 1 ≤ c.units) (without_unit unit cs) (λ c there. all_at (λ d. 1 ≤ d.units) cs c roll.takes (filter_from (λ d. not (d.unit == unit)) cs c there).0);
+pub left_list : (unit : ℕ) (cs : List LiveCopy) → IsLiveList cs → IsLiveList (without_unit unit cs)
+left_list unit cs list = record {
+  own = own_units-without unit cs list.own;
+  takes = all_from (λ c. 1 ≤ c.units) (without_unit unit cs) (λ c there. all_at (λ d. 1 ≤ d.units) cs c list.takes (filter_from (λ d. not (d.unit == unit)) cs c there).0);
 }
 
 pub left_packed : (unit used : ℕ) (cs : List LiveCopy) → ArePacked used cs → ArePacked used (without_unit unit cs)
@@ -79,27 +77,27 @@ no_copies [] none = refl
 no_copies (c ∷ cs) none = absurd (none c (first_there c cs))
 
 -- in each block it is as before, or the copy is gone
-pub each_left : (P : (k : ℕ) → List LiveCopy → Type 0) (block unit : ℕ) (rolls : List BlockRoll) → block < length rolls → (k : ℕ) → P k (copies_in k rolls)
-    → (P block (copies_in block rolls) → P block (without_unit unit (copies_in block rolls)))
-    → P k (copies_in k (rolls_without block unit rolls))
-each_left P block unit rolls lt k is step =
-    ⊎_elim (λ (e : k ≡ block). subst (λ (j : ℕ). P j (copies_in j (rolls_without block unit rolls))) (sym e)
-    (subst (P block) (sym (roll_here block _ rolls lt)) (step (subst (λ (j : ℕ). P j (copies_in j rolls)) e is))))
-    (λ (other : k ≢ block). subst (P k) (sym (roll_there block k _ rolls other)) is) (cases_eq k block)
+pub each_left : (P : (k : ℕ) → List LiveCopy → Type 0) (block unit : ℕ) (lives : List (List LiveCopy)) → block < length lives → (k : ℕ) → P k (copies_in k lives)
+    → (P block (copies_in block lives) → P block (without_unit unit (copies_in block lives)))
+    → P k (copies_in k (lives_without block unit lives))
+each_left P block unit lives lt k is step =
+    ⊎_elim (λ (e : k ≡ block). subst (λ (j : ℕ). P j (copies_in j (lives_without block unit lives))) (sym e)
+    (subst (P block) (sym (list_here block _ lives lt)) (step (subst (λ (j : ℕ). P j (copies_in j lives)) e is))))
+    (λ (other : k ≢ block). subst (P k) (sym (list_there block k _ lives other)) is) (cases_eq k block)
 
-pub left_there : (block unit : ℕ) (rolls : List BlockRoll) → block < length rolls → (k : ℕ) (c : LiveCopy) → Contains (copies_in k rolls) c → (k ≡ block → c.unit ≢ unit)
-    → Contains (copies_in k (rolls_without block unit rolls)) c
-left_there block unit rolls lt k c there apart =
-    ⊎_elim (λ (e : k ≡ block). subst (λ (j : ℕ). Contains (copies_in j (rolls_without block unit rolls)) c) (sym e)
-    (subst (λ (l : List LiveCopy). Contains l c) (sym (roll_here block _ rolls lt))
-    (filter_there (λ (d : LiveCopy). not (d.unit == unit)) (copies_in block rolls) c (ap not (ne_eqb c.unit unit (apart e))) (subst (λ (j : ℕ). Contains (copies_in j rolls) c) e there))))
-    (λ (other : k ≢ block). subst (λ (l : List LiveCopy). Contains l c) (sym (roll_there block k _ rolls other)) there) (cases_eq k block)
+pub left_there : (block unit : ℕ) (lives : List (List LiveCopy)) → block < length lives → (k : ℕ) (c : LiveCopy) → Contains (copies_in k lives) c → (k ≡ block → c.unit ≢ unit)
+    → Contains (copies_in k (lives_without block unit lives)) c
+left_there block unit lives lt k c there apart =
+    ⊎_elim (λ (e : k ≡ block). subst (λ (j : ℕ). Contains (copies_in j (lives_without block unit lives)) c) (sym e)
+    (subst (λ (l : List LiveCopy). Contains l c) (sym (list_here block _ lives lt))
+    (filter_there (λ (d : LiveCopy). not (d.unit == unit)) (copies_in block lives) c (ap not (ne_eqb c.unit unit (apart e))) (subst (λ (j : ℕ). Contains (copies_in j lives) c) e there))))
+    (λ (other : k ≢ block). subst (λ (l : List LiveCopy). Contains l c) (sym (list_there block k _ lives other)) there) (cases_eq k block)
 
-pub left_from : (block unit : ℕ) (rolls : List BlockRoll) → block < length rolls → (k : ℕ) (c : LiveCopy) → Contains (copies_in k (rolls_without block unit rolls)) c
-    → Contains (copies_in k rolls) c × (k ≡ block → c.unit ≢ unit)
-left_from block unit rolls lt k c there =
+pub left_from : (block unit : ℕ) (lives : List (List LiveCopy)) → block < length lives → (k : ℕ) (c : LiveCopy) → Contains (copies_in k (lives_without block unit lives)) c
+    → Contains (copies_in k lives) c × (k ≡ block → c.unit ≢ unit)
+left_from block unit lives lt k c there =
     ⊎_elim (λ (e : k ≡ block).
-    let two = filter_from (λ (d : LiveCopy). not (d.unit == unit)) (copies_in block rolls) c
-    (subst (λ (l : List LiveCopy). Contains l c) (roll_here block _ rolls lt) (subst (λ (j : ℕ). Contains (copies_in j (rolls_without block unit rolls)) c) e there)) in
-    (subst (λ (j : ℕ). Contains (copies_in j rolls) c) (sym e) two.0, λ same at. both_ways (c.unit == unit) (not-true (c.unit == unit) two.1) (eq-eqb c.unit unit at)))
-    (λ (other : k ≢ block). (subst (λ (l : List LiveCopy). Contains l c) (roll_there block k _ rolls other) there, λ same. absurd (other same))) (cases_eq k block)
+    let two = filter_from (λ (d : LiveCopy). not (d.unit == unit)) (copies_in block lives) c
+    (subst (λ (l : List LiveCopy). Contains l c) (list_here block _ lives lt) (subst (λ (j : ℕ). Contains (copies_in j (lives_without block unit lives)) c) e there)) in
+    (subst (λ (j : ℕ). Contains (copies_in j lives) c) (sym e) two.0, λ same at. both_ways (c.unit == unit) (not-true (c.unit == unit) two.1) (eq-eqb c.unit unit at)))
+    (λ (other : k ≢ block). (subst (λ (l : List LiveCopy). Contains l c) (list_there block k _ lives other) there, λ same. absurd (other same))) (cases_eq k block)
