@@ -190,7 +190,7 @@ module _ {D : Type 0} (view : D → DiskView) (is_disk : (disk : D) → IsDisk (
                 there (puts.put there_still.stands) puts.each;
             causes = λ setup s setup_is stands. none_in_room setup s old stands setup_is kind units (fits_in setup setup_is) (room_found view setup kind s v at old is stands setup_is room);
             refused = tt;
-            first = both_in_room stream units at old mid new same room (put_both digest v prior stands.front stands.buffer stands.behind mid new place (puts.put stands));
+            first = both_in_room stream units at old mid new same room (put_both digest v prior at mid new stands place (puts.put stands));
             place = place_in mid.geometry old.geometry n units place (ap (λ (x : ShelfView D). x.geometry) same.rest) n_is puts.there;
             lies = put_lies stream digest v prior stands.front stands.buffer stands.behind mid new place there_still.of_stream (puts.put stands);
             whole = is;
@@ -225,7 +225,7 @@ module _ {D : Type 0} (view : D → DiskView) (is_disk : (disk : D) → IsDisk (
                 (begins.goes setup s stands) live there put puts.each;
             causes = λ setup s setup_is stands. cause_in_new setup s old stands setup_is kind units (fits_in setup setup_is) (none full setup s setup_is stands) ∙ begins.refusal;
             refused = tt;
-            first = both_in_new stream units old begun mid new is_begun full (put_both digest v prior stands_at.front stands_at.buffer stands_at.behind mid new place (puts.put stands_at));
+            first = both_in_new stream units old begun mid new is_begun full (put_both digest v prior at mid new stands_at place (puts.put stands_at));
             place = place_in mid.geometry old.geometry n units place (ap (λ (x : ShelfView D). x.geometry) is_begun) n_is puts.there;
             lies = put_lies stream digest v prior (map (sealed_in stream) old.buffers) (begun_buffer stream old) [] (with_begun stream (ready_for begun old)) new place refl put;
             whole = is;

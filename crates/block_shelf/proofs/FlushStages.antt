@@ -161,6 +161,7 @@ setup_in setup old new same of_old = record {
   shape = subst (IsShapeOf setup) (sym same.geometry) of_old.shape;
   pending = of_old.pending ∙ ap (λ (l : ShelfLimits). l.pending) (sym same.limits);
   lwm = of_old.lwm ∙ ap (λ (l : ShelfLimits). l.lwm) (sym same.limits);
+  cache = of_old.cache ∙ ap (λ (l : ShelfLimits). l.cache) (sym same.limits);
   sprigs = of_old.sprigs ∙ ap (λ (l : ShelfLimits). l.sprigs) (sym same.limits);
 }
 

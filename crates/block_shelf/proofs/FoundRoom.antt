@@ -1,5 +1,5 @@
 -- Where an append puts its copy: in a buffer that has room, or in one that has begun.
-use Rattle.std.proofs.Common.{◌≡◌, ℕ, ◌+◌, ◌-◌, ◌<◌, ◌≤◌, List, [], ◌∷◌, length, map, refl, sym, ◌∙◌, ap, subst, arith}
+use Rattle.std.proofs.Common.{◌≡◌, inl, inr, ℕ, ◌+◌, ◌-◌, ◌<◌, ◌≤◌, List, [], ◌∷◌, length, map, refl, sym, ◌∙◌, ap, subst, arith}
 use Rattle.std.specs.Prelude.{Option, Contains}
 use Rattle.std.proofs.lemmas.List.{length_push, length-append}
 use Rattle.rec_format.specs.declared.version.Digest.{Digest}
@@ -9,9 +9,12 @@ use Rattle.write_buffer.specs.declared.stream.Stream.{Stream}
 use Rattle.write_buffer.specs.Buffers.{BufferState, with_record}
 use Rattle.block_shelf.specs.declared.place.Place.{Place}
 use Rattle.block_shelf.specs.View.{ShelfView}
+use Rattle.model_device.specs.Book.{first_block}
 use Rattle.block_shelf.specs.Changes.{StandsAt, CanTake, HasRoom, HasRoomAt, SameButRoom, begun_buffer, sealed_in, with_begun}
 use Rattle.block_shelf.specs.Appends.{BeginsInFirst, LiesIn, PutsCopy, ready_for}
+use Rattle.block_shelf.specs.Keeping.{KeepsAll, KeepsOthers, names_of}
 use Rattle.block_shelf.proofs.Appended.{put_is}
+use Rattle.block_shelf.proofs.Names.{all_then, names_written, others_begun, others_then}
 use Rattle.law_lists.proofs.Between.{own_there}
 
 pub told_room : (stream other : Stream) (n units : ℕ) (place at : ℕ) (buffers : List BufferState) → stream ≡ other → n ≡ units → at ≡ place → HasRoomAt stream n place buffers
@@ -60,13 +63,19 @@ can_in_new {D} stream units old begun mid at n is place count small = record {
 -- ---- the gates, and what is kept
 
 abbrev pub KeepsBoth : {D : Type 0} → (old new : ShelfView D) → Type 0
-KeepsBoth old new = (new.gates ≡ old.gates) × (new.cache ≡ old.cache)
+KeepsBoth old new = (new.gates ≡ old.gates) × KeepsAll old new
 
-pub put_both : {D : Type 0} (digest : Digest) (v : Version) (prior : Option Place) (front : List BufferState) (b : BufferState) (behind : List BufferState) (shelf new : ShelfView D)
-    (place : Place) → PutsCopy digest v prior front b behind shelf new place → KeepsBoth shelf new
-put_both {D} digest v prior front b behind shelf new place put =
-    let is = put_is digest v prior front b behind shelf new place put in
-    (ap (λ (x : ShelfView D). x.gates) is, ap (λ (x : ShelfView D). x.cache) is)
+pub put_both : {D : Type 0} (digest : Digest) (v : Version) (prior : Option Place) (at : ℕ) (shelf new : ShelfView D) (s : StandsAt at shelf.buffers) (place : Place)
+    → PutsCopy digest v prior s.front s.buffer s.behind shelf new place → KeepsBoth shelf new
+put_both {D} digest v prior at shelf new s place put =
+    let is = put_is digest v prior s.front s.buffer s.behind shelf new place put in (
+      ap (λ (x : ShelfView D). x.gates) is,
+      record {
+        cache = ap (λ (x : ShelfView D). x.cache) is;
+        names = ap (λ (x : ShelfView D). names_of x.buffers) is ∙ names_written digest v at shelf.buffers s;
+        next = ap (λ (x : ShelfView D). x.next_number) is;
+      },
+    )
 
 -- the copy lies where it was put
 pub put_lies : {D : Type 0} (stream : Stream) (digest : Digest) (v : Version) (prior : Option Place) (front : List BufferState) (b : BufferState) (behind : List BufferState) (shelf new : ShelfView D)
@@ -83,14 +92,25 @@ put_lies {D} stream digest v prior front b behind shelf new place of_stream put 
 
 pub both_in_room : {D : Type 0} (stream : Stream) (units at : ℕ) (old mid new : ShelfView D) → SameButRoom old mid → HasRoomAt stream units at old.buffers → KeepsBoth mid new
     → BeginsInFirst stream units old new
-both_in_room {D} stream units at old mid new same room both = record {
-  in_room = λ has. (both.0 ∙ ap (λ (x : ShelfView D). x.gates) same.rest, both.1 ∙ ap (λ (x : ShelfView D). x.cache) same.rest);
-  in_new = λ none. absurd (none (at, room));
-}
+both_in_room {D} stream units at old mid new same room both = inl (
+  (at, room),
+  both.0 ∙ ap (λ (x : ShelfView D). x.gates) same.rest,
+  all_then old mid new
+      (record {
+        cache = ap (λ (x : ShelfView D). x.cache) same.rest;
+        names = ap (λ (x : ShelfView D). names_of x.buffers) same.rest;
+        next = ap (λ (x : ShelfView D). x.next_number) same.rest;
+      })
+      both.1,
+)
 
 pub both_in_new : {D : Type 0} (stream : Stream) (units : ℕ) (old begun mid new : ShelfView D) → mid ≡ with_begun stream (ready_for begun old) → (HasRoom stream units old.buffers → ⊥)
     → KeepsBoth mid new → BeginsInFirst stream units old new
-both_in_new {D} stream units old begun mid new is none both = record {
-  in_room = λ has. absurd (none has);
-  in_new = λ never. (both.0 ∙ ap (λ (x : ShelfView D). x.gates) is, both.1 ∙ ap (λ (x : ShelfView D). x.cache) is);
-}
+both_in_new {D} stream units old begun mid new is none both = inr (
+  none,
+  both.0 ∙ ap (λ (x : ShelfView D). x.gates) is,
+  others_then (first_block old.free) old mid new
+      (subst (KeepsOthers (first_block old.free) old) (sym is)
+      (let begins = others_begun stream (ready_for begun old) in record { cache = begins.cache; names = begins.names; next = begins.next }))
+      both.1,
+)

@@ -265,7 +265,7 @@ goes_low {D} view old mid new is_old is_mid setup s set stands books disk_old di
     same_disk (inr (high, is)) = ap (λ (v : ShelfView D). v.disk) is
 
     same_set : SealsLow Client old mid → IsSetupOf setup mid
-    same_set (inl (is_low, is)) = subst (IsSetupOf setup) (sym is) (record { shape = set.shape; pending = set.pending; lwm = set.lwm; sprigs = set.sprigs })
+    same_set (inl (is_low, is)) = subst (IsSetupOf setup) (sym is) (record { shape = set.shape; pending = set.pending; lwm = set.lwm; cache = set.cache; sprigs = set.sprigs })
     same_set (inr (high, is)) = subst (IsSetupOf setup) (sym is) set
 
 -- ---- which buffers are sealed

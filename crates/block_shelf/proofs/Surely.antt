@@ -28,11 +28,6 @@ gates_with [] block gate known sure = tt
 gates_with (x ∷ xs) zero gate known sure = (known, sure.1)
 gates_with (x ∷ xs) (suc block) gate known sure = (sure.0, gates_with xs block gate known sure.1)
 
--- where it can't be that one is unsure, none is
-not_unsure : (gates : List Gate) → ((AreSure gates → ⊥) → ⊥) → AreSure gates
-not_unsure [] never = tt
-not_unsure (x ∷ xs) never = ((λ e. never (λ all. all.0 e)), not_unsure xs (λ other. never (λ all. other all.1)))
-
 pub rose_first : (a b c : ℕ) → Rose a b → b ≤ c → Rose a c
 rose_first a b c rose le few = omega (arith, rose (omega (arith, le, few)), le)
 
@@ -82,11 +77,13 @@ module _ {D : Type 0} (view : D → DiskView) where
 
   pub sure_appended : (stream : Stream) (units : ℕ) (old new : ShelfView D) (result : Result Place PutRefusal) → IfErr result (IsLeftBy old new) → OnOk result (BeginsInFirst stream units old new)
       → (result ≡ Err put.Fault → Rose (view old.disk).faults (view new.disk).faults) → (view old.disk).faults ≤ (view new.disk).faults → StaysSure view old new
-  sure_appended stream units old new (Ok place) left begins cause count = record {
+  sure_appended stream units old new (Ok place) left (inl begins) cause count = record {
     count = count;
-    sure = λ sure. inl (not_unsure new.gates (λ other.
-        other (subst AreSure (sym (begins.in_new (λ room. other (subst AreSure (sym (begins.in_room room).0) sure))).0)
-        (gates_with old.gates _ Shut shut_sure sure))));
+    sure = λ sure. inl (subst AreSure (sym begins.1) sure);
+  }
+  sure_appended stream units old new (Ok place) left (inr begins) cause count = record {
+    count = count;
+    sure = λ sure. inl (subst AreSure (sym begins.1) (gates_with old.gates _ Shut shut_sure sure));
   }
   sure_appended stream units old new (Err (put.Big most capacity)) left begins cause count = sure_none old new left
   sure_appended stream units old new (Err put.Spent) left begins cause count = sure_none old new left

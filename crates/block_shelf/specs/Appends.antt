@@ -1,5 +1,5 @@
 -- Crate block_shelf. What an append promises: why it is refused, what a refusal leaves, and where the copy is.
-use Rattle.std.specs.Prelude.{◌≡◌, ◌≢◌, ℕ, ◌+◌, ◌<◌, ◌≤◌, false, nat_lt, List, [], ◌∷◌, Contains, Option, Some, None, Result, Err, slice_set, if◌then◌else◌, IfOk, IfErr, OnOk, MatchResult}
+use Rattle.std.specs.Prelude.{◌≡◌, ◌≢◌, ◌⊎◌, ℕ, ◌+◌, ◌<◌, ◌≤◌, false, nat_lt, List, [], ◌∷◌, Contains, Option, Some, None, Result, Err, slice_set, if◌then◌else◌, IfOk, IfErr, OnOk, MatchResult}
 use Rattle.rec_format.specs.declared.version.Digest.{Digest}
 use Rattle.rec_format.specs.declared.version.Version.{Version}
 use Rattle.rec_format.specs.Versions.{block_capacity, version_units}
@@ -30,7 +30,8 @@ use Rattle.block_shelf.specs.View.{ShelfView, IsShelf, IsLiveList, IsSetupOf, Sa
 use Rattle.block_shelf.specs.Disks.{IsLater}
 use Rattle.block_shelf.specs.Standing.{StandsFor, BooksStand, ImagesHold, IsPlaced, HasRecord, book_stream}
 use Rattle.block_shelf.specs.Calls.{Goes, copy_live, prior_live}
-use Rattle.block_shelf.specs.Changes.{HasRoom, SameButRoom, StandsAt, without_copy, without_kept, with_written, with_requeued, with_gate_known}
+use Rattle.block_shelf.specs.Changes.{HasRoom, SameButRoom, StandsAt, without_copy, with_written, with_requeued, with_gate_known}
+use Rattle.block_shelf.specs.Keeping.{KeepsAll, KeepsOthers}
 
 -- so many units in a block of the device
 abbrev pub IsPlaceFor : Geometry → (units : ℕ) → Place → Type 0
@@ -131,12 +132,12 @@ refused_steps (put.Space free) = []
 refused_steps put.Memory = []
 refused_steps put.Fault = closing_failed ∷ []
 
--- what is known of gates, and what is kept of flushed buffers, behind an append: as before where there was room; else the gate of the first
--- free block is shut, and what was kept of the block is forgotten
-pub record BeginsInFirst {D : Type 0} (stream : Stream) (units : ℕ) (old new : ShelfView D) : Type 0 where
-  pub in_room : HasRoom stream units old.buffers → (new.gates ≡ old.gates) × (new.cache ≡ old.cache)
-  pub in_new : (HasRoom stream units old.buffers → ⊥)
-      → (new.gates ≡ slice_set old.gates (first_block old.free) Shut) × (new.cache ≡ without_kept (first_block old.free) old.cache)
+-- What is known of gates, which buffers there are, and what is kept of flushed ones, behind a copy of so many units: all as before where one had
+-- room; else a buffer has begun in the first free block, whose gate is shut, and what was kept of that is gone.
+abbrev pub BeginsInFirst : {D : Type 0} → Stream → (units : ℕ) → (old new : ShelfView D) → Type 0
+BeginsInFirst stream units old new =
+    (HasRoom stream units old.buffers × (new.gates ≡ old.gates) × KeepsAll old new)
+    ⊎ ((HasRoom stream units old.buffers → ⊥) × (new.gates ≡ slice_set old.gates (first_block old.free) Shut) × KeepsOthers (first_block old.free) old new)
 
 -- ---- the copy
 

@@ -13,6 +13,7 @@ ghost use Rattle.block_shelf.specs.Standing.{StandsFor, ImagesHold};
 ghost use Rattle.block_shelf.specs.Scans.{possible_copies};
 ghost use Rattle.block_shelf.specs.Calls.{Goes, copy_live};
 ghost use Rattle.block_shelf.specs.Changes.{without_copy, with_free};
+ghost use Rattle.block_shelf.specs.Keeping.{KeepsAll};
 
 use crate::let_go::is_bare;
 use crate::{Place, Shelf};
@@ -35,7 +36,7 @@ impl<D: Disk> Shelf<D> {
         ensures disk { self.new.disk ≡ self.old.disk }
         ensures gates { self.new.gates ≡ self.old.gates }
         ensures buffers { self.new.buffers ≡ self.old.buffers }
-        ensures cache { self.new.cache ≡ self.old.cache }
+        ensures kept { KeepsAll self.old self.new }
         ensures shape { SameShape self.old self.new }
     {
         self.take_live(place);

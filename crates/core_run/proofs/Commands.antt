@@ -25,9 +25,10 @@ use Rattle.model_node.specs.Commands.{Slot, Node, NodeEvent, Does, EachDevice, R
 use Rattle.model_node.specs.Commands.{answer_reply, meta_reply, seen_on, flushed_reply, defragged_reply, expired_reply, raided_reply}
 use Rattle.model_node.specs.Run.{ImagesLeft, Carries}
 use Rattle.model_node.specs.Meaning.{ActsFrom, left_between}
+use Rattle.model_node.specs.Shown.{ShowsGet}
 use Rattle.shard_core.specs.View.{ShardView, setup_of}
 use Rattle.shard_core.specs.Stands.{Agrees}
-use Rattle.shard_core.specs.Calls.{GetsStored}
+use Rattle.shard_core.specs.Calls.{GetsStored, read_answer}
 use Rattle.shard_core.specs.declared.refusals.DefragCause.{DefragCause}
 use Rattle.shard_core.specs.declared.refusals.WriteRefusal.{WriteRefusal}
 use Rattle.core_run.specs.Views.{NodeView, serving, halted, disks_served, views_of, view_at, unknown, AreLater}
@@ -35,7 +36,7 @@ use Rattle.core_run.specs.Standing.{Each, StandsOn, StandsSafelyOn, StandsFor, S
 use Rattle.core_run.specs.Shown.{RaidsOf, ShowsOn}
 use Rattle.core_run.specs.Calls.{digest_of, RepliesStored, RaidedExactly, Acts, Tends}
 use Rattle.core_run.specs.Sure.{AreSureSince, StaySure}
-use Rattle.core_run.specs.Turns.{GoesOn, RepliesTo, RepliesOn, TendTurn, Through, WorksEach, plus_one, plus_both, IsFlushed, FlushesOn, FlushesEach}
+use Rattle.core_run.specs.Turns.{GoesOn, GetsOn, RepliesTo, RepliesOn, TendTurn, Through, WorksEach, plus_one, plus_both, IsFlushed, FlushesOn, FlushesEach}
 use Rattle.core_run.specs.Turns.{IsDefragged, DefragsOn, DefragsEach, IsExpired, ExpiresOn, ExpiresAll, IsRaided, RaidsOn, IsRaid, RaidsEach, slot_for}
 use Rattle.core_run.proofs.Places.{moved, events_of, slots_after, node_after_of, nones, no_events}
 use Rattle.core_run.proofs.Making.{Made, Along, slot_at, each_length, each_more, along_none}
@@ -45,7 +46,8 @@ use Rattle.core_run.proofs.Taking.{device_leaves, device_takes}
 use Rattle.shard_core.proofs.Events.{runs_made}
 use Rattle.core_run.proofs.Surely.{sure_at, sure_through, sure_work}
 use Rattle.core_run.proofs.Replying.{known_goes_on, stat_goes_on, flushed_goes_on, defragged_goes_on, expired_goes_on, raided_goes_on, only_raid, one_digest}
-use Rattle.core_run.proofs.Nodes.{Unshown, RaidShown, one_shards, serves_or_halts, later_same, later_at, later_through, acts_any, acts_safe, tends_any, tends_safe}
+use Rattle.core_run.proofs.Gets.{node_shows, only_get}
+use Rattle.core_run.proofs.Nodes.{GetShown, BothShown, one_shards, serves_or_halts, later_same, later_at, later_through, acts_any, acts_safe, tends_any, tends_safe}
 
 module _ {D : Type 0} (view : D → DiskView) (is_disk : (disk : D) → IsDisk (view disk)) where
   -- ---- a command, whatever it is, by what it comes to from each state
@@ -55,9 +57,9 @@ module _ {D : Type 0} (view : D → DiskView) (is_disk : (disk : D) → IsDisk (
       (stored : RepliesStored view olds c now r)
       (exact : c ≡ command.Raid → (removed cleared : ℕ) → r ≡ reply.Raided removed cleared → (node : Node) → Each (StandsSafelyOn view) olds node
       → RaidedExactly view now olds node news removed cleared)
-      (any : (node : Node) → Each (StandsOn view) olds node → ActsFrom (StandsFor view) unknown (Halts view) Unshown false (serving olds) node c now r (serving news))
+      (any : (node : Node) → Each (StandsOn view) olds node → ActsFrom (StandsFor view) unknown (Halts view) (GetShown view c) false (serving olds) node c now r (serving news))
       (safe : (node : Node) → Each (StandsSafelyOn view) olds node
-      → ActsFrom (StandsSafely view) (views_of view) (HaltsSafely view) (RaidShown view c) true (serving olds) node c now r (serving news)) where
+      → ActsFrom (StandsSafely view) (views_of view) (HaltsSafely view) (BothShown view c) true (serving olds) node c now r (serving news)) where
     -- nothing was started again
     not_restarted : (views : NodeView D → ℕ → DiskView) (told : Bool) (node : Node) (work : List NodeEvent) (restarted : Option Node)
         → Carries (left_between views (serving olds) (serving news)) told node c now work restarted r → restarted ≡ None
@@ -67,14 +69,24 @@ module _ {D : Type 0} (view : D → DiskView) (is_disk : (disk : D) → IsDisk (
     halts_never : (before after : Node) → Halts view (serving news) before after → ⊥
     halts_never before after h = serves_or_halts news (h.device, h.cause) h.disks h.is_halted
 
+    -- only of a get there is something to say of what it read
+    gets_of : (views : NodeView D → ℕ → DiskView) (told : Bool) (node : Node) (work : List NodeEvent) (restarted : Option Node)
+        → Carries (left_between views (serving olds) (serving news)) told node c now work restarted r → GetShown view c (serving olds) node now r work restarted (serving news)
+        → ShowsGet (views_of view (serving olds)) node work
+    gets_of views told node work restarted (inl made) shown = λ device event digest time is called.
+        let get = only_get node now work r device event digest time is called c made.1 in shown get.0 get.1 device event digest time is called
+    gets_of views told node work restarted (inr ends) shown = absurd (other ends.0)
+
     shows_of : (views : NodeView D → ℕ → DiskView) (told : Bool) (node : Node) (work : List NodeEvent) (restarted : Option Node)
         → Carries (left_between views (serving olds) (serving news)) told node c now work restarted r → (r ≡ reply.Halted → ⊥)
-        → (told ≡ true → RaidsOf view (serving olds) node now r work restarted (serving news)) → ShowsOn view told (serving olds) node now r work restarted (serving news)
-    shows_of views told node work restarted carried goes raids = record {
+        → (told ≡ true → RaidsOf view (serving olds) node now r work restarted (serving news)) → GetShown view c (serving olds) node now r work restarted (serving news)
+        → ShowsOn view told (serving olds) node now r work restarted (serving news)
+    shows_of views told node work restarted carried goes raids gets = record {
       again = λ fresh is. absurd (none_is fresh (sym (not_restarted views told node work restarted carried) ∙ is));
       refused = λ is. absurd (goes is);
       sure = λ fresh is. absurd (none_is fresh (sym (not_restarted views told node work restarted carried) ∙ is));
       raided = raids;
+      got = gets_of views told node work restarted carried gets;
     }
       where
         none_is : (fresh : Node) → None ≡ Some fresh → ⊥
@@ -104,7 +116,7 @@ module _ {D : Type 0} (view : D → DiskView) (is_disk : (disk : D) → IsDisk (
             stands = a.stands;
             leaves = a.leaves;
             halt = a.halt;
-            shows = shows_of unknown false node a.work a.restarted a.carried (λ is. halts_never node _ (a.halt is)) (λ is. absurd (not_told is));
+            shows = shows_of unknown false node a.work a.restarted a.carried (λ is. halts_never node _ (a.halt is)) (λ is. absurd (not_told is)) a.shows;
           };
       safe = λ node stands.
           let here = subst (λ (s : List (ShardView D)). Each (StandsSafelyOn view) s node) (sym (one_shards olds stands.0 stands.1)) stands.2 in
@@ -117,7 +129,7 @@ module _ {D : Type 0} (view : D → DiskView) (is_disk : (disk : D) → IsDisk (
             stands = a.stands;
             leaves = a.leaves;
             halt = a.halt;
-            shows = shows_of (views_of view) true node a.work a.restarted a.carried (λ is. halts_never node _ (a.halt is).halts) (λ is. raids_of node a.work a.restarted a.carried a.shows);
+            shows = shows_of (views_of view) true node a.work a.restarted a.carried (λ is. halts_never node _ (a.halt is).halts) (λ is. raids_of node a.work a.restarted a.carried a.shows.0) a.shows.1;
           };
       stored = λ shards same. subst (λ (s : List (ShardView D)). RepliesStored view s c now r) (one_shards olds shards same) stored;
       again = λ shards same is. absurd (other is);
@@ -145,24 +157,30 @@ module _ {D : Type 0} (view : D → DiskView) (is_disk : (disk : D) → IsDisk (
 
     module _ (call : Call) (c : Command) (now : ℕ) (r : Reply) (replies : RepliesTo view call old r new) (other : c ≢ command.Restart) (none : c ≢ command.Raid)
         (stored : RepliesStored view olds c now r)
+        (gets : (node : Node) → Each (StandsOn view) olds node → (event : Event) (work : List NodeEvent) → event.call ≡ call → event.answer ≡ replies.0 → work ≡ on_device Place event ∷ []
+        → GetShown view c (serving olds) node now r work None (serving News))
         (does : (node : Node) (event : Event) (work : List NodeEvent) → work ≡ on_device (device_number (length node) digest) event ∷ [] → event.call ≡ call → r ≡ answer_reply event.answer
         → Does node c now work r) where
       at_node : (node : Node) (event : Event) (work : List NodeEvent) → length node ≡ length olds → work ≡ on_device Place event ∷ [] → work ≡ on_device (device_number (length node) digest) event ∷ []
       at_node node event work same is = is ∙ ap (λ (n : ℕ). on_device (device_number n digest) event ∷ []) (sym same)
 
-      from_any : (node : Node) → Each (StandsOn view) olds node → ActsFrom (StandsFor view) unknown (Halts view) Unshown false (serving olds) node c now r (serving News)
+      from_any : (node : Node) → Each (StandsOn view) olds node → ActsFrom (StandsFor view) unknown (Halts view) (GetShown view c) false (serving olds) node c now r (serving News)
       from_any node stands =
           let t = event_turn view (StandsOn view) (Made false (StandsOn view)) (over_any view) olds Place old new node call replies.0 (slice_get_within olds Place old at) at goes replies.3 stands in
           acts_any view olds News node t.0 t.1 c now r
           (does node t.2 (events_of t.0) (at_node node t.2 (events_of t.0) (each_length (StandsOn view) olds node stands) t.5) t.3 (replies.1 ∙ ap answer_reply (sym t.4))) replies.2
+          (gets node stands t.2 (events_of t.0) t.3 t.4 t.5)
 
       from_safe : (node : Node) → Each (StandsSafelyOn view) olds node
-          → ActsFrom (StandsSafely view) (views_of view) (HaltsSafely view) (RaidShown view c) true (serving olds) node c now r (serving News)
+          → ActsFrom (StandsSafely view) (views_of view) (HaltsSafely view) (BothShown view c) true (serving olds) node c now r (serving News)
       from_safe node stands =
           let t = event_turn view (StandsSafelyOn view) (Safely view) (over_safe view is_disk) olds Place old new node call replies.0 (slice_get_within olds Place old at) at goes replies.3 stands in
           acts_safe view olds News node t.0 t.1 c now r
           (does node t.2 (events_of t.0) (at_node node t.2 (events_of t.0) (each_length (StandsSafelyOn view) olds node stands) t.5) t.3 (replies.1 ∙ ap answer_reply (sym t.4)))
-          replies.2 (λ raid. absurd (none raid))
+          replies.2 (
+            (λ raid. absurd (none raid)),
+            gets node (each_more (StandsSafelyOn view) (StandsOn view) (λ shard slot s. s.stands) olds node stands) t.2 (events_of t.0) t.3 t.4 t.5,
+          )
 
       event_acts : Acts view (serving olds) c now r (serving News)
       event_acts = acts_serving olds News c now r later (sure_at view olds Place old new at goes) other stored (λ is. absurd (none is)) from_any from_safe
@@ -185,17 +203,18 @@ module _ {D : Type 0} (view : D → DiskView) (is_disk : (disk : D) → IsDisk (
       still : List NodeEvent
       still = []
 
-      know_any : (node : Node) → Each (StandsOn view) olds node → ActsFrom (StandsFor view) unknown (Halts view) Unshown false (serving olds) node (command.Meta digest) now r (serving olds)
+      know_any : (node : Node) → Each (StandsOn view) olds node
+          → ActsFrom (StandsFor view) unknown (Halts view) (GetShown view (command.Meta digest)) false (serving olds) node (command.Meta digest) now r (serving olds)
       know_any node stands =
           acts_any view olds olds node (nones (length olds)) (along_none (Made false (StandsOn view)) (StandsOn view) (over_any view).rests olds node stands) (command.Meta digest) now r
-          (no_events (length olds), told node stands) (goes_on node stands)
+          (no_events (length olds), told node stands) (goes_on node stands) (λ d get. cc)
 
       know_safe : (node : Node) → Each (StandsSafelyOn view) olds node
-          → ActsFrom (StandsSafely view) (views_of view) (HaltsSafely view) (RaidShown view (command.Meta digest)) true (serving olds) node (command.Meta digest) now r (serving olds)
+          → ActsFrom (StandsSafely view) (views_of view) (HaltsSafely view) (BothShown view (command.Meta digest)) true (serving olds) node (command.Meta digest) now r (serving olds)
       know_safe node stands =
           let plain = each_more (StandsSafelyOn view) (StandsOn view) (λ shard slot s. s.stands) olds node stands in
           acts_safe view olds olds node (nones (length olds)) (along_none (Safely view) (StandsSafelyOn view) (over_safe view is_disk).rests olds node stands) (command.Meta digest) now r
-          (no_events (length olds), told node plain) (goes_on node plain) (λ raid. cc)
+          (no_events (length olds), told node plain) (goes_on node plain) ((λ raid. cc), (λ d get. cc))
 
       meta_acts : Acts view (serving olds) (command.Meta digest) now r (serving News)
       meta_acts = subst (λ (s : List (ShardView D)). Acts view (serving olds) (command.Meta digest) now r (serving s)) (sym news_same)
@@ -207,13 +226,15 @@ module _ {D : Type 0} (view : D → DiskView) (is_disk : (disk : D) → IsDisk (
         subst (λ (x : Digest). Acts view (serving olds) (command.Put x ttl expect payload) now r (serving News)) (sym same)
         (event_acts (put_call digest ttl expect payload now) (command.Put digest ttl expect payload) now r
         (subst (λ (x : Digest). RepliesTo view (put_call x ttl expect payload now) old r new) same replies)
-        (λ is. cc) (λ is. cc) tt (λ node event work at is_call given. (event, at, is_call, given)))
+        (λ is. cc) (λ is. cc) tt (λ node stands event work is_call given made d get. cc) (λ node event work at is_call given. (event, at, is_call, given)))
     by_command (command.Get d) now r on replies =
         let same : d ≡ digest = one_digest d digest on in
-        let mine = subst (λ (x : Digest). RepliesOn view old (command.Get x) now r new) same replies in
+        let mine : GetsOn view old digest now r new = subst (λ (x : Digest). RepliesOn view old (command.Get x) now r new) same replies in
         subst (λ (x : Digest). Acts view (serving olds) (command.Get x) now r (serving News)) (sym same)
-        (event_acts (get_call digest now) (command.Get digest) now r mine.0 (λ is. cc) (λ is. cc)
-        (mine.1.0, mine.1.1, subst (λ (o : Option (ShardView D)). MatchOption o ⊥ (λ shard. GetsStored view shard digest now mine.1.0)) (sym at) mine.1.2)
+        (event_acts (get_call digest now) (command.Get digest) now r (read_answer mine.got, mine.reply_is, mine.goes_on, mine.makes) (λ is. cc) (λ is. cc)
+        (mine.got, mine.reply_is, subst (λ (o : Option (ShardView D)). MatchOption o ⊥ (λ shard. GetsStored view shard digest now mine.got)) (sym at) mine.stored)
+        (λ node stands event work is_call given made d get. node_shows view olds Place old at node stands mine.whole.0 mine.whole.1 digest mine.own now mine.got mine.stored
+        event work is_call given made)
         (λ node event work at is_call given. (event, at, is_call, given)))
     by_command (command.Meta d) now r on replies =
         let same : d ≡ digest = one_digest d digest on in
@@ -223,12 +244,12 @@ module _ {D : Type 0} (view : D → DiskView) (is_disk : (disk : D) → IsDisk (
         let same : d ≡ digest = one_digest d digest on in
         subst (λ (x : Digest). Acts view (serving olds) (command.Del x) now r (serving News)) (sym same)
         (event_acts (delete_call digest now) (command.Del digest) now r (subst (λ (x : Digest). RepliesTo view (delete_call x now) old r new) same replies)
-        (λ is. cc) (λ is. cc) tt (λ node event work at is_call given. (event, at, is_call, given)))
+        (λ is. cc) (λ is. cc) tt (λ node stands event work is_call given made d get. cc) (λ node event work at is_call given. (event, at, is_call, given)))
     by_command (command.Bury d) now r on replies =
         let same : d ≡ digest = one_digest d digest on in
         subst (λ (x : Digest). Acts view (serving olds) (command.Bury x) now r (serving News)) (sym same)
         (event_acts (bury_call digest now) (command.Bury digest) now r (subst (λ (x : Digest). RepliesTo view (bury_call x now) old r new) same replies)
-        (λ is. cc) (λ is. cc) tt (λ node event work at is_call given. (event, at, is_call, given)))
+        (λ is. cc) (λ is. cc) tt (λ node stands event work is_call given made d get. cc) (λ node event work at is_call given. (event, at, is_call, given)))
     by_command command.Flush now r on replies = cc
     by_command command.Defrag now r on replies = cc
     by_command command.Expire now r on replies = cc
@@ -264,10 +285,10 @@ module _ {D : Type 0} (view : D → DiskView) (is_disk : (disk : D) → IsDisk (
       (sure_work view (FlushesOn {E = E} view) plus_one (λ result old new does. does.goes) flushed 0 olds news each) (λ e. cc) tt (λ e. absurd cc)
       (λ node stands.
       let t = flush_turns view (StandsOn view) (Made false (StandsOn view)) (over_any view) flushed olds news node each stands in
-      acts_any view olds news node t.0 t.1 command.Flush now r (t.2.0, t.2.2, is t.2.0 t.2.1) (λ h. flushed_goes_on t.2.0 (sym (is t.2.0 t.2.1) ∙ h)))
+      acts_any view olds news node t.0 t.1 command.Flush now r (t.2.0, t.2.2, is t.2.0 t.2.1) (λ h. flushed_goes_on t.2.0 (sym (is t.2.0 t.2.1) ∙ h)) (λ d get. cc))
       (λ node stands.
       let t = flush_turns view (StandsSafelyOn view) (Safely view) (over_safe view is_disk) flushed olds news node each stands in
-      acts_safe view olds news node t.0 t.1 command.Flush now r (t.2.0, t.2.2, is t.2.0 t.2.1) (λ h. flushed_goes_on t.2.0 (sym (is t.2.0 t.2.1) ∙ h)) (λ raid. cc))
+      acts_safe view olds news node t.0 t.1 command.Flush now r (t.2.0, t.2.2, is t.2.0 t.2.1) (λ h. flushed_goes_on t.2.0 (sym (is t.2.0 t.2.1) ∙ h)) ((λ raid. cc), (λ d get. cc)))
 
   pub defrag_acts : (result : Result (ℕ × ℕ) DefragCause) (olds news : List (ShardView D)) (now : ℕ) (r : Reply) → DefragsEach view result olds news
       → ((outcome : Outcome) → IsDefragged result outcome → r ≡ defragged_reply outcome) → Acts view (serving olds) command.Defrag now r (serving news)
@@ -276,10 +297,10 @@ module _ {D : Type 0} (view : D → DiskView) (is_disk : (disk : D) → IsDisk (
       (sure_work view (DefragsOn view) plus_both (λ done old new does. does.goes) result (0, 0) olds news each) (λ e. cc) tt (λ e. absurd cc)
       (λ node stands.
       let t = defrag_turns view (StandsOn view) (Made false (StandsOn view)) (over_any view) result olds news node each stands in
-      acts_any view olds news node t.0 t.1 command.Defrag now r (t.2.0, t.2.2, is t.2.0 t.2.1) (λ h. defragged_goes_on t.2.0 (sym (is t.2.0 t.2.1) ∙ h)))
+      acts_any view olds news node t.0 t.1 command.Defrag now r (t.2.0, t.2.2, is t.2.0 t.2.1) (λ h. defragged_goes_on t.2.0 (sym (is t.2.0 t.2.1) ∙ h)) (λ d get. cc))
       (λ node stands.
       let t = defrag_turns view (StandsSafelyOn view) (Safely view) (over_safe view is_disk) result olds news node each stands in
-      acts_safe view olds news node t.0 t.1 command.Defrag now r (t.2.0, t.2.2, is t.2.0 t.2.1) (λ h. defragged_goes_on t.2.0 (sym (is t.2.0 t.2.1) ∙ h)) (λ raid. cc))
+      acts_safe view olds news node t.0 t.1 command.Defrag now r (t.2.0, t.2.2, is t.2.0 t.2.1) (λ h. defragged_goes_on t.2.0 (sym (is t.2.0 t.2.1) ∙ h)) ((λ raid. cc), (λ d get. cc)))
 
   pub expire_acts : (result : Result ℕ WriteRefusal) (olds news : List (ShardView D)) (now : ℕ) (r : Reply) → ExpiresAll view now result olds news
       → ((outcome : Outcome) → IsExpired result outcome → r ≡ expired_reply outcome) → Acts view (serving olds) command.Expire now r (serving news)
@@ -288,10 +309,10 @@ module _ {D : Type 0} (view : D → DiskView) (is_disk : (disk : D) → IsDisk (
       (sure_work view (ExpiresOn view now) plus_one (λ done old new does. does.goes) result 0 olds news each) (λ e. cc) tt (λ e. absurd cc)
       (λ node stands.
       let t = expire_turns view (StandsOn view) (Made false (StandsOn view)) (over_any view) now result olds news node each stands in
-      acts_any view olds news node t.0 t.1 command.Expire now r (t.2.0, t.2.2, is t.2.0 t.2.1) (λ h. expired_goes_on t.2.0 (sym (is t.2.0 t.2.1) ∙ h)))
+      acts_any view olds news node t.0 t.1 command.Expire now r (t.2.0, t.2.2, is t.2.0 t.2.1) (λ h. expired_goes_on t.2.0 (sym (is t.2.0 t.2.1) ∙ h)) (λ d get. cc))
       (λ node stands.
       let t = expire_turns view (StandsSafelyOn view) (Safely view) (over_safe view is_disk) now result olds news node each stands in
-      acts_safe view olds news node t.0 t.1 command.Expire now r (t.2.0, t.2.2, is t.2.0 t.2.1) (λ h. expired_goes_on t.2.0 (sym (is t.2.0 t.2.1) ∙ h)) (λ raid. cc))
+      acts_safe view olds news node t.0 t.1 command.Expire now r (t.2.0, t.2.2, is t.2.0 t.2.1) (λ h. expired_goes_on t.2.0 (sym (is t.2.0 t.2.1) ∙ h)) ((λ raid. cc), (λ d get. cc)))
 
   -- ---- a raid
 
@@ -416,27 +437,31 @@ module _ {D : Type 0} (view : D → DiskView) (is_disk : (disk : D) → IsDisk (
 
   raid_safe : (result : Result (ℕ × ℕ) LineFault) (olds news : List (ShardView D)) (now : ℕ) (r : Reply) → RaidsEach view now result olds news
       → ((outcome : Outcome) → IsRaided result outcome → r ≡ raided_reply outcome) → (node : Node) → Each (StandsSafelyOn view) olds node
-      → ActsFrom (StandsSafely view) (views_of view) (HaltsSafely view) (RaidShown view command.Raid) true (serving olds) node command.Raid now r (serving news)
+      → ActsFrom (StandsSafely view) (views_of view) (HaltsSafely view) (BothShown view command.Raid) true (serving olds) node command.Raid now r (serving news)
   raid_safe (Ok sums) olds news now r each is node stands =
       let t = raid_shown now sums (0, 0) olds news node each stands in
       let told : r ≡ reply.Raided sums.0 sums.1 = is (did sums.0 sums.1) refl in
-      acts_safe view olds news node t.0 t.1 command.Raid now r (did sums.0 sums.1, t.2, told) (λ h. raided_goes_on (did sums.0 sums.1) (sym told ∙ h))
-      (λ raid removed cleared so counts since.
-      let took = t.3 counts since in
-      let both : reply.Raided sums.0 sums.1 ≡ reply.Raided removed cleared = sym told ∙ so in
-      let one : sums.0 ≡ removed = cc in
-      let two : sums.1 ≡ cleared = cc in
-      let gone : took.0.0 ≡ removed = omega (arith, took.1, one) in
-      let bare : took.0.1 ≡ cleared = omega (arith, took.2, two) in
-      subst (λ (x : Node). RaidsAll counts (LeftBy olds) (LeftBy news) now node x removed cleared) (sym (node_after_of t.0 node))
-      (subst (λ (n : ℕ). RaidsAll counts (LeftBy olds) (LeftBy news) now node (slots_after t.0 node) n cleared) gone
-      (subst (λ (n : ℕ). RaidsAll counts (LeftBy olds) (LeftBy news) now node (slots_after t.0 node) took.0.0 n) bare took.3)))
+      acts_safe view olds news node t.0 t.1 command.Raid now r (did sums.0 sums.1, t.2, told) (λ h. raided_goes_on (did sums.0 sums.1) (sym told ∙ h)) (
+        (λ raid removed cleared so counts since.
+            let took = t.3 counts since in
+            let both : reply.Raided sums.0 sums.1 ≡ reply.Raided removed cleared = sym told ∙ so in
+            let one : sums.0 ≡ removed = cc in
+            let two : sums.1 ≡ cleared = cc in
+            let gone : took.0.0 ≡ removed = omega (arith, took.1, one) in
+            let bare : took.0.1 ≡ cleared = omega (arith, took.2, two) in
+            subst (λ (x : Node). RaidsAll counts (LeftBy olds) (LeftBy news) now node x removed cleared) (sym (node_after_of t.0 node))
+            (subst (λ (n : ℕ). RaidsAll counts (LeftBy olds) (LeftBy news) now node (slots_after t.0 node) n cleared) gone
+            (subst (λ (n : ℕ). RaidsAll counts (LeftBy olds) (LeftBy news) now node (slots_after t.0 node) took.0.0 n) bare took.3))),
+        (λ d get. cc),
+      )
   raid_safe (Err fault) olds news now r each is node stands =
       let t = raid_turns view (StandsSafelyOn view) (Safely view) (over_safe view is_disk) now (Err fault) olds news node each stands in
-      acts_safe view olds news node t.0 t.1 command.Raid now r (t.2.0, t.2.2, is t.2.0 t.2.1) (λ h. raided_goes_on t.2.0 (sym (is t.2.0 t.2.1) ∙ h))
-      (λ raid removed cleared so.
-      let both : raided_reply (stopped t.2.1.0) ≡ reply.Raided removed cleared = ap raided_reply (sym t.2.1.2) ∙ sym (is t.2.0 t.2.1) ∙ so in
-      absurd cc)
+      acts_safe view olds news node t.0 t.1 command.Raid now r (t.2.0, t.2.2, is t.2.0 t.2.1) (λ h. raided_goes_on t.2.0 (sym (is t.2.0 t.2.1) ∙ h)) (
+        (λ raid removed cleared so.
+            let both : raided_reply (stopped t.2.1.0) ≡ reply.Raided removed cleared = ap raided_reply (sym t.2.1.2) ∙ sym (is t.2.0 t.2.1) ∙ so in
+            absurd cc),
+        (λ d get. cc),
+      )
 
   pub raid_acts : (result : Result (ℕ × ℕ) LineFault) (olds news : List (ShardView D)) (now : ℕ) (r : Reply) → RaidsEach view now result olds news
       → ((outcome : Outcome) → IsRaided result outcome → r ≡ raided_reply outcome) → Acts view (serving olds) command.Raid now r (serving news)
@@ -446,7 +471,7 @@ module _ {D : Type 0} (view : D → DiskView) (is_disk : (disk : D) → IsDisk (
       (λ e. raid_exact_each result olds news now r each is)
       (λ node stands.
       let t = raid_turns view (StandsOn view) (Made false (StandsOn view)) (over_any view) now result olds news node each stands in
-      acts_any view olds news node t.0 t.1 command.Raid now r (t.2.0, t.2.2, is t.2.0 t.2.1) (λ h. raided_goes_on t.2.0 (sym (is t.2.0 t.2.1) ∙ h)))
+      acts_any view olds news node t.0 t.1 command.Raid now r (t.2.0, t.2.2, is t.2.0 t.2.1) (λ h. raided_goes_on t.2.0 (sym (is t.2.0 t.2.1) ∙ h)) (λ d get. cc))
       (λ node stands. raid_safe result olds news now r each is node stands)
 
   -- ---- the numbers
@@ -457,11 +482,11 @@ module _ {D : Type 0} (view : D → DiskView) (is_disk : (disk : D) → IsDisk (
       acts_serving olds olds command.Stat now (reply.StatOf counts) (later_same view is_disk (disks_served olds)) (λ counts sure. sure) (λ e. cc) tt (λ e. absurd cc)
       (λ node stands.
       acts_any view olds olds node (nones (length olds)) (along_none (Made false (StandsOn view)) (StandsOn view) (over_any view).rests olds node stands) command.Stat now (reply.StatOf counts)
-      (no_events (length olds), ap reply.StatOf (told node stands)) (stat_goes_on counts))
+      (no_events (length olds), ap reply.StatOf (told node stands)) (stat_goes_on counts) (λ d get. cc))
       (λ node stands.
       let plain = each_more (StandsSafelyOn view) (StandsOn view) (λ shard slot s. s.stands) olds node stands in
       acts_safe view olds olds node (nones (length olds)) (along_none (Safely view) (StandsSafelyOn view) (over_safe view is_disk).rests olds node stands) command.Stat now (reply.StatOf counts)
-      (no_events (length olds), ap reply.StatOf (told node plain)) (stat_goes_on counts) (λ raid. cc))
+      (no_events (length olds), ap reply.StatOf (told node plain)) (stat_goes_on counts) ((λ raid. cc), (λ d get. cc)))
 
   -- ---- tending
 

@@ -12,6 +12,7 @@ pub mod Counting
 pub mod Acting
 pub mod Replying
 pub mod Surely
+pub mod Gets
 pub mod Nodes
 pub mod Commands
 pub mod Keeping

@@ -2,6 +2,7 @@
 use Rattle.std.proofs.Common.{◌≡◌, inl, ℕ, zero, suc, true, false, List, [], ◌∷◌, length, set, refl, sym, ap, subst}
 use Rattle.std.specs.Prelude.{◌≢◌, Some, None, slice_get}
 use Rattle.disk_model.specs.Disk.{DiskView, IsDisk}
+use Rattle.rec_format.specs.declared.version.Digest.{Digest}
 use Rattle.block_shelf.specs.Disks.{IsLater}
 use Rattle.model_device.specs.Events.{Event}
 use Rattle.line_proto.specs.declared.command.Command.{Command}
@@ -16,6 +17,7 @@ use Rattle.shard_core.specs.View.{ShardView}
 use Rattle.shard_core.proofs.Later.{later_none}
 use Rattle.core_run.specs.Views.{NodeView, serving, halted, disks_served, views_of, unknown, AreLater}
 use Rattle.core_run.specs.Standing.{StandsOn, StandsSafelyOn, StandsFor, StandsSafely, Halts, HaltsSafely}
+use Rattle.model_node.specs.Shown.{ShowsGet}
 use Rattle.core_run.specs.Shown.{RaidsOf}
 use Rattle.core_run.proofs.Places.{events_of}
 use Rattle.core_run.proofs.Making.{Made, LeftOn, Along, along_legal, along_after, along_left, nothing_left}
@@ -36,13 +38,16 @@ one_reason a b c d same = let e : Some a ≡ Some b = ap (λ n. n.refused) same 
 pub one_disks : {D : Type 0} (a b : ℕ × StartCause) (c d : List D) → halted a c ≡ halted b d → c ≡ d
 one_disks a b c d same = ap (λ n. n.disks) same
 
--- nothing is said of what a call shows
-abbrev pub Unshown : {T : Type 0} → Showing T
-Unshown old node now r work restarted new = Unit {0}
-
 -- of a raid it is said what it has done
 abbrev pub RaidShown : {D : Type 0} → (view : D → DiskView) → Command → Showing (NodeView D)
 RaidShown view c old node now r work restarted new = c ≡ command.Raid → RaidsOf view old node now r work restarted new
+
+-- of a get what it shows
+abbrev pub GetShown : {D : Type 0} → (view : D → DiskView) → Command → Showing (NodeView D)
+GetShown view c old node now r work restarted new = (digest : Digest) → c ≡ command.Get digest → ShowsGet (views_of view old) node work
+
+abbrev pub BothShown : {D : Type 0} → (view : D → DiskView) → Command → Showing (NodeView D)
+BothShown view c old node now r work restarted new = RaidShown view c old node now r work restarted new × GetShown view c old node now r work restarted new
 
 -- ---- time
 
@@ -76,9 +81,9 @@ module _ {D : Type 0} (view : D → DiskView) (olds news : List (ShardView D)) (
     stands_any : StandsFor view (serving news) (node_after Work node)
     stands_any = (news, refl, along_after false (StandsOn view) olds news node mines along)
 
-    pub acts_any : (c : Command) (now : ℕ) (r : Reply) → Does node c now Work r → r ≢ reply.Halted
-        → ActsFrom (StandsFor view) unknown (Halts view) Unshown false (serving olds) node c now r (serving news)
-    acts_any c now r does goes = record {
+    pub acts_any : (c : Command) (now : ℕ) (r : Reply) → Does node c now Work r → r ≢ reply.Halted → GetShown view c (serving olds) node now r Work None (serving news)
+        → ActsFrom (StandsFor view) unknown (Halts view) (GetShown view c) false (serving olds) node c now r (serving news)
+    acts_any c now r does goes shown = record {
       work = Work;
       restarted = None;
       carried = inl (refl, does);
@@ -86,7 +91,7 @@ module _ {D : Type 0} (view : D → DiskView) (olds news : List (ShardView D)) (
       stands = λ _. stands_any;
       leaves = nothing_left (serving olds) (serving news) node _;
       halt = λ is. absurd (goes is);
-      shows = tt;
+      shows = shown;
     }
 
     pub tends_any : TendsEach 0 node Work → TendsFrom (StandsFor view) unknown false (serving olds) node (serving news)
@@ -118,8 +123,8 @@ module _ {D : Type 0} (view : D → DiskView) (olds news : List (ShardView D)) (
     left : LeavesEach (views_of view) node (λ device. states_while device Work node) (serving olds) (serving news)
     left = along_left view olds news node mines (along_both (Made true (StandsSafelyOn view)) (LeftOn view) olds news node mines along).1
 
-    pub acts_safe : (c : Command) (now : ℕ) (r : Reply) → Does node c now Work r → r ≢ reply.Halted → RaidShown view c (serving olds) node now r Work None (serving news)
-        → ActsFrom (StandsSafely view) (views_of view) (HaltsSafely view) (RaidShown view c) true (serving olds) node c now r (serving news)
+    pub acts_safe : (c : Command) (now : ℕ) (r : Reply) → Does node c now Work r → r ≢ reply.Halted → BothShown view c (serving olds) node now r Work None (serving news)
+        → ActsFrom (StandsSafely view) (views_of view) (HaltsSafely view) (BothShown view c) true (serving olds) node c now r (serving news)
     acts_safe c now r does goes shown = record {
       work = Work;
       restarted = None;

@@ -52,6 +52,7 @@ module _ {D : Type 0} (view : D → DiskView) (set : Settings) where
         sprigs = set.sprigs;
         lwm = set.lwm;
         pending_limit = set.pending;
+        cache = set.cache;
         commit = set.commit;
         raid_age = set.raid_age;
       }
@@ -181,6 +182,7 @@ module _ {D : Type 0} (view : D → DiskView) (set : Settings) where
             let one : after ≡ new = cc in
             subst (λ (n : Node). AreSureSince view (counts_of n) fresh) one (sure_now view set 0 (length olds) (disks_served olds) fresh after starts stands);
         raided = λ is removed cleared other. cc;
+        got = λ device event digest time is. cc;
       }
 
       any : (node : Node) → Each (StandsOn view) olds node
@@ -262,6 +264,7 @@ module _ {D : Type 0} (view : D → DiskView) (set : Settings) where
         );
         sure = λ fresh is. tt;
         raided = λ is removed cleared other. cc;
+        got = λ device event digest time is. cc;
       }
 
       any_refused : (node : Node) → Each (StandsOn view) olds node

@@ -6,14 +6,16 @@ use Rattle.model_device.specs.Events.{Call, put_call, get_call, delete_call, bur
 use Rattle.model_device.specs.Vacating.{Outcome, VacatesUpTo, Tends, did, stopped}
 use Rattle.model_device.specs.Expiring.{ExpiresEach}
 use Rattle.block_shelf.specs.Disks.{IsLater}
-use Rattle.block_shelf.specs.View.{AreSure}
+use Rattle.block_shelf.specs.View.{IsShelf, AreSure}
 use Rattle.block_shelf.specs.Sure.{StaysSure}
 use Rattle.block_shelf.specs.Scans.{possible_copies}
 use Rattle.block_shelf.specs.declared.refusals.ReadRefusal.{ReadRefusal}
 use Rattle.rec_format.specs.declared.entry.Counts.{Counts}
+use Rattle.rec_format.specs.declared.version.Digest.{Digest}
 use Rattle.rec_format.specs.declared.version.Version.{Version}
+use Rattle.rec_format.specs.Places.{device_number}
 use Rattle.shard_core.specs.View.{ShardView, SameSetup, setup_of}
-use Rattle.shard_core.specs.Stands.{Agrees, IsSafe}
+use Rattle.shard_core.specs.Stands.{Agrees, IsWhole, IsSafe}
 use Rattle.shard_core.specs.Calls.{Makes, GetsStored, cause_of_write, read_answer, flush_answer}
 use Rattle.shard_core.specs.Vacating.{MakesEvents, IsCauseOf}
 use Rattle.shard_core.specs.declared.refusals.DefragCause.{DefragCause}
@@ -39,13 +41,20 @@ pub record GoesOn {D : Type 0} (view : D → DiskView) (old new : ShardView D) :
 abbrev pub RepliesTo : {D : Type 0} → (view : D → DiskView) → Call → (old : ShardView D) → Reply → (new : ShardView D) → Type 0
 RepliesTo view call old r new = (answer : Answer) × (r ≡ answer_reply answer) × (r ≢ reply.Halted) × ((s : State) → Agrees old s → Makes view call answer old s new)
 
--- A command on a digest of the device is one event of it, and its reply; a look at what is known is none. A get is replied as its record
--- is stored.
+-- A get is one event, and is replied as its record is stored, on a device that has the digest and keeps what every device keeps.
+pub record GetsOn {D : Type 0} (view : D → DiskView) (old : ShardView D) (digest : Digest) (now : ℕ) (r : Reply) (new : ShardView D) : Type 0 where
+  pub got : Result (Option Version) ReadRefusal
+  pub reply_is : r ≡ answer_reply (read_answer got)
+  pub goes_on : r ≢ reply.Halted
+  pub makes : (s : State) → Agrees old s → Makes view (get_call digest now) (read_answer got) old s new
+  pub stored : GetsStored view old digest now got
+  pub whole : IsShelf view old.shelf × IsWhole old
+  pub own : device_number old.shelf.geometry.devices digest ≡ old.shelf.geometry.device
+
+-- A command on a digest of the device is one event of it, and its reply; a look at what is known is none.
 abbrev pub RepliesOn : {D : Type 0} → (view : D → DiskView) → (old : ShardView D) → Command → ℕ → Reply → (new : ShardView D) → Type 0
 RepliesOn view old (command.Put digest ttl expect payload) now r new = RepliesTo view (put_call digest ttl expect payload now) old r new
-RepliesOn view old (command.Get digest) now r new =
-    RepliesTo view (get_call digest now) old r new
-    × ((got : Result (Option Version) ReadRefusal) × (r ≡ answer_reply (read_answer got)) × GetsStored view old digest now got)
+RepliesOn view old (command.Get digest) now r new = GetsOn view old digest now r new
 RepliesOn view old (command.Meta digest) now r new = (new ≡ old) × ((s : State) → Agrees old s → r ≡ meta_reply (seen s now digest))
 RepliesOn view old (command.Del digest) now r new = RepliesTo view (delete_call digest now) old r new
 RepliesOn view old (command.Bury digest) now r new = RepliesTo view (bury_call digest now) old r new

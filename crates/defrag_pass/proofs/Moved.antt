@@ -65,7 +65,9 @@ read_then_later a b c first then = record {
 
 -- and its shelf has the same shape
 pub setup_read : {D : Type 0} (setup : Setup) (old mid : ShelfView D) → mid ≡ record old { disk = mid.disk } → IsSetupOf setup old → IsSetupOf setup mid
-setup_read {D} setup old mid same shape = subst (λ (x : ShelfView D). IsSetupOf setup x) (sym same) (record { shape = shape.shape; pending = shape.pending; lwm = shape.lwm; sprigs = shape.sprigs })
+setup_read {D} setup old mid same shape =
+    subst (λ (x : ShelfView D). IsSetupOf setup x) (sym same)
+    (record { shape = shape.shape; pending = shape.pending; lwm = shape.lwm; cache = shape.cache; sprigs = shape.sprigs })
 
 -- and the same live copies
 pub prior_read : {D : Type 0} (place : Place) (old mid : ShelfView D) → mid ≡ record old { disk = mid.disk } → IsPriorIn old (Some place) → IsPriorIn mid (Some place)

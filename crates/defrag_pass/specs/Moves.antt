@@ -1,5 +1,5 @@
 -- Crate defrag_pass. How the move of a record is answered, and why its record isn't read.
-use Rattle.std.specs.Prelude.{◌≡◌, ◌≢◌, ◌⊎◌, ℕ, List, take, Contains, Bool, Option, Some, None, Result, Ok, Err}
+use Rattle.std.specs.Prelude.{◌≡◌, ◌≢◌, ◌⊎◌, ℕ, List, take, Contains, Bool, true, false, Option, Some, None, Result, Ok, Err}
 use Rattle.std.specs.List.{AllByRecursion}
 use Rattle.rec_format.specs.declared.version.Digest.{Digest}
 use Rattle.rec_format.specs.declared.version.Head.{Head}
@@ -19,7 +19,8 @@ use Rattle.block_shelf.specs.View.{ShelfView, in_memory}
 use Rattle.block_shelf.specs.Disks.{OnlyRead}
 use Rattle.block_shelf.specs.Standing.{HasRecord}
 use Rattle.block_shelf.specs.Changes.{SameButRoom}
-use Rattle.block_shelf.specs.Appends.{IsLeftBy, LiesIn}
+use Rattle.block_shelf.specs.Appends.{BeginsInFirst, IsLeftBy, LiesIn}
+use Rattle.block_shelf.specs.Keeping.{KeepsAll}
 use Rattle.block_shelf.specs.Reads.{HasNoHeadOf, IsRead, kept_head, copy_bytes}
 use Rattle.law_steps.specs.Sprigs.{place_of}
 use Rattle.defrag_pass.specs.declared.refusal.MoveRefusal.{MoveRefusal}
@@ -129,3 +130,10 @@ IsShelfLeft view old new why.Space = new ≡ old
 IsShelfLeft view old new (why.Damaged kept bytes) = OnlyReads view old new
 IsShelfLeft view old new why.Memory = OnlyRead (view old.disk) (view new.disk) × SameButRoom (record old { disk = new.disk }) new
 IsShelfLeft view old new why.Fault = OnlyReads view old new ⊎ IsLeftBy old new put.Fault
+
+-- What a move makes of what is kept of flushed buffers: as a copy of so many units to the buffer of moved records does; where nothing is
+-- moved all is kept.
+abbrev pub KeepsMoved : {D : Type 0} → (units : ℕ) → (old new : ShelfView D) → Result Bool MoveRefusal → Type 0
+KeepsMoved units old new (Ok true) = BeginsInFirst Defrag units old new
+KeepsMoved units old new (Ok false) = KeepsAll old new
+KeepsMoved units old new (Err refusal) = KeepsAll old new

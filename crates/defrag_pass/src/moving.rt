@@ -1,5 +1,5 @@
 // How the record of one entry is moved.
-ghost use Rattle.std.specs.Prelude.{◌≡◌, ◌≢◌, ◌+◌, ◌<◌, ◌≤◌, true, false, None, Some, Ok, Err, Contains, IfOk, IfErr, MatchResult};
+ghost use Rattle.std.specs.Prelude.{◌≡◌, ◌≢◌, ◌+◌, ◌<◌, ◌≤◌, true, false, None, Some, Ok, Err, Contains, IfOk, IfErr, MatchOption, MatchResult};
 ghost use Rattle.std.specs.List.{AllByRecursion};
 ghost use Rattle.model_faults.specs.Counts.{Rose};
 ghost use Rattle.disk_model.specs.Disk.{IsHonest, TellsTorn};
@@ -22,12 +22,13 @@ ghost use Rattle.block_shelf.specs.Calls.{copy_live};
 ghost use Rattle.block_shelf.specs.Disks.{IsLater, OnlyRead};
 ghost use Rattle.block_shelf.specs.Sure.{StaysSure};
 ghost use Rattle.block_shelf.specs.Reads.{IsRead, copy_bytes};
+ghost use Rattle.block_shelf.specs.Keeping.{KeepsAll};
 ghost use Rattle.block_shelf.specs.Standing.{StandsFor, IsPlaced, HasRecord};
 ghost use Rattle.block_shelf.specs.View.{IsSetupOf, SameShape, gate_at, in_memory};
 ghost use Rattle.law_steps.specs.Standing.{StandTogether};
 ghost use Rattle.law_steps.specs.Sprigs.{SameSprig, place_of};
 ghost use Rattle.law_steps.specs.Events.{StepMakes};
-ghost use Rattle.defrag_pass.specs.Moves.{Answers, CopiesRecord, IsDamageOf, IsShelfLeft, IsUnread, IsUnreadOf, IsUndamaged};
+ghost use Rattle.defrag_pass.specs.Moves.{Answers, CopiesRecord, IsDamageOf, IsShelfLeft, IsUnread, IsUnreadOf, IsUndamaged, KeepsMoved};
 
 use crate::MoveRefusal;
 use crate::refusal::{append_refusal, read_refusal};
@@ -61,6 +62,7 @@ pub fn move_one<D: Disk>(
         → gate_at shelf.old.gates (first_block shelf.old.free) ≡ Shut → shelf.new.disk ≡ shelf.old.disk }
     ensures refused { IfErr result (λ refusal. SameSprig sprig.old sprig.new) }
     ensures left { IfErr result (IsShelfLeft D.view shelf.old shelf.new) }
+    ensures kept { MatchOption (entry_of digest.now sprig.old.entries) (KeepsAll shelf.old shelf.new) (λ e. KeepsMoved e.units shelf.old shelf.new result) }
 
     // Damage is told of the entry's record in the block, and of what was read of it.
     ensures damaged { IfErr result (IsDamageOf (D.view shelf.old.disk).tells D.view block (entry_of digest.now sprig.old.entries) shelf.new) }

@@ -312,8 +312,7 @@ allowed_may setup told s possible event flush_next_call facts own scans becomes 
     flushed_ends setup s possible event (Legal.seal_low setup s.book) (Legal.flush_first (after_steps setup (Legal.seal_low setup s.book) s).book) (both_seals _ _)
     (first_free (after_steps setup (Legal.seal_low setup s.book) s).book.buffers) ends
 allowed_may setup told s possible event choose_call facts own scans becomes (inl only) = none_steps setup s possible event only.1
-allowed_may setup told s possible event choose_call facts own scans becomes (inr (inl memory)) = none_steps setup s possible event memory.1
-allowed_may setup told s possible event choose_call facts own scans becomes (inr (inr reads)) = where_reads setup told s possible event (Legal.queue_front s.book.queue) reads
+allowed_may setup told s possible event choose_call facts own scans becomes (inr reads) = where_reads setup told s possible event (Legal.queue_front s.book.queue) reads
 allowed_may setup told s possible event (move_call digest block) facts own scans becomes ends = by (Legal.is_in_block block (live_of digest s.book.live)) ends
   where
     units : ℕ

@@ -79,8 +79,7 @@ move_ends setup told s event digest block allowed = by (live_of digest s.book.li
 pub choice_ends : (setup : Setup) (told : Bool) (s : State) (event : Event) → Allowed setup told s event choose_call
     → (event.steps ≡ []) × ((event.answer ≡ block_chosen (queue_front s.book.queue)) ⊎ FailsOtherwise event)
 choice_ends setup told s event (inl only) = (only.1, inl only.0)
-choice_ends setup told s event (inr (inl memory)) = (memory.1, inr (memory_fails event memory))
-choice_ends setup told s event (inr (inr reads)) = by (queue_front s.book.queue) reads
+choice_ends setup told s event (inr reads) = by (queue_front s.book.queue) reads
   where
     by : (o : Option ℕ) → WhereReads told event o → (event.steps ≡ []) × ((event.answer ≡ block_chosen (queue_front s.book.queue)) ⊎ FailsOtherwise event)
     by None none = absurd none

@@ -16,7 +16,7 @@ use Rattle.law_room.proofs.Gaining.{gains}
 use Rattle.law_room.proofs.Keeping.{refreshed_tidy}
 
 abbrev pub setup : Setup
-setup = record { capacity = 10; blocks = 4; device = 0; devices = 1; sprigs = 1; lwm = 50; pending_limit = 4; commit = false; raid_age = 0 }
+setup = record { capacity = 10; blocks = 4; device = 0; devices = 1; sprigs = 1; lwm = 50; pending_limit = 4; cache = 0; commit = false; raid_age = 0 }
 
 abbrev pub digest : ℕ → Digest
 digest number = record { 0 = number ∷ [] }

@@ -41,6 +41,7 @@ module _ {D : Type 0} (view : D → DiskView) where
     refused = λ is. absurd (bye_goes is);
     sure = λ fresh is. absurd (none_is fresh is);
     raided = λ is removed cleared other. cc;
+    got = λ device event digest time is. cc;
   }
     where
       none_is : (fresh : Node) → None ≡ Some fresh → ⊥

@@ -15,7 +15,7 @@ use Rattle.node_session.specs.declared.ended.Ended.{Ended}
 use Rattle.node_session.specs.declared.ended.Ended.TheVariants.{Finish, Quit, SourceFault, SinkFault, Memory, Halted, Long}
 use Rattle.line_proto.specs.declared.reply.Reply.TheVariants as reply
 use Rattle.model_node.specs.declared.run_end.RunEnd.{RunEnd}
-use Rattle.model_node.specs.Commands.{Node}
+use Rattle.model_node.specs.Commands.{Node, on_device}
 use Rattle.model_node.specs.Run.{Served, node_after_line}
 use Rattle.model_node.specs.Outside.{counts_of}
 use Rattle.model_node.specs.Shown.{TakenWith, FrontIsTaken, IsRefusedSo, Shows}
@@ -167,9 +167,11 @@ module _ {D : Type 0} (view : D → DiskView) where
         by None idle = record {
           again = λ fresh is goes. absurd (none_is fresh (sym idle.0 ∙ is));
           refused = λ is. absurd (idle.2 is);
+          got = λ device event digest time is. let clash : [] ≡ on_device device event ∷ [] = sym idle.1 ∙ is in cc;
         }
         by (Some now) one = record {
           again = one.again;
+          got = one.got;
           refused = λ is.
               let r = one.refused is in
               let kept : disks_of after ≡ r.2 = ap disks_of r.3 in

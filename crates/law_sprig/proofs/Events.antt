@@ -306,8 +306,7 @@ module _ (setup : Setup) (told : Bool) (s : State) (event : Event) (call : Call)
 
   chooses : Legal.Allowed setup told s event choose_call → Made
   chooses (inl is) = no_steps is.1
-  chooses (inr (inl memory)) = no_steps memory.1
-  chooses (inr (inr fails)) = where_reads (Legal.queue_front s.book.queue) fails
+  chooses (inr fails) = where_reads (Legal.queue_front s.book.queue) fails
 
 -- The steps of a legal event are those of its call.
 pub steps_are : (setup : Setup) (told : Bool) (s : State) (event : Event) (call : Call) → Legal.Allowed setup told s event call → AreStepsOf setup s call s event.steps

@@ -17,7 +17,7 @@ counted = refl
 -- ---- verdicts
 
 abbrev one_device : Setup
-one_device = record { capacity = 766; blocks = 16; device = 0; devices = 1; sprigs = 16; lwm = 0; pending_limit = 16; commit = false; raid_age = 0 }
+one_device = record { capacity = 766; blocks = 16; device = 0; devices = 1; sprigs = 16; lwm = 0; pending_limit = 16; cache = 0; commit = false; raid_age = 0 }
 
 abbrev sevens : Digest
 sevens = record { 0 = replicate 20 7 }

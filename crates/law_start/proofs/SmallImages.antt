@@ -26,7 +26,7 @@ is_geometry : IsGeometry small
 is_geometry = record { block_size = (14, lit≤ tt, lit≤ tt, refl); blocks = (lit≤ tt, lit≤ tt); device = lit< tt; devices = lit≤ tt }
 
 abbrev setup : Setup
-setup = record { capacity = 766; blocks = 8; device = 0; devices = 1; sprigs = 16; lwm = 0; pending_limit = 16; commit = false; raid_age = 86400 }
+setup = record { capacity = 766; blocks = 8; device = 0; devices = 1; sprigs = 16; lwm = 0; pending_limit = 16; cache = 0; commit = false; raid_age = 86400 }
 
 abbrev fresh : List ℕ
 fresh = header_text small ++ replicate 131072 0

@@ -204,8 +204,7 @@ module _ (setup : Setup) (s : State) (event : Event) where
 
   choose_room : (told : Bool) → Allowed setup told s event choose_call → IsRoomy
   choose_room told (inl is) = none_steps [] is.1 tt
-  choose_room told (inr (inl none)) = only_room (refused no_memory) none
-  choose_room told (inr (inr reads)) = reads_room told (queue_front s.book.queue) reads
+  choose_room told (inr reads) = reads_room told (queue_front s.book.queue) reads
 
   -- a move of a copy that can be placed
   moves : (digest : Digest) (copy : Live) → live_of digest s.book.live ≡ Some copy → CanPlace setup defrag copy.units s.book → event.steps ≡ moved digest ∷ [] → IsRoomy

@@ -21,7 +21,7 @@ use Rattle.law_trail.proofs.Each.{step_booked, step_trailed}
 use Rattle.law_trail.proofs.Bodies.{body_comes}
 
 abbrev setup : Setup
-setup = record { capacity = 100; blocks = 6; device = 0; devices = 1; sprigs = 1; lwm = 50; pending_limit = 4; commit = false; raid_age = 0 }
+setup = record { capacity = 100; blocks = 6; device = 0; devices = 1; sprigs = 1; lwm = 50; pending_limit = 4; cache = 0; commit = false; raid_age = 0 }
 
 abbrev d : Digest
 d = record { 0 = 7 ∷ [] }

@@ -11,7 +11,7 @@ use Rattle.model_device.specs.Events.{Event, Call, Answer, put_call, delete_call
 use Rattle.model_device.specs.Legal.{Allowed, Reads}
 
 abbrev setup : Setup
-setup = record { capacity = 766; blocks = 16; device = 0; devices = 1; sprigs = 16; lwm = 0; pending_limit = 16; commit = false; raid_age = 86400 }
+setup = record { capacity = 766; blocks = 16; device = 0; devices = 1; sprigs = 16; lwm = 0; pending_limit = 16; cache = 0; commit = false; raid_age = 86400 }
 
 abbrev d1 : Digest
 d1 = record { 0 = 0 ∷ 1 ∷ 2 ∷ 3 ∷ 4 ∷ 5 ∷ 6 ∷ 7 ∷ 8 ∷ 9 ∷ 10 ∷ 11 ∷ 12 ∷ 13 ∷ 14 ∷ 15 ∷ 16 ∷ 17 ∷ 18 ∷ 19 ∷ [] }
@@ -62,7 +62,7 @@ no_fault_unseen h = ⊎_elim (λ r. cc (r.1)) (λ m. ⊎_elim (λ n. cc (n.0)) (
 
 no_fault_unqueued : Legal one_put (record { call = choose_call; answer = refused disk_fault; steps = []; faults_before = 0; faults_after = 1 }) → ⊥
 unfolding refreshed dropped_live placed with_flushed cold_book after_step
-no_fault_unqueued h = ⊎_elim (λ o. cc (o.0)) (λ m. ⊎_elim (λ n. cc (n.0)) (λ f. f) m) h
+no_fault_unqueued h = ⊎_elim (λ o. cc (o.0)) (λ f. f) h
 
 -- a put whose stamp is the clock's time alone
 no_clock_stamp : Legal one_put (event (put_call d1 0 None (187 ∷ []) 500) (stamp_given (record { lut = 500; gen_ = 2 }))

@@ -7,7 +7,7 @@ use Rattle.rec_format.specs.declared.entry.Entry.{Entry}
 use Rattle.rec_format.specs.Places.{same_digest}
 use Rattle.model_device.specs.Histories.{Pending}
 
--- what stays the same through a run: the device's shape and place, and the settings
+-- what stays the same through a run: the device's shape and place, and the settings; of these `cache` is how many flushed buffers are kept
 pub record Setup : Type 0 where
   pub capacity : ℕ
   pub blocks : ℕ
@@ -16,6 +16,7 @@ pub record Setup : Type 0 where
   pub sprigs : ℕ
   pub lwm : ℕ
   pub pending_limit : ℕ
+  pub cache : ℕ
   pub commit : Bool
   pub raid_age : ℕ
 

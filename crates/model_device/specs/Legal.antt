@@ -295,7 +295,7 @@ Allowed setup told s event flush_call = FlushEnds event (seal_all s.book) (flush
 Allowed setup told s event flush_sealed_call = FlushEnds event (seal_low setup s.book) (flush_all (after_steps setup (seal_low setup s.book) s).book)
 Allowed setup told s event flush_next_call = FlushEnds event (seal_low setup s.book) (flush_first (after_steps setup (seal_low setup s.book) s).book)
 Allowed setup told s event choose_call =
-    Only event (block_chosen (queue_front s.book.queue)) ⊎ NoMemory event ⊎ WhereReads told event (queue_front s.book.queue)
+    Only event (block_chosen (queue_front s.book.queue)) ⊎ WhereReads told event (queue_front s.book.queue)
 Allowed setup told s event (move_call digest block) =
     let copy = live_of digest s.book.live in
     MatchBool (is_in_block block copy)

@@ -83,8 +83,7 @@ reads_unwritten told event (Some what) (inr failed) = none_made event failed.1
 
 choose_unwritten : (slot : Slot) (told : Bool) (event : Event) → Allowed slot.setup told slot.state event choose_call → AllByRecursion WritesNone event.steps
 choose_unwritten slot told event (inl chosen) = none_made event chosen.1
-choose_unwritten slot told event (inr (inl no_memory)) = none_made event no_memory.1
-choose_unwritten slot told event (inr (inr reads)) = reads_unwritten told event (queue_front slot.state.book.queue) reads
+choose_unwritten slot told event (inr reads) = reads_unwritten told event (queue_front slot.state.book.queue) reads
 
 -- how a move ends against which nothing stands
 abbrev MoveEnds : (told : Bool) → Slot → Event → Digest → Type 0
@@ -233,30 +232,32 @@ pub on_each : (P : Event → Type 0) (device : ℕ) (events : List Event) → Al
 on_each P device [] all = tt
 on_each P device (event ∷ events) all = (all.0, on_each P device events all.1)
 
--- work of each device that writes no record
-all_unwriting : (Work : Slot → List Event → Outcome → Type 0) → ((slot : Slot) (events : List Event) (outcome : Outcome) → Work slot events outcome → AreUnwriting events)
-    → (device : ℕ) (node : Node) (a b : ℕ) (work : List NodeEvent) (outcome : Outcome) → EachDevice Work device node a b work outcome → AllByRecursion IsUnwritingOn work
-all_unwriting Work each_is device [] a b work outcome each = subst (λ (events : List NodeEvent). AllByRecursion IsUnwritingOn events) (sym each.0) tt
-all_unwriting Work each_is device (slot ∷ slots) a b work outcome each =
-    subst (λ (events : List NodeEvent). AllByRecursion IsUnwritingOn events) (sym each.2) (elim each.3 [
-      | inl goes ↦ all_joined IsUnwritingOn (map (on_device device) each.0) each.1 (on_each (λ event. IsUnwriting event.call) device each.0 (each_is slot each.0 (did goes.0 goes.1) goes.2))
-          (all_unwriting Work each_is (device + 1) slots (a + goes.0) (b + goes.1) each.1 outcome goes.3)
-      | inr stops ↦ all_joined IsUnwritingOn (map (on_device device) each.0) each.1 (on_each (λ event. IsUnwriting event.call) device each.0 (each_is slot each.0 (stopped stops.0) stops.1))
-          (subst (λ (events : List NodeEvent). AllByRecursion IsUnwritingOn events) (sym stops.2) tt)
+-- what holds of the events of each device's work holds of all
+pub all_worked : (P : Event → Type 0) (Work : Slot → List Event → Outcome → Type 0)
+    → ((slot : Slot) (events : List Event) (outcome : Outcome) → Work slot events outcome → AllByRecursion P events)
+    → (device : ℕ) (node : Node) (a b : ℕ) (work : List NodeEvent) (outcome : Outcome) → EachDevice Work device node a b work outcome → AllByRecursion (λ e. P e.event) work
+all_worked P Work each_is device [] a b work outcome each = subst (λ (events : List NodeEvent). AllByRecursion (λ e. P e.event) events) (sym each.0) tt
+all_worked P Work each_is device (slot ∷ slots) a b work outcome each =
+    subst (λ (events : List NodeEvent). AllByRecursion (λ e. P e.event) events) (sym each.2) (elim each.3 [
+      | inl goes ↦ all_joined (λ e. P e.event) (map (on_device device) each.0) each.1 (on_each P device each.0 (each_is slot each.0 (did goes.0 goes.1) goes.2))
+          (all_worked P Work each_is (device + 1) slots (a + goes.0) (b + goes.1) each.1 outcome goes.3)
+      | inr stops ↦ all_joined (λ e. P e.event) (map (on_device device) each.0) each.1 (on_each P device each.0 (each_is slot each.0 (stopped stops.0) stops.1))
+          (subst (λ (events : List NodeEvent). AllByRecursion (λ e. P e.event) events) (sym stops.2) tt)
     ])
 
 flush_unwriting : (slot : Slot) (events : List Event) (outcome : Outcome) → Flushes slot events outcome → AreUnwriting events
 flush_unwriting slot events outcome does = subst AreUnwriting (sym does.1) (called does.0 flush_call does.2 tt, tt)
 
 pub all_flushes : (node : Node) (work : List NodeEvent) (outcome : Outcome) → EachDevice Flushes 0 node 0 0 work outcome → AllByRecursion IsUnwritingOn work
-all_flushes node work outcome each = all_unwriting Flushes flush_unwriting 0 node 0 0 work outcome each
+all_flushes node work outcome each = all_worked (λ event. IsUnwriting event.call) Flushes flush_unwriting 0 node 0 0 work outcome each
 
 pub all_defrags : (node : Node) (work : List NodeEvent) (outcome : Outcome) → EachDevice Defragments 0 node 0 0 work outcome → AllByRecursion IsUnwritingOn work
 all_defrags node work outcome each =
-    all_unwriting Defragments (λ slot events ends does. defrags_unwriting slot.setup (length slot.state.book.queue) slot.state 0 0 events ends does) 0 node 0 0 work outcome each
+    all_worked (λ event. IsUnwriting event.call) Defragments
+    (λ slot events ends does. defrags_unwriting slot.setup (length slot.state.book.queue) slot.state 0 0 events ends does) 0 node 0 0 work outcome each
 
 pub all_raids : (now : ℕ) (node : Node) (work : List NodeEvent) (outcome : Outcome) → EachDevice (Raids now) 0 node 0 0 work outcome → AllByRecursion IsUnwritingOn work
-all_raids now node work outcome each = all_unwriting (Raids now) (raids_unwriting now) 0 node 0 0 work outcome each
+all_raids now node work outcome each = all_worked (λ event. IsUnwriting event.call) (Raids now) (raids_unwriting now) 0 node 0 0 work outcome each
 
 on_one : (told : Bool) (o : Option Slot) (event : Event) → MatchOption o ⊥ (λ slot. Follows slot.setup told slot.state slot.faults event) → IsUnwriting event.call
     → AllByRecursion WritesNone event.steps

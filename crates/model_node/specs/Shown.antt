@@ -1,29 +1,28 @@
 -- Crate model_node. What a line of a run shows of the devices' disks, as they stood then. Nothing of it asks that a disk is honest: it says what
 -- follows from what a disk tells of its bytes.
-use Rattle.std.specs.Prelude.{◌≡◌, ◌≢◌, ◌⊎◌, ℕ, ◌+◌, ◌*◌, ◌<◌, ◌≤◌, Bool, false, List, [], ◌∷◌, length, take, drop, Option, Some, None, Contains}
+use Rattle.std.specs.Prelude.{◌≡◌, ◌≢◌, ◌⊎◌, ℕ, ◌<◌, ◌≤◌, Bool, false, List, [], ◌∷◌, length, take, Some}
+use Rattle.std.specs.List.{AllByRecursion}
 use Rattle.model_faults.specs.Counts.{Rose}
-use Rattle.disk_model.specs.Bytes.{range}
 use Rattle.disk_model.specs.Disk.{DiskView}
 use Rattle.rec_format.specs.declared.version.Digest.{Digest}
-use Rattle.rec_format.specs.declared.version.Head.{Head}
 use Rattle.rec_format.specs.declared.version.Version.{Version}
-use Rattle.rec_format.specs.Versions.{units_for, version_units}
-use Rattle.rec_format.specs.RecordText.{CanBeHead, head_text}
-use Rattle.rec_format.specs.Places.{device_number}
-use Rattle.model_device.specs.Book.{Buffer, Live, Stream, client, has_buffer, is_in, live_of}
+use Rattle.rec_format.specs.declared.entry.Entry.{Entry}
+use Rattle.rec_format.specs.Entries.{Names}
+use Rattle.model_device.specs.Book.{Stream, client, defrag, live_of, live_of_entry}
 use Rattle.model_device.specs.Device.{seen}
-use Rattle.model_device.specs.Events.{Event, get_call, Answer, found_version, refused, Cause, damaged, no_memory}
+use Rattle.model_device.specs.Events.{Event, get_call, Answer, found_version, refused, damaged, no_memory, disk_fault}
+use Rattle.model_device.specs.Legal.{ReadInstead}
 use Rattle.block_format.specs.declared.geometry.Geometry.{Geometry}
-use Rattle.block_format.specs.Layout.{IsGeometry, Body, block_place}
+use Rattle.block_format.specs.Layout.{IsGeometry, Body}
 use Rattle.block_format.specs.Refusals.{IsRefusedFor}
+use Rattle.block_shelf.specs.Reads.{copy_bytes, IsRead, HasNoHeadOf}
 use Rattle.law_start.specs.Sound.{IsShapeOf}
 use Rattle.cold_scan.specs.Starting.{Passes}
 use Rattle.cold_scan.specs.Found.{found_state}
-use Rattle.line_proto.specs.declared.reply.Reply.{Reply}
 use Rattle.line_proto.specs.declared.reply.Reply.TheVariants as reply
 use Rattle.model_node.specs.declared.run_end.RunEnd.{RunEnd}
 use Rattle.model_node.specs.declared.run_end.RunEnd.TheVariants as end
-use Rattle.model_node.specs.Commands.{Slot, Node, on_device}
+use Rattle.model_node.specs.Commands.{Slot, Node, NodeEvent, on_device}
 use Rattle.model_node.specs.Run.{Served}
 use Rattle.model_node.specs.RunEnd.{refusal_of}
 use Rattle.model_node.specs.Headline.{On}
@@ -56,9 +55,49 @@ IsRefusedSo (end.DeviceFault device) devices before after =
     (device < devices) × Rose (before device).faults (after device).faults × FrontIsTaken device devices before
 IsRefusedSo _ devices before after = Unit {0}
 
+-- ---- a get
+
+-- What a buffer in memory gives of the version that is seen: what was put; or of a buffer of moved records what was read as the record was moved
+-- there. For want of memory it gives nothing. It isn't damaged, and no disk fails.
+abbrev pub GivesCopy : Stream → Version → Answer → Type 0
+GivesCopy client v answer = (answer ≡ found_version (Some v)) ⊎ (answer ≡ refused no_memory)
+GivesCopy defrag v answer = ((copy : Version) × ReadInstead v copy × (answer ≡ found_version (Some copy))) ⊎ (answer ≡ refused no_memory)
+
+-- What the bytes at the place of an entry give: the version that stands there, with its payload and cover flag, or damage, exactly where no head of
+-- the entry's record stands there. It may be refused for want of memory or a fault of the disk.
+abbrev pub GivesBytes : Entry → (bytes : List ℕ) → Answer → Type 0
+GivesBytes e bytes (found_version (Some v)) = IsRead e bytes v
+GivesBytes e bytes (refused damaged) = HasNoHeadOf e (take 48 bytes)
+GivesBytes e bytes (refused no_memory) = Unit {0}
+GivesBytes e bytes (refused disk_fault) = Unit {0}
+GivesBytes e bytes _ = ⊥
+
+-- What a get shows of a record that is seen, of this version. Its entry has the place that is live for the digest. Where a buffer that isn't flushed
+-- has its block, it is what that has. Some of the buffers that were flushed are kept, no more than by the setup: where one of these has the block, it is
+-- what that has. Where no buffer has it, it is what stands at the entry's place, on a disk that tells its bytes.
+pub record GetShows (disk : DiskView) (slot : Slot) (digest : Digest) (v : Version) (answer : Answer) : Type 0 where
+  pub shape : Geometry
+  pub is_shape : IsGeometry shape × IsShapeOf slot.setup shape
+  pub entry : Entry
+  pub digest_is : entry.digest ≡ digest
+  pub names : Names entry v
+  pub place : live_of digest slot.state.book.live ≡ Some (live_of_entry entry)
+  pub waits : AllByRecursion (λ b. b.block ≡ entry.block → GivesCopy b.stream v answer) slot.state.book.buffers
+  pub kept : List (ℕ × Stream)
+  pub few : length kept ≤ slot.setup.cache
+  pub remembered : AllByRecursion (λ k. k.0 ≡ entry.block → GivesCopy k.1 v answer) kept
+  pub read : disk.tells → AllByRecursion (λ b. b.block ≢ entry.block) slot.state.book.buffers → AllByRecursion (λ k. k.0 ≢ entry.block) kept
+      → GivesBytes entry (copy_bytes shape (record { block = entry.block; unit = entry.unit; units = entry.units }) disk.seen) answer
+
+-- A line that is carried out by one event, which is a get, shows it of the disk of the event's device.
+abbrev pub ShowsGet : (disks : ℕ → DiskView) → Node → (work : List NodeEvent) → Type 0
+ShowsGet disks node work = (device : ℕ) (event : Event) (digest : Digest) (now : ℕ) → work ≡ on_device device event ∷ [] → event.call ≡ get_call digest now
+    → On node device (λ slot. (v : Version) → seen slot.state now digest ≡ Some v → GetShows (disks device) slot digest v event.answer)
+
 -- ---- a line
 
 -- What a line shows that was carried out, of a node whose disks were these before it and these behind it, in a run that ended so.
 pub record Shows (told : Bool) (how : RunEnd) (before after : ℕ → DiskView) (node : Node) (served : Served) : Type 0 where
   pub again : (fresh : Node) → served.restarted ≡ Some fresh → served.reply ≢ reply.Halted → (device : ℕ) → On fresh device (IsStartedFrom told device (length node) (before device))
   pub refused : served.reply ≡ reply.Halted → IsRefusedSo how (length node) before after
+  pub got : ShowsGet before node served.work

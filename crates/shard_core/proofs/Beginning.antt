@@ -80,6 +80,7 @@ module _ {D : Type 0} (view : D → DiskView) (disk : D) (g : Geometry) (gates :
     shape = record { capacity = refl; blocks = refl; device = refl; devices = refl };
     pending = sym (ap (λ (l : ShelfLimits). l.pending) limits_are);
     lwm = sym (ap (λ (l : ShelfLimits). l.lwm) limits_are);
+    cache = sym (ap (λ (l : ShelfLimits). l.cache) limits_are);
     sprigs = sym (ap (λ (l : ShelfLimits). l.sprigs) limits_are);
   }
 

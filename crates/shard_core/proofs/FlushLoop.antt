@@ -52,6 +52,7 @@ setup_stays setup old new same is = record {
   shape = subst (IsShapeOf setup) (sym same.geometry) is.shape;
   pending = is.pending ∙ ap (λ (l : ShelfLimits). l.pending) (sym same.limits);
   lwm = is.lwm ∙ ap (λ (l : ShelfLimits). l.lwm) (sym same.limits);
+  cache = is.cache ∙ ap (λ (l : ShelfLimits). l.cache) (sym same.limits);
   sprigs = is.sprigs ∙ ap (λ (l : ShelfLimits). l.sprigs) (sym same.limits);
 }
 

@@ -134,6 +134,15 @@ shown_is o v Client Q (Ok w) client some is = ap Some is ∙ sym some
 shown_is o v Defrag Q (Ok w) client some is = absurd cc
 shown_is o v stream Q (Err refusal) client some q = q
 
+-- so has each buffer the copy of what is seen
+pub shown_copy : (o : Option Version) (v w : Version) (stream : Stream) (Q : ReadRefusal → Type 0) (r : Result Version ReadRefusal) → o ≡ Some v → o ≡ Some w
+    → MatchResult r (IsCopyIn stream v) Q → MatchResult (shown r) (λ found. (copy : Version) × (found ≡ Some copy) × IsCopyIn stream w copy) Q
+shown_copy o v w stream Q (Ok x) some more is =
+    let both : Some v ≡ Some w = sym some ∙ more in
+    let same : v ≡ w = cc in
+    (x, refl, subst (λ (y : Version). IsCopyIn stream y x) same is)
+shown_copy o v w stream Q (Err refusal) some more q = q
+
 pub shown_err : (P : Version → Type 0) (Q : ReadRefusal → Type 0) (r : Result Version ReadRefusal) → MatchResult r P Q → IfErr (shown r) Q
 shown_err P Q (Ok v) p = tt
 shown_err P Q (Err refusal) q = q

@@ -8,6 +8,7 @@ pub mod Later
 pub mod Each
 pub mod Making
 pub mod Found
+pub mod Seen
 pub mod Getting
 pub mod Placed
 pub mod Writes
@@ -39,3 +40,4 @@ pub mod Raiding
 pub mod Tidy
 pub mod Telling
 pub mod Keeping
+pub mod Idle

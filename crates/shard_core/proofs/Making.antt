@@ -16,7 +16,7 @@ use Rattle.law_sprig.proofs.Device.{parts_fit_on, parts_become}
 use Rattle.shard_core.proofs.Each.{set_same}
 use Rattle.model_device.specs.Legal.{Allowed, FlushEnds, flush_all}
 use Rattle.disk_model.specs.Disk.{DiskView}
-use Rattle.block_shelf.specs.View.{IsSetupOf, ShelfView}
+use Rattle.block_shelf.specs.View.{IsSetupOf, IsShelf, ShelfView}
 use Rattle.block_shelf.specs.Calls.{Goes}
 use Rattle.block_format.specs.declared.geometry.Geometry.{Geometry}
 use Rattle.shard_core.specs.declared.settings.Settings.{Settings}
@@ -28,6 +28,7 @@ use Rattle.rec_format.specs.declared.version.Digest.{Digest}
 use Rattle.shard_core.specs.Stands.{Agrees, IsWhole}
 use Rattle.law_steps.specs.Standing.{ShelfStands, StandTogether}
 use Rattle.shard_core.specs.Calls.{Makes, FlushesAll, flush_answer}
+use Rattle.shard_core.specs.Keeping.{KeepsFew}
 use Rattle.law_steps.specs.Events.{MakesEvent, StepMakes}
 use Rattle.shard_raid.specs.Raids.{StandOn}
 use Rattle.law_steps.proofs.Making.{IsFlushing, event_of, makes_by}
@@ -47,11 +48,18 @@ setup_fits shelf set limits = record {
   shape = record { capacity = refl; blocks = refl; device = refl; devices = refl };
   pending = sym (ap (λ (l : ShelfLimits). l.pending) limits);
   lwm = sym (ap (λ (l : ShelfLimits). l.lwm) limits);
+  cache = sym (ap (λ (l : ShelfLimits). l.cache) limits);
   sprigs = sym (ap (λ (l : ShelfLimits). l.sprigs) limits);
 }
 
 pub setup_is : {D : Type 0} (shard : ShardView D) → IsWhole shard → IsSetupOf (setup_of shard) shard.shelf
 setup_is shard whole = setup_fits shard.shelf shard.set whole.limits
+
+-- no more is kept than the setup says
+pub keeps_few : {D : Type 0} (view : D → DiskView) (shard : ShardView D) → IsWhole shard → IsShelf view shard.shelf → KeepsFew shard
+keeps_few view shard whole is =
+    let limit = is.cache.limit ∙ sym (setup_is shard whole).cache in
+    record { limit = limit; few = subst (λ (n : ℕ). length shard.shelf.cache.kept ≤ n) limit is.cache.list.few }
 
 pub setup_same : {D : Type 0} (old new : ShardView D) → SameSetup old new → setup_of old ≡ setup_of new
 setup_same old new shape = ap (λ (g : Geometry). setup_for g old.set) (sym shape.geometry) ∙ ap (λ (set : Settings). setup_for new.shelf.geometry set) (sym shape.set)

@@ -29,6 +29,8 @@ use Rattle.block_shelf.specs.View.{ShelfView, IsShelf, AreSure, records_of, gate
 use Rattle.block_shelf.specs.Standing.{ImagesHold}
 use Rattle.block_shelf.specs.Scans.{FindsBody, NeedsRead, possible_copies}
 use Rattle.block_shelf.specs.Disks.{IsLater}
+use Rattle.block_shelf.specs.Keeping.{KeepsAll}
+use Rattle.block_shelf.proofs.KeptAll.{all_same}
 use Rattle.block_shelf.proofs.Going.{goes_none}
 use Rattle.rec_format.specs.declared.entry.Entry.{Entry}
 use Rattle.sprig_tree.specs.Tallies.{is_tomb_entry, is_put_entry}
@@ -37,7 +39,7 @@ use Rattle.law_steps.specs.Standing.{ShelfStands, StandTogether}
 use Rattle.law_steps.specs.Events.{StepMakes}
 use Rattle.law_steps.proofs.Making.{event_of}
 use Rattle.shard_raid.specs.Raids.{RaidView, IsNext, turns_left}
-use Rattle.shard_raid.specs.Scans.{ScanMakes, IsDamageOf, IsToldOf, IsOfTurn, scan_answer}
+use Rattle.shard_raid.specs.Scans.{ScanMakes, IsDamageOf, IsRefusalOf, IsToldOf, IsOfTurn, scan_answer}
 use Rattle.shard_raid.specs.declared.scan.RaidRefusal.{RaidRefusal}
 use Rattle.shard_raid.specs.declared.scan.RaidRefusal.TheVariants.{Fault, Stale}
 use Rattle.shard_raid.proofs.Nearer.{scan_nearer}
@@ -153,7 +155,7 @@ module _ {D : Type 0} (view : D → DiskView) (next : RaidNext) (old new : Shard
       (step s (part_stands view part old new k before after shape place there at becomes s agrees))
 
   module _ (is_did : IsDidOf next did) (more : did ≢ Done) (is_disk : IsDisk (view old.shelf.disk)) (disk : new.shelf.disk ≡ old.shelf.disk) (gates : new.shelf.gates ≡ old.shelf.gates)
-      (buffers : new.shelf.buffers ≡ old.shelf.buffers) (number : new.shelf.raid.number ≡ old.shelf.raid.number)
+      (buffers : new.shelf.buffers ≡ old.shelf.buffers) (kept : KeepsAll old.shelf new.shelf) (number : new.shelf.raid.number ≡ old.shelf.raid.number)
       (nearer : turns_left new.shelf.raid < turns_left old.shelf.raid) (few : AreFewEnds (turns_left old.shelf.raid) did)
       (alike : IsNoDrop next → (s t : State) → t.book ≡ s.book → SamePossible (possible_copies view old.shelf s) (possible_copies view new.shelf t)) where
     pub turn_taken : TakesTurn view next now (Ok did) old new
@@ -180,6 +182,7 @@ module _ {D : Type 0} (view : D → DiskView) (next : RaidNext) (old new : Shard
       there = λ tells block is needs. absurd (no_scan block (ap turn_of is));
       sure = λ sure. gates;
       buffers = buffers;
+      kept = kept;
       ends = λ dropped is. (disk, gates);
       cause = λ fault. absurd cc;
       later = subst (λ (d : D). IsLater (view old.shelf.disk) (view d)) (sym disk) (later_none view old.shelf.disk is_disk);
@@ -246,7 +249,7 @@ module _ {D : Type 0} (view : D → DiskView) (block now : ℕ) (old new : Shard
 
   module _ (comes : old.shelf.raid.next ≡ Scan block) (alike : StaysPossible) (sure : AreSure old.shelf.gates → new.shelf.gates ≡ old.shelf.gates)
       (later : IsLater (view old.shelf.disk) (view new.shelf.disk)) (honest : IsHonest (view old.shelf.disk) → IsHonest (view new.shelf.disk))
-      (buffers : new.shelf.buffers ≡ old.shelf.buffers) where
+      (buffers : new.shelf.buffers ≡ old.shelf.buffers) (kept : KeepsAll old.shelf new.shelf) where
     -- it was scanned
     pub scan_taken : ScansSo (Ok block) → FitsTurn old.shelf.raid.next old.shelf.raid → new.shelf.raid ≡ with_scan new.shelf.raid.found old.shelf.raid
         → ((view old.shelf.disk).tells → NeedsRead old.shelf block
@@ -268,6 +271,7 @@ module _ {D : Type 0} (view : D → DiskView) (block now : ℕ) (old new : Shard
           → FindsBody old.shelf.geometry old.shelf.limits.sprigs (body_bytes old.shelf.geometry b (view old.shelf.disk).seen) b new.shelf.raid) same (finds tells);
       sure = sure;
       buffers = buffers;
+      kept = kept;
       ends = λ dropped is. absurd cc;
       cause = λ fault. absurd cc;
       later = later;
@@ -278,8 +282,10 @@ module _ {D : Type 0} (view : D → DiskView) (block now : ℕ) (old new : Shard
     -- it was refused
     pub scan_refused : (refusal : RaidRefusal) → ScansSo (Err refusal) → IsOfTurn refusal → new.shelf.raid ≡ given_up old.shelf.raid
         → ((view old.shelf.disk).tells → IsDamageOf old.shelf.geometry (body_bytes old.shelf.geometry block (view old.shelf.disk).seen) block refusal)
-        → IsToldOf old.shelf block refusal → (refusal ≡ Fault → Rose (view old.shelf.disk).faults (view new.shelf.disk).faults) → TakesTurn view (Scan block) now (Err refusal) old new
-    scan_refused refusal scans of_turn given damaged told rose = record {
+        → IsToldOf old.shelf block refusal
+        → ((view old.shelf.disk).tells → NeedsRead old.shelf block → IsRefusalOf old.shelf.geometry (body_bytes old.shelf.geometry block (view old.shelf.disk).seen) block refusal)
+        → (refusal ≡ Fault → Rose (view old.shelf.disk).faults (view new.shelf.disk).faults) → TakesTurn view (Scan block) now (Err refusal) old new
+    scan_refused refusal scans of_turn given damaged told wants rose = record {
       makes = turns_by (Err refusal) scans alike;
       of_turn = of_turn;
       did = tt;
@@ -291,9 +297,12 @@ module _ {D : Type 0} (view : D → DiskView) (block now : ℕ) (old new : Shard
       damaged = λ tells other is. let same : block ≡ other = cc in
           subst (λ (b : ℕ). IsDamageOf old.shelf.geometry (body_bytes old.shelf.geometry b (view old.shelf.disk).seen) b refusal) same (damaged tells);
       told = λ other is. let same : block ≡ other = cc in subst (λ (b : ℕ). IsToldOf old.shelf b refusal) same told;
-      there = λ tells other is needs. tt;
+      there = λ tells other is. let same : block ≡ other = cc in
+          subst (λ (b : ℕ). NeedsRead old.shelf b
+          → IsRefusalOf old.shelf.geometry (body_bytes old.shelf.geometry b (view old.shelf.disk).seen) b refusal) same (wants tells);
       sure = sure;
       buffers = buffers;
+      kept = kept;
       ends = λ dropped is. absurd cc;
       cause = λ fault. rose (let is : refusal ≡ Fault = cc in is);
       later = later;
@@ -362,6 +371,7 @@ module _ {D : Type 0} (view : D → DiskView) (is_disk : (disk : D) → IsDisk (
     there = λ tells block is needs. absurd cc;
     sure = λ sure. refl;
     buffers = refl;
+    kept = all_same old.shelf;
     ends = λ part is. (refl, refl);
     cause = λ fault. absurd cc;
     later = later_none view old.shelf.disk (is_disk old.shelf.disk);

@@ -19,6 +19,7 @@ use Rattle.block_shelf.specs.declared.refusals.ReadRefusal.{ReadRefusal}
 use Rattle.block_shelf.specs.declared.refusals.ReadRefusal.TheVariants as read
 use Rattle.block_shelf.specs.Appends.{IsLeftBy}
 use Rattle.block_shelf.specs.Reads.{copy_bytes, IsRead, HasRead}
+use Rattle.block_shelf.specs.Standing.{IsCopyIn}
 use Rattle.rec_format.specs.Versions.{version_units}
 use Rattle.shard_core.specs.declared.get.Meta.{Meta}
 use Rattle.shard_core.specs.declared.refusals.WriteRefusal.{WriteRefusal}
@@ -114,11 +115,14 @@ HasGot e bytes (Ok (Some v)) = IsRead e bytes v
 HasGot e bytes (Err refusal) = HasRead e bytes (Err refusal)
 
 -- A record is got as it is stored. Where its block has a write buffer to which clients write, or such a flushed buffer of it is kept, the
--- answer is what was put, over any disk, or want of memory. Where neither is there, the answer is what stands at the place of its entry, on a
--- disk that tells its bytes: it is damaged exactly where no head of the entry's record stands there.
+-- answer is what was put, over any disk, or want of memory. Of a buffer of moved records it is what was read as the record was moved there. Where
+-- no buffer is there, the answer is what stands at the place of its entry, on a disk that tells its bytes: it is damaged exactly where no head of
+-- the entry's record stands there.
 pub record ReadsStored {D : Type 0} (view : D → DiskView) (Stands : State → Type 0) (found : Option Entry) (shelf : ShelfView D) (digest : Digest) (now : ℕ) (result : Result (Option Version) ReadRefusal) : Type 0 where
   pub remembered : (s : State) → Stands s → (e : Entry) (b : BufferState) → found ≡ Some e → Contains (in_memory shelf) b → b.block ≡ e.block → b.stream ≡ Client
       → MatchResult result (λ got. got ≡ seen s now digest) (λ refusal. refusal ≡ read.Memory)
+  pub copied : (s : State) → Stands s → (v : Version) → seen s now digest ≡ Some v → (e : Entry) (b : BufferState) → found ≡ Some e → Contains (in_memory shelf) b → b.block ≡ e.block
+      → MatchResult result (λ got. (copy : Version) × (got ≡ Some copy) × IsCopyIn b.stream v copy) (λ refusal. refusal ≡ read.Memory)
   pub placed : (view shelf.disk).tells → (e : Entry) → seen_entry now found ≡ Some e → AllByRecursion (λ b. b.block ≢ e.block) (in_memory shelf)
       → HasGot e (copy_bytes shelf.geometry (place_of e) (view shelf.disk).seen) result
 

@@ -1,19 +1,17 @@
 -- Crate shard_core. What calls make of the flushed buffers that a shelf keeps: a read of a block that has a buffer, flushed or not, needs no disk.
-use Rattle.std.specs.Prelude.{◌≡◌, ◌⊎◌, ℕ, Bool, true, false, List, [], ◌∷◌, ◌++◌, map, Result, Ok, Err}
-use Rattle.model_device.specs.Book.{first_block}
+use Rattle.std.specs.Prelude.{◌≡◌, ◌⊎◌, ◌≤◌, ℕ, Bool, true, false, List, [], ◌∷◌, ◌++◌, length, map, Result, Ok, Err}
 use Rattle.write_buffer.specs.declared.phase.Phase.TheVariants.{GateBegun}
 use Rattle.write_buffer.specs.declared.stream.Stream.TheVariants.{Client}
 use Rattle.write_buffer.specs.Buffers.{BufferState, with_phase}
 use Rattle.post_cache.specs.Bodies.{CacheState}
 use Rattle.block_shelf.specs.View.{ShelfView}
-use Rattle.block_shelf.specs.Changes.{HasRoom, with_flushed, without_kept}
+use Rattle.block_shelf.specs.Changes.{with_flushed}
+use Rattle.block_shelf.specs.Appends.{BeginsInFirst}
+use Rattle.block_shelf.specs.Keeping.{KeepsAll, KeepsOthers, names_of}
 use Rattle.block_shelf.specs.Flushes.{FirstSealed}
 use Rattle.shard_core.specs.declared.refusals.WriteRefusal.{WriteRefusal}
 use Rattle.shard_core.specs.declared.refusals.WriteRefusal.TheVariants as write
-
--- the blocks of some buffers, in order
-abbrev pub blocks_of : List BufferState → List ℕ
-blocks_of buffers = map (λ b. b.block) buffers
+use Rattle.shard_core.specs.View.{ShardView, setup_of}
 
 -- ---- flushes
 
@@ -32,46 +30,69 @@ abbrev pub LeaveInTurn : (flushed old new : List BufferState) → Type 0
 LeaveInTurn [] old new = map written_out new ≡ map written_out old
 LeaveInTurn (b ∷ flushed) old new = (first : FirstSealed old) × (b ≡ written_out first.buffer) × LeaveInTurn flushed (first.front ++ first.behind) new
 
--- Some of the sealed buffers were flushed, in their order, and are kept as the last ones.
+-- Some of the sealed buffers were flushed, in their order, and are kept as the last ones. None has begun.
 pub record FlushesInTurn {D : Type 0} (old new : ShelfView D) : Type 0 where
   pub flushed : List BufferState
   pub leave : LeaveInTurn flushed old.buffers new.buffers
   pub kept : new.cache ≡ kept_after flushed old.cache
+  pub next : new.next_number ≡ old.next_number
 
--- So it is where the buffers had these blocks, and this was kept.
-pub record FlushesFrom {D : Type 0} (blocks : List ℕ) (cache : CacheState BufferState) (new : ShelfView D) : Type 0 where
-  pub pending : List BufferState
-  pub are : blocks_of pending ≡ blocks
-  pub flushed : List BufferState
-  pub leave : LeaveInTurn flushed pending new.buffers
-  pub kept : new.cache ≡ kept_after flushed cache
+-- Buffers may have been sealed, and then some were flushed so.
+pub record SealsAndFlushes {D : Type 0} (old new : ShelfView D) : Type 0 where
+  pub sealed : ShelfView D
+  pub seals : KeepsAll old sealed
+  pub flushes : FlushesInTurn sealed new
 
--- The first buffers of all were flushed, in their order, and are kept as the last ones; the others are left.
+-- The first buffers of all were flushed, in their order, and are kept as the last ones; the others are left. None has begun.
 pub record FlushesFront {D : Type 0} (old new : ShelfView D) : Type 0 where
   pub flushed : List BufferState
-  pub parts : blocks_of old.buffers ≡ blocks_of flushed ++ blocks_of new.buffers
+  pub parts : names_of old.buffers ≡ names_of flushed ++ names_of new.buffers
   pub kept : new.cache ≡ kept_after flushed old.cache
+  pub next : new.next_number ≡ old.next_number
 
 -- ---- writes
 
--- A copy of so many units went to a buffer: where one had room all is kept that was; else one began in the first free block, and what was
--- kept of that is gone.
-pub record KeepsBehindCopy {D : Type 0} (units : ℕ) (old new : ShelfView D) : Type 0 where
-  pub in_room : HasRoom Client units old.buffers → (new.cache ≡ old.cache) × (blocks_of new.buffers ≡ blocks_of old.buffers)
-  pub in_new : (HasRoom Client units old.buffers → ⊥)
-      → (new.cache ≡ without_kept (first_block old.free) old.cache) × (blocks_of new.buffers ≡ blocks_of old.buffers ++ first_block old.free ∷ [])
-
--- And then buffers were flushed, in their order.
-pub record KeepsBehindFlush {D : Type 0} (units : ℕ) (old new : ShelfView D) : Type 0 where
-  pub in_room : HasRoom Client units old.buffers → FlushesFrom (blocks_of old.buffers) old.cache new
-  pub in_new : (HasRoom Client units old.buffers → ⊥) → FlushesFrom (blocks_of old.buffers ++ first_block old.free ∷ []) (without_kept (first_block old.free) old.cache) new
+-- A version of so many units went to a buffer, and then buffers were flushed.
+pub record CopiesAndFlushes {D : Type 0} (units : ℕ) (old new : ShelfView D) : Type 0 where
+  pub copied : ShelfView D
+  pub copies : BeginsInFirst Client units old copied
+  pub flushes : SealsAndFlushes copied new
 
 -- what is kept behind a version of so many units, which with commit on is flushed
 abbrev pub KeepsWritten : {D : Type 0} → (commit : Bool) → (units : ℕ) → (old new : ShelfView D) → Type 0
-KeepsWritten false units old new = KeepsBehindCopy units old new
-KeepsWritten true units old new = KeepsBehindFlush units old new
+KeepsWritten false units old new = BeginsInFirst Client units old new
+KeepsWritten true units old new = CopiesAndFlushes units old new
 
--- So it is at the end of a write. A refused one keeps what was kept, but where it was written and its flush failed.
+-- So it is at the end of a write. A refused one keeps all, but where it was written and its flush failed.
 abbrev pub KeepsBy : {D T : Type 0} → (commit : Bool) → (units : ℕ) → (old new : ShelfView D) → Result T WriteRefusal → Type 0
 KeepsBy commit units old new (Ok done) = KeepsWritten commit units old new
-KeepsBy commit units old new (Err refusal) = (new.cache ≡ old.cache) ⊎ ((refusal ≡ write.Fault) × (commit ≡ true) × KeepsWritten commit units old new)
+KeepsBy commit units old new (Err refusal) = KeepsAll old new ⊎ ((refusal ≡ write.Fault) × (commit ≡ true) × KeepsWritten commit units old new)
+
+-- ---- several in a row
+
+-- From one shelf to the next all is kept, or all but what was kept of a block in which a buffer has begun, or buffers were flushed, if any are.
+abbrev pub KeepsOne : {D : Type 0} → (flushing : Bool) → (old new : ShelfView D) → Type 0
+KeepsOne flushing old new = KeepsAll old new ⊎ ((block : ℕ) × KeepsOthers block old new) ⊎ ((flushing ≡ true) × FlushesInTurn old new)
+
+-- So it is from each of these to the next.
+abbrev pub KeepsOver : {D : Type 0} → (flushing : Bool) → (between : List (ShelfView D)) → (old new : ShelfView D) → Type 0
+KeepsOver flushing [] old new = KeepsOne flushing old new
+KeepsOver flushing (mid ∷ between) old new = KeepsOne flushing old mid × KeepsOver flushing between mid new
+
+-- Nothing of what was kept goes but by beginnings of buffers, and by flushes.
+pub record KeepsThrough {D : Type 0} (flushing : Bool) (old new : ShelfView D) : Type 0 where
+  pub between : List (ShelfView D)
+  pub over : KeepsOver flushing between old new
+
+-- What a tending makes of what is kept: sealed buffers are flushed, and then those begin to which records are moved.
+pub record KeepsTended {D : Type 0} (old new : ShelfView D) : Type 0 where
+  pub flushed : ShelfView D
+  pub flushes : SealsAndFlushes old flushed
+  pub moves : KeepsThrough false flushed new
+
+-- ---- how many
+
+-- As many flushed buffers may be kept as the setup says, and no more are.
+pub record KeepsFew {D : Type 0} (shard : ShardView D) : Type 0 where
+  pub limit : shard.shelf.cache.limit ≡ (setup_of shard).cache
+  pub few : length shard.shelf.cache.kept ≤ (setup_of shard).cache

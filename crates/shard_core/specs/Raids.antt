@@ -1,5 +1,5 @@
 -- Crate shard_core. What the turns of a raid answer, and what they make.
-use Rattle.std.specs.Prelude.{◌≡◌, ◌≢◌, ◌<◌, ◌≤◌, ◌^◌, ℕ, Result, Ok, Err, IfOk, IfErr, OnOk, OnErr}
+use Rattle.std.specs.Prelude.{◌≡◌, ◌≢◌, ◌<◌, ◌≤◌, ◌^◌, ℕ, Result, Ok, Err, IfOk, IfErr, OnOk, OnErr, MatchResult}
 use Rattle.model_faults.specs.Counts.{Rose}
 use Rattle.disk_model.specs.Disk.{DiskView, IsHonest}
 use Rattle.model_device.specs.Device.{State}
@@ -14,8 +14,9 @@ use Rattle.raid_book.specs.Books.{given_up}
 use Rattle.block_shelf.specs.Disks.{IsLater}
 use Rattle.block_shelf.specs.View.{AreSure}
 use Rattle.block_shelf.specs.Scans.{FindsBody, NeedsRead, possible_copies}
+use Rattle.block_shelf.specs.Keeping.{KeepsAll}
 use Rattle.shard_raid.specs.Raids.{RaidView, turns_left}
-use Rattle.shard_raid.specs.Scans.{IsDamageOf, IsToldOf, IsOfTurn, cause_of}
+use Rattle.shard_raid.specs.Scans.{IsDamageOf, IsRefusalOf, IsToldOf, IsOfTurn, cause_of}
 use Rattle.shard_raid.specs.declared.scan.RaidRefusal.{RaidRefusal}
 use Rattle.shard_raid.specs.declared.scan.RaidRefusal.TheVariants.{Fault}
 use Rattle.shard_core.specs.declared.raid.RaidDid.{RaidDid}
@@ -70,7 +71,7 @@ AreFewEnds left _ = Unit {0}
 
 -- What the turn of the raid that runs makes of a shard, by its answer. A turn that is refused gives the raid up, so that its marks are void; any other
 -- leaves fewer turns. It is never stale. A block that is read from a disk that tells its bytes has a body of the block, whose records are found, or the
--- damage that is told; over every disk damage is told of no other block. No turn writes to a buffer, and the end of a part calls no disk.
+-- damage that is told, and memory is wanting only where it has one; over every disk damage is told of no other block. No turn writes to a buffer, and the end of a part calls no disk.
 pub record TakesTurn {D : Type 0} (view : D → DiskView) (next : RaidNext) (now : ℕ) (result : Result RaidDid RaidRefusal) (old new : ShardView D) : Type 0 where
   pub makes : (s : State) → Agrees old s → TurnMakes view (record { number = old.shelf.raid.number; next = next }) now result old s new
   pub of_turn : IfErr result IsOfTurn
@@ -83,9 +84,11 @@ pub record TakesTurn {D : Type 0} (view : D → DiskView) (next : RaidNext) (now
   pub damaged : (view old.shelf.disk).tells → (block : ℕ) → next ≡ turn.Scan block → IfErr result (IsDamageOf old.shelf.geometry (body_bytes old.shelf.geometry block (view old.shelf.disk).seen) block)
   pub told : (block : ℕ) → next ≡ turn.Scan block → IfErr result (IsToldOf old.shelf block)
   pub there : (view old.shelf.disk).tells → (block : ℕ) → next ≡ turn.Scan block → NeedsRead old.shelf block
-      → OnOk result (FindsBody old.shelf.geometry old.shelf.limits.sprigs (body_bytes old.shelf.geometry block (view old.shelf.disk).seen) block new.shelf.raid)
+      → let bytes = body_bytes old.shelf.geometry block (view old.shelf.disk).seen in
+      MatchResult result (λ did. FindsBody old.shelf.geometry old.shelf.limits.sprigs bytes block new.shelf.raid) (IsRefusalOf old.shelf.geometry bytes block)
   pub sure : AreSure old.shelf.gates → new.shelf.gates ≡ old.shelf.gates
   pub buffers : new.shelf.buffers ≡ old.shelf.buffers
+  pub kept : KeepsAll old.shelf new.shelf
   pub ends : (part : ℕ) → next ≡ turn.Drop part → (new.shelf.disk ≡ old.shelf.disk) × (new.shelf.gates ≡ old.shelf.gates)
   pub cause : result ≡ Err Fault → Rose (view old.shelf.disk).faults (view new.shelf.disk).faults
   pub later : IsLater (view old.shelf.disk) (view new.shelf.disk)

@@ -35,6 +35,7 @@ setup_for g set = record {
   sprigs = set.sprigs;
   lwm = set.lwm;
   pending_limit = set.pending;
+  cache = set.cache;
   commit = set.commit;
   raid_age = set.raid_age;
 }

@@ -13,13 +13,14 @@ ghost use Rattle.expiry_rule.specs.Seen.{seen_entry};
 ghost use Rattle.tomb_rules.specs.Covers.{cover_of};
 ghost use Rattle.block_shelf.specs.Disks.{IsLater, OnlyRead};
 ghost use Rattle.block_shelf.specs.Sure.{StaysSure};
-ghost use Rattle.block_shelf.specs.View.{gate_at, in_memory};
+ghost use Rattle.block_shelf.specs.View.{IsShelf, gate_at, in_memory};
 ghost use Rattle.block_shelf.specs.Standing.{IsPlaced};
 ghost use Rattle.write_buffer.specs.declared.stream.Stream.TheVariants.{Client};
 ghost use Rattle.block_shelf.specs.Changes.{HasRoom};
+ghost use Rattle.block_shelf.specs.Keeping.{KeepsAll};
 ghost use Rattle.block_shelf.specs.Reads.{IsUndamaged};
 ghost use Rattle.shard_core.specs.Sprigs.{held};
-ghost use Rattle.shard_core.specs.Keeping.{KeepsBy};
+ghost use Rattle.shard_core.specs.Keeping.{KeepsBy, KeepsFew};
 ghost use Rattle.shard_core.specs.View.{SameSetup, setup_of};
 ghost use Rattle.shard_core.specs.Stands.{Agrees, IsWhole};
 ghost use Rattle.shard_core.specs.Calls.{IsRefusedWrite, Makes, GetsStored, write_answer, read_answer, delete_answer, meta_of};
@@ -95,6 +96,7 @@ impl<D: Disk> Shard<D> {
     ) -> Result<Option<Version>, ReadRefusal>
         requires named { device_number self.old.shelf.geometry.devices digest.now ≡ self.old.shelf.geometry.device }
         requires now { now ≤ 2 ^ 61 }
+        ensures whole { IsShelf D.view self.old.shelf × IsWhole self.old }
         ensures makes { (s : State) → Agrees self.old s → Makes D.view (get_call digest.now now) (read_answer result) self.old s self.new }
 
         // A record whose block has a write buffer, or whose flushed buffer is kept, is read without a call of the disk.
@@ -107,7 +109,8 @@ impl<D: Disk> Shard<D> {
         // Over an honest disk nothing is damaged.
         ensures undamaged { IsHonest (D.view self.old.shelf.disk) → (s : State) → Agrees self.old s → IsPlaced D.view self.old.shelf s → IfErr result IsUndamaged }
         ensures sure { StaysSure D.view self.old.shelf self.new.shelf }
-        ensures kept { self.new.shelf.cache ≡ self.old.shelf.cache }
+        ensures kept { KeepsAll self.old.shelf self.new.shelf }
+        ensures few { KeepsFew self.old }
         ensures disk { OnlyRead (D.view self.old.shelf.disk) (D.view self.new.shelf.disk) }
         ensures shape { SameSetup self.old self.new }
     {
@@ -145,7 +148,7 @@ impl<D: Disk> Shard<D> {
         ensures refused { IfErr result (λ refusal. ((refusal ≡ WriteRefusal.Fault) × (self.old.set.commit ≡ true)) ⊎ IsRefusedWrite self.old self.new refusal) }
         ensures sure { StaysSure D.view self.old.shelf self.new.shelf }
         ensures kept { let covered = cover_of (seen_entry now (held (setup_of self.old) digest.now self.old.sprigs)) in
-            (covered ≡ false → self.new.shelf.cache ≡ self.old.shelf.cache) × (covered ≡ true → KeepsBy self.old.set.commit (units_for 0) self.old.shelf self.new.shelf result) }
+            (covered ≡ false → KeepsAll self.old.shelf self.new.shelf) × (covered ≡ true → KeepsBy self.old.set.commit (units_for 0) self.old.shelf self.new.shelf result) }
         ensures later { IsLater (D.view self.old.shelf.disk) (D.view self.new.shelf.disk) }
         ensures honest { IsHonest (D.view self.old.shelf.disk) → IsHonest (D.view self.new.shelf.disk) }
         ensures shape { SameSetup self.old self.new }
@@ -199,6 +202,7 @@ impl<D: Disk> Shard<D> {
         ensures part { result ≡ part_of (setup_of self.now) digest.now }
         ensures there { result < length self.now.sprigs }
         ensures whole { IsWhole self.now }
+        ensures shelf { IsShelf D.view self.now.shelf }
     {
         part_number(digest, self.set.sprigs, self.shelf.geometry().devices) as usize
     }

@@ -1,5 +1,5 @@
 // How a block is vacated: the one that has waited longest is chosen, and its records are moved, one after another.
-ghost use Rattle.std.specs.Prelude.{◌≡◌, ◌<◌, ◌≤◌, ◌^◌, ℕ, Some, length, IfOk, IfErr, IfSome};
+ghost use Rattle.std.specs.Prelude.{◌≡◌, ◌<◌, ◌≤◌, ◌^◌, ℕ, false, Some, length, IfOk, IfErr, IfSome};
 ghost use Rattle.std.specs.List.{AllByRecursion};
 ghost use Rattle.disk_model.specs.Disk.{IsHonest};
 ghost use Rattle.rec_format.specs.Places.{device_number};
@@ -12,6 +12,7 @@ ghost use Rattle.block_shelf.specs.Sure.{StaysSure};
 ghost use Rattle.shard_core.specs.View.{SameSetup, setup_of};
 ghost use Rattle.shard_core.specs.Stands.{Agrees};
 ghost use Rattle.shard_core.specs.Calls.{Makes};
+ghost use Rattle.shard_core.specs.Keeping.{KeepsThrough};
 ghost use Rattle.shard_core.specs.Vacating.{MakesEvents, LiesAmong, IsDamageIn, IsMoved, IsMovedOut, IsVacating};
 
 use crate::refusals::{move_answer, vacate_cause};
@@ -38,6 +39,9 @@ impl<D: Disk> Shard<D> {
         ensures makes { (s : State) → Agrees self.old s → MakesEvents D.view (IsVacating self.old s result) self.old s self.new }
         ensures few { IfOk result (λ done. IfSome done (λ vacated. vacated.moved < 2 ^ 16)) }
         ensures sure { StaysSure D.view self.old.shelf self.new.shelf }
+
+        // What was kept of flushed buffers goes only where a buffer begins, to which records are moved.
+        ensures kept { KeepsThrough false self.old.shelf self.new.shelf }
 
         // Damage is told of a record in the block that had waited longest, by what its entry keeps and what stands at its place.
         ensures damaged { (block : ℕ) → queue_front self.old.shelf.queue.queue ≡ Some block
@@ -71,6 +75,7 @@ impl<D: Disk> Shard<D> {
             → MakesEvents D.view (IsMovedOut (setup_of self.old) vacancy.now.block s result) self.old s self.new }
         ensures few { IfOk result (λ vacated. vacated.moved < 2 ^ 16) }
         ensures sure { StaysSure D.view self.old.shelf self.new.shelf }
+        ensures kept { KeepsThrough false self.old.shelf self.new.shelf }
         ensures damaged { IfErr result (λ refusal. IsDamageIn (D.view self.old.shelf.disk).tells D.view vacancy.now.block self.new refusal.cause) }
         ensures later { IsLater (D.view self.old.shelf.disk) (D.view self.new.shelf.disk) }
         ensures honest { IsHonest (D.view self.old.shelf.disk) → IsHonest (D.view self.new.shelf.disk) }
@@ -99,6 +104,7 @@ impl<D: Disk> Shard<D> {
         requires named { device_number self.old.shelf.geometry.devices digest.now ≡ self.old.shelf.geometry.device }
         ensures makes { (s : State) → Agrees self.old s → (answer : Answer) × IsMoved result answer × Makes D.view (move_call digest.now block) answer self.old s self.new }
         ensures sure { StaysSure D.view self.old.shelf self.new.shelf }
+        ensures kept { KeepsThrough false self.old.shelf self.new.shelf }
         ensures damaged { IfErr result (IsDamageIn (D.view self.old.shelf.disk).tells D.view block self.new) }
         ensures tells { (D.view self.old.shelf.disk).tells → (D.view self.new.shelf.disk).tells }
         ensures later { IsLater (D.view self.old.shelf.disk) (D.view self.new.shelf.disk) }

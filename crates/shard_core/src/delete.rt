@@ -12,6 +12,7 @@ ghost use Rattle.law_sprig.specs.Becoming.{Loses};
 ghost use Rattle.block_shelf.specs.Disks.{IsLater};
 ghost use Rattle.block_shelf.specs.Sure.{StaysSure};
 ghost use Rattle.block_shelf.specs.View.{SameShape};
+ghost use Rattle.block_shelf.specs.Keeping.{KeepsAll};
 ghost use Rattle.shard_core.specs.View.{IsSettings, limits_of, setup_for};
 ghost use Rattle.law_steps.specs.Standing.{StandTogether};
 ghost use Rattle.shard_core.specs.Calls.{IsRefusedStep, delete_answer, write_answer};
@@ -56,7 +57,7 @@ pub fn delete_step<D: Disk>(
     ensures refused { IfErr result (λ refusal. ((refusal ≡ WriteRefusal.Fault) × (set.now.commit ≡ true)) ⊎ IsRefusedStep sprig.old sprig.new shelf.old shelf.new refusal) }
     ensures sure { StaysSure D.view shelf.old shelf.new }
     ensures kept { let covered = cover_of (seen_entry now (entry_of digest.now sprig.old.entries)) in
-        (covered ≡ false → shelf.new.cache ≡ shelf.old.cache) × (covered ≡ true → KeepsBy set.now.commit (units_for 0) shelf.old shelf.new result) }
+        (covered ≡ false → KeepsAll shelf.old shelf.new) × (covered ≡ true → KeepsBy set.now.commit (units_for 0) shelf.old shelf.new result) }
     ensures later { IsLater (D.view shelf.old.disk) (D.view shelf.new.disk) }
     ensures honest { IsHonest (D.view shelf.old.disk) → IsHonest (D.view shelf.new.disk) }
     ensures shape { SameShape shelf.old shelf.new }
@@ -122,7 +123,7 @@ pub(crate) fn remove_entry<D: Disk>(
     ensures bare { entry.cover ≡ false → IsOk result × (shelf.new.disk ≡ shelf.old.disk) }
     ensures refused { IfErr result (λ refusal. ((refusal ≡ WriteRefusal.Fault) × (set.now.commit ≡ true)) ⊎ IsRefusedStep sprig.old sprig.new shelf.old shelf.new refusal) }
     ensures sure { StaysSure D.view shelf.old shelf.new }
-    ensures kept { (entry.cover ≡ false → shelf.new.cache ≡ shelf.old.cache) × (entry.cover ≡ true → KeepsBy set.now.commit (units_for 0) shelf.old shelf.new result) }
+    ensures kept { (entry.cover ≡ false → KeepsAll shelf.old shelf.new) × (entry.cover ≡ true → KeepsBy set.now.commit (units_for 0) shelf.old shelf.new result) }
     ensures later { IsLater (D.view shelf.old.disk) (D.view shelf.new.disk) }
     ensures honest { IsHonest (D.view shelf.old.disk) → IsHonest (D.view shelf.new.disk) }
     ensures shape { SameShape shelf.old shelf.new }

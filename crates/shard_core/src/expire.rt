@@ -12,9 +12,10 @@ ghost use Rattle.sprig_tree.specs.Entries.{entry_of};
 ghost use Rattle.block_shelf.specs.Disks.{IsLater};
 ghost use Rattle.block_shelf.specs.Sure.{StaysSure};
 ghost use Rattle.block_shelf.specs.View.{SameShape};
+ghost use Rattle.block_shelf.specs.Keeping.{KeepsAll};
 ghost use Rattle.law_steps.specs.Standing.{StandTogether};
 ghost use Rattle.law_steps.specs.Events.{StepMakes};
-ghost use Rattle.shard_core.specs.Keeping.{KeepsBy};
+ghost use Rattle.shard_core.specs.Keeping.{KeepsBy, KeepsThrough};
 ghost use Rattle.shard_core.specs.View.{IsSettings, SameSetup, limits_of, setup_for, setup_of};
 ghost use Rattle.shard_core.specs.Sprigs.{held};
 ghost use Rattle.shard_core.specs.Stands.{Agrees, IsWhole};
@@ -56,7 +57,7 @@ pub fn expire_step<D: Disk>(
     ensures refused { IfErr result (λ refusal. ((refusal ≡ WriteRefusal.Fault) × (set.now.commit ≡ true)) ⊎ IsRefusedStep sprig.old sprig.new shelf.old shelf.new refusal) }
     ensures sure { StaysSure D.view shelf.old shelf.new }
     ensures kept { let covered = cover_of (expired_entry now (entry_of digest.now sprig.old.entries)) in
-        (covered ≡ false → shelf.new.cache ≡ shelf.old.cache) × (covered ≡ true → KeepsBy set.now.commit (units_for 0) shelf.old shelf.new result) }
+        (covered ≡ false → KeepsAll shelf.old shelf.new) × (covered ≡ true → KeepsBy set.now.commit (units_for 0) shelf.old shelf.new result) }
     ensures later { IsLater (D.view shelf.old.disk) (D.view shelf.new.disk) }
     ensures honest { IsHonest (D.view shelf.old.disk) → IsHonest (D.view shelf.new.disk) }
     ensures shape { SameShape shelf.old shelf.new }
@@ -79,10 +80,13 @@ impl<D: Disk> Shard<D> {
         ensures makes { (s : State) → Agrees self.old s → MakesEvents D.view (IsExpiring self.old part now s result) self.old s self.new }
         ensures few { IfOk result (λ removed. removed ≤ 2 ^ 32) }
 
-        // Where no entry of the part is both expired and covered, it isn't refused, and the disk isn't called.
-        ensures bare { AreBare self.old part now → IsOk result × (self.new.shelf.disk ≡ self.old.shelf.disk) }
+        // Where no entry of the part is both expired and covered, it isn't refused, the disk isn't called, and all is kept of flushed buffers.
+        ensures bare { AreBare self.old part now → IsOk result × (self.new.shelf.disk ≡ self.old.shelf.disk) × KeepsAll self.old.shelf self.new.shelf }
         ensures never { IfErr result (λ refusal. IsOfRemoval refusal.cause) }
         ensures sure { StaysSure D.view self.old.shelf self.new.shelf }
+
+        // What was kept of flushed buffers goes only where a buffer begins, and by flushes, of which there are none with commit off.
+        ensures kept { KeepsThrough self.old.set.commit self.old.shelf self.new.shelf }
         ensures later { IsLater (D.view self.old.shelf.disk) (D.view self.new.shelf.disk) }
         ensures honest { IsHonest (D.view self.old.shelf.disk) → IsHonest (D.view self.new.shelf.disk) }
         ensures shape { SameSetup self.old self.new }
@@ -106,8 +110,10 @@ impl<D: Disk> Shard<D> {
         requires named { device_number self.old.shelf.geometry.devices digest.now ≡ self.old.shelf.geometry.device }
         requires now { now ≤ 2 ^ 61 }
         ensures makes { (s : State) → Agrees self.old s → Makes D.view (expire_call digest.now now) (delete_answer result) self.old s self.new }
-        ensures bare { cover_of (expired_entry now (held (setup_of self.old) digest.now self.old.sprigs)) ≡ false → IsOk result × (self.new.shelf.disk ≡ self.old.shelf.disk) }
+        ensures bare { cover_of (expired_entry now (held (setup_of self.old) digest.now self.old.sprigs)) ≡ false
+            → IsOk result × (self.new.shelf.disk ≡ self.old.shelf.disk) × KeepsAll self.old.shelf self.new.shelf }
         ensures sure { StaysSure D.view self.old.shelf self.new.shelf }
+        ensures kept { KeepsThrough self.old.set.commit self.old.shelf self.new.shelf }
         ensures later { IsLater (D.view self.old.shelf.disk) (D.view self.new.shelf.disk) }
         ensures honest { IsHonest (D.view self.old.shelf.disk) → IsHonest (D.view self.new.shelf.disk) }
         ensures shape { SameSetup self.old self.new }

@@ -19,7 +19,7 @@ ghost use Rattle.shard_core.specs.View.{SameSetup, setup_of};
 ghost use Rattle.shard_core.specs.Stands.{Agrees, IsWhole};
 ghost use Rattle.shard_core.specs.Calls.{Makes, MakesAny, flush_answer, FlushesAll};
 ghost use Rattle.shard_core.specs.Writing.{EndsRight};
-ghost use Rattle.shard_core.specs.Keeping.{FlushesInTurn, FlushesFront};
+ghost use Rattle.shard_core.specs.Keeping.{FlushesInTurn, FlushesFront, SealsAndFlushes, KeepsTended};
 ghost use Rattle.shard_core.specs.Vacating.{MakesEvents, TendsWell};
 
 use crate::Shard;
@@ -103,6 +103,9 @@ impl<D: Disk> Shard<D> {
     pub fn tend(&mut self, alloc: Global)
         ensures makes { (s : State) → Agrees self.old s → MakesEvents D.view (TendsWell (setup_of self.old) s) self.old s self.new }
         ensures sure { StaysSure D.view self.old.shelf self.new.shelf }
+
+        // What is flushed comes to the back of what is kept; then only what is kept of a block goes in which a buffer begins.
+        ensures kept { KeepsTended self.old.shelf self.new.shelf }
         ensures later { IsLater (D.view self.old.shelf.disk) (D.view self.new.shelf.disk) }
         ensures honest { IsHonest (D.view self.old.shelf.disk) → IsHonest (D.view self.new.shelf.disk) }
         ensures shape { SameSetup self.old self.new }
@@ -120,6 +123,7 @@ impl<D: Disk> Shard<D> {
         ensures whole { IsShelf D.view self.old.shelf × IsWhole self.old }
         ensures makes { (s : State) → Agrees self.old s → MakesAny D.view flush_sealed_call self.old s self.new }
         ensures sure { StaysSure D.view self.old.shelf self.new.shelf }
+        ensures kept { SealsAndFlushes self.old.shelf self.new.shelf }
         ensures later { IsLater (D.view self.old.shelf.disk) (D.view self.new.shelf.disk) }
         ensures honest { IsHonest (D.view self.old.shelf.disk) → IsHonest (D.view self.new.shelf.disk) }
         ensures shape { SameSetup self.old self.new }

@@ -19,7 +19,7 @@ ghost use Rattle.block_shelf.specs.Disks.{IsLater};
 ghost use Rattle.block_shelf.specs.Sure.{StaysSure};
 ghost use Rattle.block_shelf.specs.Standing.{StandsFor};
 ghost use Rattle.block_shelf.specs.View.{IsShelf, IsSetupOf, SameShape, gate_at};
-ghost use Rattle.block_shelf.specs.Appends.{stream_of};
+ghost use Rattle.block_shelf.specs.Appends.{BeginsInFirst, stream_of};
 ghost use Rattle.block_shelf.specs.Changes.{HasRoom};
 ghost use Rattle.block_shelf.specs.Calls.{Goes};
 ghost use Rattle.law_steps.specs.Sprigs.{place_of, HasTimes};
@@ -28,7 +28,7 @@ ghost use Rattle.law_steps.specs.Standing.{StandTogether};
 ghost use Rattle.shard_core.specs.Calls.{IsRefusedStep, IsShelfLeft};
 ghost use Rattle.law_steps.specs.Events.{StepMakes};
 ghost use Rattle.shard_core.specs.Writing.{IsWriteOf, Wrote, IsUnwritten, Commits, written_answer};
-ghost use Rattle.shard_core.specs.Keeping.{blocks_of, FlushesFrom, KeepsBehindCopy, KeepsBy};
+ghost use Rattle.shard_core.specs.Keeping.{SealsAndFlushes, KeepsBy};
 
 use crate::flush::flush_up_to;
 use crate::refusals::write_refusal;
@@ -117,7 +117,7 @@ fn append_entry<D: Disk>(
     ensures wrote { (setup : Setup) (s : State) → IsSetupOf setup shelf.old → StandTogether setup (part_of setup digest.now) sprig.old shelf.old s
         → MatchResult result (λ block. Wrote D.view setup s class digest.now version.now block shelf.old sprig.new shelf.new) (λ refusal. IsUnwritten D.view setup s class digest.now version.now refusal shelf.old sprig.new shelf.new) }
     ensures refused { IfErr result (IsRefusedStep sprig.old sprig.new shelf.old shelf.new) }
-    ensures kept { OnOk result (KeepsBehindCopy (version_units version.now) shelf.old shelf.new) }
+    ensures kept { OnOk result (BeginsInFirst Client (version_units version.now) shelf.old shelf.new) }
     ensures in_room { HasRoom Client (version_units version.now) shelf.old.buffers → shelf.new.disk ≡ shelf.old.disk }
     ensures quiet { gate_at shelf.old.gates (first_block shelf.old.free) ≡ Shut → shelf.new.disk ≡ shelf.old.disk }
     ensures cause { result ≡ Err WriteRefusal.Fault → Rose (D.view shelf.old.disk).faults (D.view shelf.new.disk).faults }
@@ -190,7 +190,7 @@ fn commit<D: Disk>(shelf: &mut Shelf<D>, block: u32) -> Result<(), WriteRefusal>
         → (steps : List Step) × Commits result (flush_between 0 b.number (after_step setup (sealed_stream client) s).book) steps × Goes D.view setup (sealed_stream client ∷ steps) shelf.old s shelf.new }
     ensures fault { IfErr result (λ refusal. refusal ≡ WriteRefusal.Fault) }
     ensures kept { (setup : Setup) (s : State) (b : Buffer) → IsSetupOf setup shelf.old → StandsFor setup shelf.old s → filling_buffer client s.book.buffers ≡ Some b → b.block ≡ block
-        → FlushesFrom (blocks_of shelf.old.buffers) shelf.old.cache shelf.new }
+        → SealsAndFlushes shelf.old shelf.new }
     ensures cause { OnErr result (Rose (D.view shelf.old.disk).faults (D.view shelf.new.disk).faults) }
     ensures sure { StaysSure D.view shelf.old shelf.new }
     ensures later { IsLater (D.view shelf.old.disk) (D.view shelf.new.disk) }

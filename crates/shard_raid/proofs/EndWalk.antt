@@ -25,6 +25,8 @@ use Rattle.law_sprig.specs.Tests.{is_put_entry, is_tombstone_entry}
 use Rattle.law_sprig.specs.Becoming.{without_cover, ended_entry, raid_ended}
 use Rattle.law_sprig.proofs.Turns.{end_found, goes_at, becomes_at, left_at, next_left_at}
 use Rattle.block_shelf.specs.View.{ShelfView}
+use Rattle.block_shelf.proofs.KeptAll.{all_same}
+use Rattle.block_shelf.proofs.Names.{all_then}
 use Rattle.block_shelf.proofs.Going.{goes_none, goes_then}
 use Rattle.law_steps.specs.Standing.{StandTogether}
 use Rattle.shard_raid.specs.Marks.{HasHighTime, is_marked_by}
@@ -47,13 +49,14 @@ left_is number e = ap (λ (b : Bool). cond b (cond (is_tombstone_entry e) None (
 -- ---- the disk
 
 same_disk : {D : Type 0} (old : ShelfView D) → SameDisk old old
-same_disk old = record { disk = refl; gates = refl; buffers = refl; shape = record { geometry = refl; limits = refl; raid = refl } }
+same_disk old = record { disk = refl; gates = refl; buffers = refl; kept = all_same old; shape = record { geometry = refl; limits = refl; raid = refl } }
 
 disk_on : {D : Type 0} (old mid new : ShelfView D) → SameDisk old mid → SameDisk mid new → SameDisk old new
 disk_on old mid new first then = record {
   disk = then.disk ∙ first.disk;
   gates = then.gates ∙ first.gates;
   buffers = then.buffers ∙ first.buffers;
+  kept = all_then old mid new first.kept then.kept;
   shape = record { geometry = then.shape.geometry ∙ first.shape.geometry; limits = then.shape.limits ∙ first.shape.limits; raid = then.shape.raid ∙ first.shape.raid };
 }
 

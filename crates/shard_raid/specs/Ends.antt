@@ -15,6 +15,7 @@ use Rattle.law_sprig.specs.Tests.{is_tombstone_entry}
 use Rattle.law_sprig.specs.Becoming.{without_cover}
 use Rattle.block_shelf.specs.View.{ShelfView, IsSetupOf, SameShape}
 use Rattle.block_shelf.specs.Calls.{Goes}
+use Rattle.block_shelf.specs.Keeping.{KeepsAll}
 use Rattle.law_steps.specs.Standing.{StandTogether}
 use Rattle.shard_raid.specs.Marks.{HasHighTime, is_marked_by}
 
@@ -59,9 +60,10 @@ pub record GoTogether {D : Type 0} (view : D → DiskView) (setup : Setup) (part
   pub goes : Goes view setup steps old s new
   pub together : StandTogether setup part sprig new (after_steps setup steps s)
 
--- The disk stays, what is known of its gates, the buffers, the shape, the limits, and the book of the raid.
+-- The disk stays, what is known of its gates, the buffers, what is kept of flushed ones, the shape, the limits, and the book of the raid.
 pub record SameDisk {D : Type 0} (old new : ShelfView D) : Type 0 where
   pub disk : new.disk ≡ old.disk
   pub gates : new.gates ≡ old.gates
   pub buffers : new.buffers ≡ old.buffers
+  pub kept : KeepsAll old new
   pub shape : SameShape old new

@@ -11,6 +11,7 @@ ghost use Rattle.sprig_tree.specs.Entries.{entry_of};
 ghost use Rattle.law_sprig.specs.Tests.{is_put_entry, is_tombstone_entry};
 ghost use Rattle.law_sprig.specs.Becoming.{Loses, without_cover};
 ghost use Rattle.block_shelf.specs.View.{IsSetupOf};
+ghost use Rattle.block_shelf.specs.Keeping.{KeepsAll};
 ghost use Rattle.block_shelf.specs.Standing.{ImagesHold};
 ghost use Rattle.block_shelf.specs.Scans.{possible_copies};
 ghost use Rattle.law_steps.specs.Sprigs.{place_of};
@@ -46,6 +47,7 @@ pub fn raid_end<D: Disk>(sprig: &mut Sprig, shelf: &mut Shelf<D>, part: u32) -> 
     ensures disk { shelf.new.disk ≡ shelf.old.disk }
     ensures gates { shelf.new.gates ≡ shelf.old.gates }
     ensures buffers { shelf.new.buffers ≡ shelf.old.buffers }
+    ensures kept { KeepsAll shelf.old shelf.new }
     ensures geometry { shelf.new.geometry ≡ shelf.old.geometry }
     ensures limits { shelf.new.limits ≡ shelf.old.limits }
 {

@@ -5,8 +5,8 @@ use Rattle.model_device.specs.Events.{put_call, bury_call}
 use Rattle.shard_core.specs.Calls.{write_answer, meta_of, Makes}
 use Rattle.line_proto.specs.declared.command.Command.{Command}
 use Rattle.core_run.specs.Calls.{digest_of}
-use Rattle.core_run.specs.Turns.{RepliesOn}
-use Rattle.core_run.proofs.Replying.{written_goes_on, one_digest}
+use Rattle.core_run.specs.Turns.{GetsOn, RepliesOn}
+use Rattle.core_run.proofs.Replying.{written_goes_on, read_goes_on, one_digest}
 use Rattle.core_run.proofs.node.act_on.Goals as goal
 
 pub returns-in-Put-clause-replies : goal.returns-in-Put-clause-replies
@@ -42,3 +42,19 @@ returns-in-Bury-clause-replies g c =
       λ s agrees.
           subst (λ (digest : Digest). Makes d.view (bury_call digest c.args.now) (write_answer c.bury.result) c.args.shard.now s c.bury.new.self) same (c.bury.ensures.makes s agrees),
     )
+
+pub returns-in-Get-clause-replies : goal.returns-in-Get-clause-replies
+returns-in-Get-clause-replies g c =
+    let d = g.D.Disk in
+    let same : c.args.digest.now ≡ c.in-Get.field-0 = one_digest c.args.digest.now c.in-Get.field-0 (sym c.requires.on ∙ ap digest_of c.in-Get.is) in
+    subst (λ (command : Command). RepliesOn d.view c.args.shard.now command c.args.now c.read_reply.result c.get.new.self) (sym c.in-Get.is)
+    (subst (λ (digest : Digest). GetsOn d.view c.args.shard.now digest c.args.now c.read_reply.result c.get.new.self) same
+    (record {
+      got = c.get.result;
+      reply_is = c.read_reply.ensures;
+      goes_on = λ h. read_goes_on c.get.result (sym c.read_reply.ensures ∙ h);
+      makes = c.get.ensures.makes;
+      stored = c.get.ensures.stored;
+      whole = c.get.ensures.whole;
+      own = c.requires.place;
+    }))

@@ -28,6 +28,8 @@ use Rattle.defrag_pass.specs.Moves.{Answers, CopiesRecord, IsDamageOf, IsShelfLe
 use Rattle.defrag_pass.proofs.Telling.{damage_told, no_damage_told, torn_none, torn_only, torn_read}
 use Rattle.defrag_pass.proofs.Moved.{makes_elsewhere, makes_unread, makes_unappended, left_unappended, makes_moved, copy_is_read, stand_read, none_there, out_of, fits_here}
 use Rattle.defrag_pass.proofs.Moved.{prior_at, live_at, version_at, shown_here, prior_read, read_then_later, replaced_by, replaced_found, setup_read}
+use Rattle.rec_format.specs.Versions.{version_units}
+use Rattle.defrag_pass.proofs.Kept.{keeps_elsewhere, keeps_moved, keeps_unappended, keeps_unfound, keeps_unread}
 use Rattle.defrag_pass.proofs.moving.move_one.Goals as goal
 
 -- ---- no copy in the block
@@ -350,3 +352,31 @@ returns-in_default-clause-bytes g c = torn_none g.D.Disk.view c.args.shelf.now
 
 pub returns-then-entry-block-clause-bytes : goal.returns-then-entry-block-clause-bytes
 returns-then-entry-block-clause-bytes g c = torn_none g.D.Disk.view c.args.shelf.now
+
+-- ---- what is kept
+
+pub returns-in_default-clause-kept : goal.returns-in_default-clause-kept
+returns-in_default-clause-kept g c = keeps_unfound (entry_of c.args.digest.now c.args.sprig.now.entries) c.args.shelf.now (Ok false) (sym c.find.ensures.value ∙ c.in_default.is)
+
+pub returns-then-entry-block-clause-kept : goal.returns-then-entry-block-clause-kept
+returns-then-entry-block-clause-kept g c =
+    keeps_elsewhere (entry_of c.args.digest.now c.args.sprig.now.entries) c.in-Some.entry c.args.shelf.now (sym c.find.ensures.value ∙ c.in-Some.is)
+
+pub returns-in_err-version-clause-kept : goal.returns-in_err-version-clause-kept
+returns-in_err-version-clause-kept g c =
+    let refusal : MoveRefusal = c.in_err-version.field-0.0 in
+    let p = err_from_is_err_and c.from_residual.result c.from_residual.ensures.1 in
+    keeps_unread (entry_of c.args.digest.now c.args.sprig.now.entries) c.in-Some.entry (sym c.find.ensures.value ∙ c.in-Some.is) c.args.shelf.now c.read_for.new.shelf
+    (c.in_err-version.ensures {u = tt}).same c.from_residual.result refusal (p.1 ∙ ap (λ (r : MoveRefusal). Err r) p.2)
+
+pub returns-in-Ok-clause-kept : goal.returns-in-Ok-clause-kept
+returns-in-Ok-clause-kept g c =
+    let got = c.in_ok-version.ensures {u = tt} in
+    keeps_moved (entry_of c.args.digest.now c.args.sprig.now.entries) c.in-Some.entry (sym c.find.ensures.value ∙ c.in-Some.is) c.args.shelf.now c.read_for.new.shelf got.same
+    c.append.new.self (version_units c.in_ok-version.version) got.names.units c.in-Ok.ensures.first
+
+pub returns-clause-kept : goal.returns-clause-kept
+returns-clause-kept g c =
+    let got = c.in_ok-version.ensures {u = tt} in
+    keeps_unappended (entry_of c.args.digest.now c.args.sprig.now.entries) c.in-Some.entry (sym c.find.ensures.value ∙ c.in-Some.is) c.args.shelf.now c.read_for.new.shelf got.same
+    c.append.new.self c.in-Err.refusal c.append_refusal.result c.in-Err.ensures.refused

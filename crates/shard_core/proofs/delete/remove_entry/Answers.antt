@@ -116,7 +116,7 @@ returns-clause-sure g c = sure_same g.D.Disk.view c.args.shelf.now c.drop_live.n
 
 pub returns-clause-kept : goal.returns-clause-kept
 returns-clause-kept g c = (
-  λ bare. c.drop_live.ensures.cache,
+  λ bare. c.drop_live.ensures.kept,
   λ covered. absurd (false≢true (sym (sym c.delete_writes.ensures ∙ c.if-delete_writes.false) ∙ covered)),
 )
 

@@ -21,6 +21,7 @@ use Rattle.rec_format.specs.Versions.{units_for}
 use Rattle.std.proofs.lemmas.Bool.{false≢true}
 use Rattle.tomb_rules.specs.Covers.{cover_of}
 use Rattle.shard_core.proofs.Keeping.{keeps_as, keeps_refused}
+use Rattle.block_shelf.proofs.KeptAll.{all_same}
 use Rattle.shard_core.proofs.expire.expire_step.Goals as goal
 
 pub returns-in_default-clause-makes : goal.returns-in_default-clause-makes
@@ -78,7 +79,7 @@ pub returns-in_default-clause-kept : goal.returns-in_default-clause-kept
 returns-in_default-clause-kept g c =
     let none : expired_entry c.args.now (entry_of c.args.digest.now c.args.sprig.now.entries) ≡ None =
     ap (expired_entry c.args.now) (sym (c.as_ref.ensures.value ∙ c.find-found.ensures.value)) ∙ sym c.expired_put.ensures ∙ ap option_copied c.in_default.is in
-    (λ bare. refl, λ covered. absurd (false≢true (sym (ap cover_of none) ∙ covered)))
+    (λ bare. all_same c.args.shelf.now, λ covered. absurd (false≢true (sym (ap cover_of none) ∙ covered)))
 
 pub returns-clause-kept : goal.returns-clause-kept
 returns-clause-kept g c =

@@ -22,7 +22,7 @@ use Rattle.shard_core.specs.Calls.{ReadsStored, read_answer}
 use Rattle.law_steps.specs.Events.{StepMakes}
 use Rattle.shard_core.proofs.Found.{seen_none, seen_some}
 use Rattle.law_steps.proofs.Found.{lies_found}
-use Rattle.shard_core.proofs.Getting.{seen_held, live_is, shown, shown_got, shown_is, shown_err, makes_unseen, makes_read}
+use Rattle.shard_core.proofs.Getting.{seen_held, live_is, shown, shown_got, shown_is, shown_copy, shown_err, makes_unseen, makes_read}
 use Rattle.shard_core.proofs.get.get_step.Goals as goal
 
 pub returns-in_default-clause-makes : goal.returns-in_default-clause-makes
@@ -37,6 +37,10 @@ returns-in_default-clause-stored g c =
     let none : seen_entry c.args.now (entry_of c.args.digest.now c.args.sprig.now.entries) ≡ None = ap (seen_entry c.args.now) (sym (c.as_ref.ensures.value ∙ c.find-found.ensures.value))
     ∙ sym c.seen.ensures ∙ ap option_copied c.in_default.is in
     record {
+      copied = λ s stand v sees e b is there at.
+          let unseen = seen_none (setup_for c.args.shelf.now.geometry c.args.set.now) s c.args.now c.args.digest.now c.args.sprig.now stand.sprig_stands none in
+          let clash : None ≡ Some v = sym unseen ∙ sees in
+          absurd (cc);
       remembered = λ s stand e b is there at client. sym (seen_none (setup_for c.args.shelf.now.geometry c.args.set.now) s c.args.now c.args.digest.now c.args.sprig.now stand.sprig_stands none);
       placed = λ told e is apart. let clash : Some e ≡ None = sym is ∙ none in absurd (cc);
     }
@@ -120,6 +124,13 @@ returns-in-Ok-clause-stored g c =
           let same : x ≡ e = cc in
           let got = c.read.ensures.in_memory setup s is.version b stand.shelf_stands.stands live.live live.entry_is is.names there (at ∙ ap (λ (y : Entry). y.block) same ∙ sym at_place) in
           shown_is (device.seen s c.args.now c.args.digest.now) is.version b.stream (λ refusal. refusal ≡ read.Memory) c.read.result client is.seen got.1;
+      copied = λ s stand w sees x b found there at.
+          let is = seen_some setup s c.args.now c.args.digest.now c.args.sprig.now stand.sprig_stands e seen in
+          let live = live_is g.D.Disk.view setup c.args.digest.now c.args.sprig.now c.args.shelf.now c.read.new.self s c.args.now stand e c.place_of_entry.result is c.place_of_entry.ensures in
+          let one : Some x ≡ Some e = sym found ∙ is.found_is in
+          let same : x ≡ e = cc in
+          let got = c.read.ensures.in_memory setup s is.version b stand.shelf_stands.stands live.live live.entry_is is.names there (at ∙ ap (λ (y : Entry). y.block) same ∙ sym at_place) in
+          shown_copy (device.seen s c.args.now c.args.digest.now) is.version w b.stream (λ refusal. refusal ≡ read.Memory) c.read.result is.seen sees got.1;
       placed = λ told x is none.
           let one : Some x ≡ Some e = sym is ∙ seen in
           let same : x ≡ e = cc in
@@ -180,6 +191,13 @@ returns-in-Err-clause-stored g c =
           let same : x ≡ e = cc in
           let got = c.read.ensures.in_memory setup s is.version b stand.shelf_stands.stands live.live live.entry_is is.names there (at ∙ ap (λ (y : Entry). y.block) same ∙ sym at_place) in
           shown_is (device.seen s c.args.now c.args.digest.now) is.version b.stream (λ refusal. refusal ≡ read.Memory) c.read.result client is.seen got.1;
+      copied = λ s stand w sees x b found there at.
+          let is = seen_some setup s c.args.now c.args.digest.now c.args.sprig.now stand.sprig_stands e seen in
+          let live = live_is g.D.Disk.view setup c.args.digest.now c.args.sprig.now c.args.shelf.now c.read.new.self s c.args.now stand e c.place_of_entry.result is c.place_of_entry.ensures in
+          let one : Some x ≡ Some e = sym found ∙ is.found_is in
+          let same : x ≡ e = cc in
+          let got = c.read.ensures.in_memory setup s is.version b stand.shelf_stands.stands live.live live.entry_is is.names there (at ∙ ap (λ (y : Entry). y.block) same ∙ sym at_place) in
+          shown_copy (device.seen s c.args.now c.args.digest.now) is.version w b.stream (λ refusal. refusal ≡ read.Memory) c.read.result is.seen sees got.1;
       placed = λ told x is none.
           let one : Some x ≡ Some e = sym is ∙ seen in
           let same : x ≡ e = cc in

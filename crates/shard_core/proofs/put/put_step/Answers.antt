@@ -26,6 +26,7 @@ use Rattle.shard_core.proofs.Keeping.{keeps_all}
 use Rattle.shard_core.proofs.Later.{later_none}
 use Rattle.shard_core.proofs.Puts.{stamp_fine, unfit_refusal, spent_refusal, put_writes, stands_against, memory_wants, makes_nothing, unfit_left}
 use Rattle.block_shelf.proofs.Surely.{sure_none}
+use Rattle.block_shelf.proofs.KeptAll.{all_same}
 use Rattle.shard_core.proofs.put.put_step.Goals as goal
 
 pub returns-in_err-check_put-clause-makes : goal.returns-in_err-check_put-clause-makes
@@ -243,7 +244,7 @@ returns-in_err-stamp-clause-kept g c =
     keeps_all c.args.set.now.commit (units_for (length c.args.payload.now)) c.args.shelf.now c.from_residual-in_err-stamp.result c.in_err-stamp.field-0.0 (p.1 ∙ ap (λ (r : WriteRefusal). Err r) p.2)
 
 pub returns-in_default-clause-kept : goal.returns-in_default-clause-kept
-returns-in_default-clause-kept g c = inl refl
+returns-in_default-clause-kept g c = inl (all_same c.args.shelf.now)
 
 pub returns-clause-kept : goal.returns-clause-kept
 returns-clause-kept g c =

@@ -19,7 +19,6 @@ use Rattle.law_steps.specs.Standing.{SprigStands}
 use Rattle.block_shelf.proofs.Going.{goes_none}
 use Rattle.law_steps.specs.Sprigs.{place_of}
 use Rattle.law_steps.proofs.Found.{lies_found, prior_is, prior_stands, same_stands}
-use Rattle.shard_core.proofs.Keeping.{keeps_copy}
 use Rattle.shard_core.proofs.Later.{later_none}
 use Rattle.shard_core.proofs.Writes.{copy_of, wrote_by, left_by}
 use Rattle.block_shelf.proofs.Surely.{sure_none}
@@ -161,7 +160,4 @@ returns-in-Err-clause-kept g c = tt
 
 pub returns-in-Ok-append-clause-kept : goal.returns-in-Ok-append-clause-kept
 returns-in-Ok-append-clause-kept g c =
-    keeps_copy g.D.Disk.view c.requires.stand.0 c.args.digest.now c.args.version.now c.requires.stand.1 c.args.shelf.now c.append.new.self c.in-Ok-append.ensures.whole c.requires.stand.2
-    c.requires.stand.3.shelf_stands.stands
-    (returns-in-Ok-append-clause-wrote g c c.requires.stand.0 c.requires.stand.1 c.requires.stand.2 c.requires.stand.3).stands.shelf_stands.stands
-    (subst (λ (t : Stream). BeginsInFirst t (version_units c.args.version.now) c.args.shelf.now c.append.new.self) c.requires.client c.in-Ok-append.ensures.first)
+    subst (λ (t : Stream). BeginsInFirst t (version_units c.args.version.now) c.args.shelf.now c.append.new.self) c.requires.client c.in-Ok-append.ensures.first

@@ -1,4 +1,4 @@
-use Rattle.std.proofs.Common.{ℕ, ◌∷◌, [], sym, subst, refl}
+use Rattle.std.proofs.Common.{ℕ, true, false, ◌∷◌, [], sym, subst, refl}
 use Rattle.std.specs.Prelude.{Result}
 use Rattle.model_device.specs.Steps.{sealed_stream, after_step}
 use Rattle.model_device.specs.Book.{client}
@@ -11,7 +11,7 @@ use Rattle.shard_core.proofs.Committing.{has_buffer, number_is, ends_there}
 use Rattle.shard_core.proofs.FlushLoop.{setup_stays}
 use Rattle.shard_core.proofs.Writes.{committed, commits_from}
 use Rattle.block_shelf.proofs.Surely.{sure_none, sure_same, sure_then}
-use Rattle.shard_core.proofs.Keeping.{flushes_nothing, flushes_sealed}
+use Rattle.shard_core.proofs.Keeping.{flushes_nothing, flushes_sealed, seals_keep}
 use Rattle.shard_core.proofs.write.commit.Goals as goal
 
 pub returns-in_default-clause-committed : goal.returns-in_default-clause-committed
@@ -65,10 +65,12 @@ returns-in_default-clause-kept g c setup s b is stands found at = flushes_nothin
 
 pub returns-in-Ok-clause-kept : goal.returns-in-Ok-clause-kept
 returns-in-Ok-clause-kept g c setup s b is stands found at =
-    flushes_sealed g.D.Disk.view setup s c.args.shelf.now c.seal_for.new.self c.flush_up_to.new.shelf stands (c.seal_for.ensures.sealed setup s client b is stands found at)
-    c.seal_for.ensures.cache c.flush_up_to.ensures.kept
+    let sealed = c.seal_for.ensures.sealed setup s client b is stands found at in
+    flushes_sealed c.args.shelf.now c.seal_for.new.self c.flush_up_to.new.shelf
+    (seals_keep setup true false s c.args.shelf.now c.seal_for.new.self stands sealed.stands c.seal_for.ensures.cache) c.flush_up_to.ensures.kept
 
 pub returns-in-Err-clause-kept : goal.returns-in-Err-clause-kept
 returns-in-Err-clause-kept g c setup s b is stands found at =
-    flushes_sealed g.D.Disk.view setup s c.args.shelf.now c.seal_for.new.self c.flush_up_to.new.shelf stands (c.seal_for.ensures.sealed setup s client b is stands found at)
-    c.seal_for.ensures.cache c.flush_up_to.ensures.kept
+    let sealed = c.seal_for.ensures.sealed setup s client b is stands found at in
+    flushes_sealed c.args.shelf.now c.seal_for.new.self c.flush_up_to.new.shelf
+    (seals_keep setup true false s c.args.shelf.now c.seal_for.new.self stands sealed.stands c.seal_for.ensures.cache) c.flush_up_to.ensures.kept

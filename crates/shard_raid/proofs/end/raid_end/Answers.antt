@@ -1,9 +1,10 @@
-use Rattle.std.proofs.Common.{ℕ, ◌∙◌, ap, subst}
+use Rattle.std.proofs.Common.{ℕ, ◌∙◌, sym, ap, subst}
 use Rattle.std.specs.Prelude.{count_by, flat_map}
 use Rattle.raid_book.specs.Books.{BookState}
 use Rattle.shard_raid.specs.Ends.{EndsMarked, end_steps, StandAtEnd, GoTogether}
 use Rattle.shard_raid.proofs.EndWalk.{is_gone, is_bare}
 use Rattle.shard_raid.proofs.EndTurn.{spares_older, makes_ended}
+use Rattle.block_shelf.specs.Keeping.{KeepsAll}
 use Rattle.shard_raid.proofs.end.raid_end.Goals as goal
 
 pub returns-clause-makes : goal.returns-clause-makes
@@ -26,3 +27,8 @@ returns-clause-spares g c setup s is together honest safe =
     let number = c.number-number.ensures.value ∙ ap (λ (b : BookState). b.number) c.raid.ensures.book in
     spares_older setup c.args.part c.args.sprig.now c.args.shelf.now s (record { turn = c.requires.turn; is_setup = is; together = together }) g.D.Disk.view c.end_entries-removed.new.sprig
     (subst (λ (n : ℕ). EndsMarked n c.args.sprig.now c.end_entries-removed.new.sprig) number c.end_entries-removed.ensures.sprig) safe
+
+pub returns-clause-kept : goal.returns-clause-kept
+returns-clause-kept g c =
+    let kept = c.end_entries-removed.ensures.rest.kept in
+    subst (KeepsAll c.args.shelf.now) (sym c.end_turn.ensures) (record { cache = kept.cache; names = kept.names; next = kept.next })

@@ -7,6 +7,7 @@ use Rattle.model_device.specs.Steps.{removed, rid_of, with_item, after_step}
 use Rattle.block_shelf.specs.View.{ShelfView, IsUnused}
 use Rattle.block_shelf.specs.Calls.{Goes}
 use Rattle.block_shelf.specs.Changes.{with_free, with_requeued}
+use Rattle.block_shelf.specs.Keeping.{KeepsAll}
 use Rattle.block_shelf.proofs.DropSteps.{goes_freed, goes_kept}
 use Rattle.block_shelf.proofs.shelf.Shelf.drop_live.Goals as goal
 
@@ -71,10 +72,10 @@ returns-then-is_unused-clause-gates g c =
     let queued = c.requeue.ensures ∙ ap (with_requeued c.args.place.block) c.take_live.ensures.taken in
     ap (λ (x : ShelfView g.row.D.Denot). x.gates) (c.free_block.ensures ∙ ap (with_free c.args.place.block) queued)
 
-pub returns-then-is_unused-clause-cache : goal.returns-then-is_unused-clause-cache
-returns-then-is_unused-clause-cache g c =
+pub returns-then-is_unused-clause-kept : goal.returns-then-is_unused-clause-kept
+returns-then-is_unused-clause-kept g c =
     let queued = c.requeue.ensures ∙ ap (with_requeued c.args.place.block) c.take_live.ensures.taken in
-    ap (λ (x : ShelfView g.row.D.Denot). x.cache) (c.free_block.ensures ∙ ap (with_free c.args.place.block) queued)
+    subst (KeepsAll c.args.self.now) (sym (c.free_block.ensures ∙ ap (with_free c.args.place.block) queued)) (record { cache = refl; names = refl; next = refl })
 
 pub returns-then-is_unused-clause-shape : goal.returns-then-is_unused-clause-shape
 returns-then-is_unused-clause-shape g c =
@@ -92,10 +93,10 @@ returns-else-is_unused-clause-gates g c =
     let queued = c.requeue.ensures ∙ ap (with_requeued c.args.place.block) c.take_live.ensures.taken in
     ap (λ (x : ShelfView g.row.D.Denot). x.gates) queued
 
-pub returns-else-is_unused-clause-cache : goal.returns-else-is_unused-clause-cache
-returns-else-is_unused-clause-cache g c =
+pub returns-else-is_unused-clause-kept : goal.returns-else-is_unused-clause-kept
+returns-else-is_unused-clause-kept g c =
     let queued = c.requeue.ensures ∙ ap (with_requeued c.args.place.block) c.take_live.ensures.taken in
-    ap (λ (x : ShelfView g.row.D.Denot). x.cache) queued
+    subst (KeepsAll c.args.self.now) (sym queued) (record { cache = refl; names = refl; next = refl })
 
 pub returns-else-is_unused-clause-shape : goal.returns-else-is_unused-clause-shape
 returns-else-is_unused-clause-shape g c =

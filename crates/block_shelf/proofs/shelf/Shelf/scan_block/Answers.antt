@@ -169,7 +169,7 @@ returns g c =
     let own : c.deref-3.result.now ≡ own_found here.geometry found = c.deref-3.ensures.value ∙ c.in-Ok.ensures ∙ ap (own_found here.geometry) c.deref.ensures.value in
     let copies : List (Digest × Stamp) = found_copies (own_found here.geometry found) in
     let setup_here : IsSetupOf setup here = subst (IsSetupOf setup) (sym (c.self.view_is ∙ c.records_in.ensures.rest))
-    (record { shape = is.shape; pending = is.pending; lwm = is.lwm; sprigs = is.sprigs }) in
+    (record { shape = is.shape; pending = is.pending; lwm = is.lwm; cache = is.cache; sprigs = is.sprigs }) in
     let shape_here : here.geometry.devices ≡ setup.devices = sym setup_here.shape.devices in
     let sprigs_here : here.limits.sprigs ≡ setup.sprigs = sym setup_here.sprigs in
     let raid_was : RaidStands setup here.raid s.raid = (went.queued books).raid in

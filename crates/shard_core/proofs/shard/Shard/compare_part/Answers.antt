@@ -18,6 +18,7 @@ use Rattle.shard_core.proofs.Making.{setup_is, whole_made}
 use Rattle.shard_core.proofs.Raiding.{part_there, turn_made, turn_taken, possible_aside}
 use Rattle.shard_core.proofs.Tallies.{tally_behind}
 use Rattle.shard_core.proofs.shard.Shard.compare_part.Given.{Over}
+use Rattle.block_shelf.proofs.KeptAll.{all_beside}
 use Rattle.shard_core.proofs.shard.Shard.compare_part.Goals as goal
 
 module _ (g : Over) (c : goal.After-self-2-1 g) where
@@ -63,7 +64,7 @@ module _ (g : Over) (c : goal.After-self-2-1 g) where
       turn_taken g.D.Disk.view (Apply c.args.part) old new c.args.part c.args.part c.index_mut.result.now c.raid_apply-unmarked.new.sprig shape refl there c.index_mut.ensures.value refl at
       refl (λ block same. cc) now (Applied c.raid_apply-unmarked.result) (step now)
       tt (λ same. cc) (g.met.D.Disk.is_disk old.shelf.disk) (ap (λ (v : ShelfView g.row.D.Denot). v.disk) book) (ap (λ (v : ShelfView g.row.D.Denot). v.gates) book)
-      (ap (λ (v : ShelfView g.row.D.Denot). v.buffers) book)
+      (ap (λ (v : ShelfView g.row.D.Denot). v.buffers) book) (all_beside old.shelf new.shelf old.shelf.disk old.shelf.gates behind book)
       (ap (λ (v : ShelfView g.row.D.Denot). v.raid.number) book) c.raid_apply-unmarked.ensures.nearer
       tt (λ still s t same. possible_aside g.D.Disk.view old.shelf new.shelf behind s t book same)
 

@@ -1,4 +1,4 @@
-use Rattle.std.proofs.Common.{◌≡◌, ℕ, ap, sym, refl, ◌∙◌, subst}
+use Rattle.std.proofs.Common.{◌≡◌, ℕ, false, ap, sym, refl, ◌∙◌, subst}
 use Rattle.std.specs.Prelude.{Some, None, Ok, Err}
 use Rattle.model_device.specs.Device.{State}
 use Rattle.model_device.specs.Legal.{queue_front}
@@ -13,6 +13,8 @@ use Rattle.shard_core.proofs.Later.{later_none}
 use Rattle.shard_core.proofs.Choices.{gives_not, gives_none, gives_own, gives_few, gives_all, gives_some}
 use Rattle.block_shelf.specs.Sure.{StaysSure}
 use Rattle.block_shelf.proofs.Surely.{sure_none}
+use Rattle.shard_core.specs.Keeping.{KeepsThrough}
+use Rattle.shard_core.proofs.Keeping.{through_none}
 use Rattle.shard_core.proofs.shard.Shard.defrag_one.Goals as goal
 
 pub move_all-requires-clause-named : goal.move_all-requires-clause-named
@@ -160,3 +162,25 @@ pub returns-clause-damaged : goal.returns-clause-damaged
 returns-clause-damaged g c block front =
     let new : ShardView g.row.D.Denot = record { shelf = c.vacate_next.new.self; set = c.self.inside.set; sprigs = c.self.inside.sprigs.items } in
     subst (IsDamageIn (g.D.Disk.view c.args.self.now.shelf.disk).tells g.D.Disk.view block new) (sym (c.vacate_cause.ensures ∙ ap vacate_cause c.in-Err.ensures.refused)) tt
+
+-- ---- what is kept
+
+pub returns-in-Ok-clause-kept : goal.returns-in-Ok-clause-kept
+returns-in-Ok-clause-kept g c =
+    subst (λ (v : ShardView g.row.D.Denot). KeepsThrough false v.shelf c.move_all.new.self.shelf) c.self.view_is
+    (subst (λ (x : ShelfView g.row.D.Denot). KeepsThrough false x c.move_all.new.self.shelf) c.vacate_next.ensures.same c.move_all.ensures.kept)
+
+pub returns-in-Ok-Some-clause-kept : goal.returns-in-Ok-Some-clause-kept
+returns-in-Ok-Some-clause-kept g c =
+    subst (λ (v : ShardView g.row.D.Denot). KeepsThrough false v.shelf c.move_all.new.self.shelf) c.self.view_is
+    (subst (λ (x : ShelfView g.row.D.Denot). KeepsThrough false x c.move_all.new.self.shelf) c.vacate_next.ensures.same c.move_all.ensures.kept)
+
+pub returns-in-Ok-None-clause-kept : goal.returns-in-Ok-None-clause-kept
+returns-in-Ok-None-clause-kept g c =
+    subst (λ (v : ShardView g.row.D.Denot). KeepsThrough false v.shelf c.vacate_next.new.self) c.self.view_is
+    (through_none false c.self.inside.shelf c.vacate_next.new.self c.vacate_next.ensures.same)
+
+pub returns-clause-kept : goal.returns-clause-kept
+returns-clause-kept g c =
+    subst (λ (v : ShardView g.row.D.Denot). KeepsThrough false v.shelf c.vacate_next.new.self) c.self.view_is
+    (through_none false c.self.inside.shelf c.vacate_next.new.self c.vacate_next.ensures.same)

@@ -21,6 +21,7 @@ use Rattle.shard_core.proofs.shard.Shard.delete.Given.{Over}
 use Rattle.block_shelf.specs.Sure.{StaysSure}
 use Rattle.shard_core.specs.Keeping.{KeepsBy}
 use Rattle.rec_format.specs.Versions.{units_for}
+use Rattle.block_shelf.specs.Keeping.{KeepsAll}
 use Rattle.shard_core.proofs.shard.Shard.delete.Goals as goal
 
 pub delete_step-answer-requires-clause-stand : goal.delete_step-answer-requires-clause-stand
@@ -202,7 +203,7 @@ returns-clause-kept g c =
     let shape : SameSetup old new = record { geometry = c.delete_step-answer.ensures.shape.geometry; set = refl } in
     let same = ap (λ (o : Option Entry). cover_of (seen_entry c.args.now o))
     (sym (held_at g.D.Disk.view c.args.digest.now old new c.part_of-part.result c.index_mut.result.now c.delete_step-answer.new.sprig shape place there c.index_mut.ensures.value refl)) in
-    subst (λ (v : ShardView g.row.D.Denot). (cover_of (seen_entry c.args.now (held (setup_of v) c.args.digest.now v.sprigs)) ≡ false → c.delete_step-answer.new.shelf.cache ≡ v.shelf.cache)
+    subst (λ (v : ShardView g.row.D.Denot). (cover_of (seen_entry c.args.now (held (setup_of v) c.args.digest.now v.sprigs)) ≡ false → KeepsAll v.shelf c.delete_step-answer.new.shelf)
     × (cover_of (seen_entry c.args.now (held (setup_of v) c.args.digest.now v.sprigs)) ≡ true
     → KeepsBy v.set.commit (units_for 0) v.shelf c.delete_step-answer.new.shelf c.delete_step-answer.result)) c.self.view_is
     (λ bare. c.delete_step-answer.ensures.kept.0 (same ∙ bare), λ covered. c.delete_step-answer.ensures.kept.1 (same ∙ covered))

@@ -66,7 +66,7 @@ module _ (g : Over) (c : goal.After-self-2-1 g) where
   taken now =
       turn_taken g.D.Disk.view (Drop c.args.part) old new c.args.part c.args.part c.index_mut.result.now c.raid_end-removed.new.sprig shape refl there c.index_mut.ensures.value refl at refl
       (λ block same. cc) now (Dropped c.raid_end-removed.result.0 c.raid_end-removed.result.1) (step now)
-      tt (λ same. cc) (g.met.D.Disk.is_disk old.shelf.disk) c.raid_end-removed.ensures.disk c.raid_end-removed.ensures.gates c.raid_end-removed.ensures.buffers
+      tt (λ same. cc) (g.met.D.Disk.is_disk old.shelf.disk) c.raid_end-removed.ensures.disk c.raid_end-removed.ensures.gates c.raid_end-removed.ensures.buffers c.raid_end-removed.ensures.kept
       (ap (λ (b : BookState). b.number) c.raid_end-removed.ensures.raid ∙ ap (λ (n : RaidNext). (after_turn n c.args.part old.shelf.raid).number) at)
       (subst (λ (b : BookState). turns_left b < turns_left old.shelf.raid) (sym c.raid_end-removed.ensures.raid) (drop_nearer old.shelf.raid fits c.args.part at))
       few (λ still. absurd still)

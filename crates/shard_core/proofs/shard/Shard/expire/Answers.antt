@@ -15,6 +15,11 @@ use Rattle.shard_core.proofs.Making.{whole_made, step_stands, lifted, held_at}
 use Rattle.shard_core.proofs.Tallies.{tally_behind}
 use Rattle.shard_core.proofs.shard.Shard.expire.Given.{Over}
 use Rattle.block_shelf.specs.Sure.{StaysSure}
+use Rattle.rec_format.specs.Versions.{units_for}
+use Rattle.sprig_tree.specs.Entries.{entry_of}
+use Rattle.block_shelf.specs.Keeping.{KeepsAll}
+use Rattle.shard_core.specs.Keeping.{KeepsThrough}
+use Rattle.shard_core.proofs.Keeping.{through_removal}
 use Rattle.shard_core.proofs.shard.Shard.expire.Goals as goal
 
 pub expire_step-answer-requires-clause-stand : goal.expire_step-answer-requires-clause-stand
@@ -103,12 +108,18 @@ returns-clause-bare g c =
     ∙ ap (λ (v : ShardView g.row.D.Denot). part_of (setup_of v) c.args.digest.now) (sym c.self.view_is) in
     let there : c.part_of-part.result < length old.sprigs = subst (λ (v : ShardView g.row.D.Denot). c.part_of-part.result < length v.sprigs) (sym c.self.view_is) c.part_of-part.ensures.there in
     let shape : SameSetup old new = record { geometry = c.expire_step-answer.ensures.shape.geometry; set = refl } in
+    let same = ap (λ (o : Option Entry). cover_of (expired_entry c.args.now o))
+    (sym (held_at g.D.Disk.view c.args.digest.now old new c.part_of-part.result c.index_mut.result.now c.expire_step-answer.new.sprig shape place there c.index_mut.ensures.value refl)) in
     subst (λ (v : ShardView g.row.D.Denot). cover_of (expired_entry c.args.now (held (setup_of v) c.args.digest.now v.sprigs)) ≡ false → IsOk c.expire_step-answer.result
-    × (new.shelf.disk ≡ v.shelf.disk)) c.self.view_is
-    (λ bare. c.expire_step-answer.ensures.bare (ap (λ (o : Option Entry). cover_of (expired_entry c.args.now o))
-    (sym (held_at g.D.Disk.view c.args.digest.now old new c.part_of-part.result c.index_mut.result.now c.expire_step-answer.new.sprig shape place there
-    c.index_mut.ensures.value refl)) ∙ bare))
+    × (new.shelf.disk ≡ v.shelf.disk) × KeepsAll v.shelf new.shelf) c.self.view_is
+    (λ bare. let both = c.expire_step-answer.ensures.bare (same ∙ bare) in (both.0, both.1, c.expire_step-answer.ensures.kept.0 (same ∙ bare)))
 
 pub returns-clause-sure : goal.returns-clause-sure
 returns-clause-sure g c =
     subst (λ (v : ShardView g.row.D.Denot). StaysSure g.D.Disk.view v.shelf c.expire_step-answer.new.shelf) c.self.view_is c.expire_step-answer.ensures.sure
+
+pub returns-clause-kept : goal.returns-clause-kept
+returns-clause-kept g c =
+    let covered = cover_of (expired_entry c.args.now (entry_of c.args.digest.now c.index_mut.result.now.entries)) in
+    subst (λ (v : ShardView g.row.D.Denot). KeepsThrough v.set.commit v.shelf c.expire_step-answer.new.shelf) c.self.view_is
+    (through_removal covered c.self.inside.set.commit (units_for 0) c.self.inside.shelf c.expire_step-answer.new.shelf c.expire_step-answer.result c.expire_step-answer.ensures.kept)

@@ -1,6 +1,7 @@
 use Rattle.std.proofs.Common.{◌≤◌, sym, refl, ◌∙◌, subst}
-use Rattle.std.specs.Prelude.{OnErr}
+use Rattle.std.specs.Prelude.{OnErr, is_some}
 use Rattle.model_faults.specs.Counts.{Rose}
+use Rattle.model_device.specs.Book.{client, defrag, filling_buffer}
 use Rattle.model_device.specs.Device.{State}
 use Rattle.model_device.specs.Steps.{after_steps}
 use Rattle.model_device.specs.Events.{flush_call}
@@ -13,7 +14,7 @@ use Rattle.shard_core.specs.Calls.{Makes, flush_answer}
 use Rattle.block_shelf.proofs.Going.{goes_then}
 use Rattle.shard_core.proofs.FlushLoop.{setup_stays}
 use Rattle.shard_core.specs.Keeping.{FlushesFront}
-use Rattle.shard_core.proofs.Keeping.{flushes_front}
+use Rattle.shard_core.proofs.Keeping.{flushes_front, seals_keep}
 use Rattle.shard_core.proofs.Making.{setup_is, makes_flush, whole_made}
 use Rattle.law_steps.proofs.Making.{seal_all_flushing}
 use Rattle.shard_core.proofs.shard.Shard.flush.Given.{Over}
@@ -71,6 +72,8 @@ returns-clause-kept g c =
     subst (λ (v : ShardView g.row.D.Denot). FlushesFront v.shelf c.flush_sealed.new.shelf) c.self.view_is
     (let old : ShardView g.row.D.Denot = record { shelf = c.self.inside.shelf; set = c.self.inside.set; sprigs = c.self.inside.sprigs.items } in
     let stands = c.self.invariant.whole.stands in
-    flushes_front g.D.Disk.view (setup_of old) stands.0 c.self.inside.shelf c.seal_streams.new.self c.flush_sealed.new.shelf stands.1.shelf.stands
-    (c.seal_streams.ensures.sealed (setup_of old) stands.0 (setup_is old c.self.invariant.whole) stands.1.shelf.stands) c.seal_streams.ensures.cache c.seal_streams.ensures.none_filling
-    c.flush_sealed.ensures.kept)
+    let book = stands.0.book in
+    let sealed = c.seal_streams.ensures.sealed (setup_of old) stands.0 (setup_is old c.self.invariant.whole) stands.1.shelf.stands in
+    flushes_front c.self.inside.shelf c.seal_streams.new.self c.flush_sealed.new.shelf
+    (seals_keep (setup_of old) (is_some (filling_buffer client book.buffers)) (is_some (filling_buffer defrag book.buffers)) stands.0 c.self.inside.shelf c.seal_streams.new.self
+    stands.1.shelf.stands sealed.stands c.seal_streams.ensures.cache) c.seal_streams.ensures.none_filling c.flush_sealed.ensures.kept)

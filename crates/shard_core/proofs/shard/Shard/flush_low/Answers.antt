@@ -4,7 +4,7 @@ use Rattle.model_faults.specs.Counts.{Rose}
 use Rattle.model_device.specs.Device.{State}
 use Rattle.model_device.specs.Steps.{after_steps}
 use Rattle.model_device.specs.Events.{flush_sealed_call}
-use Rattle.model_device.specs.Legal.{seal_low}
+use Rattle.model_device.specs.Legal.{is_due, seal_low}
 use Rattle.disk_model.specs.Disk.{IsHonest}
 use Rattle.block_shelf.specs.View.{ShelfView}
 use Rattle.shard_core.specs.View.{ShardView, setup_of}
@@ -17,6 +17,9 @@ use Rattle.law_steps.proofs.Making.{seal_low_flushing}
 use Rattle.shard_core.proofs.shard.Shard.flush_low.Given.{Over}
 use Rattle.block_shelf.specs.Sure.{StaysSure}
 use Rattle.block_shelf.proofs.Surely.{sure_same, sure_then}
+use Rattle.model_device.specs.Book.{client, defrag}
+use Rattle.shard_core.specs.Keeping.{SealsAndFlushes}
+use Rattle.shard_core.proofs.Keeping.{flushes_sealed, seals_keep}
 use Rattle.shard_core.proofs.shard.Shard.flush_low.Goals as goal
 
 made : (g : Over) (c : goal.After-flush_sealed g) (s : State)
@@ -65,3 +68,14 @@ returns-clause-sure g c =
     (sure_then g.D.Disk.view c.self.inside.shelf c.seal_low.new.self c.flush_sealed.new.shelf
     (sure_same g.D.Disk.view c.self.inside.shelf c.seal_low.new.self c.seal_low.ensures.disk (ap (λ (x : ShelfView g.row.D.Denot). x.gates) c.seal_low.ensures.rest))
     c.flush_sealed.ensures.sure)
+
+pub returns-clause-kept : goal.returns-clause-kept
+returns-clause-kept g c =
+    subst (λ (v : ShardView g.row.D.Denot). SealsAndFlushes v.shelf c.flush_sealed.new.shelf) c.self.view_is
+    (let old : ShardView g.row.D.Denot = record { shelf = c.self.inside.shelf; set = c.self.inside.set; sprigs = c.self.inside.sprigs.items } in
+    let stands = c.self.invariant.whole.stands in
+    let book = stands.0.book in
+    let sealed = c.seal_low.ensures.sealed (setup_of old) stands.0 (setup_is old c.self.invariant.whole) stands.1.shelf.stands stands.1.shelf.queue in
+    flushes_sealed c.self.inside.shelf c.seal_low.new.self c.flush_sealed.new.shelf
+    (seals_keep (setup_of old) (is_due (setup_of old) book client) (is_due (setup_of old) book defrag) stands.0 c.self.inside.shelf c.seal_low.new.self stands.1.shelf.stands sealed.stands
+    (ap (λ (x : ShelfView g.row.D.Denot). x.cache) c.seal_low.ensures.rest)) c.flush_sealed.ensures.kept)

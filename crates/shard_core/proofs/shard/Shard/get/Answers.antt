@@ -17,11 +17,13 @@ use Rattle.shard_core.specs.Sprigs.{held}
 use Rattle.shard_core.specs.View.{ShardView, SameSetup, setup_of}
 use Rattle.shard_core.specs.Stands.{Agrees}
 use Rattle.shard_core.specs.Calls.{Makes, GetsStored, read_answer}
-use Rattle.shard_core.proofs.Making.{whole_made, step_stands, lifted, held_at}
+use Rattle.shard_core.proofs.Making.{keeps_few, whole_made, step_stands, lifted, held_at}
 use Rattle.shard_core.proofs.Tallies.{tally_same}
 use Rattle.shard_core.proofs.shard.Shard.get.Given.{Over}
 use Rattle.block_shelf.specs.Sure.{StaysSure}
 use Rattle.block_shelf.proofs.Surely.{sure_read}
+use Rattle.block_shelf.specs.Keeping.{KeepsAll}
+use Rattle.block_shelf.proofs.KeptAll.{all_beside}
 use Rattle.shard_core.proofs.shard.Shard.get.Goals as goal
 
 pub get_step-requires-clause-stand : goal.get_step-requires-clause-stand
@@ -107,6 +109,9 @@ returns-clause-stored g c =
       remembered = λ s agrees e b is there_b at. c.get_step.ensures.stored.remembered s
           (step_stands g.D.Disk.view c.args.digest.now old new c.part_of-part.result c.index_mut.result.now c.get_step.new.sprig shape place there c.index_mut.ensures.value refl s agrees) e
           b (sym held_is ∙ is) there_b at;
+      copied = λ s agrees v sees e b is there_b at. c.get_step.ensures.stored.copied s
+          (step_stands g.D.Disk.view c.args.digest.now old new c.part_of-part.result c.index_mut.result.now c.get_step.new.sprig shape place there c.index_mut.ensures.value refl s agrees)
+          v sees e b (sym held_is ∙ is) there_b at;
       placed = λ told e is none. c.get_step.ensures.stored.placed told e (ap (seen_entry c.args.now) (sym held_is) ∙ is) none;
     })
 
@@ -136,4 +141,8 @@ returns-clause-sure g c =
 
 pub returns-clause-kept : goal.returns-clause-kept
 returns-clause-kept g c =
-    subst (λ (v : ShardView g.row.D.Denot). c.get_step.new.shelf.cache ≡ v.shelf.cache) c.self.view_is (ap (λ (x : ShelfView g.row.D.Denot). x.cache) c.get_step.ensures.shelf)
+    subst (λ (v : ShardView g.row.D.Denot). KeepsAll v.shelf c.get_step.new.shelf) c.self.view_is
+    (all_beside c.self.inside.shelf c.get_step.new.shelf c.get_step.new.shelf.disk c.self.inside.shelf.gates c.self.inside.shelf.raid c.get_step.ensures.shelf)
+
+pub returns-clause-few : goal.returns-clause-few
+returns-clause-few g c = keeps_few g.D.Disk.view c.args.self.now c.part_of-part.ensures.whole c.part_of-part.ensures.shelf

@@ -18,6 +18,7 @@ use Rattle.shard_core.proofs.Making.{setup_is, whole_made}
 use Rattle.shard_core.proofs.Raiding.{part_there, turn_made, turn_taken, possible_aside}
 use Rattle.shard_core.proofs.Tallies.{tally_behind}
 use Rattle.shard_core.proofs.shard.Shard.mark_part.Given.{Over}
+use Rattle.block_shelf.proofs.KeptAll.{all_beside}
 use Rattle.shard_core.proofs.shard.Shard.mark_part.Goals as goal
 
 module _ (g : Over) (c : goal.After-self-2-1 g) where
@@ -59,7 +60,7 @@ module _ (g : Over) (c : goal.After-self-2-1 g) where
       turn_taken g.D.Disk.view (Mark c.args.part) old new c.args.part c.args.part c.index_mut.result.now c.raid_mark-marks.new.sprig shape refl there c.index_mut.ensures.value refl at refl
       (λ block same. cc) c.args.now (Marked c.raid_mark-marks.result) step
       tt (λ same. cc) (g.met.D.Disk.is_disk old.shelf.disk) (ap (λ (v : ShelfView g.row.D.Denot). v.disk) book) (ap (λ (v : ShelfView g.row.D.Denot). v.gates) book)
-      (ap (λ (v : ShelfView g.row.D.Denot). v.buffers) book)
+      (ap (λ (v : ShelfView g.row.D.Denot). v.buffers) book) (all_beside old.shelf new.shelf old.shelf.disk old.shelf.gates (after_turn old.shelf.raid.next c.args.part old.shelf.raid) book)
       (ap (λ (v : ShelfView g.row.D.Denot). v.raid.number) book ∙ ap (λ (n : RaidNext). (after_turn n c.args.part old.shelf.raid).number) at)
       (subst (λ (b : BookState). turns_left b < turns_left old.shelf.raid) (sym (ap (λ (v : ShelfView g.row.D.Denot). v.raid) book)) (mark_nearer old.shelf.raid fits c.args.part at))
       tt (λ still s t same. possible_aside g.D.Disk.view old.shelf new.shelf (after_turn old.shelf.raid.next c.args.part old.shelf.raid) s t book same)

@@ -1,4 +1,4 @@
-use Rattle.std.proofs.Common.{◌≡◌, ℕ, ◌+◌, ◌<◌, length, suc, List, [], ◌∷◌, get_or, drop, refl, sym, ◌∙◌, ap, subst, arith}
+use Rattle.std.proofs.Common.{◌≡◌, ℕ, ◌+◌, ◌<◌, false, length, suc, List, [], ◌∷◌, get_or, drop, refl, sym, ◌∙◌, ap, subst, arith}
 use Rattle.std.proofs.Math.Seq.{drop-cons}
 use Rattle.std.proofs.lemmas.List.{drop_all}
 use Rattle.rec_format.specs.declared.version.Digest.{Digest}
@@ -8,6 +8,8 @@ use Rattle.shard_core.proofs.Telling.{told_before}
 use Rattle.shard_core.proofs.Later.{later_none, later_then}
 use Rattle.shard_core.proofs.Vacating.{none_moved, all_moved, goes_on, goes_no_further}
 use Rattle.block_shelf.proofs.Surely.{sure_none, sure_then}
+use Rattle.block_shelf.proofs.KeptAll.{all_same}
+use Rattle.shard_core.proofs.Keeping.{through_all, through_then}
 use Rattle.shard_core.proofs.shard.Shard.move_all.Goals as goal
 
 pub loop-digest-init : goal.loop-digest-init
@@ -15,6 +17,7 @@ loop-digest-init g c = record {
   few = omega arith;
   moves = λ s agrees lie. none_moved g.D.Disk.view c.args.vacancy.now.block c.args.self.now s (g.met.D.Disk.is_disk c.args.self.now.shelf.disk) c.args.vacancy.now.digests.items agrees lie;
   sure = sure_none g.D.Disk.view c.args.self.now.shelf c.args.self.now.shelf refl;
+  kept = through_all false c.args.self.now.shelf c.args.self.now.shelf (all_same c.args.self.now.shelf);
   later = later_none g.D.Disk.view c.args.self.now.shelf.disk (g.met.D.Disk.is_disk c.args.self.now.shelf.disk);
   honest = λ honest. honest;
   shape = record { geometry = refl; set = refl };
@@ -56,6 +59,7 @@ loop-digest-preserved g c =
           left (c.loop-digest.invariant.moves s agrees lie))
           c.in-Ok.was_there c.in-Ok.ensures.makes);
       sure = sure_then g.D.Disk.view c.args.self.now.shelf c.loop-digest.self.shelf c.move_record.new.self.shelf c.loop-digest.invariant.sure c.move_record.ensures.sure;
+      kept = through_then false c.args.self.now.shelf c.loop-digest.self.shelf c.move_record.new.self.shelf c.loop-digest.invariant.kept c.move_record.ensures.kept;
       later = later_then g.D.Disk.view c.args.self.now.shelf.disk c.loop-digest.self.shelf.disk c.move_record.new.self.shelf.disk c.loop-digest.invariant.later c.move_record.ensures.later;
       honest = λ honest. c.move_record.ensures.honest (c.loop-digest.invariant.honest honest);
       shape = record { geometry = c.move_record.ensures.shape.geometry ∙ c.loop-digest.invariant.shape.geometry; set = c.move_record.ensures.shape.set ∙ c.loop-digest.invariant.shape.set };
@@ -75,3 +79,9 @@ returns-in-Err-clause-sure g c = sure_then g.D.Disk.view c.args.self.now.shelf c
 
 pub returns-clause-sure : goal.returns-clause-sure
 returns-clause-sure g c = c.loop-digest.invariant.sure
+
+pub returns-in-Err-clause-kept : goal.returns-in-Err-clause-kept
+returns-in-Err-clause-kept g c = through_then false c.args.self.now.shelf c.loop-digest.self.shelf c.move_record.new.self.shelf c.loop-digest.invariant.kept c.move_record.ensures.kept
+
+pub returns-clause-kept : goal.returns-clause-kept
+returns-clause-kept g c = c.loop-digest.invariant.kept

@@ -1,4 +1,4 @@
-use Rattle.std.proofs.Common.{arith, ◌≡◌, ◌<◌, length, set, refl, sym, ap, ◌∙◌, subst}
+use Rattle.std.proofs.Common.{arith, false, ◌≡◌, ◌<◌, length, set, refl, sym, ap, ◌∙◌, subst}
 use Rattle.law_lists.proofs.Places.{set_unchanged}
 use Rattle.rec_format.specs.Places.{device_number}
 use Rattle.model_device.specs.Device.{State, part_of}
@@ -16,6 +16,9 @@ use Rattle.shard_core.proofs.Making.{setup_is, setup_same, whole_made, step_stan
 use Rattle.shard_core.proofs.Tallies.{tally_behind}
 use Rattle.shard_core.proofs.shard.Shard.move_record.Given.{Over}
 use Rattle.block_shelf.specs.Sure.{StaysSure}
+use Rattle.sprig_tree.specs.Entries.{entry_of}
+use Rattle.shard_core.specs.Keeping.{KeepsThrough}
+use Rattle.shard_core.proofs.Keeping.{through_found}
 use Rattle.shard_core.proofs.shard.Shard.move_record.Goals as goal
 
 pub move_one-answer-requires-clause-stand : goal.move_one-answer-requires-clause-stand
@@ -126,3 +129,8 @@ pub returns-clause-tells : goal.returns-clause-tells
 returns-clause-tells g c =
     subst (λ (v : ShardView g.row.D.Denot). (g.D.Disk.view v.shelf.disk).tells → (g.D.Disk.view c.move_one-answer.new.shelf.disk).tells) c.self.view_is
     (λ tells. (c.move_one-answer.ensures.bytes tells).0)
+
+pub returns-clause-kept : goal.returns-clause-kept
+returns-clause-kept g c =
+    subst (λ (v : ShardView g.row.D.Denot). KeepsThrough false v.shelf c.move_one-answer.new.shelf) c.self.view_is
+    (through_found (entry_of c.args.digest.now c.index_mut.result.now.entries) c.self.inside.shelf c.move_one-answer.new.shelf c.move_one-answer.result c.move_one-answer.ensures.kept)

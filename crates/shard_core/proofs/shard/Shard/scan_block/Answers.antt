@@ -11,6 +11,7 @@ use Rattle.shard_core.specs.Raids.{TakesTurn}
 use Rattle.shard_core.proofs.Making.{setup_is}
 use Rattle.shard_core.proofs.Raiding.{ScansSo, StaysPossible, scan_whole, scan_taken, scan_refused}
 use Rattle.shard_core.proofs.shard.Shard.scan_block.Goals.{in-Ok, in-Err}
+use Rattle.block_shelf.proofs.KeptAll.{all_beside}
 use Rattle.shard_core.proofs.shard.Shard.scan_block.Goals as goal
 
 pub invariant_of-self : goal.invariant_of-self
@@ -44,17 +45,18 @@ returns g c now =
     (subst (λ (r : Result RaidDid RaidRefusal). TakesTurn g.D.Disk.view (Scan block) now r old new) (sym told) taken)) in
     let alike : StaysPossible g.D.Disk.view block now old new shape refl = λ s sure honest stands hold. c.raid_scan.ensures.alike (setup_of old) s sure honest stands hold in
     let buffers : new.shelf.buffers ≡ old.shelf.buffers = ap (λ (v : ShelfView g.row.D.Denot). v.buffers) c.raid_scan.ensures.rest in
+    let kept = all_beside old.shelf new.shelf new.shelf.disk new.shelf.gates new.shelf.raid c.raid_scan.ensures.rest in
     elim c.match-raid_scan.branch [
       | in-Ok w ↦
           let both : Scan block ≡ Scan w.in-Ok.block = sym at ∙ w.in-Ok.ensures.block in
           let same : block ≡ w.in-Ok.block = cc in
           done (Ok (Scanned block)) (w.result-is ∙ ap (λ (b : ℕ). Ok (Scanned b)) (sym same))
-          (scan_taken g.D.Disk.view block now old new shape refl at alike c.raid_scan.ensures.sure c.raid_scan.ensures.later c.raid_scan.ensures.honest buffers
+          (scan_taken g.D.Disk.view block now old new shape refl at alike c.raid_scan.ensures.sure c.raid_scan.ensures.later c.raid_scan.ensures.honest buffers kept
           (subst (λ (b : ℕ). ScansSo g.D.Disk.view block now old new shape refl (Ok b)) (sym same) (λ s stands. w.in-Ok.ensures.makes (setup_of old) s now block at is stands))
           fits w.in-Ok.ensures.turned (λ tells. w.in-Ok.ensures.there tells block at))
       | in-Err w ↦
           done (Err w.in-Err.refusal) w.result-is
-          (scan_refused g.D.Disk.view block now old new shape refl at alike c.raid_scan.ensures.sure c.raid_scan.ensures.later c.raid_scan.ensures.honest buffers w.in-Err.refusal
+          (scan_refused g.D.Disk.view block now old new shape refl at alike c.raid_scan.ensures.sure c.raid_scan.ensures.later c.raid_scan.ensures.honest buffers kept w.in-Err.refusal
           (λ s stands. w.in-Err.ensures.makes (setup_of old) s now block at is stands) w.in-Err.ensures.of_turn w.in-Err.ensures.given_up (λ tells. w.in-Err.ensures.damaged tells block at)
-          (w.in-Err.ensures.told block at) (λ fault. c.raid_scan.ensures.cause (w.in-Err.is ∙ ap (λ (r : RaidRefusal). Err r) fault)))
+          (w.in-Err.ensures.told block at) (λ tells. w.in-Err.ensures.there tells block at) (λ fault. c.raid_scan.ensures.cause (w.in-Err.is ∙ ap (λ (r : RaidRefusal). Err r) fault)))
     ]

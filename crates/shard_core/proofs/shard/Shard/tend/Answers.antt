@@ -1,8 +1,9 @@
-use Rattle.std.proofs.Common.{sym, ◌∙◌}
+use Rattle.std.proofs.Common.{false, refl, sym, ◌∙◌}
 use Rattle.model_device.specs.Events.{after_event}
 use Rattle.shard_core.specs.View.{setup_of}
 use Rattle.shard_core.proofs.Tending.{tends_vacating, tends_resting, tends_well}
 use Rattle.block_shelf.proofs.Surely.{sure_then}
+use Rattle.shard_core.proofs.Keeping.{through_none}
 use Rattle.shard_core.proofs.shard.Shard.tend.Goals as goal
 
 pub returns-then-can_gain-clause-makes : goal.returns-then-can_gain-clause-makes
@@ -24,3 +25,13 @@ returns-then-can_gain-clause-sure g c = sure_then g.D.Disk.view c.args.self.now.
 
 pub returns-else-can_gain-clause-sure : goal.returns-else-can_gain-clause-sure
 returns-else-can_gain-clause-sure g c = c.flush_low.ensures.sure
+
+pub returns-then-can_gain-clause-kept : goal.returns-then-can_gain-clause-kept
+returns-then-can_gain-clause-kept g c = record { flushed = c.flush_low.new.self.shelf; flushes = c.flush_low.ensures.kept; moves = c.defrag_one.ensures.kept }
+
+pub returns-else-can_gain-clause-kept : goal.returns-else-can_gain-clause-kept
+returns-else-can_gain-clause-kept g c = record {
+  flushed = c.flush_low.new.self.shelf;
+  flushes = c.flush_low.ensures.kept;
+  moves = through_none false c.flush_low.new.self.shelf c.flush_low.new.self.shelf refl;
+}
