@@ -5,7 +5,7 @@ mod Leaving
 mod Emptying
 mod Sealed
 mod Flushed
-mod Uses
+pub mod Uses
 mod Readying
 mod Moving
 mod Coming

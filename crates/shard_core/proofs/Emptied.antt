@@ -1,8 +1,9 @@
--- How a block is emptied: behind a move the copy that lay in it lies elsewhere, and all others where they were.
-use Rattle.std.proofs.Common.{◌≡◌, ◌⊎◌, inl, inr, ℕ, ◌≤◌, Bool, true, false, cond, List, [], ◌∷◌, refl, sym, ◌∙◌, ap, subst, arith}
+-- How a block is emptied: behind a move the copy that lay in it lies elsewhere, no other comes into it, and less of it is used.
+use Rattle.std.proofs.Math.Nat.{le_refl}
+use Rattle.std.proofs.Common.{◌≡◌, ◌⊎◌, inl, inr, ℕ, ◌+◌, ◌≤◌, Bool, true, false, cond, List, [], ◌∷◌, refl, sym, ◌∙◌, ap, subst, arith}
 use Rattle.std.specs.Prelude.{Option, Some, None, ◌==◌, filter, sum_by, Contains, MatchBool}
 use Rattle.std.specs.List.{AllByRecursion}
-use Rattle.std.proofs.lemmas.Bool.{both_ways, eq-eqb, eqb-true, false≢true, cond-false, false_from_ne_true}
+use Rattle.std.proofs.lemmas.Bool.{both_ways, eq-eqb, eqb-true, false≢true, cond-true, cond-false, false_from_ne_true}
 use Rattle.law_lists.proofs.Each.{all_at, all_from}
 use Rattle.law_lists.proofs.Finding.{found_is, any_there}
 use Rattle.law_lists.proofs.Members.{cons_cases}
@@ -13,14 +14,16 @@ use Rattle.model_device.specs.Book.{Setup, Book, Live, defrag, has_buffer, has_r
 use Rattle.model_device.specs.Device.{State}
 use Rattle.model_device.specs.Steps.{Step, closing_failed, moved, moved_state, after_step, after_steps}
 use Rattle.model_device.specs.Events.{Event, Cause, happened, refused, no_memory, damaged, disk_fault, move_call, after_event}
+use Rattle.model_device.specs.Vacating.{moved_by}
 use Rattle.model_device.specs.Legal.{Allowed, NoMemory, Only, Unless, DamageFound, DiskFails, is_in_block, live_units, no_place, move_reserve}
 use Rattle.law_trail.specs.Trail.{IsBooked, CanPlace, places_of}
 use Rattle.law_trail.proofs.Books.{live_there, live_not_free, others_live}
 use Rattle.law_trail.proofs.Places.{buffer_place}
 use Rattle.law_trail.proofs.Placing.{PlacesCopy, placed_is}
 use Rattle.law_trail.proofs.Room.{place_there}
-use Rattle.block_shelf.specs.Standing.{IsListed}
-use Rattle.shard_core.specs.Vacating.{LiesAmong}
+use Rattle.block_shelf.specs.Standing.{IsListed, HaveOwnDigests}
+use Rattle.law_room.proofs.Uses.{share, use_cons, use_without}
+use Rattle.shard_core.specs.Vacating.{LiesFrom}
 
 -- ---- nothing is live in a block
 
@@ -53,6 +56,10 @@ none_used setup book block listed none =
         ap (is_in_block block) found.1 ∙ ap (λ (m : Live). m.block == block) (sym one) ∙ here
 
 -- ---- behind a move
+
+at_most_one : (b : Bool) → moved_by (happened b) ≤ 1
+at_most_one true = omega arith
+at_most_one false = omega arith
 
 module _ (setup : Setup) (block : ℕ) (digest : Digest) (s : State) (booked : IsBooked s.book) (unbuffered : has_buffer s.book block ≡ false) where
   module _ (copy : Live) (live : live_of digest s.book.live ≡ Some copy) (here : (copy.block == block) ≡ true) (can : CanPlace setup defrag copy.units s.book) where
@@ -89,26 +96,30 @@ module _ (setup : Setup) (block : ℕ) (digest : Digest) (s : State) (booked : I
             let apart : same_digest d digest ≡ false = ap (same_digest d) (sym p.own) ∙ other in
             (apart, ap (is_in_block block) (sym (others_live digest d s.book.live apart)) ∙ in_it)
 
-    -- those that lay in the block besides lie there still
-    pub lie_behind : (left : List Digest) → LiesAmong (digest ∷ left) block s.book → LiesAmong left block (after_step setup (moved digest) s).book
-    lie_behind left lie = subst (LiesAmong left block) (sym moved_book) (record {
-      unbuffered = still_unbuffered;
-      told = λ d is. let was = left_there d is in others d was.0 (lie.told d was.1);
-    })
-      where
-        others : (d : Digest) → same_digest d digest ≡ false → Contains (digest ∷ left) d → Contains left d
-        others d apart there = by (cons_cases digest left d there)
-          where
-            by : (digest ≡ d) ⊎ Contains left d → Contains left d
-            by (inl same) = absurd (both_ways (same_digest d digest) apart (subst (λ (x : Digest). same_digest d x ≡ true) (sym same) (same_digest_refl d)))
-            by (inr more) = more
+    -- none comes into it besides, and the copy's units leave it
+    pub lies_behind : (part : ℕ) → LiesFrom setup part block s.book → LiesFrom setup part block (after_step setup (moved digest) s).book
+    lies_behind part lie = subst (LiesFrom setup part block) (sym moved_book) (record { unbuffered = still_unbuffered; from = λ d is. lie.from d (left_there d is).1 })
+
+    some : 1 ≤ copy.units
+    some = all_at (λ l. 1 ≤ l.units) s.book.live copy booked.units (live_there digest s.book.live copy live)
+
+    pub uses_less : HaveOwnDigests s.book.live → 1 + use_of (after_step setup (moved digest) s).book block ≤ use_of s.book block
+    uses_less own =
+        let without : List Live = without_live digest s.book.live in
+        let now : use_of (after_step setup (moved digest) s).book block ≡ share block p.copy + use_of (record s.book { live = without }) block =
+        ap (λ (b : Book). use_of b block) moved_book ∙ ap (λ (l : List Live). use_of (record s.book { live = l }) block) p.live ∙ use_cons block p.copy without in
+        let none : share block p.copy ≡ 0 = cond-false (p.copy.block == block) p.copy.units 0 elsewhere in
+        let whole : share block copy ≡ copy.units = cond-true (copy.block == block) copy.units 0 here in
+        let rest = use_without digest s.book.live copy own live block in
+        omega (arith, now, none, whole, rest, some)
 
   -- ---- one event
 
-  module _ (told : Bool) (event : Event) (allowed : Allowed setup told s event (move_call digest block)) (left : List Digest) (lie : LiesAmong (digest ∷ left) block s.book) where
+  module _ (told : Bool) (event : Event) (allowed : Allowed setup told s event (move_call digest block)) (part : ℕ) (lie : LiesFrom setup part block s.book) (own : HaveOwnDigests s.book.live) where
     -- what holds of the state after it
-    abbrev LiesBehind : Type 0
-    LiesBehind = LiesAmong left block (after_event setup event s).book
+    pub record HasLeft (b : Bool) : Type 0 where
+      pub lies : LiesFrom setup part block (after_event setup event s).book
+      pub less : moved_by (happened b) + use_of (after_event setup event s).book block ≤ use_of s.book block
 
     abbrev May : Bool → Option Live → Type 0
     May here copy = MatchBool here
@@ -119,22 +130,28 @@ module _ (setup : Setup) (block : ℕ) (digest : Digest) (s : State) (booked : I
         ⊎ ((has_room setup defrag (live_units copy) s.book ≡ false) × DiskFails event (closing_failed ∷ []))))
         (Only event (happened false))
 
-    -- where the digest doesn't lie in the block the others do
-    passed : is_in_block block (live_of digest s.book.live) ≡ false → event.steps ≡ [] → LiesBehind
-    passed other none = subst (λ (steps : List Step). LiesAmong left block (after_steps setup steps s).book) (sym none) (record {
-      unbuffered = lie.unbuffered;
-      told = λ d is. by d is (cons_cases digest left d (lie.told d is));
-    })
-      where
-        by : (d : Digest) → is_in_block block (live_of d s.book.live) ≡ true → (digest ≡ d) ⊎ Contains left d → Contains left d
-        by d is (inl same) = absurd (both_ways (is_in_block block (live_of digest s.book.live)) other (subst (λ (x : Digest). is_in_block block (live_of x s.book.live) ≡ true) (sym same) is))
-        by d is (inr more) = more
+    -- where the digest doesn't lie in the block nothing is done
+    passed : (b : Bool) → event.answer ≡ happened b → event.answer ≡ happened false → event.steps ≡ [] → HasLeft b
+    passed true answer is none = absurd (let clash : happened true ≡ happened false = sym answer ∙ is in cc)
+    passed false answer is none =
+        let same : s ≡ after_event setup event s = sym (ap (λ (l : List Step). after_steps setup l s) none) in
+        let as_much : use_of (after_event setup event s).book block ≤ use_of s.book block = subst (λ (t : State). use_of t.book block ≤ use_of s.book block) same (le_refl (use_of s.book block)) in
+        record { lies = subst (λ (t : State). LiesFrom setup part block t.book) same lie; less = omega (arith, as_much) }
 
-    pub lies_on : (b : Bool) → event.answer ≡ happened b → LiesBehind
-    lies_on b answer = by (live_of digest s.book.live) refl (is_in_block block (live_of digest s.book.live)) refl allowed
+    goes : (copy : Live) → live_of digest s.book.live ≡ Some copy → (copy.block == block) ≡ true → CanPlace setup defrag copy.units s.book → (b : Bool) → event.steps ≡ moved digest ∷ [] → HasLeft b
+    goes copy live here can b is =
+        let same : after_step setup (moved digest) s ≡ after_event setup event s = sym (ap (λ (l : List Step). after_steps setup l s) is) in
+        let less = uses_less copy live here can own in
+        record {
+          lies = subst (λ (t : State). LiesFrom setup part block t.book) same (lies_behind copy live here can part lie);
+          less = subst (λ (t : State). moved_by (happened b) + use_of t.book block ≤ use_of s.book block) same (omega (arith, less, at_most_one b));
+        }
+
+    pub has_left : (b : Bool) → event.answer ≡ happened b → HasLeft b
+    has_left b answer = by (live_of digest s.book.live) refl (is_in_block block (live_of digest s.book.live)) refl allowed
       where
-        by : (copy : Option Live) → live_of digest s.book.live ≡ copy → (here : Bool) → is_in_block block copy ≡ here → May here copy → LiesBehind
-        by copy live false is none = passed (ap (is_in_block block) live ∙ is) none.1
+        by : (copy : Option Live) → live_of digest s.book.live ≡ copy → (here : Bool) → is_in_block block copy ≡ here → May here copy → HasLeft b
+        by copy live false is none = passed b answer none.0 none.1
         by None live true is may = absurd (false≢true is)
         by (Some copy) live true is (inl none) = absurd (let clash : happened b ≡ refused no_memory = sym answer ∙ none.0 in cc)
         by (Some copy) live true is (inr may) = room (no_place setup defrag move_reserve copy.units s.book) refl may
@@ -144,11 +161,27 @@ module _ (setup : Setup) (block : ℕ) (digest : Digest) (s : State) (booked : I
                 ⊎ DamageFound told event []
                 ⊎ DiskFails event []
                 ⊎ ((has_room setup defrag copy.units s.book ≡ false) × DiskFails event (closing_failed ∷ [])))
-                → LiesBehind
+                → HasLeft b
             room (Some cause) against only = absurd (let clash : happened b ≡ refused cause = sym answer ∙ only.0 in cc)
-            room None none (inl done) =
-                subst (λ (steps : List Step). LiesAmong left block (after_steps setup steps s).book) (sym done.1)
-                (lie_behind copy live is (place_there setup defrag move_reserve copy.units s.book none) left lie)
+            room None none (inl done) = goes copy live is (place_there setup defrag move_reserve copy.units s.book none) b done.1
             room None none (inr (inl damage)) = absurd (let clash : happened b ≡ refused damaged = sym answer ∙ damage.1 in cc)
             room None none (inr (inr (inl fails))) = absurd (let clash : happened b ≡ refused disk_fault = sym answer ∙ fails.0 in cc)
             room None none (inr (inr (inr closing))) = absurd (let clash : happened b ≡ refused disk_fault = sym answer ∙ closing.1.0 in cc)
+
+    -- what lies in the block is moved, where that isn't refused
+    pub was_there : is_in_block block (live_of digest s.book.live) ≡ true → (b : Bool) → event.answer ≡ happened b → b ≡ true
+    was_there is true answer = refl
+    was_there is false answer = absurd (by (is_in_block block (live_of digest s.book.live)) is allowed)
+      where
+        no : (o : Option Cause) → Unless event o (((event.answer ≡ happened true) × (event.steps ≡ moved digest ∷ [])) ⊎ DamageFound told event [] ⊎ DiskFails event []
+            ⊎ ((has_room setup defrag (live_units (live_of digest s.book.live)) s.book ≡ false) × DiskFails event (closing_failed ∷ []))) → ⊥
+        no (Some cause) only = let clash : happened false ≡ refused cause = sym answer ∙ only.0 in cc
+        no None (inl done) = let clash : happened false ≡ happened true = sym answer ∙ done.0 in cc
+        no None (inr (inl damage)) = let clash : happened false ≡ refused damaged = sym answer ∙ damage.1 in cc
+        no None (inr (inr (inl fails))) = let clash : happened false ≡ refused disk_fault = sym answer ∙ fails.0 in cc
+        no None (inr (inr (inr closing))) = let clash : happened false ≡ refused disk_fault = sym answer ∙ closing.1.0 in cc
+
+        by : (here : Bool) → here ≡ true → May here (live_of digest s.book.live) → ⊥
+        by false no_one may = false≢true no_one
+        by true holds (inl none) = let clash : happened false ≡ refused no_memory = sym answer ∙ none.0 in cc
+        by true holds (inr may) = no (no_place setup defrag move_reserve (live_units (live_of digest s.book.live)) s.book) may

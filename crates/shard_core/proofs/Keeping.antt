@@ -285,6 +285,14 @@ through_removal true commit units old new r keeps = through_write commit units o
 pub through_none : {D : Type 0} (flushing : Bool) (old new : ShelfView D) → new ≡ old → KeepsThrough flushing old new
 through_none flushing old new is = through_all flushing old new (all_left old new put.Spent is)
 
+-- where the disk alone was read
+pub through_read : {D : Type 0} (flushing : Bool) (old new : ShelfView D) → new ≡ record old { disk = new.disk } → KeepsThrough flushing old new
+through_read {D} flushing old new is = through_all flushing old new (record {
+  cache = ap (λ (v : ShelfView D). v.cache) is;
+  names = ap (λ (v : ShelfView D). names_of v.buffers) is;
+  next = ap (λ (v : ShelfView D). v.next_number) is;
+})
+
 through_move : {D : Type 0} (units : ℕ) (old new : ShelfView D) (r : Result Bool MoveRefusal) → KeepsMoved units old new r → KeepsThrough false old new
 through_move units old new (Ok true) keeps = through_copy false Defrag units old new keeps
 through_move units old new (Ok false) keeps = through_all false old new keeps

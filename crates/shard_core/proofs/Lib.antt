@@ -31,6 +31,7 @@ pub mod Again
 pub mod Causes
 pub mod Events
 pub mod Emptied
+pub mod Lying
 pub mod Vacating
 pub mod Choosing
 pub mod Choices

@@ -18,6 +18,8 @@ use Rattle.model_device.specs.Legal.{Allowed, FlushEnds, flush_all}
 use Rattle.disk_model.specs.Disk.{DiskView}
 use Rattle.block_shelf.specs.View.{IsSetupOf, IsShelf, ShelfView}
 use Rattle.block_shelf.specs.Calls.{Goes}
+use Rattle.rec_format.specs.Versions.{block_capacity}
+use Rattle.block_format.specs.Layout.{most_records}
 use Rattle.block_format.specs.declared.geometry.Geometry.{Geometry}
 use Rattle.shard_core.specs.declared.settings.Settings.{Settings}
 use Rattle.shard_core.specs.View.{ShardView, IsSettings, SameSetup, limits_of, setup_for, setup_of}
@@ -63,6 +65,11 @@ keeps_few view shard whole is =
 
 pub setup_same : {D : Type 0} (old new : ShardView D) → SameSetup old new → setup_of old ≡ setup_of new
 setup_same old new shape = ap (λ (g : Geometry). setup_for g old.set) (sym shape.geometry) ∙ ap (λ (set : Settings). setup_for new.shelf.geometry set) (sym shape.set)
+
+-- the list has room still
+pub room_stays : {D : Type 0} (old new : ShardView D) → SameSetup old new → (room : ℕ) → most_records (block_capacity old.shelf.geometry.block_size) ≤ room
+    → most_records (block_capacity new.shelf.geometry.block_size) ≤ room
+room_stays old new shape room is = subst (λ (g : Geometry). most_records (block_capacity g.block_size) ≤ room) (sym shape.geometry) is
 
 -- ---- a shard
 

@@ -14,12 +14,19 @@ use Rattle.law_steps.specs.Sprigs.{SameSprig}
 use Rattle.defrag_pass.specs.declared.refusal.MoveRefusal.{MoveRefusal}
 use Rattle.defrag_pass.specs.declared.refusal.MoveRefusal.TheVariants as move
 use Rattle.defrag_pass.specs.Moves.{IsDamageOf, TellsDamage}
+use Rattle.model_device.specs.Legal.{queue_front}
+use Rattle.block_format.specs.Layout.{body_bytes}
+use Rattle.block_shelf.specs.declared.refusals.VacateRefusal.{VacateRefusal}
+use Rattle.block_shelf.specs.declared.refusals.VacateRefusal.TheVariants as vacate
+use Rattle.block_shelf.specs.View.{ShelfView}
+use Rattle.block_shelf.specs.Scans as scans
+use Rattle.block_shelf.specs.Vacating.{IsReadNext, IsToldOfNext}
 use Rattle.shard_core.specs.declared.refusals.Damage.TheVariants as damage
 use Rattle.shard_core.specs.declared.refusals.DefragCause.{DefragCause}
 use Rattle.shard_core.specs.declared.refusals.DefragCause.TheVariants as why
 use Rattle.shard_core.specs.Sprigs.{entry_in, held}
 use Rattle.shard_core.specs.View.{ShardView, setup_of}
-use Rattle.shard_core.specs.Vacating.{IsDamageIn, move_cause}
+use Rattle.shard_core.specs.Vacating.{HasBodyUnless, IsDamageFound, IsDamageIn, move_cause, vacate_cause}
 
 -- the entry of a digest whose sprig was changed
 pub held_set : (setup : Setup) (digest : Digest) (sprigs : List SprigState) (k : ℕ) (sprig : SprigState) → k ≡ part_of setup digest → k < length sprigs
@@ -69,3 +76,40 @@ module _ {D : Type 0} (Told : Type 0) (view : D → DiskView) (block : ℕ) (new
   told_before Before on (why.Damaged (damage.Block other place)) told = absurd told
   told_before Before on why.Memory told = tt
   told_before Before on why.Fault told = tt
+
+-- what a move tells the vacating tells
+pub found_in : {D : Type 0} (view : D → DiskView) (block : ℕ) (old new : ShardView D) (cause : DefragCause) → IsDamageIn (view old.shelf.disk).tells view block new cause
+    → IsDamageFound view block old new cause
+found_in view block old new why.Spent told = tt
+found_in view block old new why.Load told = tt
+found_in view block old new why.Space told = tt
+found_in view block old new (why.Damaged (damage.Record kept bytes)) told = told
+found_in view block old new (why.Damaged (damage.Block other place)) told = absurd told
+found_in view block old new why.Memory told = tt
+found_in view block old new why.Fault told = tt
+
+-- and what the choice tells
+pub found_of : {D : Type 0} (view : D → DiskView) (block : ℕ) (old new : ShardView D) → queue_front old.shelf.queue.queue ≡ Some block → (refusal : VacateRefusal) → IsToldOfNext old.shelf refusal
+    → ((view old.shelf.disk).tells → (n : ℕ) → IsReadNext old.shelf n → scans.IsDamageOf old.shelf.geometry (body_bytes old.shelf.geometry n (view old.shelf.disk).seen) n refusal)
+    → IsDamageFound view block old new (vacate_cause refusal)
+found_of view block old new front (vacate.Damaged other place) told bytes =
+    let one : Some other ≡ Some block = sym told.front ∙ front in
+    let same : other ≡ block = cc in
+    (same, told, λ tells. bytes tells other told)
+found_of view block old new front vacate.Memory told bytes = absurd told
+found_of view block old new front vacate.Fault told bytes = tt
+
+-- a body was there where a move was refused, and none is said to be where the choice was
+pub body_unless : (HasBody : Type 0) → HasBody → (cause : DefragCause) → HasBodyUnless HasBody cause
+body_unless HasBody has why.Spent = has
+body_unless HasBody has why.Load = has
+body_unless HasBody has why.Space = has
+body_unless HasBody has (why.Damaged (damage.Record kept bytes)) = has
+body_unless HasBody has (why.Damaged (damage.Block other place)) = tt
+body_unless HasBody has why.Memory = has
+body_unless HasBody has why.Fault = tt
+
+pub none_said : {D : Type 0} (shelf : ShelfView D) (HasBody : Type 0) (refusal : VacateRefusal) → IsToldOfNext shelf refusal → HasBodyUnless HasBody (vacate_cause refusal)
+none_said shelf HasBody (vacate.Damaged other place) told = tt
+none_said shelf HasBody vacate.Memory told = absurd told
+none_said shelf HasBody vacate.Fault told = tt

@@ -1,6 +1,8 @@
 -- Crate shard_core. The numbers of a device, and the tally of its sprigs, which a shard keeps.
-use Rattle.std.specs.Prelude.{◌≡◌, ◌%◌, ◌^◌, ◌<◌, List, length, sum_by}
+use Rattle.std.specs.Prelude.{◌≡◌, ℕ, ◌%◌, ◌^◌, ◌<◌, ◌≤◌, List, length, sum_by}
 use Rattle.rec_format.specs.declared.entry.Counts.{Counts}
+use Rattle.rec_format.specs.Versions.{block_capacity}
+use Rattle.block_format.specs.Layout.{most_records}
 use Rattle.model_device.specs.Book.{held_blocks}
 use Rattle.model_device.specs.Device.{State, put_count, tombstone_count, covered_count}
 use Rattle.sprig_tree.specs.declared.tally.Tally.{Tally}
@@ -39,7 +41,9 @@ tally_sum sprigs = record {
   covered = sum_by (λ s. (tally_of s.entries).covered) sprigs % 2 ^ 64;
 }
 
--- What the fields of every shard keep: it is whole, and the tally is that of its sprigs.
-pub record IsKept {D : Type 0} (shard : ShardView D) (tally : Tally) : Type 0 where
+-- What the fields of every shard keep: it is whole, the tally is that of its sprigs, and the list has room for the most records that a block can
+-- have.
+pub record IsKept {D : Type 0} (shard : ShardView D) (tally : Tally) (room : ℕ) : Type 0 where
   pub whole : IsWhole shard
   pub tallied : tally ≡ tally_sum shard.sprigs
+  pub listed : most_records (block_capacity shard.shelf.geometry.block_size) ≤ room

@@ -1,9 +1,11 @@
 -- Crate shard_core. What several events in a row make of a shard, and how the vacating of a block is answered.
-use Rattle.std.specs.Prelude.{◌≡◌, ℕ, Bool, true, false, List, Option, Some, None, Result, Ok, Err, Contains}
+use Rattle.std.specs.Prelude.{◌≡◌, ℕ, ◌+◌, ◌≤◌, ◌<◌, ◌^◌, ◌==◌, Bool, true, false, List, length, Option, Some, None, Result, Ok, Err}
 use Rattle.std.specs.List.{AllByRecursion}
 use Rattle.rec_format.specs.declared.version.Digest.{Digest}
-use Rattle.model_device.specs.Book.{Setup, Book, has_buffer, live_of}
-use Rattle.model_device.specs.Device.{State}
+use Rattle.rec_format.specs.declared.entry.Entry.{Entry}
+use Rattle.rec_format.specs.Places.{device_number}
+use Rattle.model_device.specs.Book.{Setup, Book, has_buffer, live_of, use_of}
+use Rattle.model_device.specs.Device.{State, part_of}
 use Rattle.model_device.specs.Events.{Event, Answer, move_call, happened, refused, Cause, spent, overload, no_space, damaged, no_memory, disk_fault, after_events, states_of}
 use Rattle.model_device.specs.Legal.{IsLegal, last_faults, queue_front, is_in_block}
 use Rattle.model_device.specs.Vacating.{IfRefused, MovesOut, Vacates, Tends, did, stopped, moved_count}
@@ -11,7 +13,10 @@ use Rattle.law_room.specs.Room.{GainsRoom, FindsRoom}
 use Rattle.disk_model.specs.Disk.{DiskView, IsHonest}
 use Rattle.disk_model.specs.Runs.{OneOf, Leaves}
 use Rattle.law_start.specs.Surviving.{Survives}
+use Rattle.block_format.specs.Layout.{body_bytes}
 use Rattle.block_shelf.specs.Standing.{IsPlaced}
+use Rattle.block_shelf.specs.Scans.{IsDamageOf}
+use Rattle.block_shelf.specs.Vacating.{IsReadNext}
 use Rattle.law_steps.specs.Standing.{ShelfIsSafe}
 use Rattle.block_shelf.specs.declared.refusals.VacateRefusal.{VacateRefusal}
 use Rattle.block_shelf.specs.declared.refusals.VacateRefusal.TheVariants as vacate
@@ -53,16 +58,45 @@ TendsWell setup s events = Tends setup s events × GainsRoom setup s events × F
 abbrev pub AreMoves : (block : ℕ) → List Event → Type 0
 AreMoves block events = AllByRecursion (λ event. ((digest : Digest) × (event.call ≡ move_call digest block)) × IfRefused event.answer (λ cause. ⊥) (Unit {0})) events
 
--- No buffer has the block, and each digest whose record lies in it is among these.
-pub record LiesAmong (digests : List Digest) (block : ℕ) (book : Book) : Type 0 where
+-- No buffer has the block, and each digest whose record lies in it is of this part or of a later one.
+pub record LiesFrom (setup : Setup) (part block : ℕ) (book : Book) : Type 0 where
   pub unbuffered : has_buffer book block ≡ false
-  pub told : (digest : Digest) → is_in_block block (live_of digest book.live) ≡ true → Contains digests digest
+  pub from : (digest : Digest) → is_in_block block (live_of digest book.live) ≡ true → part ≤ part_of setup digest
 
--- So many records were moved out of the block so far, and those that lie in it still are among these.
-pub record HaveMoved (setup : Setup) (block : ℕ) (s : State) (moved : ℕ) (left : List Digest) (events : List Event) : Type 0 where
+-- No buffer has the block, and less than 2^16 units are live in it.
+pub record HasFew (block : ℕ) (book : Book) : Type 0 where
+  pub unbuffered : has_buffer book block ≡ false
+  pub few : use_of book block < 2 ^ 16
+
+-- So many records were moved out of the block so far, each with some units of it, and those that lie in it still are of this part or of a
+-- later one.
+pub record HaveMoved (setup : Setup) (block : ℕ) (s : State) (moved part : ℕ) (events : List Event) : Type 0 where
   pub moves : AreMoves block events
   pub count : moved ≡ moved_count events
-  pub lie : LiesAmong left block (after_events setup events s).book
+  pub left : moved + use_of (after_events setup events s).book block ≤ use_of s.book block
+  pub lie : LiesFrom setup part block (after_events setup events s).book
+
+-- ---- what lies in a block
+
+-- whether the record of an entry lies in a block
+abbrev pub lies_in : (block : ℕ) → Option Entry → Bool
+lies_in block None = false
+lies_in block (Some e) = e.block == block
+
+-- each digest of the device is of a part that has a sprig
+abbrev pub HasParts : {D : Type 0} → ShardView D → Type 0
+HasParts shard = (digest : Digest) → device_number shard.shelf.geometry.devices digest ≡ shard.shelf.geometry.device → part_of (setup_of shard) digest < length shard.sprigs
+
+-- no record of a digest lies in the block that is of a part from one on and below another
+abbrev pub NoneLies : {D : Type 0} → ShardView D → (block from to : ℕ) → Type 0
+NoneLies shard block from to = (digest : Digest) → from ≤ part_of (setup_of shard) digest → part_of (setup_of shard) digest < to → lies_in block (held (setup_of shard) digest shard.sprigs) ≡ false
+
+-- A digest of the device whose record lies in the block: there is none of a part from this one on and below its own.
+pub record IsNextIn {D : Type 0} (shard : ShardView D) (block from : ℕ) (digest : Digest) : Type 0 where
+  pub own : device_number shard.shelf.geometry.devices digest ≡ shard.shelf.geometry.device
+  pub lies : lies_in block (held (setup_of shard) digest shard.sprigs) ≡ true
+  pub behind : from ≤ part_of (setup_of shard) digest
+  pub none : NoneLies shard block from (part_of (setup_of shard) digest)
 
 -- ---- damage
 
@@ -76,6 +110,28 @@ IsDamageIn Told view block shard (why.Damaged (damage.Record kept bytes)) =
 IsDamageIn Told view block shard (why.Damaged (damage.Block other place)) = ⊥
 IsDamageIn Told view block shard why.Memory = Unit {0}
 IsDamageIn Told view block shard why.Fault = Unit {0}
+
+-- so a vacating tells it: of a record as a move does; of the body of the block, which was read from the disk, by the place of its first fault,
+-- and where the disk tells its bytes no body of the block stands there
+abbrev pub IsDamageFound : {D : Type 0} → (view : D → DiskView) → (block : ℕ) → (old new : ShardView D) → DefragCause → Type 0
+IsDamageFound view block old new why.Spent = Unit {0}
+IsDamageFound view block old new why.Load = Unit {0}
+IsDamageFound view block old new why.Space = Unit {0}
+IsDamageFound view block old new (why.Damaged (damage.Record kept bytes)) = IsDamageIn (view old.shelf.disk).tells view block new (why.Damaged (damage.Record kept bytes))
+IsDamageFound view block old new (why.Damaged (damage.Block other place)) = (other ≡ block) × IsReadNext old.shelf other
+    × ((view old.shelf.disk).tells → IsDamageOf old.shelf.geometry (body_bytes old.shelf.geometry other (view old.shelf.disk).seen) other (vacate.Damaged other place))
+IsDamageFound view block old new why.Memory = Unit {0}
+IsDamageFound view block old new why.Fault = Unit {0}
+
+-- where the block's body was read one stands there, unless its damage is told or the disk failed
+abbrev pub HasBodyUnless : (HasBody : Type 0) → DefragCause → Type 0
+HasBodyUnless HasBody why.Spent = HasBody
+HasBodyUnless HasBody why.Load = HasBody
+HasBodyUnless HasBody why.Space = HasBody
+HasBodyUnless HasBody (why.Damaged (damage.Record kept bytes)) = HasBody
+HasBodyUnless HasBody (why.Damaged (damage.Block other place)) = Unit {0}
+HasBodyUnless HasBody why.Memory = HasBody
+HasBodyUnless HasBody why.Fault = Unit {0}
 
 -- ---- how a vacating is answered
 
@@ -108,11 +164,20 @@ abbrev pub IsMoved : Result Bool DefragCause → Answer → Type 0
 IsMoved (Ok moved) answer = answer ≡ happened moved
 IsMoved (Err why_not) answer = (cause : Cause) × IsCauseOf why_not cause × (answer ≡ refused cause)
 
+-- moves out of the block, of which the last was refused
+abbrev pub IsStopped : Setup → (block : ℕ) → State → DefragRefusal → List Event → Type 0
+IsStopped setup block s refusal events = (cause : Cause) × IsCauseOf refusal.cause cause × (refusal.moved ≡ moved_count events) × (refusal.moved ≤ use_of s.book block)
+    × MovesOut setup block s 0 events (stopped cause)
+
+-- some records were moved out of the block, or a move was refused
+abbrev pub IsMovedSome : Setup → (block : ℕ) → State → Result ℕ DefragRefusal → List Event → Type 0
+IsMovedSome setup block s (Ok moved) events = HaveMoved setup block s moved 0 events
+IsMovedSome setup block s (Err refusal) events = IsStopped setup block s refusal events
+
 -- nothing is live in the block, or a move was refused
-abbrev pub IsMovedOut : Setup → (block : ℕ) → State → Result Vacated DefragRefusal → List Event → Type 0
-IsMovedOut setup block s (Ok vacated) events = (vacated.block ≡ block) × MovesOut setup block s 0 events (did vacated.moved 1)
-IsMovedOut setup block s (Err refusal) events =
-    (cause : Cause) × IsCauseOf refusal.cause cause × (refusal.moved ≡ moved_count events) × MovesOut setup block s 0 events (stopped cause)
+abbrev pub IsMovedOut : Setup → (block : ℕ) → State → Result ℕ DefragRefusal → List Event → Type 0
+IsMovedOut setup block s (Ok moved) events = (moved ≤ use_of s.book block) × MovesOut setup block s 0 events (did moved 1)
+IsMovedOut setup block s (Err refusal) events = IsStopped setup block s refusal events
 
 -- The front of the queue was vacated, or nothing was queued; or a choice or a move was refused, and so many records were moved before.
 abbrev pub IsVacating : {D : Type 0} → ShardView D → State → Result (Option Vacated) DefragRefusal → List Event → Type 0

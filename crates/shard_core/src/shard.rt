@@ -3,6 +3,7 @@ ghost use Rattle.std.specs.Prelude.{◌≡◌};
 use crate::Settings;
 use block_shelf::Shelf;
 use disk_model::Disk;
+use rec_format::Digest;
 use sprig_tree::{Sprig, Tally};
 use std::marker::Model;
 
@@ -13,9 +14,12 @@ pub struct Shard<D: Disk> {
     pub(crate) set: Settings,
     pub(crate) sprigs: Vec<Sprig>,
     pub(crate) tally: Tally,
+    // The digests of the records of a block that is vacated. It has room for the most that a block can have.
+    pub(crate) listed: Vec<Digest>,
 }
 
 impl<D: Disk> Model for Shard<D> {
+    ghost use Rattle.std.specs.Prelude.{vec_capacity};
     ghost use Rattle.shard_core.specs.View.{ShardView};
     ghost use Rattle.shard_core.specs.Numbers.{IsKept};
     ghost use Rattle.std.specs.Coded.{codes};
@@ -27,7 +31,7 @@ impl<D: Disk> Model for Shard<D> {
 
     ghost view = { λ s. record { shelf = s.shelf; set = s.set; sprigs = s.sprigs.items } };
 
-    ghost invariant = { λ s. IsKept (record { shelf = s.shelf; set = s.set; sprigs = s.sprigs.items }) s.tally };
+    ghost invariant = { λ s. IsKept (record { shelf = s.shelf; set = s.set; sprigs = s.sprigs.items }) s.tally (vec_capacity s.listed) };
 }
 
 impl<D: Disk> Shard<D> {

@@ -20,7 +20,7 @@ use crate::counts::tally_sum;
 use crate::index::{Finding, index_of};
 use crate::sprigs::live_copies;
 use crate::{Asked, Settings, Shard, StartCause, StartRefusal};
-use block_format::{Gate, Geometry};
+use block_format::{Gate, Geometry, capacity, most_records};
 use block_shelf::{Shelf, ShelfLimits};
 use cold_scan::{Finding as Scanned, scan};
 use disk_model::Disk;
@@ -53,6 +53,13 @@ fn begun<D: Disk>(
             cause: StartCause::Memory,
         });
     };
+    let most = most_records(capacity(geometry.block_size));
+    let Ok(listed) = Vec::with_capacity(alloc, most as usize) else {
+        return Err(StartRefusal {
+            disk,
+            cause: StartCause::Memory,
+        });
+    };
     let limits = ShelfLimits {
         sprigs: set.sprigs,
         lwm: set.lwm,
@@ -67,6 +74,7 @@ fn begun<D: Disk>(
                 set,
                 sprigs,
                 tally,
+                listed,
             })
         }
         Err((disk, _)) => Err(StartRefusal {

@@ -1,4 +1,4 @@
-use Rattle.std.proofs.Common.{◌+◌, sym, ◌∙◌, ap, subst, refl, List}
+use Rattle.std.proofs.Common.{rules, ◌+◌, sym, ◌∙◌, ap, subst, refl, List}
 use Rattle.rec_format.specs.declared.version.Digest.{Digest}
 use Rattle.block_shelf.specs.declared.place.Place.{Place}
 use Rattle.block_shelf.specs.View.{ShelfView, AreSure}
@@ -32,6 +32,7 @@ invariant_of-result g c =
           (record { starts = e.starts; entries = e.entries; image = e.image; placed = e.placed; safe = e.safe }))
           found.0 found.1;
       tallied = c.tally_sum-tally.ensures ∙ ap tally_sum c.deref-in-Ok-new.ensures.value;
+      listed = search rules;
     }
 
 pub returns-in-Ok-new-clause-behind : goal.returns-in-Ok-new-clause-behind

@@ -14,7 +14,7 @@ use Rattle.law_steps.specs.Events.{StepMakes}
 use Rattle.shard_core.specs.Stands.{Agrees}
 use Rattle.shard_core.specs.Calls.{Makes}
 use Rattle.shard_core.specs.Raids.{TakesTurn}
-use Rattle.shard_core.proofs.Making.{setup_is, whole_made}
+use Rattle.shard_core.proofs.Making.{setup_is, whole_made, room_stays}
 use Rattle.shard_core.proofs.Raiding.{part_there, turn_made, turn_taken, possible_aside}
 use Rattle.shard_core.proofs.Tallies.{tally_behind}
 use Rattle.shard_core.proofs.shard.Shard.compare_part.Given.{Over}
@@ -78,6 +78,7 @@ invariant_of-self g c =
           tally_behind (old g c).sprigs c.args.part c.index.result.now c.raid_apply-unmarked.new.sprig (there g c) c.index.ensures c.index-2.result.now c.index-2.ensures
           c.self.inside.tally c.tally-before.result c.tally.result c.minus.result c.plus-self-inside.result
           c.self.invariant.tallied c.tally-before.ensures c.tally.ensures c.minus.ensures c.plus-self-inside.ensures (omega arith) (omega arith) (omega arith);
+      listed = room_stays (old g c) (new g c) (shape g c) _ c.self.invariant.listed;
     }
 
 pub returns : goal.returns

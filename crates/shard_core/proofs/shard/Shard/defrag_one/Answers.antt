@@ -1,186 +1,158 @@
-use Rattle.std.proofs.Common.{◌≡◌, ℕ, false, ap, sym, refl, ◌∙◌, subst}
+use Rattle.std.proofs.Common.{ℕ, ◌≤◌, false, List, ap, sym, ◌∙◌, subst}
 use Rattle.std.specs.Prelude.{Some, None, Ok, Err}
 use Rattle.model_device.specs.Device.{State}
 use Rattle.model_device.specs.Legal.{queue_front}
-use Rattle.block_shelf.specs.Vacating.{IsNextOf}
-use Rattle.disk_model.specs.Disk.{IsHonest}
+use Rattle.rec_format.specs.declared.version.Digest.{Digest}
+use Rattle.rec_format.specs.Versions.{block_capacity}
+use Rattle.block_format.specs.declared.geometry.Geometry.{Geometry}
+use Rattle.block_format.specs.Layout.{body_bytes, most_records}
+use Rattle.block_flusher.specs.Images.{IsBodyOf}
 use Rattle.block_shelf.specs.View.{ShelfView}
-use Rattle.block_shelf.specs.Disks.{IsLater}
-use Rattle.shard_core.specs.View.{ShardView, SameSetup}
+use Rattle.block_shelf.specs.Vacating.{IsReadNext, ListsBody}
+use Rattle.block_shelf.specs.declared.refusals.VacateRefusal.{VacateRefusal}
+use Rattle.shard_core.specs.View.{ShardView}
 use Rattle.shard_core.specs.Stands.{Agrees}
-use Rattle.shard_core.specs.Vacating.{MakesEvents, IsDamageIn, IsVacating, vacate_cause}
-use Rattle.shard_core.proofs.Later.{later_none}
-use Rattle.shard_core.proofs.Choices.{gives_not, gives_none, gives_own, gives_few, gives_all, gives_some}
-use Rattle.block_shelf.specs.Sure.{StaysSure}
-use Rattle.block_shelf.proofs.Surely.{sure_none}
+use Rattle.shard_core.specs.declared.refusals.DefragCause.{DefragCause}
+use Rattle.shard_core.specs.Vacating.{MakesEvents, IsDamageFound, IsVacating}
+use Rattle.shard_core.proofs.Telling.{found_of, body_unless}
+use Rattle.shard_core.proofs.Choices.{gives_not, gives_none, gives_few, gives_all, gives_some, within, whole_over, shape_over}
+use Rattle.shard_core.proofs.Making.{room_stays}
 use Rattle.shard_core.specs.Keeping.{KeepsThrough}
-use Rattle.shard_core.proofs.Keeping.{through_none}
+use Rattle.shard_core.proofs.Keeping.{through_read, through_then}
 use Rattle.shard_core.proofs.shard.Shard.defrag_one.Goals as goal
 
-pub move_all-requires-clause-named : goal.move_all-requires-clause-named
-move_all-requires-clause-named g c =
+pub vacate-requires-clause-block : goal.vacate-requires-clause-block
+vacate-requires-clause-block g c =
     let old : ShardView g.row.D.Denot = record { shelf = c.self.inside.shelf; set = c.self.inside.set; sprigs = c.self.inside.sprigs.items } in
-    gives_own g.D.Disk.view old (g.met.D.Disk.is_disk old.shelf.disk) c.vacate_next.new.self c.vacate_next.ensures.same c.in-Ok-Some.field-0 c.in-Ok-Some.ensures.chosen
-    c.in-Ok-Some.vacancy c.in-Ok-Some.field-0-is c.in-Ok-Some.ensures.below c.self.invariant.whole
+    let mid : ShelfView g.row.D.Denot = c.vacate_next.new.self in
+    within g.D.Disk.view old mid c.vacate_next.ensures.rest c.vacate_next.ensures.disk (g.met.D.Disk.is_disk mid.disk)
+    c.in-Ok-Some.field-0 c.in-Ok-Some.ensures.chosen c.in-Ok-Some.block c.in-Ok-Some.field-0-is c.in-Ok-Some.ensures.below c.self.invariant.whole c.geometry-shape.ensures.whole
 
-pub move_all-requires-clause-few : goal.move_all-requires-clause-few
-move_all-requires-clause-few g c =
+pub vacate-requires-clause-low : goal.vacate-requires-clause-low
+vacate-requires-clause-low g c =
     let old : ShardView g.row.D.Denot = record { shelf = c.self.inside.shelf; set = c.self.inside.set; sprigs = c.self.inside.sprigs.items } in
-    gives_few g.D.Disk.view old (g.met.D.Disk.is_disk old.shelf.disk) c.vacate_next.new.self c.vacate_next.ensures.same c.in-Ok-Some.field-0 c.in-Ok-Some.ensures.chosen
-    c.in-Ok-Some.vacancy c.in-Ok-Some.field-0-is c.in-Ok-Some.ensures.below c.self.invariant.whole c.geometry-shape.ensures.whole c.in-Ok-Some.ensures.first
+    let mid : ShelfView g.row.D.Denot = c.vacate_next.new.self in
+    gives_few g.D.Disk.view old mid c.vacate_next.ensures.rest c.vacate_next.ensures.disk (g.met.D.Disk.is_disk mid.disk)
+    c.in-Ok-Some.field-0 c.in-Ok-Some.ensures.chosen c.in-Ok-Some.block c.in-Ok-Some.field-0-is c.in-Ok-Some.ensures.below c.self.invariant.whole c.geometry-shape.ensures.whole
 
 pub returns-in-Ok-clause-makes : goal.returns-in-Ok-clause-makes
 returns-in-Ok-clause-makes g c =
     let old : ShardView g.row.D.Denot = record { shelf = c.self.inside.shelf; set = c.self.inside.set; sprigs = c.self.inside.sprigs.items } in
-    subst (λ (v : ShardView g.row.D.Denot). (s : State) → Agrees v s → MakesEvents g.D.Disk.view (IsVacating v s (Ok (Some c.in-Ok.vacated))) v s c.move_all.new.self) c.self.view_is
-    (gives_all g.D.Disk.view old (g.met.D.Disk.is_disk old.shelf.disk) c.vacate_next.new.self c.vacate_next.ensures.same c.in-Ok-Some.field-0 c.in-Ok-Some.ensures.chosen
-    c.in-Ok-Some.vacancy c.in-Ok-Some.field-0-is c.in-Ok-Some.ensures.below c.move_all.new.self c.in-Ok.vacated c.in-Ok.ensures.makes)
+    let mid : ShelfView g.row.D.Denot = c.vacate_next.new.self in
+    subst (λ (v : ShardView g.row.D.Denot). (s : State) → Agrees v s
+    → MakesEvents g.D.Disk.view (IsVacating v s (Ok (Some (record { block = c.in-Ok-Some.block; moved = c.in-Ok.moved })))) v s c.vacate.new.self) c.self.view_is
+    (gives_all g.D.Disk.view old mid c.vacate_next.ensures.rest c.vacate_next.ensures.disk (g.met.D.Disk.is_disk mid.disk)
+    c.in-Ok-Some.field-0 c.in-Ok-Some.ensures.chosen c.in-Ok-Some.block c.in-Ok-Some.field-0-is c.in-Ok-Some.ensures.below c.self.invariant.whole c.geometry-shape.ensures.whole
+    c.vacate.new.self c.in-Ok.moved c.in-Ok.ensures.makes)
 
-pub returns-in-Ok-Some-clause-makes : goal.returns-in-Ok-Some-clause-makes
-returns-in-Ok-Some-clause-makes g c =
+pub returns-in-Err-vacate-clause-makes : goal.returns-in-Err-vacate-clause-makes
+returns-in-Err-vacate-clause-makes g c =
     let old : ShardView g.row.D.Denot = record { shelf = c.self.inside.shelf; set = c.self.inside.set; sprigs = c.self.inside.sprigs.items } in
-    subst (λ (v : ShardView g.row.D.Denot). (s : State) → Agrees v s → MakesEvents g.D.Disk.view (IsVacating v s (Err c.in-Err-move_all.refusal)) v s c.move_all.new.self) c.self.view_is
-    (gives_some g.D.Disk.view old (g.met.D.Disk.is_disk old.shelf.disk) c.vacate_next.new.self c.vacate_next.ensures.same c.in-Ok-Some.field-0 c.in-Ok-Some.ensures.chosen
-    c.in-Ok-Some.vacancy c.in-Ok-Some.field-0-is c.in-Ok-Some.ensures.below c.move_all.new.self c.in-Err-move_all.refusal c.in-Err-move_all.ensures.makes)
+    let mid : ShelfView g.row.D.Denot = c.vacate_next.new.self in
+    subst (λ (v : ShardView g.row.D.Denot). (s : State) → Agrees v s → MakesEvents g.D.Disk.view (IsVacating v s (Err c.in-Err-vacate.refusal)) v s c.vacate.new.self) c.self.view_is
+    (gives_some g.D.Disk.view old mid c.vacate_next.ensures.rest c.vacate_next.ensures.disk (g.met.D.Disk.is_disk mid.disk)
+    c.in-Ok-Some.field-0 c.in-Ok-Some.ensures.chosen c.in-Ok-Some.block c.in-Ok-Some.field-0-is c.in-Ok-Some.ensures.below c.self.invariant.whole c.geometry-shape.ensures.whole
+    c.vacate.new.self c.in-Err-vacate.refusal c.in-Err-vacate.ensures.makes)
 
 pub returns-in-Ok-None-clause-makes : goal.returns-in-Ok-None-clause-makes
 returns-in-Ok-None-clause-makes g c =
     let old : ShardView g.row.D.Denot = record { shelf = c.self.inside.shelf; set = c.self.inside.set; sprigs = c.self.inside.sprigs.items } in
-    let new : ShardView g.row.D.Denot = record { shelf = c.vacate_next.new.self; set = c.self.inside.set; sprigs = c.self.inside.sprigs.items } in
+    let mid : ShelfView g.row.D.Denot = c.vacate_next.new.self in
+    let new : ShardView g.row.D.Denot = record { shelf = mid; set = c.self.inside.set; sprigs = c.self.inside.sprigs.items } in
     subst (λ (v : ShardView g.row.D.Denot). (s : State) → Agrees v s → MakesEvents g.D.Disk.view (IsVacating v s (Ok None)) v s new) c.self.view_is
-    (gives_none g.D.Disk.view old (g.met.D.Disk.is_disk old.shelf.disk) c.vacate_next.new.self c.vacate_next.ensures.same c.in-Ok-None.field-0 c.in-Ok-None.ensures.chosen c.in-Ok-None.field-0-is)
+    (gives_none g.D.Disk.view old mid c.vacate_next.ensures.rest c.vacate_next.ensures.disk (g.met.D.Disk.is_disk mid.disk)
+    c.in-Ok-None.field-0 c.in-Ok-None.ensures.chosen c.in-Ok-None.field-0-is)
 
-pub returns-clause-makes : goal.returns-clause-makes
-returns-clause-makes g c =
+pub returns-in-Err-clause-makes : goal.returns-in-Err-clause-makes
+returns-in-Err-clause-makes g c =
+    let old : ShardView g.row.D.Denot = record { shelf = c.self.inside.shelf; set = c.self.inside.set; sprigs = c.self.inside.sprigs.items } in
+    let mid : ShelfView g.row.D.Denot = c.vacate_next.new.self in
+    let new : ShardView g.row.D.Denot = record { shelf = mid; set = c.self.inside.set; sprigs = c.self.inside.sprigs.items } in
+    subst (λ (v : ShardView g.row.D.Denot). (s : State) → Agrees v s → MakesEvents g.D.Disk.view (IsVacating v s (Err (record { moved = 0; cause = c.vacate_cause.result }))) v s new) c.self.view_is
+    (subst (λ (why : DefragCause). (s : State) → Agrees old s → MakesEvents g.D.Disk.view (IsVacating old s (Err (record { moved = 0; cause = why }))) old s new) (sym c.vacate_cause.ensures)
+    (gives_not g.D.Disk.view old mid c.vacate_next.ensures.rest c.vacate_next.ensures.disk (g.met.D.Disk.is_disk mid.disk) c.in-Err.refusal c.in-Err.ensures.told
+    (λ none. let idle = c.vacate_next.ensures.idle none in let is = c.in-Err.is in let clash = sym is ∙ idle.0 in cc)
+    (λ fault. c.vacate_next.ensures.cause (c.in-Err.is ∙ ap (λ (r : VacateRefusal). Err r) fault))
+    (λ s agrees honest safe. c.in-Err.ensures.sound _ s honest agrees.shelf.stands agrees.shelf.queue safe.safe)))
+
+-- ---- the fields
+
+pub invariant_of-self : goal.invariant_of-self
+invariant_of-self g c =
+    let old : ShardView g.row.D.Denot = record { shelf = c.self.inside.shelf; set = c.self.inside.set; sprigs = c.self.inside.sprigs.items } in
+    let mid : ShelfView g.row.D.Denot = c.vacate_next.new.self in
+    let view = g.D.Disk.view in
+    record {
+      whole = whole_over view old mid c.vacate_next.ensures.rest c.vacate_next.ensures.disk (g.met.D.Disk.is_disk mid.disk) c.self.invariant.whole;
+      tallied = c.self.invariant.tallied;
+      listed = subst (λ (n : ℕ). most_records (block_capacity mid.geometry.block_size) ≤ n) (sym c.vacate_next.ensures.room)
+          (room_stays old (record { shelf = mid; set = old.set; sprigs = old.sprigs }) (shape_over view old mid c.vacate_next.ensures.rest c.vacate_next.ensures.disk (g.met.D.Disk.is_disk mid.disk)) _
+          c.self.invariant.listed);
+    }
+
+pub invariant_of-self-in-Err : goal.invariant_of-self-in-Err
+invariant_of-self-in-Err g c =
+    let old : ShardView g.row.D.Denot = record { shelf = c.self.inside.shelf; set = c.self.inside.set; sprigs = c.self.inside.sprigs.items } in
+    let mid : ShelfView g.row.D.Denot = c.vacate_next.new.self in
+    let view = g.D.Disk.view in
+    record {
+      whole = whole_over view old mid c.vacate_next.ensures.rest c.vacate_next.ensures.disk (g.met.D.Disk.is_disk mid.disk) c.self.invariant.whole;
+      tallied = c.self.invariant.tallied;
+      listed = subst (λ (n : ℕ). most_records (block_capacity mid.geometry.block_size) ≤ n) (sym c.vacate_next.ensures.room)
+          (room_stays old (record { shelf = mid; set = old.set; sprigs = old.sprigs }) (shape_over view old mid c.vacate_next.ensures.rest c.vacate_next.ensures.disk (g.met.D.Disk.is_disk mid.disk)) _
+          c.self.invariant.listed);
+    }
+
+-- ---- the body, and damage
+
+listed_is : (g : Geometry) (block : ℕ) (bytes : List ℕ) (digests : List Digest) → ListsBody g bytes block digests → IsBodyOf g block bytes
+listed_is g block bytes digests lists = (lists.body, lists.is_body, lists.placed)
+
+pub returns-in-Ok-clause-body : goal.returns-in-Ok-clause-body
+returns-in-Ok-clause-body g c tells block reads =
+    let view = g.D.Disk.view in
+    let of = λ (v : ShardView g.row.D.Denot). IsBodyOf v.shelf.geometry block (body_bytes v.shelf.geometry block (view v.shelf.disk).seen) in
+    subst of c.self.view_is (listed_is _ block _ _
+    (c.in-Ok-Some.ensures.read (subst (λ (v : ShardView g.row.D.Denot). (view v.shelf.disk).tells) (sym c.self.view_is) tells) block
+    (subst (λ (v : ShardView g.row.D.Denot). IsReadNext v.shelf block) (sym c.self.view_is) reads)))
+
+pub returns-in-Err-vacate-clause-body : goal.returns-in-Err-vacate-clause-body
+returns-in-Err-vacate-clause-body g c tells block reads =
+    let view = g.D.Disk.view in
+    let of = λ (v : ShardView g.row.D.Denot). IsBodyOf v.shelf.geometry block (body_bytes v.shelf.geometry block (view v.shelf.disk).seen) in
+    body_unless (of c.args.self.now) (subst of c.self.view_is (listed_is _ block _ _
+    (c.in-Ok-Some.ensures.read (subst (λ (v : ShardView g.row.D.Denot). (view v.shelf.disk).tells) (sym c.self.view_is) tells) block
+    (subst (λ (v : ShardView g.row.D.Denot). IsReadNext v.shelf block) (sym c.self.view_is) reads)))) c.in-Err-vacate.refusal.cause
+
+pub returns-in-Err-clause-damaged : goal.returns-in-Err-clause-damaged
+returns-in-Err-clause-damaged g c block front =
+    let view = g.D.Disk.view in
     let old : ShardView g.row.D.Denot = record { shelf = c.self.inside.shelf; set = c.self.inside.set; sprigs = c.self.inside.sprigs.items } in
     let new : ShardView g.row.D.Denot = record { shelf = c.vacate_next.new.self; set = c.self.inside.set; sprigs = c.self.inside.sprigs.items } in
-    subst (λ (v : ShardView g.row.D.Denot). (s : State) → Agrees v s → MakesEvents g.D.Disk.view (IsVacating v s (Err (record { moved = 0; cause = c.vacate_cause.result }))) v s new) c.self.view_is
-    (gives_not g.D.Disk.view old (g.met.D.Disk.is_disk old.shelf.disk) c.vacate_next.new.self c.vacate_next.ensures.same c.vacate_cause.result
-    (c.vacate_cause.ensures ∙ ap vacate_cause c.in-Err.ensures.refused))
-
--- ---- what stays
-
-pub returns-in-Ok-clause-later : goal.returns-in-Ok-clause-later
-returns-in-Ok-clause-later g c =
-    subst (λ (v : ShardView g.row.D.Denot). IsLater (g.D.Disk.view v.shelf.disk) (g.D.Disk.view c.move_all.new.self.shelf.disk)) c.self.view_is
-    (subst (λ (x : ShelfView g.row.D.Denot). IsLater (g.D.Disk.view x.disk) (g.D.Disk.view c.move_all.new.self.shelf.disk)) c.vacate_next.ensures.same c.move_all.ensures.later)
-
-pub returns-in-Ok-clause-honest : goal.returns-in-Ok-clause-honest
-returns-in-Ok-clause-honest g c =
-    subst (λ (v : ShardView g.row.D.Denot). IsHonest (g.D.Disk.view v.shelf.disk) → IsHonest (g.D.Disk.view c.move_all.new.self.shelf.disk)) c.self.view_is
-    (subst (λ (x : ShelfView g.row.D.Denot). IsHonest (g.D.Disk.view x.disk) → IsHonest (g.D.Disk.view c.move_all.new.self.shelf.disk)) c.vacate_next.ensures.same c.move_all.ensures.honest)
-
-pub returns-in-Ok-clause-shape : goal.returns-in-Ok-clause-shape
-returns-in-Ok-clause-shape g c =
-    subst (λ (v : ShardView g.row.D.Denot). SameSetup v c.move_all.new.self) c.self.view_is
-    (record { geometry = c.move_all.ensures.shape.geometry ∙ ap (λ (x : ShelfView g.row.D.Denot). x.geometry) c.vacate_next.ensures.same; set = c.move_all.ensures.shape.set })
-
-pub returns-in-Ok-Some-clause-later : goal.returns-in-Ok-Some-clause-later
-returns-in-Ok-Some-clause-later g c =
-    subst (λ (v : ShardView g.row.D.Denot). IsLater (g.D.Disk.view v.shelf.disk) (g.D.Disk.view c.move_all.new.self.shelf.disk)) c.self.view_is
-    (subst (λ (x : ShelfView g.row.D.Denot). IsLater (g.D.Disk.view x.disk) (g.D.Disk.view c.move_all.new.self.shelf.disk)) c.vacate_next.ensures.same c.move_all.ensures.later)
-
-pub returns-in-Ok-Some-clause-honest : goal.returns-in-Ok-Some-clause-honest
-returns-in-Ok-Some-clause-honest g c =
-    subst (λ (v : ShardView g.row.D.Denot). IsHonest (g.D.Disk.view v.shelf.disk) → IsHonest (g.D.Disk.view c.move_all.new.self.shelf.disk)) c.self.view_is
-    (subst (λ (x : ShelfView g.row.D.Denot). IsHonest (g.D.Disk.view x.disk) → IsHonest (g.D.Disk.view c.move_all.new.self.shelf.disk)) c.vacate_next.ensures.same c.move_all.ensures.honest)
-
-pub returns-in-Ok-Some-clause-shape : goal.returns-in-Ok-Some-clause-shape
-returns-in-Ok-Some-clause-shape g c =
-    subst (λ (v : ShardView g.row.D.Denot). SameSetup v c.move_all.new.self) c.self.view_is
-    (record { geometry = c.move_all.ensures.shape.geometry ∙ ap (λ (x : ShelfView g.row.D.Denot). x.geometry) c.vacate_next.ensures.same; set = c.move_all.ensures.shape.set })
-
-pub returns-in-Ok-None-clause-later : goal.returns-in-Ok-None-clause-later
-returns-in-Ok-None-clause-later g c =
-    subst (λ (v : ShardView g.row.D.Denot). IsLater (g.D.Disk.view v.shelf.disk) (g.D.Disk.view c.vacate_next.new.self.disk)) c.self.view_is
-    (subst (λ (x : ShelfView g.row.D.Denot). IsLater (g.D.Disk.view c.self.inside.shelf.disk) (g.D.Disk.view x.disk)) (sym c.vacate_next.ensures.same)
-    (later_none g.D.Disk.view c.self.inside.shelf.disk (g.met.D.Disk.is_disk c.self.inside.shelf.disk)))
-
-pub returns-in-Ok-None-clause-honest : goal.returns-in-Ok-None-clause-honest
-returns-in-Ok-None-clause-honest g c =
-    subst (λ (v : ShardView g.row.D.Denot). IsHonest (g.D.Disk.view v.shelf.disk) → IsHonest (g.D.Disk.view c.vacate_next.new.self.disk)) c.self.view_is
-    (subst (λ (x : ShelfView g.row.D.Denot). IsHonest (g.D.Disk.view c.self.inside.shelf.disk) → IsHonest (g.D.Disk.view x.disk)) (sym c.vacate_next.ensures.same) (λ honest. honest))
-
-pub returns-in-Ok-None-clause-shape : goal.returns-in-Ok-None-clause-shape
-returns-in-Ok-None-clause-shape g c =
-    let new : ShardView g.row.D.Denot = record { shelf = c.vacate_next.new.self; set = c.self.inside.set; sprigs = c.self.inside.sprigs.items } in
-    subst (λ (v : ShardView g.row.D.Denot). SameSetup v new) c.self.view_is (record { geometry = ap (λ (x : ShelfView g.row.D.Denot). x.geometry) c.vacate_next.ensures.same; set = refl })
-
-pub returns-clause-later : goal.returns-clause-later
-returns-clause-later g c =
-    subst (λ (v : ShardView g.row.D.Denot). IsLater (g.D.Disk.view v.shelf.disk) (g.D.Disk.view c.vacate_next.new.self.disk)) c.self.view_is
-    (subst (λ (x : ShelfView g.row.D.Denot). IsLater (g.D.Disk.view c.self.inside.shelf.disk) (g.D.Disk.view x.disk)) (sym c.vacate_next.ensures.same)
-    (later_none g.D.Disk.view c.self.inside.shelf.disk (g.met.D.Disk.is_disk c.self.inside.shelf.disk)))
-
-pub returns-clause-honest : goal.returns-clause-honest
-returns-clause-honest g c =
-    subst (λ (v : ShardView g.row.D.Denot). IsHonest (g.D.Disk.view v.shelf.disk) → IsHonest (g.D.Disk.view c.vacate_next.new.self.disk)) c.self.view_is
-    (subst (λ (x : ShelfView g.row.D.Denot). IsHonest (g.D.Disk.view c.self.inside.shelf.disk) → IsHonest (g.D.Disk.view x.disk)) (sym c.vacate_next.ensures.same) (λ honest. honest))
-
-pub returns-clause-shape : goal.returns-clause-shape
-returns-clause-shape g c =
-    let new : ShardView g.row.D.Denot = record { shelf = c.vacate_next.new.self; set = c.self.inside.set; sprigs = c.self.inside.sprigs.items } in
-    subst (λ (v : ShardView g.row.D.Denot). SameSetup v new) c.self.view_is (record { geometry = ap (λ (x : ShelfView g.row.D.Denot). x.geometry) c.vacate_next.ensures.same; set = refl })
-
--- ---- the gates
-
-pub returns-in-Ok-clause-sure : goal.returns-in-Ok-clause-sure
-returns-in-Ok-clause-sure g c =
-    subst (λ (v : ShardView g.row.D.Denot). StaysSure g.D.Disk.view v.shelf c.move_all.new.self.shelf) c.self.view_is
-    (subst (λ (x : ShelfView g.row.D.Denot). StaysSure g.D.Disk.view x c.move_all.new.self.shelf) c.vacate_next.ensures.same c.move_all.ensures.sure)
-
-pub returns-in-Ok-Some-clause-sure : goal.returns-in-Ok-Some-clause-sure
-returns-in-Ok-Some-clause-sure g c =
-    subst (λ (v : ShardView g.row.D.Denot). StaysSure g.D.Disk.view v.shelf c.move_all.new.self.shelf) c.self.view_is
-    (subst (λ (x : ShelfView g.row.D.Denot). StaysSure g.D.Disk.view x c.move_all.new.self.shelf) c.vacate_next.ensures.same c.move_all.ensures.sure)
-
-pub returns-in-Ok-None-clause-sure : goal.returns-in-Ok-None-clause-sure
-returns-in-Ok-None-clause-sure g c =
-    subst (λ (v : ShardView g.row.D.Denot). StaysSure g.D.Disk.view v.shelf c.vacate_next.new.self) c.self.view_is
-    (sure_none g.D.Disk.view c.self.inside.shelf c.vacate_next.new.self c.vacate_next.ensures.same)
-
-pub returns-clause-sure : goal.returns-clause-sure
-returns-clause-sure g c =
-    subst (λ (v : ShardView g.row.D.Denot). StaysSure g.D.Disk.view v.shelf c.vacate_next.new.self) c.self.view_is
-    (sure_none g.D.Disk.view c.self.inside.shelf c.vacate_next.new.self c.vacate_next.ensures.same)
-
--- ---- damage
-
-pub returns-in-Ok-Some-clause-damaged : goal.returns-in-Ok-Some-clause-damaged
-returns-in-Ok-Some-clause-damaged g c block front =
-    let view = g.D.Disk.view in
-    let here = subst (λ (x : ShelfView g.row.D.Denot). IsDamageIn (view x.disk).tells view c.in-Ok-Some.vacancy.block c.move_all.new.self c.in-Err-move_all.refusal.cause)
-    c.vacate_next.ensures.same c.in-Err-move_all.ensures.damaged in
-    let chosen : IsNextOf c.self.inside.shelf (Some c.in-Ok-Some.vacancy) = subst (IsNextOf c.self.inside.shelf) c.in-Ok-Some.field-0-is c.in-Ok-Some.ensures.first in
-    let was : queue_front c.self.inside.shelf.queue.queue ≡ Some block = ap (λ (v : ShardView g.row.D.Denot). queue_front v.shelf.queue.queue) c.self.view_is ∙ front in
-    let one : Some c.in-Ok-Some.vacancy.block ≡ Some block = sym chosen.front ∙ was in
-    let same : c.in-Ok-Some.vacancy.block ≡ block = cc in
-    subst (λ (v : ShardView g.row.D.Denot). IsDamageIn (view v.shelf.disk).tells view block c.move_all.new.self c.in-Err-move_all.refusal.cause) c.self.view_is
-    (subst (λ (n : ℕ). IsDamageIn (view c.self.inside.shelf.disk).tells view n c.move_all.new.self c.in-Err-move_all.refusal.cause) same here)
-
-pub returns-clause-damaged : goal.returns-clause-damaged
-returns-clause-damaged g c block front =
-    let new : ShardView g.row.D.Denot = record { shelf = c.vacate_next.new.self; set = c.self.inside.set; sprigs = c.self.inside.sprigs.items } in
-    subst (IsDamageIn (g.D.Disk.view c.args.self.now.shelf.disk).tells g.D.Disk.view block new) (sym (c.vacate_cause.ensures ∙ ap vacate_cause c.in-Err.ensures.refused)) tt
+    subst (λ (v : ShardView g.row.D.Denot). IsDamageFound view block v new c.vacate_cause.result) c.self.view_is
+    (subst (IsDamageFound view block old new) (sym c.vacate_cause.ensures)
+    (found_of view block old new (ap (λ (v : ShardView g.row.D.Denot). queue_front v.shelf.queue.queue) c.self.view_is ∙ front) c.in-Err.refusal c.in-Err.ensures.told c.in-Err.ensures.read))
 
 -- ---- what is kept
 
 pub returns-in-Ok-clause-kept : goal.returns-in-Ok-clause-kept
 returns-in-Ok-clause-kept g c =
-    subst (λ (v : ShardView g.row.D.Denot). KeepsThrough false v.shelf c.move_all.new.self.shelf) c.self.view_is
-    (subst (λ (x : ShelfView g.row.D.Denot). KeepsThrough false x c.move_all.new.self.shelf) c.vacate_next.ensures.same c.move_all.ensures.kept)
+    subst (λ (v : ShardView g.row.D.Denot). KeepsThrough false v.shelf c.vacate.new.self.shelf) c.self.view_is
+    (through_then false c.self.inside.shelf c.vacate_next.new.self c.vacate.new.self.shelf
+    (through_read false c.self.inside.shelf c.vacate_next.new.self c.vacate_next.ensures.rest) c.vacate.ensures.kept)
 
-pub returns-in-Ok-Some-clause-kept : goal.returns-in-Ok-Some-clause-kept
-returns-in-Ok-Some-clause-kept g c =
-    subst (λ (v : ShardView g.row.D.Denot). KeepsThrough false v.shelf c.move_all.new.self.shelf) c.self.view_is
-    (subst (λ (x : ShelfView g.row.D.Denot). KeepsThrough false x c.move_all.new.self.shelf) c.vacate_next.ensures.same c.move_all.ensures.kept)
+pub returns-in-Err-vacate-clause-kept : goal.returns-in-Err-vacate-clause-kept
+returns-in-Err-vacate-clause-kept g c =
+    subst (λ (v : ShardView g.row.D.Denot). KeepsThrough false v.shelf c.vacate.new.self.shelf) c.self.view_is
+    (through_then false c.self.inside.shelf c.vacate_next.new.self c.vacate.new.self.shelf
+    (through_read false c.self.inside.shelf c.vacate_next.new.self c.vacate_next.ensures.rest) c.vacate.ensures.kept)
 
 pub returns-in-Ok-None-clause-kept : goal.returns-in-Ok-None-clause-kept
 returns-in-Ok-None-clause-kept g c =
     subst (λ (v : ShardView g.row.D.Denot). KeepsThrough false v.shelf c.vacate_next.new.self) c.self.view_is
-    (through_none false c.self.inside.shelf c.vacate_next.new.self c.vacate_next.ensures.same)
+    (through_read false c.self.inside.shelf c.vacate_next.new.self c.vacate_next.ensures.rest)
 
-pub returns-clause-kept : goal.returns-clause-kept
-returns-clause-kept g c =
+pub returns-in-Err-clause-kept : goal.returns-in-Err-clause-kept
+returns-in-Err-clause-kept g c =
     subst (λ (v : ShardView g.row.D.Denot). KeepsThrough false v.shelf c.vacate_next.new.self) c.self.view_is
-    (through_none false c.self.inside.shelf c.vacate_next.new.self c.vacate_next.ensures.same)
+    (through_read false c.self.inside.shelf c.vacate_next.new.self c.vacate_next.ensures.rest)

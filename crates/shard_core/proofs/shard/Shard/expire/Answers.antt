@@ -11,7 +11,7 @@ use Rattle.shard_core.specs.Sprigs.{held}
 use Rattle.shard_core.specs.View.{ShardView, SameSetup, setup_of}
 use Rattle.shard_core.specs.Stands.{Agrees}
 use Rattle.shard_core.specs.Calls.{Makes, delete_answer}
-use Rattle.shard_core.proofs.Making.{whole_made, step_stands, lifted, held_at}
+use Rattle.shard_core.proofs.Making.{whole_made, step_stands, lifted, held_at, room_stays}
 use Rattle.shard_core.proofs.Tallies.{tally_behind}
 use Rattle.shard_core.proofs.shard.Shard.expire.Given.{Over}
 use Rattle.block_shelf.specs.Sure.{StaysSure}
@@ -93,6 +93,7 @@ invariant_of-self g c =
           tally_behind old.sprigs c.part_of-part.result c.index.result.now c.expire_step-answer.new.sprig there c.index.ensures c.index-2.result.now c.index-2.ensures
           c.self.inside.tally c.tally-before.result c.tally.result c.minus.result c.plus-self-inside.result
           c.self.invariant.tallied c.tally-before.ensures c.tally.ensures c.minus.ensures c.plus-self-inside.ensures (omega arith) (omega arith) (omega arith);
+      listed = room_stays old new shape _ c.self.invariant.listed;
     }
 
 pub returns-clause-bare : goal.returns-clause-bare

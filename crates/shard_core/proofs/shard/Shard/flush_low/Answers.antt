@@ -12,7 +12,7 @@ use Rattle.shard_core.specs.Stands.{Agrees}
 use Rattle.shard_core.specs.Calls.{Makes, MakesAny, flush_answer}
 use Rattle.block_shelf.proofs.Going.{goes_then}
 use Rattle.shard_core.proofs.FlushLoop.{setup_stays}
-use Rattle.shard_core.proofs.Making.{setup_is, makes_flush, whole_made}
+use Rattle.shard_core.proofs.Making.{setup_is, makes_flush, whole_made, room_stays}
 use Rattle.law_steps.proofs.Making.{seal_low_flushing}
 use Rattle.shard_core.proofs.shard.Shard.flush_low.Given.{Over}
 use Rattle.block_shelf.specs.Sure.{StaysSure}
@@ -60,6 +60,7 @@ invariant_of-self g c =
           (record { geometry = c.flush_sealed.ensures.shape.geometry ∙ c.seal_low.ensures.shape.geometry; set = refl })
           (c.flush_sealed.ensures.shape.limits ∙ c.seal_low.ensures.shape.limits) stands.0 (made g c stands.0 stands.1);
       tallied = c.self.invariant.tallied;
+      listed = room_stays old new (record { geometry = c.flush_sealed.ensures.shape.geometry ∙ c.seal_low.ensures.shape.geometry; set = refl }) _ c.self.invariant.listed;
     }
 
 pub returns-clause-sure : goal.returns-clause-sure

@@ -17,7 +17,7 @@ use Rattle.shard_core.specs.Sprigs.{held}
 use Rattle.shard_core.specs.View.{ShardView, SameSetup, setup_of}
 use Rattle.shard_core.specs.Stands.{Agrees}
 use Rattle.shard_core.specs.Calls.{Makes, GetsStored, read_answer}
-use Rattle.shard_core.proofs.Making.{keeps_few, whole_made, step_stands, lifted, held_at}
+use Rattle.shard_core.proofs.Making.{keeps_few, whole_made, step_stands, lifted, held_at, room_stays}
 use Rattle.shard_core.proofs.Tallies.{tally_same}
 use Rattle.shard_core.proofs.shard.Shard.get.Given.{Over}
 use Rattle.block_shelf.specs.Sure.{StaysSure}
@@ -73,6 +73,7 @@ invariant_of-self g c =
       tallied = c.self.invariant.tallied
           ∙ sym (tally_same old.sprigs c.part_of-part.result c.index_mut.result.now c.get_step.new.sprig c.index_mut.ensures.value
           (ap (λ (x : SprigState). x.entries) c.get_step.ensures.sprig));
+      listed = room_stays old new shape _ c.self.invariant.listed;
     }
 
 pub returns-clause-in_memory : goal.returns-clause-in_memory

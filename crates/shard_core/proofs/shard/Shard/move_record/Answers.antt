@@ -12,7 +12,7 @@ use Rattle.model_device.specs.Book.{Setup}
 use Rattle.shard_core.proofs.Telling.{held_set, moved_damage}
 use Rattle.defrag_pass.specs.Moves.{Answers}
 use Rattle.shard_core.proofs.Causes.{moved_so}
-use Rattle.shard_core.proofs.Making.{setup_is, setup_same, whole_made, step_stands, lifted}
+use Rattle.shard_core.proofs.Making.{setup_is, setup_same, whole_made, step_stands, lifted, room_stays}
 use Rattle.shard_core.proofs.Tallies.{tally_behind}
 use Rattle.shard_core.proofs.shard.Shard.move_record.Given.{Over}
 use Rattle.block_shelf.specs.Sure.{StaysSure}
@@ -98,6 +98,7 @@ invariant_of-self g c =
           tally_behind old.sprigs c.part_of-part.result c.index.result.now c.move_one-answer.new.sprig there c.index.ensures c.index-2.result.now c.index-2.ensures
           c.self.inside.tally c.tally-before.result c.tally.result c.minus.result c.plus-self-inside.result
           c.self.invariant.tallied c.tally-before.ensures c.tally.ensures c.minus.ensures c.plus-self-inside.ensures (omega arith) (omega arith) (omega arith);
+      listed = room_stays old new shape _ c.self.invariant.listed;
     }
 
 pub returns-clause-sure : goal.returns-clause-sure

@@ -9,7 +9,7 @@ use Rattle.shard_raid.specs.Raids.{number_of}
 use Rattle.shard_core.specs.View.{ShardView, SameSetup, setup_of}
 use Rattle.shard_core.specs.Stands.{Agrees}
 use Rattle.shard_core.specs.Calls.{Makes}
-use Rattle.shard_core.proofs.Making.{setup_is, shelf_lifted, whole_made}
+use Rattle.shard_core.proofs.Making.{setup_is, shelf_lifted, whole_made, room_stays}
 use Rattle.shard_core.proofs.shard.Shard.raid_begin.Given.{Over}
 use Rattle.shard_core.proofs.shard.Shard.raid_begin.Goals as goal
 
@@ -48,6 +48,7 @@ invariant_of-self g c =
       whole = whole_made g.D.Disk.view begin_call (raid_numbered (number_of c.raid_begin.result)) (old g c) (new g c) c.self.invariant.whole (shape g c) (limits g c) stands.0
           (made g c stands.0 stands.1);
       tallied = c.self.invariant.tallied;
+      listed = room_stays (old g c) (new g c) (shape g c) _ c.self.invariant.listed;
     }
 
 pub returns-clause-makes : goal.returns-clause-makes

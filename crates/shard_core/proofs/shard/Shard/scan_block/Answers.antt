@@ -8,7 +8,7 @@ use Rattle.shard_core.specs.declared.raid.RaidDid.{RaidDid}
 use Rattle.shard_core.specs.declared.raid.RaidDid.TheVariants.{Scanned}
 use Rattle.shard_core.specs.View.{ShardView, SameSetup, setup_of}
 use Rattle.shard_core.specs.Raids.{TakesTurn}
-use Rattle.shard_core.proofs.Making.{setup_is}
+use Rattle.shard_core.proofs.Making.{setup_is, room_stays}
 use Rattle.shard_core.proofs.Raiding.{ScansSo, StaysPossible, scan_whole, scan_taken, scan_refused}
 use Rattle.shard_core.proofs.shard.Shard.scan_block.Goals.{in-Ok, in-Err}
 use Rattle.block_shelf.proofs.KeptAll.{all_beside}
@@ -26,6 +26,7 @@ invariant_of-self g c =
           (λ s stands. c.raid_scan.ensures.makes (setup_of old) s 0 block at (setup_is old c.self.invariant.whole) stands) c.self.invariant.whole
           (ap (λ (v : ShelfView g.row.D.Denot). v.limits) c.raid_scan.ensures.rest);
       tallied = c.self.invariant.tallied;
+      listed = room_stays old new shape _ c.self.invariant.listed;
     }
 
 pub returns : goal.returns
