@@ -12,7 +12,8 @@ use Rattle.block_format.specs.declared.geometry.Found.{Found}
 use Rattle.block_format.specs.Layout.{Body, FailsBehind, IsBody, IsFaultAt, IsHead, IsRecordAt, body_head_text, most_records, records_text, units_of_records}
 use Rattle.block_format.specs.declared.geometry.BodyRefusal.{BodyRefusal}
 use Rattle.block_format.specs.declared.geometry.BodyRefusal.TheVariants.{Bad, Memory}
-use Rattle.block_format.specs.Readings.{AreThere, AreUnreadBy, IsListing, IsNumbered, IsUnreadAt, IsUnreadBy, AtMostOneBody, AtMostOneFault, HasDigests, HasRecords, IsReading, StopsAt, body_capacity, found_from}
+use Rattle.block_format.specs.Readings.{AreThere, AreUnreadBy, IsListing, IsNumbered, IsUnreadAt, IsUnreadBy, IsReading}
+use Rattle.block_format.specs.Readings.{AtMostOneBody, AtMostOneFault, HasDigests, HasRecords, StopsAt, body_capacity, found_from}
 use Rattle.block_format.proofs.BodyRecords.{AllRecorded, Record, units-cons}
 use Rattle.block_format.proofs.HeadFields.{count_of_head, fields_of_head, number_of_head}
 

@@ -3,3 +3,4 @@ pub mod Moving
 pub mod Copied
 pub mod Filling
 pub mod Naming
+pub mod Entries

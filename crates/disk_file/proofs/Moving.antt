@@ -6,7 +6,7 @@ use Rattle.std.proofs.lemmas.List.{drop-drop}
 use Rattle.std.proofs.lemmas.Slice.{take-put_mid}
 use borrow.Rule.Slice.PartMut.{put_mid, mid_of, same_len_mid}
 use Rattle.disk_model.specs.Bytes.{range, Torn, torn_refl}
-use Rattle.disk_file.specs.Calls.{Call, read_call, write_call, sync_call, let_go_call, length_call, deed_call, bytes_read, bytes_written, AreReads, AreWrites, IsRead, WritesOn}
+use Rattle.disk_file.specs.Calls.{Call, read_call, write_call, sync_call, let_go_call, length_call, deed_call, bytes_read, bytes_written, AreReads, AreWrites, IsRead, WritesOn, MovedNone, GaveUp}
 use Rattle.disk_file.specs.Told.{Gives, Puts, Tears}
 
 -- the calls so far, and one more
@@ -29,6 +29,14 @@ reads_on place end (sync_call went_well ∷ calls) at room bytes so_far is withi
 reads_on place end (let_go_call ∷ calls) at room bytes so_far is within = absurd so_far
 reads_on place end (length_call found ∷ calls) at room bytes so_far is within = absurd so_far
 reads_on place end (deed_call deed ∷ calls) at room bytes so_far is within = absurd so_far
+
+-- so many calls were made, and one more
+pub made_more : (tries next : ℕ) (old now new : List Call) (last : Call) → length now ≡ length old + tries → next ≡ tries + 1 → new ≡ now ++ last ∷ [] → length new ≡ length old + next
+made_more tries next old now new last so_far is pushed = ap (λ (l : List Call). length l) pushed ∙ length-append now (last ∷ []) ∙ omega (arith, so_far, is)
+
+-- the last call moved nothing
+pub gave_up : (old now new calls : List Call) (last : Call) → now ≡ old ++ calls → new ≡ now ++ last ∷ [] → MovedNone last → GaveUp old new
+gave_up old now new calls last since pushed none = inl (calls, last, pushed ∙ ap (λ (l : List Call). l ++ last ∷ []) since ∙ append_assoc old calls (last ∷ []), none)
 
 -- a range and the one behind it
 gives_on : (told : Option (List ℕ)) (place at : ℕ) (bytes more : List ℕ) → at ≡ place + length bytes → Gives told place bytes → Gives told at more → Gives told place (bytes ++ more)

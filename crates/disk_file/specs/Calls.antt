@@ -1,5 +1,5 @@
 -- The calls on an open file, in order, and what came of each.
-use Rattle.std.specs.Prelude.{◌≡◌, ◌⊎◌, ℕ, ◌+◌, ◌≤◌, ◌==◌, Bool, true, false, List, [], ◌∷◌, ◌++◌, length, take, drop, map, Option, Some, None, Result, Ok, Err, OnOk, IsTrue, if◌then◌else◌}
+use Rattle.std.specs.Prelude.{◌≡◌, ◌⊎◌, ℕ, ◌+◌, ◌-◌, ◌^◌, ◌<◌, ◌≤◌, ◌==◌, Bool, true, false, List, [], ◌∷◌, ◌++◌, length, take, drop, map, Option, Some, None, Result, Ok, Err, OnOk, IsTrue, if◌then◌else◌}
 use Rattle.disk_file.specs.Spans.{Waiting, after_sync}
 
 -- What is done with a device besides reading and writing it: it is opened under a name, to be written too or not, or made under a name that
@@ -108,6 +108,28 @@ pub record IsSync {T E : Type 0} (result : Result T E) (old new : List Call) (be
   pub since : new ≡ old ++ sync_calls went_well
   pub waits : after ≡ after_sync went_well before
   pub whole : OnOk result (IsTrue went_well)
+
+-- There were bytes to move, and none was, as where a call fails.
+abbrev pub MovedNone : Call → Type 0
+MovedNone (read_call place room bytes) = (1 ≤ room) × (bytes ≡ [])
+MovedNone (write_call place given taken) = (1 ≤ length given) × (taken ≡ [])
+MovedNone (sync_call went_well) = ⊥
+MovedNone let_go_call = ⊥
+MovedNone (length_call found) = ⊥
+MovedNone (deed_call deed) = ⊥
+
+-- The last of the calls since then moved nothing; or there were as many as a number of 64 bits counts.
+abbrev pub GaveUp : (old new : List Call) → Type 0
+GaveUp old new = ((sooner : List Call) × (last : Call) × (new ≡ old ++ (sooner ++ last ∷ [])) × MovedNone last) ⊎ (length new ≡ length old + (2 ^ 64 - 1))
+
+-- the length wasn't told, or these n bytes at a place end behind it
+abbrev pub LacksRange : ℕ → ℕ → Option ℕ → Type 0
+LacksRange place n None = Unit {0}
+LacksRange place n (Some len) = len < place + n
+
+-- The length was asked for. The file lacks the range, or the writes behind that gave up.
+abbrev pub WriteGaveUp : (place n : ℕ) → (old new : List Call) → Type 0
+WriteGaveUp place n old new = (found : Option ℕ) × (((new ≡ old ++ length_call found ∷ []) × LacksRange place n found) ⊎ GaveUp (old ++ length_call found ∷ []) new)
 
 -- A call as it is kept: its kind, its numbers, and its bytes.
 abbrev pub call_of : List ℕ × List ℕ → Call

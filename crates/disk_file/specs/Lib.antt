@@ -5,3 +5,4 @@ pub mod Calls
 pub mod Told
 pub mod Memory
 pub mod Devices
+pub mod MemoryNames

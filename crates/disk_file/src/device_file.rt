@@ -44,7 +44,8 @@ struct Found<F: OpenedFile> {
 /// At `Ok` the whole file or block device of this name, open to read and write and locked, so that no other process opens it like this
 /// meanwhile; nothing was written. A refusal tells why it isn't opened.
 pub fn open_device<D: Devices>(devices: &D, name: &str) -> Result<FileDisk<D::File>, OpenFault>
-    ensures { IfOk result (λ disk. IsWhole name.now true disk) }
+    ensures whole { IfOk result (λ disk. IsWhole name.now true disk) }
+    ensures holds { IfOk result (λ disk. D.holds devices.now name.now disk.told) }
 {
     let found = find(devices, name, true)?;
     Ok(FileDisk::new(found.file, found.len))
@@ -52,7 +53,8 @@ pub fn open_device<D: Devices>(devices: &D, name: &str) -> Result<FileDisk<D::Fi
 
 /// The same, open for reading alone, so it may be one that the user may not write: each write to it is a fault. It is locked likewise.
 pub fn open_to_read<D: Devices>(devices: &D, name: &str) -> Result<FileDisk<D::File>, OpenFault>
-    ensures { IfOk result (λ disk. IsWhole name.now false disk) }
+    ensures whole { IfOk result (λ disk. IsWhole name.now false disk) }
+    ensures holds { IfOk result (λ disk. D.holds devices.now name.now disk.told) }
 {
     let found = find(devices, name, false)?;
     Ok(FileDisk::new(found.file, found.len))
@@ -106,7 +108,8 @@ fn open_up_to<D: Devices>(
     name: &str,
     asked: u64,
 ) -> Result<FileDisk<D::File>, OpenFault>
-    ensures { IfOk result (λ disk. IsFront name.now asked disk) }
+    ensures front { IfOk result (λ disk. IsFront name.now asked disk) }
+    ensures holds { IfOk result (λ disk. D.holds devices.now name.now disk.told) }
 {
     let Found { file, kind, len } = find(devices, name, true)?;
     if kind == Kind::File && len > asked {
@@ -118,7 +121,8 @@ fn open_up_to<D: Devices>(
 // Opens what is there, to read and, where that is asked for, to write. The kind is looked at before too: a pipe that is opened to read
 // alone would wait for its writer.
 fn find<D: Devices>(devices: &D, name: &str, writes: bool) -> Result<Found<D::File>, OpenFault>
-    ensures { IfOk result (λ found. D.File.past found.file ≡ calls_to_find name.now writes (is_file_kind found.kind) found.len) }
+    ensures past { IfOk result (λ found. D.File.past found.file ≡ calls_to_find name.now writes (is_file_kind found.kind) found.len) }
+    ensures holds { IfOk result (λ found. D.holds devices.now name.now (D.File.told found.file)) }
 {
     storage_kind(devices.look(name).map(|look| look.kind))?;
     let mut file = match devices.open(name, writes) {
@@ -154,7 +158,8 @@ fn refusal(error: io::Error) -> OpenFault {
 }
 
 fn lock<D: Devices>(devices: &D, file: &mut D::File) -> Result<(), OpenFault>
-    ensures { OnOk result (D.File.past file.new ≡ D.File.past file.old ++ deed_call (locked true) ∷ []) }
+    ensures past { OnOk result (D.File.past file.new ≡ D.File.past file.old ++ deed_call (locked true) ∷ []) }
+    ensures same { D.File.told file.new ≡ D.File.told file.old }
 {
     match devices.lock(file) {
         Ok(()) => Ok(()),

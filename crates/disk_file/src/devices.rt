@@ -33,6 +33,9 @@ pub trait Devices {
     /// What a look at a name may find.
     ghost finds: { Self → List ℕ → Option Look → Type 0 };
 
+    /// What something that is opened under a name may hold, where it tells that.
+    ghost holds: { Self → List ℕ → Option (List ℕ) → Type 0 };
+
     /// What files were made and removed, in order.
     ghost changes: { Self → List Change };
 
@@ -42,7 +45,8 @@ pub trait Devices {
 
     /// At `Ok` what has this name, open to read and, where that is asked for, to write.
     fn open(&self, name: &str, writes: bool) -> io::Result<Self::File>
-        ensures { IfOk result (λ file. Self.File.past file ≡ deed_call (opened name.now writes) ∷ []) };
+        ensures past { IfOk result (λ file. Self.File.past file ≡ deed_call (opened name.now writes) ∷ []) }
+        ensures holds { IfOk result (λ file. holds self.now name.now (Self.File.told file)) };
 
     /// At `Ok` a new file, where nothing had this name.
     fn make(&mut self, name: &str) -> io::Result<Self::File>
@@ -55,17 +59,21 @@ pub trait Devices {
 
     /// What an open file is.
     fn kind_of(&self, file: &mut Self::File) -> io::Result<Kind>
-        ensures { Self.File.past file.new ≡ Self.File.past file.old ++ deed_call (seen (is_file result)) ∷ [] };
+        ensures past { Self.File.past file.new ≡ Self.File.past file.old ++ deed_call (seen (is_file result)) ∷ [] }
+        ensures same { Self.File.told file.new ≡ Self.File.told file.old };
 
     /// At `Ok` no other process locks the file until it is closed.
     fn lock(&self, file: &mut Self::File) -> Result<(), TryLockError>
-        ensures { Self.File.past file.new ≡ Self.File.past file.old ++ deed_call (locked (is_ok result)) ∷ [] };
+        ensures past { Self.File.past file.new ≡ Self.File.past file.old ++ deed_call (locked (is_ok result)) ∷ [] }
+        ensures same { Self.File.told file.new ≡ Self.File.told file.old };
 
     /// At `Ok` what was written to the file is on the drive, and its length.
     fn settle(&self, file: &mut Self::File) -> io::Result<()>
-        ensures { Self.File.past file.new ≡ Self.File.past file.old ++ deed_call (settled (is_ok result)) ∷ [] };
+        ensures past { Self.File.past file.new ≡ Self.File.past file.old ++ deed_call (settled (is_ok result)) ∷ [] }
+        ensures same { Self.File.told file.new ≡ Self.File.told file.old };
 
     /// At `Ok` the file's name is on the drive, which its folder keeps.
     fn sync_folder(&self, name: &str, file: &mut Self::File) -> io::Result<()>
-        ensures { Self.File.past file.new ≡ Self.File.past file.old ++ deed_call (named name.now (is_ok result)) ∷ [] };
+        ensures past { Self.File.past file.new ≡ Self.File.past file.old ++ deed_call (named name.now (is_ok result)) ∷ [] }
+        ensures same { Self.File.told file.new ≡ Self.File.told file.old };
 }

@@ -1,10 +1,10 @@
 // A disk over an open file.
-ghost use Rattle.std.specs.Prelude.{◌≡◌, ℕ, ◌≢◌, ◌↔◌, ◌⊎◌, ◌+◌, ◌≤◌, [], ◌∷◌, ◌++◌, Option, true, false, length, IsTrue, IsOk, IfSome, OnOk, OnErr, Some, None};
+ghost use Rattle.std.specs.Prelude.{◌≡◌, ℕ, ◌≢◌, ◌↔◌, ◌⊎◌, ◌+◌, ◌≤◌, [], ◌∷◌, ◌++◌, Option, true, false, length, IsTrue, IsOk, IfSome, MatchOption, OnOk, OnErr, Some, None};
 ghost use Rattle.disk_model.specs.Bytes.{range};
 ghost use Rattle.disk_model.specs.Disk.{Written, Within, TornFrom, TellsSame, TellsTorn, Loosens, IsOnly, IsHonest, IsCall, meanwhile};
 ghost use Rattle.disk_file.specs.View.{view_of, after_call, is_disk};
 ghost use Rattle.disk_file.specs.Spans.{span_of, after_write, after_sync};
-ghost use Rattle.disk_file.specs.Calls.{let_go_call, length_call, HasRange, IsRead, IsWrite, IsSync};
+ghost use Rattle.disk_file.specs.Calls.{let_go_call, length_call, HasRange, LacksRange, GaveUp, WriteGaveUp, IsRead, IsWrite, IsSync, sync_calls};
 ghost use Rattle.disk_file.specs.Told.{Gives, IsLong, Puts, Tears};
 
 use crate::OpenedFile;
@@ -52,7 +52,7 @@ impl<F: OpenedFile> FileDisk<F> {
     // So many bytes from a place on as a span, where the file says that it has all of them now.
     fn span_there(&mut self, place: u64, count: u64) -> Option<Span>
         ensures span { IfSome result (λ span. span ≡ span_of place count) }
-        ensures asked { (found : Option ℕ) × (self.new.past ≡ self.old.past ++ length_call found ∷ []) × IfSome result (λ _. HasRange place count found) }
+        ensures asked { (found : Option ℕ) × (self.new.past ≡ self.old.past ++ length_call found ∷ []) × MatchOption result (LacksRange place count found) (λ _. HasRange place count found) }
         ensures long { IfSome result (λ _. (len : ℕ) × IsLong self.old.told len × (place + count ≤ len)) }
         ensures same { self.new ≡ record self.old { past = self.new.past } }
     {
@@ -119,6 +119,8 @@ impl<F: OpenedFile> Disk for FileDisk<F> {
         ensures gives { OnOk result (Gives self.old.told place out.new) }
         ensures told { self.new.told ≡ self.old.told }
         ensures waits { self.new.waiting ≡ self.old.waiting }
+        // It fails only where the last call did, or gave nothing.
+        ensures cause { OnErr result (GaveUp self.old.past self.new.past) }
     {
         // The length has 64 bits, and so has each place below it.
         let _len = self.unsynced.len();
@@ -141,6 +143,8 @@ impl<F: OpenedFile> Disk for FileDisk<F> {
         ensures file { IsWrite place bytes.now result self.old.past self.new.past }
         ensures puts { OnOk result (Puts self.old.told place bytes.now self.new.told) }
         ensures tears { OnErr result (Tears self.old.told place (length bytes.now) self.new.told) }
+        // It fails only where the file lacks the range, or the last call failed, or took nothing.
+        ensures cause { OnErr result (WriteGaveUp place (length bytes.now) self.old.past self.new.past) }
     {
         let Some(span) = self.span_there(place, bytes.len() as u64) else {
             return self.count(false);
@@ -162,6 +166,8 @@ impl<F: OpenedFile> Disk for FileDisk<F> {
         // It is one sync of the file, behind which nothing is written; where that failed, the pages are let go of at once.
         ensures file { IsSync result self.old.past self.new.past self.old.waiting self.new.waiting }
         ensures told { self.new.told ≡ self.old.told }
+        // It fails only where the file's did, or something is lost.
+        ensures cause { OnErr result ((self.new.past ≡ self.old.past ++ sync_calls false) ⊎ (self.old.waiting.lost ≢ [])) }
     {
         let went_well = sync_whole(&mut self.file);
         self.end_sync(went_well)

@@ -1,11 +1,11 @@
 // A file in memory, which tells what it holds.
-ghost use Rattle.std.specs.Prelude.{◌≡◌, ◌+◌, ◌-◌, ◌≤◌, [], ◌∷◌, ◌++◌, min, length, Some, IfOk, is_ok};
-ghost use Rattle.disk_file.specs.Calls.{read_call, write_call, sync_call, moved, calls_of};
+ghost use Rattle.std.specs.Prelude.{◌≡◌, ◌+◌, ◌-◌, ◌≤◌, [], ◌∷◌, ◌++◌, min, length, Some, IfOk, is_ok, if◌then◌else◌};
+ghost use Rattle.disk_file.specs.Calls.{read_call, write_call, sync_call, moved, call_of, calls_of};
 ghost use Rattle.disk_file.specs.Told.{Gives, WriteLeaves};
 ghost use Rattle.disk_file.specs.Memory.{next_turn, later_turns, Moves, Ends};
 
-use crate::OpenedFile;
 use crate::history::{History, LENGTH, LET_GO, READ, SYNC, WRITE};
+use crate::{Kind, OpenedFile};
 use std::io;
 use std::io::ErrorKind;
 use std::marker::Model;
@@ -25,6 +25,8 @@ pub struct MemoryFile {
     bytes: Vec<u8>,
     turns: Vec<Turn>,
     at: usize,
+    kind: Kind,
+    in_use: bool,
     history: History,
 }
 
@@ -43,12 +45,39 @@ impl MemoryFile {
     pub fn new(bytes: Vec<u8>, turns: Vec<Turn>) -> MemoryFile
         ensures { result ≡ record { held = bytes.items; turns = turns.items; past = [] } }
     {
+        MemoryFile::of(bytes, turns, Kind::File, false)
+    }
+
+    /// The same of this kind, which another process locks or doesn't.
+    pub(crate) fn of(bytes: Vec<u8>, turns: Vec<Turn>, kind: Kind, in_use: bool) -> MemoryFile
+        ensures { result ≡ record { held = bytes.items; turns = turns.items; past = [] } }
+    {
         MemoryFile {
             bytes,
             turns,
             at: 0,
+            kind,
+            in_use,
             history: History::new(),
         }
+    }
+
+    /// What it is.
+    pub(crate) fn kind(&self) -> Kind {
+        self.kind
+    }
+
+    /// Whether another process locks it.
+    pub(crate) fn in_use(&self) -> bool {
+        self.in_use
+    }
+
+    /// Keeps one more deed in mind, by its kind, whether it went well, and a name.
+    pub(crate) fn note(&mut self, kind: u64, went_well: bool, name: &str)
+        ensures { self.new ≡ record self.old { past = self.old.past ++ call_of (kind ∷ 0 ∷ (if went_well then 1 else 0) ∷ [], name.now) ∷ [] } }
+    {
+        self.history
+            .note(&[kind, 0, u64::from(went_well)], name.as_bytes());
     }
 
     // The turn of this call.

@@ -68,6 +68,8 @@ impl<'a, R: Files<File = File>> Devices for SystemDevices<'a, R> {
 
     ghost finds = { λ _ _ _. Unit {0} };
 
+    ghost holds = { λ _ _ _. Unit {0} };
+
     ghost changes = { λ changes. changes };
 
     fn look(&self, name: &str) -> io::Result<Look> {

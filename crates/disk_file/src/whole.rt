@@ -1,6 +1,6 @@
 // Whole reads and writes of an open file, in as many calls as it takes for them, and its sync.
 ghost use Rattle.std.specs.Prelude.{◌≡◌, ◌+◌, ◌<◌, ◌^◌, ◌++◌, length, OnOk, OnErr};
-ghost use Rattle.disk_file.specs.Calls.{IsRead, WritesOn, sync_calls};
+ghost use Rattle.disk_file.specs.Calls.{IsRead, WritesOn, GaveUp, sync_calls};
 ghost use Rattle.disk_file.specs.Told.{Gives, Puts, Tears};
 
 use crate::OpenedFile;
@@ -14,9 +14,10 @@ pub fn read_whole<F: OpenedFile>(file: &mut F, place: u64, out: &mut [u8]) -> Re
     ensures calls { IsRead place out.new result (F.past file.old) (F.past file.new) }
     ensures gives { OnOk result (Gives (F.told file.old) place out.new) }
     ensures same { F.told file.new ≡ F.told file.old }
+    ensures failed { OnErr result (GaveUp (F.past file.old) (F.past file.new)) }
 {
     let mut at = 0;
-    for _ in 0..u64::MAX {
+    for tries in 0..u64::MAX {
         if at >= out.len() {
             return Ok(());
         }
@@ -36,9 +37,10 @@ pub fn write_whole<F: OpenedFile>(file: &mut F, place: u64, bytes: &[u8]) -> io:
     ensures calls { WritesOn place bytes.now result (F.past file.old) (F.past file.new) }
     ensures puts { OnOk result (Puts (F.told file.old) place bytes.now (F.told file.new)) }
     ensures tears { OnErr result (Tears (F.told file.old) place (length bytes.now) (F.told file.new)) }
+    ensures failed { OnErr result (GaveUp (F.past file.old) (F.past file.new)) }
 {
     let mut at = 0;
-    for _ in 0..u64::MAX {
+    for tries in 0..u64::MAX {
         if at >= bytes.len() {
             return Ok(());
         }

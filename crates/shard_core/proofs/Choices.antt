@@ -55,7 +55,8 @@ module _ {D : Type 0} (view : D → DiskView) (old : ShardView D) (mid : ShelfVi
     abbrev choice : Answer → Event
     choice answer = record { call = choose_call; answer = answer; steps = []; faults_before = (view old.shelf.disk).faults; faults_after = (view mid.disk).faults }
 
-    chosen : (answer : Answer) → Allowed setup false s (choice answer) choose_call → (IsHonest (view old.shelf.disk) → ShelfIsSafe view setup old.shelf s → Allowed setup true s (choice answer) choose_call)
+    chosen : (answer : Answer) → Allowed setup false s (choice answer) choose_call
+        → (IsHonest (view old.shelf.disk) → ShelfIsSafe view setup old.shelf s → Allowed setup true s (choice answer) choose_call)
         → RunsBy view setup old.shelf s mid (Agrees over) (choice answer ∷ [])
     chosen answer may told = let goes = goes_read view setup old.shelf mid s same only has_now agrees.shelf.stands in record {
       legal = (record { begins = refl; counts = only.later; allowed = may }, tt);

@@ -95,7 +95,8 @@ module _ {D : Type 0} (shard : ShardView D) (s : State) (agrees : Agrees shard s
   live_lies digest below is = let there = place_there shard.sprigs (part_of setup digest) below in sym (at_part digest there.0 there.1) ∙ is
 
   module _ (all : HasParts shard) where
-    lies_later : (part next : ℕ) → NoneLies shard block part next → (digest : Digest) → part ≤ part_of setup digest → is_in_block block (live_of digest s.book.live) ≡ true → next ≤ part_of setup digest
+    lies_later : (part next : ℕ) → NoneLies shard block part next → (digest : Digest) → part ≤ part_of setup digest
+        → is_in_block block (live_of digest s.book.live) ≡ true → next ≤ part_of setup digest
     lies_later part next none digest up is = by (cases_lt (part_of setup digest) next)
       where
         by : (part_of setup digest < next) ⊎ (next ≤ part_of setup digest) → next ≤ part_of setup digest
@@ -105,7 +106,8 @@ module _ {D : Type 0} (shard : ShardView D) (s : State) (agrees : Agrees shard s
 
     -- behind the last part nothing lies in it
     pub none_left : LiesFrom setup (length shard.sprigs) block s.book → use_of s.book block ≡ 0
-    none_left lie = none_used setup s.book block agrees.shelf.stands.listed (λ digest is. let below = all digest (lies_own digest is) in let up = lie.from digest is in absurd (omega (arith, below, up)))
+    none_left lie = none_used setup s.book block agrees.shelf.stands.listed
+        (λ digest is. let below = all digest (lies_own digest is) in let up = lie.from digest is in absurd (omega (arith, below, up)))
 
 -- A later part, where nothing lies in the block of those up to it.
 pub later_part : {D : Type 0} (shard : ShardView D) (s : State) → Agrees shard s → HasParts shard → (shape : Setup) → shape ≡ setup_of shard → (block part next : ℕ) → NoneLies shard block part next

@@ -66,7 +66,8 @@ counts_more setup block t before (y ∷ ys) add outcome ends = (
       (MovesOut setup block (after_event setup y t) (before + moved_by y.answer) ys outcome) (MovesOut setup block (after_event setup y t) (add + before + moved_by y.answer) ys (more_by add outcome))
       (λ cause is. (is.0, ap (more_by add) is.1))
       (λ on. let same : add + (before + moved_by y.answer) ≡ add + before + moved_by y.answer = omega arith in
-      subst (λ (n : ℕ). MovesOut setup block (after_event setup y t) n ys (more_by add outcome)) same (counts_more setup block (after_event setup y t) (before + moved_by y.answer) ys add outcome on)) ends.1,
+      subst (λ (n : ℕ). MovesOut setup block (after_event setup y t) n ys (more_by add outcome)) same
+      (counts_more setup block (after_event setup y t) (before + moved_by y.answer) ys add outcome on)) ends.1,
 )
 
 -- one that was refused

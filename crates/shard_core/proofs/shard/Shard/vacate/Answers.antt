@@ -26,7 +26,8 @@ returns-in-Ok-clause-makes g c s agrees few =
 pub returns-in-Err-clause-makes : goal.returns-in-Err-clause-makes
 returns-in-Err-clause-makes g c s agrees few =
     let made = c.in_ok-moved.ensures.makes s agrees few in
-    then_stopped g.D.Disk.view c.args.block c.args.self.now s c.move_listed.new.self c.move_rest.new.self c.move_listed.ensures.shape c.move_listed.ensures.honest c.in_ok-moved.moved made c.in-Err.refusal
+    then_stopped g.D.Disk.view c.args.block c.args.self.now s c.move_listed.new.self c.move_rest.new.self
+    c.move_listed.ensures.shape c.move_listed.ensures.honest c.in_ok-moved.moved made c.in-Err.refusal
     (c.in-Err.ensures.makes (after_events (setup_of c.args.self.now) made.events s) made.stands
     (few_left g.D.Disk.view c.args.block c.args.self.now s c.move_listed.new.self c.in_ok-moved.moved 0 made few.few))
 
