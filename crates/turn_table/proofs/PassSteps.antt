@@ -9,7 +9,7 @@ use Rattle.turn_table.specs.declared.rule.Entry.{Entry}
 use Rattle.turn_table.specs.declared.rule.View.{View}
 use Rattle.turn_table.specs.declared.rule.Place.{Place}
 use Rattle.turn_table.specs.declared.rule.Place.TheVariants.{Away}
-use Rattle.turn_table.specs.declared.table.Pass.{Pass}
+use Rattle.turn_table.specs.declared.table.PassOf.{PassOf}
 use Rattle.turn_table.specs.Rule.{all_numbers, events}
 use Rattle.turn_table.proofs.Histories.{FitsOn, fits_since}
 use Rattle.turn_table.specs.Plays.{WasOut, TookPart, TookHub, with_part, with_hub, with_found_out, having_found_out, HasWaited, SeesMore}
@@ -23,7 +23,7 @@ pub some_is : {j k : ℕ} → Some j ≡ Some k → j ≡ k
 some_is e = cc e
 
 module _ {M H P E O : Type 0} where
-  pub pass_after : (t : Table M H P E O) (p q : Pass M H P E O) → IsPassOf t p → q.seat.table_id ≡ p.seat.table_id → (view q).opening ≡ (view p).opening → (view q).own ≡ (view p).own
+  pub pass_after : (t : Table M H P E O) (p q : PassOf H P E O) → IsPassOf t p → q.seat.table_id ≡ p.seat.table_id → (view q).opening ≡ (view p).opening → (view q).own ≡ (view p).own
       → (view q).joined ≡ (view p).joined
       → q.own ≡ p.own → q.joined ≡ p.joined → q.part ≡ (view q).part → q.hub ≡ (view q).hub → q.seat.me.1 ≡ slots_out t.parts (view q).part (view q).hub
       → ((k : ℕ) → (view q).part ≡ Some k → k < t.parts) → IsPassOf t q
@@ -41,7 +41,7 @@ module _ {M H P E O : Type 0} where
   }
 
 module _ {M H P E O : Type 0} (hub_fits : O → List E → H → Type 0) (part_fits : O → List E → ℕ → P → Type 0) (may_follow : O → List E → E → Type 0) (part_named : E → Option ℕ)
-    (t : Table M H P E O) (p : Pass M H P E O) (of : IsPassOf t p) where
+    (t : Table M H P E O) (p : PassOf H P E O) (of : IsPassOf t p) where
   pub took_part_pass : (one two : Seat (Place H P E) (View E O)) (k : ℕ) → (view p).part ≡ None → (view p).hub ≡ false
       → one.table_id ≡ p.seat.table_id → TookPart hub_fits part_fits may_follow part_named k p.seat.me one.me → two.table_id ≡ one.table_id
       → two.me ≡ (one.me.0, (k, Away) ∷ rest one.me.1) → k < t.parts
@@ -112,7 +112,7 @@ held_fits part_fits o es p held k is f = let g : IsSomeAnd (Some k) (λ j. part_
 module _ {M H P E O : Type 0} (hub_fits : O → List E → H → Type 0) (part_fits : O → List E → ℕ → P → Type 0) (may_follow : O → List E → E → Type 0) (part_named : E → Option ℕ)
     (law : FitsOn part_fits may_follow part_named) where
   -- the part in hand fits on, over what was newly seen
-  pub hub_still : (t : Table M H P E O) (p : Pass M H P E O) (one two : Me (Place H P E) (View E O)) (c : List (ℕ × Place H P E)) → IsPassOf t p
+  pub hub_still : (t : Table M H P E O) (p : PassOf H P E O) (one two : Me (Place H P E) (View E O)) (c : List (ℕ × Place H P E)) → IsPassOf t p
       → TookHub hub_fits part_fits may_follow part_named t.parts p.seat.me one → two ≡ (one.0, c)
       → (k : ℕ) (x : P) → (view p).part ≡ Some k → part_fits (opening_of t) (events (view p).seen) k x → part_fits (opening_of t) (events two.0.seen) k x
   hub_still t p one two c of took is k x held fit =

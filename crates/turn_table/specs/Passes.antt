@@ -4,7 +4,7 @@ use Rattle.turn_table.specs.declared.rule.Entry.{Entry}
 use Rattle.turn_table.specs.declared.rule.View.{View}
 use Rattle.turn_table.specs.declared.rule.Place.{Place}
 use Rattle.turn_table.specs.declared.rule.Place.TheVariants.{Away}
-use Rattle.turn_table.specs.declared.table.Pass.{Pass}
+use Rattle.turn_table.specs.declared.table.PassOf.{PassOf}
 use Rattle.turn_table.specs.declared.noted.Noted.{Noted}
 use Rattle.turn_table.specs.declared.rule.Turns.{Turns}
 use Rattle.turn_table.specs.declared.table.Slotted.{Slotted}
@@ -23,48 +23,49 @@ module _ {H P E : Type 0} where
 abbrev pub Table : Type 0 → Type 0 → Type 0 → Type 0 → Type 0 → Type 0
 Table M H P E O = Slotted (Place H P E) (View E O) (Noted O) (Turns M) P
 
-module _ {M H P E O : Type 0} where
+module _ {H P E O : Type 0} where
   -- what the pass knows
-  abbrev pub view : Pass M H P E O → View E O
+  abbrev pub view : PassOf H P E O → View E O
   view p = p.seat.me.0
 
   -- the list of entries that the pass has seen
-  abbrev pub seen : Pass M H P E O → List (Entry E)
+  abbrev pub seen : PassOf H P E O → List (Entry E)
   seen p = (view p).seen
 
   -- the events that it entered, in the order of its calls
-  abbrev pub mine : Pass M H P E O → List E
+  abbrev pub mine : PassOf H P E O → List E
   mine p = (view p).mine
 
   -- the slots that its own exchanges found out, one for each such exchange, in their order
-  abbrev pub found_out : Pass M H P E O → List ℕ
+  abbrev pub found_out : PassOf H P E O → List ℕ
   found_out p = (view p).found_out
 
   -- its own number, under which its events stand
-  abbrev pub number : Pass M H P E O → ℕ
+  abbrev pub number : PassOf H P E O → ℕ
   number p = (view p).first
 
   -- how many numbers its range has, and how many were joined into it
-  abbrev pub own_count : Pass M H P E O → ℕ
+  abbrev pub own_count : PassOf H P E O → ℕ
   own_count p = p.own
 
-  abbrev pub joined_count : Pass M H P E O → ℕ
+  abbrev pub joined_count : PassOf H P E O → ℕ
   joined_count p = p.joined
 
   -- the part that it holds, and whether it holds the hub
-  abbrev pub held_part : Pass M H P E O → Option ℕ
+  abbrev pub held_part : PassOf H P E O → Option ℕ
   held_part p = (view p).part
 
-  abbrev pub holds_hub : Pass M H P E O → Bool
+  abbrev pub holds_hub : PassOf H P E O → Bool
   holds_hub p = (view p).hub
 
-  abbrev pub HoldsNothing : Pass M H P E O → Type 0
+  abbrev pub HoldsNothing : PassOf H P E O → Type 0
   HoldsNothing p = (held_part p ≡ None) × (holds_hub p ≡ false)
 
   -- the pass has as many numbers as before, and as many are joined into it
-  abbrev pub KeepsNumbers : Pass M H P E O → Pass M H P E O → Type 0
+  abbrev pub KeepsNumbers : PassOf H P E O → PassOf H P E O → Type 0
   KeepsNumbers old new = (own_count new ≡ own_count old) × (joined_count new ≡ joined_count old)
 
+module _ {M H P E O : Type 0} where
   -- what the table opened with, and how many parts it has
   abbrev pub opening_of : Table M H P E O → O
   opening_of t = t.table.shared.key.value
@@ -73,7 +74,7 @@ module _ {M H P E O : Type 0} where
   part_count t = t.parts
 
   -- the pass is one of the table, and its fields say what its view says
-  pub record IsPassOf (t : Table M H P E O) (p : Pass M H P E O) : Type 0 where
+  pub record IsPassOf (t : Table M H P E O) (p : PassOf H P E O) : Type 0 where
     pub same_table : p.seat.table_id ≡ t.table.shared.table_id
     pub opened : (view p).opening ≡ Some (opening_of t)
     pub own_is : p.own ≡ (view p).own

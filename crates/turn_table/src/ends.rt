@@ -7,7 +7,7 @@ ghost use Rattle.turn_table.specs.Passes.{view, seen, own_count, joined_count, H
 use crate::machine::Machine;
 use crate::noted::Noted;
 use crate::row::{lay, take_out, unlay};
-use crate::table::{NewRefusal, Pass, Slotted, StillOut, Table};
+use crate::table::{NewRefusal, NotClosed, NotMade, Pass, PassOf, Slotted, StillOut, Table};
 use atomic_table::Refused;
 use std::alloc::Global;
 
@@ -38,16 +38,16 @@ impl<M: Machine> Table<M> {
     {
         let count = parts.len();
         let Ok(words) = Vec::from_elem(alloc, 1u64, count + 1) else {
-            return Err(NewRefusal { hub, parts });
+            return Err(NotMade { hub, parts });
         };
         let (places, spare) = match lay(alloc, hub, parts) {
             Ok(laid) => laid,
-            Err((hub, parts)) => return Err(NewRefusal { hub, parts }),
+            Err((hub, parts)) => return Err(NotMade { hub, parts }),
         };
         let about = Noted::new();
         match atomic_table::Table::new(alloc, words.as_slice(), places, &about) {
             Ok((table, seat)) => {
-                let pass = Pass::seated(seat, ALL);
+                let pass = PassOf::seated(seat, ALL);
                 let table = Slotted {
                     table,
                     parts: count,
@@ -57,7 +57,7 @@ impl<M: Machine> Table<M> {
             }
             Err(Refused { slots }) => {
                 let (hub, parts) = unlay(slots, spare);
-                Err(NewRefusal { hub, parts })
+                Err(NotMade { hub, parts })
             }
         }
     }
@@ -80,7 +80,7 @@ impl<M: Machine> Table<M> {
     {
         let have = pass.own + pass.joined;
         if have < ALL {
-            return Err(StillOut {
+            return Err(NotClosed {
                 table: self,
                 pass,
                 out: ALL - have,

@@ -18,4 +18,4 @@ mod table;
 pub use machine::Machine;
 pub use noted::{Noted, Notes};
 pub use rule::{Entry, Place, Turns, View};
-pub use table::{NewRefusal, Pass, Slotted, StillOut, Table};
+pub use table::{NewRefusal, NotClosed, NotMade, Pass, PassOf, Slotted, StillOut, Table};

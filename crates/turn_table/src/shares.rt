@@ -6,7 +6,7 @@ ghost use Rattle.turn_table.specs.Plays.{first_share, last_share, joined_view, S
 
 use crate::machine::Machine;
 use crate::plays::{Cut, Cutting, Glue, Look};
-use crate::table::{Pass, Table};
+use crate::table::{Pass, PassOf, Table};
 use std::marker::Brand;
 
 impl<M: Machine> Table<M> {
@@ -19,7 +19,7 @@ impl<M: Machine> Table<M> {
     {
         let seat = self.table.shared.split_seat::<Cut<C>>(&mut pass.seat);
         pass.own -= share;
-        Pass::seated(seat, share)
+        PassOf::seated(seat, share)
     }
 
     /// Gives the last `share` of a pass's numbers, some but not all of them, to a new pass. It has seen the same, has made

@@ -12,13 +12,23 @@ use std::alloc::Global;
 ///
 /// It has a range of pass numbers, of which the first is its own number: its events stand under that.
 /// A pass that is dropped is never joined into another, so its table is never closed.
-pub struct Pass<M: Machine> {
-    pub(crate) seat: Seat<Place<M::Hub, M::Part, M::Event>, View<M::Event, M::Opening>>,
+///
+/// [`Pass`] is its name for the types of a machine.
+pub struct PassOf<H, P, E, O> {
+    pub(crate) seat: Seat<Place<H, P, E>, View<E, O>>,
     pub(crate) own: u64,
     pub(crate) joined: u64,
     pub(crate) part: Option<u32>,
     pub(crate) hub: bool,
 }
+
+/// A pass of the table of a machine.
+pub type Pass<M> = PassOf<
+    <M as Machine>::Hub,
+    <M as Machine>::Part,
+    <M as Machine>::Event,
+    <M as Machine>::Opening,
+>;
 
 /// One slot for each part, and the hub's behind them. [`Table`] is its name for the types of a machine.
 pub struct Slotted<S, V, K, Q: TableRule<S, V, K>, P> {
@@ -40,20 +50,26 @@ pub type Table<M> = Slotted<
 >;
 
 /// There was no memory for a table. The hub and the parts come back.
-pub struct NewRefusal<M: Machine> {
+pub struct NotMade<H, P> {
     /// The hub as it was given.
-    pub hub: M::Hub,
+    pub hub: H,
     /// The parts as they were given.
-    pub parts: Vec<M::Part>,
+    pub parts: Vec<P>,
 }
 
+/// That, by the types of a machine.
+pub type NewRefusal<M> = NotMade<<M as Machine>::Hub, <M as Machine>::Part>;
+
 /// Another pass is not joined yet, directly or through a third. Table and pass come back.
-pub struct StillOut<M: Machine> {
-    pub table: Table<M>,
-    pub pass: Pass<M>,
+pub struct NotClosed<T, S> {
+    pub table: T,
+    pub pass: S,
     /// How many pass numbers are missing, at least one.
     pub out: u64,
 }
+
+/// That, by the types of a machine.
+pub type StillOut<M> = NotClosed<Table<M>, Pass<M>>;
 
 impl<M: Machine> Table<M> {
     ghost use Rattle.turn_table.specs.Passes.{part_count};
@@ -66,7 +82,7 @@ impl<M: Machine> Table<M> {
     }
 }
 
-impl<M: Machine> Pass<M> {
+impl<H, P, E, O> PassOf<H, P, E, O> {
     ghost use Rattle.turn_table.specs.Passes.{own_count, joined_count};
 
     /// How many pass numbers it has, at least one. Splitting takes some away.
@@ -84,14 +100,11 @@ impl<M: Machine> Pass<M> {
     }
 
     // The pass of a seat that holds nothing, and that nothing was joined into.
-    pub(crate) fn seated(
-        seat: Seat<Place<M::Hub, M::Part, M::Event>, View<M::Event, M::Opening>>,
-        own: u64,
-    ) -> Pass<M>
+    pub(crate) fn seated(seat: Seat<Place<H, P, E>, View<E, O>>, own: u64) -> PassOf<H, P, E, O>
         ensures seat { result.seat ≡ seat }
         ensures fields { (result.own ≡ own) × (result.joined ≡ 0) × (result.part ≡ None) × (result.hub ≡ false) }
     {
-        Pass {
+        PassOf {
             seat,
             own,
             joined: 0,
@@ -100,9 +113,7 @@ impl<M: Machine> Pass<M> {
         }
     }
 
-    pub(crate) fn into_seat(
-        self,
-    ) -> Seat<Place<M::Hub, M::Part, M::Event>, View<M::Event, M::Opening>>
+    pub(crate) fn into_seat(self) -> Seat<Place<H, P, E>, View<E, O>>
         ensures { result ≡ self.seat }
     {
         let Self {
@@ -116,7 +127,7 @@ impl<M: Machine> Pass<M> {
     }
 }
 
-impl<M: Machine> Drop for Pass<M> {
+impl<H, P, E, O> Drop for PassOf<H, P, E, O> {
     fn drop(self) {
         let Self {
             seat: _,

@@ -4,7 +4,7 @@ ghost use Rattle.turn_table.specs.Passes.{HoldsNothing, IsPassOf, own_count, joi
 use std::alloc::Global;
 use std::test::Fail;
 use test_table::{Log, Piles, count, open, push, try_len};
-use turn_table::{NewRefusal, Pass, Table};
+use turn_table::{NotMade, Pass, Table};
 
 // Ten values were counted before; the log and the first pile have a 7.
 fn two_piles(alloc: Global) -> Result<(Table<Piles>, Pass<Piles>), Fail>
@@ -19,7 +19,7 @@ fn two_piles(alloc: Global) -> Result<(Table<Piles>, Pass<Piles>), Fail>
     piles.push(Vec::new(alloc))?;
     match open(alloc, log, piles) {
         Ok(made) => Ok(made),
-        Err(NewRefusal { hub: _, parts: _ }) => Err("memory".into()),
+        Err(NotMade { hub: _, parts: _ }) => Err("memory".into()),
     }
 }
 
