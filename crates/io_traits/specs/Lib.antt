@@ -1,4 +1,5 @@
 pub mod Source
 pub mod Sink
 pub mod Clock
+pub mod Door
 pub mod Memory

@@ -1,5 +1,5 @@
 -- What is seen of the forms in memory.
-use Rattle.std.specs.Prelude.{ℕ, List, map}
+use Rattle.std.specs.Prelude.{ℕ, Bool, List, map}
 
 -- A source in memory: the bytes taken and left, the numbers of the calls that are to fail, how many calls were made and how many of them failed.
 pub record SourceState : Type 0 where
@@ -31,3 +31,11 @@ pub record InputState : Type 0 where
 pub record OutputState : Type 0 where
   pub written : List ℕ
   pub faults : ℕ
+
+-- A door in memory: the links left, the numbers of the calls that are to fail, how many calls were made, how many of them failed, and whether the last answer was that no further link comes.
+pub record DoorState (L : Type 0) : Type 0 where
+  pub links : List L
+  pub fails : List ℕ
+  pub calls : ℕ
+  pub faults : ℕ
+  pub ended : Bool

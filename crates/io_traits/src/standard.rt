@@ -52,8 +52,8 @@ impl Ends for StandardInput {
     ghost sink_faults = { λ _. 0 };
 }
 
-// The history goes on with these bytes.
-fn remember(past: &mut Log<u8, ()>, piece: &[u8])
+/// The history goes on with these bytes.
+pub fn remember(past: &mut Log<u8, ()>, piece: &[u8])
     ensures { logged_bytes past.new.items ≡ logged_bytes past.old.items ++ piece.now }
 {
     for byte in piece {

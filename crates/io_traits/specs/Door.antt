@@ -1,0 +1,8 @@
+-- What a door answers.
+use Rattle.std.specs.Prelude.{Bool, true, false, Option, Some, None, Result, Ok, Err}
+
+-- whether the answer is that no further link comes
+abbrev pub gave_none : {L E : Type 0} → Result (Option L) E → Bool
+gave_none (Ok None) = true
+gave_none (Ok (Some link)) = false
+gave_none (Err fault) = false
