@@ -1,0 +1,13 @@
+use Rattle.std.proofs.Common.{map, refl}
+use Rattle.std.specs.Prelude.{string_bytes}
+use Rattle.node_prog.proofs.Doing.{done}
+use Rattle.node_prog.proofs.serve.Goals as goal
+
+pub returns : goal.returns
+returns g c =
+    done (map string_bytes c.args.words.now) c.args.disks.items c.node_top-outcome.result.disks.items c.node_top-outcome.result.status c.node_top-outcome.result.note
+    c.node_top-outcome.ensures.served c.node_top-outcome.ensures.generated
+    (λ none. let told = c.node_top-outcome.ensures.refused none in (told.0, told.1))
+    (λ shape names asks. let made = c.node_top-outcome.ensures.formatted shape names asks in made.0)
+    (λ names asks. let read = c.node_top-outcome.ensures.checked names asks in read.0)
+    refl refl
