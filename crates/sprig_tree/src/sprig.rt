@@ -58,8 +58,12 @@ impl Sprig {
         if count <= spare {
             return Ok(());
         }
-        // A longer row has room made for an eighth more, so that little memory lies idle and a long row isn't moved each time.
-        self.row.reserve_exact(count.max(self.row.len() / 8))
+        // A row has room made for two more, a longer one for an eighth, so that little memory lies idle and it isn't moved each time.
+        let more = match self.row.len() {
+            0 => 1,
+            length => (length / 8).max(2),
+        };
+        self.row.reserve_exact(count.max(more))
     }
 
     /// The entry is in its place then, in room that was reserved; its digest must have had none. The high
