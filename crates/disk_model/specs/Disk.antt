@@ -66,11 +66,13 @@ pub record Advances (old new : DiskView) : Type 0 where
   pub kept : (t : ℕ) (c : List ℕ) → old.had t → old.left_since t c → new.left_since t c
   pub added : (t : ℕ) (c : List ℕ) → old.had t → meanwhile old new c → new.left_since t c
 
--- What each call of a disk does, whatever it is for. It makes no honest disk of one that isn't, nor the other way round. Time
--- advances, an error comes only where the count of faults rose, the call is counted, and the size stays.
+-- What each call of a disk does, whatever it is for. It makes no honest disk of one that isn't, nor the other way round, and one that
+-- doesn't tell its bytes doesn't come to tell them. Time advances, an error comes only where the count of faults rose, the call is counted,
+-- and the size stays.
 pub record IsCall {T E : Type 0} (old new : DiskView) (result : Result T E) : Type 0 where
   pub honest : IsHonest old → IsHonest new
   pub was_honest : IsHonest new → IsHonest old
+  pub was_told : new.tells → old.tells
   pub time : Advances old new
   pub cause : IsCaused old.faults new.faults result
   pub count : Counted old.calls new.calls

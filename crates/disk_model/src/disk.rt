@@ -8,7 +8,7 @@ ghost use Rattle.disk_model.specs.Disk.{DiskView, IsDisk, Written, Within, TornF
 pub struct DiskFault;
 
 /// Storage of a fixed size. What was written may be lost or torn by a crash until a sync has gone well. No call makes an honest disk
-/// of one that isn't, nor the other way round.
+/// of one that isn't, nor the other way round, and one that doesn't tell its bytes doesn't come to tell them.
 pub trait Disk: Drop {
     /// What is known of it at this point.
     ghost view: { Self → DiskView };
