@@ -65,7 +65,7 @@ module _ {D : Type 0} (view : D → DiskView) (is_disk : (disk : D) → IsDisk (
       (later : IsLater (view shelf.disk) (view disk)) (honest : IsHonest (view shelf.disk) → IsHonest (view disk)) (was_honest : IsHonest (view disk) → IsHonest (view shelf.disk))
       (changes : IsHonest (view shelf.disk) → TornFrom (block_place shelf.geometry block) 4096 (view shelf.disk).may_leave (meanwhile (view shelf.disk) (view disk)))
       (gates : List Gate) (known : IsHonest (view disk) → GateStands shelf.geometry (view disk).may_leave block (gate_at gates block))
-      (bytes : TellsTorn (block_place shelf.geometry block) 4096 (view shelf.disk) (view disk)) where
+      (was_told : (view disk).tells → (view shelf.disk).tells) (bytes : TellsTorn (block_place shelf.geometry block) 4096 (view shelf.disk) (view disk)) where
     bytes_first : TellsTorn (block_place shelf.geometry (first_block shelf.free)) 4096 (view shelf.disk) (view disk)
     bytes_first = subst (λ (k : ℕ). TellsTorn (block_place shelf.geometry k) 4096 (view shelf.disk) (view disk)) at bytes
 
@@ -73,7 +73,7 @@ module _ {D : Type 0} (view : D → DiskView) (is_disk : (disk : D) → IsDisk (
         → BeginsIn view stream shelf (with_begun stream (with_first_shut disk shelf)) (Ok tt)
     closed_begins is_shut quiet = record {
       begun = refl;
-      whole = shut_shelf view is_disk shelf disk block is some at later honest was_honest changes gates known is_shut;
+      whole = shut_shelf view is_disk shelf disk block is some at later honest was_honest changes gates known (was_told, bytes) is_shut;
       refusal = tt;
       refused = tt;
       goes = λ setup s stands. goes_closed view is_disk shelf disk block is some at later honest was_honest changes gates known setup s stands is_shut quiet;

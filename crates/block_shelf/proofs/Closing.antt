@@ -31,7 +31,7 @@ use Rattle.law_images.proofs.Held.{knows_same, held_fewer}
 use Rattle.law_images.proofs.Holding.{plain_holds}
 use Rattle.law_images.proofs.Stepping.{plain_book}
 use Rattle.law_images.proofs.Worked.{HasClosed, close_call}
-use Rattle.block_shelf.specs.View.{ShelfView, IsShelf, IsBufferOf, HasItsBody, WaitsShut, gate_at, records_of}
+use Rattle.block_shelf.specs.View.{ShelfView, IsShelf, BodiesStand, IsBufferOf, HasItsBody, WaitsShut, gate_at, records_of}
 use Rattle.block_shelf.specs.Standing.{StandsFor, BooksStand, IsPlaced, ImagesHold}
 use Rattle.block_shelf.specs.Calls.{Goes}
 use Rattle.block_shelf.specs.Changes.{with_gate_known}
@@ -74,8 +74,9 @@ module _ {D : Type 0} (view : D → DiskView) (shelf : ShelfView D) (disk : D) (
   changes : IsHonest (view shelf.disk) → ChangesIn shelf.geometry block (view shelf.disk).may_leave (view disk).may_leave
   changes honest c image = gate_changes shelf.geometry block is.geometry (view shelf.disk).may_leave (meanwhile (view shelf.disk) (view disk)) (torn honest) c (now_within c image)
 
-  pub gate_shelf : (gate : Gate) → (IsHonest (view disk) → GateStands shelf.geometry (view disk).may_leave block gate) → IsShelf view (with_gate_known disk block gate shelf)
-  gate_shelf gate stands = record {
+  pub gate_shelf : (gate : Gate) → (IsHonest (view disk) → GateStands shelf.geometry (view disk).may_leave block gate)
+      → ((view disk).tells → BodiesStand shelf.geometry (view disk).seen shelf.buffers shelf.cache.kept) → IsShelf view (with_gate_known disk block gate shelf)
+  gate_shelf gate stands bodies = record {
     geometry = is.geometry;
     limits = is.limits;
     room = subst (λ (n : ℕ). device_end shelf.geometry ≤ n) (sym size) is.room;
@@ -103,6 +104,7 @@ module _ {D : Type 0} (view : D → DiskView) (shelf : ShelfView D) (disk : D) (
         (λ (other : k ≢ block). subst (GateStands shelf.geometry (view disk).may_leave k) (sym (gate_other block k gate (gate_at shelf.gates) other))
         (gates_elsewhere shelf.geometry (view shelf.disk).may_leave (view disk).may_leave block k (gate_at shelf.gates k) (changes (was_honest honest)) k_lt other
         (is.stand (was_honest honest) k k_lt))) (cases_eq k block));
+    bodies = bodies;
   }
     where
       waits : (bs : List BufferState) → AllByRecursion (λ b. b.block ≢ block) bs → AllByRecursion (WaitsShut shelf.gates) bs → AllByRecursion (WaitsShut (slice_set shelf.gates block gate)) bs

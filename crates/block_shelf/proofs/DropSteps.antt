@@ -74,6 +74,7 @@ held_shelf view shelf holds below free is = record {
   waits = is.waits;
   ready = is.ready;
   stand = is.stand;
+  bodies = is.bodies;
   queue = is.queue;
   cache = is.cache;
   raid = is.raid;
@@ -118,6 +119,7 @@ module _ {D : Type 0} (view : D → DiskView) (shelf : ShelfView D) (is : IsShel
     waits = is.waits;
     ready = is.ready;
     stand = is.stand;
+    bodies = is.bodies;
     queue = is.queue;
     cache = is.cache;
     raid = is.raid;
@@ -149,6 +151,7 @@ module _ {D : Type 0} (view : D → DiskView) (shelf : ShelfView D) (is : IsShel
       waits = is.waits;
       ready = is.ready;
       stand = is.stand;
+      bodies = is.bodies;
       queue = is.queue;
       cache = is.cache;
       raid = is.raid;

@@ -5,7 +5,7 @@ use Rattle.std.specs.List.{AllByRecursion}
 use Rattle.std.proofs.lemmas.List.{get_or-set_same, set-get_or}
 use Rattle.law_lists.proofs.Each.{all_map, all_joined, all_parted, all_before_map}
 use Rattle.law_lists.proofs.Members.{first_there}
-use Rattle.disk_model.specs.Disk.{DiskView, IsDisk, IsHonest, TornFrom, meanwhile}
+use Rattle.disk_model.specs.Disk.{DiskView, IsDisk, IsHonest, TellsTorn, TornFrom, meanwhile}
 use Rattle.disk_model.specs.Runs.{leaves_more, one_of_front}
 use Rattle.model_device.specs.Book.{Setup, first_block, first_to_back}
 use Rattle.model_device.specs.Device.{State}
@@ -25,6 +25,7 @@ use Rattle.block_shelf.specs.Standing.{StandsFor}
 use Rattle.block_shelf.specs.Calls.{Goes}
 use Rattle.block_shelf.specs.Changes.{with_gate_known}
 use Rattle.block_shelf.specs.Appends.{with_first_shut, with_first_unclosed}
+use Rattle.block_shelf.proofs.Bodies.{bodies_gate}
 use Rattle.block_shelf.proofs.Blocks.{apart_from, apart_push}
 use Rattle.block_shelf.proofs.InNew.{first_and_rest}
 use Rattle.block_shelf.proofs.Closing.{gate_shelf, goes_shut, goes_unsure, passed_stands, passed_queued, passed_placed, passed_safe}
@@ -70,6 +71,7 @@ passed_shelf view shelf is = record {
   waits = is.waits;
   ready = is.ready;
   stand = is.stand;
+  bodies = is.bodies;
   queue = is.queue;
   cache = is.cache;
   raid = is.raid;
@@ -99,6 +101,10 @@ module _ {D : Type 0} (view : D → DiskView) (is_disk : (disk : D) → IsDisk (
   abbrev first : ℕ
   first = first_block shelf.free
 
+  -- the disk told its bytes before, and all others are as they were
+  abbrev pub FirstTold : Type 0
+  FirstTold = ((view disk).tells → (view shelf.disk).tells) × TellsTorn (block_place shelf.geometry block) 4096 (view shelf.disk) (view disk)
+
   torn : IsHonest (view shelf.disk) → TornFrom (block_place shelf.geometry first) 4096 (view shelf.disk).may_leave (meanwhile (view shelf.disk) (view disk))
   torn = subst (λ (k : ℕ). IsHonest (view shelf.disk) → TornFrom (block_place shelf.geometry k) 4096 (view shelf.disk).may_leave (meanwhile (view shelf.disk) (view disk))) at changes
 
@@ -116,14 +122,15 @@ module _ {D : Type 0} (view : D → DiskView) (is_disk : (disk : D) → IsDisk (
       (subst (GateStands shelf.geometry (view disk).may_leave block) (ap (λ (l : List Gate). gate_at l block) is_set
       ∙ get_or-set_same shelf.gates block gate Shut (subst (λ (n : ℕ). block < n) (sym is.gates) (subst (λ (k : ℕ). k < shelf.geometry.blocks) (sym at) below))) (known now))
 
-  known_shelf : (gate : Gate) → gates ≡ slice_set shelf.gates block gate → IsShelf view (with_gate_known disk first gate shelf)
-  known_shelf gate is_set = gate_shelf view shelf disk first is (is_disk disk) (is_disk shelf.disk) below unbuffered later.size was_honest later.time torn gate (stands_as gate is_set)
+  known_shelf : FirstTold → (gate : Gate) → gates ≡ slice_set shelf.gates block gate → IsShelf view (with_gate_known disk first gate shelf)
+  known_shelf told gate is_set = gate_shelf view shelf disk first is (is_disk disk) (is_disk shelf.disk) below unbuffered later.size was_honest later.time torn gate (stands_as gate is_set)
+      (bodies_gate shelf.geometry is.geometry block (view shelf.disk) (view disk) shelf.buffers shelf.cache.kept told.0 told.1 is.bodies)
 
-  pub shut_shelf : gates ≡ slice_set shelf.gates block Shut → IsShelf view (with_first_shut disk shelf)
-  shut_shelf is_shut = known_shelf Shut is_shut
+  pub shut_shelf : FirstTold → gates ≡ slice_set shelf.gates block Shut → IsShelf view (with_first_shut disk shelf)
+  shut_shelf told is_shut = known_shelf told Shut is_shut
 
-  pub unclosed_shelf : gates ≡ slice_set shelf.gates block Unsure → IsShelf view (with_first_unclosed disk shelf)
-  unclosed_shelf is_unsure = passed_shelf view (with_gate_known disk first Unsure shelf) (known_shelf Unsure is_unsure)
+  pub unclosed_shelf : FirstTold → gates ≡ slice_set shelf.gates block Unsure → IsShelf view (with_first_unclosed disk shelf)
+  unclosed_shelf told is_unsure = passed_shelf view (with_gate_known disk first Unsure shelf) (known_shelf told Unsure is_unsure)
 
   module _ (setup : Setup) (s : State) (stands : StandsFor setup shelf s) where
     there : Contains s.book.free first

@@ -3,7 +3,7 @@ use Rattle.std.proofs.Common.{◌≡◌, inl, ℕ, ◌+◌, ◌-◌, ◌<◌, tr
 use Rattle.std.specs.List.{AllByRecursion}
 use Rattle.std.proofs.lemmas.Bool.{false≢true}
 use Rattle.law_lists.proofs.Between.{all_own}
-use Rattle.disk_model.specs.Disk.{Images, DiskView, IsHonest, Within, TornFrom, meanwhile}
+use Rattle.disk_model.specs.Disk.{Images, DiskView, IsHonest, Within, TellsTorn, TornFrom, meanwhile}
 use Rattle.model_device.specs.Book.{Setup}
 use Rattle.model_device.specs.Device.{State}
 use Rattle.block_format.specs.declared.geometry.Gate.TheVariants.{Shut}
@@ -20,10 +20,11 @@ use Rattle.law_images.specs.Held.{HoldsGates, IsKeptLoosened}
 use Rattle.law_images.proofs.Held.{held_survives, held_fewer, body_held, body_knows}
 use Rattle.law_images.proofs.Knowing.{knows_fewer}
 use Rattle.law_images.proofs.Parts.{body_changes}
-use Rattle.block_shelf.specs.View.{ShelfView, IsShelf, IsBufferOf, WaitsShut, is_unsealed, is_written, has_begun, records_of, gate_at}
+use Rattle.block_shelf.specs.View.{ShelfView, IsShelf, IsBufferOf, WaitsShut, BodyStands, is_unsealed, is_written, has_begun, records_of, gate_at}
 use Rattle.block_shelf.specs.Standing.{StandsFor, ImagesHold, book_phase}
 use Rattle.block_shelf.specs.Calls.{Goes}
-use Rattle.block_shelf.proofs.Between.{records_same}
+use Rattle.block_shelf.proofs.Between.{others_apart, records_same}
+use Rattle.block_shelf.proofs.Bodies.{bodies_body}
 use Rattle.block_shelf.proofs.FlushShelf.{KeepsDisk, now_within, written, own, written_shelf, still_stands, still_queued, still_placed}
 
 -- the gate of a buffer that waits is shut
@@ -56,11 +57,14 @@ module _ {D : Type 0} (view : D → DiskView) (shelf : ShelfView D) (disk : D) (
   below : b.block < shelf.geometry.blocks
   below = (own view shelf disk front b behind is call away).block
 
-  pub body_shelf : (p : Phase) → is_unsealed p ≡ false → (IsHonest (view disk) → is_written p ≡ true → HasOneBody shelf.geometry b.block (bytes_of b) (view disk).may_leave)
-      → IsShelf view (written view shelf disk front b behind p shelf.gates)
-  body_shelf p unfilled body =
+  pub body_shelf : TellsTorn (block_place shelf.geometry b.block + 4096) (shelf.geometry.block_size - 4096) (view shelf.disk) (view disk) → (p : Phase) → is_unsealed p ≡ false
+      → (IsHonest (view disk) → is_written p ≡ true → HasOneBody shelf.geometry b.block (bytes_of b) (view disk).may_leave)
+      → ((view disk).tells → is_written p ≡ true → BodyStands shelf.geometry (view disk).seen b) → IsShelf view (written view shelf disk front b behind p shelf.gates)
+  body_shelf bytes p unfilled body there =
       written_shelf view shelf disk front b behind is call away p shelf.gates unfilled refl (λ k other. refl) (λ unbegun. is_shut) body
       (λ honest. subst (GateStands shelf.geometry (view disk).may_leave b.block) (sym is_shut) (λ c image. still (call.was_honest honest) c (fewer c image)))
+      (bodies_body shelf.geometry is.geometry (view shelf.disk) (view disk) front b behind shelf.cache.kept (others_apart front b behind shelf.free is.apart) is.cache.each is.cache.apart
+      p call.was_told bytes there is.bodies)
 
   module _ (setup : Setup) (s : State) (stands : StandsFor setup old s) where
     module _ (honest : IsHonest (view shelf.disk)) (safe : ImagesHold setup view old s) where
@@ -114,6 +118,13 @@ module _ {D : Type 0} (view : D → DiskView) (shelf : ShelfView D) (disk : D) (
   still_b : IsHonest (view shelf.disk) → IsShut shelf.geometry b.block (meanwhile (view shelf.disk) (view disk))
   still_b honest = subst (λ (k : ℕ). IsShut shelf.geometry k (meanwhile (view shelf.disk) (view disk))) at (still honest)
 
+  -- a disk that tells its bytes tells the same, but for the body
+  abbrev pub TellsBody : Type 0
+  TellsBody = TellsTorn (block_place shelf.geometry block + 4096) (shelf.geometry.block_size - 4096) (view shelf.disk) (view disk)
+
+  bytes_b : TellsBody → TellsTorn (block_place shelf.geometry b.block + 4096) (shelf.geometry.block_size - 4096) (view shelf.disk) (view disk)
+  bytes_b bytes = subst (λ (k : ℕ). TellsTorn (block_place shelf.geometry k + 4096) (shelf.geometry.block_size - 4096) (view shelf.disk) (view disk)) at bytes
+
   abbrev Goes_to : ShelfView D → Type 0
   Goes_to new = (setup : Setup) (s : State) → StandsFor setup shelf s → Goes view setup [] shelf s new
 
@@ -125,16 +136,20 @@ module _ {D : Type 0} (view : D → DiskView) (shelf : ShelfView D) (disk : D) (
       (subst (λ (bs : List BufferState). StandsFor setup (record shelf { buffers = bs }) s) parts stands) p same)
 
   -- it failed
-  pub tried_shelf : IsShelf view (record shelf { disk = disk; buffers = front ++ b ∷ behind })
-  tried_shelf = body_shelf view shelf disk front b behind is_between call sealed torn_b still_b b.phase (ap is_unsealed sealed) (λ honest was. absurd (false≢true (sym (ap is_written sealed) ∙ was)))
+  pub tried_shelf : TellsBody → IsShelf view (record shelf { disk = disk; buffers = front ++ b ∷ behind })
+  tried_shelf bytes =
+      body_shelf view shelf disk front b behind is_between call sealed torn_b still_b (bytes_b bytes) b.phase (ap is_unsealed sealed)
+      (λ honest was. absurd (false≢true (sym (ap is_written sealed) ∙ was)))
+      (λ told was. absurd (false≢true (sym (ap is_written sealed) ∙ was)))
 
   pub tried_goes : Goes_to (record shelf { disk = disk; buffers = front ++ b ∷ behind })
   tried_goes setup s stands = goes_to b.phase refl setup s stands
 
   -- it went well
-  pub done_shelf : (IsHonest (view disk) → HasOneBody shelf.geometry b.block (bytes_of b) (view disk).may_leave)
+  pub done_shelf : TellsBody → (IsHonest (view disk) → HasOneBody shelf.geometry b.block (bytes_of b) (view disk).may_leave) → ((view disk).tells → BodyStands shelf.geometry (view disk).seen b)
       → IsShelf view (record shelf { disk = disk; buffers = front ++ with_phase BodyDone b ∷ behind })
-  done_shelf body = body_shelf view shelf disk front b behind is_between call sealed torn_b still_b BodyDone refl (λ honest was. body honest)
+  done_shelf bytes body there =
+      body_shelf view shelf disk front b behind is_between call sealed torn_b still_b (bytes_b bytes) BodyDone refl (λ honest was. body honest) (λ told was. there told)
 
   pub done_goes : Goes_to (record shelf { disk = disk; buffers = front ++ with_phase BodyDone b ∷ behind })
   done_goes setup s stands = goes_to BodyDone (ap book_phase (sym sealed)) setup s stands

@@ -6,7 +6,7 @@ use Rattle.std.proofs.lemmas.List.{length-set, get_or-set_same, get_or-set_other
 use Rattle.law_lists.proofs.Between.{all_own, own_there}
 use Rattle.law_lists.proofs.Finding.{any_there}
 use Rattle.law_lists.proofs.Members.{map_there}
-use Rattle.disk_model.specs.Disk.{Images, DiskView, IsHonest, Within, TornFrom, meanwhile}
+use Rattle.disk_model.specs.Disk.{Images, DiskView, IsHonest, Within, TellsTorn, TornFrom, meanwhile}
 use Rattle.rec_format.specs.Versions.{block_capacity}
 use Rattle.model_device.specs.Histories.{is_begun}
 use Rattle.model_device.specs.Book.{Setup, Buffer, is_opening, pending_of}
@@ -33,6 +33,7 @@ use Rattle.block_shelf.specs.Standing.{StandsFor, ImagesHold, book_buffer, book_
 use Rattle.block_shelf.specs.Calls.{Goes}
 use Rattle.block_shelf.specs.Flushes.{gate_steps}
 use Rattle.block_shelf.proofs.Between.{records_at, records_same}
+use Rattle.block_shelf.proofs.Bodies.{bodies_gate, bodies_phase}
 use Rattle.block_shelf.proofs.Closing.{gates_with, holds_same}
 use Rattle.block_shelf.proofs.FlushShelf.{KeepsDisk, now_within, written, own, written_shelf, still_stands, begun_stands, still_queued, begun_queued, still_placed, begun_placed}
 
@@ -102,18 +103,21 @@ module _ {D : Type 0} (view : D → DiskView) (shelf : ShelfView D) (disk : D) (
   stands_over : IsHonest (view shelf.disk) → StandsOver shelf.geometry b.block (bytes_of b) now
   stands_over honest = record { one = still_body honest; is_body = (body_in b, is_body, refl) }
 
-  gate_shelf : (gate : Gate) → (IsHonest (view disk) → GateStands shelf.geometry now b.block gate) → IsShelf view (opening_view gate)
-  gate_shelf gate stands =
+  gate_shelf : TellsTorn (block_place shelf.geometry b.block) 4096 (view shelf.disk) (view disk) → (gate : Gate) → (IsHonest (view disk) → GateStands shelf.geometry now b.block gate)
+      → IsShelf view (opening_view gate)
+  gate_shelf bytes gate stands =
       written_shelf view shelf disk front b behind is call away GateBegun (slice_set shelf.gates b.block gate) refl (length-set shelf.gates b.block gate)
       (λ k other. get_or-set_other shelf.gates b.block k gate Shut other)
       (λ unbegun. absurd (false≢true (sym unbegun))) (λ honest was. still_body (call.was_honest honest))
       (λ honest. subst (GateStands shelf.geometry now b.block) (sym (get_or-set_same shelf.gates b.block gate Shut lt)) (stands honest))
+      (λ told. bodies_phase shelf.geometry (view disk).seen front b behind shelf.cache.kept GateBegun has_body
+      (bodies_gate shelf.geometry is.geometry b.block (view shelf.disk) (view disk) (front ++ b ∷ behind) shelf.cache.kept call.was_told bytes is.bodies told))
 
-  pub unsure_shelf : IsShelf view (opening_view Unsure)
-  unsure_shelf = gate_shelf Unsure (λ honest. (bytes_of b, stands_over (call.was_honest honest)))
+  pub unsure_shelf : TellsTorn (block_place shelf.geometry b.block) 4096 (view shelf.disk) (view disk) → IsShelf view (opening_view Unsure)
+  unsure_shelf bytes = gate_shelf bytes Unsure (λ honest. (bytes_of b, stands_over (call.was_honest honest)))
 
-  pub set_shelf : (IsHonest (view disk) → IsOpened shelf.geometry b.block now) → IsShelf view (opening_view Set)
-  set_shelf opened = gate_shelf Set (λ honest. (opened honest, (bytes_of b, stands_over (call.was_honest honest))))
+  pub set_shelf : TellsTorn (block_place shelf.geometry b.block) 4096 (view shelf.disk) (view disk) → (IsHonest (view disk) → IsOpened shelf.geometry b.block now) → IsShelf view (opening_view Set)
+  set_shelf bytes opened = gate_shelf bytes Set (λ honest. (opened honest, (bytes_of b, stands_over (call.was_honest honest))))
 
   -- ---- the state
 
@@ -209,6 +213,9 @@ module _ {D : Type 0} (view : D → DiskView) (shelf : ShelfView D) (disk : D) (
   torn_b : IsHonest (view shelf.disk) → TornFrom (block_place shelf.geometry b.block) 4096 (view shelf.disk).may_leave (meanwhile (view shelf.disk) (view disk))
   torn_b honest = subst (λ (k : ℕ). TornFrom (block_place shelf.geometry k) 4096 (view shelf.disk).may_leave (meanwhile (view shelf.disk) (view disk))) at (torn honest)
 
+  bytes_b : TellsTorn (block_place shelf.geometry block) 4096 (view shelf.disk) (view disk) → TellsTorn (block_place shelf.geometry b.block) 4096 (view shelf.disk) (view disk)
+  bytes_b bytes = subst (λ (k : ℕ). TellsTorn (block_place shelf.geometry k) 4096 (view shelf.disk) (view disk)) at bytes
+
   abbrev tried_view : ShelfView D
   tried_view = record shelf { disk = disk; buffers = front ++ with_phase GateBegun b ∷ behind; gates = slice_set shelf.gates block Unsure }
 
@@ -226,9 +233,9 @@ module _ {D : Type 0} (view : D → DiskView) (shelf : ShelfView D) (disk : D) (
       (goes setup s (subst (λ (bs : List BufferState). StandsFor setup (record shelf { buffers = bs }) s) parts stands))
 
   -- it failed
-  pub tried_gate_shelf : IsShelf view tried_view
-  tried_gate_shelf = subst (λ (k : ℕ). IsShelf view (record shelf { disk = disk; buffers = front ++ with_phase GateBegun b ∷ behind; gates = slice_set shelf.gates k Unsure })) (sym at)
-      (unsure_shelf view shelf disk front b behind is_between call has_body own_body torn_b)
+  pub tried_gate_shelf : TellsTorn (block_place shelf.geometry block) 4096 (view shelf.disk) (view disk) → IsShelf view tried_view
+  tried_gate_shelf bytes = subst (λ (k : ℕ). IsShelf view (record shelf { disk = disk; buffers = front ++ with_phase GateBegun b ∷ behind; gates = slice_set shelf.gates k Unsure })) (sym at)
+      (unsure_shelf view shelf disk front b behind is_between call has_body own_body torn_b (bytes_b bytes))
 
   pub tried_gate_goes : Goes_to tried_view
   tried_gate_goes = subst (λ (k : ℕ). Goes_to (record shelf { disk = disk; buffers = front ++ with_phase GateBegun b ∷ behind; gates = slice_set shelf.gates k Unsure })) (sym at)
@@ -243,9 +250,9 @@ module _ {D : Type 0} (view : D → DiskView) (shelf : ShelfView D) (disk : D) (
     gates_same : slice_set (slice_set shelf.gates block Unsure) block Set ≡ slice_set shelf.gates b.block Set
     gates_same = set-set shelf.gates block Unsure Set ∙ ap (λ (k : ℕ). slice_set shelf.gates k Set) at
 
-    pub done_gate_shelf : IsShelf view done_view
-    done_gate_shelf = subst (λ (l : List Gate). IsShelf view (record shelf { disk = disk; buffers = front ++ with_phase GateBegun b ∷ behind; gates = l })) (sym gates_same)
-        (set_shelf view shelf disk front b behind is_between call has_body own_body torn_b opened_b)
+    pub done_gate_shelf : TellsTorn (block_place shelf.geometry block) 4096 (view shelf.disk) (view disk) → IsShelf view done_view
+    done_gate_shelf bytes = subst (λ (l : List Gate). IsShelf view (record shelf { disk = disk; buffers = front ++ with_phase GateBegun b ∷ behind; gates = l })) (sym gates_same)
+        (set_shelf view shelf disk front b behind is_between call has_body own_body torn_b (bytes_b bytes) opened_b)
 
     pub done_gate_goes : (IsHonest (view shelf.disk) → IsHonest (view disk)) → Goes_to done_view
     done_gate_goes stays = subst (λ (l : List Gate). Goes_to (record shelf { disk = disk; buffers = front ++ with_phase GateBegun b ∷ behind; gates = l })) (sym gates_same)

@@ -1,5 +1,5 @@
 -- A buffer takes one record more: what every shelf keeps.
-use Rattle.std.proofs.Common.{◌≡◌, ◌≢◌, ⊎_elim, ℕ, ◌+◌, ◌<◌, ◌≤◌, List, [], ◌∷◌, ◌++◌, length, map, set, get_or, refl, sym, ◌∙◌, ap, subst, arith, append_assoc}
+use Rattle.std.proofs.Common.{◌≡◌, ◌≢◌, ⊎_elim, ℕ, ◌+◌, ◌<◌, ◌≤◌, true, List, [], ◌∷◌, ◌++◌, length, map, set, get_or, refl, sym, ◌∙◌, ap, subst, arith, append_assoc}
 use Rattle.std.proofs.lemmas.List.{set_at, get_or_at, length-set, map-append}
 use Rattle.std.proofs.lemmas.List.Sums.{sum_by_push}
 use Rattle.std.proofs.lemmas.Bool.{cond-false, ne_eqb, cases_eq, false≢true}
@@ -16,7 +16,7 @@ use Rattle.block_shelf.specs.Lives.{LiveCopy, copies_in, copy_at, lives_with}
 use Rattle.block_shelf.proofs.OwnUnits.{own_units-push}
 use Rattle.write_buffer.specs.declared.phase.Phase.TheVariants.{Filling}
 use Rattle.write_buffer.specs.Buffers.{BufferState, used_units, with_record}
-use Rattle.block_shelf.specs.View.{ShelfView, IsShelf, IsBufferOf, IsCacheOf, StandsBefore, StandInOrder, AreApart, IsLiveList, ArePacked, WaitsShut, HasItsBody, is_written}
+use Rattle.block_shelf.specs.View.{ShelfView, IsShelf, IsBufferOf, IsCacheOf, StandsBefore, StandInOrder, AreApart, IsLiveList, ArePacked, WaitsShut, HasItsBody, BodyStands, is_written}
 use Rattle.block_shelf.specs.Changes.{with_written}
 use Rattle.block_shelf.proofs.Blocks.{apart_from}
 use Rattle.block_shelf.proofs.Lives.{list_here, list_there}
@@ -187,5 +187,9 @@ module _ {D : Type 0} (view : D → DiskView) (shelf : ShelfView D) (digest : Di
     waits = changed (WaitsShut shelf.gates) is.waits (λ h. h);
     ready = λ honest. changed (HasItsBody shelf.geometry (view shelf.disk).may_leave) (is.ready honest) (λ h written. absurd (false≢true (ap is_written (sym fills) ∙ written)));
     stand = is.stand;
+    bodies = λ told. let was = is.bodies told in record {
+      pending = changed (λ c. is_written c.phase ≡ true → BodyStands shelf.geometry (view shelf.disk).seen c) was.pending (λ h written. absurd (false≢true (ap is_written (sym fills) ∙ written)));
+      flushed = was.flushed;
+    };
     queue = is.queue;
   }

@@ -189,6 +189,7 @@ queue_shelf view shelf queue is queue_is = record {
   waits = is.waits;
   ready = is.ready;
   stand = is.stand;
+  bodies = is.bodies;
   queue = queue_is;
   cache = is.cache;
   raid = is.raid;

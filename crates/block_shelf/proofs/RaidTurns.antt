@@ -44,6 +44,7 @@ raided_shelf view shelf book is of = record {
   waits = is.waits;
   ready = is.ready;
   stand = is.stand;
+  bodies = is.bodies;
   queue = is.queue;
   cache = is.cache;
   raid = of;

@@ -25,6 +25,7 @@ roomed_shelf view shelf holds is held = record {
   waits = is.waits;
   ready = is.ready;
   stand = is.stand;
+  bodies = is.bodies;
   queue = is.queue;
   cache = is.cache;
   raid = is.raid;

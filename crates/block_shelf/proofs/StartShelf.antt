@@ -28,7 +28,7 @@ use Rattle.raid_book.specs.Books.{BookState, empty_book}
 use Rattle.rec_format.specs.Places.{part_count}
 use Rattle.block_shelf.specs.declared.place.Place.{Place}
 use Rattle.block_shelf.specs.declared.place.ShelfLimits.{ShelfLimits}
-use Rattle.block_shelf.specs.View.{ShelfView, IsShelf, IsQueueOf, IsCacheOf, IsLiveList, AreLimits, AreApart, GatesStand, IsRaidOf}
+use Rattle.block_shelf.specs.View.{BodiesStand, ShelfView, IsShelf, IsQueueOf, IsCacheOf, IsLiveList, AreLimits, AreApart, GatesStand, IsRaidOf}
 use Rattle.block_shelf.specs.Starting.{LiesIn, CanBeLive, copy_of_place, copies_at, blocks_below, blocks_without}
 use Rattle.block_shelf.proofs.StartLives.{AreAllApart, each_at, apart_at}
 
@@ -164,6 +164,7 @@ module _ {D : Type 0} (view : D → DiskView) (disk : D) (g : Geometry) (limits 
     waits = tt;
     ready = λ honest. tt;
     stand = stand;
+    bodies = λ told. subst (λ (c : CacheState BufferState). BodiesStand g (view disk).seen [] c.kept) (sym nothing) (record { pending = tt; flushed = tt });
     queue = queued;
     cache = subst (IsCacheOf g limits []) (sym nothing) (record { list = IsCache-empty BufferState limits.cache; limit = refl; each = tt; apart = tt });
     raid = subst (IsRaidOf g limits) (sym no_raid) (record { parts = refl; blocks = refl });

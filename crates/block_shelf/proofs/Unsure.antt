@@ -6,7 +6,7 @@ use Rattle.std.proofs.lemmas.Bool.{cases_lt}
 use Rattle.std.proofs.lemmas.List.{get_or-set_same, get_or_past}
 use Rattle.std.proofs.lemmas.List.Elements.{Contains-get_or}
 use Rattle.law_lists.proofs.Each.{all_at}
-use Rattle.disk_model.specs.Disk.{DiskView, IsDisk, IsHonest, TornFrom, Within, meanwhile}
+use Rattle.disk_model.specs.Disk.{DiskView, IsDisk, IsHonest, TellsTorn, TornFrom, Within, meanwhile}
 use Rattle.model_device.specs.Book.{Setup}
 use Rattle.model_device.specs.Device.{State}
 use Rattle.block_format.specs.declared.geometry.Gate.{Gate}
@@ -20,6 +20,7 @@ use Rattle.block_shelf.specs.View.{ShelfView, IsShelf, AreSure, records_of, gate
 use Rattle.block_shelf.specs.Standing.{StandsFor, ImagesHold}
 use Rattle.block_shelf.specs.Calls.{Goes}
 use Rattle.block_shelf.specs.Scans.{possible_copies}
+use Rattle.block_shelf.proofs.Bodies.{bodies_gate}
 use Rattle.block_shelf.proofs.Closing.{gate_shelf, goes_shut, goes_unsure}
 
 not_shut : (gate : Gate) → gate ≡ Unsure → gate ≢ Shut
@@ -49,9 +50,11 @@ module _ {D : Type 0} (view : D → DiskView) (is_disk : (disk : D) → IsDisk (
       subst (GateStands shelf.geometry (view disk).may_leave block)
       (ap (λ (l : List Gate). gate_at l block) set ∙ get_or-set_same shelf.gates block gate Shut (subst (λ (n : ℕ). block < n) (sym is.gates) lt)) (known now)
 
-  pub closed_shelf : (gate : Gate) → gates ≡ slice_set shelf.gates block gate → IsShelf view (record shelf { disk = disk; gates = gates })
-  closed_shelf gate set = subst (λ (l : List Gate). IsShelf view (record shelf { disk = disk; gates = l })) (sym set)
-      (gate_shelf view shelf disk block is (is_disk disk) (is_disk shelf.disk) lt unbuffered later.size was_honest later.time torn gate (now_known gate set))
+  pub closed_shelf : ((view disk).tells → (view shelf.disk).tells) → TellsTorn (block_place shelf.geometry block) 4096 (view shelf.disk) (view disk) → (gate : Gate)
+      → gates ≡ slice_set shelf.gates block gate → IsShelf view (record shelf { disk = disk; gates = gates })
+  closed_shelf was_told bytes gate set = subst (λ (l : List Gate). IsShelf view (record shelf { disk = disk; gates = l })) (sym set)
+      (gate_shelf view shelf disk block is (is_disk disk) (is_disk shelf.disk) lt unbuffered later.size was_honest later.time torn gate (now_known gate set)
+      (bodies_gate shelf.geometry is.geometry block (view shelf.disk) (view disk) shelf.buffers shelf.cache.kept was_told bytes is.bodies))
 
   module _ (unsure : gate_at shelf.gates block ≡ Unsure) (setup : Setup) (s : State) (stands : StandsFor setup shelf s) where
     -- it is shut

@@ -34,6 +34,7 @@ pub(crate) fn shut_gate<D: Disk>(
     ensures later { IsLater (D.view disk.old) (D.view disk.new) }
     ensures honest { IsHonest (D.view disk.old) → IsHonest (D.view disk.new) }
     ensures was_honest { IsHonest (D.view disk.new) → IsHonest (D.view disk.old) }
+    ensures was_told { (D.view disk.new).tells → (D.view disk.old).tells }
 {
     if gates[block as usize] == Gate::Shut {
         return Ok(());

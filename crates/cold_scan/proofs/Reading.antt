@@ -15,6 +15,7 @@ read_synced a b result bytes images call = record {
   bytes = bytes;
   honest = call.honest;
   was_honest = call.was_honest;
+  was_told = call.was_told;
   images = images;
 }
 
@@ -30,6 +31,7 @@ reads_on a b c is first then = record {
   bytes = λ told. let one = first.bytes told in let two = then.bytes one.0 in (two.0, two.1 ∙ one.1);
   honest = λ honest. then.honest (first.honest honest);
   was_honest = λ honest. first.was_honest (then.was_honest honest);
+  was_told = λ told. first.was_told (then.was_told told);
   images = λ honest image left. elim (then.time.only a.moment image (first.time.stays a.moment first.time.started) left) [
     | inl before ↦ first.images honest image before
     | inr behind ↦ end_within a b is first honest image (then.images (first.honest honest) image behind)

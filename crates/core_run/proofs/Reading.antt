@@ -55,6 +55,7 @@ module _ {D : Type 0} (view : D → DiskView) where
       bytes = λ told. (told, refl);
       honest = λ honest. honest;
       was_honest = λ honest. honest;
+      was_told = λ told. told;
       images = λ honest image left. (is_disk disk).now_alone image left;
     }
 

@@ -27,6 +27,7 @@ read_none v is = record {
   bytes = λ told. (told, refl);
   honest = λ h. h;
   was_honest = λ h. h;
+  was_told = λ told. told;
   images = λ honest c left. is.now_alone c left;
 }
 

@@ -51,7 +51,7 @@ invariant_of-self-in_default-shut_gate g c =
           (sym (same_parts old disk old.cache old.next_number c.reserve.new.self.items old.buffers _
           (slice_set old.gates (first_block old.free) Unsure) c.rotate_left.new.self.items _ c.reserve.ensures.items (gates ∙ known ∙ ap (λ (k : ℕ). slice_set old.gates k Unsure) at)
           (c.rotate_left.ensures.items ∙ turned old.free)))
-          (unclosed_shelf d.view law.is_disk old disk c.block-block.result is some at e.later e.honest e.was_honest e.images c.shut_gate.new.gates e.stands known),
+          (unclosed_shelf d.view law.is_disk old disk c.block-block.result is some at e.later e.honest e.was_honest e.images c.shut_gate.new.gates e.stands (e.was_told, e.bytes) known),
       subst (λ (n : ℕ). c.self.inside.geometry.blocks ≤ n) (sym c.rotate_left.ensures.capacity) c.self.invariant.1,
       c.self.invariant.2,
     )
@@ -118,7 +118,7 @@ returns-in_default-shut_gate g c =
     subst (λ (v : ShelfView g.row.D.Denot). BeginsIn d.view c.args.buffer.stream v left (Err Fault)) c.self.view_is
     (subst (λ (v : ShelfView g.row.D.Denot). BeginsIn d.view c.args.buffer.stream old v (Err Fault)) (sym new)
     (unclosed_begins d.view law.is_disk c.args.buffer.stream old disk c.block-block.result is some at e.later e.honest e.was_honest e.images c.shut_gate.new.gates e.stands
-    e.bytes known unshut e.cause))
+    e.was_told e.bytes known unshut e.cause))
 
 pub invariant_of-self-2 : goal.invariant_of-self-2
 invariant_of-self-2 g c =
@@ -164,7 +164,7 @@ invariant_of-self-2 g c =
           ∙ ap (λ (cache : CacheState BufferState). record (with_begun c.args.buffer.stream (with_first_shut disk old)) { cache = cache })
           (c.forget.ensures.kept ∙ ap (λ (k : ℕ). without_kept k old.cache) at)))
           (begun_shelf d.view (with_first_shut disk old)
-          (shut_shelf d.view law.is_disk old disk c.block-block.result is some at e.later e.honest e.was_honest e.images c.shut_gate.new.gates e.stands known)
+          (shut_shelf d.view law.is_disk old disk c.block-block.result is some at e.later e.honest e.was_honest e.images c.shut_gate.new.gates e.stands (e.was_told, e.bytes) known)
           c.args.buffer.stream number some shut),
       subst (λ (n : ℕ). c.self.inside.geometry.blocks ≤ n) (sym c.pop_front.ensures.capacity) c.self.invariant.1,
       c.self.invariant.2,
@@ -222,4 +222,5 @@ returns g c =
     (c.forget.ensures.kept ∙ ap (λ (k : ℕ). without_kept k old.cache) at) in
     subst (λ (v : ShelfView g.row.D.Denot). BeginsIn d.view c.args.buffer.stream v left (Ok tt)) c.self.view_is
     (subst (λ (v : ShelfView g.row.D.Denot). BeginsIn d.view c.args.buffer.stream old v (Ok tt)) (sym new)
-    (closed_begins d.view law.is_disk c.args.buffer.stream old disk c.block-block.result is some at e.later e.honest e.was_honest e.images c.shut_gate.new.gates e.stands e.bytes known quiet))
+    (closed_begins d.view law.is_disk c.args.buffer.stream old disk c.block-block.result is some at e.later e.honest e.was_honest e.images c.shut_gate.new.gates e.stands
+    e.was_told e.bytes known quiet))

@@ -46,7 +46,7 @@ invariant_of-self g c =
     let gates : (with_items c.self.inside.gates c.shut_gate.new.gates).items ≡ c.shut_gate.new.gates =
     with_items_is c.self.inside.gates c.shut_gate.new.gates (c.shut_gate.auto.gates ∙ c.deref_mut.ensures.len) in (
       subst (λ (l : List Gate). IsShelf d.view (record old { disk = disk; gates = l })) (sym gates)
-          (closed_shelf d.view law.is_disk old disk c.args.block is lt unbuffered e.later e.honest e.was_honest e.images c.shut_gate.new.gates e.stands Unsure known),
+          (closed_shelf d.view law.is_disk old disk c.args.block is lt unbuffered e.later e.honest e.was_honest e.images c.shut_gate.new.gates e.stands e.was_told e.bytes Unsure known),
       c.self.invariant.1,
       c.self.invariant.2,
     )
@@ -81,7 +81,7 @@ returns-in_default g c =
     with_items_is c.self.inside.gates c.shut_gate.new.gates (c.shut_gate.auto.gates ∙ c.deref_mut.ensures.len) in
     let unsure : gate_at old.gates c.args.block ≡ Unsure = subst (λ (v : ShelfView g.row.D.Denot). gate_at v.gates c.args.block ≡ Unsure) (sym c.self.view_is)
     (grind (arith, c.if-ne.false, c.ne.ensures, c.gate.ensures)) in
-    let closed = closed_shelf d.view law.is_disk old disk c.args.block is lt unbuffered e.later e.honest e.was_honest e.images c.shut_gate.new.gates e.stands Unsure known in
+    let closed = closed_shelf d.view law.is_disk old disk c.args.block is lt unbuffered e.later e.honest e.was_honest e.images c.shut_gate.new.gates e.stands e.was_told e.bytes Unsure known in
     subst (λ (v : ShelfView g.row.D.Denot). ClosesUnsure d.view c.args.block v (record old { disk = disk; gates = (with_items c.self.inside.gates c.shut_gate.new.gates).items }) (Err Fault))
     c.self.view_is
     (subst (λ (l : List Gate). ClosesUnsure d.view c.args.block old (record old { disk = disk; gates = l }) (Err Fault)) (sym gates)
@@ -118,7 +118,7 @@ invariant_of-self-2 g c =
     let gates : (with_items c.self.inside.gates c.shut_gate.new.gates).items ≡ c.shut_gate.new.gates =
     with_items_is c.self.inside.gates c.shut_gate.new.gates (c.shut_gate.auto.gates ∙ c.deref_mut.ensures.len) in (
       subst (λ (l : List Gate). IsShelf d.view (record old { disk = disk; gates = l })) (sym gates)
-          (closed_shelf d.view law.is_disk old disk c.args.block is lt unbuffered e.later e.honest e.was_honest e.images c.shut_gate.new.gates e.stands Shut known),
+          (closed_shelf d.view law.is_disk old disk c.args.block is lt unbuffered e.later e.honest e.was_honest e.images c.shut_gate.new.gates e.stands e.was_told e.bytes Shut known),
       c.self.invariant.1,
       c.self.invariant.2,
     )
@@ -153,7 +153,7 @@ returns g c =
     with_items_is c.self.inside.gates c.shut_gate.new.gates (c.shut_gate.auto.gates ∙ c.deref_mut.ensures.len) in
     let unsure : gate_at old.gates c.args.block ≡ Unsure = subst (λ (v : ShelfView g.row.D.Denot). gate_at v.gates c.args.block ≡ Unsure) (sym c.self.view_is)
     (grind (arith, c.if-ne.false, c.ne.ensures, c.gate.ensures)) in
-    let closed = closed_shelf d.view law.is_disk old disk c.args.block is lt unbuffered e.later e.honest e.was_honest e.images c.shut_gate.new.gates e.stands Shut known in
+    let closed = closed_shelf d.view law.is_disk old disk c.args.block is lt unbuffered e.later e.honest e.was_honest e.images c.shut_gate.new.gates e.stands e.was_told e.bytes Shut known in
     let shut : gate_at c.shut_gate.new.gates c.args.block ≡ Shut = ap (λ (l : List Gate). gate_at l c.args.block) known
     ∙ get_or-set_same old.gates c.args.block Shut Shut (subst (λ (n : ℕ). c.args.block < n) (sym is.gates) lt) in
     subst (λ (v : ShelfView g.row.D.Denot). ClosesUnsure d.view c.args.block v (record old { disk = disk; gates = (with_items c.self.inside.gates c.shut_gate.new.gates).items }) (Ok tt))

@@ -53,8 +53,8 @@ invariant_of-self g c =
       is_disk = law.is_disk new;
       was_disk = law.is_disk old.disk;
       size = c.open_gate.ensures.call.size;
-      was_honest =
-          c.open_gate.ensures.call.was_honest;
+      was_honest = c.open_gate.ensures.call.was_honest;
+      was_told = c.open_gate.ensures.call.was_told;
       time = c.open_gate.ensures.call.time;
     } in
     let after : List BufferState = slice_set old.buffers c.args.at c.set_phase.new.self in
@@ -62,7 +62,7 @@ invariant_of-self g c =
     let is_body : IsBody b.capacity (bytes_of b) (body_in b) = subst (λ (l : List ℕ). IsBody b.capacity l (body_in b)) c.body-body.ensures.bytes c.body-body.ensures.body in (
       subst (λ (bs : List BufferState). IsShelf d.view (record old { disk = new; buffers = bs; gates = slice_set old.gates c.block-block.result Unsure })) (sym to)
           (tried_gate_shelf d.view old new first.front b first.behind first.parts c.self.invariant.0 call first.has is_body c.block-block.result c.block-block.ensures
-          c.open_gate.ensures.images),
+          c.open_gate.ensures.images c.open_gate.ensures.bytes),
       c.self.invariant.1,
       c.self.invariant.2,
     )
@@ -96,8 +96,8 @@ returns-in_err-open_gate-clause-goes g c =
       is_disk = law.is_disk new;
       was_disk = law.is_disk old.disk;
       size = c.open_gate.ensures.call.size;
-      was_honest =
-          c.open_gate.ensures.call.was_honest;
+      was_honest = c.open_gate.ensures.call.was_honest;
+      was_told = c.open_gate.ensures.call.was_told;
       time = c.open_gate.ensures.call.time;
     } in
     let after : List BufferState = slice_set old.buffers c.args.at c.set_phase.new.self in
@@ -174,8 +174,8 @@ invariant_of-self-2 g c =
       is_disk = law.is_disk new;
       was_disk = law.is_disk old.disk;
       size = c.open_gate.ensures.call.size;
-      was_honest =
-          c.open_gate.ensures.call.was_honest;
+      was_honest = c.open_gate.ensures.call.was_honest;
+      was_told = c.open_gate.ensures.call.was_told;
       time = c.open_gate.ensures.call.time;
     } in
     let after : List BufferState = slice_set old.buffers c.args.at c.set_phase.new.self in
@@ -183,7 +183,7 @@ invariant_of-self-2 g c =
     let is_body : IsBody b.capacity (bytes_of b) (body_in b) = subst (λ (l : List ℕ). IsBody b.capacity l (body_in b)) c.body-body.ensures.bytes c.body-body.ensures.body in (
       subst (λ (bs : List BufferState). IsShelf d.view (record old { disk = new; buffers = bs; gates = slice_set (slice_set old.gates c.block-block.result Unsure) c.block-block.result Set }))
           (sym to) (done_gate_shelf d.view old new first.front b first.behind first.parts c.self.invariant.0 call first.has is_body c.block-block.result c.block-block.ensures
-          c.open_gate.ensures.images (λ honest. c.in_ok-open_gate.ensures.opened (call.was_honest honest).told)),
+          c.open_gate.ensures.images (λ honest. c.in_ok-open_gate.ensures.opened (call.was_honest honest).told) c.open_gate.ensures.bytes),
       c.self.invariant.1,
       c.self.invariant.2,
     )
@@ -217,8 +217,8 @@ returns-clause-goes g c =
       is_disk = law.is_disk new;
       was_disk = law.is_disk old.disk;
       size = c.open_gate.ensures.call.size;
-      was_honest =
-          c.open_gate.ensures.call.was_honest;
+      was_honest = c.open_gate.ensures.call.was_honest;
+      was_told = c.open_gate.ensures.call.was_told;
       time = c.open_gate.ensures.call.time;
     } in
     let after : List BufferState = slice_set old.buffers c.args.at c.set_phase.new.self in

@@ -137,7 +137,7 @@ invariant_of-self g c =
           (subst (λ (bs : List BufferState). IsShelf d.view (record old { buffers = bs; holds = c.release.new.self; free = c.free_let_go.new.free.items; cache = with_flushed b old.cache })) (sym rest)
           (retired_shelf d.view old first.front b first.behind first.parts c.self.invariant.0 c.release.new.self c.number-number.result c.block-block.result c.number-number.ensures.number
           c.block-block.ensures c.release.ensures (length old.lives) c.self.invariant.0.lives c.free_let_go.new.free.items each c.free_let_go.ensures.below
-          c.free_let_go.ensures.apart)),
+          c.free_let_go.ensures.apart (ap is_written first.has))),
       rw c.self.invariant.0.lives at c.free_let_go.ensures.room,
       c.self.invariant.2,
     )

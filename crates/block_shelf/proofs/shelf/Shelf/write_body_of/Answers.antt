@@ -4,6 +4,7 @@ use Rattle.std.specs.Prelude.{slice_set}
 use Rattle.law_lists.proofs.Answers.{on_err}
 use Rattle.law_lists.proofs.Between.{all_own}
 use Rattle.disk_model.specs.Disk.{IsHonest}
+use Rattle.block_format.specs.Layout.{body_bytes}
 use Rattle.block_flusher.specs.Images.{HasOneBody}
 use Rattle.model_faults.specs.Counts.{Rose}
 use Rattle.model_device.specs.Book.{Setup}
@@ -85,13 +86,13 @@ invariant_of-self g c =
       is_disk = law.is_disk new;
       was_disk = law.is_disk old.disk;
       size = c.write_body.ensures.call.size;
-      was_honest =
-          c.write_body.ensures.call.was_honest;
+      was_honest = c.write_body.ensures.call.was_honest;
+      was_told = c.write_body.ensures.call.was_told;
       time = c.write_body.ensures.call.time;
     } in (
       subst (λ (bs : List BufferState). IsShelf d.view (record old { disk = new; buffers = bs })) (sym (first.set b b refl))
           (tried_shelf d.view old new first.front b first.behind first.parts c.self.invariant.0 call first.has c.block.result c.block.ensures c.write_body.ensures.images
-          c.write_body.ensures.shut),
+          c.write_body.ensures.shut c.write_body.ensures.bytes),
       c.self.invariant.1,
       c.self.invariant.2,
     )
@@ -125,8 +126,8 @@ returns-in_err-write_body-clause-goes g c =
       is_disk = law.is_disk new;
       was_disk = law.is_disk old.disk;
       size = c.write_body.ensures.call.size;
-      was_honest =
-          c.write_body.ensures.call.was_honest;
+      was_honest = c.write_body.ensures.call.was_honest;
+      was_told = c.write_body.ensures.call.was_told;
       time = c.write_body.ensures.call.time;
     } in
     subst (λ (v : ShelfView g.row.D.Denot). (setup : Setup) (s : State) → StandsFor setup v s
@@ -164,8 +165,8 @@ invariant_of-self-2 g c =
       is_disk = law.is_disk new;
       was_disk = law.is_disk old.disk;
       size = c.write_body.ensures.call.size;
-      was_honest =
-          c.write_body.ensures.call.was_honest;
+      was_honest = c.write_body.ensures.call.was_honest;
+      was_told = c.write_body.ensures.call.was_told;
       time = c.write_body.ensures.call.time;
     } in
     let to : slice_set old.buffers c.args.at c.set_phase.new.self ≡ first.front ++ with_phase BodyDone b ∷ first.behind =
@@ -175,7 +176,8 @@ invariant_of-self-2 g c =
     ∙ c.body.ensures.bytes in (
       subst (λ (bs : List BufferState). IsShelf d.view (record old { disk = new; buffers = bs })) (sym to)
           (done_shelf d.view old new first.front b first.behind first.parts c.self.invariant.0 call first.has c.block.result c.block.ensures c.write_body.ensures.images
-          c.write_body.ensures.shut body),
+          c.write_body.ensures.shut c.write_body.ensures.bytes body
+          (λ told. subst (λ (k : ℕ). body_bytes old.geometry k (d.view new).seen ≡ c.body.result.now) c.block.ensures (c.in_ok-write_body.ensures.body (call.was_told told)) ∙ c.body.ensures.bytes)),
       c.self.invariant.1,
       c.self.invariant.2,
     )
@@ -209,8 +211,8 @@ returns-clause-goes g c =
       is_disk = law.is_disk new;
       was_disk = law.is_disk old.disk;
       size = c.write_body.ensures.call.size;
-      was_honest =
-          c.write_body.ensures.call.was_honest;
+      was_honest = c.write_body.ensures.call.was_honest;
+      was_told = c.write_body.ensures.call.was_told;
       time = c.write_body.ensures.call.time;
     } in
     let to : slice_set old.buffers c.args.at c.set_phase.new.self ≡ first.front ++ with_phase BodyDone b ∷ first.behind =
