@@ -8,7 +8,7 @@ use Rattle.rec_format.specs.declared.entry.Entry.{Entry}
 use Rattle.model_device.specs.Book.{first_block}
 use Rattle.block_format.specs.declared.geometry.Geometry.{Geometry}
 use Rattle.block_format.specs.Layout.{block_place}
-use Rattle.law_lists.proofs.Each.{all_from}
+use Rattle.law_lists.proofs.Each.{all_front, all_from}
 use Rattle.write_buffer.specs.Buffers.{BufferState}
 use Rattle.block_shelf.specs.declared.place.Place.{Place}
 use Rattle.block_shelf.specs.declared.refusals.PutRefusal.{PutRefusal}
@@ -28,7 +28,7 @@ use Rattle.defrag_pass.specs.Moves.{IsDamageOf, IsShelfLeft, IsUndamaged, IsUnre
 -- ---- what a read tells
 
 pub told_of : {D : Type 0} (view : D → DiskView) (e : Entry) (place : Place) (shelf : ShelfView D) (refusal : ReadRefusal) → reads.IsToldOf e refusal
-    → ((view shelf.disk).tells → AllByRecursion (λ b. b.block ≢ place.block) (in_memory shelf) → HasRead e (copy_bytes shelf.geometry place (view shelf.disk).seen) (Err refusal))
+    → ((view shelf.disk).tells → AllByRecursion (λ b. b.block ≢ place.block) shelf.buffers → HasRead e (copy_bytes shelf.geometry place (view shelf.disk).seen) (Err refusal))
     → IsUnreadOf view e place shelf (refusal_to_read refusal)
 told_of view e place shelf (read.Damaged kept found) told has = (told.0, told.1, λ tells none. (has tells none).1)
 told_of view e place shelf read.Memory told has = tt
@@ -81,7 +81,7 @@ module _ {D : Type 0} (view : D → DiskView) (block : ℕ) (e : Entry) (at : e.
         read = λ tells.
             let shape : mid.geometry ≡ old.geometry = ap (λ (v : ShelfView D). v.geometry) same in
             let seen : (view mid.disk).seen ≡ (view old.disk).seen = (only.bytes tells).1 in
-            told.2 tells (subst (λ (p : Place). AllByRecursion (λ b. b.block ≢ p.block) (in_memory old)) (sym place_is) none)
+            told.2 tells (subst (λ (p : Place). AllByRecursion (λ b. b.block ≢ p.block) old.buffers) (sym place_is) (all_front (λ (b : BufferState). b.block ≢ e.block) old.buffers _ none))
             ∙ sym (λ i. take 48 (copy_bytes (shape i) (sym place_is i) (seen i)));
       }
   damage_told why.Memory told sound = tt

@@ -93,24 +93,25 @@ IsDamageOf Told view block found shelf (why.Damaged kept bytes) = TellsDamage To
 IsDamageOf Told view block found shelf why.Memory = Unit {0}
 IsDamageOf Told view block found shelf why.Fault = Unit {0}
 
--- What is told where a record isn't read: of damage the entry's head, and what was read. Where no buffer in memory has the block it is what
--- stands at the place on a disk that tells its bytes.
+-- What is told where a record isn't read: of damage the entry's head, and what was read. Where no buffer that isn't flushed has the block it is
+-- what stands at the place on a disk that tells its bytes.
 abbrev pub IsUnreadOf : {D : Type 0} → (view : D → DiskView) → Entry → Place → ShelfView D → MoveRefusal → Type 0
 IsUnreadOf view e place shelf why.Spent = Unit {0}
 IsUnreadOf view e place shelf why.Load = Unit {0}
 IsUnreadOf view e place shelf why.Space = Unit {0}
 IsUnreadOf view e place shelf (why.Damaged kept bytes) = (kept ≡ kept_head e) × HasNoHeadOf e bytes
-    × ((view shelf.disk).tells → AllByRecursion (λ b. b.block ≢ place.block) (in_memory shelf) → bytes ≡ take 48 (copy_bytes shelf.geometry place (view shelf.disk).seen))
+    × ((view shelf.disk).tells → AllByRecursion (λ b. b.block ≢ place.block) shelf.buffers → bytes ≡ take 48 (copy_bytes shelf.geometry place (view shelf.disk).seen))
 IsUnreadOf view e place shelf why.Memory = Unit {0}
 IsUnreadOf view e place shelf why.Fault = Unit {0}
 
 -- ---- the copy
 
--- The record of an entry is moved to a place: where a buffer in memory has its block the record that this has there, and else, on a disk that
--- tells its bytes, what stands there, with its payload and its cover flag. A buffer of moved records has it then.
+-- The record of an entry is moved to a place: where a buffer in memory has its block the record that this has there, and where no buffer that
+-- isn't flushed has it, on a disk that tells its bytes, what stands there, with its payload and its cover flag. A buffer of moved records has it
+-- then.
 pub record CopiesRecord {D : Type 0} (view : D → DiskView) (digest : Digest) (e to : Entry) (old new : ShelfView D) : Type 0 where
   pub version : Version
-  pub from_disk : (view old.disk).tells → AllByRecursion (λ b. b.block ≢ e.block) (in_memory old) → IsRead e (copy_bytes old.geometry (place_of e) (view old.disk).seen) version
+  pub from_disk : (view old.disk).tells → AllByRecursion (λ b. b.block ≢ e.block) old.buffers → IsRead e (copy_bytes old.geometry (place_of e) (view old.disk).seen) version
   pub from_memory : (b : BufferState) (v : Version) → Contains (in_memory old) b → b.block ≡ e.block → HasRecord b e.unit digest v → Names e v → version ≡ v
   pub lies : LiesIn Defrag digest version new (place_of to)
 

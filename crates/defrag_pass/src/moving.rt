@@ -114,7 +114,7 @@ fn read_for<D: Disk>(
     ensures written { IsHonest (D.view shelf.old.disk) → (setup : Setup) (s : State) (v : Version) → StandsFor setup shelf.old s → IsPlaced D.view shelf.old s
         → live_of entry.now.digest s.book.live ≡ Some (copy_live entry.now.digest place) → device.entry s entry.now.digest ≡ Some v → Names entry.now v
         → MatchResult result (λ version. version ≡ v) IsUndamaged }
-    ensures read { (D.view shelf.old.disk).tells → AllByRecursion (λ b. b.block ≢ place.block) (in_memory shelf.old)
+    ensures read { (D.view shelf.old.disk).tells → AllByRecursion (λ b. b.block ≢ place.block) shelf.old.buffers
         → IfOk result (IsRead entry.now (copy_bytes shelf.old.geometry place (D.view shelf.old.disk).seen)) }
     ensures copied { (b : BufferState) (v : Version) → Contains (in_memory shelf.old) b → b.block ≡ place.block → HasRecord b place.unit entry.now.digest v → Names entry.now v
         → IfOk result (λ version. version ≡ v) }

@@ -116,14 +116,14 @@ HasGot e bytes (Err refusal) = HasRead e bytes (Err refusal)
 
 -- A record is got as it is stored. Where its block has a write buffer to which clients write, or such a flushed buffer of it is kept, the
 -- answer is what was put, over any disk, or want of memory. Of a buffer of moved records it is what was read as the record was moved there. Where
--- no buffer is there, the answer is what stands at the place of its entry, on a disk that tells its bytes: it is damaged exactly where no head of
--- the entry's record stands there.
+-- no buffer that isn't flushed has the block, the answer is what stands at the place of its entry, on a disk that tells its bytes, also from a
+-- flushed buffer that is kept: it is damaged exactly where no head of the entry's record stands there.
 pub record ReadsStored {D : Type 0} (view : D → DiskView) (Stands : State → Type 0) (found : Option Entry) (shelf : ShelfView D) (digest : Digest) (now : ℕ) (result : Result (Option Version) ReadRefusal) : Type 0 where
   pub remembered : (s : State) → Stands s → (e : Entry) (b : BufferState) → found ≡ Some e → Contains (in_memory shelf) b → b.block ≡ e.block → b.stream ≡ Client
       → MatchResult result (λ got. got ≡ seen s now digest) (λ refusal. refusal ≡ read.Memory)
   pub copied : (s : State) → Stands s → (v : Version) → seen s now digest ≡ Some v → (e : Entry) (b : BufferState) → found ≡ Some e → Contains (in_memory shelf) b → b.block ≡ e.block
       → MatchResult result (λ got. (copy : Version) × (got ≡ Some copy) × IsCopyIn b.stream v copy) (λ refusal. refusal ≡ read.Memory)
-  pub placed : (view shelf.disk).tells → (e : Entry) → seen_entry now found ≡ Some e → AllByRecursion (λ b. b.block ≢ e.block) (in_memory shelf)
+  pub placed : (view shelf.disk).tells → (e : Entry) → seen_entry now found ≡ Some e → AllByRecursion (λ b. b.block ≢ e.block) shelf.buffers
       → HasGot e (copy_bytes shelf.geometry (place_of e) (view shelf.disk).seen) result
 
 -- so it is by a shard

@@ -103,7 +103,8 @@ impl<D: Disk> Shard<D> {
         ensures in_memory { (e : Entry) (b : BufferState) → held (setup_of self.old) digest.now self.old.sprigs ≡ Some e → Contains (in_memory self.old.shelf) b → b.block ≡ e.block
             → (self.new ≡ self.old) × IfErr result (λ refusal. refusal ≡ ReadRefusal.Memory) }
 
-        // From a buffer of the clients' stream it is what was put; from no buffer it is what stands at its place, on a disk that tells its bytes.
+        // From a buffer of the clients' stream it is what was put. Where no buffer that isn't flushed has the block, it is what stands at its
+        // place, on a disk that tells its bytes.
         ensures stored { GetsStored D.view self.old digest.now now result }
 
         // Over an honest disk nothing is damaged.

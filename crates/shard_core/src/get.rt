@@ -37,9 +37,9 @@ pub struct Meta {
 
 /// At `Ok` the version that is seen of the digest, none where there is no put or it is expired at `now`, in milliseconds; nothing is
 /// written, and a crash leaves what it left before. It is read from its write buffer, or from its flushed buffer while the post-write
-/// queue keeps that, without a call of the disk, or else from its block with one. What is read from a disk that tells its bytes is
-/// `Damaged` exactly where it hasn't the head of the entry's record; on a sound device nothing is damaged, and a version is as it was
-/// put.
+/// queue keeps that, without a call of the disk, or else from its block with one. From a flushed buffer too it is what stands on a disk
+/// that tells its bytes. What is read from such a disk is `Damaged` exactly where it hasn't the head of the entry's record; on a sound
+/// device nothing is damaged, and a version is as it was put.
 pub fn get_step<D: Disk>(
     alloc: Global,
     sprig: &mut Sprig,
@@ -60,7 +60,8 @@ pub fn get_step<D: Disk>(
     ensures in_memory { (e : Entry) (b : BufferState) → entry_of digest.now sprig.old.entries ≡ Some e → Contains (in_memory shelf.old) b → b.block ≡ e.block
         → (shelf.new ≡ shelf.old) × IfErr result (λ refusal. refusal ≡ ReadRefusal.Memory) }
 
-    // From a buffer of the clients' stream it is what was put; from no buffer it is what stands at its place, on a disk that tells its bytes.
+    // From a buffer of the clients' stream it is what was put. Where no buffer that isn't flushed has the block, it is what stands at its
+    // place, on a disk that tells its bytes.
     ensures stored { let setup = setup_for shelf.old.geometry set.now in
         ReadsStored D.view (StandTogether setup (part_of setup digest.now) sprig.old shelf.old) (entry_of digest.now sprig.old.entries) shelf.old digest.now now result }
 

@@ -18,7 +18,7 @@ use Rattle.block_shelf.specs.declared.refusals.PutRefusal.{PutRefusal}
 use Rattle.block_shelf.specs.Calls.{IsPriorIn}
 use Rattle.block_shelf.specs.Reads.{IsRead, copy_bytes}
 use Rattle.block_shelf.specs.Standing.{HasRecord}
-use Rattle.block_shelf.specs.View.{ShelfView, gate_at, in_memory}
+use Rattle.block_shelf.specs.View.{ShelfView, gate_at}
 use Rattle.law_steps.specs.Sprigs.{place_of}
 use Rattle.law_steps.specs.Events.{StepMakes}
 use Rattle.law_steps.proofs.Found.{entry_named, lies_found, prior_stands}
@@ -328,7 +328,7 @@ returns-in-Ok-clause-copied g c moved x found_x =
     let copies : CopiesRecord view digest e to old c.append.new.self = record {
       version = c.in_ok-version.version;
       from_disk = λ tells none. subst (λ (p : Place). IsRead e (copy_bytes old.geometry p (view old.disk).seen) c.in_ok-version.version) place_is
-          (got.read tells (subst (λ (p : Place). AllByRecursion (λ b. b.block ≢ p.block) (in_memory old)) (sym place_is) none));
+          (got.read tells (subst (λ (p : Place). AllByRecursion (λ b. b.block ≢ p.block) old.buffers) (sym place_is) none));
       from_memory = λ b v has at record_there names.
           got.copied b v has (at ∙ sym (ap (λ (p : Place). p.block) place_is))
           (subst (λ (p : Place). HasRecord b p.unit e.digest v) (sym place_is) (subst (λ (d : Digest). HasRecord b e.unit d v) named record_there)) names;

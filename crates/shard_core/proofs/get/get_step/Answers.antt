@@ -139,7 +139,7 @@ returns-in-Ok-clause-stored g c =
           shown_got x (copy_bytes c.args.shelf.now.geometry (place_of x) bytes) c.read.result
           (subst (λ (p : Place). HasRead x (copy_bytes c.args.shelf.now.geometry p bytes) c.read.result) place
           (subst (λ (y : Entry). HasRead y (copy_bytes c.args.shelf.now.geometry c.place_of_entry.result bytes) c.read.result) (sym same)
-          (c.read.ensures.read told (subst (λ (block : ℕ). AllByRecursion (λ b. b.block ≢ block) (in_memory c.args.shelf.now)) (sym (ap (λ (p : Place). p.block) place)) none))));
+          (c.read.ensures.read told (subst (λ (block : ℕ). AllByRecursion (λ b. b.block ≢ block) c.args.shelf.now.buffers) (sym (ap (λ (p : Place). p.block) place)) none))));
     })
 
 pub returns-in-Err-clause-makes : goal.returns-in-Err-clause-makes
@@ -206,7 +206,7 @@ returns-in-Err-clause-stored g c =
           shown_got x (copy_bytes c.args.shelf.now.geometry (place_of x) bytes) c.read.result
           (subst (λ (p : Place). HasRead x (copy_bytes c.args.shelf.now.geometry p bytes) c.read.result) place
           (subst (λ (y : Entry). HasRead y (copy_bytes c.args.shelf.now.geometry c.place_of_entry.result bytes) c.read.result) (sym same)
-          (c.read.ensures.read told (subst (λ (block : ℕ). AllByRecursion (λ b. b.block ≢ block) (in_memory c.args.shelf.now)) (sym (ap (λ (p : Place). p.block) place)) none))));
+          (c.read.ensures.read told (subst (λ (block : ℕ). AllByRecursion (λ b. b.block ≢ block) c.args.shelf.now.buffers) (sym (ap (λ (p : Place). p.block) place)) none))));
     })
 
 pub returns-in-Err-clause-undamaged : goal.returns-in-Err-clause-undamaged
