@@ -1,10 +1,9 @@
 -- What a get shows of the disk of its device, and that no other command makes one.
-use Rattle.std.proofs.Common.{◌≡◌, inl, inr, ℕ, zero, suc, ◌+◌, List, [], ◌∷◌, length, map, refl, sym, ◌∙◌, ap, subst, arith}
+use Rattle.std.proofs.Common.{◌≡◌, inl, inr, ℕ, zero, suc, ◌+◌, List, [], ◌∷◌, length, map, refl, sym, ◌∙◌, ap, subst}
 use Rattle.std.specs.Prelude.{◌≢◌, Option, Some, None, Result, Ok, Err, MatchOption, MatchResult, Contains, slice_get}
 use Rattle.std.specs.List.{AllByRecursion}
-use Rattle.std.proofs.lemmas.List.{length-map}
-use Rattle.std.proofs.lemmas.List.Elements.{Contains-append_left, Contains-append_right}
-use Rattle.law_lists.proofs.Each.{all_from, all_joined, all_to_map, all_before_map}
+use Rattle.std.proofs.lemmas.List.Elements.{Contains-append_left}
+use Rattle.law_lists.proofs.Each.{all_from, all_to_map, all_before_map}
 use Rattle.disk_model.specs.Disk.{DiskView}
 use Rattle.rec_format.specs.declared.version.Digest.{Digest}
 use Rattle.rec_format.specs.declared.version.Version.{Version}
@@ -26,10 +25,9 @@ use Rattle.block_shelf.specs.Standing.{IsCopyIn, book_buffer, book_stream}
 use Rattle.block_shelf.specs.Reads.{copy_bytes}
 use Rattle.law_steps.specs.Sprigs.{place_of}
 use Rattle.law_steps.specs.Events.{cause_of_read}
-use Rattle.shard_core.specs.View.{ShardView, setup_of}
+use Rattle.shard_core.specs.View.{ShardView}
 use Rattle.shard_core.specs.Stands.{IsWhole}
 use Rattle.shard_core.specs.Calls.{HasGot, GetsStored, read_answer}
-use Rattle.shard_core.proofs.Making.{keeps_few}
 use Rattle.shard_core.proofs.Seen.{SeenAt, seen_at}
 use Rattle.line_proto.specs.declared.command.Command.{Command}
 use Rattle.line_proto.specs.declared.command.Command.TheVariants as command
@@ -54,10 +52,6 @@ gives_copy Defrag v (Ok found) (copy, is, instead) = inl (copy, instead, ap foun
 gives_copy Client v (Err refusal) is = inr (ap (λ (r : ReadRefusal). refused (cause_of_read r)) is)
 gives_copy Defrag v (Err refusal) is = inr (ap (λ (r : ReadRefusal). refused (cause_of_read r)) is)
 
--- a kept buffer, by its block and its stream
-abbrev kept_as : BufferState → ℕ × book.Stream
-kept_as b = (b.block, book_stream b.stream)
-
 -- the disk gives what stands there
 gives_bytes : (e : Entry) (bytes : List ℕ) (got : Result (Option Version) ReadRefusal) → HasGot e bytes got → GivesBytes e bytes (read_answer got)
 gives_bytes e bytes (Ok None) is = absurd is
@@ -81,30 +75,11 @@ module _ {D : Type 0} (view : D → DiskView) (shard : ShardView D) (slot : Slot
   copied : (b : BufferState) → Contains (in_memory shard.shelf) b → b.block ≡ e.block → GivesCopy (book_stream b.stream) v (read_answer got)
   copied b there here = gives_copy b.stream v got (stored.copied slot.state stands.agrees v sees e b at.held_is there here)
 
-  abbrev bodies : List BufferState
-  bodies = map (λ k. k.body) shard.shelf.cache.kept
-
-  abbrev streams : List (ℕ × book.Stream)
-  streams = map kept_as bodies
-
   waiting : AllByRecursion (λ (b : Buffer). b.block ≡ e.block → GivesCopy b.stream v (read_answer got)) (map book_buffer shard.shelf.buffers)
   waiting = all_to_map (λ b. b.block ≡ e.block → GivesCopy (book_stream b.stream) v (read_answer got)) (λ (b : Buffer). b.block ≡ e.block → GivesCopy b.stream v (read_answer got)) book_buffer
       (λ b gives. gives) shard.shelf.buffers
       (all_from (λ b. b.block ≡ e.block → GivesCopy (book_stream b.stream) v (read_answer got)) shard.shelf.buffers
-      (λ b there. copied b (Contains-append_left shard.shelf.buffers bodies b there)))
-
-  remembering : AllByRecursion (λ (k : ℕ × book.Stream). k.0 ≡ e.block → GivesCopy k.1 v (read_answer got)) streams
-  remembering = all_to_map (λ b. b.block ≡ e.block → GivesCopy (book_stream b.stream) v (read_answer got)) (λ (k : ℕ × book.Stream). k.0 ≡ e.block → GivesCopy k.1 v (read_answer got))
-      kept_as (λ b gives. gives) bodies
-      (all_from (λ b. b.block ≡ e.block → GivesCopy (book_stream b.stream) v (read_answer got)) bodies
-      (λ b there. copied b (Contains-append_right shard.shelf.buffers bodies b there)))
-
-  -- where no buffer has the block
-  apart : AllByRecursion (λ (b : Buffer). b.block ≢ e.block) (map book_buffer shard.shelf.buffers) → AllByRecursion (λ (k : ℕ × book.Stream). k.0 ≢ e.block) streams
-      → AllByRecursion (λ b. b.block ≢ e.block) (in_memory shard.shelf)
-  apart waits kept = all_joined (λ b. b.block ≢ e.block) shard.shelf.buffers bodies
-      (all_before_map (λ b. b.block ≢ e.block) (λ (b : Buffer). b.block ≢ e.block) book_buffer (λ b other. other) shard.shelf.buffers waits)
-      (all_before_map (λ b. b.block ≢ e.block) (λ (k : ℕ × book.Stream). k.0 ≢ e.block) kept_as (λ b other. other) bodies kept)
+      (λ b there. copied b (Contains-append_left shard.shelf.buffers _ b there)))
 
   pub get_shows : GetShows (view shard.shelf.disk) slot digest v (read_answer got)
   get_shows = record {
@@ -123,17 +98,11 @@ module _ {D : Type 0} (view : D → DiskView) (shard : ShardView D) (slot : Slot
     names = at.names;
     place = at.place;
     waits = subst (AllByRecursion (λ (b : Buffer). b.block ≡ e.block → GivesCopy b.stream v (read_answer got))) (sym stands.agrees.shelf.stands.buffers) waiting;
-    kept = streams;
-    few =
-        let one = length-map bodies kept_as in
-        let two = length-map shard.shelf.cache.kept (λ k. k.body) in
-        let most = (keeps_few view shard whole is).few in
-        let same : slot.setup.cache ≡ (setup_of shard).cache = ap (λ (x : Setup). x.cache) stands.setup_is in
-        omega (arith, one, two, most, same);
-    remembered = remembering;
-    read = λ tells waits kept.
+    read = λ tells waits.
         gives_bytes e (copy_bytes shard.shelf.geometry (place_of e) (view shard.shelf.disk).seen) got
-        (stored.placed tells e at.seen_is (apart (subst (AllByRecursion (λ (b : Buffer). b.block ≢ e.block)) stands.agrees.shelf.stands.buffers waits) kept));
+        (stored.placed tells e at.seen_is
+        (all_before_map (λ b. b.block ≢ e.block) (λ (b : Buffer). b.block ≢ e.block) book_buffer (λ b other. other) shard.shelf.buffers
+        (subst (AllByRecursion (λ (b : Buffer). b.block ≢ e.block)) stands.agrees.shelf.stands.buffers waits)));
   }
 
 -- ---- the device of the digest

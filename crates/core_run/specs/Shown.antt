@@ -23,7 +23,7 @@ RaidsOf view old node now r work restarted new = (removed cleared : ℕ) → r �
 
 -- Behind a restart each device stands for what its disk read, and of each gate it is known whether it is set. Behind one that was refused the node
 -- halted, with the first device that wasn't taken, and why. Over honest disks a raid does what it has to. A get shows what stands at the place of its
--- record, or what a buffer in memory has.
+-- record, or what a buffer has that isn't flushed.
 pub record ShowsOn {D : Type 0} (view : D → DiskView) (told : Bool) (old : NodeView D) (node : Node) (now : ℕ) (r : Reply) (work : List NodeEvent) (restarted : Option Node) (new : NodeView D) : Type 0 where
   pub again : (fresh : Node) → restarted ≡ Some fresh → r ≢ reply.Halted → (device : ℕ) → On fresh device (IsStartedFrom told device (length node) (views_of view old device))
   pub refused : r ≡ reply.Halted → (set : Settings) × (why : ℕ × StartCause) × (disks : List D) × (new ≡ halted why disks) × (length (disks_of old) ≡ length node)

@@ -1,6 +1,6 @@
 -- Crate model_node. What a line of a run shows of the devices' disks, as they stood then. Nothing of it asks that a disk is honest: it says what
 -- follows from what a disk tells of its bytes.
-use Rattle.std.specs.Prelude.{◌≡◌, ◌≢◌, ◌⊎◌, ℕ, ◌<◌, ◌≤◌, Bool, false, List, [], ◌∷◌, length, take, Some}
+use Rattle.std.specs.Prelude.{◌≡◌, ◌≢◌, ◌⊎◌, ℕ, ◌<◌, Bool, false, List, [], ◌∷◌, length, take, Some}
 use Rattle.std.specs.List.{AllByRecursion}
 use Rattle.model_faults.specs.Counts.{Rose}
 use Rattle.disk_model.specs.Disk.{DiskView}
@@ -57,7 +57,7 @@ IsRefusedSo _ devices before after = Unit {0}
 
 -- ---- a get
 
--- What a buffer in memory gives of the version that is seen: what was put; or of a buffer of moved records what was read as the record was moved
+-- What a buffer that isn't flushed gives of the version that is seen: what was put; or of a buffer of moved records what was read as the record was moved
 -- there. For want of memory it gives nothing. It isn't damaged, and no disk fails.
 abbrev pub GivesCopy : Stream → Version → Answer → Type 0
 GivesCopy client v answer = (answer ≡ found_version (Some v)) ⊎ (answer ≡ refused no_memory)
@@ -73,8 +73,8 @@ GivesBytes e bytes (refused disk_fault) = Unit {0}
 GivesBytes e bytes _ = ⊥
 
 -- What a get shows of a record that is seen, of this version. Its entry has the place that is live for the digest. Where a buffer that isn't flushed
--- has its block, it is what that has. Some of the buffers that were flushed are kept, no more than by the setup: where one of these has the block, it is
--- what that has. Where no buffer has it, it is what stands at the entry's place, on a disk that tells its bytes.
+-- has its block, it is what that has. Where none has it, it is what stands at the entry's place, on a disk that tells its bytes, whether it was read
+-- there or comes from a flushed buffer that is kept.
 pub record GetShows (disk : DiskView) (slot : Slot) (digest : Digest) (v : Version) (answer : Answer) : Type 0 where
   pub shape : Geometry
   pub is_shape : IsGeometry shape × IsShapeOf slot.setup shape
@@ -83,10 +83,7 @@ pub record GetShows (disk : DiskView) (slot : Slot) (digest : Digest) (v : Versi
   pub names : Names entry v
   pub place : live_of digest slot.state.book.live ≡ Some (live_of_entry entry)
   pub waits : AllByRecursion (λ b. b.block ≡ entry.block → GivesCopy b.stream v answer) slot.state.book.buffers
-  pub kept : List (ℕ × Stream)
-  pub few : length kept ≤ slot.setup.cache
-  pub remembered : AllByRecursion (λ k. k.0 ≡ entry.block → GivesCopy k.1 v answer) kept
-  pub read : disk.tells → AllByRecursion (λ b. b.block ≢ entry.block) slot.state.book.buffers → AllByRecursion (λ k. k.0 ≢ entry.block) kept
+  pub read : disk.tells → AllByRecursion (λ b. b.block ≢ entry.block) slot.state.book.buffers
       → GivesBytes entry (copy_bytes shape (record { block = entry.block; unit = entry.unit; units = entry.units }) disk.seen) answer
 
 -- A line that is carried out by one event, which is a get, shows it of the disk of the event's device.
