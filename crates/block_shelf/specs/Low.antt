@@ -1,5 +1,6 @@
 -- Crate block_shelf. Which buffer is sealed where few blocks are free.
-use Rattle.std.specs.Prelude.{ℕ, ◌-◌, ◌*◌, ◌<◌, ◌≤◌, ◌≡◌, ◌⊎◌, true, [], length, map, Contains, IsTrue}
+use Rattle.std.specs.Prelude.{ℕ, ◌-◌, ◌*◌, ◌<◌, ◌≤◌, ◌≡◌, ◌⊎◌, ◌||◌, Bool, nat_lt, true, [], length, map, Contains, IsTrue}
+use Rattle.std.specs.List.{list_any}
 use Rattle.rec_format.specs.Versions.{block_capacity}
 use Rattle.write_buffer.specs.declared.stream.Stream.{Stream}
 use Rattle.write_buffer.specs.declared.stream.Stream.TheVariants.{Client, Defrag}
@@ -39,6 +40,10 @@ pub record IsLow {D : Type 0} (stream : Stream) (shelf : ShelfView D) : Type 0 w
   pub few : length shelf.free ≤ 6
   pub over : FillsOverDead stream shelf
   pub gathered : HasGathered stream shelf
+
+-- Whether a queued block is to be vacated: a buffer takes moved records, more than 7 blocks are free, or more than one is queued.
+abbrev pub gains : {D : Type 0} → ShelfView D → Bool
+gains shelf = list_any (fills Defrag) shelf.buffers || (nat_lt 7 (length shelf.free) || nat_lt 1 (length shelf.queue.queue))
 
 -- the buffers of a stream are sealed
 abbrev pub with_sealed : {D : Type 0} → Stream → ShelfView D → ShelfView D

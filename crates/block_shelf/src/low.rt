@@ -9,7 +9,7 @@ ghost use Rattle.block_shelf.specs.View.{IsShelf, SameShape, IsSetupOf};
 ghost use Rattle.block_shelf.specs.Standing.{StandsFor, BooksStand};
 ghost use Rattle.block_shelf.specs.Calls.{Goes};
 ghost use Rattle.block_shelf.specs.Changes.{sealed_buffer};
-ghost use Rattle.block_shelf.specs.Low.{HoldsDead, FillsOverDead, IsShort, HasGathered, IsLow, SealsLow};
+ghost use Rattle.block_shelf.specs.Low.{HoldsDead, FillsOverDead, IsShort, HasGathered, IsLow, SealsLow, gains};
 
 use crate::Shelf;
 use block_format::capacity;
@@ -43,6 +43,7 @@ impl<D: Disk> Shelf<D> {
     /// Whether a block is to be vacated, if one is queued: more than 7 are free, or a buffer of moved records is being filled, or more than
     /// one is queued. Else what it frees its records take again.
     pub fn can_gain(&self) -> bool
+        ensures seen { result ≡ gains self.now }
         ensures state { (setup : Setup) (s : State) → StandsFor setup self.now s → BooksStand setup self.now s → result ≡ can_gain s.book }
     {
         match self.filling_at(Stream::Defrag) {

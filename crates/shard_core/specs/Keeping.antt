@@ -9,6 +9,7 @@ use Rattle.block_shelf.specs.Changes.{with_flushed}
 use Rattle.block_shelf.specs.Appends.{BeginsInFirst}
 use Rattle.block_shelf.specs.Keeping.{KeepsAll, KeepsOthers, names_of}
 use Rattle.block_shelf.specs.Flushes.{FirstSealed}
+use Rattle.block_shelf.specs.Low.{gains}
 use Rattle.shard_core.specs.declared.refusals.WriteRefusal.{WriteRefusal}
 use Rattle.shard_core.specs.declared.refusals.WriteRefusal.TheVariants as write
 use Rattle.shard_core.specs.View.{ShardView, setup_of}
@@ -84,11 +85,13 @@ pub record KeepsThrough {D : Type 0} (flushing : Bool) (old new : ShelfView D) :
   pub between : List (ShelfView D)
   pub over : KeepsOver flushing between old new
 
--- What a tending makes of what is kept: sealed buffers are flushed, and then those begin to which records are moved.
+-- What a tending makes of what is kept: sealed buffers are flushed, and then those begin to which records are moved. Where nothing can be gained
+-- behind the flushes, all is left as it is then.
 pub record KeepsTended {D : Type 0} (old new : ShelfView D) : Type 0 where
   pub flushed : ShelfView D
   pub flushes : SealsAndFlushes old flushed
   pub moves : KeepsThrough false flushed new
+  pub rests : gains flushed ≡ false → new ≡ flushed
 
 -- ---- how many
 

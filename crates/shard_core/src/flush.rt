@@ -10,6 +10,7 @@ ghost use Rattle.model_device.specs.Events.{flush_call, flush_sealed_call};
 ghost use Rattle.model_device.specs.Legal.{flush_all, flush_between};
 ghost use Rattle.block_shelf.specs.Disks.{IsLater};
 ghost use Rattle.block_shelf.specs.Sure.{StaysSure};
+ghost use Rattle.block_shelf.specs.Low.{gains};
 ghost use Rattle.block_shelf.specs.View.{IsShelf, IsSetupOf, is_unsealed};
 ghost use Rattle.block_shelf.specs.View as shelf_view;
 ghost use Rattle.block_shelf.specs.Standing.{StandsFor};
@@ -134,7 +135,8 @@ impl<D: Disk> Shard<D> {
 
     // Whether a block is to be vacated, if one is queued.
     fn can_gain(&self) -> bool
-        ensures { (s : State) → Agrees self.now s → result ≡ can_gain s.book }
+        ensures seen { result ≡ gains self.now.shelf }
+        ensures state { (s : State) → Agrees self.now s → result ≡ can_gain s.book }
     {
         self.shelf.can_gain()
     }
