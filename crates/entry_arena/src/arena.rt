@@ -143,7 +143,7 @@ fn push_range(free: &mut Vec<u32>, first: u32, end: u32)
     ensures items { free.new.items ≡ free.old.items ++ range_with_len first (end - first) }
     ensures capacity { vec_capacity free.new ≡ vec_capacity free.old }
 {
-    for slot in first..end {
-        free.push_reserved(slot);
+    for number in first..end {
+        free.push_reserved(number);
     }
 }

@@ -1,4 +1,4 @@
-//! Tests of what threads share: passes of one table in two threads, and a small store at a table.
+//! Tests of what threads share: passes of one table in two threads, a small store at a table, and arenas that go to threads.
 #![tactic(auto)]
 
 #[cfg(test)]
