@@ -1,12 +1,12 @@
 -- Names in memory, one after another.
-use Rattle.std.proofs.Common.{◌≡◌, inl, inr, ℕ, ◌+◌, ◌<◌, ◌≤◌, true, false, List, length, get_or, slice_get, Option, Some, None, MatchOption, refl, sym, ap, ◌∙◌, subst, arith, nat_eq}
+use Rattle.std.proofs.Common.{◌≡◌, inl, inr, ℕ, ◌+◌, ◌<◌, ◌≤◌, true, false, List, Bool, is_some, length, get_or, slice_get, Option, Some, None, MatchOption, refl, sym, ap, ◌∙◌, subst, arith, nat_eq}
 use Rattle.std.specs.Prelude.{string_bytes}
 use Rattle.std.proofs.lemmas.Bool.{both_ways}
 use Rattle.std.proofs.lemmas.Bool.Decides.{eqb_tells}
 use Rattle.std.proofs.lemmas.Option.{slice_get_read, slice_get_within}
 use lib.Pointwise.{pointwise, bytes_decides}
 use Rattle.disk_file.specs.declared.memory_devices.Entry.{Entry}
-use Rattle.disk_file.specs.MemoryNames.{IsNamed, NoneNamed}
+use Rattle.disk_file.specs.MemoryNames.{IsNamed, NoneNamed, IsEntry}
 
 -- a name stands within the list
 named_within : (entries : List Entry) (at : ℕ) (name : List ℕ) (found : Option Entry) → slice_get entries at ≡ found → MatchOption found ⊥ (λ (e : Entry). string_bytes e.name ≡ name)
@@ -53,3 +53,15 @@ entry_there items entries at entry name seen named read =
   where
     there : slice_get entries at ≡ Some entry
     there = slice_get_read entries (length entries) at entry refl (named_within entries at name (slice_get entries at) refl named) (read ∙ ap (λ (l : List Entry). get_or l at entry) seen)
+
+-- nothing has the name where no place was found
+pub unnamed : (entries : List Entry) (name : List ℕ) (found : Option ℕ) {told : Bool} → told ≡ false → told ≡ is_some found
+    → MatchOption found (NoneNamed entries name) (λ (at : ℕ). IsNamed entries name at) → NoneNamed entries name
+unnamed entries name None none is named = named
+unnamed entries name (Some at) none is named = cc
+
+-- the first entry of the name
+pub first_there : (items entries : List Entry) (at : ℕ) (entry : Entry) (name : List ℕ) → items ≡ entries → IsNamed entries name at
+    → ((sooner : ℕ) → sooner < at → IsNamed entries name sooner → ⊥) → entry ≡ get_or items at entry → IsEntry entries name entry
+first_there items entries at entry name seen named first read =
+    let there = entry_there items entries at entry name seen named read in (at, there.0, there.1, first)

@@ -4,3 +4,4 @@ pub mod Copied
 pub mod Filling
 pub mod Naming
 pub mod Entries
+pub mod Refusing

@@ -5,4 +5,6 @@ pub mod Calls
 pub mod Told
 pub mod Memory
 pub mod Devices
+pub mod Known
+pub mod Refusals
 pub mod MemoryNames

@@ -6,11 +6,13 @@ use Rattle.std.specs.declared.io.ErrorKind.TheVariants as kind
 use Rattle.disk_file.specs.declared.memory_file.Turn.{Turn}
 use Rattle.disk_file.specs.declared.memory_file.Turn.TheVariants.{Most, Interrupted, Failed}
 use Rattle.disk_file.specs.Calls.{Call}
+use Rattle.disk_file.specs.Known.{Standing}
 
--- the bytes that it holds, the turns of the calls to come, and the calls that were made
+-- the bytes that it holds, the turns of the calls to come, how it stands, and the calls that were made
 pub record MemoryState : Type 0 where
   pub held : List ℕ
   pub turns : List Turn
+  pub stands : Standing
   pub past : List Call
 
 -- the turn of the next call, and those of the calls behind it; behind the last each call does what it can

@@ -1,8 +1,12 @@
 // Devices by their names: what is there is opened, and where nothing is there a new file is made.
-ghost use Rattle.std.specs.Prelude.{◌≡◌, ◌≤◌, ◌++◌, ◌∷◌, [], Bool, Option, true, false, replicate, IfOk, OnOk, OnErr};
-ghost use Rattle.disk_file.specs.Calls.{deed_call, locked, WritesOn};
-ghost use Rattle.disk_file.specs.Devices.{AreZeros, calls_to_find, is_file, is_file_kind, is_one, IsWhole, IsFront, IsFilled, IsHad, IsLeft};
-ghost use Rattle.disk_file.specs.declared.devices.Look.{Look};
+ghost use Rattle.std.specs.Prelude.{◌≡◌, ◌≤◌, ◌⊎◌, ◌++◌, ◌∷◌, [], Bool, List, Option, true, false, replicate, IfOk, IfErr, OnOk, OnErr, Ok, ◌≢◌};
+ghost use Rattle.std.specs.IoError.{error_kind};
+ghost use Rattle.std.specs.declared.io.ErrorKind.TheVariants.{OutOfMemory};
+ghost use Rattle.disk_file.specs.Calls.{Call, deed_call, locked, WritesOn};
+ghost use Rattle.disk_file.specs.Devices.{Change, AreZeros, calls_to_find, is_file, is_file_kind, IsWhole, IsFront, IsMade, IsFilled, IsHad, IsLeft};
+ghost use Rattle.disk_file.specs.Known.{IsFree};
+ghost use Rattle.disk_file.specs.declared.devices.Kind.TheVariants.{Other};
+ghost use Rattle.disk_file.specs.Refusals.{IsToldAs, IsNoStorage, IsRefused, LockRefused, NotFilled, StoppedFilling, IsUnmade, IsLonger, Serves, StandsAs, Came, AreTold};
 
 use crate::whole::write_whole;
 use crate::{Devices, FileDisk, Kind, Look, OpenedFile, Watch};
@@ -45,7 +49,8 @@ struct Found<F: OpenedFile> {
 /// meanwhile; nothing was written. A refusal tells why it isn't opened.
 pub fn open_device<D: Devices>(devices: &D, name: &str) -> Result<FileDisk<D::File>, OpenFault>
     ensures whole { IfOk result (λ disk. IsWhole name.now true disk) }
-    ensures holds { IfOk result (λ disk. D.holds devices.now name.now disk.told) }
+    ensures holds { IfOk result (λ disk. Serves (D.known devices.now) name.now disk.told) }
+    ensures refused { IfErr result (λ fault. IsRefused (D.known devices.now) D.File.past name.now true fault) }
 {
     let found = find(devices, name, true)?;
     Ok(FileDisk::new(found.file, found.len))
@@ -54,7 +59,8 @@ pub fn open_device<D: Devices>(devices: &D, name: &str) -> Result<FileDisk<D::Fi
 /// The same, open for reading alone, so it may be one that the user may not write: each write to it is a fault. It is locked likewise.
 pub fn open_to_read<D: Devices>(devices: &D, name: &str) -> Result<FileDisk<D::File>, OpenFault>
     ensures whole { IfOk result (λ disk. IsWhole name.now false disk) }
-    ensures holds { IfOk result (λ disk. D.holds devices.now name.now disk.told) }
+    ensures holds { IfOk result (λ disk. Serves (D.known devices.now) name.now disk.told) }
+    ensures refused { IfErr result (λ fault. IsRefused (D.known devices.now) D.File.past name.now false fault) }
 {
     let found = find(devices, name, false)?;
     Ok(FileDisk::new(found.file, found.len))
@@ -62,7 +68,7 @@ pub fn open_to_read<D: Devices>(devices: &D, name: &str) -> Result<FileDisk<D::F
 
 /// Whether two names are of one file, or of one block device. It isn't where nothing is there.
 pub fn are_one<D: Devices>(devices: &D, name: &str, other: &str) -> bool
-    ensures { (one two : Option Look) × D.finds devices.now name.now one × D.finds devices.now other.now two × (result ≡ is_one one two) }
+    ensures { AreTold (D.known devices.now) name.now other.now result }
 {
     let (Ok(one), Ok(two)) = (devices.look(name), devices.look(other)) else {
         return false;
@@ -85,6 +91,9 @@ pub fn make_device<D: Devices, W: Watch>(
 ) -> Result<FileDisk<D::File>, OpenFault>
     ensures had { IfOk result (λ disk. IsHad name.now len disk (D.changes devices.old) (D.changes devices.new)) }
     ensures left { OnErr result (IsLeft name.now (D.changes devices.old) (D.changes devices.new)) }
+    ensures holds { IfOk result (λ disk. IsMade name.now len disk ⊎ Serves (D.known devices.new) name.now disk.told) }
+    ensures refused { IfErr result (λ fault. IsUnmade D.known D.becomes D.File.past D.stands devices.old devices.new name.now len fault) }
+    ensures came { (changes : List Change) × (D.changes devices.new ≡ D.changes devices.old ++ changes) × Came D.becomes devices.old changes devices.new }
 {
     let mut file = match devices.make(name) {
         Ok(file) => file,
@@ -109,7 +118,8 @@ fn open_up_to<D: Devices>(
     asked: u64,
 ) -> Result<FileDisk<D::File>, OpenFault>
     ensures front { IfOk result (λ disk. IsFront name.now asked disk) }
-    ensures holds { IfOk result (λ disk. D.holds devices.now name.now disk.told) }
+    ensures holds { IfOk result (λ disk. Serves (D.known devices.now) name.now disk.told) }
+    ensures refused { IfErr result (λ fault. IsRefused (D.known devices.now) D.File.past name.now true fault ⊎ IsLonger (D.known devices.now) name.now asked fault) }
 {
     let Found { file, kind, len } = find(devices, name, true)?;
     if kind == Kind::File && len > asked {
@@ -122,7 +132,8 @@ fn open_up_to<D: Devices>(
 // alone would wait for its writer.
 fn find<D: Devices>(devices: &D, name: &str, writes: bool) -> Result<Found<D::File>, OpenFault>
     ensures past { IfOk result (λ found. D.File.past found.file ≡ calls_to_find name.now writes (is_file_kind found.kind) found.len) }
-    ensures holds { IfOk result (λ found. D.holds devices.now name.now (D.File.told found.file)) }
+    ensures stands { IfOk result (λ found. StandsAs (D.known devices.now) name.now (D.File.told found.file) found.kind found.len) }
+    ensures refused { IfErr result (λ fault. IsRefused (D.known devices.now) D.File.past name.now writes fault) }
 {
     storage_kind(devices.look(name).map(|look| look.kind))?;
     let mut file = match devices.open(name, writes) {
@@ -139,7 +150,8 @@ fn find<D: Devices>(devices: &D, name: &str, writes: bool) -> Result<Found<D::Fi
 
 // The kind of what was found: a file or a block device, as nothing else can be a device.
 fn storage_kind(found: io::Result<Kind>) -> Result<Kind, OpenFault>
-    ensures { IfOk result (λ kind. is_file found ≡ is_file_kind kind) }
+    ensures kind { IfOk result (λ kind. (found ≡ Ok kind) × (kind ≢ Other)) }
+    ensures refused { IfErr result (λ fault. IsNoStorage found fault) }
 {
     match found {
         Ok(Kind::Other) => Err(OpenFault::NoStorage),
@@ -149,7 +161,9 @@ fn storage_kind(found: io::Result<Kind>) -> Result<Kind, OpenFault>
 }
 
 // Why something can't be opened.
-fn refusal(error: io::Error) -> OpenFault {
+fn refusal(error: io::Error) -> OpenFault
+    ensures { IsToldAs error result }
+{
     match error.kind() {
         ErrorKind::NotFound => OpenFault::Missing,
         ErrorKind::IsADirectory => OpenFault::NoStorage,
@@ -160,6 +174,8 @@ fn refusal(error: io::Error) -> OpenFault {
 fn lock<D: Devices>(devices: &D, file: &mut D::File) -> Result<(), OpenFault>
     ensures past { OnOk result (D.File.past file.new ≡ D.File.past file.old ++ deed_call (locked true) ∷ []) }
     ensures same { D.File.told file.new ≡ D.File.told file.old }
+    ensures free { OnOk result (IsFree (D.stands file.old)) }
+    ensures refused { IfErr result (λ fault. LockRefused (D.known devices.now) (D.stands file.old) fault) }
 {
     match devices.lock(file) {
         Ok(()) => Ok(()),
@@ -177,7 +193,8 @@ fn fill_locked<D: Devices, W: Watch>(
     len: u64,
     watch: &mut W,
 ) -> Result<(), OpenFault>
-    ensures { OnOk result (IsFilled name.now len (D.File.past file.old) (D.File.past file.new)) }
+    ensures filled { OnOk result (IsFilled name.now len (D.File.past file.old) (D.File.past file.new)) }
+    ensures refused { IfErr result (λ fault. NotFilled (D.known devices.now) (D.stands file.old) name.now (D.File.past file.old) (D.File.past file.new) fault) }
 {
     lock(devices, file)?;
     if let Err(error) = fill(alloc, file, len, watch) {
@@ -195,7 +212,8 @@ fn fill_locked<D: Devices, W: Watch>(
 // So many zeros.
 fn zeros_of(alloc: Global, count: usize) -> io::Result<Vec<u8>>
     requires { 1 ≤ count }
-    ensures { IfOk result (λ zeros. AreZeros zeros.items) }
+    ensures zeros { IfOk result (λ zeros. AreZeros zeros.items) }
+    ensures want { IfErr result (λ error. error_kind error ≡ OutOfMemory) }
 {
     Ok(vec![in alloc; 0; count]?)
 }
@@ -207,7 +225,8 @@ fn fill<F: OpenedFile, W: Watch>(
     len: u64,
     watch: &mut W,
 ) -> io::Result<()>
-    ensures { OnOk result (WritesOn 0 (replicate len 0) result (F.past file.old) (F.past file.new)) }
+    ensures whole { OnOk result (WritesOn 0 (replicate len 0) result (F.past file.old) (F.past file.new)) }
+    ensures stopped { IfErr result (λ error. StoppedFilling (F.past file.old) (F.past file.new) error) }
 {
     let zeros = zeros_of(alloc, PIECE as usize)?;
     let mut done = 0;

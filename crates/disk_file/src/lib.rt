@@ -5,7 +5,7 @@
 mod device_file;
 mod devices;
 mod file_disk;
-mod history;
+mod kinds;
 mod memory_devices;
 mod memory_file;
 mod opened_file;

@@ -1,10 +1,13 @@
 // What stands under names in memory.
-ghost use Rattle.std.specs.Prelude.{◌≡◌, ◌++◌, ◌∷◌, ◌↔◌, ◌≢◌, [], IfOk, IsOk, MatchOption};
+ghost use Rattle.std.specs.Prelude.{◌≡◌, ◌<◌, ◌++◌, ◌∷◌, ◌⊎◌, ℕ, [], IfOk, IfErr, IfSome, ◌≢◌, is_ok, MatchOption, MatchResult, Some};
 ghost use Rattle.disk_file.specs.Calls.{deed_call, made};
-ghost use Rattle.disk_file.specs.MemoryNames.{IsNamed, NoneNamed, FindsIn, HoldsIn};
+ghost use Rattle.disk_file.specs.Devices.{makes, removes};
+ghost use Rattle.disk_file.specs.Known.{IsNew, making};
+ghost use Rattle.disk_file.specs.MemoryNames.{IsNamed, NoneNamed, WasAsked, FailsIn, EntriesAfter, BecomesIn, known_of};
 
-use crate::history::{History, LOCKED, MADE, MAKES, NAMED, OPENED, REMOVES, SEEN, SETTLED};
+use crate::kinds::{LOCKED, MADE, MAKES, NAMED, OPENED, REMOVES, SEEN, SETTLED};
 use crate::{Devices, Kind, Look, MemoryFile};
+use call_history::History;
 use std::alloc::Global;
 use std::fs::TryLockError;
 use std::io;
@@ -72,7 +75,8 @@ impl MemoryDevices {
 
     // The place of the first entry of this name.
     fn place_of(&self, name: &str) -> Option<usize>
-        ensures { MatchOption result (NoneNamed self.now.entries name.now) (λ at. IsNamed self.now.entries name.now at) }
+        ensures named { MatchOption result (NoneNamed self.now.entries name.now) (λ at. IsNamed self.now.entries name.now at) }
+        ensures first { IfSome result (λ at. (sooner : ℕ) → sooner < at → IsNamed self.now.entries name.now sooner → ⊥) }
     {
         for at in 0..self.entries.len() {
             if self.entries[at].name.as_str() == name {
@@ -84,7 +88,7 @@ impl MemoryDevices {
 
     // Fails where this is what was asked to.
     fn try_to(&self, what: Failing) -> io::Result<()>
-        ensures { IsOk result ↔ (self.now.failing ≢ what) }
+        ensures { MatchResult result (λ done. self.now.failing ≢ what) (λ error. WasAsked self.now what error) }
     {
         if self.failing == what {
             return Err(ErrorKind::Other.into());
@@ -95,7 +99,10 @@ impl MemoryDevices {
     // A new entry of this name, which is in use.
     fn add(&mut self, name: &str) -> io::Result<MemoryFile>
         ensures file { IfOk result (λ file. (file.past ≡ deed_call (made name.now) ∷ [])) }
-        ensures changes { self.new.changes ≡ self.old.changes }
+        ensures stands { IfOk result (λ file. IsNew (Some file.stands)) }
+        ensures refused { IfErr result (λ error. FailsIn self.old (making name.now) error) }
+        ensures entries { EntriesAfter self.old.entries (makes name.now (is_ok result)) self.new.entries }
+        ensures rest { self.new ≡ record self.old { entries = self.new.entries } }
     {
         self.try_to(Failing::Make)?;
         if self.place_of(name).is_some() {
@@ -117,7 +124,8 @@ impl MemoryDevices {
 
     // Takes the entry of this name out.
     fn take_out(&mut self, name: &str) -> io::Result<()>
-        ensures changes { self.new.changes ≡ self.old.changes }
+        ensures entries { EntriesAfter self.old.entries (removes name.now (is_ok result)) self.new.entries }
+        ensures rest { self.new ≡ record self.old { entries = self.new.entries } }
     {
         self.try_to(Failing::Remove)?;
         match self.place_of(name) {
@@ -133,11 +141,13 @@ impl MemoryDevices {
 impl Devices for MemoryDevices {
     type File = MemoryFile;
 
-    ghost finds = { FindsIn };
+    ghost known = { known_of };
 
-    ghost holds = { HoldsIn };
+    ghost stands = { λ file. Some file.stands };
 
     ghost changes = { λ d. d.changes };
+
+    ghost becomes = { BecomesIn };
 
     fn look(&self, name: &str) -> io::Result<Look> {
         self.try_to(Failing::Look)?;

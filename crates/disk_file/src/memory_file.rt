@@ -1,11 +1,13 @@
 // A file in memory, which tells what it holds.
-ghost use Rattle.std.specs.Prelude.{◌≡◌, ◌+◌, ◌-◌, ◌≤◌, [], ◌∷◌, ◌++◌, min, length, Some, IfOk, is_ok, if◌then◌else◌};
+ghost use Rattle.std.specs.Prelude.{◌≡◌, ◌+◌, ◌-◌, ◌≤◌, [], ◌∷◌, ◌++◌, min, length, false, Some, IfOk, is_ok, if◌then◌else◌};
+ghost use Rattle.disk_file.specs.declared.devices.Kind.TheVariants.{File};
 ghost use Rattle.disk_file.specs.Calls.{read_call, write_call, sync_call, moved, call_of, calls_of};
 ghost use Rattle.disk_file.specs.Told.{Gives, WriteLeaves};
 ghost use Rattle.disk_file.specs.Memory.{next_turn, later_turns, Moves, Ends};
 
-use crate::history::{History, LENGTH, LET_GO, READ, SYNC, WRITE};
+use crate::kinds::{LENGTH, LET_GO, READ, SYNC, WRITE};
 use crate::{Kind, OpenedFile};
+use call_history::History;
 use std::io;
 use std::io::ErrorKind;
 use std::marker::Model;
@@ -37,20 +39,20 @@ impl Model for MemoryFile {
 
     ghost Value = { MemoryState };
 
-    ghost view = { λ f. record { held = f.bytes.items; turns = drop f.at f.turns.items; past = calls_of f.history.notes } };
+    ghost view = { λ f. record { held = f.bytes.items; turns = drop f.at f.turns.items; stands = record { kind = f.kind; in_use = f.in_use }; past = calls_of f.history.notes } };
 }
 
 impl MemoryFile {
     /// A file that holds these bytes, on which no call was made, and whose calls take these turns.
     pub fn new(bytes: Vec<u8>, turns: Vec<Turn>) -> MemoryFile
-        ensures { result ≡ record { held = bytes.items; turns = turns.items; past = [] } }
+        ensures { result ≡ record { held = bytes.items; turns = turns.items; stands = record { kind = File; in_use = false }; past = [] } }
     {
         MemoryFile::of(bytes, turns, Kind::File, false)
     }
 
     /// The same of this kind, which another process locks or doesn't.
     pub(crate) fn of(bytes: Vec<u8>, turns: Vec<Turn>, kind: Kind, in_use: bool) -> MemoryFile
-        ensures { result ≡ record { held = bytes.items; turns = turns.items; past = [] } }
+        ensures { result ≡ record { held = bytes.items; turns = turns.items; stands = record { kind = kind; in_use = in_use }; past = [] } }
     {
         MemoryFile {
             bytes,
@@ -63,12 +65,16 @@ impl MemoryFile {
     }
 
     /// What it is.
-    pub(crate) fn kind(&self) -> Kind {
+    pub(crate) fn kind(&self) -> Kind
+        ensures { result ≡ self.now.stands.kind }
+    {
         self.kind
     }
 
     /// Whether another process locks it.
-    pub(crate) fn in_use(&self) -> bool {
+    pub(crate) fn in_use(&self) -> bool
+        ensures { result ≡ self.now.stands.in_use }
+    {
         self.in_use
     }
 

@@ -1,8 +1,9 @@
 // The names of the system. Each method makes the calls that its words say, and keeps in mind, for clauses alone, what came of them.
-ghost use Rattle.std.specs.Prelude.{◌≡◌, []};
+ghost use Rattle.std.specs.Prelude.{◌≡◌, [], ◌∷◌, ◌++◌, None};
 
-use crate::history::{History, LOCKED, MADE, MAKES, NAMED, OPENED, REMOVES, SEEN, SETTLED};
+use crate::kinds::{LOCKED, MADE, MAKES, NAMED, OPENED, REMOVES, SEEN, SETTLED};
 use crate::{Devices, Kind, Look, SystemFile};
+use call_history::History;
 use std::fs::{File, Metadata, OpenOptions, TryLockError, metadata, remove_file};
 use std::io;
 use std::marker::Model;
@@ -10,7 +11,7 @@ use std::os::unix::fs::{FileTypeExt, MetadataExt};
 use std::path::Path;
 use std::rt::Files;
 
-/// What stands under the names of the system. It doesn't tell what a look at one may find.
+/// What stands under the names of the system. It tells neither what a look at one may find, nor how a file stands, nor when a call fails.
 #[derive(Drop)]
 pub struct SystemDevices<'a, R: Files<File = File>> {
     rt: &'a R,
@@ -66,11 +67,13 @@ fn folder_of(name: &str) -> &str {
 impl<'a, R: Files<File = File>> Devices for SystemDevices<'a, R> {
     type File = SystemFile;
 
-    ghost finds = { λ _ _ _. Unit {0} };
+    ghost known = { λ _. record { finds = λ name look. Unit {0}; holds = λ name told stands. (told ≡ None) × (stands ≡ None); fails = λ asked error. Unit {0} } };
 
-    ghost holds = { λ _ _ _. Unit {0} };
+    ghost stands = { λ _. None };
 
     ghost changes = { λ changes. changes };
+
+    ghost becomes = { λ old change new. new ≡ old ++ change ∷ [] };
 
     fn look(&self, name: &str) -> io::Result<Look> {
         let found = metadata(self.rt, name)?;

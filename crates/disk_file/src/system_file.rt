@@ -3,7 +3,8 @@ ghost use Rattle.std.specs.Prelude.{◌≡◌, ◌∷◌, ◌++◌, [], None, if
 ghost use Rattle.disk_file.specs.Calls.{call_of, calls_of};
 
 use crate::OpenedFile;
-use crate::history::{History, LENGTH, LET_GO, READ, SYNC, WRITE};
+use crate::kinds::{LENGTH, LET_GO, READ, SYNC, WRITE};
+use call_history::History;
 use std::fs::File;
 use std::io;
 use std::io::{Seek, SeekFrom};

@@ -1,5 +1,6 @@
 -- What is seen of the forms in memory.
 use Rattle.std.specs.Prelude.{ℕ, Bool, List, map}
+use Rattle.io_traits.specs.Streams.{Reading, Writing}
 
 -- A source in memory: the bytes taken and left, the numbers of the calls that are to fail, how many calls were made and how many of them failed.
 pub record SourceState : Type 0 where
@@ -22,15 +23,25 @@ pub record SinkState : Type 0 where
 abbrev pub logged_bytes : List (ℕ × Unit {0}) → List ℕ
 logged_bytes pairs = map (λ pair. pair.0) pairs
 
--- What is seen of the standard input: the bytes taken, and how many reads failed.
+-- What is seen of a source over a stream of input: the reads that were made of it, and how many of its own calls failed.
 pub record InputState : Type 0 where
-  pub gone : List ℕ
+  pub reads : List Reading
   pub faults : ℕ
 
--- What is seen of the standard output: the bytes that the system took, and how many writes failed.
+-- What is seen of a sink over a stream of output: the writes that were made of it, and how many of its own calls failed.
 pub record OutputState : Type 0 where
-  pub written : List ℕ
+  pub writes : List Writing
   pub faults : ℕ
+
+-- A stream of input in memory: what the source has that it gives, and the reads that were made.
+pub record TextInputState : Type 0 where
+  pub source : SourceState
+  pub reads : List Reading
+
+-- A stream of output in memory: the sink that takes what is written, and the writes that were made.
+pub record TextOutputState : Type 0 where
+  pub sink : SinkState
+  pub writes : List Writing
 
 -- A door in memory: the links left, the numbers of the calls that are to fail, how many calls were made, how many of them failed, and whether the last answer was that no further link comes.
 pub record DoorState (L : Type 0) : Type 0 where

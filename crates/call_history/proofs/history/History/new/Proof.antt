@@ -21,12 +21,12 @@ use denote.Triple.Entry.{on_entry}
 use denote.Triple.Spec.{Meets, triple_of}
 use denote.Triple.Table.{entered}
 use denote.Triple.Walked.{says, ends_at, walked, walk_Meets}
-use Rattle.disk_file.specs.declared.history.History.{History}
-use Rattle.disk_file.specs.contracts.history.History as T
-use Rattle.disk_file.specs.contracts.history.History.new.Key.{name as #it}
-use Rattle.disk_file.specs.contracts.history.History.new as it
-use Rattle.disk_file.proofs.history.History.new.Statement as stated
-use Rattle.disk_file.proofs.history.History.new.Code as code
+use Rattle.call_history.specs.declared.history.History.{History}
+use Rattle.call_history.specs.contracts.history.History as T
+use Rattle.call_history.specs.contracts.history.History.new.Key.{name as #it}
+use Rattle.call_history.specs.contracts.history.History.new as it
+use Rattle.call_history.proofs.history.History.new.Statement as stated
+use Rattle.call_history.proofs.history.History.new.Code as code
 
 abbrev v : Val
 v = vstruct (vcons (vstruct vnil) vnil)

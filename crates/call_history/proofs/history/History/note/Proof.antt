@@ -25,12 +25,12 @@ use denote.Triple.Entry.{on_entry}
 use denote.Triple.Spec.{Meets, triple_of}
 use denote.Triple.Table.{entered}
 use denote.Triple.Walked.{says, Stays, stay_ref, walk_of, AllGo, Goes-ref, Walks, ends_at, walked, walk_Meets}
-use Rattle.disk_file.specs.declared.history.History.{History}
-use Rattle.disk_file.specs.contracts.history.History as T
-use Rattle.disk_file.specs.contracts.history.History.note.Key.{name as #it}
-use Rattle.disk_file.specs.contracts.history.History.note as it
-use Rattle.disk_file.proofs.history.History.note.Statement as stated
-use Rattle.disk_file.proofs.history.History.note.Code as code
+use Rattle.call_history.specs.declared.history.History.{History}
+use Rattle.call_history.specs.contracts.history.History as T
+use Rattle.call_history.specs.contracts.history.History.note.Key.{name as #it}
+use Rattle.call_history.specs.contracts.history.History.note as it
+use Rattle.call_history.proofs.history.History.note.Statement as stated
+use Rattle.call_history.proofs.history.History.note.Code as code
 use denote.Ref.{Bor}
 use denote.Builtin.{u8, u64}
 use denote.Exit.{yes}

@@ -1,0 +1,7 @@
+use Rattle.std.proofs.Common.{inl}
+use Rattle.std.proofs.lemmas.Result.{err_from_is_err_and}
+use Rattle.disk_file.proofs.device_file.open_up_to.Goals as goal
+
+pub returns-in_err-file-clause-refused : goal.returns-in_err-file-clause-refused
+returns-in_err-file-clause-refused g c =
+    let p = err_from_is_err_and c.from_residual.result c.from_residual.ensures.1 in rw (p.1, p.2) (inl c.in_err-file.ensures.refused)
