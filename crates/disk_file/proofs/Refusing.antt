@@ -10,9 +10,12 @@ use Rattle.disk_file.specs.Refusals.{IsRefused, IsUnmade, IsLonger, WasThere, Hi
 pub hid_length : {F : Type 0} (past : F → List Call) (name : List ℕ) (writes is_file : Bool) (file seen_file locked_file last : F) → past file ≡ deed_call (opened name writes) ∷ []
     → past seen_file ≡ past file ++ deed_call (seen is_file) ∷ [] → past locked_file ≡ past seen_file ++ deed_call (locked true) ∷ []
     → past last ≡ past locked_file ++ length_call None ∷ [] → HidLength past name writes
-hid_length past name writes is_file file seen_file locked_file last begun then held asked =
-    (last, is_file, asked ∙ ap (λ (l : List Call). l ++ length_call None ∷ []) (held ∙ ap (λ (l : List Call). l ++ deed_call (locked true) ∷ [])
-    (then ∙ ap (λ (l : List Call). l ++ deed_call (seen is_file) ∷ []) begun)))
+hid_length past name writes is_file file seen_file locked_file last begun then held asked = (
+  last,
+  is_file,
+  asked ∙ ap (λ (l : List Call). l ++ length_call None ∷ []) (held ∙ ap (λ (l : List Call). l ++ deed_call (locked true) ∷ [])
+      (then ∙ ap (λ (l : List Call). l ++ deed_call (seen is_file) ∷ []) begun)),
+)
 
 -- something had the name, and can't be had
 pub unmade_there : {D F T : Type 0} (known : D → Known) (becomes : D → Change → D → Type 0) (past : F → List Call) (stands : F → Option Standing) (old new : D) (name : List ℕ) (len : ℕ)
