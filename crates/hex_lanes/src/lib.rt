@@ -1,0 +1,91 @@
+//! Hex text of bytes and back, sixteen bytes at a time: what the crate `hex` answers, in a fraction of its time.
+#![tactic(auto)]
+
+ghost use Rattle.std.specs.Prelude.{◌≡◌, ◌+◌, ◌*◌, ◌%◌, ◌^◌, ◌<◌, ◌⊎◌, length, Ok, Err, IfOk, IfErr, MatchResult};
+ghost use Rattle.std.specs.String.{string_bytes};
+ghost use Rattle.hex.specs.Hex.{decode_of, encode_lower};
+ghost use Rattle.hex.specs.declared.error.FromHexError.TheVariants.{OddLength, OutOfMemory};
+
+mod lanes;
+
+use crate::lanes::{are_halves, bytes_of, halves_of, text_of};
+use hex::FromHexError;
+use std::alloc::{AllocError, Global};
+use std::simd::prelude::*;
+
+// How many bytes are written or read at a time.
+const BYTES: usize = 16;
+
+// How far the second chunk of so many bytes begins behind the first. It laps over the first, so that the last chunk ends where the bytes do.
+fn first_step(count: usize) -> usize
+    requires { count < 2 ^ 63 }
+    ensures { result ≡ (count + 15) % 16 + 1 }
+{
+    (count + BYTES - 1) % BYTES + 1
+}
+
+// Writes the text of the bytes, in lower case.
+fn encode_into(bytes: &[u8], text: &mut [u8])
+    requires { length text.old ≡ 2 * length bytes.now }
+    ensures { text.new ≡ encode_lower bytes.now }
+{
+    let mut at = 0;
+    let mut step = first_step(bytes.len());
+    'chunks: while bytes.len() - at >= BYTES {
+        text_of(u8x16::from_slice(&bytes[at..])).copy_to_slice(&mut text[2 * at..]);
+        at += step;
+        step = BYTES;
+    }
+    let (_, rest) = text.split_at_mut(2 * at);
+    let _ = hex::encode_to_slice(&bytes[at..], rest);
+}
+
+/// The hex digits of the bytes, in lower case and the high half of each byte first. It fails only where memory does.
+pub fn encode(alloc: Global, bytes: &[u8]) -> Result<String, AllocError>
+    ensures { IfOk result (λ text. string_bytes text ≡ encode_lower bytes.now) }
+{
+    let Some(long) = bytes.len().checked_mul(2) else {
+        return Err(AllocError);
+    };
+    let mut text = vec![in alloc; 0u8; long]?;
+    encode_into(bytes, text.as_mut_slice());
+    Ok(unsafe { String::from_utf8_unchecked(text) })
+}
+
+// Writes the bytes of the text. At an `Err`, which says where the first byte is that is no digit, `bytes` may hold anything.
+fn decode_into(text: &[u8], bytes: &mut [u8]) -> Result<(), FromHexError>
+    requires { length text.now ≡ 2 * length bytes.old }
+    ensures { MatchResult (decode_of text.now) (λ read. (result ≡ Ok tt) × (bytes.new ≡ read)) (λ e. result ≡ Err e) }
+{
+    let mut at = 0;
+    let mut step = first_step(bytes.len());
+    'chunks: while bytes.len() - at >= BYTES {
+        let halves = halves_of(u8x32::from_slice(&text[2 * at..]));
+        if !are_halves(halves) {
+            return hex::decode_to_slice(text, bytes);
+        }
+        bytes_of(halves).copy_to_slice(&mut bytes[at..]);
+        at += step;
+        step = BYTES;
+    }
+    let (_, rest) = bytes.split_at_mut(at);
+    match hex::decode_to_slice(&text[2 * at..], rest) {
+        Ok(()) => Ok(()),
+        Err(_) => hex::decode_to_slice(text, bytes),
+    }
+}
+
+/// The bytes that hex digits of either case spell. An `Err` is an odd length, the first byte that is no digit, or want of
+/// memory: a text of odd length takes none.
+pub fn decode(alloc: Global, text: &[u8]) -> Result<Vec<u8>, FromHexError>
+    ensures ok { IfOk result (λ bytes. decode_of text.now ≡ Ok bytes.items) }
+    ensures err { IfErr result (λ e. (e ≡ OutOfMemory) ⊎ (decode_of text.now ≡ Err e)) }
+    ensures odd { length text.now % 2 ≡ 1 → result ≡ Err OddLength }
+{
+    if text.len() % 2 != 0 {
+        return Err(FromHexError::OddLength);
+    }
+    let mut bytes = vec![in alloc; 0u8; text.len() / 2]?;
+    decode_into(text, bytes.as_mut_slice())?;
+    Ok(bytes)
+}
