@@ -76,7 +76,7 @@ pub fn data_of(alloc: Global, text: &[u8]) -> Result<Option<Bytes>, NoMemory>
     if text == b"-".as_slice() {
         return Ok(Some(Bytes::from_vec(Vec::new(alloc))));
     }
-    match hex::decode(alloc, text) {
+    match hex_lanes::decode(alloc, text) {
         Ok(bytes) if bytes.is_empty() => Ok(None),
         Ok(bytes) => Ok(Some(Bytes::from_vec(bytes))),
         Err(hex::FromHexError::OutOfMemory) => Err(AllocError),

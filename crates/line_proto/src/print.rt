@@ -15,7 +15,7 @@ pub fn data_of_bytes(alloc: Global, bytes: &[u8]) -> Result<String, NoMemory>
     if bytes.is_empty() {
         String::from_str(alloc, "-")
     } else {
-        hex::encode(alloc, bytes)
+        hex_lanes::encode(alloc, bytes)
     }
 }
 
