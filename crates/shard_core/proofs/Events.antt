@@ -77,15 +77,15 @@ module _ (setup : Setup) (P : State → Images) where
   behind [] ys s c there = there
   behind (x ∷ xs) ys s c there = inr (behind xs ys (after_step setup x s) c there)
 
-  of_first : (xs ys : List Event) (s : State) (c : List ℕ) → OneOf P (states_of setup xs s) c → OneOf P (states_of setup (xs ++ ys) s) c
+  pub of_first : (xs ys : List Event) (s : State) (c : List ℕ) → OneOf P (states_of setup xs s) c → OneOf P (states_of setup (xs ++ ys) s) c
   of_first xs ys s c there = subst (λ (l : List Step). OneOf P (states_through setup l s) c) (sym (steps_joined xs ys)) (in_front (steps_of xs) (steps_of ys) s c there)
 
-  of_others : (xs ys : List Event) (s : State) (c : List ℕ) → OneOf P (states_of setup ys (after_events setup xs s)) c → OneOf P (states_of setup (xs ++ ys) s) c
+  pub of_others : (xs ys : List Event) (s : State) (c : List ℕ) → OneOf P (states_of setup ys (after_events setup xs s)) c → OneOf P (states_of setup (xs ++ ys) s) c
   of_others xs ys s c there =
       subst (λ (l : List Step). OneOf P (states_through setup l s) c) (sym (steps_joined xs ys))
       (behind (steps_of xs) (steps_of ys) s c (subst (λ (t : State). OneOf P (states_through setup (steps_of ys) t) c) (sym (after_their_steps setup xs s)) there))
 
-  of_one : (x : Event) (s : State) (c : List ℕ) → OneOf P (states_through setup x.steps s) c → OneOf P (states_of setup (x ∷ []) s) c
+  pub of_one : (x : Event) (s : State) (c : List ℕ) → OneOf P (states_through setup x.steps s) c → OneOf P (states_of setup (x ∷ []) s) c
   of_one x s c there = in_front x.steps [] s c there
 
 -- ---- what the shelf makes of them

@@ -33,7 +33,6 @@ pub mod Events
 pub mod Emptied
 pub mod Lying
 pub mod Vacating
-pub mod Choosing
 pub mod Choices
 pub mod Tending
 pub mod Expiring
@@ -42,3 +41,4 @@ pub mod Tidy
 pub mod Telling
 pub mod Keeping
 pub mod Idle
+pub mod Flushing

@@ -1,23 +1,19 @@
 -- A shelf that goes by an event's steps makes the event.
-use Rattle.std.proofs.Common.{◌≡◌, ℕ, ◌<◌, ◌≤◌, Bool, true, false, List, ◌++◌, length, set, get_or, refl, sym, ◌∙◌, ap, subst, inl, inr}
-use Rattle.std.specs.Prelude.{Some, None, Result, Ok, Err, OnErr, slice_get}
+use Rattle.std.proofs.Common.{◌≡◌, ℕ, ◌<◌, ◌≤◌, false, List, length, set, get_or, refl, sym, ◌∙◌, ap, subst}
+use Rattle.std.specs.Prelude.{Some, None, slice_get}
 use Rattle.std.specs.List.{AllByRecursion}
 use Rattle.std.proofs.lemmas.Option.{slice_get_read}
 use Rattle.law_lists.proofs.Each.{all_get, all_set}
-use Rattle.model_faults.specs.Counts.{Rose}
 use Rattle.model_device.specs.Book.{Setup}
 use Rattle.model_device.specs.Device.{State, part_of}
-use Rattle.model_device.specs.Steps.{Step, after_steps}
-use Rattle.model_device.specs.Events.{Event, Call, Answer, counted, after_event}
+use Rattle.model_device.specs.Events.{Call, Answer, after_event}
 use Rattle.model_device.specs.Passes.{part_named}
 use Rattle.sprig_tree.specs.State.{SprigState}
 use Rattle.law_sprig.specs.Parts.{FitsParts, NamesOwn}
 use Rattle.law_sprig.proofs.Device.{parts_fit_on, parts_become}
 use Rattle.shard_core.proofs.Each.{set_same}
-use Rattle.model_device.specs.Legal.{Allowed, FlushEnds, flush_all}
 use Rattle.disk_model.specs.Disk.{DiskView}
 use Rattle.block_shelf.specs.View.{IsSetupOf, IsShelf, ShelfView}
-use Rattle.block_shelf.specs.Calls.{Goes}
 use Rattle.rec_format.specs.Versions.{block_capacity}
 use Rattle.block_format.specs.Layout.{most_records}
 use Rattle.block_format.specs.declared.geometry.Geometry.{Geometry}
@@ -29,19 +25,10 @@ use Rattle.sprig_tree.specs.Entries.{entry_of}
 use Rattle.rec_format.specs.declared.version.Digest.{Digest}
 use Rattle.shard_core.specs.Stands.{Agrees, IsWhole}
 use Rattle.law_steps.specs.Standing.{ShelfStands, StandTogether}
-use Rattle.shard_core.specs.Calls.{Makes, FlushesAll, flush_answer}
+use Rattle.shard_core.specs.Calls.{Makes}
 use Rattle.shard_core.specs.Keeping.{KeepsFew}
 use Rattle.law_steps.specs.Events.{MakesEvent, StepMakes}
-use Rattle.shard_raid.specs.Raids.{StandOn}
-use Rattle.law_steps.proofs.Making.{IsFlushing, event_of, makes_by}
 use Rattle.block_shelf.specs.declared.place.ShelfLimits.{ShelfLimits}
-
--- ---- how a flush ends
-
-pub flush_ends : {E : Type 0} (result : Result ℕ E) (call : Call) (before after : ℕ) (first rest steps : List Step) → FlushesAll result rest steps → OnErr result (Rose before after)
-    → FlushEnds (record { call = call; answer = flush_answer result; steps = first ++ steps; faults_before = before; faults_after = after }) first rest
-flush_ends (Ok n) call before after first rest steps flushes rose = inl (ap (λ (x : List Step). first ++ x) flushes.0, ap (λ (k : ℕ). counted k) flushes.1)
-flush_ends (Err e) call before after first rest steps stops rose = inr (refl, rose, steps, refl, stops)
 
 -- ---- the shard's setup
 
@@ -143,11 +130,11 @@ module _ {D : Type 0} (view : D → DiskView) (digest : Digest) (old new : Shard
       → StepMakes view (setup_of old) part call answer old.shelf s after new.shelf → Makes view call answer old s new
   lifted call answer names named s agrees made = part_lifted view part old new k before after shape place there at becomes call answer names named s agrees made
 
--- What the shelf alone makes of itself is a call of the shard that names no part.
+-- What the shelf alone makes of itself is a call of the shard that names no part, where it stands for what is asked of the state.
 abbrev pub shelf_lifted : {D : Type 0} (view : D → DiskView) (old new : ShardView D) → SameSetup old new → new.sprigs ≡ old.sprigs → (call : Call) (answer : Answer)
-    → NamesOwn (setup_of old) call → part_named (setup_of old) call ≡ None
-    → (s : State) → Agrees old s → MakesEvent view (setup_of old) call answer old.shelf s new.shelf (StandOn (setup_of old) new.shelf s) → Makes view call answer old s new
-shelf_lifted view old new shape sprigs call answer names named s agrees made =
+    → NamesOwn (setup_of old) call → part_named (setup_of old) call ≡ None → (Stands : State → Type 0) → ((t : State) → Stands t → ShelfStands (setup_of old) new.shelf t)
+    → (s : State) → Agrees old s → MakesEvent view (setup_of old) call answer old.shelf s new.shelf Stands → Makes view call answer old s new
+shelf_lifted view old new shape sprigs call answer names named Stands shelf_of s agrees made =
     let behind = after_event (setup_of old) made.event s in
     record {
       event = made.event;
@@ -161,32 +148,9 @@ shelf_lifted view old new shape sprigs call answer names named s agrees made =
             (parts_fit_on (setup_of old) false s made.event old.sprigs made.follows.allowed (subst (NamesOwn (setup_of old)) (sym made.is_call) names) agrees.sprigs
             (ap (part_named (setup_of old)) made.is_call ∙ named)));
         times = subst (AllByRecursion HasTimes) (sym sprigs) agrees.times;
-        shelf = shelf_over old new shape behind made.stands.shelf_stands;
+        shelf = shelf_over old new shape behind (shelf_of behind made.stands);
       };
       placed = made.placed;
       safe = made.safe;
       leaves = made.leaves;
     }
-
--- ---- a flush
-
--- What sealing and flushing make of a shard, with an event that ends so, and names no part.
-module _ {D : Type 0} (view : D → DiskView) (old new : ShardView D) (s : State) (agrees : Agrees old s) (shape : SameSetup old new) (sprigs : new.sprigs ≡ old.sprigs)
-    (up : (view old.shelf.disk).faults ≤ (view new.shelf.disk).faults) where
-  pub makes_flush : {E : Type 0} (result : Result ℕ E) (call : Call) (first steps : List Step) → AllByRecursion IsFlushing first
-      → let rest = flush_all (after_steps (setup_of old) first s).book in FlushesAll result rest steps → OnErr result (Rose (view old.shelf.disk).faults (view new.shelf.disk).faults)
-      → NamesOwn (setup_of old) call → part_named (setup_of old) call ≡ None
-      → ((event : Event) (told : Bool) → FlushEnds event first rest → Allowed (setup_of old) told s event call)
-      → Goes view (setup_of old) (first ++ steps) old.shelf s new.shelf
-      → Makes view call (flush_answer result) old s new
-  makes_flush result call first steps first_flushing flushes rose names none allowed goes =
-      let event : Event = event_of view (setup_of old) old.shelf new.shelf s call (flush_answer result) (first ++ steps) in
-      let may = λ (told : Bool). allowed event told (flush_ends result call (view old.shelf.disk).faults (view new.shelf.disk).faults first
-      (flush_all (after_steps (setup_of old) first s).book) steps flushes rose) in
-      makes_by view (setup_of old) old.shelf new.shelf s call (flush_answer result) (first ++ steps) (Agrees new) up goes (may false) (λ honest safe. may true) (record {
-        sprigs = subst (λ (x : Setup). FitsParts x new.sprigs (after_event (setup_of old) event s)) (setup_same old new shape)
-            (subst (λ (l : List SprigState). FitsParts (setup_of old) l (after_event (setup_of old) event s)) (sym sprigs)
-            (parts_fit_on (setup_of old) false s event old.sprigs (may false) names agrees.sprigs none));
-        times = subst (AllByRecursion HasTimes) (sym sprigs) agrees.times;
-        shelf = shelf_over old new shape (after_steps (setup_of old) (first ++ steps) s) (record { stands = goes.stands; queue = goes.queued agrees.shelf.queue });
-      })

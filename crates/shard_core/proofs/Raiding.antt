@@ -38,7 +38,7 @@ use Rattle.sprig_tree.specs.State.{SprigState}
 use Rattle.law_steps.specs.Standing.{ShelfStands, StandTogether}
 use Rattle.law_steps.specs.Events.{StepMakes}
 use Rattle.law_steps.proofs.Making.{event_of}
-use Rattle.shard_raid.specs.Raids.{RaidView, IsNext, turns_left}
+use Rattle.shard_raid.specs.Raids.{RaidView, IsNext, StandOn, turns_left}
 use Rattle.shard_raid.specs.Scans.{ScanMakes, IsDamageOf, IsRefusalOf, IsToldOf, IsOfTurn, scan_answer}
 use Rattle.shard_raid.specs.declared.scan.RaidRefusal.{RaidRefusal}
 use Rattle.shard_raid.specs.declared.scan.RaidRefusal.TheVariants.{Fault, Stale}
@@ -208,7 +208,9 @@ module _ {D : Type 0} (view : D → DiskView) (block now : ℕ) (old new : Shard
 
   abbrev pub scan_made : (result : Result ℕ RaidRefusal) → ScansSo result → (s : State) → Agrees old s
       → Makes view (turn_call old.shelf.raid.number (scan_turn block) now) (scan_answer result) old s new
-  scan_made result scans s agrees = shelf_lifted view old new shape sprigs (turn_call old.shelf.raid.number (scan_turn block) now) (scan_answer result) tt refl s agrees (scans s agrees.shelf).makes
+  scan_made result scans s agrees =
+      shelf_lifted view old new shape sprigs (turn_call old.shelf.raid.number (scan_turn block) now) (scan_answer result) tt refl
+      (StandOn (setup_of old) new.shelf s) (λ t on. on.shelf_stands) s agrees (scans s agrees.shelf).makes
 
   pub scan_whole : (result : Result ℕ RaidRefusal) → ScansSo result → IsWhole old → new.shelf.limits ≡ old.shelf.limits → IsWhole new
   scan_whole result scans whole limits =

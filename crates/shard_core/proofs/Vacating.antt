@@ -12,13 +12,14 @@ use Rattle.model_device.specs.Events.{Event, Call, Answer, Cause, happened, refu
 use Rattle.model_device.specs.Legal.{Allowed, is_in_block}
 use Rattle.model_device.specs.Vacating.{Outcome, did, stopped, IfRefused, MovesOut, moved_by, moved_count}
 use Rattle.law_steps.specs.Events.{MakesEvent}
+use Rattle.defrag_pass.specs.Choosing.{HasFew}
 use Rattle.shard_core.specs.declared.refusals.DefragCause.{DefragCause}
 use Rattle.shard_core.specs.declared.refusals.DefragRefusal.{DefragRefusal}
 use Rattle.shard_core.specs.View.{ShardView, SameSetup, setup_of}
 use Rattle.shard_core.specs.Stands.{Agrees}
 use Rattle.shard_core.specs.Calls.{Makes}
 use Rattle.shard_core.specs.Sprigs.{held}
-use Rattle.shard_core.specs.Vacating.{MakesEvents, AreMoves, LiesFrom, HasFew, HaveMoved, HasParts, NoneLies, lies_in, IsMoved, IsMovedOut, IsStopped}
+use Rattle.shard_core.specs.Vacating.{MakesEvents, AreMoves, LiesFrom, HaveMoved, HasParts, NoneLies, lies_in, IsMoved, IsMovedOut, IsStopped}
 use Rattle.shard_core.proofs.Lying.{later_part, lies_live, none_left}
 use Rattle.shard_core.proofs.Making.{setup_same}
 use Rattle.shard_core.proofs.Events.{RunsBy, if_refused, after_all, runs_none, runs_one, runs_then, makes_events, runs_made}

@@ -44,6 +44,10 @@ abbrev pub entries_in : Option SprigState → List Entry
 entries_in None = []
 entries_in (Some sprig) = sprig.entries
 
--- the digests of the part behind one, or all of them, whose entries are expired
+-- the digests behind one, or all of them, of those among these entries that are expired
+abbrev pub expired_among : List Entry → (now : ℕ) → Option Digest → List Digest
+expired_among entries now last = digests_in (filter (λ e. is_behind last e.digest) (filter (is_expired_entry now) entries))
+
+-- so of the entries of a part
 abbrev pub expired_left : {D : Type 0} → ShardView D → (part now : ℕ) → Option Digest → List Digest
-expired_left shard part now last = digests_in (filter (λ e. is_behind last e.digest) (filter (is_expired_entry now) (entries_in (slice_get shard.sprigs part))))
+expired_left shard part now last = expired_among (entries_in (slice_get shard.sprigs part)) now last

@@ -11,3 +11,4 @@ pub mod Vacating
 pub mod Expiring
 pub mod Raids
 pub mod Keeping
+pub mod Flushing

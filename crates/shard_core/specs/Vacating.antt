@@ -1,5 +1,5 @@
 -- Crate shard_core. What several events in a row make of a shard, and how the vacating of a block is answered.
-use Rattle.std.specs.Prelude.{◌≡◌, ℕ, ◌+◌, ◌≤◌, ◌<◌, ◌^◌, ◌==◌, Bool, true, false, List, length, Option, Some, None, Result, Ok, Err}
+use Rattle.std.specs.Prelude.{◌≡◌, ℕ, ◌+◌, ◌≤◌, ◌<◌, ◌==◌, Bool, true, false, List, length, Option, Some, None, Result, Ok, Err}
 use Rattle.std.specs.List.{AllByRecursion}
 use Rattle.rec_format.specs.declared.version.Digest.{Digest}
 use Rattle.rec_format.specs.declared.entry.Entry.{Entry}
@@ -62,11 +62,6 @@ AreMoves block events = AllByRecursion (λ event. ((digest : Digest) × (event.c
 pub record LiesFrom (setup : Setup) (part block : ℕ) (book : Book) : Type 0 where
   pub unbuffered : has_buffer book block ≡ false
   pub from : (digest : Digest) → is_in_block block (live_of digest book.live) ≡ true → part ≤ part_of setup digest
-
--- No buffer has the block, and less than 2^16 units are live in it.
-pub record HasFew (block : ℕ) (book : Book) : Type 0 where
-  pub unbuffered : has_buffer book block ≡ false
-  pub few : use_of book block < 2 ^ 16
 
 -- So many records were moved out of the block so far, each with some units of it, and those that lie in it still are of this part or of a
 -- later one.

@@ -45,7 +45,7 @@ impl<D: Disk> Shard<D> {
 }
 
 /// The tallies of all sprigs together.
-pub(crate) fn tally_sum(sprigs: &[Sprig]) -> Tally
+pub fn tally_sum(sprigs: &[Sprig]) -> Tally
     ensures { result ≡ tally_sum sprigs.now }
 {
     let mut sum = Tally::default();

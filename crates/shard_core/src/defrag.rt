@@ -13,15 +13,16 @@ ghost use Rattle.block_flusher.specs.Images.{IsBodyOf};
 ghost use Rattle.block_shelf.specs.Disks.{IsLater};
 ghost use Rattle.block_shelf.specs.Vacating.{IsReadNext};
 ghost use Rattle.block_shelf.specs.Sure.{StaysSure};
+ghost use Rattle.defrag_pass.specs.Choosing.{HasFew};
 ghost use Rattle.shard_core.specs.View.{SameSetup, setup_of};
 ghost use Rattle.shard_core.specs.Stands.{Agrees};
 ghost use Rattle.shard_core.specs.Calls.{Makes};
 ghost use Rattle.shard_core.specs.Keeping.{KeepsThrough};
-ghost use Rattle.shard_core.specs.Vacating.{MakesEvents, HasBodyUnless, HasFew, HasParts, IsDamageFound, IsDamageIn, IsMoved, IsMovedSome, IsMovedOut, IsNextIn, IsVacating, NoneLies, lies_in};
+ghost use Rattle.shard_core.specs.Vacating.{MakesEvents, HasBodyUnless, HasParts, IsDamageFound, IsDamageIn, IsMoved, IsMovedSome, IsMovedOut, IsNextIn, IsVacating, NoneLies, lies_in};
 
 use crate::refusals::{move_answer, vacate_cause};
 use crate::{DefragCause, DefragRefusal, Shard};
-use defrag_pass::move_one;
+use defrag_pass::{choose_step, move_one};
 use disk_model::Disk;
 use partition_map::device_of;
 use rec_format::Digest;
@@ -58,9 +59,7 @@ impl<D: Disk> Shard<D> {
         ensures honest { IsHonest (D.view self.old.shelf.disk) → IsHonest (D.view self.new.shelf.disk) }
         ensures shape { SameSetup self.old self.new }
     {
-        // By its shape the device has no block with 2^16 records.
-        let _shape = self.shelf.geometry();
-        match self.shelf.vacate_next(&mut self.listed) {
+        match choose_step(&mut self.shelf, &mut self.listed) {
             Ok(Some(block)) => match self.vacate(alloc, block) {
                 Ok(moved) => Ok(Some(Vacated { block, moved })),
                 Err(refusal) => Err(refusal),

@@ -21,7 +21,7 @@ ghost use Rattle.shard_core.specs.Sprigs.{held};
 ghost use Rattle.shard_core.specs.Stands.{Agrees, IsWhole};
 ghost use Rattle.shard_core.specs.Calls.{IsRefusedStep, Makes, delete_answer};
 ghost use Rattle.shard_core.specs.Vacating.{MakesEvents};
-ghost use Rattle.shard_core.specs.Expiring.{AreBare, IsExpiring, IsOfRemoval, expired_left};
+ghost use Rattle.shard_core.specs.Expiring.{AreBare, IsExpiring, IsOfRemoval, expired_among, expired_left};
 
 use crate::delete::remove_entry;
 use crate::{ExpireRefusal, Settings, Shard, WriteRefusal};
@@ -68,6 +68,21 @@ pub fn expire_step<D: Disk>(
     };
     remove_entry(alloc, sprig, shelf, set, digest, *entry, now)?;
     Ok(true)
+}
+
+/// The digest of the first entry of a sprig behind a digest, or of all, that is a put which was expired at `now`, in milliseconds; none
+/// where there is none.
+pub fn next_expired(sprig: &Sprig, last: Option<Digest>, now: u64) -> Option<Digest>
+    ensures { result ≡ slice_get (expired_among sprig.now.entries now last) 0 }
+{
+    let mut next = sprig.next_after(last.as_ref());
+    while let Some(entry) = next {
+        if expired_put(Some(&entry), now).is_some() {
+            return Some(entry.digest);
+        }
+        next = sprig.next_after(Some(&entry.digest));
+    }
+    None
 }
 
 impl<D: Disk> Shard<D> {
@@ -138,14 +153,6 @@ impl<D: Disk> Shard<D> {
         ensures next { result ≡ slice_get (expired_left self.now part now last) 0 }
         ensures whole { IsWhole self.now }
     {
-        let sprig = &self.sprigs[part as usize];
-        let mut next = sprig.next_after(last.as_ref());
-        while let Some(entry) = next {
-            if expired_put(Some(&entry), now).is_some() {
-                return Some(entry.digest);
-            }
-            next = sprig.next_after(Some(&entry.digest));
-        }
-        None
+        next_expired(&self.sprigs[part as usize], last, now)
     }
 }

@@ -1,24 +1,26 @@
 // How what waits in write buffers comes to the disk.
-ghost use Rattle.std.specs.Prelude.{◌≡◌, ◌≢◌, ◌<◌, ◌≤◌, ◌^◌, true, false, [], List, IfOk, OnOk, OnErr};
+ghost use Rattle.std.specs.Prelude.{◌≡◌, ◌≢◌, ◌<◌, ◌≤◌, ◌^◌, true, false, [], List, Ok, IfOk, OnOk, OnErr};
 ghost use Rattle.std.specs.List.{AllByRecursion};
 ghost use Rattle.model_faults.specs.Counts.{Rose};
 ghost use Rattle.disk_model.specs.Disk.{IsHonest};
 ghost use Rattle.model_device.specs.Book.{Setup};
 ghost use Rattle.model_device.specs.Device.{State};
 ghost use Rattle.model_device.specs.Steps.{Step};
-ghost use Rattle.model_device.specs.Events.{flush_call, flush_sealed_call};
+ghost use Rattle.model_device.specs.Events.{flush_call, flush_next_call, flush_sealed_call};
 ghost use Rattle.model_device.specs.Legal.{flush_all, flush_between};
 ghost use Rattle.block_shelf.specs.Disks.{IsLater};
 ghost use Rattle.block_shelf.specs.Sure.{StaysSure};
 ghost use Rattle.block_shelf.specs.Low.{gains};
-ghost use Rattle.block_shelf.specs.View.{IsShelf, IsSetupOf, is_unsealed};
-ghost use Rattle.block_shelf.specs.View as shelf_view;
+ghost use Rattle.block_shelf.specs.View.{IsShelf, IsSetupOf, SameShape, is_unsealed};
 ghost use Rattle.block_shelf.specs.Standing.{StandsFor};
 ghost use Rattle.block_shelf.specs.Calls.{Goes};
 ghost use Rattle.model_device.specs.Vacating.{can_gain};
+ghost use Rattle.law_steps.specs.Standing.{ShelfStands};
+ghost use Rattle.law_steps.specs.Events.{MakesEvent};
 ghost use Rattle.shard_core.specs.View.{SameSetup, setup_of};
 ghost use Rattle.shard_core.specs.Stands.{Agrees, IsWhole};
 ghost use Rattle.shard_core.specs.Calls.{Makes, MakesAny, flush_answer, FlushesAll};
+ghost use Rattle.shard_core.specs.Flushing.{flushed_count};
 ghost use Rattle.shard_core.specs.Writing.{EndsRight};
 ghost use Rattle.shard_core.specs.Keeping.{FlushesInTurn, FlushesFront, SealsAndFlushes, KeepsTended};
 ghost use Rattle.shard_core.specs.Vacating.{MakesEvents, TendsWell};
@@ -45,7 +47,7 @@ pub(crate) fn flush_up_to<D: Disk>(shelf: &mut Shelf<D>, last: u64) -> Result<u6
     ensures sure { StaysSure D.view shelf.old shelf.new }
     ensures later { IsLater (D.view shelf.old.disk) (D.view shelf.new.disk) }
     ensures honest { IsHonest (D.view shelf.old.disk) → IsHonest (D.view shelf.new.disk) }
-    ensures shape { shelf_view.SameShape shelf.old shelf.new }
+    ensures shape { SameShape shelf.old shelf.new }
     ensures whole { IsShelf D.view shelf.old }
 {
     let mut count = 0;
@@ -58,8 +60,8 @@ pub(crate) fn flush_up_to<D: Disk>(shelf: &mut Shelf<D>, last: u64) -> Result<u6
     Ok(count)
 }
 
-/// At `Ok` all sealed buffers are flushed, in rising number, and it answers how many. After the first fault those before it stay flushed.
-pub(crate) fn flush_sealed<D: Disk>(shelf: &mut Shelf<D>) -> Result<u64, DiskFault>
+// At `Ok` all sealed buffers are flushed, in rising number, and it answers how many. After the first fault those before it stay flushed.
+fn flush_sealed<D: Disk>(shelf: &mut Shelf<D>) -> Result<u64, DiskFault>
     ensures flushed { (setup : Setup) (s : State) → IsSetupOf setup shelf.old → StandsFor setup shelf.old s
         → (steps : List Step) × FlushesAll result (flush_all s.book) steps × Goes D.view setup steps shelf.old s shelf.new }
     ensures few { IfOk result (λ n. n < 2 ^ 60) }
@@ -70,9 +72,84 @@ pub(crate) fn flush_sealed<D: Disk>(shelf: &mut Shelf<D>) -> Result<u64, DiskFau
     ensures sure { StaysSure D.view shelf.old shelf.new }
     ensures later { IsLater (D.view shelf.old.disk) (D.view shelf.new.disk) }
     ensures honest { IsHonest (D.view shelf.old.disk) → IsHonest (D.view shelf.new.disk) }
-    ensures shape { shelf_view.SameShape shelf.old shelf.new }
+    ensures shape { SameShape shelf.old shelf.new }
 {
     flush_up_to(shelf, LAST_NUMBER)
+}
+
+/// At `Ok` nothing is pending, and it answers how many buffers it flushed; from then on, until a record is removed, each crash leaves its
+/// version of now or a later one, and nothing from before a tombstone comes back. The buffers that are being filled are sealed, and all
+/// are flushed in rising number. After a fault those that were flushed stay so, and at least one is pending. It takes no memory.
+pub fn flush_shelf<D: Disk>(shelf: &mut Shelf<D>) -> Result<u64, DiskFault>
+    ensures makes { (setup : Setup) (s : State) → IsSetupOf setup shelf.old → ShelfStands setup shelf.old s
+        → MakesEvent D.view setup flush_call (flush_answer result) shelf.old s shelf.new (ShelfStands setup shelf.new) }
+    ensures few { IfOk result (λ n. n < 2 ^ 60) }
+    ensures quiet { OnOk result (shelf.new.buffers ≡ []) }
+    ensures left { OnErr result (shelf.new.buffers ≢ []) }
+
+    // What is flushed comes to the back of what is kept, and the front goes where there is too much.
+    ensures kept { (setup : Setup) (s : State) → IsSetupOf setup shelf.old → ShelfStands setup shelf.old s → FlushesFront shelf.old shelf.new }
+    ensures cause { OnErr result (Rose (D.view shelf.old.disk).faults (D.view shelf.new.disk).faults) }
+    ensures sure { StaysSure D.view shelf.old shelf.new }
+    ensures later { IsLater (D.view shelf.old.disk) (D.view shelf.new.disk) }
+    ensures honest { IsHonest (D.view shelf.old.disk) → IsHonest (D.view shelf.new.disk) }
+    ensures shape { SameShape shelf.old shelf.new }
+{
+    shelf.seal_streams();
+    flush_sealed(shelf)
+}
+
+/// The buffers that are due are sealed, where at most 6 blocks are free, and at `Ok` all sealed ones are flushed, in rising number, and it
+/// answers how many; of these no crash loses anything then. After a fault those before it stay flushed. It takes no memory.
+pub fn flush_low<D: Disk>(shelf: &mut Shelf<D>) -> Result<u64, DiskFault>
+    ensures makes { (setup : Setup) (s : State) → IsSetupOf setup shelf.old → ShelfStands setup shelf.old s
+        → MakesEvent D.view setup flush_sealed_call (flush_answer result) shelf.old s shelf.new (ShelfStands setup shelf.new) }
+    ensures few { IfOk result (λ n. n < 2 ^ 60) }
+    ensures left { OnErr result (shelf.new.buffers ≢ []) }
+
+    // What is flushed comes to the back of what is kept, and the front goes where there is too much.
+    ensures kept { (setup : Setup) (s : State) → IsSetupOf setup shelf.old → ShelfStands setup shelf.old s → SealsAndFlushes shelf.old shelf.new }
+    ensures cause { OnErr result (Rose (D.view shelf.old.disk).faults (D.view shelf.new.disk).faults) }
+    ensures sure { StaysSure D.view shelf.old shelf.new }
+    ensures later { IsLater (D.view shelf.old.disk) (D.view shelf.new.disk) }
+    ensures honest { IsHonest (D.view shelf.old.disk) → IsHonest (D.view shelf.new.disk) }
+    ensures shape { SameShape shelf.old shelf.new }
+    ensures whole { IsShelf D.view shelf.old }
+{
+    shelf.seal_low();
+    flush_sealed(shelf)
+}
+
+/// The buffers that are due are sealed, where at most 6 blocks are free, and at `Ok` the sealed one of the lowest number is flushed: it
+/// answers 1, or 0 where none is sealed. No crash loses anything of it then. After a fault it is pending still. It takes no memory.
+pub fn flush_next<D: Disk>(shelf: &mut Shelf<D>) -> Result<u64, DiskFault>
+    ensures makes { (setup : Setup) (s : State) → IsSetupOf setup shelf.old → ShelfStands setup shelf.old s
+        → MakesEvent D.view setup flush_next_call (flush_answer result) shelf.old s shelf.new (ShelfStands setup shelf.new) }
+    ensures one { IfOk result (λ n. n ≤ 1) }
+    ensures none { result ≡ Ok 0 → AllByRecursion (λ b. is_unsealed b.phase ≡ true) shelf.new.buffers }
+    ensures left { OnErr result (shelf.new.buffers ≢ []) }
+
+    // What is flushed comes to the back of what is kept, and the front goes where there is too much.
+    ensures kept { (setup : Setup) (s : State) → IsSetupOf setup shelf.old → ShelfStands setup shelf.old s → SealsAndFlushes shelf.old shelf.new }
+    ensures cause { OnErr result (Rose (D.view shelf.old.disk).faults (D.view shelf.new.disk).faults) }
+    ensures sure { StaysSure D.view shelf.old shelf.new }
+    ensures later { IsLater (D.view shelf.old.disk) (D.view shelf.new.disk) }
+    ensures honest { IsHonest (D.view shelf.old.disk) → IsHonest (D.view shelf.new.disk) }
+    ensures shape { SameShape shelf.old shelf.new }
+{
+    shelf.seal_low();
+    flushed_count(shelf.flush_step())
+}
+
+// How many buffers were flushed, where one was or none.
+fn flushed_count(flushed: Result<Option<u64>, DiskFault>) -> Result<u64, DiskFault>
+    ensures { result ≡ flushed_count flushed }
+{
+    match flushed {
+        Ok(Some(_)) => Ok(1),
+        Ok(None) => Ok(0),
+        Err(fault) => Err(fault),
+    }
 }
 
 impl<D: Disk> Shard<D> {
@@ -93,8 +170,7 @@ impl<D: Disk> Shard<D> {
         ensures honest { IsHonest (D.view self.old.shelf.disk) → IsHonest (D.view self.new.shelf.disk) }
         ensures shape { SameSetup self.old self.new }
     {
-        self.shelf.seal_streams();
-        flush_sealed(&mut self.shelf)
+        flush_shelf(&mut self.shelf)
     }
 
     /// Makes room, and answers nothing; of what was flushed no crash loses anything by it. It seals what is due where at most 6 blocks
@@ -129,8 +205,7 @@ impl<D: Disk> Shard<D> {
         ensures honest { IsHonest (D.view self.old.shelf.disk) → IsHonest (D.view self.new.shelf.disk) }
         ensures shape { SameSetup self.old self.new }
     {
-        self.shelf.seal_low();
-        let _ = flush_sealed(&mut self.shelf);
+        let _ = flush_low(&mut self.shelf);
     }
 
     // Whether a block is to be vacated, if one is queued.

@@ -25,14 +25,16 @@ mod write;
 
 pub use block_shelf::ReadRefusal;
 pub use cold_scan::{Asked, StartCause, StartRefusal};
+pub use counts::tally_sum;
 pub use defrag::Vacated;
 pub use delete::{bury_step, delete_step};
-pub use expire::expire_step;
+pub use expire::{expire_step, next_expired};
+pub use flush::{flush_low, flush_next, flush_shelf};
 pub use format::format_disk;
 pub use get::{Meta, get_step, meta_step};
 pub use put::put_step;
 pub use raid::RaidDid;
 pub use refusals::{Damage, DefragCause, DefragRefusal, ExpireRefusal, WriteRefusal};
 pub use settings::Settings;
-pub use shard::Shard;
+pub use shard::{Parts, Shard};
 pub use shard_raid::{Raid, RaidRefusal};

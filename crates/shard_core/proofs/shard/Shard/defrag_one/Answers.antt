@@ -1,4 +1,4 @@
-use Rattle.std.proofs.Common.{ℕ, ◌≤◌, false, List, ap, sym, ◌∙◌, subst}
+use Rattle.std.proofs.Common.{ℕ, ◌≤◌, Option, false, List, ap, sym, ◌∙◌, subst}
 use Rattle.std.specs.Prelude.{Some, None, Ok, Err}
 use Rattle.model_device.specs.Device.{State}
 use Rattle.model_device.specs.Legal.{queue_front}
@@ -9,7 +9,6 @@ use Rattle.block_format.specs.Layout.{body_bytes, most_records}
 use Rattle.block_flusher.specs.Images.{IsBodyOf}
 use Rattle.block_shelf.specs.View.{ShelfView}
 use Rattle.block_shelf.specs.Vacating.{IsReadNext, ListsBody}
-use Rattle.block_shelf.specs.declared.refusals.VacateRefusal.{VacateRefusal}
 use Rattle.shard_core.specs.View.{ShardView}
 use Rattle.shard_core.specs.Stands.{Agrees}
 use Rattle.shard_core.specs.declared.refusals.DefragCause.{DefragCause}
@@ -24,82 +23,79 @@ use Rattle.shard_core.proofs.shard.Shard.defrag_one.Goals as goal
 pub vacate-requires-clause-block : goal.vacate-requires-clause-block
 vacate-requires-clause-block g c =
     let old : ShardView g.row.D.Denot = record { shelf = c.self.inside.shelf; set = c.self.inside.set; sprigs = c.self.inside.sprigs.items } in
-    let mid : ShelfView g.row.D.Denot = c.vacate_next.new.self in
-    within g.D.Disk.view old mid c.vacate_next.ensures.rest c.vacate_next.ensures.disk (g.met.D.Disk.is_disk mid.disk)
-    c.in-Ok-Some.field-0 c.in-Ok-Some.ensures.chosen c.in-Ok-Some.block c.in-Ok-Some.field-0-is c.in-Ok-Some.ensures.below c.self.invariant.whole c.geometry-shape.ensures.whole
+    let mid : ShelfView g.row.D.Denot = c.choose_step.new.shelf in
+    within g.D.Disk.view old mid c.choose_step.ensures.rest c.choose_step.result c.choose_step.ensures.makes c.choose_step.ensures.disk.honest c.self.invariant.whole
+    c.in-Ok-Some.block (c.in-Ok-Some.is ∙ ap (λ (o : Option ℕ). Ok o) c.in-Ok-Some.field-0-is) c.choose_step.ensures.below
 
 pub vacate-requires-clause-low : goal.vacate-requires-clause-low
 vacate-requires-clause-low g c =
     let old : ShardView g.row.D.Denot = record { shelf = c.self.inside.shelf; set = c.self.inside.set; sprigs = c.self.inside.sprigs.items } in
-    let mid : ShelfView g.row.D.Denot = c.vacate_next.new.self in
-    gives_few g.D.Disk.view old mid c.vacate_next.ensures.rest c.vacate_next.ensures.disk (g.met.D.Disk.is_disk mid.disk)
-    c.in-Ok-Some.field-0 c.in-Ok-Some.ensures.chosen c.in-Ok-Some.block c.in-Ok-Some.field-0-is c.in-Ok-Some.ensures.below c.self.invariant.whole c.geometry-shape.ensures.whole
+    let mid : ShelfView g.row.D.Denot = c.choose_step.new.shelf in
+    gives_few g.D.Disk.view old mid c.choose_step.ensures.rest c.choose_step.result c.choose_step.ensures.makes c.choose_step.ensures.disk.honest c.self.invariant.whole
+    c.in-Ok-Some.block (c.in-Ok-Some.is ∙ ap (λ (o : Option ℕ). Ok o) c.in-Ok-Some.field-0-is) c.choose_step.ensures.low
 
 pub returns-in-Ok-clause-makes : goal.returns-in-Ok-clause-makes
 returns-in-Ok-clause-makes g c =
     let old : ShardView g.row.D.Denot = record { shelf = c.self.inside.shelf; set = c.self.inside.set; sprigs = c.self.inside.sprigs.items } in
-    let mid : ShelfView g.row.D.Denot = c.vacate_next.new.self in
+    let mid : ShelfView g.row.D.Denot = c.choose_step.new.shelf in
     subst (λ (v : ShardView g.row.D.Denot). (s : State) → Agrees v s
     → MakesEvents g.D.Disk.view (IsVacating v s (Ok (Some (record { block = c.in-Ok-Some.block; moved = c.in-Ok.moved })))) v s c.vacate.new.self) c.self.view_is
-    (gives_all g.D.Disk.view old mid c.vacate_next.ensures.rest c.vacate_next.ensures.disk (g.met.D.Disk.is_disk mid.disk)
-    c.in-Ok-Some.field-0 c.in-Ok-Some.ensures.chosen c.in-Ok-Some.block c.in-Ok-Some.field-0-is c.in-Ok-Some.ensures.below c.self.invariant.whole c.geometry-shape.ensures.whole
-    c.vacate.new.self c.in-Ok.moved c.in-Ok.ensures.makes)
+    (λ s agrees. gives_all g.D.Disk.view old mid c.choose_step.ensures.rest c.choose_step.result c.choose_step.ensures.makes c.choose_step.ensures.disk.honest c.self.invariant.whole
+    s agrees c.in-Ok-Some.block (c.in-Ok-Some.is ∙ ap (λ (o : Option ℕ). Ok o) c.in-Ok-Some.field-0-is) c.choose_step.ensures.low
+    c.vacate.new.self c.choose_step.ensures.first c.in-Ok.moved c.in-Ok.ensures.makes)
 
 pub returns-in-Err-vacate-clause-makes : goal.returns-in-Err-vacate-clause-makes
 returns-in-Err-vacate-clause-makes g c =
     let old : ShardView g.row.D.Denot = record { shelf = c.self.inside.shelf; set = c.self.inside.set; sprigs = c.self.inside.sprigs.items } in
-    let mid : ShelfView g.row.D.Denot = c.vacate_next.new.self in
+    let mid : ShelfView g.row.D.Denot = c.choose_step.new.shelf in
     subst (λ (v : ShardView g.row.D.Denot). (s : State) → Agrees v s → MakesEvents g.D.Disk.view (IsVacating v s (Err c.in-Err-vacate.refusal)) v s c.vacate.new.self) c.self.view_is
-    (gives_some g.D.Disk.view old mid c.vacate_next.ensures.rest c.vacate_next.ensures.disk (g.met.D.Disk.is_disk mid.disk)
-    c.in-Ok-Some.field-0 c.in-Ok-Some.ensures.chosen c.in-Ok-Some.block c.in-Ok-Some.field-0-is c.in-Ok-Some.ensures.below c.self.invariant.whole c.geometry-shape.ensures.whole
+    (λ s agrees. gives_some g.D.Disk.view old mid c.choose_step.ensures.rest c.choose_step.result c.choose_step.ensures.makes c.choose_step.ensures.disk.honest c.self.invariant.whole
+    s agrees c.in-Ok-Some.block (c.in-Ok-Some.is ∙ ap (λ (o : Option ℕ). Ok o) c.in-Ok-Some.field-0-is) c.choose_step.ensures.low
     c.vacate.new.self c.in-Err-vacate.refusal c.in-Err-vacate.ensures.makes)
 
 pub returns-in-Ok-None-clause-makes : goal.returns-in-Ok-None-clause-makes
 returns-in-Ok-None-clause-makes g c =
     let old : ShardView g.row.D.Denot = record { shelf = c.self.inside.shelf; set = c.self.inside.set; sprigs = c.self.inside.sprigs.items } in
-    let mid : ShelfView g.row.D.Denot = c.vacate_next.new.self in
-    let new : ShardView g.row.D.Denot = record { shelf = mid; set = c.self.inside.set; sprigs = c.self.inside.sprigs.items } in
-    subst (λ (v : ShardView g.row.D.Denot). (s : State) → Agrees v s → MakesEvents g.D.Disk.view (IsVacating v s (Ok None)) v s new) c.self.view_is
-    (gives_none g.D.Disk.view old mid c.vacate_next.ensures.rest c.vacate_next.ensures.disk (g.met.D.Disk.is_disk mid.disk)
-    c.in-Ok-None.field-0 c.in-Ok-None.ensures.chosen c.in-Ok-None.field-0-is)
+    let mid : ShelfView g.row.D.Denot = c.choose_step.new.shelf in
+    subst (λ (v : ShardView g.row.D.Denot). (s : State) → Agrees v s → MakesEvents g.D.Disk.view (IsVacating v s (Ok None)) v s (record { shelf = mid; set = old.set; sprigs = old.sprigs })) c.self.view_is
+    (λ s agrees. gives_none g.D.Disk.view old mid c.choose_step.ensures.rest c.choose_step.result c.choose_step.ensures.makes c.choose_step.ensures.disk.honest c.self.invariant.whole
+    s agrees (c.in-Ok-None.is ∙ ap (λ (o : Option ℕ). Ok o) c.in-Ok-None.field-0-is))
 
 pub returns-in-Err-clause-makes : goal.returns-in-Err-clause-makes
 returns-in-Err-clause-makes g c =
     let old : ShardView g.row.D.Denot = record { shelf = c.self.inside.shelf; set = c.self.inside.set; sprigs = c.self.inside.sprigs.items } in
-    let mid : ShelfView g.row.D.Denot = c.vacate_next.new.self in
-    let new : ShardView g.row.D.Denot = record { shelf = mid; set = c.self.inside.set; sprigs = c.self.inside.sprigs.items } in
+    let mid : ShelfView g.row.D.Denot = c.choose_step.new.shelf in
+    let new : ShardView g.row.D.Denot = record { shelf = mid; set = old.set; sprigs = old.sprigs } in
     subst (λ (v : ShardView g.row.D.Denot). (s : State) → Agrees v s → MakesEvents g.D.Disk.view (IsVacating v s (Err (record { moved = 0; cause = c.vacate_cause.result }))) v s new) c.self.view_is
     (subst (λ (why : DefragCause). (s : State) → Agrees old s → MakesEvents g.D.Disk.view (IsVacating old s (Err (record { moved = 0; cause = why }))) old s new) (sym c.vacate_cause.ensures)
-    (gives_not g.D.Disk.view old mid c.vacate_next.ensures.rest c.vacate_next.ensures.disk (g.met.D.Disk.is_disk mid.disk) c.in-Err.refusal c.in-Err.ensures.told
-    (λ none. let idle = c.vacate_next.ensures.idle none in let is = c.in-Err.is in let clash = sym is ∙ idle.0 in cc)
-    (λ fault. c.vacate_next.ensures.cause (c.in-Err.is ∙ ap (λ (r : VacateRefusal). Err r) fault))
-    (λ s agrees honest safe. c.in-Err.ensures.sound _ s honest agrees.shelf.stands agrees.shelf.queue safe.safe)))
+    (λ s agrees. gives_not g.D.Disk.view old mid c.choose_step.ensures.rest c.choose_step.result c.choose_step.ensures.makes c.choose_step.ensures.disk.honest c.self.invariant.whole
+    s agrees c.in-Err.refusal c.in-Err.is))
 
 -- ---- the fields
 
 pub invariant_of-self : goal.invariant_of-self
 invariant_of-self g c =
     let old : ShardView g.row.D.Denot = record { shelf = c.self.inside.shelf; set = c.self.inside.set; sprigs = c.self.inside.sprigs.items } in
-    let mid : ShelfView g.row.D.Denot = c.vacate_next.new.self in
+    let mid : ShelfView g.row.D.Denot = c.choose_step.new.shelf in
     let view = g.D.Disk.view in
     record {
-      whole = whole_over view old mid c.vacate_next.ensures.rest c.vacate_next.ensures.disk (g.met.D.Disk.is_disk mid.disk) c.self.invariant.whole;
+      whole = whole_over view old mid c.choose_step.ensures.rest c.choose_step.result c.choose_step.ensures.makes c.choose_step.ensures.disk.honest c.self.invariant.whole;
       tallied = c.self.invariant.tallied;
-      listed = subst (λ (n : ℕ). most_records (block_capacity mid.geometry.block_size) ≤ n) (sym c.vacate_next.ensures.room)
-          (room_stays old (record { shelf = mid; set = old.set; sprigs = old.sprigs }) (shape_over view old mid c.vacate_next.ensures.rest c.vacate_next.ensures.disk (g.met.D.Disk.is_disk mid.disk)) _
+      listed = subst (λ (n : ℕ). most_records (block_capacity mid.geometry.block_size) ≤ n) (sym c.choose_step.ensures.room)
+          (room_stays old (record { shelf = mid; set = old.set; sprigs = old.sprigs }) (shape_over view old mid c.choose_step.ensures.rest c.choose_step.result c.choose_step.ensures.makes c.choose_step.ensures.disk.honest c.self.invariant.whole) _
           c.self.invariant.listed);
     }
 
 pub invariant_of-self-in-Err : goal.invariant_of-self-in-Err
 invariant_of-self-in-Err g c =
     let old : ShardView g.row.D.Denot = record { shelf = c.self.inside.shelf; set = c.self.inside.set; sprigs = c.self.inside.sprigs.items } in
-    let mid : ShelfView g.row.D.Denot = c.vacate_next.new.self in
+    let mid : ShelfView g.row.D.Denot = c.choose_step.new.shelf in
     let view = g.D.Disk.view in
     record {
-      whole = whole_over view old mid c.vacate_next.ensures.rest c.vacate_next.ensures.disk (g.met.D.Disk.is_disk mid.disk) c.self.invariant.whole;
+      whole = whole_over view old mid c.choose_step.ensures.rest c.choose_step.result c.choose_step.ensures.makes c.choose_step.ensures.disk.honest c.self.invariant.whole;
       tallied = c.self.invariant.tallied;
-      listed = subst (λ (n : ℕ). most_records (block_capacity mid.geometry.block_size) ≤ n) (sym c.vacate_next.ensures.room)
-          (room_stays old (record { shelf = mid; set = old.set; sprigs = old.sprigs }) (shape_over view old mid c.vacate_next.ensures.rest c.vacate_next.ensures.disk (g.met.D.Disk.is_disk mid.disk)) _
+      listed = subst (λ (n : ℕ). most_records (block_capacity mid.geometry.block_size) ≤ n) (sym c.choose_step.ensures.room)
+          (room_stays old (record { shelf = mid; set = old.set; sprigs = old.sprigs }) (shape_over view old mid c.choose_step.ensures.rest c.choose_step.result c.choose_step.ensures.makes c.choose_step.ensures.disk.honest c.self.invariant.whole) _
           c.self.invariant.listed);
     }
 
@@ -128,7 +124,7 @@ pub returns-in-Err-clause-damaged : goal.returns-in-Err-clause-damaged
 returns-in-Err-clause-damaged g c block front =
     let view = g.D.Disk.view in
     let old : ShardView g.row.D.Denot = record { shelf = c.self.inside.shelf; set = c.self.inside.set; sprigs = c.self.inside.sprigs.items } in
-    let new : ShardView g.row.D.Denot = record { shelf = c.vacate_next.new.self; set = c.self.inside.set; sprigs = c.self.inside.sprigs.items } in
+    let new : ShardView g.row.D.Denot = record { shelf = c.choose_step.new.shelf; set = c.self.inside.set; sprigs = c.self.inside.sprigs.items } in
     subst (λ (v : ShardView g.row.D.Denot). IsDamageFound view block v new c.vacate_cause.result) c.self.view_is
     (subst (IsDamageFound view block old new) (sym c.vacate_cause.ensures)
     (found_of view block old new (ap (λ (v : ShardView g.row.D.Denot). queue_front v.shelf.queue.queue) c.self.view_is ∙ front) c.in-Err.refusal c.in-Err.ensures.told c.in-Err.ensures.read))
@@ -138,21 +134,21 @@ returns-in-Err-clause-damaged g c block front =
 pub returns-in-Ok-clause-kept : goal.returns-in-Ok-clause-kept
 returns-in-Ok-clause-kept g c =
     subst (λ (v : ShardView g.row.D.Denot). KeepsThrough false v.shelf c.vacate.new.self.shelf) c.self.view_is
-    (through_then false c.self.inside.shelf c.vacate_next.new.self c.vacate.new.self.shelf
-    (through_read false c.self.inside.shelf c.vacate_next.new.self c.vacate_next.ensures.rest) c.vacate.ensures.kept)
+    (through_then false c.self.inside.shelf c.choose_step.new.shelf c.vacate.new.self.shelf
+    (through_read false c.self.inside.shelf c.choose_step.new.shelf c.choose_step.ensures.rest) c.vacate.ensures.kept)
 
 pub returns-in-Err-vacate-clause-kept : goal.returns-in-Err-vacate-clause-kept
 returns-in-Err-vacate-clause-kept g c =
     subst (λ (v : ShardView g.row.D.Denot). KeepsThrough false v.shelf c.vacate.new.self.shelf) c.self.view_is
-    (through_then false c.self.inside.shelf c.vacate_next.new.self c.vacate.new.self.shelf
-    (through_read false c.self.inside.shelf c.vacate_next.new.self c.vacate_next.ensures.rest) c.vacate.ensures.kept)
+    (through_then false c.self.inside.shelf c.choose_step.new.shelf c.vacate.new.self.shelf
+    (through_read false c.self.inside.shelf c.choose_step.new.shelf c.choose_step.ensures.rest) c.vacate.ensures.kept)
 
 pub returns-in-Ok-None-clause-kept : goal.returns-in-Ok-None-clause-kept
 returns-in-Ok-None-clause-kept g c =
-    subst (λ (v : ShardView g.row.D.Denot). KeepsThrough false v.shelf c.vacate_next.new.self) c.self.view_is
-    (through_read false c.self.inside.shelf c.vacate_next.new.self c.vacate_next.ensures.rest)
+    subst (λ (v : ShardView g.row.D.Denot). KeepsThrough false v.shelf c.choose_step.new.shelf) c.self.view_is
+    (through_read false c.self.inside.shelf c.choose_step.new.shelf c.choose_step.ensures.rest)
 
 pub returns-in-Err-clause-kept : goal.returns-in-Err-clause-kept
 returns-in-Err-clause-kept g c =
-    subst (λ (v : ShardView g.row.D.Denot). KeepsThrough false v.shelf c.vacate_next.new.self) c.self.view_is
-    (through_read false c.self.inside.shelf c.vacate_next.new.self c.vacate_next.ensures.rest)
+    subst (λ (v : ShardView g.row.D.Denot). KeepsThrough false v.shelf c.choose_step.new.shelf) c.self.view_is
+    (through_read false c.self.inside.shelf c.choose_step.new.shelf c.choose_step.ensures.rest)

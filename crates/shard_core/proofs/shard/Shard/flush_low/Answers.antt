@@ -1,82 +1,49 @@
-use Rattle.std.proofs.Common.{◌≤◌, sym, refl, ◌∙◌, subst, ap}
-use Rattle.std.specs.Prelude.{OnErr}
-use Rattle.model_faults.specs.Counts.{Rose}
+use Rattle.std.proofs.Common.{refl, subst}
 use Rattle.model_device.specs.Device.{State}
-use Rattle.model_device.specs.Steps.{after_steps}
 use Rattle.model_device.specs.Events.{flush_sealed_call}
-use Rattle.model_device.specs.Legal.{is_due, seal_low}
-use Rattle.disk_model.specs.Disk.{IsHonest}
-use Rattle.block_shelf.specs.View.{ShelfView}
-use Rattle.shard_core.specs.View.{ShardView, setup_of}
+use Rattle.block_shelf.specs.Sure.{StaysSure}
+use Rattle.law_steps.specs.Standing.{ShelfStands}
+use Rattle.shard_core.specs.View.{ShardView, SameSetup, setup_of}
 use Rattle.shard_core.specs.Stands.{Agrees}
 use Rattle.shard_core.specs.Calls.{Makes, MakesAny, flush_answer}
-use Rattle.block_shelf.proofs.Going.{goes_then}
-use Rattle.shard_core.proofs.FlushLoop.{setup_stays}
-use Rattle.shard_core.proofs.Making.{setup_is, makes_flush, whole_made, room_stays}
-use Rattle.law_steps.proofs.Making.{seal_low_flushing}
-use Rattle.shard_core.proofs.shard.Shard.flush_low.Given.{Over}
-use Rattle.block_shelf.specs.Sure.{StaysSure}
-use Rattle.block_shelf.proofs.Surely.{sure_same, sure_then}
-use Rattle.model_device.specs.Book.{client, defrag}
 use Rattle.shard_core.specs.Keeping.{SealsAndFlushes}
-use Rattle.shard_core.proofs.Keeping.{flushes_sealed, seals_keep}
+use Rattle.shard_core.proofs.Making.{setup_is, shelf_lifted, whole_made, room_stays}
+use Rattle.shard_core.proofs.shard.Shard.flush_low.Given.{Over}
 use Rattle.shard_core.proofs.shard.Shard.flush_low.Goals as goal
 
-made : (g : Over) (c : goal.After-flush_sealed g) (s : State)
-    → let old : ShardView g.row.D.Denot = record { shelf = c.self.inside.shelf; set = c.self.inside.set; sprigs = c.self.inside.sprigs.items } in
-    let new : ShardView g.row.D.Denot = record { shelf = c.flush_sealed.new.shelf; set = c.self.inside.set; sprigs = c.self.inside.sprigs.items } in
-    Agrees old s → Makes g.D.Disk.view flush_sealed_call (flush_answer c.flush_sealed.result) old s new
-made g c s agrees =
-    let old : ShardView g.row.D.Denot = record { shelf = c.self.inside.shelf; set = c.self.inside.set; sprigs = c.self.inside.sprigs.items } in
-    let new : ShardView g.row.D.Denot = record { shelf = c.flush_sealed.new.shelf; set = c.self.inside.set; sprigs = c.self.inside.sprigs.items } in
-    let mid : ShelfView g.row.D.Denot = c.seal_low.new.self in
-    let is = setup_is old c.self.invariant.whole in
-    let first = c.seal_low.ensures.sealed (setup_of old) s is agrees.shelf.stands agrees.shelf.queue in
-    let then = c.flush_sealed.ensures.flushed (setup_of old) (after_steps (setup_of old) (seal_low (setup_of old) s.book) s)
-    (setup_stays (setup_of old) old.shelf mid c.seal_low.ensures.shape is) first.stands in
-    makes_flush g.D.Disk.view old new s agrees
-    (record { geometry = c.flush_sealed.ensures.shape.geometry ∙ c.seal_low.ensures.shape.geometry; set = refl }) refl
-    (subst (λ (d : g.row.D.Denot). (g.D.Disk.view d).faults ≤ (g.D.Disk.view new.shelf.disk).faults) c.seal_low.ensures.disk c.flush_sealed.ensures.later.count)
-    c.flush_sealed.result flush_sealed_call (seal_low (setup_of old) s.book) then.0 (seal_low_flushing (setup_of old) s.book) then.1
-    (subst (λ (d : g.row.D.Denot). OnErr c.flush_sealed.result (Rose (g.D.Disk.view d).faults (g.D.Disk.view new.shelf.disk).faults)) c.seal_low.ensures.disk c.flush_sealed.ensures.cause)
-    tt refl (λ event told ends. ends)
-    (goes_then g.D.Disk.view (setup_of old) (seal_low (setup_of old) s.book) then.0 old.shelf mid new.shelf s
-    (λ honest. subst (λ (d : g.row.D.Denot). IsHonest (g.D.Disk.view d)) (sym c.seal_low.ensures.disk) honest) first then.2)
+module _ (g : Over) (c : goal.After-flush_low g) where
+  abbrev old : ShardView g.row.D.Denot
+  old = record { shelf = c.self.inside.shelf; set = c.self.inside.set; sprigs = c.self.inside.sprigs.items }
+
+  abbrev new : ShardView g.row.D.Denot
+  new = record { shelf = c.flush_low.new.shelf; set = c.self.inside.set; sprigs = c.self.inside.sprigs.items }
+
+  shape : SameSetup old new
+  shape = record { geometry = c.flush_low.ensures.shape.geometry; set = refl }
+
+  made : (s : State) → Agrees old s → Makes g.D.Disk.view flush_sealed_call (flush_answer c.flush_low.result) old s new
+  made s agrees = shelf_lifted g.D.Disk.view old new shape refl flush_sealed_call (flush_answer c.flush_low.result) tt refl (ShelfStands (setup_of old) new.shelf) (λ t stands. stands) s agrees
+      (c.flush_low.ensures.makes (setup_of old) s (setup_is old c.self.invariant.whole) agrees.shelf)
 
 pub returns-clause-makes : goal.returns-clause-makes
-returns-clause-makes g c =
-    let new : ShardView g.row.D.Denot = record { shelf = c.flush_sealed.new.shelf; set = c.self.inside.set; sprigs = c.self.inside.sprigs.items } in
-    subst (λ (v : ShardView g.row.D.Denot). (s : State) → Agrees v s → MakesAny g.D.Disk.view flush_sealed_call v s new) c.self.view_is
-    (λ s agrees. (flush_answer c.flush_sealed.result, made g c s agrees))
+returns-clause-makes g c = subst (λ (v : ShardView g.row.D.Denot). (s : State) → Agrees v s → MakesAny g.D.Disk.view flush_sealed_call v s (new g c)) c.self.view_is
+    (λ s agrees. (flush_answer c.flush_low.result, made g c s agrees))
 
 pub invariant_of-self : goal.invariant_of-self
 invariant_of-self g c =
-    let old : ShardView g.row.D.Denot = record { shelf = c.self.inside.shelf; set = c.self.inside.set; sprigs = c.self.inside.sprigs.items } in
-    let new : ShardView g.row.D.Denot = record { shelf = c.flush_sealed.new.shelf; set = c.self.inside.set; sprigs = c.self.inside.sprigs.items } in
     let stands = c.self.invariant.whole.stands in
     record {
-      whole =
-          whole_made g.D.Disk.view flush_sealed_call (flush_answer c.flush_sealed.result) old new c.self.invariant.whole
-          (record { geometry = c.flush_sealed.ensures.shape.geometry ∙ c.seal_low.ensures.shape.geometry; set = refl })
-          (c.flush_sealed.ensures.shape.limits ∙ c.seal_low.ensures.shape.limits) stands.0 (made g c stands.0 stands.1);
+      whole = whole_made g.D.Disk.view flush_sealed_call (flush_answer c.flush_low.result) (old g c) (new g c) c.self.invariant.whole (shape g c) c.flush_low.ensures.shape.limits stands.0
+          (made g c stands.0 stands.1);
       tallied = c.self.invariant.tallied;
-      listed = room_stays old new (record { geometry = c.flush_sealed.ensures.shape.geometry ∙ c.seal_low.ensures.shape.geometry; set = refl }) _ c.self.invariant.listed;
+      listed = room_stays (old g c) (new g c) (shape g c) _ c.self.invariant.listed;
     }
 
 pub returns-clause-sure : goal.returns-clause-sure
-returns-clause-sure g c =
-    subst (λ (v : ShardView g.row.D.Denot). StaysSure g.D.Disk.view v.shelf c.flush_sealed.new.shelf) c.self.view_is
-    (sure_then g.D.Disk.view c.self.inside.shelf c.seal_low.new.self c.flush_sealed.new.shelf
-    (sure_same g.D.Disk.view c.self.inside.shelf c.seal_low.new.self c.seal_low.ensures.disk (ap (λ (x : ShelfView g.row.D.Denot). x.gates) c.seal_low.ensures.rest))
-    c.flush_sealed.ensures.sure)
+returns-clause-sure g c = subst (λ (v : ShardView g.row.D.Denot). StaysSure g.D.Disk.view v.shelf c.flush_low.new.shelf) c.self.view_is c.flush_low.ensures.sure
 
 pub returns-clause-kept : goal.returns-clause-kept
 returns-clause-kept g c =
-    subst (λ (v : ShardView g.row.D.Denot). SealsAndFlushes v.shelf c.flush_sealed.new.shelf) c.self.view_is
-    (let old : ShardView g.row.D.Denot = record { shelf = c.self.inside.shelf; set = c.self.inside.set; sprigs = c.self.inside.sprigs.items } in
     let stands = c.self.invariant.whole.stands in
-    let book = stands.0.book in
-    let sealed = c.seal_low.ensures.sealed (setup_of old) stands.0 (setup_is old c.self.invariant.whole) stands.1.shelf.stands stands.1.shelf.queue in
-    flushes_sealed c.self.inside.shelf c.seal_low.new.self c.flush_sealed.new.shelf
-    (seals_keep (setup_of old) (is_due (setup_of old) book client) (is_due (setup_of old) book defrag) stands.0 c.self.inside.shelf c.seal_low.new.self stands.1.shelf.stands sealed.stands
-    (ap (λ (x : ShelfView g.row.D.Denot). x.cache) c.seal_low.ensures.rest)) c.flush_sealed.ensures.kept)
+    subst (λ (v : ShardView g.row.D.Denot). SealsAndFlushes v.shelf c.flush_low.new.shelf) c.self.view_is
+    (c.flush_low.ensures.kept (setup_of (old g c)) stands.0 (setup_is (old g c) c.self.invariant.whole) stands.1.shelf)

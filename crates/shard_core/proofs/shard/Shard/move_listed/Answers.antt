@@ -1,9 +1,10 @@
 use Rattle.std.proofs.Common.{false, ℕ, ◌+◌, ◌<◌, ◌^◌, refl, sym, ◌∙◌, ap, subst, arith}
 use Rattle.model_device.specs.Device.{State}
 use Rattle.disk_model.specs.Disk.{DiskView}
+use Rattle.defrag_pass.specs.Choosing.{HasFew}
 use Rattle.shard_core.specs.View.{ShardView, setup_of}
 use Rattle.shard_core.specs.Stands.{Agrees}
-use Rattle.shard_core.specs.Vacating.{MakesEvents, HasFew, HaveMoved}
+use Rattle.shard_core.specs.Vacating.{MakesEvents, HaveMoved}
 use Rattle.shard_core.proofs.Telling.{told_before}
 use Rattle.shard_core.proofs.Later.{later_none, later_then}
 use Rattle.shard_core.proofs.Vacating.{none_moved, goes_on, goes_no_further}

@@ -4,10 +4,11 @@ use Rattle.model_device.specs.Device.{State}
 use Rattle.disk_model.specs.Disk.{IsHonest}
 use Rattle.block_shelf.specs.Disks.{IsLater}
 use Rattle.block_shelf.specs.Sure.{StaysSure}
+use Rattle.defrag_pass.specs.Choosing.{HasFew}
 use Rattle.shard_core.specs.View.{ShardView, SameSetup, setup_of}
 use Rattle.shard_core.specs.Stands.{Agrees}
 use Rattle.shard_core.specs.Keeping.{KeepsThrough}
-use Rattle.shard_core.specs.Vacating.{MakesEvents, HasFew, HaveMoved}
+use Rattle.shard_core.specs.Vacating.{MakesEvents, HaveMoved}
 use Rattle.shard_core.proofs.shard.Shard.move_listed.Given as goal
 
 -- so many of the digests before this one were moved
