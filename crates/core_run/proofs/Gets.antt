@@ -36,7 +36,8 @@ use Rattle.model_node.specs.Commands.{Slot, Node, NodeEvent, Does, Expires, OneE
 use Rattle.model_node.specs.Headline.{On}
 use Rattle.model_node.specs.Shown.{GivesCopy, GivesBytes, GetShows, ShowsGet}
 use Rattle.model_node.proofs.Expiries.{if_refused}
-use Rattle.model_node.proofs.Unwritten.{IsUnwriting, all_worked, all_flushes, all_defrags, all_raids}
+use Rattle.law_commit.proofs.Unwriting.{IsUnwriting}
+use Rattle.model_node.proofs.Unwritten.{all_worked, all_flushes, all_defrags, all_raids}
 use Rattle.core_run.specs.Views.{serving, disks_served, view_at, views_of}
 use Rattle.core_run.specs.Standing.{Each, StandsOn}
 use Rattle.core_run.proofs.Making.{slot_at}

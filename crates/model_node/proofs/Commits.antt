@@ -1,100 +1,55 @@
 -- With commit on, what a line wrote is flushed when it is answered as done.
 use Rattle.std.proofs.Common.{◌≡◌, ℕ, zero, suc, ◌+◌, Bool, true, false, cond, List, [], ◌∷◌, ◌++◌, map, refl, sym, ap, ◌∙◌, subst, inl, inr}
-use Rattle.std.specs.Prelude.{Option, Some, None, MatchOption, MatchBool, IsTrue, ◌==◌, slice_get}
+use Rattle.std.specs.Prelude.{Option, Some, None, MatchOption, IsTrue, ◌==◌, slice_get}
 use Rattle.std.specs.List.{AllByRecursion}
 use Rattle.std.proofs.lemmas.List.{append-nil}
 use Rattle.std.proofs.lemmas.Bool.{eqb-true, eqb-false}
 use Rattle.law_lists.proofs.Each.{all_joined, all_map}
 use Rattle.rec_format.specs.declared.version.Digest.{Digest}
-use Rattle.rec_format.specs.declared.version.Stamp.{Stamp}
-use Rattle.rec_format.specs.declared.version.Version.{Version}
-use Rattle.rec_format.specs.Versions.{version_units, a_tombstone, is_expired_put}
-use Rattle.model_device.specs.Device.{State, seen, entry, entry_is_covered, entry_passes, next_stamp_of}
-use Rattle.model_device.specs.Steps.{Step, wrote, removed}
-use Rattle.model_device.specs.Events.{Cause, Answer, stamp_given, happened, found_version, counted, block_chosen, raid_numbered, marks_made, block_scanned}
-use Rattle.model_device.specs.Events.{marks_undone, part_ended, raid_over, refused, Event, put_call, delete_call, expire_call, get_call, after_event}
-use Rattle.model_device.specs.Legal.{Follows, Allowed, Only, Unless, WriteEnds, Entombs, Removes, WhereReads, no_write, the_stamp, tombstone_reserve, put_refusal, new_put}
-use Rattle.model_device.specs.Vacating.{Outcome, did, stopped, IfRefused}
+use Rattle.model_device.specs.Device.{State}
+use Rattle.model_device.specs.Steps.{Step, wrote}
+use Rattle.model_device.specs.Events.{Answer, stamp_given, happened, found_version, counted, block_chosen, raid_numbered, marks_made, block_scanned}
+use Rattle.model_device.specs.Events.{marks_undone, part_ended, raid_over, refused, Event, Call, put_call, bury_call, delete_call, expire_call, get_call, after_event}
+use Rattle.model_device.specs.Legal.{Follows, Allowed}
+use Rattle.model_device.specs.Vacating.{Outcome, did, stopped}
 use Rattle.law_trail.specs.Numbers.{HasNumbers}
+use Rattle.law_commit.specs.Commits.{IsDone, top_is_flushed, flushed_if_wrote}
+use Rattle.law_commit.proofs.Unwriting.{WritesNone, none_flushed}
+use Rattle.law_commit.proofs.Committing.{commits}
+use Rattle.law_commit.proofs.Tops.{removal_stays}
 use Rattle.line_proto.specs.declared.command.Command.{Command}
 use Rattle.line_proto.specs.declared.command.Command.TheVariants as command
 use Rattle.line_proto.specs.declared.reply.Reply.{Reply}
 use Rattle.model_node.specs.Commands.{Slot, Node, NodeEvent, at_place, slot_after, node_after, IsLegalOn, on_device, answer_reply, EachDevice, expired_entries, Expires, expired_reply, Does}
-use Rattle.model_node.specs.Run.{ImagesLeft, Served, ServesAll, AnswersLine, node_or, node_at_reply, node_after_line, steps_on, WritesFlushed, top_is_flushed, flushed_if_wrote}
+use Rattle.model_node.specs.Run.{ImagesLeft, Served, ServesAll, AnswersLine, node_or, node_at_reply, node_after_line, steps_on, WritesFlushed}
 use Rattle.model_node.specs.Headline.{On, is_failed, CommitsAt, CommitsAll}
-use Rattle.model_node.proofs.Flushing.{write_commits}
-use Rattle.model_node.proofs.Unwritten.{WritesNone, none_flushed, on_each, all_flushes, all_defrags, all_raids, calls_write_nothing}
+use Rattle.model_node.proofs.Unwritten.{on_each, all_flushes, all_defrags, all_raids, calls_write_nothing}
 use Rattle.model_node.proofs.Expiries.{HasRemoved, all_removed}
 use Rattle.model_node.proofs.Numbered.{AreNumbered, steps_numbered, line_numbered}
-use Rattle.model_node.proofs.Tops.{removal_stays}
 
 -- ---- one event
 
 abbrev CommitsEvent : Slot → Event → Type 0
 CommitsEvent slot event = IsTrue slot.setup.commit → is_failed (answer_reply event.answer) ≡ false → AllByRecursion (flushed_if_wrote (after_event slot.setup event slot.state)) event.steps
 
-not_failed : (event : Event) (cause : Cause) → event.answer ≡ refused cause → is_failed (answer_reply event.answer) ≡ false → ⊥
-not_failed event cause is none = let e : true ≡ false = sym (ap (λ (a : Answer). is_failed (answer_reply a)) is) ∙ none in cc
+-- what is replied as done was done
+done_of : (answer : Answer) → is_failed (answer_reply answer) ≡ false → IsDone answer
+done_of (refused cause) done = let never : true ≡ false = done in cc
+done_of (stamp_given stamp) done = tt
+done_of (happened b) done = tt
+done_of (found_version v) done = tt
+done_of (counted n) done = tt
+done_of (block_chosen b) done = tt
+done_of (raid_numbered n) done = tt
+done_of (marks_made n) done = tt
+done_of (block_scanned b) done = tt
+done_of (marks_undone n) done = tt
+done_of (part_ended r c) done = tt
+done_of raid_over done = tt
 
-write_ends : (slot : Slot) (event : Event) (digest : Digest) (v : Version) (ok : Answer) → WriteEnds slot.setup slot.state event digest v ok → CommitsEvent slot event
-write_ends slot event digest v ok (inl done) commit none = write_commits slot.setup slot.state digest v event.steps commit done.1
-write_ends slot event digest v ok (inr fault) commit none = absurd (not_failed event _ fault.0 none)
-
-unless_ends : (slot : Slot) (event : Event) (digest : Digest) (v : Version) (ok : Answer) (cause : Option Cause)
-    → Unless event cause (WriteEnds slot.setup slot.state event digest v ok) → CommitsEvent slot event
-unless_ends slot event digest v ok None ends = write_ends slot event digest v ok ends
-unless_ends slot event digest v ok (Some cause) ends = λ commit none. absurd (not_failed event cause ends.0 none)
-
-no_steps : (slot : Slot) (event : Event) → event.steps ≡ [] → CommitsEvent slot event
-no_steps slot event is commit none = subst (λ (steps : List Step). AllByRecursion (flushed_if_wrote (after_event slot.setup event slot.state)) steps) (sym is) tt
-
-put_commits : (slot : Slot) (told : Bool) (event : Event) (digest : Digest) (ttl : ℕ) (expect : Option ℕ) (payload : List ℕ) (now : ℕ)
-    → Allowed slot.setup told slot.state event (put_call digest ttl expect payload now) → CommitsEvent slot event
-put_commits slot told event digest ttl expect payload now (inl no_memory) = no_steps slot event no_memory.1
-put_commits slot told event digest ttl expect payload now (inr unless) =
-    let v : Version = new_put slot.setup slot.state digest ttl payload now in
-    unless_ends slot event digest v (stamp_given v.stamp) (put_refusal slot.setup slot.state digest expect payload now) unless
-
-read_steps : (told : Bool) (event : Event) (v : Option Version) → WhereReads told event v → event.steps ≡ []
-read_steps told event None reads = absurd reads
-read_steps told event (Some v) (inl found) = found.2
-read_steps told event (Some v) (inr fails) = fails.1
-
-get_commits : (slot : Slot) (told : Bool) (event : Event) (digest : Digest) (now : ℕ) → Allowed slot.setup told slot.state event (get_call digest now) → CommitsEvent slot event
-get_commits slot told event digest now (inl read) = no_steps slot event read.2
-get_commits slot told event digest now (inr (inl no_memory)) = no_steps slot event no_memory.1
-get_commits slot told event digest now (inr (inr reads)) = no_steps slot event (read_steps told event (seen slot.state now digest) reads)
-
-entombs_commit : (slot : Slot) (event : Event) (digest : Digest) (now : ℕ) (ok : Stamp → Answer) → Entombs slot.setup slot.state event digest now ok → CommitsEvent slot event
-entombs_commit slot event digest now ok (inl no_memory) = no_steps slot event no_memory.1
-entombs_commit slot event digest now ok (inr unless) =
-    let stamp : Option Stamp = next_stamp_of slot.setup slot.state now digest in
-    let v : Version = a_tombstone (the_stamp stamp) in
-    unless_ends slot event digest v (ok (the_stamp stamp)) (no_write slot.setup tombstone_reserve (version_units v) stamp slot.state) unless
-
--- a removal writes a tombstone where it is covered, and else nothing
-removes_commit : (slot : Slot) (event : Event) (digest : Digest) (now : ℕ) → Removes slot.setup slot.state event digest now → CommitsEvent slot event
-removes_commit slot event digest now = by_cover (entry_is_covered slot.state digest)
-  where
-    by_cover : (covered : Bool)
-        → MatchBool covered (Entombs slot.setup slot.state event digest now (λ stamp. happened true)) ((event.answer ≡ happened true) × (event.steps ≡ removed digest ∷ []))
-        → CommitsEvent slot event
-    by_cover true entombs = entombs_commit slot event digest now (λ stamp. happened true) entombs
-    by_cover false drops = λ commit none. subst (λ (steps : List Step). AllByRecursion (flushed_if_wrote (after_event slot.setup event slot.state)) steps) (sym drops.1) (tt, tt)
-
-delete_commits : (slot : Slot) (told : Bool) (event : Event) (digest : Digest) (now : ℕ) → Allowed slot.setup told slot.state event (delete_call digest now) → CommitsEvent slot event
-delete_commits slot told event digest now = by_seen (seen slot.state now digest)
-  where
-    by_seen : (v : Option Version) → MatchOption v (Only event (happened false)) (λ _. Removes slot.setup slot.state event digest now) → CommitsEvent slot event
-    by_seen None only = no_steps slot event only.1
-    by_seen (Some v) removes = removes_commit slot event digest now removes
-
-expire_commits : (slot : Slot) (told : Bool) (event : Event) (digest : Digest) (now : ℕ) → Allowed slot.setup told slot.state event (expire_call digest now) → CommitsEvent slot event
-expire_commits slot told event digest now = by (entry_passes (is_expired_put now) (entry slot.state digest))
-  where
-    by : (expired : Bool) → MatchBool expired (Removes slot.setup slot.state event digest now) (Only event (happened false)) → CommitsEvent slot event
-    by true removes = removes_commit slot event digest now removes
-    by false only = no_steps slot event only.1
+call_commits : (slot : Slot) (told : Bool) (event : Event) (call : Call) → event.call ≡ call → Follows slot.setup told slot.state slot.faults event → CommitsEvent slot event
+call_commits slot told event call is follows commit done =
+    commits slot.setup told slot.state event call (subst (Allowed slot.setup told slot.state event) is follows.allowed) commit (done_of event.answer done)
 
 -- ---- one event on a device of the node
 
@@ -131,22 +86,6 @@ follows_more None P Q more h = h
 follows_more (Some slot) P Q more h = more slot h
 
 -- ---- removals, one after another
-
-none_failed : (answer : Answer) → IfRefused answer (λ cause. ⊥) (Unit {0}) → is_failed (answer_reply answer) ≡ false
-none_failed (refused cause) never = absurd never
-none_failed (stamp_given stamp) done = refl
-none_failed (happened true) done = refl
-none_failed (happened false) done = refl
-none_failed (found_version None) done = refl
-none_failed (found_version (Some v)) done = refl
-none_failed (counted n) done = refl
-none_failed (block_chosen b) done = refl
-none_failed (raid_numbered n) done = refl
-none_failed (marks_made n) done = refl
-none_failed (block_scanned b) done = refl
-none_failed (marks_undone n) done = refl
-none_failed (part_ended r c) done = refl
-none_failed raid_over done = refl
 
 place_here : (n : ℕ) (change : Slot → Slot) (node : Node) (slot : Slot) → slice_get node n ≡ Some slot → slice_get (at_place n change node) n ≡ Some (change slot)
 place_here n change [] slot at = absurd cc
@@ -203,7 +142,7 @@ removals_keep told device (e ∷ work) node slot at numbers commit all legal =
         let after = slot_after e.event slot in
         let rest = rest_of after (subst (λ (k : ℕ). slice_get next k ≡ Some after) same (place_here e.device (slot_after e.event) node slot mine))
         (steps_numbered slot.setup e.event.steps slot.state numbers) commit in
-        let mine_flushed = expire_commits slot told e.event call.0 call.1 allowed commit (none_failed e.event.answer all.0.1) in
+        let mine_flushed = commits slot.setup told slot.state e.event (expire_call call.0 call.1) allowed commit all.0.1 in
         record {
           after = rest.after;
           there = rest.there;
@@ -266,15 +205,15 @@ no_work failed node work is new device = subst (λ (w : List NodeEvent). Waited 
 does_commit : (told : Bool) (node : Node) (c : Command) (now : ℕ) (work : List NodeEvent) (r : Reply) → AreNumbered node → Does node c now work r → IsLegalOn told node work → (device : ℕ)
     → Waited (is_failed r) node (node_after work node) (steps_on device work) device
 does_commit told node (command.Put digest ttl expect payload) now work r numbers does legal device = one_event told node _ does.0 work r does.1 does.3
-    (λ slot follows. put_commits slot told does.0 digest ttl expect payload now (subst (Allowed slot.setup told slot.state does.0) does.2 follows.allowed)) legal device
+    (λ slot follows. call_commits slot told does.0 (put_call digest ttl expect payload now) does.2 follows) legal device
 does_commit told node (command.Get digest) now work r numbers does legal device = one_event told node _ does.0 work r does.1 does.3
-    (λ slot follows. get_commits slot told does.0 digest now (subst (Allowed slot.setup told slot.state does.0) does.2 follows.allowed)) legal device
+    (λ slot follows. call_commits slot told does.0 (get_call digest now) does.2 follows) legal device
 does_commit told node command.Quit now work r numbers does legal device = no_work (is_failed r) node work does.0 (node_after work node) device
 does_commit told node (command.Meta digest) now work r numbers does legal device = no_work (is_failed r) node work does.0 (node_after work node) device
 does_commit told node (command.Del digest) now work r numbers does legal device = one_event told node _ does.0 work r does.1 does.3
-    (λ slot follows. delete_commits slot told does.0 digest now (subst (Allowed slot.setup told slot.state does.0) does.2 follows.allowed)) legal device
+    (λ slot follows. call_commits slot told does.0 (delete_call digest now) does.2 follows) legal device
 does_commit told node (command.Bury digest) now work r numbers does legal device = one_event told node _ does.0 work r does.1 does.3
-    (λ slot follows. entombs_commit slot does.0 digest now stamp_given (subst (Allowed slot.setup told slot.state does.0) does.2 follows.allowed)) legal device
+    (λ slot follows. call_commits slot told does.0 (bury_call digest now) does.2 follows) legal device
 does_commit told node command.Flush now work r numbers does legal device = unwritten (is_failed r) node (node_after work node) work device
     (calls_write_nothing told node work (all_flushes node work does.0 does.1) legal device)
 does_commit told node command.Defrag now work r numbers does legal device = unwritten (is_failed r) node (node_after work node) work device

@@ -1,11 +1,9 @@
 pub mod Examples
 pub mod Counts
-pub mod Flushing
 pub mod ByParts
 pub mod Expiries
 pub mod Unwritten
 pub mod Numbered
-pub mod Tops
 pub mod Commits
 pub mod RunEnds
 pub mod Sparing

@@ -1,166 +1,17 @@
 -- A flush writes no record, and neither does a defragmentation, since what is moved was written before, or a raid, which only removes and clears.
-use Rattle.std.proofs.Common.{◌≡◌, ◌⊎◌, ℕ, zero, suc, ◌+◌, Bool, true, false, cond, List, [], ◌∷◌, ◌++◌, length, map, refl, sym, subst, inl, inr}
-use Rattle.std.specs.Prelude.{Option, Some, None, MatchBool, MatchOption, ◌&&◌, ◌==◌, nat_le, slice_get, is_some}
+use Rattle.std.proofs.Common.{◌≡◌, ◌⊎◌, ℕ, zero, suc, ◌+◌, Bool, true, false, cond, List, [], ◌∷◌, ◌++◌, length, map, sym, subst, inl, inr}
+use Rattle.std.specs.Prelude.{Option, Some, None, MatchOption, ◌==◌, slice_get}
 use Rattle.std.specs.List.{AllByRecursion}
-use Rattle.law_lists.proofs.Each.{all_joined, all_parted, all_map}
-use Rattle.rec_format.specs.declared.version.Digest.{Digest}
-use Rattle.rec_format.specs.Versions.{is_tombstone, top_number}
-use Rattle.model_device.specs.Book.{Setup, Book, Stream, client, defrag, filling_buffer, has_room, live_of}
-use Rattle.model_device.specs.Device.{State, Turn, mark_turn, scan_turn, apply_turn, drop_turn, finished, entry, entry_passes}
-use Rattle.model_device.specs.Steps.{Step, wrote, moved, rid_of, uncovered, gate_begun, flushed_buffer, closing_failed, raid_begun, raid_given_up, marked_part}
-use Rattle.model_device.specs.Steps.{scanned_block, compared_part, done_part, after_steps}
-use Rattle.model_device.specs.Events.{Event, Call, flush_call, choose_call, move_call, begin_call, turn_call, Cause, stale, happened, block_chosen, raid_numbered, refused, after_event, after_events}
-use Rattle.model_device.specs.Legal.{Follows, Allowed, FlushEnds, NoMemory, Only, Unless, DamageFound, DiskFails, TurnEnds, same_turn, drop_step, marked_in}
-use Rattle.model_device.specs.Legal.{WhereReads, is_in_block, live_units, move_reserve, no_place, queue_front, seal_if, seal_all, flush_all}
+use Rattle.law_lists.proofs.Each.{all_joined}
+use Rattle.model_device.specs.Book.{Setup}
+use Rattle.model_device.specs.Device.{State}
+use Rattle.model_device.specs.Events.{Event, Call, flush_call, choose_call, move_call, begin_call, turn_call, Cause, block_chosen, refused, after_event, after_events}
+use Rattle.model_device.specs.Legal.{Follows}
 use Rattle.model_node.specs.Commands.{Slot, Node, NodeEvent, at_place, slot_after, on_device, IsLegalOn, EachDevice, Flushes, Defragments, TakesTurns, removed_by, cleared_by, Raids}
 use Rattle.model_device.specs.Vacating.{Outcome, did, stopped, moved_by, MovesOut, Vacates, VacatesUpTo}
-use Rattle.model_node.specs.Run.{steps_on, flushed_if_wrote}
-use Rattle.model_node.proofs.Flushing.{FlushStep, all_flush_steps}
+use Rattle.law_commit.proofs.Unwriting.{IsUnwriting, WritesNone, unwritten}
+use Rattle.model_node.specs.Run.{steps_on}
 use Rattle.model_node.proofs.Expiries.{if_refused}
-
-abbrev pub WritesNone : Step → Type 0
-WritesNone (wrote digest v) = ⊥
-WritesNone _ = Unit {0}
-
--- so nothing of it is to be flushed
-pub none_flushed : (s : State) (steps : List Step) → AllByRecursion WritesNone steps → AllByRecursion (flushed_if_wrote s) steps
-none_flushed s [] none = tt
-none_flushed s (step ∷ steps) none = (one step none.0, none_flushed s steps none.1)
-  where
-    one : (step : Step) → WritesNone step → flushed_if_wrote s step
-    one (wrote digest v) none = absurd none
-    one step none = tt
-
--- ---- the steps of a flush
-
-one_writes_none : (step : Step) → FlushStep step → WritesNone step
-one_writes_none (gate_begun m) is = tt
-one_writes_none (flushed_buffer m) is = tt
-one_writes_none step is = absurd is
-
-seal_writes_none : (chosen : Bool) (stream : Stream) → AllByRecursion WritesNone (seal_if chosen stream)
-seal_writes_none true stream = (tt, tt)
-seal_writes_none false stream = tt
-
-seals_write_none : (book : Book) → AllByRecursion WritesNone (seal_all book)
-seals_write_none book = all_joined WritesNone (seal_if (is_some (filling_buffer client book.buffers)) client) (seal_if (is_some (filling_buffer defrag book.buffers)) defrag)
-    (seal_writes_none (is_some (filling_buffer client book.buffers)) client) (seal_writes_none (is_some (filling_buffer defrag book.buffers)) defrag)
-
-ends_unwritten : (event : Event) (first rest : List Step) → AllByRecursion WritesNone first → AllByRecursion WritesNone rest → FlushEnds event first rest → AllByRecursion WritesNone event.steps
-ends_unwritten event first rest before behind (inl done) =
-    subst (λ (steps : List Step). AllByRecursion WritesNone steps) (sym done.0) (all_joined WritesNone first rest before behind)
-ends_unwritten event first rest before behind (inr fault) =
-    subst (λ (steps : List Step). AllByRecursion WritesNone steps) (sym fault.3)
-    (all_joined WritesNone first fault.2 before (all_parted WritesNone fault.2 (fault.4.0 ∷ fault.4.1) (subst (λ (steps : List Step). AllByRecursion WritesNone steps) fault.4.2 behind)).0)
-
-flush_unwritten : (slot : Slot) (told : Bool) (event : Event) → Follows slot.setup told slot.state slot.faults event → event.call ≡ flush_call → AllByRecursion WritesNone event.steps
-flush_unwritten slot told event follows is =
-    let sealed : State = after_steps slot.setup (seal_all slot.state.book) slot.state in
-    ends_unwritten event (seal_all slot.state.book) (flush_all sealed.book) (seals_write_none slot.state.book)
-    (all_map FlushStep WritesNone (flush_all sealed.book) one_writes_none (all_flush_steps sealed.book.buffers)) (subst (λ (c : Call). Allowed slot.setup told slot.state event c) is follows.allowed)
-
--- ---- the calls of a defragmentation and a raid
-
--- a call that writes no record
-abbrev pub IsUnwriting : Call → Type 0
-IsUnwriting flush_call = Unit {0}
-IsUnwriting choose_call = Unit {0}
-IsUnwriting (move_call digest block) = Unit {0}
-IsUnwriting begin_call = Unit {0}
-IsUnwriting (turn_call number turn now) = Unit {0}
-IsUnwriting _ = ⊥
-
-none_made : (event : Event) → event.steps ≡ [] → AllByRecursion WritesNone event.steps
-none_made event none = subst (AllByRecursion WritesNone) (sym none) tt
-
-step_made : (event : Event) (step : Step) → WritesNone step → event.steps ≡ step ∷ [] → AllByRecursion WritesNone event.steps
-step_made event step unwritten is = subst (AllByRecursion WritesNone) (sym is) (unwritten, tt)
-
-reads_unwritten : {A : Type 0} (told : Bool) (event : Event) (o : Option A) → WhereReads told event o → AllByRecursion WritesNone event.steps
-reads_unwritten told event None reads = absurd reads
-reads_unwritten told event (Some what) (inl damaged) = none_made event damaged.2
-reads_unwritten told event (Some what) (inr failed) = none_made event failed.1
-
-choose_unwritten : (slot : Slot) (told : Bool) (event : Event) → Allowed slot.setup told slot.state event choose_call → AllByRecursion WritesNone event.steps
-choose_unwritten slot told event (inl chosen) = none_made event chosen.1
-choose_unwritten slot told event (inr reads) = reads_unwritten told event (queue_front slot.state.book.queue) reads
-
--- how a move ends against which nothing stands
-abbrev MoveEnds : (told : Bool) → Slot → Event → Digest → Type 0
-MoveEnds told slot event digest =
-    ((event.answer ≡ happened true) × (event.steps ≡ moved digest ∷ []))
-    ⊎ DamageFound told event []
-    ⊎ DiskFails event []
-    ⊎ ((has_room slot.setup defrag (live_units (live_of digest slot.state.book.live)) slot.state.book ≡ false) × DiskFails event (closing_failed ∷ []))
-
-move_unwritten : (slot : Slot) (told : Bool) (event : Event) (digest : Digest) (block : ℕ) → Allowed slot.setup told slot.state event (move_call digest block) → AllByRecursion WritesNone event.steps
-move_unwritten slot told event digest block = by (is_in_block block (live_of digest slot.state.book.live))
-  where
-    moves : MoveEnds told slot event digest → AllByRecursion WritesNone event.steps
-    moves (inl done) = step_made event (moved digest) tt done.1
-    moves (inr (inl damaged)) = none_made event damaged.2
-    moves (inr (inr (inl failed))) = none_made event failed.1
-    moves (inr (inr (inr closing))) = step_made event closing_failed tt closing.1.1
-
-    unless : (o : Option Cause) → Unless event o (MoveEnds told slot event digest) → AllByRecursion WritesNone event.steps
-    unless None rest = moves rest
-    unless (Some cause) only = none_made event only.1
-
-    by : (here : Bool) → MatchBool here (NoMemory event ⊎ Unless event (no_place slot.setup defrag move_reserve (live_units (live_of digest slot.state.book.live)) slot.state.book)
-        (MoveEnds told slot event digest)) (Only event (happened false))
-        → AllByRecursion WritesNone event.steps
-    by false only = none_made event only.1
-    by true (inl no_memory) = none_made event no_memory.1
-    by true (inr rest) = unless (no_place slot.setup defrag move_reserve (live_units (live_of digest slot.state.book.live)) slot.state.book) rest
-
-begin_unwritten : (slot : Slot) (told : Bool) (event : Event) → Allowed slot.setup told slot.state event begin_call → AllByRecursion WritesNone event.steps
-begin_unwritten slot told event = by (nat_le top_number slot.state.raid.number)
-  where
-    by : (last : Bool) → MatchBool last (Only event (raid_numbered None)) ((event.answer ≡ raid_numbered (Some (slot.state.raid.number + 1))) × (event.steps ≡ raid_begun ∷ []))
-        → AllByRecursion WritesNone event.steps
-    by true only = none_made event only.1
-    by false begun = step_made event raid_begun tt begun.1
-
--- marked entries are removed or cleared
-drops_unwritten : (s : State) (digests : List Digest) → AllByRecursion WritesNone (map (drop_step s) digests)
-drops_unwritten s [] = tt
-drops_unwritten s (digest ∷ digests) = (by (entry_passes is_tombstone (entry s digest)), drops_unwritten s digests)
-  where
-    by : (tombstone : Bool) → WritesNone (cond tombstone (rid_of digest) (uncovered digest))
-    by true = tt
-    by false = tt
-
-turn_ends_unwritten : (setup : Setup) (told : Bool) (s : State) (event : Event) (turn : Turn) (now : ℕ) → TurnEnds setup told s event turn now → AllByRecursion WritesNone event.steps
-turn_ends_unwritten setup told s event (mark_turn part) now ends = step_made event (marked_part part now) tt ends.1
-turn_ends_unwritten setup told s event (scan_turn block) now (inl scanned) = step_made event (scanned_block scanned.1) tt scanned.2
-turn_ends_unwritten setup told s event (scan_turn block) now (inr (inl damaged)) = step_made event raid_given_up tt damaged.2
-turn_ends_unwritten setup told s event (scan_turn block) now (inr (inr (inl failed))) = step_made event raid_given_up tt failed.1
-turn_ends_unwritten setup told s event (scan_turn block) now (inr (inr (inr no_memory))) = step_made event raid_given_up tt no_memory.1
-turn_ends_unwritten setup told s event (apply_turn part) now ends = step_made event (compared_part part) tt ends.1
-turn_ends_unwritten setup told s event (drop_turn part) now ends =
-    subst (AllByRecursion WritesNone) (sym ends.1)
-    (all_joined WritesNone (map (drop_step s) (marked_in setup part s)) (done_part part ∷ []) (drops_unwritten s (marked_in setup part s)) (tt, tt))
-turn_ends_unwritten setup told s event finished now only = none_made event only.1
-
-turn_unwritten : (slot : Slot) (told : Bool) (event : Event) (number : ℕ) (turn : Turn) (now : ℕ) → Allowed slot.setup told slot.state event (turn_call number turn now)
-    → AllByRecursion WritesNone event.steps
-turn_unwritten slot told event number turn now = by ((number == slot.state.raid.number) && same_turn turn slot.state.raid.next)
-  where
-    by : (next : Bool) → MatchBool next (TurnEnds slot.setup told slot.state event turn now) (Only event (refused (stale slot.state.raid.number slot.state.raid.next)))
-        → AllByRecursion WritesNone event.steps
-    by true ends = turn_ends_unwritten slot.setup told slot.state event turn now ends
-    by false only = none_made event only.1
-
-call_unwritten : (slot : Slot) (told : Bool) (event : Event) → Follows slot.setup told slot.state slot.faults event → (call : Call) → event.call ≡ call → IsUnwriting call
-    → AllByRecursion WritesNone event.steps
-call_unwritten slot told event follows flush_call is unwriting = flush_unwritten slot told event follows is
-call_unwritten slot told event follows choose_call is unwriting = choose_unwritten slot told event (subst (λ (c : Call). Allowed slot.setup told slot.state event c) is follows.allowed)
-call_unwritten slot told event follows (move_call digest block) is unwriting =
-    move_unwritten slot told event digest block (subst (λ (c : Call). Allowed slot.setup told slot.state event c) is follows.allowed)
-call_unwritten slot told event follows begin_call is unwriting = begin_unwritten slot told event (subst (λ (c : Call). Allowed slot.setup told slot.state event c) is follows.allowed)
-call_unwritten slot told event follows (turn_call number turn now) is unwriting =
-    turn_unwritten slot told event number turn now (subst (λ (c : Call). Allowed slot.setup told slot.state event c) is follows.allowed)
-call_unwritten slot told event follows call is unwriting = absurd unwriting
 
 -- ---- the events of a vacating
 
@@ -262,7 +113,7 @@ all_raids now node work outcome each = all_worked (λ event. IsUnwriting event.c
 on_one : (told : Bool) (o : Option Slot) (event : Event) → MatchOption o ⊥ (λ slot. Follows slot.setup told slot.state slot.faults event) → IsUnwriting event.call
     → AllByRecursion WritesNone event.steps
 on_one told None event follows is = absurd follows
-on_one told (Some slot) event follows is = call_unwritten slot told event follows event.call refl is
+on_one told (Some slot) event follows is = unwritten slot.setup told slot.state event event.call is follows.allowed
 
 pub calls_write_nothing : (told : Bool) (node : Node) (work : List NodeEvent) → AllByRecursion IsUnwritingOn work → IsLegalOn told node work → (device : ℕ)
     → AllByRecursion WritesNone (steps_on device work)

@@ -2,16 +2,15 @@
 -- tending after it.
 use Rattle.std.specs.Prelude.{ℕ, ◌+◌, ◌≤◌, Bool, true, false, ◌||◌, ◌==◌, List, [], ◌∷◌, ◌++◌, map, Option, Some, None, ◌≡◌, ◌⊎◌, if◌then◌else◌, MatchBool, slice_get}
 use Rattle.std.specs.List.{AllByRecursion}
-use Rattle.rec_format.specs.declared.version.Digest.{Digest}
 use Rattle.rec_format.specs.Versions.{bounded_time}
-use Rattle.model_device.specs.Histories.{Item, write, dropped, rid, cleared, Pending, is_flushed}
-use Rattle.model_device.specs.Book.{Setup, pending_of}
-use Rattle.model_device.specs.Device.{State, history, put_count, tombstone_count}
-use Rattle.model_device.specs.Steps.{Step, wrote, states_through}
+use Rattle.model_device.specs.Book.{Setup}
+use Rattle.model_device.specs.Device.{State, put_count, tombstone_count}
+use Rattle.model_device.specs.Steps.{Step, states_through}
 use Rattle.model_device.specs.Events.{Event, flush_call}
 use Rattle.block_format.specs.Layout.{Body}
 use Rattle.law_start.specs.Start.{Restarts}
 use Rattle.cold_scan.specs.Found.{found_state}
+use Rattle.law_commit.specs.Commits.{flushed_if_wrote}
 use Rattle.line_proto.specs.declared.command.Command.{Command}
 use Rattle.line_proto.specs.declared.command.Command.TheVariants as command
 use Rattle.line_proto.specs.declared.reply.Reply.{Reply}
@@ -202,22 +201,6 @@ states_of_run device first lines closing =
     states_of_lines device lines first ++ states_while device closing (node_after_lines lines first)
 
 -- ---- commits
-
--- the newest write of a history is flushed
-abbrev pub newest_is_flushed : Pending → List Item → Bool
-newest_is_flushed pending [] = false
-newest_is_flushed pending (write v numbers ∷ older) = is_flushed pending numbers
-newest_is_flushed pending (dropped ∷ older) = newest_is_flushed pending older
-newest_is_flushed pending (rid ∷ older) = newest_is_flushed pending older
-newest_is_flushed pending (cleared ∷ older) = newest_is_flushed pending older
-
-abbrev pub top_is_flushed : State → Digest → Bool
-top_is_flushed s digest = newest_is_flushed (pending_of s.book) (history s digest)
-
--- what was written in these steps is flushed in this state
-abbrev pub flushed_if_wrote : State → Step → Type 0
-flushed_if_wrote s (wrote digest v) = top_is_flushed s digest ≡ true
-flushed_if_wrote s _ = Unit {0}
 
 abbrev pub WritesFlushed : Option Slot → List Step → Type 0
 WritesFlushed None steps = Unit {0}

@@ -16,7 +16,7 @@ use Rattle.std.proofs.lemmas.List.Folds.{list_any-append}
 use Rattle.law_lists.proofs.Each.{all_joined}
 use Rattle.model_device.proofs.Laws.{history_hit}
 use Rattle.law_start.proofs.Placing.{room_of}
-use Rattle.model_node.specs.Run.{top_is_flushed, flushed_if_wrote}
+use Rattle.law_commit.specs.Commits.{top_is_flushed, flushed_if_wrote}
 
 -- ---- buffers of a number
 
@@ -97,15 +97,18 @@ steps_log : (setup : Setup) (steps : List Step) (s : State) → AllByRecursion F
 steps_log setup [] s all = refl
 steps_log setup (step ∷ steps) s all = steps_log setup steps (after_step setup step s) all.1 ∙ step_log setup step s all.0
 
-flush_steps : (number block : ℕ) (stream : Stream) (used : ℕ) (phase : Phase)
+phase_steps : (number block : ℕ) (stream : Stream) (used : ℕ) (phase : Phase)
     → AllByRecursion FlushStep (flush_of (record { number = number; block = block; stream = stream; used = used; phase = phase }))
-flush_steps number block stream used filling = tt
-flush_steps number block stream used sealed = (tt, (tt, tt))
-flush_steps number block stream used opening = (tt, tt)
+phase_steps number block stream used filling = tt
+phase_steps number block stream used sealed = (tt, (tt, tt))
+phase_steps number block stream used opening = (tt, tt)
+
+pub flush_steps : (b : Buffer) → AllByRecursion FlushStep (flush_of b)
+flush_steps b = phase_steps b.number b.block b.stream b.used b.phase
 
 pub all_flush_steps : (bs : List Buffer) → AllByRecursion FlushStep (flat_map flush_of bs)
 all_flush_steps [] = tt
-all_flush_steps (b ∷ bs) = all_joined FlushStep (flush_of b) (flat_map flush_of bs) (flush_steps b.number b.block b.stream b.used b.phase) (all_flush_steps bs)
+all_flush_steps (b ∷ bs) = all_joined FlushStep (flush_of b) (flat_map flush_of bs) (flush_steps b) (all_flush_steps bs)
 
 -- a buffer of this number that no longer takes records
 abbrev is_ready : ℕ → Buffer → Bool
@@ -222,3 +225,9 @@ write_commits setup s digest v steps commit is =
     ≡ (wrote digest v ∷ sealed_stream client ∷ []) ++ flush_between 0 n (with_seal client (wrote_state setup digest v s).book) = rw commit refl in
     subst (λ (xs : List Step). AllByRecursion (flushed_if_wrote (after_steps setup xs s)) xs) (sym (is ∙ whole))
     (waited setup s digest v n refl (flush_between 0 n (with_seal client (wrote_state setup digest v s).book)) refl)
+
+-- so the version is flushed that was written
+pub written_flushed : (setup : Setup) (s : State) (digest : Digest) (v : Version) (steps : List Step) → setup.commit ≡ true
+    → steps ≡ (wrote digest v ∷ commit_seal setup) ++ commit_flush setup (placing_number setup client (version_units v) s.book) (after_steps setup (wrote digest v ∷ commit_seal setup) s)
+    → top_is_flushed (after_steps setup steps s) digest ≡ true
+written_flushed setup s digest v steps commit is = (subst (AllByRecursion (flushed_if_wrote (after_steps setup steps s))) is (write_commits setup s digest v steps commit is)).0

@@ -21,8 +21,8 @@ use Rattle.model_device.proofs.Laws.{step_keeps_flushed}
 use Rattle.law_start.specs.Orderly.{NumbersBelow}
 use Rattle.law_trail.specs.Numbers.{HasNumbers}
 use Rattle.law_trail.proofs.Numbered.{step_numbered}
-use Rattle.model_node.specs.Run.{newest_is_flushed, top_is_flushed, flushed_if_wrote}
-use Rattle.model_node.proofs.Flushing.{FlushStep, all_flush_steps, write_commits}
+use Rattle.law_commit.specs.Commits.{newest_is_flushed, top_is_flushed}
+use Rattle.law_commit.proofs.Flushing.{FlushStep, all_flush_steps, written_flushed}
 
 -- where the writes of a history stay flushed, so does the newest
 newest_stays : (limit : ℕ) (old new : Pending) → ((numbers : List ℕ) → AllByRecursion (λ n. n < limit) numbers → is_flushed old numbers ≡ true → is_flushed new numbers ≡ true)
@@ -100,16 +100,9 @@ module _ (setup : Setup) (d : Digest) where
         flat : steps ≡ wrote digest v ∷ (commit_seal setup ++ commit_flush setup number (after_steps setup (wrote digest v ∷ commit_seal setup) s))
         flat = is
 
-        head : (xs : List Step) → xs ≡ steps → AllByRecursion (flushed_if_wrote (after_steps setup xs s)) xs → top_is_flushed (after_steps setup xs s) digest ≡ true
-        head [] same all = let never : [] ≡ wrote digest v ∷ (commit_seal setup ++ commit_flush setup number (after_steps setup (wrote digest v ∷ commit_seal setup) s)) = same ∙ flat in absurd cc
-        head (x ∷ xs) same all =
-            let one : x ≡ wrote digest v = (let e : x ∷ xs ≡ wrote digest v ∷ (commit_seal setup ++ commit_flush setup number (after_steps setup (wrote digest v ∷ commit_seal setup) s)) =
-            same ∙ flat in cc) in
-            subst (flushed_if_wrote (after_steps setup (x ∷ xs) s)) one all.0
-
         by : (b : Bool) → same_digest d digest ≡ b → top_is_flushed (after_steps setup steps s) d ≡ true
         by true same =
-            subst (λ (x : Digest). top_is_flushed (after_steps setup steps s) x ≡ true) (sym (same_digest_is d digest same)) (head steps refl (write_commits setup s digest v steps commit is))
+            subst (λ (x : Digest). top_is_flushed (after_steps setup steps s) x ≡ true) (sym (same_digest_is d digest same)) (written_flushed setup s digest v steps commit is)
         by false other =
             steps_stay s steps numbers
             (subst (AllByRecursion (WritesOther d)) (sym flat) (

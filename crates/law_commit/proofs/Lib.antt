@@ -1,0 +1,4 @@
+pub mod Flushing
+pub mod Unwriting
+pub mod Committing
+pub mod Tops
