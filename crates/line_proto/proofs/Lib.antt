@@ -2,3 +2,4 @@ pub mod Examples
 pub mod Falling
 pub mod Words
 pub mod Spelling
+pub mod Cutting

@@ -5,6 +5,7 @@ ghost use Rattle.line_proto.specs.Reading.{IsCut};
 ghost use Rattle.rec_format.specs.declared.version.Digest.{Digest};
 
 use crate::NoMemory;
+use memchr::memchr;
 use rec_format::{Bytes, Digest};
 use std::alloc::{AllocError, Global};
 
@@ -12,12 +13,8 @@ use std::alloc::{AllocError, Global};
 pub fn cut(text: &[u8], separator: u8) -> Option<(&[u8], &[u8])>
     ensures { IsCut separator text.now (option_map (λ parts. (parts.0.now, parts.1.now)) result) }
 {
-    for (at, byte) in text.iter().enumerate() {
-        if *byte == separator {
-            return Some((&text[..at], &text[at + 1..]));
-        }
-    }
-    None
+    let at = memchr(separator, text)?;
+    Some((&text[..at], &text[at + 1..]))
 }
 
 /// The digest that 40 hex digits of either case spell; none exactly where the text is no such digits.
