@@ -1,0 +1,4 @@
+pub mod Right
+pub mod Stepping
+pub mod Opened
+pub mod Trying

@@ -1,0 +1,32 @@
+use Rattle.std.proofs.Common.{arith}
+use Rattle.turn_table.specs.Passes.{view}
+use Rattle.live_node.specs.Opening.{setup_at, state_at}
+use Rattle.live_node.specs.Calls.{seen_by}
+use Rattle.live_node.specs.Lives.{opening_at}
+use Rattle.live_node.proofs.Stepping.{fits_alone, names_own, settings, limits, stand, counts_by, step_fits}
+use Rattle.live_node.proofs.live.Live.enter.Goals as goal
+
+pub step-answer-requires : goal.step-answer-requires
+step-answer-requires g c =
+    let fits = fits_alone c.args.self.now.over c.requires.hub in record {
+      asks = c.requires.asks;
+      own = names_own fits (g.C.Step.call c.args.call.now) c.requires.own;
+      settings = settings fits;
+      limits = limits fits;
+      stand = (
+        state_at (opening_at c.args.self.now) (seen_by (view c.args.pass.now)),
+        stand fits (g.C.Step.part c.args.call.now) c.args.part c.args.sprig.now c.requires.part c.requires.sprig,
+      );
+    }
+
+pub give_step-requires-clause-made : goal.give_step-requires-clause-made
+give_step-requires-clause-made g c =
+    let call = c.args.call.now in
+    let answer = c.step-answer in
+    let old = c.args.sprig.now in
+    let named = g.met.C.Step.named call (setup_at (opening_at c.args.self.now)) in
+    step_fits (fits_alone c.args.self.now.over c.requires.hub) (g.C.Step.part call) c.args.part (g.C.Step.call call) (g.C.Step.answers call answer.result) old answer.new.sprig answer.new.shelf _
+    c.requires.part named c.requires.own answer.ensures.shape answer.ensures.honest c.requires.sprig
+    (counts_by c.args.hub.tally c.tally-before.result c.tally.result c.minus.result c.plus-hub.result c.args.part old answer.new.sprig
+    c.tally-before.ensures c.tally.ensures c.minus.ensures c.plus-hub.ensures (omega arith) (omega arith) (omega arith))
+    answer.ensures.makes

@@ -1,0 +1,15 @@
+use Rattle.turn_table.specs.Passes.{view}
+use Rattle.live_node.specs.Opening.{setup_at, state_at}
+use Rattle.live_node.specs.Calls.{seen_by}
+use Rattle.live_node.specs.Lives.{opening_at}
+use Rattle.live_node.proofs.Stepping.{fits_alone, is_setup, hub_step_fits}
+use Rattle.live_node.proofs.live.Live.enter_alone.Goals as goal
+
+pub give_alone-requires-clause-made : goal.give_alone-requires-clause-made
+give_alone-requires-clause-made g c =
+    let o = opening_at c.args.self.now in
+    let fits = fits_alone c.args.self.now.over c.requires.hub in
+    let call = c.args.call.now in
+    hub_step_fits fits (g.C.HubCall.call call) (g.C.HubCall.answers call c.step-answer.result) c.step-answer.new.shelf (g.C.HubCall.named call (setup_at o)) (g.C.HubCall.own call (setup_at o))
+    c.step-answer.ensures.shape c.step-answer.ensures.honest
+    (c.step-answer.ensures.makes (setup_at o) (state_at o (seen_by (view c.args.pass.now))) (is_setup fits) c.requires.hub.stands)

@@ -1,0 +1,20 @@
+use Rattle.std.proofs.Common.{ap}
+use Rattle.turn_table.specs.Passes.{view}
+use Rattle.live_node.specs.Lives.{opening_at}
+use Rattle.live_node.proofs.Right.{right_still}
+use Rattle.live_node.proofs.live.Live.try_hub.Goals as goal
+
+pub returns-in_default-clause-right : goal.returns-in_default-clause-right
+returns-in_default-clause-right g c =
+    let told = c.in_default.ensures in
+    right_still g.D.Disk.view (opening_at c.args.self.now) (view c.args.pass.now) (view c.try_hub.new.pass) told.seen told.pass.opened (ap (λ v. v.mine) told.none.0)
+
+pub returns-clause-right : goal.returns-clause-right
+returns-clause-right g c =
+    let told = c.in-Some.ensures in
+    right_still g.D.Disk.view (opening_at c.args.self.now) (view c.args.pass.now) (view c.try_hub.new.pass) told.seen told.pass.opened (ap (λ v. v.mine) told.some)
+
+pub returns-clause-some : goal.returns-clause-some
+returns-clause-some g c =
+    let told = c.in-Some.ensures in
+    ((told.pass, ap (λ v. v.part) told.some, ap (λ v. v.hub) told.some), ap (λ v. v.found_out) told.some, told.fits, told.still)

@@ -1,0 +1,33 @@
+// The hub of a device: its shelf, with the three counts of its entries.
+ghost use Rattle.std.specs.Prelude.{◌≡◌, List};
+ghost use Rattle.model_device.specs.Events.{Event};
+ghost use Rattle.shard_core.specs.Numbers.{counts_of};
+ghost use Rattle.live_node.specs.Opening.{Opening, IsOpening, state_at};
+ghost use Rattle.live_node.specs.Fits.{HubFits};
+
+use block_shelf::Shelf;
+use disk_model::Disk;
+use rec_format::Counts;
+use sprig_tree::Tally;
+
+/// The shelf of a device, and how many records, tombstones and covered records there are.
+#[derive(Drop)]
+pub struct Hub<D: Disk> {
+    pub(crate) shelf: Shelf<D>,
+    pub(crate) tally: Tally,
+}
+
+impl<D: Disk> Hub<D> {
+    // The numbers of the device.
+    pub(crate) fn counts(&self) -> Counts
+        ensures { (o : Opening D) (events : List Event) → HubFits D.view o events self.now.shelf self.now.tally → IsOpening o → result ≡ counts_of (state_at o events) }
+    {
+        let _shape = self.shelf.geometry();
+        Counts {
+            records: self.tally.records,
+            tombstones: self.tally.tombstones,
+            covered: self.tally.covered,
+            ..self.shelf.counts()
+        }
+    }
+}

@@ -1,0 +1,43 @@
+// A read as a step over the sprig of a digest and the shelf.
+use crate::steps::Step;
+use block_shelf::{ReadRefusal, Shelf};
+use disk_model::Disk;
+use rec_format::{Digest, Version};
+use shard_core::{Settings, get_step};
+use sprig_tree::Sprig;
+use std::alloc::Global;
+
+#[derive(Drop)]
+pub(crate) struct Get<'a> {
+    pub digest: &'a Digest,
+    pub now: u64,
+}
+
+impl<'a, D: Disk> Step<D> for Get<'a> {
+    ghost use Rattle.std.specs.Prelude.{◌≡◌, ◌≤◌, ◌^◌, refl};
+    ghost use Rattle.model_device.specs.Device.{part_of};
+    ghost use Rattle.model_device.specs.Events.{get_call};
+    ghost use Rattle.shard_core.specs.Calls.{read_answer};
+
+    type Answer = Result<Option<Version>, ReadRefusal>;
+
+    ghost asks = { λ c. c.now ≤ 2 ^ 61 };
+
+    ghost call = { λ c. get_call c.digest.now c.now };
+
+    ghost part = { λ c setup. part_of setup c.digest.now };
+
+    ghost answers = { λ c result answer. answer ≡ read_answer result };
+
+    fn step(
+        &self,
+        alloc: Global,
+        sprig: &mut Sprig,
+        shelf: &mut Shelf<D>,
+        set: &Settings,
+    ) -> Result<Option<Version>, ReadRefusal> {
+        get_step(alloc, sprig, shelf, set, self.digest, self.now)
+    }
+
+    ghost named = { λ c setup. refl };
+}
