@@ -98,6 +98,13 @@ entry_of-digest d (x ∷ xs) e found =
     (λ same here. subst (λ (y : Entry). y.digest ≡ d) (same_some x e here) (sym (same_digest_is d x.digest same)))
     (λ _ later. entry_of-digest d xs e later) found
 
+-- where a digest has no entry, nothing is taken out
+pub without_absent : (d : Digest) (es : List Entry) → entry_of d es ≡ None → without_digest d es ≡ es
+without_absent d [] absent = refl
+without_absent d (e ∷ es) absent =
+    cond-true (not (same_digest d e.digest)) (e ∷ without_digest d es) (without_digest d es) (not_from_false (same_digest d e.digest) (absent_first d e es absent))
+    ∙ ap (λ l. e ∷ l) (without_absent d es (absent_rest d e es absent))
+
 -- ---- order after edits
 
 -- where a digest has no entry, the list falls into what is below it and what is above it

@@ -29,12 +29,12 @@ module _ (front rest : List Entry) (e : Entry) (small : length (front ++ e ∷ r
   below : (p : Entry → Bool) → count_by p (front ++ e ∷ rest) < 2 ^ 64
   below p = omega (arith, count_by-le-length p (front ++ e ∷ rest))
 
-  tally_with : joined (tally_of (front ++ rest)) (tally_of (e ∷ [])) ≡ tally_of (front ++ e ∷ rest)
+  pub tally_with : joined (tally_of (front ++ rest)) (tally_of (e ∷ [])) ≡ tally_of (front ++ e ∷ rest)
   tally_with =
       let by = λ (p : Entry → Bool). added (count_by p (front ++ rest)) (count_by p (e ∷ [])) (count_by p (front ++ e ∷ rest)) (counted p front rest e) (below p) in
       λ i. record { records = by is_put_entry i; tombstones = by is_tomb_entry i; covered = by is_covered_entry i }
 
-  tally_without : parted (tally_of (front ++ e ∷ rest)) (tally_of (e ∷ [])) ≡ tally_of (front ++ rest)
+  pub tally_without : parted (tally_of (front ++ e ∷ rest)) (tally_of (e ∷ [])) ≡ tally_of (front ++ rest)
   tally_without =
       let by = λ (p : Entry → Bool). left (count_by p (front ++ e ∷ rest)) (count_by p (e ∷ [])) (count_by p (front ++ rest)) (counted p front rest e) (below p) in
       λ i. record { records = by is_put_entry i; tombstones = by is_tomb_entry i; covered = by is_covered_entry i }

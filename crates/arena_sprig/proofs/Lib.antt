@@ -1,0 +1,13 @@
+pub mod Trees
+pub mod Paths
+pub mod Pointed
+pub mod Turned
+pub mod Evened
+pub mod Ways
+pub mod Lasts
+pub mod After
+pub mod Edited
+pub mod Removed
+pub mod Grown
+pub mod Cuts
+pub mod Kept

@@ -1,0 +1,23 @@
+use Rattle.std.proofs.Common.{Option, refl, ap, sym, subst, ◌∙◌}
+use Rattle.std.specs.Option.{IsSome}
+use Rattle.rec_format.specs.declared.entry.Entry.{Entry}
+use Rattle.arena_sprig.specs.declared.links.Link.{Link}
+use Rattle.arena_sprig.proofs.Trees.{IsHanging, hung_at}
+use Rattle.arena_sprig.proofs.walks.steps_to.Goals as goal
+use Rattle.arena_sprig.proofs.walks.steps_to.Goals.{in-Less, in-Greater}
+
+pub loop-step-init : goal.loop-step-init
+loop-step-init c = record { tree = c.requires.tree; hangs = c.requires.hangs }
+
+pub get-requires : goal.get-requires
+get-requires c = subst (λ (o : Option Entry). IsSome o) (sym (hung_at c.args.arena.now.slots c.args.links.now c.loop-step.at c.loop-step.invariant c.if-at.false).holds) refl
+
+pub loop-step-preserved : goal.loop-step-preserved
+loop-step-preserved c =
+    let slots = c.args.arena.now.slots in
+    let links = c.args.links.now in
+    let here = hung_at slots links c.loop-step.at c.loop-step.invariant c.if-at.false in
+    elim c.match-cmp.branch [
+      | in-Less w ↦ subst (λ n. IsHanging slots links n) (sym (w.at-is ∙ ap (λ (l : Link). l.right) c.link_of-link.ensures)) here.right
+      | in-Greater w ↦ subst (λ n. IsHanging slots links n) (sym (w.at-is ∙ ap (λ (l : Link). l.left) c.link_of-link.ensures)) here.left
+    ]

@@ -1,0 +1,29 @@
+-- What a sprig keeps, and how its arena and its links grow.
+use Rattle.std.specs.Prelude.{◌≡◌, ℕ, ◌+◌, ◌<◌, ◌≤◌, List, length, None, Some, slice_index_or}
+use Rattle.rec_format.specs.declared.entry.Entry.{Entry}
+use Rattle.entry_arena.specs.State.{ArenaState}
+use Rattle.arena_sprig.specs.declared.links.Link.{Link}
+use Rattle.sprig_tree.specs.declared.tally.Tally.{Tally}
+use Rattle.sprig_tree.specs.Tallies.{tally_of}
+use Rattle.arena_sprig.specs.Tree.{no_link, IsLinked, IsTree, entries_from}
+
+-- the links of more slots: those that had links keep them
+pub record IsLonger (old new : List Link) : Type 0 where
+  pub longer : length old ≤ length new
+  pub same : (slot : ℕ) → slot < length old → slice_index_or new slot no_link ≡ slice_index_or old slot no_link
+
+-- more slots are there, and those in use keep their entries and links
+pub record IsGrown (old : ArenaState) (old_links : List Link) (new : ArenaState) (new_links : List Link) : Type 0 where
+  pub linked : IsLinked new.slots new_links
+  pub longer : length old_links ≤ length new_links
+  pub kept : (entry : Entry) (slot : ℕ) → slice_index_or old.slots slot None ≡ Some entry → (slice_index_or new.slots slot None ≡ Some entry) × (slice_index_or new_links slot no_link ≡ slice_index_or old_links slot no_link)
+  pub filled : length new.slots + old.spare ≡ length old.slots + new.spare
+  pub rises : old.spare ≤ new.spare
+
+-- What every sprig keeps: its tree hangs right, the slots that it doesn't use are spare, there is the room that it promised, and the
+-- tally is that of its entries.
+pub record IsSprig (arena : ArenaState) (links : List Link) (root count room : ℕ) (tally : Tally) : Type 0 where
+  pub tree : IsTree arena.slots links root count
+  pub filled : count + arena.spare ≡ length arena.slots
+  pub promised : room ≤ arena.spare
+  pub tallied : tally ≡ tally_of (entries_from count arena.slots links root)
