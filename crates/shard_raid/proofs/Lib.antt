@@ -7,3 +7,4 @@ pub mod Nearer
 pub mod OneEnd
 pub mod EndWalk
 pub mod EndTurn
+pub mod Taken

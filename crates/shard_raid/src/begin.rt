@@ -4,7 +4,9 @@ ghost use Rattle.rec_format.specs.Versions.{top_number};
 ghost use Rattle.model_device.specs.Book.{Setup};
 ghost use Rattle.model_device.specs.Device.{State};
 ghost use Rattle.model_device.specs.Events.{begin_call, raid_numbered};
+ghost use Rattle.model_device.specs.Passes.{turn_part};
 ghost use Rattle.raid_book.specs.Books.{FitsTurn, begun};
+ghost use Rattle.raid_book.specs.Turns.{turn_of};
 ghost use Rattle.block_shelf.specs.View.{IsSetupOf};
 ghost use Rattle.law_steps.specs.Standing.{ShelfStands};
 ghost use Rattle.law_steps.specs.Events.{MakesEvent};
@@ -43,6 +45,18 @@ impl Raid {
         ensures { result ≡ self.now.next }
     {
         self.next
+    }
+
+    /// The part at which its next turn is, if it is one at a part.
+    pub fn part(&self) -> Option<u32>
+        ensures { result ≡ turn_part (turn_of self.now.next) }
+    {
+        match self.next {
+            RaidNext::Mark(part) => Some(part),
+            RaidNext::Apply(part) => Some(part),
+            RaidNext::Drop(part) => Some(part),
+            RaidNext::Scan(_) | RaidNext::Finished => None,
+        }
     }
 
     /// Whether it is the raid that runs, and its next turn is the next one.

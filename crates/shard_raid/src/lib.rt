@@ -9,9 +9,11 @@ mod compare;
 mod end;
 mod mark;
 mod scan;
+mod turn;
 
 pub use begin::{Raid, raid_begin};
 pub use compare::raid_apply;
 pub use end::raid_end;
 pub use mark::raid_mark;
 pub use scan::{RaidRefusal, raid_scan};
+pub use turn::{RaidDid, part_turn, shelf_turn};
