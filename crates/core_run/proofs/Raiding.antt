@@ -37,11 +37,12 @@ use Rattle.shard_core.specs.Stands.{Agrees, IsSafe}
 use Rattle.shard_core.specs.Calls.{Makes}
 use Rattle.law_steps.specs.Standing.{ShelfIsSafe}
 use Rattle.shard_core.specs.Vacating.{MakesEvents}
-use Rattle.shard_core.specs.declared.raid.RaidDid.{RaidDid}
-use Rattle.shard_core.specs.declared.raid.RaidDid.TheVariants.{Marked, Scanned, Applied, Dropped, Done}
-use Rattle.shard_core.specs.Raids.{AreFewEnds, TurnMakes, TakesTurn, IsDidOf, IsNoDrop, did_answer, turn_answer}
+use Rattle.shard_raid.specs.declared.turn.RaidDid.{RaidDid}
+use Rattle.shard_raid.specs.declared.turn.RaidDid.TheVariants.{Marked, Scanned, Applied, Dropped, Done}
+use Rattle.shard_raid.specs.Turns.{IsDidOf, IsNoDrop, did_answer, turn_answer}
+use Rattle.shard_core.specs.Raids.{AreFewEnds, TurnMakes, TakesTurn}
 use Rattle.shard_core.proofs.Events.{runs_one, makes_events, runs_made, after_all}
-use Rattle.shard_core.proofs.Raiding.{possible_then, possible_aside, scans_all_as, scans_only_as, no_scan_all, no_scan_only, next_is}
+use Rattle.shard_raid.proofs.Taken.{possible_then, possible_aside, scans_all_as, scans_only_as, no_scan_all, no_scan_only, next_is}
 use Rattle.core_run.specs.Turns.{GoesOn, IsRaid, slot_for}
 use Rattle.core_run.specs.Raids.{ended_by}
 use Rattle.core_run.proofs.Places.{slot_after_is}
@@ -272,7 +273,7 @@ module _ {D : Type 0} (view : D → DiskView) (now : ℕ) where
         let m = far s agrees in
         let slot = slot_for view old s in
         let at : (slot_after_all m.events slot).state.raid.next ≡ finished = ap (λ (t : State). t.raid.next) (here_is view now number old s m.events)
-        ∙ next_is mid (after_events (setup_of old) m.events s) Finished m.stands over in
+        ∙ next_is (setup_of mid) mid.shelf (after_events (setup_of old) m.events s) Finished m.stands.shelf over in
         let raids = over_so now number slot removed cleared m.events m.works.so_far at in
         makes_events view old mid s (IsRaid view old mid now s (Ok (removed, cleared))) m.events (
           did removed cleared,
@@ -317,7 +318,7 @@ module _ {D : Type 0} (view : D → DiskView) (now : ℕ) where
         setups = setups_same view old mid goes
 
         more : raid.next ≢ Finished
-        more over = by told (subst (λ (n : RaidNext). IsDidOf n told) over took.did) ended
+        more over = by told (subst (λ (n : RaidNext). IsDidOf n told) over took.shelf.did) ended
           where
             by : (d : RaidDid) → IsDidOf Finished d → ended_by d ≡ Some (gone, bare) → ⊥
             by (Marked marks) is e = is
@@ -374,7 +375,7 @@ module _ {D : Type 0} (view : D → DiskView) (now : ℕ) where
                 let behind : after_events (setup_of old) (m.events ++ turn.makes.event ∷ []) s ≡ after_event (setup_of mid) turn.makes.event t =
                 after_all (setup_of old) m.events (turn.makes.event ∷ []) s ∙ ap (λ (x : Setup). after_event x turn.makes.event t) (sym setups) in
                 subst (λ (x : State). SamePossible start (possible_copies view new.shelf x)) (sym behind) (still raid.next refl (subst (λ (x : State). IsBefore x.raid.next) behind before));
-            sure = subst AreSure (sym (took.sure found.sure)) found.sure;
+            sure = subst AreSure (sym (took.shelf.sure found.sure)) found.sure;
           }
 
         -- ---- what was spared with one turn more
@@ -400,10 +401,10 @@ module _ {D : Type 0} (view : D → DiskView) (now : ℕ) where
           spared_by (Apply part) at = ((λ digest. inl (still_same (Apply part) at tt tt digest)), λ before. still_same (Apply part) at tt tt)
           spared_by (Drop part) at =
               let at_turn : t.raid.next ≡ drop_turn part = comes ∙ ap turn_of at in
-              let ends = took.ends part at in (
+              let ends = took.shelf.ends part at in (
                 spares_on s t then (possible_copies view mid.shelf t) (possible_copies view new.shelf then) have.spares
                     (drop_spares (setup_of mid) false t turn.makes.event raid.number now part (possible_copies view mid.shelf t) at_turn safe.safe.held.facts (allowed (Drop part) at))
-                    (none_comes view mid.shelf new.shelf t then ends.0 ends.1 took.buffers took.shape.geometry (setup_of mid) (setup_of new) m.stands.shelf.stands turn.makes.stands.shelf.stands),
+                    (none_comes view mid.shelf new.shelf t then ends.0 ends.1 took.shelf.buffers took.shape.geometry (setup_of mid) (setup_of new) m.stands.shelf.stands turn.makes.stands.shelf.stands),
                 λ before. absurd (drops_on (setup_of mid) false t turn.makes.event raid.number part now at_turn (allowed (Drop part) at) before),
               )
           spared_by Finished at = absurd (more at)

@@ -1,7 +1,7 @@
 -- Crate core_run. What a turn of a raid adds to what the raid did.
 use Rattle.std.specs.Prelude.{ℕ, Option, Some, None}
-use Rattle.shard_core.specs.declared.raid.RaidDid.{RaidDid}
-use Rattle.shard_core.specs.declared.raid.RaidDid.TheVariants.{Marked, Scanned, Applied, Dropped, Done}
+use Rattle.shard_raid.specs.declared.turn.RaidDid.{RaidDid}
+use Rattle.shard_raid.specs.declared.turn.RaidDid.TheVariants.{Marked, Scanned, Applied, Dropped, Done}
 
 -- the tombstones that it removed and the covers that it cleared, none where the raid is over
 abbrev pub ended_by : RaidDid → Option (ℕ × ℕ)

@@ -56,7 +56,7 @@ module _ {D : Type 0} (view : D → DiskView) (old : ShardView D) (mid : ShelfVi
   shape_over = record { geometry = ap (λ (v : ShelfView D). v.geometry) same; set = refl }
 
   chose : (s : State) → Agrees old s → Makes view choose_call (choose_answer result) old s over
-  chose s agrees = shelf_lifted view old over shape_over refl choose_call (choose_answer result) tt refl (ShelfStands setup mid) (λ t stands. stands) s agrees
+  chose s agrees = shelf_lifted view old over shape_over refl choose_call (choose_answer result) tt refl s agrees
       (chooses setup s (setup_is old whole) agrees.shelf)
 
   pub whole_over : IsWhole over

@@ -10,7 +10,7 @@ use Rattle.model_device.specs.Events.{Call, Answer, after_event}
 use Rattle.model_device.specs.Passes.{part_named}
 use Rattle.sprig_tree.specs.State.{SprigState}
 use Rattle.law_sprig.specs.Parts.{FitsParts, NamesOwn}
-use Rattle.law_sprig.proofs.Device.{parts_fit_on, parts_become}
+use Rattle.law_sprig.proofs.Device.{own_stay, parts_fit_on, parts_become}
 use Rattle.shard_core.proofs.Each.{set_same}
 use Rattle.disk_model.specs.Disk.{DiskView}
 use Rattle.block_shelf.specs.View.{IsSetupOf, IsShelf, ShelfView}
@@ -28,6 +28,7 @@ use Rattle.law_steps.specs.Standing.{ShelfStands, StandTogether}
 use Rattle.shard_core.specs.Calls.{Makes}
 use Rattle.shard_core.specs.Keeping.{KeepsFew}
 use Rattle.law_steps.specs.Events.{MakesEvent, StepMakes}
+use Rattle.shard_raid.specs.Raids.{StandOn}
 use Rattle.block_shelf.specs.declared.place.ShelfLimits.{ShelfLimits}
 
 -- ---- the shard's setup
@@ -85,30 +86,29 @@ module _ {D : Type 0} (view : D → DiskView) (part : ℕ) (old new : ShardView 
     shelf_stands = agrees.shelf;
   }
 
-  pub part_lifted : (call : Call) (answer : Answer) → NamesOwn (setup_of old) call → part_named (setup_of old) call ≡ Some part → (s : State) → Agrees old s
+  abbrev pub part_lifted : (call : Call) (answer : Answer) → NamesOwn (setup_of old) call → part_named (setup_of old) call ≡ Some part → (s : State) → Agrees old s
       → StepMakes view (setup_of old) part call answer old.shelf s after new.shelf → Makes view call answer old s new
-  part_lifted call answer names named s agrees made = record {
-    event = made.event;
-    is_call = made.is_call;
-    is_answer = made.is_answer;
-    follows = made.follows;
-    told = made.told;
-    counted = made.counted;
-    stands = record {
-      sprigs = subst (λ (x : Setup). FitsParts x new.sprigs behind) (setup_same old new shape) (subst (λ (l : List SprigState). FitsParts (setup_of old) l behind) (sym becomes)
-          (subst (λ (n : ℕ). FitsParts (setup_of old) (set old.sprigs n after) behind) (sym place)
-          (parts_become (setup_of old) false s made.event old.sprigs made.follows.allowed (subst (NamesOwn (setup_of old)) (sym made.is_call) names) agrees.sprigs part after
-          (ap (part_named (setup_of old)) made.is_call ∙ named) made.stands.sprig_stands.fits)));
-      times = subst (AllByRecursion HasTimes) (sym becomes) (all_set HasTimes old.sprigs k after agrees.times made.stands.sprig_stands.times);
-      shelf = shelf_over old new shape behind made.stands.shelf_stands;
-    };
-    placed = made.placed;
-    safe = made.safe;
-    leaves = made.leaves;
-  }
-    where
-      behind : State
-      behind = after_event (setup_of old) made.event s
+  part_lifted call answer names named s agrees made =
+      let behind = after_event (setup_of old) made.event s in
+      record {
+        event = made.event;
+        is_call = made.is_call;
+        is_answer = made.is_answer;
+        follows = made.follows;
+        told = made.told;
+        counted = made.counted;
+        stands = record {
+          sprigs = subst (λ (x : Setup). FitsParts x new.sprigs behind) (setup_same old new shape) (subst (λ (l : List SprigState). FitsParts (setup_of old) l behind) (sym becomes)
+              (subst (λ (n : ℕ). FitsParts (setup_of old) (set old.sprigs n after) behind) (sym place)
+              (parts_become (setup_of old) false s made.event old.sprigs made.follows.allowed (subst (NamesOwn (setup_of old)) (sym made.is_call) names) agrees.sprigs part after
+              (ap (part_named (setup_of old)) made.is_call ∙ named) made.stands.sprig_stands.fits)));
+          times = subst (AllByRecursion HasTimes) (sym becomes) (all_set HasTimes old.sprigs k after agrees.times made.stands.sprig_stands.times);
+          shelf = shelf_over old new shape behind made.stands.shelf_stands;
+        };
+        placed = made.placed;
+        safe = made.safe;
+        leaves = made.leaves;
+      }
 
 -- So is one over the sprig of a digest's part.
 module _ {D : Type 0} (view : D → DiskView) (digest : Digest) (old new : ShardView D) (k : ℕ) (before after : SprigState) (shape : SameSetup old new)
@@ -130,11 +130,36 @@ module _ {D : Type 0} (view : D → DiskView) (digest : Digest) (old new : Shard
       → StepMakes view (setup_of old) part call answer old.shelf s after new.shelf → Makes view call answer old s new
   lifted call answer names named s agrees made = part_lifted view part old new k before after shape place there at becomes call answer names named s agrees made
 
--- What the shelf alone makes of itself is a call of the shard that names no part, where it stands for what is asked of the state.
-abbrev pub shelf_lifted : {D : Type 0} (view : D → DiskView) (old new : ShardView D) → SameSetup old new → new.sprigs ≡ old.sprigs → (call : Call) (answer : Answer)
-    → NamesOwn (setup_of old) call → part_named (setup_of old) call ≡ None → (Stands : State → Type 0) → ((t : State) → Stands t → ShelfStands (setup_of old) new.shelf t)
-    → (s : State) → Agrees old s → MakesEvent view (setup_of old) call answer old.shelf s new.shelf Stands → Makes view call answer old s new
-shelf_lifted view old new shape sprigs call answer names named Stands shelf_of s agrees made =
+-- What the shelf alone makes of itself is a call of the shard that names no part.
+pub shelf_lifted : {D : Type 0} (view : D → DiskView) (old new : ShardView D) → SameSetup old new → new.sprigs ≡ old.sprigs → (call : Call) (answer : Answer)
+    → NamesOwn (setup_of old) call → part_named (setup_of old) call ≡ None
+    → (s : State) → Agrees old s → MakesEvent view (setup_of old) call answer old.shelf s new.shelf (ShelfStands (setup_of old) new.shelf) → Makes view call answer old s new
+shelf_lifted view old new shape sprigs call answer names named s agrees made = record {
+  event = made.event;
+  is_call = made.is_call;
+  is_answer = made.is_answer;
+  follows = made.follows;
+  told = made.told;
+  counted = made.counted;
+  stands = record {
+    sprigs = subst (λ (x : Setup). FitsParts x new.sprigs behind) (setup_same old new shape) (subst (λ (l : List SprigState). FitsParts (setup_of old) l behind) (sym sprigs)
+        (parts_fit_on (setup_of old) false s made.event old.sprigs made.follows.allowed (subst (NamesOwn (setup_of old)) (sym made.is_call) names) agrees.sprigs
+        (ap (part_named (setup_of old)) made.is_call ∙ named)));
+    times = subst (AllByRecursion HasTimes) (sym sprigs) agrees.times;
+    shelf = shelf_over old new shape behind made.stands;
+  };
+  placed = made.placed;
+  safe = made.safe;
+  leaves = made.leaves;
+}
+  where
+    behind : State
+    behind = after_event (setup_of old) made.event s
+
+-- So is what it makes where each sprig that stood stands on.
+abbrev pub on_lifted : {D : Type 0} (view : D → DiskView) (old new : ShardView D) → SameSetup old new → new.sprigs ≡ old.sprigs → (call : Call) (answer : Answer) → NamesOwn (setup_of old) call
+    → (s : State) → Agrees old s → MakesEvent view (setup_of old) call answer old.shelf s new.shelf (StandOn (setup_of old) new.shelf s) → Makes view call answer old s new
+on_lifted view old new shape sprigs call answer names s agrees made =
     let behind = after_event (setup_of old) made.event s in
     record {
       event = made.event;
@@ -144,11 +169,14 @@ shelf_lifted view old new shape sprigs call answer names named Stands shelf_of s
       told = made.told;
       counted = made.counted;
       stands = record {
-        sprigs = subst (λ (x : Setup). FitsParts x new.sprigs behind) (setup_same old new shape) (subst (λ (l : List SprigState). FitsParts (setup_of old) l behind) (sym sprigs)
-            (parts_fit_on (setup_of old) false s made.event old.sprigs made.follows.allowed (subst (NamesOwn (setup_of old)) (sym made.is_call) names) agrees.sprigs
-            (ap (part_named (setup_of old)) made.is_call ∙ named)));
+        sprigs = subst (λ (x : Setup). FitsParts x new.sprigs behind) (setup_same old new shape) (subst (λ (l : List SprigState). FitsParts (setup_of old) l behind) (sym sprigs) (record {
+          count = agrees.sprigs.count;
+          each = λ part sprig at.
+              (made.stands.sprigs part sprig (record { fits = agrees.sprigs.each part sprig at; times = all_get HasTimes old.sprigs part sprig agrees.times at })).fits;
+          own = own_stay (setup_of old) false s made.event (subst (NamesOwn (setup_of old)) (sym made.is_call) names) made.follows.allowed agrees.sprigs.own;
+        }));
         times = subst (AllByRecursion HasTimes) (sym sprigs) agrees.times;
-        shelf = shelf_over old new shape behind (shelf_of behind made.stands);
+        shelf = shelf_over old new shape behind made.stands.shelf_stands;
       };
       placed = made.placed;
       safe = made.safe;

@@ -1,38 +1,24 @@
 // How a raid takes its turns.
-ghost use Rattle.std.specs.Prelude.{◌≡◌, ◌+◌, ◌==◌, ℕ, Ok, Err, None, Some, IfSome, OnOk, OnErr, if◌then◌else◌};
+ghost use Rattle.std.specs.Prelude.{◌≡◌, ◌<◌, ◌+◌, ◌==◌, ℕ, Err, None, Some, IfSome, OnOk, OnErr, if◌then◌else◌, length};
 ghost use Rattle.disk_model.specs.Disk.{IsHonest};
 ghost use Rattle.rec_format.specs.Versions.{top_number};
 ghost use Rattle.model_device.specs.Device.{State};
 ghost use Rattle.model_device.specs.Events.{begin_call, raid_numbered};
-ghost use Rattle.raid_book.specs.Books.{FitsTurn, begun};
+ghost use Rattle.model_device.specs.Passes.{turn_part};
+ghost use Rattle.raid_book.specs.Books.{begun};
+ghost use Rattle.raid_book.specs.Turns.{turn_of};
 ghost use Rattle.block_shelf.specs.Disks.{IsLater};
 ghost use Rattle.block_shelf.specs.Sure.{StaysSure};
 ghost use Rattle.shard_raid.specs.Raids.{IsNext, begun_raid, number_of};
 ghost use Rattle.shard_core.specs.View.{SameSetup};
-ghost use Rattle.shard_core.specs.Stands.{Agrees, IsWhole};
+ghost use Rattle.shard_core.specs.Stands.{Agrees};
 ghost use Rattle.shard_core.specs.Calls.{Makes};
 ghost use Rattle.shard_core.specs.Raids.{TakesTurn, TurnMakes};
 
 use crate::Shard;
 use disk_model::Disk;
-use raid_book::RaidNext;
-use shard_raid::{Raid, RaidRefusal, raid_apply, raid_begin, raid_end, raid_mark, raid_scan};
+use shard_raid::{Raid, RaidDid, RaidRefusal, part_turn, raid_begin, shelf_turn};
 use std::alloc::Global;
-
-/// What a turn of a raid did.
-#[derive(Clone, Copy, PartialEq, Eq)]
-pub enum RaidDid {
-    /// So many entries of a part are marked.
-    Marked { marks: u64 },
-    /// This block was scanned for copies that are older than marked entries.
-    Scanned { block: u32 },
-    /// Of so many marked entries of a part an older copy was found, so they have to stay.
-    Applied { unmarked: u64 },
-    /// So many tombstones of a part were removed, and so many puts lost their cover flags.
-    Dropped { removed: u64, cleared: u64 },
-    /// Nothing: the raid is over.
-    Done,
-}
 
 impl<D: Disk> Shard<D> {
     /// At `Some` a raid has begun, also over a running one, whose marks are void then; it stands in memory alone, and a start finds none.
@@ -68,92 +54,59 @@ impl<D: Disk> Shard<D> {
         ensures honest { IsHonest (D.view self.old.shelf.disk) → IsHonest (D.view self.new.shelf.disk) }
         ensures shape { SameSetup self.old self.new }
     {
-        let book = self.shelf.raid();
-        if !raid.is_next(book) {
-            return Err(RaidRefusal::Stale {
-                number: book.number(),
-                next: book.next(),
-            });
-        }
-        let did = self.take_turn(alloc, raid.next(), now)?;
-        raid.go_on(self.shelf.raid());
-        Ok(did)
-    }
-
-    // Takes this turn of the raid that runs, which is its next.
-    fn take_turn(&mut self, alloc: Global, next: RaidNext, now: u64) -> Result<RaidDid, RaidRefusal>
-        requires next { self.old.shelf.raid.next ≡ next }
-        requires fits { FitsTurn next self.old.shelf.raid }
-        ensures { TakesTurn D.view next now result self.old self.new }
-    {
-        match next {
-            RaidNext::Mark(part) => Ok(self.mark_part(part, now)),
-            RaidNext::Scan(_) => self.scan_block(alloc),
-            RaidNext::Apply(part) => Ok(self.compare_part(part)),
-            RaidNext::Drop(part) => Ok(self.end_part(part)),
-            RaidNext::Finished => Ok(RaidDid::Done),
+        // By its book's shape the turn that is next is one at a part that has a sprig, if it is at a part.
+        let _next = self.shelf.raid().next();
+        match raid.part() {
+            Some(part) if (part as usize) < self.sprigs.len() => self.turn_at(part, raid, now),
+            _ => self.turn_aside(alloc, raid),
         }
     }
 }
 
 impl<D: Disk> Shard<D> {
-    // Marks what may go of a part: `raid_mark` over its sprig.
-    fn mark_part(&mut self, part: u32, now: u64) -> RaidDid
-        requires turn { self.old.shelf.raid.next ≡ RaidNext.Mark part }
-        requires fits { FitsTurn self.old.shelf.raid.next self.old.shelf.raid }
-        ensures { TakesTurn D.view (RaidNext.Mark part) now (Ok result) self.old self.new }
-    {
-        let place = part as usize;
-        let before = self.sprigs[place].tally();
-        let marks = raid_mark(
-            &mut self.sprigs[place],
-            &mut self.shelf,
-            part,
-            self.set.raid_age,
-            now,
-        );
-        self.tally = self.tally.minus(before).plus(self.sprigs[place].tally());
-        RaidDid::Marked { marks }
-    }
-
-    // Compares what was found of a part with its entries: `raid_apply` over its sprig.
-    fn compare_part(&mut self, part: u32) -> RaidDid
-        requires turn { self.old.shelf.raid.next ≡ RaidNext.Apply part }
-        requires fits { FitsTurn self.old.shelf.raid.next self.old.shelf.raid }
-        ensures { (now : ℕ) → TakesTurn D.view (RaidNext.Apply part) now (Ok result) self.old self.new }
-    {
-        let place = part as usize;
-        let before = self.sprigs[place].tally();
-        let unmarked = raid_apply(&mut self.sprigs[place], &mut self.shelf, part);
-        self.tally = self.tally.minus(before).plus(self.sprigs[place].tally());
-        RaidDid::Applied { unmarked }
-    }
-
-    // Ends a part: `raid_end` over its sprig.
-    fn end_part(&mut self, part: u32) -> RaidDid
-        requires turn { self.old.shelf.raid.next ≡ RaidNext.Drop part }
-        requires fits { FitsTurn self.old.shelf.raid.next self.old.shelf.raid }
-        ensures { (now : ℕ) → TakesTurn D.view (RaidNext.Drop part) now (Ok result) self.old self.new }
+    // A turn at a part: `part_turn` over its sprig.
+    fn turn_at(&mut self, part: u32, raid: &mut Raid, now: u64) -> Result<RaidDid, RaidRefusal>
+        requires part { turn_part (turn_of raid.old.next) ≡ Some part }
+        requires there { part < length self.old.sprigs }
+        ensures makes { (s : State) → Agrees self.old s → TurnMakes D.view raid.old now result self.old s self.new }
+        ensures taken { IsNext raid.old self.old.shelf.raid → TakesTurn D.view raid.old.next now result self.old self.new }
+        ensures stale { (IsNext raid.old self.old.shelf.raid → ⊥) → (result ≡ Err (RaidRefusal.Stale self.old.shelf.raid.number self.old.shelf.raid.next)) × (self.new ≡ self.old) }
+        ensures follows { OnOk result (IsNext raid.new self.new.shelf.raid × (raid.new.number ≡ raid.old.number)) }
+        ensures kept { OnErr result (raid.new ≡ raid.old) }
+        ensures sure { StaysSure D.view self.old.shelf self.new.shelf }
+        ensures later { IsLater (D.view self.old.shelf.disk) (D.view self.new.shelf.disk) }
+        ensures honest { IsHonest (D.view self.old.shelf.disk) → IsHonest (D.view self.new.shelf.disk) }
+        ensures shape { SameSetup self.old self.new }
     {
         // By its shape the device has at most 2^32 places, and at most 2^20 parts.
         let _shape = self.shelf.geometry();
         let _parts = self.parts();
         let place = part as usize;
         let before = self.sprigs[place].tally();
-        let (removed, cleared) = raid_end(&mut self.sprigs[place], &mut self.shelf, part);
+        let answer = part_turn(
+            &mut self.sprigs[place],
+            &mut self.shelf,
+            raid,
+            self.set.raid_age,
+            now,
+        );
         self.tally = self.tally.minus(before).plus(self.sprigs[place].tally());
-        RaidDid::Dropped { removed, cleared }
+        answer
     }
 
-    // Scans the block whose turn it is: `raid_scan`.
-    fn scan_block(&mut self, alloc: Global) -> Result<RaidDid, RaidRefusal>
-        requires turn { (block : ℕ) × (self.old.shelf.raid.next ≡ RaidNext.Scan block) }
-        requires fits { FitsTurn self.old.shelf.raid.next self.old.shelf.raid }
-        ensures { (now : ℕ) → TakesTurn D.view self.old.shelf.raid.next now result self.old self.new }
+    // A turn at no part: `shelf_turn`.
+    fn turn_aside(&mut self, alloc: Global, raid: &mut Raid) -> Result<RaidDid, RaidRefusal>
+        requires { IsNext raid.old self.old.shelf.raid → turn_part (turn_of raid.old.next) ≡ None }
+        ensures makes { (s : State) (now : ℕ) → Agrees self.old s → TurnMakes D.view raid.old now result self.old s self.new }
+        ensures taken { (now : ℕ) → IsNext raid.old self.old.shelf.raid → TakesTurn D.view raid.old.next now result self.old self.new }
+        ensures stale { (IsNext raid.old self.old.shelf.raid → ⊥) → (result ≡ Err (RaidRefusal.Stale self.old.shelf.raid.number self.old.shelf.raid.next)) × (self.new ≡ self.old) }
+        ensures follows { OnOk result (IsNext raid.new self.new.shelf.raid × (raid.new.number ≡ raid.old.number)) }
+        ensures kept { OnErr result (raid.new ≡ raid.old) }
+        ensures sure { StaysSure D.view self.old.shelf self.new.shelf }
+        ensures later { IsLater (D.view self.old.shelf.disk) (D.view self.new.shelf.disk) }
+        ensures honest { IsHonest (D.view self.old.shelf.disk) → IsHonest (D.view self.new.shelf.disk) }
+        ensures shape { SameSetup self.old self.new }
     {
-        match raid_scan(alloc, &mut self.shelf) {
-            Ok(block) => Ok(RaidDid::Scanned { block }),
-            Err(refusal) => Err(refusal),
-        }
+        shelf_turn(alloc, &mut self.shelf, raid)
     }
 }

@@ -48,7 +48,7 @@ use Rattle.shard_raid.proofs.Nearer.{scan_nearer}
 possible_alike : (p : Possible) → SamePossible p p
 possible_alike p block digest v = ((λ h. h), (λ h. h))
 
-possible_then : (p q r : Possible) → SamePossible p q → SamePossible q r → SamePossible p r
+pub possible_then : (p q r : Possible) → SamePossible p q → SamePossible q r → SamePossible p r
 possible_then p q r first then block digest v = ((λ h. (then block digest v).0 ((first block digest v).0 h)), (λ h. (first block digest v).1 ((then block digest v).1 h)))
 
 -- The book of the raid, and all of a state but its blocks, are aside.
@@ -61,19 +61,19 @@ possible_aside {D} view old new raid s t is same =
     (possible_alike (possible_copies view old s)))
 
 -- what is looked for in a block is the same
-scans_all_as : (s : State) (p q : Possible) (event : Event) → SamePossible p q → ScansAll s q event → ScansAll s p event
+pub scans_all_as : (s : State) (p q : Possible) (event : Event) → SamePossible p q → ScansAll s q event → ScansAll s p event
 scans_all_as s p q event same all block copies turn steps digest v marked older =
     all block copies turn steps digest v marked (record { newer = older.newer; top = older.top; may_come = (same block digest v).0 older.may_come; later = older.later })
 
-scans_only_as : (s : State) (p q : Possible) (event : Event) → SamePossible p q → ScansOnly s q event → ScansOnly s p event
+pub scans_only_as : (s : State) (p q : Possible) (event : Event) → SamePossible p q → ScansOnly s q event → ScansOnly s p event
 scans_only_as s p q event same only block copies turn steps digest stamp there =
     let found = only block copies turn steps digest stamp there in (found.0, (same block digest found.0).1 found.1, found.2)
 
 -- a turn that is no scan scans nothing
-no_scan_all : (s : State) (p : Possible) (event : Event) (turn : Turn) → s.raid.next ≡ turn → ((block : ℕ) → turn ≢ scan_turn block) → ScansAll s p event
+pub no_scan_all : (s : State) (p : Possible) (event : Event) (turn : Turn) → s.raid.next ≡ turn → ((block : ℕ) → turn ≢ scan_turn block) → ScansAll s p event
 no_scan_all s p event turn at other block copies is steps = absurd (other block (sym at ∙ is))
 
-no_scan_only : (s : State) (p : Possible) (event : Event) (turn : Turn) → s.raid.next ≡ turn → ((block : ℕ) → turn ≢ scan_turn block) → ScansOnly s p event
+pub no_scan_only : (s : State) (p : Possible) (event : Event) (turn : Turn) → s.raid.next ≡ turn → ((block : ℕ) → turn ≢ scan_turn block) → ScansOnly s p event
 no_scan_only s p event turn at other block copies is steps = absurd (other block (sym at ∙ is))
 
 -- ---- the blocks of the state
@@ -105,7 +105,7 @@ module _ (setup : Setup) (told : Bool) (s : State) (event : Event) (number now :
       by false only = by_steps [] only.1 refl
 
 -- the state's next turn is the book's
-next_is : {D : Type 0} (setup : Setup) (shelf : ShelfView D) (s : State) (next : RaidNext) → ShelfStands setup shelf s → shelf.raid.next ≡ next → s.raid.next ≡ turn_of next
+pub next_is : {D : Type 0} (setup : Setup) (shelf : ShelfView D) (s : State) (next : RaidNext) → ShelfStands setup shelf s → shelf.raid.next ≡ next → s.raid.next ≡ turn_of next
 next_is setup shelf s next stands at = sym stands.queue.raid.turns.next ∙ ap turn_of at
 
 -- ---- a turn at a part
@@ -355,11 +355,6 @@ only_over next none (inl at) = let part : None ≡ Some at.0 = sym none ∙ ap (
 only_over next none (inr (inl at)) = let part : None ≡ Some at.0 = sym none ∙ ap (λ (n : RaidNext). turn_part (turn_of n)) at.1 in absurd cc
 only_over next none (inr (inr (inl at))) = let part : None ≡ Some at.0 = sym none ∙ ap (λ (n : RaidNext). turn_part (turn_of n)) at.1 in absurd cc
 only_over next none (inr (inr (inr over))) = over
-
--- a turn at a part, which is no mark and no comparison
-pub only_end : (next : RaidNext) (part : ℕ) → turn_part (turn_of next) ≡ Some part → ((x : ℕ) × (next ≡ Scan x)) ⊎ (next ≡ Finished) → ⊥
-only_end next part named (inl at) = let none : Some part ≡ None = sym named ∙ ap (λ (n : RaidNext). turn_part (turn_of n)) at.1 in absurd cc
-only_end next part named (inr over) = let none : Some part ≡ None = sym named ∙ ap (λ (n : RaidNext). turn_part (turn_of n)) over in absurd cc
 
 -- the part of a turn
 pub part_of_mark : (next : RaidNext) (x part : ℕ) → next ≡ Mark x → turn_part (turn_of next) ≡ Some part → x ≡ part

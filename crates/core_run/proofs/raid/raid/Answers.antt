@@ -9,9 +9,9 @@ use Rattle.raid_book.specs.declared.turn.RaidNext.{RaidNext}
 use Rattle.line_proto.specs.declared.reply.LineFault.{LineFault}
 use Rattle.shard_raid.specs.Raids.{begun_raid}
 use Rattle.shard_core.specs.View.{setup_of}
-use Rattle.shard_core.specs.declared.raid.RaidDid.{RaidDid}
-use Rattle.shard_core.specs.declared.raid.RaidDid.TheVariants.{Done}
-use Rattle.shard_core.specs.Raids.{IsDidOf}
+use Rattle.shard_raid.specs.declared.turn.RaidDid.{RaidDid}
+use Rattle.shard_raid.specs.declared.turn.RaidDid.TheVariants.{Done}
+use Rattle.shard_raid.specs.Turns.{IsDidOf}
 use Rattle.core_run.specs.Turns.{GoesOn, RaidsOn}
 use Rattle.core_run.proofs.Turning.{goes_on_then}
 use Rattle.core_run.proofs.Raiding.{begun_goes, begun_is, none_ended, done_over, some_more, few_more, raid_begins, raid_spent, raid_done, raid_more, raid_refused}
@@ -59,7 +59,7 @@ returns-in_default-ended_by-clause-raids g c =
     let took = c.in-Ok.ensures.taken so_far.next in
     let done : c.in-Ok.did ≡ Done = none_ended c.in-Ok.did (sym c.ended_by.ensures ∙ c.in_default-ended_by.is) in
     let over = so_far.next.next in
-    let next : c.loop-did.raid.next ≡ RaidNext.Finished = done_over c.loop-did.raid.next (subst (IsDidOf c.loop-did.raid.next) done took.did) in
+    let next : c.loop-did.raid.next ≡ RaidNext.Finished = done_over c.loop-did.raid.next (subst (IsDidOf c.loop-did.raid.next) done took.shelf.did) in
     let same : c.raid_step.new.self ≡ c.loop-did.shard = took.over (ap (λ (d : RaidDid). Ok d) done) in
     let each = subst (λ (n : ℕ). (digest : Digest) → device_number old.shelf.geometry.devices digest ≡ old.shelf.geometry.device
     → part_of (setup_of old) digest < n) c.parts-parts.ensures.total c.parts-parts.ensures.all in
@@ -79,7 +79,7 @@ loop-did-preserved g c =
     let gone = c.in-Some-ended_by.gone in
     let bare = c.in-Some-ended_by.bare in
     let ended = sym c.ended_by.ensures ∙ c.in-Some-ended_by.is in
-    let more = took.nearer (some_more c.in-Ok.did (gone, bare) ended) in
+    let more = took.shelf.nearer (some_more c.in-Ok.did (gone, bare) ended) in
     record {
       goes = goes_on_then g.D.Disk.view old c.loop-did.shard c.raid_step.new.self so_far.goes turn;
       next = follows.0;

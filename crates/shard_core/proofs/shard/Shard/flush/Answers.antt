@@ -2,7 +2,6 @@ use Rattle.std.proofs.Common.{refl, subst}
 use Rattle.model_device.specs.Device.{State}
 use Rattle.model_device.specs.Events.{flush_call}
 use Rattle.block_shelf.specs.Sure.{StaysSure}
-use Rattle.law_steps.specs.Standing.{ShelfStands}
 use Rattle.shard_core.specs.View.{ShardView, SameSetup, setup_of}
 use Rattle.shard_core.specs.Stands.{Agrees}
 use Rattle.shard_core.specs.Calls.{Makes, flush_answer}
@@ -22,7 +21,7 @@ module _ (g : Over) (c : goal.After-flush_shelf g) where
   shape = record { geometry = c.flush_shelf.ensures.shape.geometry; set = refl }
 
   made : (s : State) → Agrees old s → Makes g.D.Disk.view flush_call (flush_answer c.flush_shelf.result) old s new
-  made s agrees = shelf_lifted g.D.Disk.view old new shape refl flush_call (flush_answer c.flush_shelf.result) tt refl (ShelfStands (setup_of old) new.shelf) (λ t stands. stands) s agrees
+  made s agrees = shelf_lifted g.D.Disk.view old new shape refl flush_call (flush_answer c.flush_shelf.result) tt refl s agrees
       (c.flush_shelf.ensures.makes (setup_of old) s (setup_is old c.self.invariant.whole) agrees.shelf)
 
 pub returns-clause-makes : goal.returns-clause-makes

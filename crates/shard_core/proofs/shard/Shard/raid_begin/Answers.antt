@@ -5,11 +5,11 @@ use Rattle.model_device.specs.Device.{State}
 use Rattle.model_device.specs.Events.{begin_call, raid_numbered}
 use Rattle.raid_book.specs.Books.{begun}
 use Rattle.block_shelf.specs.View.{ShelfView}
-use Rattle.shard_raid.specs.Raids.{StandOn, number_of}
+use Rattle.shard_raid.specs.Raids.{number_of}
 use Rattle.shard_core.specs.View.{ShardView, SameSetup, setup_of}
 use Rattle.shard_core.specs.Stands.{Agrees}
 use Rattle.shard_core.specs.Calls.{Makes}
-use Rattle.shard_core.proofs.Making.{setup_is, shelf_lifted, whole_made, room_stays}
+use Rattle.shard_core.proofs.Making.{on_lifted, setup_is, whole_made, room_stays}
 use Rattle.shard_core.proofs.shard.Shard.raid_begin.Given.{Over}
 use Rattle.shard_core.proofs.shard.Shard.raid_begin.Goals as goal
 
@@ -38,8 +38,7 @@ module _ (g : Over) (c : goal.After-raid_begin g) where
       both false = refl
 
   made : (s : State) → Agrees old s → Makes g.D.Disk.view begin_call (raid_numbered (number_of c.raid_begin.result)) old s new
-  made s agrees = shelf_lifted g.D.Disk.view old new shape refl begin_call (raid_numbered (number_of c.raid_begin.result)) tt refl
-      (StandOn (setup_of old) new.shelf s) (λ t on. on.shelf_stands) s agrees
+  made s agrees = on_lifted g.D.Disk.view old new shape refl begin_call (raid_numbered (number_of c.raid_begin.result)) tt s agrees
       (c.raid_begin.ensures.makes (setup_of old) s (setup_is old c.self.invariant.whole) agrees.shelf)
 
 pub invariant_of-self : goal.invariant_of-self
