@@ -2,3 +2,5 @@ pub mod Right
 pub mod Stepping
 pub mod Opened
 pub mod Trying
+pub mod Several
+pub mod Vacating

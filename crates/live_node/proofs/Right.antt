@@ -95,15 +95,18 @@ module _ {D : Type 0} (view : D → DiskView) (o : Opening D) where
 
   -- a call whose event was entered as the hub was given back
   pub answers_entered : (v w : LiveView D) (n : Noted PartEvent) (Said : Event → Type 0) → Said (event_in n) → w ≡ with_event n v → SeesMore (NoteFollows view) v w → w.opening ≡ Some o
-      → AnswersBy view o v w Said
-  answers_entered v w n Said said entered sees opening = record {
-    past = seen_by v;
-    event = event_in n;
-    said = said;
-    begins = prefix_here (seen_by v);
-    last = seen_more v w n entered;
-    right = right_by v w (event_in n ∷ []) sees opening (own_more v w n entered);
-  }
+      → (by : AnswersBy view o v w Said) × (by.past ≡ seen_by v)
+  answers_entered v w n Said said entered sees opening = (
+    record {
+      past = seen_by v;
+      event = event_in n;
+      said = said;
+      begins = prefix_here (seen_by v);
+      last = seen_more v w n entered;
+      right = right_by v w (event_in n ∷ []) sees opening (own_more v w n entered);
+    },
+    refl,
+  )
 
   -- a call of one event, behind what entered nothing and before what entered nothing
   pub answers_between : (u v w x : LiveView D) (Said : Event → Type 0) → IsRight view o u v [] → AnswersBy view o v w Said → IsRight view o w x [] → seen_by x ≡ seen_by w
@@ -118,12 +121,15 @@ module _ {D : Type 0} (view : D → DiskView) (o : Opening D) where
   }
 
   -- so one behind what entered nothing
-  pub answers_behind : (u v w : LiveView D) (Said : Event → Type 0) → IsRight view o u v [] → AnswersBy view o v w Said → AnswersBy view o u w Said
-  answers_behind u v w Said before by = record {
-    past = by.past;
-    event = by.event;
-    said = by.said;
-    begins = prefix_on (seen_by u) (seen_by v) by.past (seen_begins u v before.seen) by.begins;
-    last = by.last;
-    right = right_then u v w [] (by.event ∷ []) before by.right;
-  }
+  pub answers_behind : (u v w : LiveView D) (Said : Event → Type 0) → IsRight view o u v [] → (by : AnswersBy view o v w Said) → (all : AnswersBy view o u w Said) × (all.past ≡ by.past)
+  answers_behind u v w Said before by = (
+    record {
+      past = by.past;
+      event = by.event;
+      said = by.said;
+      begins = prefix_on (seen_by u) (seen_by v) by.past (seen_begins u v before.seen) by.begins;
+      last = by.last;
+      right = right_then u v w [] (by.event ∷ []) before by.right;
+    },
+    refl,
+  )

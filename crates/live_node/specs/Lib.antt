@@ -5,3 +5,5 @@ pub mod Calls
 pub mod Laws
 pub mod Lives
 pub mod Tries
+pub mod Several
+pub mod Vacates

@@ -106,7 +106,7 @@ impl<D: Disk> Live<D> {
         requires made { (e : PartEvent) × HubStepFits D.view (opening_at self.now) (seen_by (view pass.old)) (Is (C.call call.now) (C.answers call.now answer.now)) hub.shelf hub.tally e }
         ensures pass { IsPassAt self.now pass.new }
         ensures numbers { KeepsNumbers pass.old pass.new }
-        ensures once { AnswersBy D.view (opening_at self.now) (view pass.old) (view pass.new) (Is (C.call call.now) (C.answers call.now answer.now)) }
+        ensures once { (by : AnswersBy D.view (opening_at self.now) (view pass.old) (view pass.new) (Is (C.call call.now) (C.answers call.now answer.now))) × (by.past ≡ seen_by (view pass.old)) }
     {
         let event = Noted::about::<HubStepped<D, C, C::Answer>, HubNotes<C>>(&HubStepped {
             pass: &*pass,

@@ -20,6 +20,7 @@ mod shares;
 mod steps;
 mod tries;
 mod turns;
+mod vacate;
 mod writes;
 
 pub use hub::Hub;

@@ -13,3 +13,6 @@ give_alone-requires-clause-made g c =
     hub_step_fits fits (g.C.HubCall.call call) (g.C.HubCall.answers call c.step-answer.result) c.step-answer.new.shelf (g.C.HubCall.named call (setup_at o)) (g.C.HubCall.own call (setup_at o))
     c.step-answer.ensures.shape c.step-answer.ensures.honest
     (c.step-answer.ensures.makes (setup_at o) (state_at o (seen_by (view c.args.pass.now))) (is_setup fits) c.requires.hub.stands)
+
+pub returns-clause-once : goal.returns-clause-once
+returns-clause-once g c = c.give_alone.ensures.once.0

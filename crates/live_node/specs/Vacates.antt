@@ -1,0 +1,99 @@
+-- Crate live_node. How a block is vacated by events of the list.
+use Rattle.std.specs.Prelude.{◌≡◌, ◌⊎◌, ◌≤◌, ℕ, Bool, List, [], ◌∷◌, ◌++◌, Option, Some, None, Result, Ok, Err, Contains, IsTrue, MatchBool}
+use Rattle.std.specs.List.{AllByRecursion}
+use Rattle.rec_format.specs.declared.version.Digest.{Digest}
+use Rattle.rec_format.specs.Versions.{block_capacity}
+use Rattle.disk_model.specs.Disk.{DiskView}
+use Rattle.model_device.specs.Book.{live_of}
+use Rattle.model_device.specs.Events.{Event, happened, choose_call, move_call, flush_sealed_call}
+use Rattle.model_device.specs.Legal.{is_in_block}
+use Rattle.model_device.specs.Vacating.{can_gain, moved_by, moved_count}
+use Rattle.block_format.specs.Layout.{most_records}
+use Rattle.block_shelf.specs.declared.refusals.VacateRefusal.{VacateRefusal}
+use Rattle.defrag_pass.specs.declared.refusal.MoveRefusal.{MoveRefusal}
+use Rattle.defrag_pass.specs.Choosing.{choose_answer}
+use Rattle.defrag_pass.specs.Moves.{Answers}
+use Rattle.shard_core.specs.declared.defrag.Vacated.{Vacated}
+use Rattle.shard_core.specs.declared.refusals.DefragRefusal.{DefragRefusal}
+use Rattle.shard_core.specs.declared.refusals.DefragCause.{DefragCause}
+use Rattle.shard_core.specs.Vacating.{move_cause, vacate_cause}
+use Rattle.live_node.specs.Opening.{Opening, IsOwn, WasSafe, state_at}
+use Rattle.live_node.specs.Fits.{Is}
+use Rattle.live_node.specs.Calls.{LiveView, seen_by, AnswersBy, IsRight}
+use Rattle.live_node.specs.Several.{Placed, placed_events, Shows}
+
+-- the list has room for the digests of the most records that a block can have
+abbrev pub HasListRoom : {D : Type 0} → Opening D → (room : ℕ) → Type 0
+HasListRoom o room = most_records (block_capacity o.shelf.geometry.block_size) ≤ room
+
+-- ---- moves out of a block
+
+-- the record of this digest was moved out of the block, or wasn't there
+abbrev pub IsMoveOf : (block : ℕ) → Digest → Event → Type 0
+IsMoveOf block digest e = (there : Bool) × Is (move_call digest block) (λ answer. answer ≡ happened there) e
+
+-- so it was with some record
+abbrev pub IsDone : (block : ℕ) → Event → Type 0
+IsDone block e = (digest : Digest) × IsMoveOf block digest e
+
+-- a move that was refused for this cause
+abbrev pub IsStop : (block : ℕ) → DefragCause → Event → Type 0
+IsStop block cause e = (digest : Digest) × (stop : MoveRefusal) × (cause ≡ move_cause stop) × Is (move_call digest block) (Answers (Err stop)) e
+
+abbrev pub HasMove : (block : ℕ) → List Event → Digest → Type 0
+HasMove block moves digest = (e : Event) × Contains moves e × IsMoveOf block digest e
+
+-- each of these digests that is the device's has its move
+abbrev pub HaveMoves : {D : Type 0} → Opening D → (block : ℕ) → List Event → List Digest → Type 0
+HaveMoves o block moves digests = AllByRecursion (λ digest. IsOwn o digest → HasMove block moves digest) digests
+
+-- some moves out of the block, and then one that was refused, so that the vacating was refused after so many records
+abbrev pub StopsAfter : (block : ℕ) → DefragRefusal → List Event → Type 0
+StopsAfter block refusal moves =
+    (done : List Event) × (last : Event) × (moves ≡ done ++ last ∷ []) × AllByRecursion (IsDone block) done × (refusal.moved ≡ moved_count done) × IsStop block refusal.cause last
+
+-- So many records were moved out of the block, by moves of which none was refused, one for each of these digests; or a further one was refused.
+abbrev pub MovesOut : {D : Type 0} → Opening D → (block : ℕ) → List Digest → Result ℕ DefragRefusal → List Event → Type 0
+MovesOut o block digests (Ok moved) moves = AllByRecursion (IsDone block) moves × (moved ≡ moved_count moves) × HaveMoves o block moves digests
+MovesOut o block digests (Err refusal) moves = StopsAfter block refusal moves
+
+-- one move, where the digest is the device's; else nothing
+abbrev pub MovesOne : {D : Type 0} → Opening D → (block : ℕ) → Digest → Result Bool DefragCause → List Event → Type 0
+MovesOne o block digest (Ok there) events = AllByRecursion (IsDone block) events × (moved_by (happened there) ≡ moved_count events) × (IsOwn o digest → HasMove block events digest)
+MovesOne o block digest (Err cause) events = (last : Event) × (events ≡ last ∷ []) × IsStop block cause last
+
+-- ---- a vacating
+
+-- what a vacating answers, by its choice and by the moves behind it
+abbrev pub DefragsSo : Result (Option Vacated) DefragRefusal → (chosen : Result (Option ℕ) VacateRefusal) → (moves : List Event) → Type 0
+DefragsSo (Ok None) chosen moves = (chosen ≡ Ok None) × (moves ≡ [])
+DefragsSo (Ok (Some vacated)) chosen moves = (chosen ≡ Ok (Some vacated.block)) × AllByRecursion (IsDone vacated.block) moves × (vacated.moved ≡ moved_count moves)
+DefragsSo (Err refusal) chosen moves =
+    ((why : VacateRefusal) × (chosen ≡ Err why) × (moves ≡ []) × (refusal.moved ≡ 0) × (refusal.cause ≡ vacate_cause why))
+    ⊎ ((block : ℕ) × (chosen ≡ Ok (Some block)) × StopsAfter block refusal moves)
+
+-- each record of the device that was live in the block after these events has its move, where nothing was refused
+abbrev pub EachMoves : {D : Type 0} → Opening D → Result (Option Vacated) DefragRefusal → (past moves : List Event) → Type 0
+EachMoves o (Ok None) past moves = Unit {0}
+EachMoves o (Ok (Some vacated)) past moves =
+    (digest : Digest) → IsOwn o digest → IsTrue (is_in_block vacated.block (live_of digest (state_at o past).book.live)) → HasMove vacated.block moves digest
+EachMoves o (Err refusal) past moves = Unit {0}
+
+-- A vacating is the choice of a block and then moves out of it, each an event of the pass. Over a disk that was honest, and whose image was
+-- sound, each record that was live in the block as it was chosen is among them.
+pub record Defrags {D : Type 0} (view : D → DiskView) (o : Opening D) (before after : LiveView D) (result : Result (Option Vacated) DefragRefusal) : Type 0 where
+  pub first : Placed
+  pub moves : List Placed
+  pub chosen : Result (Option ℕ) VacateRefusal
+  pub chose : Is choose_call (λ answer. answer ≡ choose_answer chosen) first.event
+  pub shows : Shows view o before after (first ∷ moves)
+  pub answers : DefragsSo result chosen (placed_events moves)
+  pub each : WasSafe view o → EachMoves o result first.past (placed_events moves)
+
+-- A tending is a flush of what is sealed, and then, where the state that the pass has seen next says that this can gain room, a vacating,
+-- whatever comes of either.
+abbrev pub TendsSo : {D : Type 0} → (view : D → DiskView) → Opening D → (before after : LiveView D) → Type 0
+TendsSo {D = D} view o before after =
+    (one : LiveView D) × AnswersBy view o before one (λ e. e.call ≡ flush_sealed_call)
+    × ((two : LiveView D) × IsRight view o one two []
+    × MatchBool (can_gain (state_at o (seen_by two)).book) ((result : Result (Option Vacated) DefragRefusal) × Defrags view o two after result) (after ≡ two))

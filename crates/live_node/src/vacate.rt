@@ -1,0 +1,278 @@
+// How a block is vacated at the table: it is chosen, and its records are moved, one after another, each by an event of its own.
+ghost use Rattle.std.specs.Prelude.{◌≡◌, ◌<◌, ◌≤◌, ◌^◌, List, [], length, vec_capacity, IfOk, IfSome, MatchBool};
+ghost use Rattle.model_device.specs.Events.{choose_call, happened};
+ghost use Rattle.model_device.specs.Vacating.{can_gain, moved_by};
+ghost use Rattle.block_shelf.specs.Vacating.{ListsLive};
+ghost use Rattle.defrag_pass.specs.Choosing.{choose_answer};
+ghost use Rattle.shard_core.specs.Vacating.{move_cause, vacate_cause};
+ghost use Rattle.turn_table.specs.Passes.{view, KeepsNumbers};
+ghost use Rattle.live_node.specs.Opening.{IsOwn, WasSafe, state_at};
+ghost use Rattle.live_node.specs.Calls.{seen_by, AnswersOnce, IsRight};
+ghost use Rattle.live_node.specs.Lives.{opening_at, IsPassAt};
+ghost use Rattle.live_node.specs.Several.{Placed, placed_events, Shows};
+ghost use Rattle.live_node.specs.Vacates.{HasListRoom, MovesOne, MovesOut, Defrags, TendsSo};
+
+use crate::live::Live;
+use crate::machine::LivePass;
+use crate::steps::{HubCall, Step};
+use block_format::{capacity, most_records};
+use block_shelf::{Shelf, VacateRefusal};
+use defrag_pass::{MoveRefusal, choose_step, move_one};
+use disk_model::Disk;
+use partition_map::device_of;
+use rec_format::{Digest, NoMemory};
+use shard_core::{Damage, DefragCause, DefragRefusal, Settings, Vacated};
+use sprig_tree::Sprig;
+use std::alloc::Global;
+use std::sync::Wait;
+
+// The record of a digest is moved out of a block.
+#[derive(Drop)]
+pub(crate) struct Move<'a> {
+    pub digest: &'a Digest,
+    pub block: u32,
+}
+
+impl<'a, D: Disk> Step<D> for Move<'a> {
+    ghost use Rattle.std.specs.Prelude.{refl};
+    ghost use Rattle.model_device.specs.Device.{part_of};
+    ghost use Rattle.model_device.specs.Events.{move_call};
+    ghost use Rattle.defrag_pass.specs.Moves.{Answers};
+
+    type Answer = Result<bool, MoveRefusal>;
+
+    ghost asks = { λ c. Unit {0} };
+
+    ghost call = { λ c. move_call c.digest.now c.block };
+
+    ghost part = { λ c setup. part_of setup c.digest.now };
+
+    ghost answers = { λ c result answer. Answers result answer };
+
+    fn step(
+        &self,
+        alloc: Global,
+        sprig: &mut Sprig,
+        shelf: &mut Shelf<D>,
+        set: &Settings,
+    ) -> Result<bool, MoveRefusal> {
+        let _ = set;
+        move_one(alloc, sprig, shelf, self.digest, self.block)
+    }
+
+    ghost named = { λ c setup. refl };
+}
+
+// The block that has waited longest is chosen.
+#[derive(Drop)]
+struct Choice;
+
+impl HubCall for Choice {
+    ghost use Rattle.std.specs.Prelude.{◌≡◌, refl};
+    ghost use Rattle.model_device.specs.Events.{choose_call};
+    ghost use Rattle.defrag_pass.specs.Choosing.{choose_answer};
+
+    type Answer = Result<Option<u32>, VacateRefusal>;
+
+    ghost call = { λ c. choose_call };
+
+    ghost answers = { λ c result answer. answer ≡ choose_answer result };
+
+    ghost named = { λ c setup. refl };
+
+    ghost own = { λ c setup. tt };
+}
+
+impl<D: Disk> Live<D> {
+    /// An empty list with room for the digests of the most records that a block of the device can have, to be lent to `defrag_one` and `tend`.
+    pub fn digest_list(&self, alloc: Global) -> Result<Vec<Digest>, NoMemory>
+        ensures room { IfOk result (λ list. HasListRoom (opening_at self.now) (vec_capacity list)) }
+    {
+        let most = most_records(capacity(self.geometry.block_size));
+        Vec::with_capacity(alloc, most as usize)
+    }
+
+    /// Vacates the block that has waited longest, as `Shard::defrag_one` does, and answers it and how many records were moved; none where no
+    /// block waited. The choice and each move are events of the device of their own, and other passes' events may come between them. It
+    /// takes the list that it is lent for the digests of the block's records, which has room for them.
+    pub fn defrag_one<R: Wait>(
+        &self,
+        alloc: Global,
+        rt: &R,
+        pass: &mut LivePass<D>,
+        list: &mut Vec<Digest>,
+    ) -> Result<Option<Vacated>, DefragRefusal>
+        requires pass { IsPassAt self.now pass.old }
+        requires room { HasListRoom (opening_at self.now) (vec_capacity list.old) }
+        ensures pass { IsPassAt self.now pass.new }
+        ensures numbers { KeepsNumbers pass.old pass.new }
+        ensures room { vec_capacity list.new ≡ vec_capacity list.old }
+        ensures defrags { Defrags D.view (opening_at self.now) (view pass.old) (view pass.new) result }
+    {
+        match self.choose(rt, pass, list) {
+            Ok(Some(block)) => match self.move_listed(alloc, rt, pass, list, block) {
+                Ok(moved) => Ok(Some(Vacated { block, moved })),
+                Err(refusal) => Err(refusal),
+            },
+            Ok(None) => Ok(None),
+            Err(refusal) => Err(DefragRefusal {
+                moved: 0,
+                cause: choice_cause(refusal),
+            }),
+        }
+    }
+
+    /// Makes room, as `Shard::tend` does, and answers nothing: it flushes what is sealed, and vacates the block that has waited longest where
+    /// that can gain room, whatever comes of either.
+    pub fn tend<R: Wait>(
+        &self,
+        alloc: Global,
+        rt: &R,
+        pass: &mut LivePass<D>,
+        list: &mut Vec<Digest>,
+    )
+        requires pass { IsPassAt self.now pass.old }
+        requires room { HasListRoom (opening_at self.now) (vec_capacity list.old) }
+        ensures pass { IsPassAt self.now pass.new }
+        ensures numbers { KeepsNumbers pass.old pass.new }
+        ensures room { vec_capacity list.new ≡ vec_capacity list.old }
+        ensures tends { TendsSo D.view (opening_at self.now) (view pass.old) (view pass.new) }
+    {
+        let _ = self.flush_sealed(rt, pass);
+        if self.can_gain(rt, pass) {
+            let _ = self.defrag_one(alloc, rt, pass, list);
+        }
+    }
+}
+
+impl<D: Disk> Live<D> {
+    // Chooses the block that has waited longest, if one waits, and lists the digests of its records. It is one event of the device.
+    fn choose<R: Wait>(
+        &self,
+        rt: &R,
+        pass: &mut LivePass<D>,
+        list: &mut Vec<Digest>,
+    ) -> Result<Option<u32>, VacateRefusal>
+        requires pass { IsPassAt self.now pass.old }
+        requires room { HasListRoom (opening_at self.now) (vec_capacity list.old) }
+        ensures pass { IsPassAt self.now pass.new }
+        ensures numbers { KeepsNumbers pass.old pass.new }
+        ensures room { vec_capacity list.new ≡ vec_capacity list.old }
+        ensures few { length list.new.items < 2 ^ 32 }
+        ensures once { (by : AnswersOnce D.view (opening_at self.now) (view pass.old) (view pass.new) choose_call (choose_answer result))
+            × (WasSafe D.view (opening_at self.now) → IfOk result (λ chosen. IfSome chosen (λ block. ListsLive (state_at (opening_at self.now) by.past).book block list.new.items))) }
+    {
+        let mut hub = self.take_hub(rt, pass);
+        let answer = choose_step(&mut hub.shelf, list);
+        self.give_alone(pass, hub, &Choice, &answer);
+        answer
+    }
+
+    // Moves the records of the device's digests in the list out of the block. Others may have moved them, or written over them, in between.
+    fn move_listed<R: Wait>(
+        &self,
+        alloc: Global,
+        rt: &R,
+        pass: &mut LivePass<D>,
+        list: &[Digest],
+        block: u32,
+    ) -> Result<u32, DefragRefusal>
+        requires pass { IsPassAt self.now pass.old }
+        requires here { IsRight D.view (opening_at self.now) (view pass.old) (view pass.old) [] }
+        requires few { length list.now < 2 ^ 32 }
+        ensures pass { IsPassAt self.now pass.new }
+        ensures numbers { KeepsNumbers pass.old pass.new }
+        ensures moves { (events : List Placed) × Shows D.view (opening_at self.now) (view pass.old) (view pass.new) events × MovesOut (opening_at self.now) block list.now result (placed_events events) }
+    {
+        let mut moved = 0;
+        for digest in list {
+            match self.move_own(alloc, rt, pass, digest, block) {
+                Ok(was_there) => moved += count_of(was_there),
+                Err(cause) => return Err(DefragRefusal { moved, cause }),
+            }
+        }
+        Ok(moved)
+    }
+
+    // Moves the record of a digest out of the block, where it is the device's.
+    fn move_own<R: Wait>(
+        &self,
+        alloc: Global,
+        rt: &R,
+        pass: &mut LivePass<D>,
+        digest: &Digest,
+        block: u32,
+    ) -> Result<bool, DefragCause>
+        requires pass { IsPassAt self.now pass.old }
+        requires here { IsRight D.view (opening_at self.now) (view pass.old) (view pass.old) [] }
+        ensures pass { IsPassAt self.now pass.new }
+        ensures numbers { KeepsNumbers pass.old pass.new }
+        ensures moves { (events : List Placed) × Shows D.view (opening_at self.now) (view pass.old) (view pass.new) events × MovesOne (opening_at self.now) block digest.now result (placed_events events) }
+    {
+        if !self.is_own(digest) {
+            return Ok(false);
+        }
+        let part = self.part_of(digest);
+        match self.turn(alloc, rt, pass, part, &Move { digest, block }) {
+            Ok(was_there) => Ok(was_there),
+            Err(refusal) => Err(cause_of(refusal)),
+        }
+    }
+
+    // Whether the digest is one of the device.
+    fn is_own(&self, digest: &Digest) -> bool
+        ensures { MatchBool result (IsOwn (opening_at self.now) digest.now) (IsOwn (opening_at self.now) digest.now → ⊥) }
+    {
+        device_of(digest, self.geometry.devices) == self.geometry.device
+    }
+
+    // Whether a block is to be vacated, if one is queued. It is no event.
+    fn can_gain<R: Wait>(&self, rt: &R, pass: &mut LivePass<D>) -> bool
+        requires pass { IsPassAt self.now pass.old }
+        ensures pass { IsPassAt self.now pass.new }
+        ensures numbers { KeepsNumbers pass.old pass.new }
+        ensures right { IsRight D.view (opening_at self.now) (view pass.old) (view pass.new) [] }
+        ensures answer { result ≡ can_gain (state_at (opening_at self.now) (seen_by (view pass.new))).book }
+    {
+        let hub = self.take_hub(rt, pass);
+        let gains = hub.shelf.can_gain();
+        self.table.give_hub_back(pass, hub);
+        gains
+    }
+}
+
+// A record that was in the block counts as one that was moved.
+fn count_of(was_there: bool) -> u32
+    ensures moved { result ≡ moved_by (happened was_there) }
+    ensures one { result ≤ 1 }
+{
+    if was_there { 1 } else { 0 }
+}
+
+// What a refused move is to the vacating.
+fn cause_of(refusal: MoveRefusal) -> DefragCause
+    ensures { result ≡ move_cause refusal }
+{
+    match refusal {
+        MoveRefusal::Spent => DefragCause::Spent,
+        MoveRefusal::Load => DefragCause::Load,
+        MoveRefusal::Space => DefragCause::Space,
+        MoveRefusal::Damaged { kept, read } => DefragCause::Damaged(Damage::Record { kept, read }),
+        MoveRefusal::Memory => DefragCause::Memory,
+        MoveRefusal::Fault => DefragCause::Fault,
+    }
+}
+
+// What a refused choice is to it.
+fn choice_cause(refusal: VacateRefusal) -> DefragCause
+    ensures { result ≡ vacate_cause refusal }
+{
+    match refusal {
+        VacateRefusal::Damaged { block, place } => DefragCause::Damaged(Damage::Block {
+            block,
+            place,
+        }),
+        VacateRefusal::Memory => DefragCause::Memory,
+        VacateRefusal::Fault => DefragCause::Fault,
+    }
+}
