@@ -32,7 +32,8 @@ pub record IsOnTheWayAfter (slots : Slots) (links : List Link) (entries : List E
 abbrev IsNotAfter : Digest → Entry → Type 0
 IsNotAfter digest e = digest_before digest e.digest ≡ false
 
-pub after_started : (slots : Slots) (links : List Link) (root count : ℕ) (digest : Digest) → IsTree slots links root count → IsOnTheWayAfter slots links (entries_from count slots links root) digest None root 0 count
+pub after_started : (slots : Slots) (links : List Link) (root count : ℕ) (digest : Digest) → IsTree slots links root count
+    → IsOnTheWayAfter slots links (entries_from count slots links root) digest None root 0 count
 after_started slots links root count digest kept = record {
   tree = kept.tree;
   front = [];
@@ -45,7 +46,8 @@ after_started slots links root count digest kept = record {
   short = omega (arith, kept.counted);
 }
 
-ended_at : (digest : Digest) (es front back : List Entry) (next : Option Entry) → es ≡ front ++ back → AllByRecursion (IsNotAfter digest) front → AllAbove digest back → next ≡ slice_get back 0 → next ≡ entry_after (Some digest) es
+ended_at : (digest : Digest) (es front back : List Entry) (next : Option Entry) → es ≡ front ++ back → AllByRecursion (IsNotAfter digest) front
+    → AllAbove digest back → next ≡ slice_get back 0 → next ≡ entry_after (Some digest) es
 ended_at digest es front back next whole passed above nearest =
     nearest ∙ sym (entry_after_above digest back above) ∙ sym (find_behind (λ e. digest_before digest e.digest) front back passed) ∙ ap (entry_after (Some digest)) (sym whole)
 
@@ -83,7 +85,8 @@ module _ (slots : Slots) (links : List Link) (linked : IsLinked slots links) (en
           whole ∙ ap (λ z. way.front ++ z) (append_assoc a (entry ∷ b) way.back) ∙ sym (append_assoc way.front a (entry ∷ (b ++ way.back))) in
           let sorted = subst IsInDigestOrder split order in
           let same = sym h.0.here in
-          let right = λ (passed : AllByRecursion (IsNotAfter digest) ((way.front ++ a) ++ entry ∷ [])). (let to : IsOnTheWayAfter slots links entries digest next (right_of links at) (steps + 1) count = record {
+          let right = λ (passed : AllByRecursion (IsNotAfter digest) ((way.front ++ a) ++ entry ∷ [])).
+          (let to : IsOnTheWayAfter slots links entries digest next (right_of links at) (steps + 1) count = record {
             tree = r;
             front = (way.front ++ a) ++ entry ∷ [];
             back = way.back;
@@ -97,11 +100,15 @@ module _ (slots : Slots) (links : List Link) (linked : IsLinked slots links) (en
           record {
             entry = entry;
             holds = ap (λ s. get_or slots s None) h.0.here ∙ h.0.holds;
-            less = λ less. right (all_map (λ x. digest_cmp x.digest digest ≡ Less) (IsNotAfter digest) ((way.front ++ a) ++ entry ∷ []) (λ x below. not_before_below x.digest digest below) (below_through digest (way.front ++ a) (b ++ way.back) entry sorted less));
+            less = λ less. right
+                (all_map (λ x. digest_cmp x.digest digest ≡ Less) (IsNotAfter digest) ((way.front ++ a) ++ entry ∷ []) (λ x below. not_before_below x.digest digest below)
+                (below_through digest (way.front ++ a) (b ++ way.back) entry sorted less));
             equal = λ equal.
                 let key = same_digest_is entry.digest digest (ap is_eq equal) in
                 let low = subst (λ d. AllBelow d (way.front ++ a)) key (sides (way.front ++ a) (b ++ way.back) entry sorted).0 in
-                right (all_joined (IsNotAfter digest) (way.front ++ a) (entry ∷ []) (all_map (λ x. digest_cmp x.digest digest ≡ Less) (IsNotAfter digest) (way.front ++ a) (λ x below. not_before_below x.digest digest below) low) (not_before_at entry.digest digest equal, tt));
+                right (all_joined (IsNotAfter digest) (way.front ++ a) (entry ∷ [])
+                (all_map (λ x. digest_cmp x.digest digest ≡ Less) (IsNotAfter digest) (way.front ++ a) (λ x below. not_before_below x.digest digest below) low)
+                (not_before_at entry.digest digest equal, tt));
             greater = λ greater. record {
               tree = l;
               front = way.front;

@@ -13,7 +13,8 @@ use Rattle.rec_format.specs.declared.entry.Entry.{Entry}
 use Rattle.sprig_tree.specs.Entries.{IsInDigestOrder, entry_of, with_entry, with_replaced, without_digest}
 use Rattle.arena_sprig.specs.declared.links.Link.{Link}
 use Rattle.arena_sprig.specs.declared.links.Gap.{Gap}
-use Rattle.arena_sprig.specs.Tree.{Slots, Tree, Leaf, Node, Path, no_slot, no_link, left_of, right_of, pointed, root_by, entries_in, size, plug, before, after, Hangs, IsLinked, IsTree, IsPlaced, IsBeside, Stops, IsReached, entries_from}
+use Rattle.arena_sprig.specs.Tree.{Slots, Tree, Leaf, Node, Path, no_slot, no_link, left_of, right_of, pointed, root_by, entries_in, size, plug, before, after, Hangs, IsLinked, IsTree}
+use Rattle.arena_sprig.specs.Tree.{IsPlaced, IsBeside, Stops, IsReached, entries_from}
 use Rattle.sprig_tree.proofs.Order.{sides, order_between, order_replaced}
 use Rattle.sprig_tree.proofs.Parted.{AllBelow, AllAbove, entry_of_behind, entry_of_here, entry_of_above, with_entry-between, with_replaced-between, without_digest_behind, without_digest_here}
 use Rattle.arena_sprig.proofs.Trees.{Lacks, once, listed, length_entries}
@@ -26,7 +27,8 @@ pub record IsMade (slots : Slots) (links : List Link) (root count : ℕ) (entrie
   pub kept : IsTree slots links root count
   pub list : entries_from count slots links root ≡ entries
 
-pub made : (slots : Slots) (links : List Link) (root count : ℕ) (t : Tree) (entries : List Entry) → IsLinked slots links → Hangs slots links root t → entries_in t ≡ entries → count ≡ length entries → IsInDigestOrder entries
+pub made : (slots : Slots) (links : List Link) (root count : ℕ) (t : Tree) (entries : List Entry) → IsLinked slots links → Hangs slots links root t
+    → entries_in t ≡ entries → count ≡ length entries → IsInDigestOrder entries
     → IsMade slots links root count entries
 made slots links root count t entries linked hangs same counted order =
     let sized = length_entries t in
@@ -40,7 +42,8 @@ made slots links root count t entries linked hangs same counted order =
 pub at_fields : (slots new_slots : Slots) (links new_links : List Link) (root new_root count : ℕ) (entries : List Entry) → new_slots ≡ slots → new_links ≡ links → new_root ≡ root
     → IsMade slots links root count entries → IsMade new_slots new_links new_root count entries
 at_fields slots new_slots links new_links root new_root count entries same_slots same_links same_root m =
-    subst (λ s. IsMade s new_links new_root count entries) (sym same_slots) (subst (λ l. IsMade slots l new_root count entries) (sym same_links) (subst (λ r. IsMade slots links r count entries) (sym same_root) m))
+    subst (λ s. IsMade s new_links new_root count entries) (sym same_slots)
+    (subst (λ l. IsMade slots l new_root count entries) (sym same_links) (subst (λ r. IsMade slots links r count entries) (sym same_root) m))
 
 -- ---- an entry of the digest in a list
 
@@ -60,7 +63,8 @@ module _ (digest : Digest) (front rest : List Entry) (e : Entry) (equal : digest
   pub without_here : without_digest digest (front ++ e ∷ rest) ≡ front ++ rest
   without_here = without_digest_behind digest front (e ∷ rest) below ∙ ap (λ l. front ++ l) (without_digest_here digest e rest equal above)
 
-pub replaced_here : (new : Entry) (front rest : List Entry) (e : Entry) → digest_cmp e.digest new.digest ≡ Equal → IsInDigestOrder (front ++ e ∷ rest) → with_replaced new (front ++ e ∷ rest) ≡ front ++ new ∷ rest
+pub replaced_here : (new : Entry) (front rest : List Entry) (e : Entry) → digest_cmp e.digest new.digest ≡ Equal → IsInDigestOrder (front ++ e ∷ rest)
+    → with_replaced new (front ++ e ∷ rest) ≡ front ++ new ∷ rest
 replaced_here new front rest e equal order =
     with_replaced-between new front rest e (below new.digest front rest e equal order) equal (above new.digest front rest e equal order)
 
@@ -102,7 +106,8 @@ module _ (slots : Slots) (links : List Link) (root : ℕ) (entries : List Entry)
       let linked : IsLinked new_slots fresh = record { each = omega arith; few = omega arith } in
       let done = repointed new_slots fresh root p gap at slot leaf linked placed.link leads hangs order in
       let list = plug_entries p leaf in
-      let made_list : before p ++ entry ∷ after p ≡ with_entry entry entries = sym (with_entry-between entry (before p) (after p) beside_it.below beside_it.above) ∙ ap (with_entry entry) (sym whole) in
+      let made_list : before p ++ entry ∷ after p ≡ with_entry entry entries = sym (with_entry-between entry (before p) (after p) beside_it.below beside_it.above)
+      ∙ ap (with_entry entry) (sym whole) in
       let long = ap length whole in
       let parts = length-append (before p) (after p) in
       let longer = length-append (before p) (entry ∷ after p) in
@@ -149,7 +154,8 @@ pub used_within : (slots : Slots) (slot : ℕ) (e : Entry) → get_or slots slot
 used_within slots slot e holds = lt_of_not-le (λ (le : length slots ≤ slot). let past : Some e ≡ None = sym holds ∙ get_or_past slots slot None le in absurd cc)
 
 -- a node's slot keeps to itself
-pub stays_beside : (slots : Slots) (links : List Link) (at : ℕ) (e new : Entry) → get_or slots at None ≡ Some e → (x : Entry) → x ≢ e → Keeps slots (set slots at (Some new)) links links (omega arith) x
+pub stays_beside : (slots : Slots) (links : List Link) (at : ℕ) (e new : Entry) → get_or slots at None ≡ Some e → (x : Entry) → x ≢ e
+    → Keeps slots (set slots at (Some new)) links links (omega arith) x
 stays_beside slots links at e new here x other s holds =
     let apart : s ≢ at = λ same. (let twice : Some x ≡ Some e = sym holds ∙ ap (λ n. get_or slots n None) same ∙ here in other cc) in
     (get_or-set_other slots at s (Some new) None apart ∙ holds, refl)
@@ -172,7 +178,8 @@ pub record IsThere (slots : Slots) (links : List Link) (root : ℕ) (entries : L
   pub holds : get_or slots at None ≡ Some entry
   pub small : size left ≤ count
 
-node_there : (slots : Slots) (links : List Link) (root : ℕ) (entries : List Entry) (digest : Digest) (gap : Gap) (at count : ℕ) (p : Path) (l r : Tree) (s : ℕ) (e : Entry) → IsPlaced slots links root p gap at (Node l s e r)
+node_there : (slots : Slots) (links : List Link) (root : ℕ) (entries : List Entry) (digest : Digest) (gap : Gap) (at count : ℕ) (p : Path) (l r : Tree) (s : ℕ) (e : Entry)
+    → IsPlaced slots links root p gap at (Node l s e r)
     → entries ≡ before p ++ ((entries_in l ++ e ∷ entries_in r) ++ after p) → digest_cmp e.digest digest ≡ Equal → size l ≤ count → IsThere slots links root entries digest gap at count
 node_there slots links root entries digest gap at count p l r s e placed whole stop small =
     let split : before p ++ ((entries_in l ++ e ∷ entries_in r) ++ after p) ≡ (before p ++ entries_in l) ++ e ∷ (entries_in r ++ after p) = simp append_assoc in
@@ -192,7 +199,8 @@ node_there slots links root entries digest gap at count p l r s e placed whole s
       small = small;
     }
 
-pub there : (slots : Slots) (links : List Link) (root : ℕ) (entries : List Entry) (digest : Digest) (gap : Gap) (at count : ℕ) → IsReached slots links root entries digest gap at count → IsSome (entry_of digest entries)
+pub there : (slots : Slots) (links : List Link) (root : ℕ) (entries : List Entry) (digest : Digest) (gap : Gap) (at count : ℕ)
+    → IsReached slots links root entries digest gap at count → IsSome (entry_of digest entries)
     → IsThere slots links root entries digest gap at count
 there slots links root entries digest gap at count reached some = by reached.tree reached.placed reached.whole reached.stop reached.short
   where
@@ -201,7 +209,8 @@ there slots links root entries digest gap at count reached some = by reached.tre
     by Leaf placed whole stop short = absurd (false≢true (subst (λ (o : Option Entry). IsSome o) (missed digest reached.path entries whole reached.beside_it) some))
     by (Node l s e r) placed whole stop short = node_there slots links root entries digest gap at count reached.path l r s e placed whole stop (omega arith)
 
-pub put_over : (slots : Slots) (links : List Link) (root : ℕ) (entries : List Entry) (new : Entry) (gap : Gap) (at count : ℕ) → count ≡ length entries → (one : IsThere slots links root entries new.digest gap at count)
+pub put_over : (slots : Slots) (links : List Link) (root : ℕ) (entries : List Entry) (new : Entry) (gap : Gap) (at count : ℕ) → count ≡ length entries
+    → (one : IsThere slots links root entries new.digest gap at count)
     → IsMade (set slots at (Some new)) links root count (with_replaced new entries)
 put_over slots links root entries new gap at count counted one =
     let p = one.path in
@@ -210,7 +219,8 @@ put_over slots links root entries new gap at count counted one =
     let e = one.entry in
     let e_free = once (before p ++ L) (R ++ after p) e one.sorted in
     let P = λ (x : Entry). x ≢ e in
-    let keep = λ (es : List Entry) (lacks : Lacks e es). all_map (λ x. x ≢ e) (Keeps slots (set slots at (Some new)) links links (omega arith)) es (stays_beside slots links at e new one.holds) lacks in
+    let keep = λ (es : List Entry) (lacks : Lacks e es). all_map (λ x. x ≢ e) (Keeps slots (set slots at (Some new)) links links (omega arith)) es
+    (stays_beside slots links at e new one.holds) lacks in
     let hangs = refilled slots (set slots at (Some new)) links root p gap at one.left one.right e new one.placed
     (keep (before p) (all_front P (before p) L e_free.0)) (keep L (all_back P (before p) L e_free.0)) (keep R (all_front P R (after p) e_free.1)) (keep (after p) (all_back P R (after p) e_free.1))
     (get_or-set_same slots at (Some new) None (used_within slots at e one.holds)) in
@@ -219,7 +229,8 @@ put_over slots links root entries new gap at count counted one =
     let order = subst IsInDigestOrder (sym one.whole) one.sorted in
     let same_length = length-with_replaced new entries in
     let linked : IsLinked (set slots at (Some new)) links = record { each = omega (arith, one.placed.linked.each, length-set slots at (Some new)); few = one.placed.linked.few } in
-    made (set slots at (Some new)) links root count (plug p (Node one.left at new one.right)) (with_replaced new entries) linked hangs (list ∙ sym replaced) (omega arith) (order_replaced new entries order)
+    made (set slots at (Some new)) links root count (plug p (Node one.left at new one.right)) (with_replaced new entries) linked hangs (list ∙ sym replaced)
+    (omega arith) (order_replaced new entries order)
 
 -- ---- a look-up
 

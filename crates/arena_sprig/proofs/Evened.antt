@@ -5,7 +5,8 @@ use Rattle.sprig_tree.specs.Entries.{IsInDigestOrder}
 use Rattle.arena_sprig.specs.declared.links.Link.{Link}
 use Rattle.arena_sprig.specs.declared.links.Gap.{Gap}
 use Rattle.arena_sprig.specs.declared.links.Gap.TheVariants.{Left, Right}
-use Rattle.arena_sprig.specs.Tree.{Slots, Tree, Leaf, Node, Path, InLeft, InRight, no_slot, left_of, right_of, entries_in, size, before, after, IsNode, Hangs, Leads, gap_of, IsPlaced, left_raised, right_raised, Turns, IsEvened}
+use Rattle.arena_sprig.specs.Tree.{Slots, Tree, Leaf, Node, Path, InLeft, InRight, no_slot, left_of, right_of, entries_in, size, before, after, IsNode, Hangs, Leads, gap_of, IsPlaced}
+use Rattle.arena_sprig.specs.Tree.{left_raised, right_raised, Turns, IsEvened}
 use Rattle.arena_sprig.proofs.Turned.{no_links}
 
 pub left_raised_entries : (t : Tree) → entries_in (left_raised t) ≡ entries_in t
@@ -56,7 +57,8 @@ module _ (slots : Slots) (links : List Link) (root : ℕ) (p : Path) (gap : Gap)
       let leads = subst (λ n. Leads slots links root p n) same placed.leads in
       let L = entries_in l in
       let flat : before p ++ ((L ++ e ∷ entries_in r) ++ after p) ≡ (before p ++ (L ++ e ∷ [])) ++ (entries_in r ++ after p) =
-      ap (λ z. before p ++ z) (append_assoc L (e ∷ entries_in r) (after p) ∙ sym (append_assoc L (e ∷ []) (entries_in r ++ after p))) ∙ sym (append_assoc (before p) (L ++ e ∷ []) (entries_in r ++ after p)) in
+      ap (λ z. before p ++ z) (append_assoc L (e ∷ entries_in r) (after p) ∙ sym (append_assoc L (e ∷ []) (entries_in r ++ after p)))
+      ∙ sym (append_assoc (before p) (L ++ e ∷ []) (entries_in r ++ after p)) in
       record {
         linked = placed.linked;
         leads = (own s e h.0, (ap (λ n. right_of links n) (sym same), (h.1.0, leads)));
@@ -82,7 +84,8 @@ module _ (slots : Slots) (links : List Link) (root : ℕ) (p : Path) (gap : Gap)
       let way = placed.leads in
       let L = entries_in l in
       let flat : (before p ++ (L ++ e ∷ [])) ++ (entries_in r ++ after p) ≡ before p ++ ((L ++ e ∷ entries_in r) ++ after p) =
-      append_assoc (before p) (L ++ e ∷ []) (entries_in r ++ after p) ∙ ap (λ z. before p ++ z) (append_assoc L (e ∷ []) (entries_in r ++ after p) ∙ sym (append_assoc L (e ∷ entries_in r) (after p))) in
+      append_assoc (before p) (L ++ e ∷ []) (entries_in r ++ after p)
+      ∙ ap (λ z. before p ++ z) (append_assoc L (e ∷ []) (entries_in r ++ after p) ∙ sym (append_assoc L (e ∷ entries_in r) (after p))) in
       record {
         linked = placed.linked;
         leads = subst (λ n. Leads slots links root p n) (sym same) way.1.1.1;

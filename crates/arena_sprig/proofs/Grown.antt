@@ -24,9 +24,11 @@ then_grown a b c k l m one two = record {
 }
 
 -- the links alone
-pub linked_grown : (a : ArenaState) (links new_links : List Link) (total : ℕ) → IsLinked a.slots links → IsLonger links new_links → total ≤ no_slot → (length new_links ≤ total) ⊎ (length new_links ≤ length links) → IsGrown a links a new_links
+pub linked_grown : (a : ArenaState) (links new_links : List Link) (total : ℕ) → IsLinked a.slots links → IsLonger links new_links → total ≤ no_slot
+    → (length new_links ≤ total) ⊎ (length new_links ≤ length links) → IsGrown a links a new_links
 linked_grown a links new_links total linked longer small few = record {
-  linked = record { each = omega (arith, linked.each, longer.longer); few = ⊎_elim (λ (le : length new_links ≤ total). omega arith) (λ (le : length new_links ≤ length links). omega (arith, linked.few)) few };
+  linked = record
+      { each = omega (arith, linked.each, longer.longer); few = ⊎_elim (λ (le : length new_links ≤ total). omega arith) (λ (le : length new_links ≤ length links). omega (arith, linked.few)) few };
   longer = longer.longer;
   kept = λ e slot holds. (holds, longer.same slot (let within = used_within a.slots slot e holds in omega (arith, linked.each)));
   filled = omega arith;
@@ -34,7 +36,8 @@ linked_grown a links new_links total linked longer small few = record {
 }
 
 -- a stage more
-pub stage_grown : (a b : ArenaState) (links : List Link) (total : ℕ) → IsLinked a.slots links → b ≡ with_free (width_after (length a.slots)) a → length a.slots + width_after (length a.slots) ≤ length links → IsGrown a links b links
+pub stage_grown : (a b : ArenaState) (links : List Link) (total : ℕ) → IsLinked a.slots links → b ≡ with_free (width_after (length a.slots)) a
+    → length a.slots + width_after (length a.slots) ≤ length links → IsGrown a links b links
 stage_grown a b links total linked is within =
     let width = width_after (length a.slots) in
     let slots = ap (λ (s : ArenaState). s.slots) is in
@@ -49,7 +52,8 @@ stage_grown a b links total linked is within =
     }
 
 -- the tree stays
-pub tree_grown : (a b : ArenaState) (links new_links : List Link) (root count : ℕ) (entries : List Entry) → entries_from count a.slots links root ≡ entries → IsTree a.slots links root count → IsGrown a links b new_links → IsMade b.slots new_links root count entries
+pub tree_grown : (a b : ArenaState) (links new_links : List Link) (root count : ℕ) (entries : List Entry) → entries_from count a.slots links root
+    ≡ entries → IsTree a.slots links root count → IsGrown a links b new_links → IsMade b.slots new_links root count entries
 tree_grown a b links new_links root count entries is kept grown =
     let keep = all_of (Keeps a.slots b.slots links new_links grown.longer) (λ e slot holds. grown.kept e slot holds) (entries_in kept.tree) in
     let hangs = hangs_kept a.slots b.slots links new_links grown.longer kept.tree root keep kept.hangs in

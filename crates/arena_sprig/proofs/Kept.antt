@@ -41,7 +41,8 @@ module _ (arena : ArenaState) (links : List Link) (root count room : ℕ) (tally
       tallied = ap (λ t. joined t (tally_of (entry ∷ []))) was.tallied ∙ tally_put entries small entry ∙ ap tally_of (sym list);
     }
 
-    pub after_remove : (digest : Digest) (e : Entry) → entry_of digest entries ≡ Some e → IsTree new.slots new_links new_root (count - 1) → entries_from (count - 1) new.slots new_links new_root ≡ without_digest digest entries
+    pub after_remove : (digest : Digest) (e : Entry) → entry_of digest entries ≡ Some e → IsTree new.slots new_links new_root (count - 1)
+        → entries_from (count - 1) new.slots new_links new_root ≡ without_digest digest entries
         → new.spare ≡ arena.spare + 1 → IsSprig new new_links new_root (count - 1) (room + 1) (parted tally (tally_of (e ∷ [])))
     after_remove digest e found tree list spare =
         let some = length-without_present digest entries in_order (subst (λ o. IsSome o) (sym found) refl) in
@@ -53,7 +54,8 @@ module _ (arena : ArenaState) (links : List Link) (root count room : ℕ) (tally
           tallied = ap (λ t. parted t (tally_of (e ∷ []))) was.tallied ∙ tally_taken entries small digest e in_order found ∙ ap tally_of (sym list);
         }
 
-    pub after_replace : (entry old : Entry) → entry_of entry.digest entries ≡ Some old → IsTree new.slots new_links new_root count → entries_from count new.slots new_links new_root ≡ with_replaced entry entries
+    pub after_replace : (entry old : Entry) → entry_of entry.digest entries ≡ Some old → IsTree new.slots new_links new_root count
+        → entries_from count new.slots new_links new_root ≡ with_replaced entry entries
         → new.spare ≡ arena.spare → IsSprig new new_links new_root count room (joined (parted tally (tally_of (old ∷ []))) (tally_of (entry ∷ [])))
     after_replace entry old found tree list spare = record {
       tree = tree;

@@ -58,7 +58,8 @@ module _ (slots : Slots) (links : List Link) (root : ℕ) (outer : Path) (slot :
         }
 
     -- there is one to the right
-    pub farther : IsNearing slots links root outer slot entry r old gap at steps count → right_of links at ≢ no_slot → IsNearing slots links root outer slot entry r old (Right at) (right_of links at) (steps + 1) count
+    pub farther : IsNearing slots links root outer slot entry r old gap at steps count → right_of links at ≢ no_slot
+        → IsNearing slots links root outer slot entry r old (Right at) (right_of links at) (steps + 1) count
     farther way more = by way.tree way.placed way.whole way.some way.short
       where
         by : (t : Tree) → IsPlaced slots links root way.path gap at t → entries_in old ≡ way.front ++ entries_in t → 1 ≤ size t → size t + steps ≤ count

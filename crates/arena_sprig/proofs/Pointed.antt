@@ -8,7 +8,8 @@ use Rattle.sprig_tree.specs.Entries.{IsInDigestOrder}
 use Rattle.arena_sprig.specs.declared.links.Link.{Link}
 use Rattle.arena_sprig.specs.declared.links.Gap.{Gap}
 use Rattle.arena_sprig.specs.declared.links.Gap.TheVariants.{Root, Left, Right}
-use Rattle.arena_sprig.specs.Tree.{Slots, Tree, Path, Top, InLeft, InRight, no_link, left_of, right_of, with_left, with_right, pointed, root_by, entries_in, before, after, IsNode, Hangs, Leads, gap_of, IsLinked, IsPlaced}
+use Rattle.arena_sprig.specs.Tree.{Slots, Tree, Path, Top, InLeft, InRight, no_link, left_of, right_of, with_left, with_right, pointed, root_by, entries_in, before, after, IsNode, Hangs}
+use Rattle.arena_sprig.specs.Tree.{Leads, gap_of, IsLinked, IsPlaced}
 use Rattle.arena_sprig.proofs.Trees.{Lacks, once}
 use Rattle.arena_sprig.proofs.Paths.{Keeps, hangs_kept, leads_kept}
 

@@ -7,7 +7,8 @@ use Rattle.rec_format.specs.declared.entry.Entry.{Entry}
 use Rattle.sprig_tree.specs.Entries.{IsInDigestOrder, without_digest}
 use Rattle.arena_sprig.specs.declared.links.Link.{Link}
 use Rattle.arena_sprig.specs.declared.links.Gap.{Gap}
-use Rattle.arena_sprig.specs.Tree.{Slots, Tree, Leaf, Node, Path, no_slot, left_of, right_of, pointed, root_by, entries_in, size, plug, before, after, Hangs, Leads, gap_of, IsLinked, IsPlaced, IsLast, FindsLast}
+use Rattle.arena_sprig.specs.Tree.{Slots, Tree, Leaf, Node, Path, no_slot, left_of, right_of, pointed, root_by, entries_in, size, plug, before, after, Hangs, Leads, gap_of, IsLinked}
+use Rattle.arena_sprig.specs.Tree.{IsPlaced, IsLast, FindsLast}
 use Rattle.sprig_tree.proofs.Order.{order_without}
 use Rattle.arena_sprig.proofs.Trees.{Lacks, once}
 use Rattle.arena_sprig.proofs.Paths.{Keeps, hangs_kept, plug_entries, plugged, unplugged}
@@ -20,7 +21,8 @@ stays_when_taken slots links at e here x other s holds =
     let apart : s ≢ at = λ same. (let twice : Some x ≡ Some e = sym holds ∙ ap (λ n. get_or slots n None) same ∙ here in other cc) in
     (get_or-set_other slots at s None None apart ∙ holds, refl)
 
-module _ (slots : Slots) (links : List Link) (root : ℕ) (entries : List Entry) (digest : Digest) (gap : Gap) (at count : ℕ) (counted : count ≡ length entries) (one : IsThere slots links root entries digest gap at count) where
+module _ (slots : Slots) (links : List Link) (root : ℕ) (entries : List Entry) (digest : Digest) (gap : Gap) (at count : ℕ) (counted : count ≡ length entries)
+    (one : IsThere slots links root entries digest gap at count) where
   abbrev p : Path
   p = one.path
 
@@ -67,10 +69,12 @@ module _ (slots : Slots) (links : List Link) (root : ℕ) (entries : List Entry)
         let list : entries_in (plug p one.right) ≡ front ++ rest = plug_entries p one.right ∙ flat in
         let e_free = once front rest e one.sorted in
         let lacks : Lacks e (front ++ rest) = all_joined (λ x. x ≢ e) front rest e_free.0 e_free.1 in
-        let keep = all_map (λ x. x ≢ e) (Keeps slots (set slots at None) new_links new_links (omega arith)) (entries_in (plug p one.right)) (stays_when_taken slots new_links at e one.holds) (subst (Lacks e) (sym list) lacks) in
+        let keep = all_map (λ x. x ≢ e) (Keeps slots (set slots at None) new_links new_links (omega arith)) (entries_in (plug p one.right))
+        (stays_when_taken slots new_links at e one.holds) (subst (Lacks e) (sym list) lacks) in
         let still = hangs_kept slots (set slots at None) new_links new_links (omega arith) (plug p one.right) new_root keep hangs in
         let linked : IsLinked (set slots at None) new_links = record { each = omega (arith, done.linked.each, length-set slots at None); few = done.linked.few } in
-        made (set slots at None) new_links new_root (count - 1) (plug p one.right) (without_digest digest entries) linked still (list ∙ sym gone) (fewer ∙ ap length (sym gone)) (subst IsInDigestOrder (sym gone) order)
+        made (set slots at None) new_links new_root (count - 1) (plug p one.right) (without_digest digest entries) linked still (list ∙ sym gone)
+        (fewer ∙ ap length (sym gone)) (subst IsInDigestOrder (sym gone) order)
 
   -- the last entry before it comes into its slot
   module _ (links_2 : List Link) (root_2 : ℕ) (gap_2 : Gap) (from : ℕ) (last : IsLast slots links_2 root_2 one.path at one.entry one.right one.left gap_2 from) where
@@ -114,7 +118,8 @@ module _ (slots : Slots) (links : List Link) (root : ℕ) (entries : List Entry)
         let new_links = pointed gap_2 up links_2 in
         let new_root = root_by gap_2 up root_2 in
         let split : before q ++ ((S ++ moved ∷ []) ++ after q) ≡ (before q ++ S) ++ moved ∷ after q = simp append_assoc in
-        let order_q : IsInDigestOrder (before q ++ (S ++ after q)) = subst IsInDigestOrder (append_assoc (before q) S (after q)) (order_without (before q ++ S) (after q) moved (subst IsInDigestOrder split placed.sorted)) in
+        let order_q : IsInDigestOrder (before q ++ (S ++ after q)) = subst IsInDigestOrder (append_assoc (before q) S (after q))
+        (order_without (before q ++ S) (after q) moved (subst IsInDigestOrder split placed.sorted)) in
         let done = repointed slots links_2 root_2 q gap_2 from up last.rest placed.linked placed.link placed.leads placed.hangs.1.0 order_q in
         let inner = last.inner last.rest in
         let I = entries_in inner in
@@ -122,7 +127,8 @@ module _ (slots : Slots) (links : List Link) (root : ℕ) (entries : List Entry)
         let whole = subst (λ t. Hangs slots new_links new_root t) (last.nested last.rest) (plugged slots new_links new_root q up last.rest done.leads done.hangs) in
         let found = unplugged slots new_links new_root p (Node inner at e one.right) whole in
         let here = found.hangs.0.here in
-        let same_list : before q ++ (S ++ after q) ≡ before p ++ ((I ++ e ∷ R) ++ after p) = sym (plug_entries q last.rest) ∙ ap entries_in (last.nested last.rest) ∙ plug_entries p (Node inner at e one.right) in
+        let same_list : before q ++ (S ++ after q) ≡ before p ++ ((I ++ e ∷ R) ++ after p) = sym (plug_entries q last.rest) ∙ ap entries_in (last.nested last.rest)
+        ∙ plug_entries p (Node inner at e one.right) in
         let node : IsPlaced slots new_links new_root p (gap_of p) at (Node inner at e one.right) = record {
           linked = done.linked;
           leads = subst (λ n. Leads slots new_links new_root p n) here found.leads;
@@ -151,7 +157,8 @@ module _ (slots : Slots) (links : List Link) (root : ℕ) (entries : List Entry)
         ∙ ap (λ z. (before p ++ z) ++ (R ++ after p)) (sym last.whole) in
         let long = length-set (set slots from None) at (Some moved) ∙ length-set slots from None in
         let linked : IsLinked new_slots new_links = record { each = omega (arith, done.linked.each, long); few = done.linked.few } in
-        made new_slots new_links new_root (count - 1) (plug p (Node inner at moved one.right)) (without_digest digest entries) linked hangs (list ∙ sym gone) (fewer ∙ ap length (sym gone)) (subst IsInDigestOrder (sym gone) order)
+        made new_slots new_links new_root (count - 1) (plug p (Node inner at moved one.right)) (without_digest digest entries) linked hangs (list ∙ sym gone)
+        (fewer ∙ ap length (sym gone)) (subst IsInDigestOrder (sym gone) order)
 
   -- where there is one to its left, its last is found
   pub found_last : (new_links : List Link) (new_root : ℕ) (new_gap : Gap) (from : ℕ) → FindsLast links root new_links new_root at count new_gap from → left_of links at ≢ no_slot

@@ -14,7 +14,8 @@ use Rattle.arena_sprig.specs.declared.links.Link.{Link}
 use Rattle.arena_sprig.specs.Tree.{Slots, Tree, Leaf, Node, no_slot, left_of, right_of, entries_in, size, Hangs, IsLinked, IsTree, between, entries_from}
 
 -- so many levels as a tree has nodes reach all its entries
-pub listed : (slots : Slots) (links : List Link) (linked : IsLinked slots links) (levels : ℕ) (t : Tree) (at : ℕ) → size t ≤ levels → Hangs slots links at t → entries_from levels slots links at ≡ entries_in t
+pub listed : (slots : Slots) (links : List Link) (linked : IsLinked slots links) (levels : ℕ) (t : Tree) (at : ℕ) → size t ≤ levels → Hangs slots links at t
+    → entries_from levels slots links at ≡ entries_in t
 listed slots links linked zero Leaf at le h = refl
 listed slots links linked zero (Node l slot entry r) at le h = absurd (omega arith)
 listed slots links linked (suc n) Leaf at le h =

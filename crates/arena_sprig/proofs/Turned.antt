@@ -7,7 +7,8 @@ use Rattle.rec_format.specs.declared.entry.Entry.{Entry}
 use Rattle.sprig_tree.specs.Entries.{IsInDigestOrder}
 use Rattle.arena_sprig.specs.declared.links.Link.{Link}
 use Rattle.arena_sprig.specs.declared.links.Gap.{Gap}
-use Rattle.arena_sprig.specs.Tree.{Slots, Tree, Leaf, Node, Path, no_slot, no_link, left_of, right_of, with_left, with_right, pointed, root_by, entries_in, before, after, IsNode, Hangs, Leads, IsLinked, IsPlaced, left_raised, right_raised}
+use Rattle.arena_sprig.specs.Tree.{Slots, Tree, Leaf, Node, Path, no_slot, no_link, left_of, right_of, with_left, with_right, pointed, root_by, entries_in, before, after, IsNode, Hangs}
+use Rattle.arena_sprig.specs.Tree.{Leads, IsLinked, IsPlaced, left_raised, right_raised}
 use Rattle.arena_sprig.proofs.Trees.{Lacks, once}
 use Rattle.arena_sprig.proofs.Paths.{Keeps, hangs_kept, leads_kept}
 use Rattle.arena_sprig.proofs.Pointed.{repointed}
@@ -68,7 +69,8 @@ module _ (slots : Slots) (links : List Link) (root : ℕ) (p : Path) (gap : Gap)
       let there = own slots links (left_of links s) u f h.1.0.0 in
       let flat : ((A ++ f ∷ B) ++ e ∷ C) ++ after p ≡ A ++ f ∷ (B ++ e ∷ (C ++ after p)) =
       append_assoc (A ++ f ∷ B) (e ∷ C) (after p) ∙ append_assoc A (f ∷ B) (e ∷ (C ++ after p)) in
-      let at_f = once (before p ++ A) (B ++ e ∷ (C ++ after p)) f (subst IsInDigestOrder (ap (λ z. before p ++ z) flat ∙ sym (append_assoc (before p) A (f ∷ (B ++ e ∷ (C ++ after p))))) placed.sorted) in
+      let at_f = once (before p ++ A) (B ++ e ∷ (C ++ after p)) f
+      (subst IsInDigestOrder (ap (λ z. before p ++ z) flat ∙ sym (append_assoc (before p) A (f ∷ (B ++ e ∷ (C ++ after p))))) placed.sorted) in
       let at_e = once (before p ++ (A ++ f ∷ B)) (C ++ after p) e
       (subst IsInDigestOrder (ap (λ z. before p ++ z) (append_assoc (A ++ f ∷ B) (e ∷ C) (after p)) ∙ sym (append_assoc (before p) (A ++ f ∷ B) (e ∷ (C ++ after p)))) placed.sorted) in
       let No_e = λ (x : Entry). x ≢ e in
@@ -116,7 +118,8 @@ module _ (slots : Slots) (links : List Link) (root : ℕ) (p : Path) (gap : Gap)
       let there = own slots links (right_of links s) u f h.1.1.0 in
       let flat : (A ++ e ∷ (B ++ f ∷ C)) ++ after p ≡ A ++ e ∷ (B ++ f ∷ (C ++ after p)) =
       append_assoc A (e ∷ (B ++ f ∷ C)) (after p) ∙ ap (λ z. A ++ e ∷ z) (append_assoc B (f ∷ C) (after p)) in
-      let at_e = once (before p ++ A) (B ++ f ∷ (C ++ after p)) e (subst IsInDigestOrder (ap (λ z. before p ++ z) flat ∙ sym (append_assoc (before p) A (e ∷ (B ++ f ∷ (C ++ after p))))) placed.sorted) in
+      let at_e = once (before p ++ A) (B ++ f ∷ (C ++ after p)) e
+      (subst IsInDigestOrder (ap (λ z. before p ++ z) flat ∙ sym (append_assoc (before p) A (e ∷ (B ++ f ∷ (C ++ after p))))) placed.sorted) in
       let inward : before p ++ ((A ++ e ∷ (B ++ f ∷ C)) ++ after p) ≡ (before p ++ (A ++ e ∷ B)) ++ f ∷ (C ++ after p) =
       ap (λ z. before p ++ (z ++ after p)) (sym (append_assoc A (e ∷ B) (f ∷ C)))
       ∙ ap (λ z. before p ++ z) (append_assoc (A ++ e ∷ B) (f ∷ C) (after p))

@@ -9,11 +9,13 @@ use Rattle.sprig_tree.proofs.Parted.{AllBelow}
 use Rattle.arena_sprig.specs.declared.links.Link.{Link}
 use Rattle.arena_sprig.specs.declared.links.Gap.{Gap}
 use Rattle.arena_sprig.specs.declared.links.Gap.TheVariants.{Root, Left, Right}
-use Rattle.arena_sprig.specs.Tree.{Slots, Tree, Leaf, Node, Path, Top, InLeft, InRight, no_slot, left_of, right_of, entries_in, size, before, after, Hangs, IsTree, IsPlaced, IsBeside, IsWayDown, Stops, IsReached, Evens, entries_from}
+use Rattle.arena_sprig.specs.Tree.{Slots, Tree, Leaf, Node, Path, Top, InLeft, InRight, no_slot, left_of, right_of, entries_in, size, before, after, Hangs, IsTree, IsPlaced, IsBeside}
+use Rattle.arena_sprig.specs.Tree.{IsWayDown, Stops, IsReached, Evens, entries_from}
 use Rattle.arena_sprig.proofs.Trees.{listed_all, below_through, above_through}
 use Rattle.arena_sprig.proofs.Evened.{opened_left, opened_right}
 
-pub way_started : (slots : Slots) (links : List Link) (root count : ℕ) (digest : Digest) → IsTree slots links root count → IsWayDown slots links root (entries_from count slots links root) digest Root root 0 count
+pub way_started : (slots : Slots) (links : List Link) (root count : ℕ) (digest : Digest) → IsTree slots links root count
+    → IsWayDown slots links root (entries_from count slots links root) digest Root root 0 count
 way_started slots links root count digest kept =
     let nil = sym (append-nil (entries_in kept.tree)) in
     record {

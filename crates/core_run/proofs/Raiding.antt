@@ -404,7 +404,8 @@ module _ {D : Type 0} (view : D → DiskView) (now : ℕ) where
               let ends = took.shelf.ends part at in (
                 spares_on s t then (possible_copies view mid.shelf t) (possible_copies view new.shelf then) have.spares
                     (drop_spares (setup_of mid) false t turn.makes.event raid.number now part (possible_copies view mid.shelf t) at_turn safe.safe.held.facts (allowed (Drop part) at))
-                    (none_comes view mid.shelf new.shelf t then ends.0 ends.1 took.shelf.buffers took.shape.geometry (setup_of mid) (setup_of new) m.stands.shelf.stands turn.makes.stands.shelf.stands),
+                    (none_comes view mid.shelf new.shelf t then ends.0 ends.1 took.shelf.buffers took.shape.geometry (setup_of mid) (setup_of new)
+                    m.stands.shelf.stands turn.makes.stands.shelf.stands),
                 λ before. absurd (drops_on (setup_of mid) false t turn.makes.event raid.number part now at_turn (allowed (Drop part) at) before),
               )
           spared_by Finished at = absurd (more at)

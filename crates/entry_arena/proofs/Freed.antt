@@ -1,9 +1,11 @@
 -- What a put, a take and a further stage make of the slots that aren't in use.
-use Rattle.std.proofs.Common.{◌≡◌, ◌≢◌, ℕ, ◌+◌, ◌-◌, ◌^◌, ◌<◌, ◌≤◌, cond, Bool, true, false, List, [], ◌∷◌, ◌++◌, length, get_or, set, replicate, Option, None, Some, refl, ap, sym, subst, ◌∙◌, ⊎_elim, zero, suc, length-append, lt_of_not-le, arith}
+use Rattle.std.proofs.Common.{◌≡◌, ◌≢◌, ℕ, ◌+◌, ◌-◌, ◌^◌, ◌<◌, ◌≤◌, cond, Bool, true, false, List, [], ◌∷◌, ◌++◌, length, get_or, set, replicate, Option, None, Some, refl, ap, sym, subst}
+use Rattle.std.proofs.Common.{◌∙◌, ⊎_elim, zero, suc, length-append, lt_of_not-le, arith}
 use Rattle.std.specs.Prelude.{is_some, count_by}
 use Rattle.std.specs.List.{range_with_len}
 use Rattle.std.proofs.lemmas.Bool.{cases_lt}
-use Rattle.std.proofs.lemmas.List.{get_or_append_left, get_or-append_right, get_or_push, get_or_past, get_or-set_same, get_or-set_other, get_or-replicate, length-set, length-replicate, length_push, same_lists}
+use Rattle.std.proofs.lemmas.List.{get_or_append_left, get_or-append_right, get_or_push, get_or_past, get_or-set_same, get_or-set_other, get_or-replicate, length-set, length-replicate}
+use Rattle.std.proofs.lemmas.List.{length_push, same_lists}
 use Rattle.std.proofs.lemmas.List.FromFn.{length-range_with_len, get_or-range_with_len}
 use Rattle.std.proofs.lemmas.List.Sums.{sum_by-set, sum_by-append}
 use Rattle.rec_format.specs.declared.entry.Entry.{Entry}
@@ -93,8 +95,10 @@ module _ (slots : List (Option Entry)) (free : List ℕ) (slot capacity : ℕ) (
             (λ (at_end : length free ≤ k). let k_is : length free ≡ k = omega arith in let e = get_or_push free slot d k k_is in omega (arith, used_within))
             (cases_lt k (length free));
         vacant = λ k d lt. ⊎_elim
-            (λ (in_front : k < length free). ap (λ n. get_or (set slots slot None) n None) (front k d in_front) ∙ get_or-set_other slots slot (get_or free k d) None None (others k d in_front) ∙ was.vacant k d in_front)
-            (λ (at_end : length free ≤ k). let k_is : length free ≡ k = omega arith in ap (λ n. get_or (set slots slot None) n None) (get_or_push free slot d k k_is) ∙ get_or-set_same slots slot None None used_within)
+            (λ (in_front : k < length free). ap (λ n. get_or (set slots slot None) n None) (front k d in_front)
+            ∙ get_or-set_other slots slot (get_or free k d) None None (others k d in_front) ∙ was.vacant k d in_front)
+            (λ (at_end : length free ≤ k). let k_is : length free ≡ k = omega arith in
+            ap (λ n. get_or (set slots slot None) n None) (get_or_push free slot d k k_is) ∙ get_or-set_same slots slot None None used_within)
             (cases_lt k (length free));
         differ = λ i j d lt within e. ⊎_elim
             (λ (in_front : j < length free). was.differ i j d lt in_front (sym (front i d (omega arith)) ∙ e ∙ front j d in_front))
@@ -110,7 +114,8 @@ none_counted zero = refl
 none_counted (suc n) = none_counted n
 
 -- more free slots behind all others
-module _ (slots : List (Option Entry)) (free : List ℕ) (count capacity wide : ℕ) (was : IsFree slots free capacity) (room : length slots + count ≤ wide) (numbered : length slots + count < 2 ^ 32) where
+module _ (slots : List (Option Entry)) (free : List ℕ) (count capacity wide : ℕ) (was : IsFree slots free capacity) (room : length slots + count ≤ wide)
+    (numbered : length slots + count < 2 ^ 32) where
   pub grow_kept : IsFree (slots ++ replicate count no_entry) (free ++ range_with_len (length slots) count) wide
   grow_kept =
       let more : length (replicate count no_entry) ≡ count = length-replicate count no_entry in

@@ -1,5 +1,6 @@
 -- The slots of an arena by the entries that stand there and the slots that aren't in use.
-use Rattle.std.proofs.Common.{◌≡◌, ◌≢◌, ℕ, zero, suc, ◌+◌, ◌<◌, ◌≤◌, List, [], ◌∷◌, ◌++◌, length, get_or, set, map, replicate, true, false, Option, None, Some, refl, ap, sym, ◌∙◌, ⊎_elim, append_assoc, arith}
+use Rattle.std.proofs.Common.{◌≡◌, ◌≢◌, ℕ, zero, suc, ◌+◌, ◌<◌, ◌≤◌, List, [], ◌∷◌, ◌++◌, length, get_or, set, map, replicate, true, false, Option, None, Some, refl, ap, sym, ◌∙◌, ⊎_elim}
+use Rattle.std.proofs.Common.{append_assoc, arith}
 use Rattle.std.specs.Prelude.{is_some}
 use Rattle.std.specs.List.{range_with_len}
 use Rattle.std.proofs.lemmas.Bool.{cases_eq, cases_lt}
@@ -76,7 +77,8 @@ module _ (free : List ℕ) (entries : List Entry) where
   slots_of_set slot entry others = ap (λ (l : Slots). vacated free l) (map-set Some entries slot entry) ∙ vacated_set free (map Some entries) slot (Some entry) others
 
   -- a free slot into which an entry is written is seen with it, once it isn't free any more
-  pub slots_of_put : (slot : ℕ) (entry : Entry) → ((k d : ℕ) → k < length free → get_or free k d ≢ slot) → slots_of free (set entries slot entry) ≡ set (slots_of (free ++ slot ∷ []) entries) slot (Some entry)
+  pub slots_of_put : (slot : ℕ) (entry : Entry) → ((k d : ℕ) → k < length free → get_or free k d ≢ slot) → slots_of free (set entries slot entry)
+      ≡ set (slots_of (free ++ slot ∷ []) entries) slot (Some entry)
   slots_of_put slot entry others =
       slots_of_set slot entry others
       ∙ sym (set-set (slots_of free entries) slot None (Some entry))
@@ -93,5 +95,6 @@ module _ (free : List ℕ) (entries : List Entry) where
       ∙ vacated_range count (length entries) (slots_of free entries) (map Some added) length-slots_of (length-map added Some ∙ is)
 
   -- the entry of a slot in use stands there
-  pub slots_of_has : (slot : ℕ) (d : Entry) → is_some (get_or (slots_of free entries) slot None) ≡ true → slot < length entries → get_or (slots_of free entries) slot None ≡ Some (get_or entries slot d)
+  pub slots_of_has : (slot : ℕ) (d : Entry) → is_some (get_or (slots_of free entries) slot None) ≡ true → slot < length entries → get_or (slots_of free entries) slot None
+      ≡ Some (get_or entries slot d)
   slots_of_has slot d there lt = vacated_has free (map Some entries) slot there ∙ get_or-map Some entries slot d None lt

@@ -56,6 +56,7 @@ at_late slot stage place many is rest =
 -- the width of a stage by the number of slots before it
 pub width_by_first : (stage : ℕ) → width_of stage ≡ width_after (first_of stage)
 width_by_first stage = ⊎_elim
-    (λ (early : stage < 10). let first = first_early stage (omega arith) in let width = width_early stage early in let few : 2 ^ stage ≤ 512 = pow_mono (let le : stage ≤ 9 = omega arith in le) in omega arith)
+    (λ (early : stage < 10). let first = first_early stage (omega arith) in let width = width_early stage early in
+    let few : 2 ^ stage ≤ 512 = pow_mono (let le : stage ≤ 9 = omega arith in le) in omega arith)
     (λ (late : 10 ≤ stage). let mono = first_mono 10 (stage - 10) stage (omega arith) in let width = width_late stage late in omega arith)
     (cases_lt stage 10)

@@ -1,5 +1,6 @@
 -- What the operations on vectors compute at each lane.
-use Rattle.std.proofs.Common.{◌≡◌, ℕ, suc, ◌+◌, ◌-◌, ◌*◌, ◌/◌, ◌%◌, ◌^◌, ◌<◌, ◌≤◌, ◌==◌, nat_le, Bool, true, false, cond, ltb, List, [], ◌∷◌, ◌++◌, map, length, replicate, slice_index, bit_and, bit_or, refl, ap, subst, ◌∙◌, arith, Fits, w8, Option, Some, None}
+use Rattle.std.proofs.Common.{◌≡◌, ℕ, suc, ◌+◌, ◌-◌, ◌*◌, ◌/◌, ◌%◌, ◌^◌, ◌<◌, ◌≤◌, ◌==◌, nat_le, Bool, true, false, cond, ltb, List, [], ◌∷◌, ◌++◌, map, length, replicate, slice_index}
+use Rattle.std.proofs.Common.{bit_and, bit_or, refl, ap, subst, ◌∙◌, arith, Fits, w8, Option, Some, None}
 use Rattle.std.specs.Prelude.{MatchOption, ◌↔◌}
 use Rattle.std.proofs.lemmas.Bool.{eqb-true, leb-true, ltb-true, lt-ltb}
 use Rattle.std.proofs.lemmas.Simd.{Each1-weaker, bitmask_splat, pick_l_whole}

@@ -9,7 +9,8 @@ use Rattle.rec_format.specs.Versions.{version_units, a_tombstone, is_expired_put
 use Rattle.model_device.specs.Book.{Setup}
 use Rattle.model_device.specs.Device.{State, seen, entry, entry_is_covered, entry_passes, next_stamp_of}
 use Rattle.model_device.specs.Steps.{Step, removed}
-use Rattle.model_device.specs.Events.{Cause, Answer, stamp_given, happened, refused, Event, Call, put_call, bury_call, delete_call, expire_call, get_call, flush_call, flush_sealed_call, flush_next_call}
+use Rattle.model_device.specs.Events.{Cause, Answer, stamp_given, happened, refused, Event, Call, put_call, bury_call, delete_call, expire_call, get_call, flush_call, flush_sealed_call}
+use Rattle.model_device.specs.Events.{flush_next_call}
 use Rattle.model_device.specs.Events.{choose_call, move_call, begin_call, turn_call, after_event}
 use Rattle.model_device.specs.Legal.{Allowed, Only, Unless, WriteEnds, Entombs, Removes, no_write, the_stamp, tombstone_reserve, put_refusal, new_put}
 use Rattle.law_commit.specs.Commits.{Commits, FlushesTop, IsDone, flushed_if_wrote}

@@ -7,8 +7,10 @@ use Rattle.rec_format.specs.declared.version.Digest.{Digest}
 use Rattle.rec_format.specs.Versions.{is_tombstone, top_number}
 use Rattle.model_device.specs.Book.{Setup, Book, Buffer, Stream, client, defrag, filling_buffer, has_room, is_filling, live_of}
 use Rattle.model_device.specs.Device.{State, Turn, mark_turn, scan_turn, apply_turn, drop_turn, finished, entry, entry_passes, seen}
-use Rattle.model_device.specs.Steps.{Step, wrote, moved, rid_of, uncovered, gate_begun, flushed_buffer, closing_failed, raid_begun, raid_given_up, marked_part, scanned_block, compared_part, done_part, after_steps}
-use Rattle.model_device.specs.Events.{Event, Call, get_call, flush_call, flush_sealed_call, flush_next_call, choose_call, move_call, begin_call, turn_call, Cause, stale, happened, raid_numbered, refused}
+use Rattle.model_device.specs.Steps.{Step, wrote, moved, rid_of, uncovered, gate_begun, flushed_buffer, closing_failed, raid_begun, raid_given_up, marked_part, scanned_block, compared_part}
+use Rattle.model_device.specs.Steps.{done_part, after_steps}
+use Rattle.model_device.specs.Events.{Event, Call, get_call, flush_call, flush_sealed_call, flush_next_call, choose_call, move_call, begin_call, turn_call, Cause, stale, happened}
+use Rattle.model_device.specs.Events.{raid_numbered, refused}
 use Rattle.model_device.specs.Legal.{Allowed, FlushEnds, NoMemory, Only, Unless, DamageFound, DiskFails, TurnEnds, same_turn, drop_step, marked_in}
 use Rattle.model_device.specs.Legal.{WhereReads, is_in_block, live_units, move_reserve, no_place, queue_front, seal_if, seal_all, seal_low, is_due, flush_of, flush_all, flush_first, first_sealed}
 use Rattle.law_commit.specs.Commits.{flushed_if_wrote}

@@ -41,7 +41,8 @@ cause_is vacate.Fault = refl
 -- The shelf made the choice, and stayed as it was, but that its disk was read.
 module _ {D : Type 0} (view : D → DiskView) (old : ShardView D) (mid : ShelfView D) (same : mid ≡ record old.shelf { disk = mid.disk }) (result : Result (Option ℕ) VacateRefusal)
     (chooses : (setup : Setup) (s : State) → IsSetupOf setup old.shelf → ShelfStands setup old.shelf s
-    → MakesEvent view setup choose_call (choose_answer result) old.shelf s mid (ShelfStands setup mid)) (honest_on : IsHonest (view old.shelf.disk) → IsHonest (view mid.disk)) (whole : IsWhole old) where
+    → MakesEvent view setup choose_call (choose_answer result) old.shelf s mid (ShelfStands setup mid)) (honest_on : IsHonest (view old.shelf.disk) → IsHonest (view mid.disk))
+    (whole : IsWhole old) where
   abbrev pub over : ShardView D
   over = record { shelf = mid; set = old.set; sprigs = old.sprigs }
 

@@ -15,7 +15,8 @@ chunks-preserved c =
       omega arith,
       omega arith,
       omega (arith, kept, long),
-      rw c.bytes_of.ensures (decode_step c.args.text.now c.chunks.bytes halves c.chunks.at c.chunks.step (omega arith) c.chunks.invariant.2 long c.halves_of-halves.ensures size small c.chunks.invariant.4),
+      rw c.bytes_of.ensures
+          (decode_step c.args.text.now c.chunks.bytes halves c.chunks.at c.chunks.step (omega arith) c.chunks.invariant.2 long c.halves_of-halves.ensures size small c.chunks.invariant.4),
     )
 
 pub returns-in-Ok : goal.returns-in-Ok

@@ -62,7 +62,8 @@ take-moved-requires c =
     let counted = counted_all slots c.args.links.now c.args.root.now count c.requires.kept in
     let one = there slots links root entries digest gap at count c.walk-place.ensures c.requires.there in
     let left_is = ap (λ (k : Link). k.left) c.link_of-link.ensures in
-    let last = found_last slots links root entries digest gap at count counted one c.last_below-last.new.links c.last_below-last.new.root c.last_below-last.result.gap c.last_below-last.result.at c.last_below-last.ensures (λ none. c.if-link.false (left_is ∙ none)) in
+    let last = found_last slots links root entries digest gap at count counted one c.last_below-last.new.links c.last_below-last.new.root
+    c.last_below-last.result.gap c.last_below-last.result.at c.last_below-last.ensures (λ none. c.if-link.false (left_is ∙ none)) in
     some_of (entry_at c.args.arena.now c.last_below-last.result.at) last.last last.placed.hangs.0.holds
 
 -- the slot keeps its entry while that of the last is given up
@@ -84,7 +85,8 @@ get-entry-requires c =
     let counted = counted_all slots c.args.links.now c.args.root.now count c.requires.kept in
     let one = there slots links root entries digest gap at count c.walk-place.ensures c.requires.there in
     let left_is = ap (λ (k : Link). k.left) c.link_of-link.ensures in
-    let last = found_last slots links root entries digest gap at count counted one c.last_below-last.new.links c.last_below-last.new.root c.last_below-last.result.gap from c.last_below-last.ensures (λ none. c.if-link.false (left_is ∙ none)) in
+    let last = found_last slots links root entries digest gap at count counted one c.last_below-last.new.links c.last_below-last.new.root
+    c.last_below-last.result.gap from c.last_below-last.ensures (λ none. c.if-link.false (left_is ∙ none)) in
     let apart = differ slots links root entries digest gap at count counted one c.last_below-last.new.links c.last_below-last.new.root c.last_below-last.result.gap from last in
     let stored = ap (λ (a : ArenaState). a.slots) c.take-moved.ensures.rest in
     some_of (entry_at c.take-moved.new.self at) one.entry (still c.args.arena.now c.take-moved.new.self.slots at from one.entry one.holds stored apart)
@@ -114,7 +116,8 @@ returns c =
     let stored : c.set.new.self.slots ≡ slice_set (slice_set slots from None) at (Some last.last) =
     ap (λ (a : ArenaState). a.slots) c.set.ensures ∙ (λ i. slice_set (taken i) at (Some (sym moved i))) in
     let up_is = ap (λ (k : Link). k.left) c.link_of-rest.ensures in
-    let m = at_fields (slice_set (slice_set slots from None) at (Some last.last)) c.set.new.self.slots (pointed gap_2 (left_of links_2 from) links_2) c.point-2.new.links (root_by gap_2 (left_of links_2 from) root_2) c.point-2.new.root (count - 1) (without_digest digest entries) stored
+    let m = at_fields (slice_set (slice_set slots from None) at (Some last.last)) c.set.new.self.slots (pointed gap_2 (left_of links_2 from) links_2)
+    c.point-2.new.links (root_by gap_2 (left_of links_2 from) root_2) c.point-2.new.root (count - 1) (without_digest digest entries) stored
     (c.point-2.ensures.links ∙ ap (λ n. pointed gap_2 n links_2) up_is) (c.point-2.ensures.root ∙ ap (λ n. root_by gap_2 n root_2) up_is) done in
     let own = still c.args.arena.now c.take-moved.new.self.slots at from one.entry one.holds taken apart in
     record {

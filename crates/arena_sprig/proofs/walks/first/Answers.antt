@@ -21,13 +21,15 @@ pub returns : goal.returns
 returns c =
     let slots = c.args.arena.now.slots in
     let links = c.args.links.now in
-    first_spent slots links c.requires.linked (entries_from c.args.count slots links c.args.root) c.loop-step.next c.loop-step.at c.loop-step.step c.args.count c.loop-step.invariant c.loop-step-test.false
+    first_spent slots links c.requires.linked (entries_from c.args.count slots links c.args.root) c.loop-step.next c.loop-step.at c.loop-step.step
+    c.args.count c.loop-step.invariant c.loop-step-test.false
 
 pub get-requires : goal.get-requires
 get-requires c =
     let slots = c.args.arena.now.slots in
     let links = c.args.links.now in
-    let step = first_stepped slots links c.requires.linked (entries_from c.args.count slots links c.args.root) c.loop-step.next c.loop-step.at c.loop-step.step c.args.count c.loop-step.invariant c.if-at.false in
+    let step = first_stepped slots links c.requires.linked (entries_from c.args.count slots links c.args.root) c.loop-step.next c.loop-step.at
+    c.loop-step.step c.args.count c.loop-step.invariant c.if-at.false in
     subst (λ o. IsSome o) (sym step.holds) refl
 
 pub loop-step-preserved : goal.loop-step-preserved

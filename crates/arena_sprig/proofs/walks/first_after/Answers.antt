@@ -19,13 +19,15 @@ pub returns-then-at : goal.returns-then-at
 returns-then-at c =
     let slots = c.args.arena.now.slots in
     let links = c.args.links.now in
-    after_ended slots links c.requires.linked (entries_from c.args.count slots links c.args.root) (ordered slots links c.args.root c.args.count c.requires) c.args.digest.now c.loop-step.next c.loop-step.at c.loop-step.step c.args.count c.loop-step.invariant c.if-at.true
+    after_ended slots links c.requires.linked (entries_from c.args.count slots links c.args.root) (ordered slots links c.args.root c.args.count c.requires)
+    c.args.digest.now c.loop-step.next c.loop-step.at c.loop-step.step c.args.count c.loop-step.invariant c.if-at.true
 
 pub returns : goal.returns
 returns c =
     let slots = c.args.arena.now.slots in
     let links = c.args.links.now in
-    after_spent slots links c.requires.linked (entries_from c.args.count slots links c.args.root) (ordered slots links c.args.root c.args.count c.requires) c.args.digest.now c.loop-step.next c.loop-step.at c.loop-step.step c.args.count c.loop-step.invariant c.loop-step-test.false
+    after_spent slots links c.requires.linked (entries_from c.args.count slots links c.args.root) (ordered slots links c.args.root c.args.count c.requires)
+    c.args.digest.now c.loop-step.next c.loop-step.at c.loop-step.step c.args.count c.loop-step.invariant c.loop-step-test.false
 
 module _ (slots : Slots) (links : List Link) (root count : ℕ) (kept : IsTree slots links root count) (digest : Digest) (at : ℕ) (next : Option Entry) (steps : ℕ) where
   abbrev Step : Type 0
@@ -36,7 +38,8 @@ module _ (slots : Slots) (links : List Link) (root count : ℕ) (kept : IsTree s
 
 pub get-requires : goal.get-requires
 get-requires c =
-    let step = step_of c.args.arena.now.slots c.args.links.now c.args.root c.args.count c.requires c.args.digest.now c.loop-step.at c.loop-step.next c.loop-step.step c.loop-step.invariant c.if-at.false in
+    let step = step_of c.args.arena.now.slots c.args.links.now c.args.root c.args.count c.requires c.args.digest.now c.loop-step.at c.loop-step.next
+    c.loop-step.step c.loop-step.invariant c.if-at.false in
     subst (λ o. IsSome o) (sym step.holds) refl
 
 pub loop-step-preserved : goal.loop-step-preserved
@@ -44,7 +47,8 @@ loop-step-preserved c =
     let slots = c.args.arena.now.slots in
     let links = c.args.links.now in
     let entries = entries_from c.args.count slots links c.args.root in
-    let step = step_of c.args.arena.now.slots c.args.links.now c.args.root c.args.count c.requires c.args.digest.now c.loop-step.at c.loop-step.next c.loop-step.step c.loop-step.invariant c.if-at.false in
+    let step = step_of c.args.arena.now.slots c.args.links.now c.args.root c.args.count c.requires c.args.digest.now c.loop-step.at c.loop-step.next
+    c.loop-step.step c.loop-step.invariant c.if-at.false in
     let same = same_entry (entry_at c.args.arena.now c.loop-step.at) c.get.result.now step.entry c.get.ensures step.holds in
     let compared = ap (λ (e : Entry). digest_cmp e.digest c.args.digest.now) same ∙ sym c.cmp.ensures in
     let moved = λ (n : ℕ) (o : Option Entry). IsOnTheWayAfter slots links entries c.args.digest.now o n (c.loop-step.step + 1) c.args.count in
@@ -53,5 +57,6 @@ loop-step-preserved c =
     elim c.match-cmp.branch [
       | in-Less w ↦ subst (λ o. moved c.match-cmp.at o) (sym w.next-is) (subst (λ n. moved n c.loop-step.next) (sym (w.at-is ∙ right)) (step.less (compared ∙ w.in-Less.is)))
       | in-Equal w ↦ subst (λ o. moved c.match-cmp.at o) (sym w.next-is) (subst (λ n. moved n c.loop-step.next) (sym (w.at-is ∙ right)) (step.equal (compared ∙ w.in-Equal.is)))
-      | in-Greater w ↦ subst (λ o. moved c.match-cmp.at o) (ap (λ (e : Entry). Some e) same ∙ sym w.next-is) (subst (λ n. moved n (Some step.entry)) (sym (w.at-is ∙ left)) (step.greater (compared ∙ w.in-Greater.is)))
+      | in-Greater w ↦ subst (λ o. moved c.match-cmp.at o) (ap (λ (e : Entry). Some e) same ∙ sym w.next-is)
+          (subst (λ n. moved n (Some step.entry)) (sym (w.at-is ∙ left)) (step.greater (compared ∙ w.in-Greater.is)))
     ]

@@ -55,6 +55,8 @@ loop-step-preserved c =
     let compared = ap (λ (e : Entry). digest_cmp e.digest c.args.digest.now) same ∙ sym c.cmp.ensures in
     let moved = λ (n : ℕ) (g : Gap). IsWayDown slots links c.args.root entries c.args.digest.now g n (c.loop-step.step + 1) c.args.count in
     elim c.match-cmp.branch [
-      | in-Less w ↦ subst (λ g. moved c.match-cmp.at g) (sym w.gap-is) (subst (λ n. moved n (Right c.loop-step.at)) (sym (w.at-is ∙ ap (λ (l : Link). l.right) c.link_of-link.ensures)) (step.right (compared ∙ w.in-Less.is)))
-      | in-Greater w ↦ subst (λ g. moved c.match-cmp.at g) (sym w.gap-is) (subst (λ n. moved n (Left c.loop-step.at)) (sym (w.at-is ∙ ap (λ (l : Link). l.left) c.link_of-link.ensures)) (step.left (compared ∙ w.in-Greater.is)))
+      | in-Less w ↦ subst (λ g. moved c.match-cmp.at g) (sym w.gap-is)
+          (subst (λ n. moved n (Right c.loop-step.at)) (sym (w.at-is ∙ ap (λ (l : Link). l.right) c.link_of-link.ensures)) (step.right (compared ∙ w.in-Less.is)))
+      | in-Greater w ↦ subst (λ g. moved c.match-cmp.at g) (sym w.gap-is)
+          (subst (λ n. moved n (Left c.loop-step.at)) (sym (w.at-is ∙ ap (λ (l : Link). l.left) c.link_of-link.ensures)) (step.left (compared ∙ w.in-Greater.is)))
     ]

@@ -39,7 +39,8 @@ returns-clause-none g c is = none_sealed c.seal_low.new.self c.flush_step.new.se
 
 pub returns-clause-left : goal.returns-clause-left
 returns-clause-left g c =
-    subst (λ (r : Result ℕ DiskFault). OnErr r (c.flush_step.new.self.buffers ≢ [])) (sym c.flushed_count.ensures) (one_left c.seal_low.new.self c.flush_step.new.self c.flush_step.result c.flush_step.ensures.left)
+    subst (λ (r : Result ℕ DiskFault). OnErr r (c.flush_step.new.self.buffers ≢ [])) (sym c.flushed_count.ensures)
+    (one_left c.seal_low.new.self c.flush_step.new.self c.flush_step.result c.flush_step.ensures.left)
 
 pub returns-clause-cause : goal.returns-clause-cause
 returns-clause-cause g c =

@@ -16,7 +16,9 @@ invariant_of-self c =
     let links = c.insert.new.links in
     let room : 1 ≤ s.room = omega (arith, ap (λ (v : SprigState). v.spare) c.self.view_is, c.requires.room) in
     let list = c.insert.ensures.entries ∙ ap (λ (l : List Link). with_entry c.args.entry (entries_from s.count s.arena.slots l s.root)) c.deref_mut.ensures.value in
-    let done = after_insert s.arena s.links.items s.root s.count s.room s.tally c.self.invariant c.insert.new.arena links c.insert.new.root c.insert.ensures.slots c.args.entry c.insert.ensures.kept list c.insert.ensures.spare room in
+    let done = after_insert s.arena s.links.items s.root s.count s.room s.tally c.self.invariant c.insert.new.arena links c.insert.new.root
+    c.insert.ensures.slots c.args.entry c.insert.ensures.kept list c.insert.ensures.spare room in
     let tally : c.plus-self-inside.result ≡ joined s.tally (tally_of (c.args.entry ∷ [])) = c.plus-self-inside.ensures ∙ ap (λ (t : Tally). joined s.tally t) c.of.ensures in
-    subst (λ (l : List Link). IsSprig c.insert.new.arena l c.insert.new.root (s.count + 1) (s.room - 1) c.plus-self-inside.result) (sym (with_items_is s.links links (c.insert.auto.links ∙ c.deref_mut.ensures.len)))
+    subst (λ (l : List Link). IsSprig c.insert.new.arena l c.insert.new.root (s.count + 1) (s.room - 1) c.plus-self-inside.result)
+    (sym (with_items_is s.links links (c.insert.auto.links ∙ c.deref_mut.ensures.len)))
     (subst (λ (t : Tally). IsSprig c.insert.new.arena links c.insert.new.root (s.count + 1) (s.room - 1) t) (sym tally) done)

@@ -23,4 +23,5 @@ empty t tallied = record {
 pub invariant_of-result : goal.invariant_of-result
 invariant_of-result c =
     subst (λ (a : ArenaState). IsSprig a c.new-2.result.items no_slot 0 0 c.default.result) (sym c.new.ensures)
-    (subst (λ (l : List Link). IsSprig (record { slots = []; spare = 0 }) l no_slot 0 0 c.default.result) (sym c.new-2.ensures.items) (empty c.default.result (none c.default.result c.default.ensures)))
+    (subst (λ (l : List Link). IsSprig (record { slots = []; spare = 0 }) l no_slot 0 0 c.default.result) (sym c.new-2.ensures.items)
+    (empty c.default.result (none c.default.result c.default.ensures)))

@@ -18,9 +18,11 @@ invariant_of-self c =
     let links = c.remove-entry.new.links in
     let list = c.remove-entry.ensures.entries ∙ ap (λ (l : List Link). without_digest c.args.digest.now (entries_from s.count s.arena.slots l s.root)) c.deref_mut.ensures.value in
     let found = ap (λ (l : List Link). entry_of c.args.digest.now (entries_from s.count s.arena.slots l s.root)) (sym c.deref_mut.ensures.value) ∙ c.remove-entry.ensures.value in
-    let done = after_remove s.arena s.links.items s.root s.count s.room s.tally c.self.invariant c.remove-entry.new.arena links c.remove-entry.new.root c.remove-entry.ensures.slots c.args.digest.now c.remove-entry.result found c.remove-entry.ensures.kept list c.remove-entry.ensures.spare in
+    let done = after_remove s.arena s.links.items s.root s.count s.room s.tally c.self.invariant c.remove-entry.new.arena links c.remove-entry.new.root
+    c.remove-entry.ensures.slots c.args.digest.now c.remove-entry.result found c.remove-entry.ensures.kept list c.remove-entry.ensures.spare in
     let tally : c.minus-self-inside.result ≡ parted s.tally (tally_of (c.remove-entry.result ∷ [])) = c.minus-self-inside.ensures ∙ ap (λ (t : Tally). parted s.tally t) c.of.ensures in
-    subst (λ (l : List Link). IsSprig c.remove-entry.new.arena l c.remove-entry.new.root (s.count - 1) (s.room + 1) c.minus-self-inside.result) (sym (with_items_is s.links links (c.remove-entry.auto.links ∙ c.deref_mut.ensures.len)))
+    subst (λ (l : List Link). IsSprig c.remove-entry.new.arena l c.remove-entry.new.root (s.count - 1) (s.room + 1) c.minus-self-inside.result)
+    (sym (with_items_is s.links links (c.remove-entry.auto.links ∙ c.deref_mut.ensures.len)))
     (subst (λ (t : Tally). IsSprig c.remove-entry.new.arena links c.remove-entry.new.root (s.count - 1) (s.room + 1) t) (sym tally) done)
 
 pub returns-in_err-find-clause-rest : goal.returns-in_err-find-clause-rest
@@ -28,5 +30,6 @@ returns-in_err-find-clause-rest c =
     let v = c.args.self.now in
     let absent = sym c.find.ensures.value ∙ c.in_err-find.was in
     let entries = sym (without_absent c.args.digest.now v.entries absent) in
-    let spare : v.spare ≡ v.spare + (if is_some c.from_residual.result then 1 else 0) = sym (add-zero v.spare) ∙ ap (λ (o : Option Entry). v.spare + (if is_some o then 1 else 0)) (sym c.from_residual.ensures) in
+    let spare : v.spare ≡ v.spare + (if is_some c.from_residual.result then 1 else 0) = sym (add-zero v.spare)
+    ∙ ap (λ (o : Option Entry). v.spare + (if is_some o then 1 else 0)) (sym c.from_residual.ensures) in
     λ i. record { entries = entries i; hw = v.hw; spare = spare i }

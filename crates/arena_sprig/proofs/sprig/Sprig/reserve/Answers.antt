@@ -12,7 +12,8 @@ invariant_of-self c =
 pub invariant_of-self-2 : goal.invariant_of-self-2
 invariant_of-self-2 c =
     let s = c.self.inside in
-    after_growth s.arena s.links.items s.root s.count s.room s.tally c.self.invariant c.grow.new.arena c.grow.new.links.items c.grow.ensures.grown c.spare-self-inside.result (omega (arith, c.spare-self-inside.ensures))
+    after_growth s.arena s.links.items s.root s.count s.room s.tally c.self.invariant c.grow.new.arena c.grow.new.links.items c.grow.ensures.grown
+    c.spare-self-inside.result (omega (arith, c.spare-self-inside.ensures))
 
 pub returns-in_err-grow-clause-entries : goal.returns-in_err-grow-clause-entries
 returns-in_err-grow-clause-entries c =
@@ -32,7 +33,8 @@ on_err (Err e) P p = p
 pub returns-in_err-grow-clause-err : goal.returns-in_err-grow-clause-err
 returns-in_err-grow-clause-err c =
     let s = c.self.inside in
-    let list = same_list s.arena s.links.items s.root s.count s.room s.tally c.self.invariant c.grow.new.arena c.grow.new.links.items c.grow.ensures.grown ∙ ap (λ (v : SprigState). v.entries) c.self.view_is in
+    let list = same_list s.arena s.links.items s.root s.count s.room s.tally c.self.invariant c.grow.new.arena c.grow.new.links.items c.grow.ensures.grown
+    ∙ ap (λ (v : SprigState). v.entries) c.self.view_is in
     let high = ap (λ (v : SprigState). v.hw) c.self.view_is in
     let spare = ap (λ (v : SprigState). v.spare) c.self.view_is in
     on_err c.from_residual.result _ (λ i. record { entries = list i; hw = high i; spare = spare i })

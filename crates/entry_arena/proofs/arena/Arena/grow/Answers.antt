@@ -49,14 +49,17 @@ push_range-requires-clause-room c =
     omega (arith, wide c, more c)
 
 items : (c : goal.After-push_range) → c.push_range.new.free.items ≡ c.self.inside.free.items ++ range_with_len (length c.self.inside.stages) (width_after (length c.self.inside.stages))
-items c = c.push_range.ensures.items ∙ (λ i. c.in_ok-reserve_exact.ensures.items i ++ range_with_len (size (goal.at.invariant_of-self-2 c).After-len-2 i) (more (goal.at.invariant_of-self-2 c).After-len-2 i))
+items c = c.push_range.ensures.items
+    ∙ (λ i. c.in_ok-reserve_exact.ensures.items i ++ range_with_len (size (goal.at.invariant_of-self-2 c).After-len-2 i) (more (goal.at.invariant_of-self-2 c).After-len-2 i))
 
-seen : (c : goal.After-push_range) → slots_of c.push_range.new.free.items c.grow.new.self ≡ slots_of c.self.inside.free.items c.self.inside.stages ++ replicate (width_after (length c.self.inside.stages)) None
+seen : (c : goal.After-push_range) → slots_of c.push_range.new.free.items c.grow.new.self
+    ≡ slots_of c.self.inside.free.items c.self.inside.stages ++ replicate (width_after (length c.self.inside.stages)) None
 seen c =
     let adds = c.in_ok-grow.ensures.ok in
     let all = length-slots_of c.self.inside.free.items c.self.inside.stages in
     (λ i. slots_of (items c i) (adds.slots i))
-    ∙ slots_of_grow c.self.inside.free.items c.self.inside.stages adds.added (width_after (length c.self.inside.stages)) (λ k d lt. let within = c.self.invariant.within k d lt in omega arith) adds.count
+    ∙ slots_of_grow c.self.inside.free.items c.self.inside.stages adds.added (width_after (length c.self.inside.stages))
+    (λ k d lt. let within = c.self.invariant.within k d lt in omega arith) adds.count
 
 pub invariant_of-self-2 : goal.invariant_of-self-2
 invariant_of-self-2 c =
@@ -66,7 +69,8 @@ invariant_of-self-2 c =
     let all = length-slots_of c.self.inside.free.items c.self.inside.stages in
     let capacity = c.push_range.ensures.capacity in
     let second = c.len-2.type_inv in
-    let kept = grow_kept slots c.self.inside.free.items count (vec_capacity c.self.inside.free) (vec_capacity c.push_range.new.free) c.self.invariant (omega (arith, wide at)) (omega (arith, size at, more at)) in
+    let kept = grow_kept slots c.self.inside.free.items count (vec_capacity c.self.inside.free) (vec_capacity c.push_range.new.free) c.self.invariant
+    (omega (arith, wide at)) (omega (arith, size at, more at)) in
     let behind : c.push_range.new.free.items ≡ c.self.inside.free.items ++ range_with_len (length slots) count = items c ∙ ap (λ n. c.self.inside.free.items ++ range_with_len n count) (sym all) in
     let one = subst (λ (l : List ℕ). IsFree (slots ++ replicate count None) l (vec_capacity c.push_range.new.free)) (sym behind) kept in
     subst (λ (l : List (Option Entry)). IsFree l c.push_range.new.free.items (vec_capacity c.push_range.new.free)) (sym (seen c)) one
@@ -74,8 +78,10 @@ invariant_of-self-2 c =
 pub returns-clause-ok : goal.returns-clause-ok
 returns-clause-ok c =
     let count = width_after (length c.self.inside.stages) in
-    let all : length c.self.inside.stages ≡ length c.args.self.now.slots = sym (length-slots_of c.self.inside.free.items c.self.inside.stages) ∙ ap (λ (s : ArenaState). length s.slots) c.self.view_is in
+    let all : length c.self.inside.stages ≡ length c.args.self.now.slots = sym (length-slots_of c.self.inside.free.items c.self.inside.stages)
+    ∙ ap (λ (s : ArenaState). length s.slots) c.self.view_is in
     let slots = seen c in
     let spare : vec_len c.push_range.new.free ≡ vec_len c.self.inside.free + count =
-    (let whole = ap length (items c) ∙ length-append c.self.inside.free.items (range_with_len (length c.self.inside.stages) count) in let span = length-range_with_len (length c.self.inside.stages) count in let old = c.self.inside.free.ok.0 in let new = c.push_range.new.free.ok.0 in omega arith) in
+    (let whole = ap length (items c) ∙ length-append c.self.inside.free.items (range_with_len (length c.self.inside.stages) count) in
+    let span = length-range_with_len (length c.self.inside.stages) count in let old = c.self.inside.free.ok.0 in let new = c.push_range.new.free.ok.0 in omega arith) in
     (λ i. state (slots i) (spare i)) ∙ (λ i. with_free (width_after (all i)) (c.self.view_is i))

@@ -13,7 +13,8 @@ use Rattle.entry_arena.proofs.arena.Arena.put.Goals as goal
 stacked : (c : After-unwrap-slot) → c.self.inside.free.items ≡ c.pop.new.self.items ++ c.unwrap-slot.result ∷ []
 stacked c = c.pop.ensures.items ∙ ap (λ (o : Option ℕ). c.pop.new.self.items ++ option_to_list o) c.unwrap-slot.ensures
 
-free : (c : After-unwrap-slot) → IsFree (slots_of (c.pop.new.self.items ++ c.unwrap-slot.result ∷ []) c.self.inside.stages) (c.pop.new.self.items ++ c.unwrap-slot.result ∷ []) (vec_capacity c.self.inside.free)
+free : (c : After-unwrap-slot) → IsFree (slots_of (c.pop.new.self.items ++ c.unwrap-slot.result ∷ []) c.self.inside.stages) (c.pop.new.self.items ++ c.unwrap-slot.result ∷ [])
+    (vec_capacity c.self.inside.free)
 free c = subst (λ (l : List ℕ). IsFree (slots_of l c.self.inside.stages) l (vec_capacity c.self.inside.free)) (stacked c) c.self.invariant
 
 pub set-requires : goal.set-requires
@@ -21,9 +22,11 @@ set-requires c =
     let rest = c.pop.new.self.items in
     let slot = c.unwrap-slot.result in
     let slots = slots_of (rest ++ slot ∷ []) c.self.inside.stages in
-    subst (λ n. slot < n) (length-slots_of (rest ++ slot ∷ []) c.self.inside.stages) (slot_within slots rest slot (vec_capacity c.self.inside.free) c.args.entry (free (goal.at.set-requires c).After-unwrap-slot))
+    subst (λ n. slot < n) (length-slots_of (rest ++ slot ∷ []) c.self.inside.stages)
+    (slot_within slots rest slot (vec_capacity c.self.inside.free) c.args.entry (free (goal.at.set-requires c).After-unwrap-slot))
 
-written : (c : goal.After-set) → slots_of c.pop.new.self.items c.set.new.self ≡ set (slots_of (c.pop.new.self.items ++ c.unwrap-slot.result ∷ []) c.self.inside.stages) c.unwrap-slot.result (Some c.args.entry)
+written : (c : goal.After-set) → slots_of c.pop.new.self.items c.set.new.self
+    ≡ set (slots_of (c.pop.new.self.items ++ c.unwrap-slot.result ∷ []) c.self.inside.stages) c.unwrap-slot.result (Some c.args.entry)
 written c =
     let rest = c.pop.new.self.items in
     let slot = c.unwrap-slot.result in
@@ -44,8 +47,12 @@ invariant_of-self c =
 pub returns-clause-rest : goal.returns-clause-rest
 returns-clause-rest c =
     let slot = c.unwrap-slot.result in
-    let seen : slots_of (c.pop.new.self.items ++ slot ∷ []) c.self.inside.stages ≡ c.args.self.now.slots = ap (λ (l : List ℕ). slots_of l c.self.inside.stages) (sym (stacked (goal.at.returns-clause-rest c).After-unwrap-slot)) ∙ ap (λ (s : ArenaState). s.slots) c.self.view_is in
+    let seen : slots_of (c.pop.new.self.items ++ slot ∷ []) c.self.inside.stages
+    ≡ c.args.self.now.slots = ap (λ (l : List ℕ). slots_of l c.self.inside.stages) (sym (stacked (goal.at.returns-clause-rest c).After-unwrap-slot))
+    ∙ ap (λ (s : ArenaState). s.slots) c.self.view_is in
     let slots = written c ∙ ap (λ (l : List (Option Entry)). set l slot (Some c.args.entry)) seen in
     let spare : vec_len c.pop.new.self ≡ c.args.self.now.spare - 1 =
-    (let was : vec_len c.self.inside.free ≡ c.args.self.now.spare = ap (λ (s : ArenaState). s.spare) c.self.view_is in let more = ap length (stacked (goal.at.returns-clause-rest c).After-unwrap-slot) in let size = length_push c.pop.new.self.items slot in let old = c.self.inside.free.ok.0 in let new = c.pop.new.self.ok.0 in omega arith) in
+    (let was : vec_len c.self.inside.free ≡ c.args.self.now.spare = ap (λ (s : ArenaState). s.spare) c.self.view_is in
+    let more = ap length (stacked (goal.at.returns-clause-rest c).After-unwrap-slot) in let size = length_push c.pop.new.self.items slot in
+    let old = c.self.inside.free.ok.0 in let new = c.pop.new.self.ok.0 in omega arith) in
     λ i. state (slots i) (spare i)

@@ -51,5 +51,6 @@ pub returns-clause-rest : goal.returns-clause-rest
 returns-clause-rest c =
     let slots = seen c ∙ ap (λ (s : ArenaState). set s.slots c.args.slot None) c.self.view_is in
     let spare : vec_len c.push_reserved.new.self ≡ c.args.self.now.spare + 1 =
-    (let was : vec_len c.self.inside.free ≡ c.args.self.now.spare = ap (λ (s : ArenaState). s.spare) c.self.view_is in let more = ap length c.push_reserved.ensures.items in let size = length_push c.self.inside.free.items c.args.slot in let old = c.self.inside.free.ok.0 in let new = c.push_reserved.new.self.ok.0 in omega arith) in
+    (let was : vec_len c.self.inside.free ≡ c.args.self.now.spare = ap (λ (s : ArenaState). s.spare) c.self.view_is in let more = ap length c.push_reserved.ensures.items in
+    let size = length_push c.self.inside.free.items c.args.slot in let old = c.self.inside.free.ok.0 in let new = c.push_reserved.new.self.ok.0 in omega arith) in
     λ i. state (slots i) (spare i)

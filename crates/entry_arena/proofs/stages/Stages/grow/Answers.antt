@@ -11,7 +11,8 @@ items_new c = c.push_reserved.ensures.items ∙ ap (λ l. l ++ c.in_ok-stage.sta
 
 wide : (c : goal.After-self-1) → c.next_width-count.result ≡ width_of (length c.self.inside.stages.items)
 wide c =
-    let whole : first_of 0 + length (flat c.self.inside.stages.items) ≡ first_of (length c.self.inside.stages.items) = length_flat 0 (length c.self.inside.stages.items) c.self.inside.stages.items (omega arith) c.self.invariant.widths in
+    let whole : first_of 0 + length (flat c.self.inside.stages.items)
+    ≡ first_of (length c.self.inside.stages.items) = length_flat 0 (length c.self.inside.stages.items) c.self.inside.stages.items (omega arith) c.self.invariant.widths in
     let total : c.self.inside.total ≡ first_of (length c.self.inside.stages.items) = omega (arith, c.self.invariant.counted) in
     c.next_width-count.ensures ∙ ap width_after total ∙ sym (width_by_first (length c.self.inside.stages.items))
 

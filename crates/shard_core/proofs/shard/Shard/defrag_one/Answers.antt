@@ -57,7 +57,8 @@ pub returns-in-Ok-None-clause-makes : goal.returns-in-Ok-None-clause-makes
 returns-in-Ok-None-clause-makes g c =
     let old : ShardView g.row.D.Denot = record { shelf = c.self.inside.shelf; set = c.self.inside.set; sprigs = c.self.inside.sprigs.items } in
     let mid : ShelfView g.row.D.Denot = c.choose_step.new.shelf in
-    subst (λ (v : ShardView g.row.D.Denot). (s : State) → Agrees v s → MakesEvents g.D.Disk.view (IsVacating v s (Ok None)) v s (record { shelf = mid; set = old.set; sprigs = old.sprigs })) c.self.view_is
+    subst (λ (v : ShardView g.row.D.Denot). (s : State) → Agrees v s → MakesEvents g.D.Disk.view (IsVacating v s (Ok None)) v s (record { shelf = mid; set = old.set; sprigs = old.sprigs }))
+    c.self.view_is
     (λ s agrees. gives_none g.D.Disk.view old mid c.choose_step.ensures.rest c.choose_step.result c.choose_step.ensures.makes c.choose_step.ensures.disk.honest c.self.invariant.whole
     s agrees (c.in-Ok-None.is ∙ ap (λ (o : Option ℕ). Ok o) c.in-Ok-None.field-0-is))
 
@@ -82,7 +83,8 @@ invariant_of-self g c =
       whole = whole_over view old mid c.choose_step.ensures.rest c.choose_step.result c.choose_step.ensures.makes c.choose_step.ensures.disk.honest c.self.invariant.whole;
       tallied = c.self.invariant.tallied;
       listed = subst (λ (n : ℕ). most_records (block_capacity mid.geometry.block_size) ≤ n) (sym c.choose_step.ensures.room)
-          (room_stays old (record { shelf = mid; set = old.set; sprigs = old.sprigs }) (shape_over view old mid c.choose_step.ensures.rest c.choose_step.result c.choose_step.ensures.makes c.choose_step.ensures.disk.honest c.self.invariant.whole) _
+          (room_stays old (record { shelf = mid; set = old.set; sprigs = old.sprigs })
+          (shape_over view old mid c.choose_step.ensures.rest c.choose_step.result c.choose_step.ensures.makes c.choose_step.ensures.disk.honest c.self.invariant.whole) _
           c.self.invariant.listed);
     }
 
@@ -95,7 +97,8 @@ invariant_of-self-in-Err g c =
       whole = whole_over view old mid c.choose_step.ensures.rest c.choose_step.result c.choose_step.ensures.makes c.choose_step.ensures.disk.honest c.self.invariant.whole;
       tallied = c.self.invariant.tallied;
       listed = subst (λ (n : ℕ). most_records (block_capacity mid.geometry.block_size) ≤ n) (sym c.choose_step.ensures.room)
-          (room_stays old (record { shelf = mid; set = old.set; sprigs = old.sprigs }) (shape_over view old mid c.choose_step.ensures.rest c.choose_step.result c.choose_step.ensures.makes c.choose_step.ensures.disk.honest c.self.invariant.whole) _
+          (room_stays old (record { shelf = mid; set = old.set; sprigs = old.sprigs })
+          (shape_over view old mid c.choose_step.ensures.rest c.choose_step.result c.choose_step.ensures.makes c.choose_step.ensures.disk.honest c.self.invariant.whole) _
           c.self.invariant.listed);
     }
 
