@@ -1,3 +1,4 @@
 mod arenas;
 mod counters;
+mod devices;
 mod piles;
