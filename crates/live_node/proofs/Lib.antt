@@ -4,3 +4,4 @@ pub mod Opened
 pub mod Trying
 pub mod Several
 pub mod Vacating
+pub mod Sweeping

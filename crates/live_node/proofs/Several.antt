@@ -39,3 +39,11 @@ module _ {D : Type 0} {view : D → DiskView} {o : Opening D} where
     right = subst (IsRight view o u w) (sym (events_joined xs ys)) (right_then view o u v w (placed_events xs) (placed_events ys) first.right then.right);
     turns = turns_then (seen_by u) (seen_by v) (seen_by w) xs ys first.turns then.turns;
   }
+
+  -- some events, behind what entered nothing and before what entered nothing
+  pub shows_between : {u v w x : LiveView D} (xs : List Placed) → IsRight view o u v [] → Shows view o v w xs → IsRight view o w x [] → seen_by x ≡ seen_by w → Shows view o u x xs
+  shows_between {u = u} {v = v} {w = w} {x = x} xs before shows after seen = record {
+    right = subst (IsRight view o u x) (append-nil (placed_events xs))
+        (right_then view o u w x (placed_events xs) [] (right_then view o u v w [] (placed_events xs) before shows.right) after);
+    turns = subst (AreInTurn (seen_by u) xs) (sym seen) (turns_behind (seen_by u) (seen_by v) (seen_by w) xs (seen_begins u v before.seen) shows.turns);
+  }

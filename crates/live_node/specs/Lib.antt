@@ -7,3 +7,4 @@ pub mod Lives
 pub mod Tries
 pub mod Several
 pub mod Vacates
+pub mod Sweeps

@@ -37,7 +37,7 @@ impl<D: Disk> Live<D> {
         ensures pass { Holds self.now (Some part) false pass.new }
         ensures numbers { KeepsNumbers pass.old pass.new }
         ensures found { found_out pass.new ≡ found_out pass.old }
-        ensures once { AnswersBy D.view (opening_at self.now) (view pass.old) (view pass.new) (Is (C.call call.now) (C.answers call.now result)) }
+        ensures once { (by : AnswersBy D.view (opening_at self.now) (view pass.old) (view pass.new) (Is (C.call call.now) (C.answers call.now result))) × (by.past ≡ seen_by (view pass.old)) }
         ensures sprig { PartFits (opening_at self.now) (seen_by (view pass.new)) part sprig.new }
     {
         let before = sprig.tally();
@@ -62,7 +62,7 @@ impl<D: Disk> Live<D> {
         ensures pass { Holds self.now (Some part) false pass.new }
         ensures numbers { KeepsNumbers pass.old pass.new }
         ensures found { found_out pass.new ≡ found_out pass.old }
-        ensures once { AnswersBy D.view (opening_at self.now) (view pass.old) (view pass.new) (Is (C.call call.now) (C.answers call.now answer.now)) }
+        ensures once { (by : AnswersBy D.view (opening_at self.now) (view pass.old) (view pass.new) (Is (C.call call.now) (C.answers call.now answer.now))) × (by.past ≡ seen_by (view pass.old)) }
         ensures sprig { PartFits (opening_at self.now) (seen_by (view pass.new)) part sprig.now }
     {
         let event = Noted::about::<Stepped<D, C, C::Answer>, StepNotes<C>>(&Stepped {

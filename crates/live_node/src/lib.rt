@@ -7,6 +7,7 @@
 
 mod calls;
 mod enter;
+mod expire;
 mod flush;
 mod hub;
 mod live;

@@ -11,8 +11,8 @@ pub returns-clause-once : goal.returns-clause-once
 returns-clause-once g c =
     let gave = c.give_hub in
     let said = (step_noted (view c.args.pass.now) (opening_at c.args.self.now) c.about-event.result c.requires.pass.0.opened c.about-event.ensures).said in
-    (answers_entered g.D.Disk.view (opening_at c.args.self.now) (view c.args.pass.now) (view gave.new.pass) c.about-event.result
-    (Is (g.C.Step.call c.args.call.now) (g.C.Step.answers c.args.call.now c.args.answer.now)) said gave.ensures.pass.1 gave.ensures.seen gave.ensures.pass.0.opened).0
+    answers_entered g.D.Disk.view (opening_at c.args.self.now) (view c.args.pass.now) (view gave.new.pass) c.about-event.result
+    (Is (g.C.Step.call c.args.call.now) (g.C.Step.answers c.args.call.now c.args.answer.now)) said gave.ensures.pass.1 gave.ensures.seen gave.ensures.pass.0.opened
 
 pub returns-clause-sprig : goal.returns-clause-sprig
 returns-clause-sprig g c =
