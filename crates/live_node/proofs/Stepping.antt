@@ -258,7 +258,8 @@ module _ {D : Type 0} {view : D → DiskView} {o : Opening D} {events : List Eve
 -- ---- what is noted of a step
 
 module _ {D : Type 0} {view : D → DiskView} {Said : Event → Type 0} {shelf : ShelfView D} {tally : Tally} (v : LiveView D) (o : Opening D) (n : Noted PartEvent) (opening : v.opening ≡ Some o) where
-  pub step_noted : {part : ℕ} {sprig : SprigState} → IsSomeAnd v.opening (λ o. StepFits view o (seen_by v) Said part shelf tally sprig n.value) → StepFits view o (seen_by v) Said part shelf tally sprig n.value
+  pub step_noted : {part : ℕ} {sprig : SprigState} → IsSomeAnd v.opening (λ o. StepFits view o (seen_by v) Said part shelf tally sprig n.value)
+      → StepFits view o (seen_by v) Said part shelf tally sprig n.value
   step_noted {part = part} {sprig = sprig} noted = for_opening v.opening o (λ o. StepFits view o (seen_by v) Said part shelf tally sprig n.value) opening noted
 
   pub hub_step_noted : IsSomeAnd v.opening (λ o. HubStepFits view o (seen_by v) Said shelf tally n.value) → HubStepFits view o (seen_by v) Said shelf tally n.value

@@ -35,7 +35,8 @@ move_more block xs ys d has = (has.0, Contains-append_left xs ys has.0 has.1, ha
 move_behind : (block : ℕ) (xs ys : List Event) (d : Digest) → HasMove block ys d → HasMove block (xs ++ ys) d
 move_behind block xs ys d has = (has.0, Contains-append_right xs ys has.0 has.1, has.2)
 
-module _ {D : Type 0} (o : Opening D) (block : ℕ) (list : List Digest) (at : ℕ) (d : Digest) (next : take (at + 1) list ≡ take at list ++ d ∷ []) (xs ys : List Event) (n : ℕ) (moved : MovesOut o block (take at list) (Ok n) xs) where
+module _ {D : Type 0} (o : Opening D) (block : ℕ) (list : List Digest) (at : ℕ) (d : Digest) (next : take (at + 1) list ≡ take at list ++ d ∷ [])
+    (xs ys : List Event) (n : ℕ) (moved : MovesOut o block (take at list) (Ok n) xs) where
   -- one more
   pub moves_more : (m : ℕ) (b : Bool) → m ≡ moved_by (happened b) → MovesOne o block d (Ok b) ys → MovesOut o block (take (at + 1) list) (Ok (n + m)) (xs ++ ys)
   moves_more m b is one = (
@@ -53,5 +54,6 @@ pub moves_stop : {D : Type 0} (o : Opening D) (block : ℕ) (digests : List Dige
 moves_stop o block digests xs ys n cause moved one = (xs, one.0, ap (λ (l : List Event). xs ++ l) one.1, moved.0, moved.1, one.2)
 
 -- each digest in a list has its move where all have
-pub has_move : {D : Type 0} (o : Opening D) (block : ℕ) (moves : List Event) (list items : List Digest) → list ≡ items → HaveMoves o block moves list → (d : Digest) → IsOwn o d → Contains items d → HasMove block moves d
+pub has_move : {D : Type 0} (o : Opening D) (block : ℕ) (moves : List Event) (list items : List Digest) → list ≡ items → HaveMoves o block moves list
+    → (d : Digest) → IsOwn o d → Contains items d → HasMove block moves d
 has_move o block moves list items same all d own there = all_at (λ x. IsOwn o x → HasMove block moves x) items d (subst (HaveMoves o block moves) same all) there own

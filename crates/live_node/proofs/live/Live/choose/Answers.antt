@@ -29,7 +29,9 @@ returns-clause-once g c =
     let chose = c.choose_step-answer in
     let gave = c.give_alone.ensures.once in
     let list = seen_by (view took.new.pass) in
-    let all = answers_behind g.D.Disk.view o (view c.args.pass.now) (view took.new.pass) (view c.give_alone.new.pass) (Is choose_call (λ answer. answer ≡ choose_answer chose.result)) took.ensures.right gave.0 in (
+    let all =
+    answers_behind g.D.Disk.view o (view c.args.pass.now) (view took.new.pass) (view c.give_alone.new.pass)
+    (Is choose_call (λ answer. answer ≡ choose_answer chose.result)) took.ensures.right gave.0 in (
       all.0,
       λ was.
           let safe = took.ensures.fits.safe was in
