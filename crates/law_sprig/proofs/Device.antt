@@ -3,7 +3,7 @@ use Rattle.std.proofs.Common.{◌≡◌, ◌≢◌, ◌⊎◌, inl, inr, ⊎_eli
 use Rattle.std.specs.Prelude.{slice_get}
 use Rattle.std.specs.List.{AllByRecursion}
 use Rattle.std.proofs.lemmas.Bool.{or_cases, false≢true}
-use Rattle.std.proofs.lemmas.List.{length-set, map-append}
+use Rattle.std.proofs.lemmas.List.{length-set}
 use Rattle.law_lists.proofs.Places.{set_cases}
 use Rattle.rec_format.specs.declared.version.Digest.{Digest}
 use Rattle.rec_format.specs.Places.{same_digest, digest_before, device_number, with_digest}
@@ -13,8 +13,8 @@ use Rattle.model_device.specs.Steps.{Step, wrote, moved, removed, rid_of, uncove
 use Rattle.model_device.specs.Steps.{raid_given_up, marked_part, scanned_block, compared_part, done_part, after_step, after_steps, moved_state}
 use Rattle.model_device.specs.Events.{Call, put_call, bury_call, delete_call, expire_call, get_call, flush_call, flush_sealed_call, flush_next_call}
 use Rattle.model_device.specs.Events.{choose_call, move_call, begin_call, turn_call, Event, after_event, after_events}
-use Rattle.model_device.specs.Passes.{part_named, Entered, Opening, events_of}
-use Rattle.model_device.specs.Legal.{Allowed, Follows, IsLegal, last_faults}
+use Rattle.model_device.specs.Passes.{part_named}
+use Rattle.model_device.specs.Legal.{Allowed}
 use Rattle.rec_format.proofs.Laws.{same_digest_is}
 use Rattle.sprig_tree.specs.State.{SprigState}
 use Rattle.law_sprig.specs.Fits.{FitsPart}
@@ -133,28 +133,3 @@ module _ (setup : Setup) (told : Bool) (s : State) (event : Event) (sprigs : Lis
 pub after_more : (setup : Setup) (events : List Event) (e : Event) (s : State) → after_events setup (events ++ e ∷ []) s ≡ after_event setup e (after_events setup events s)
 after_more setup [] e s = refl
 after_more setup (x ∷ events) e s = after_more setup events e (after_event setup x s)
-
--- the last event of a legal list follows those before it
-pub last_follows : (setup : Setup) (told : Bool) (events : List Event) (e : Event) (s : State) (faults : ℕ) → IsLegal setup told s faults (events ++ e ∷ [])
-    → Follows setup told (after_events setup events s) (last_faults faults events) e
-last_follows setup told [] e s faults legal = legal.0
-last_follows setup told (x ∷ events) e s faults legal = last_follows setup told events e (after_event setup x s) x.faults_after legal.1
-
--- A part that fits a list fits it with a further event that may follow and doesn't name it.
-pub fits_longer : (setup : Setup) (part : ℕ) (told : Bool) (s : State) (faults : ℕ) (events : List Event) (e : Event) (sprig : SprigState) → IsLegal setup told s faults (events ++ e ∷ [])
-    → part_named setup e.call ≢ Some part
-    → FitsPart setup part sprig (after_events setup events s) → FitsPart setup part sprig (after_events setup (events ++ e ∷ []) s)
-fits_longer setup part told s faults events e sprig legal apart fits =
-    subst (FitsPart setup part sprig) (sym (after_more setup events e s))
-    (fits_on setup part told (after_events setup events s) e sprig apart (last_follows setup told events e s faults legal).allowed fits)
-
--- The same of the lists that passes see: a part that fits the state after a list fits it after a further event.
-pub fits_entered : (opening : Opening) (part : ℕ) (list : List Entered) (e : Entered) (sprig : SprigState)
-    → IsLegal opening.setup opening.told opening.state opening.faults (events_of (list ++ e ∷ []))
-    → part_named opening.setup e.event.call ≢ Some part → FitsPart opening.setup part sprig (after_events opening.setup (events_of list) opening.state)
-    → FitsPart opening.setup part sprig (after_events opening.setup (events_of (list ++ e ∷ [])) opening.state)
-fits_entered opening part list e sprig legal apart fits =
-    let longer = map-append (λ (x : Entered). x.event) list (e ∷ []) in
-    subst (λ (l : List Event). FitsPart opening.setup part sprig (after_events opening.setup l opening.state)) (sym longer)
-    (fits_longer opening.setup part opening.told opening.state opening.faults (events_of list) e.event sprig
-    (subst (IsLegal opening.setup opening.told opening.state opening.faults) longer legal) apart fits)
