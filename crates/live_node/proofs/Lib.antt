@@ -5,3 +5,4 @@ pub mod Trying
 pub mod Several
 pub mod Vacating
 pub mod Sweeping
+pub mod Turning

@@ -108,17 +108,24 @@ module _ {D : Type 0} (view : D → DiskView) (o : Opening D) where
     refl,
   )
 
-  -- a call of one event, behind what entered nothing and before what entered nothing
+  -- a call of one event, behind what entered nothing and before what entered nothing, with its place in the list
+  pub answers_placed : (u v w x : LiveView D) (Said : Event → Type 0) → IsRight view o u v [] → (by : AnswersBy view o v w Said) → IsRight view o w x [] → seen_by x ≡ seen_by w
+      → (all : AnswersBy view o u x Said) × (all.past ≡ by.past)
+  answers_placed u v w x Said before by after seen = (
+    record {
+      past = by.past;
+      event = by.event;
+      said = by.said;
+      begins = prefix_on (seen_by u) (seen_by v) by.past (seen_begins u v before.seen) by.begins;
+      last = seen ∙ by.last;
+      right = right_then u w x (by.event ∷ []) [] (right_then u v w [] (by.event ∷ []) before by.right) after;
+    },
+    refl,
+  )
+
   pub answers_between : (u v w x : LiveView D) (Said : Event → Type 0) → IsRight view o u v [] → AnswersBy view o v w Said → IsRight view o w x [] → seen_by x ≡ seen_by w
       → AnswersBy view o u x Said
-  answers_between u v w x Said before by after seen = record {
-    past = by.past;
-    event = by.event;
-    said = by.said;
-    begins = prefix_on (seen_by u) (seen_by v) by.past (seen_begins u v before.seen) by.begins;
-    last = seen ∙ by.last;
-    right = right_then u w x (by.event ∷ []) [] (right_then u v w [] (by.event ∷ []) before by.right) after;
-  }
+  answers_between u v w x Said before by after seen = (answers_placed u v w x Said before by after seen).0
 
   -- so one behind what entered nothing
   pub answers_behind : (u v w : LiveView D) (Said : Event → Type 0) → IsRight view o u v [] → (by : AnswersBy view o v w Said) → (all : AnswersBy view o u w Said) × (all.past ≡ by.past)

@@ -8,3 +8,4 @@ pub mod Tries
 pub mod Several
 pub mod Vacates
 pub mod Sweeps
+pub mod Turns

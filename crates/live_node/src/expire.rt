@@ -11,6 +11,7 @@ ghost use Rattle.live_node.specs.Fits.{PartFits};
 ghost use Rattle.live_node.specs.Calls.{seen_by, AnswersOnce, IsRight};
 ghost use Rattle.live_node.specs.Lives.{opening_at, Holds, IsPassAt};
 ghost use Rattle.live_node.specs.Sweeps.{left_behind, Sweeps};
+ghost use Rattle.live_node.specs.Turns.{ExpiresNext};
 
 use crate::live::Live;
 use crate::machine::LivePass;
@@ -80,6 +81,54 @@ impl<D: Disk> Live<D> {
         let answer = self.sweep(alloc, rt, pass, &mut sprig, part, now);
         self.give_part(pass, sprig, part);
         answer
+    }
+
+    /// Removes the first entry of a part that is expired at `now`, in milliseconds, in digest order. That is one event of the device; it
+    /// answers false where none is expired, and there is no event then.
+    pub fn expire_next<R: Wait>(
+        &self,
+        alloc: Global,
+        rt: &R,
+        pass: &mut LivePass<D>,
+        part: u32,
+        now: u64,
+    ) -> Result<bool, WriteRefusal>
+        requires pass { IsPassAt self.now pass.old }
+        requires part { part < part_total (setup_at (opening_at self.now)) }
+        requires now { now ≤ 2 ^ 61 }
+        ensures pass { IsPassAt self.now pass.new }
+        ensures numbers { KeepsNumbers pass.old pass.new }
+        ensures expires { ExpiresNext D.view (opening_at self.now) (view pass.old) (view pass.new) part now result }
+    {
+        let mut sprig = self.take_part(rt, pass, part);
+        let answer = self.expire_first(alloc, rt, pass, &mut sprig, part, now);
+        self.give_part(pass, sprig, part);
+        answer
+    }
+
+    // Removes the first entry that is expired in the part that the pass holds, if there is one.
+    fn expire_first<R: Wait>(
+        &self,
+        alloc: Global,
+        rt: &R,
+        pass: &mut LivePass<D>,
+        sprig: &mut Sprig,
+        part: u32,
+        now: u64,
+    ) -> Result<bool, WriteRefusal>
+        requires pass { Holds self.now (Some part) false pass.old }
+        requires here { IsRight D.view (opening_at self.now) (view pass.old) (view pass.old) [] }
+        requires fits { PartFits (opening_at self.now) (seen_by (view pass.old)) part sprig.old }
+        requires now { now ≤ 2 ^ 61 }
+        ensures pass { Holds self.now (Some part) false pass.new }
+        ensures numbers { KeepsNumbers pass.old pass.new }
+        ensures fits { PartFits (opening_at self.now) (seen_by (view pass.new)) part sprig.new }
+        ensures expires { ExpiresNext D.view (opening_at self.now) (view pass.old) (view pass.new) part now result }
+    {
+        match next_expired(sprig, None, now) {
+            Some(digest) => self.expire(alloc, rt, pass, sprig, part, None, &digest, now),
+            None => Ok(false),
+        }
     }
 
     // Removes what is expired in the part that the pass holds.

@@ -4,6 +4,7 @@ ghost use Rattle.model_device.specs.Events.{Event};
 ghost use Rattle.shard_core.specs.Numbers.{counts_of};
 ghost use Rattle.live_node.specs.Opening.{Opening, IsOpening, state_at};
 ghost use Rattle.live_node.specs.Fits.{HubFits};
+ghost use Rattle.live_node.specs.Turns.{can_vacate};
 
 use block_shelf::Shelf;
 use disk_model::Disk;
@@ -29,5 +30,15 @@ impl<D: Disk> Hub<D> {
             covered: self.tally.covered,
             ..self.shelf.counts()
         }
+    }
+
+    // Whether a block is queued, and to vacate it gains room.
+    pub(crate) fn can_vacate(&self) -> bool
+        ensures { (o : Opening D) (events : List Event) → HubFits D.view o events self.now.shelf self.now.tally → result ≡ can_vacate (state_at o events) }
+    {
+        if self.shelf.counts().queued == 0 {
+            return false;
+        }
+        self.shelf.can_gain()
     }
 }

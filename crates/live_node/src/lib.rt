@@ -6,6 +6,7 @@
 #![tactic(auto)]
 
 mod calls;
+mod choose;
 mod enter;
 mod expire;
 mod flush;

@@ -51,7 +51,7 @@ impl<D: Disk> Live<D> {
     {
         let hub = self.take_hub(rt, pass);
         let counts = hub.counts();
-        self.table.give_hub_back(pass, hub);
+        self.give_back(pass, hub);
         counts
     }
 

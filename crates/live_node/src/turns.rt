@@ -55,6 +55,18 @@ impl<D: Disk> Live<D> {
         self.table.take_hub(rt, pass)
     }
 
+    // Gives the hub back with no event.
+    pub(crate) fn give_back(&self, pass: &mut LivePass<D>, hub: Hub<D>)
+        requires pass { Holds self.now None true pass.old }
+        requires fits { HubFits D.view (opening_at self.now) (seen_by (view pass.old)) hub.shelf hub.tally }
+        ensures pass { IsPassAt self.now pass.new }
+        ensures numbers { KeepsNumbers pass.old pass.new }
+        ensures right { IsRight D.view (opening_at self.now) (view pass.old) (view pass.new) [] }
+        ensures seen { seen_by (view pass.new) ≡ seen_by (view pass.old) }
+    {
+        self.table.give_hub_back(pass, hub);
+    }
+
     // Gives back the sprig of the part that the pass holds.
     pub(crate) fn give_part(&self, pass: &mut LivePass<D>, sprig: Sprig, part: u32)
         requires pass { Holds self.now (Some part) false pass.old }

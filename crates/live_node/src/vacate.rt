@@ -1,23 +1,22 @@
 // How a block is vacated at the table: it is chosen, and its records are moved, one after another, each by an event of its own.
-ghost use Rattle.std.specs.Prelude.{◌≡◌, ◌<◌, ◌≤◌, ◌^◌, List, [], length, vec_capacity, IfOk, IfSome, MatchBool};
-ghost use Rattle.model_device.specs.Events.{choose_call, happened};
-ghost use Rattle.model_device.specs.Vacating.{can_gain, moved_by};
-ghost use Rattle.block_shelf.specs.Vacating.{ListsLive};
-ghost use Rattle.defrag_pass.specs.Choosing.{choose_answer};
+ghost use Rattle.std.specs.Prelude.{◌≡◌, ◌<◌, ◌≤◌, ◌^◌, List, [], length, vec_capacity, IfOk, MatchBool};
+ghost use Rattle.model_device.specs.Events.{happened};
+ghost use Rattle.model_device.specs.Vacating.{moved_by};
 ghost use Rattle.shard_core.specs.Vacating.{move_cause, vacate_cause};
 ghost use Rattle.turn_table.specs.Passes.{view, KeepsNumbers};
-ghost use Rattle.live_node.specs.Opening.{IsOwn, WasSafe, state_at};
-ghost use Rattle.live_node.specs.Calls.{seen_by, AnswersOnce, IsRight};
+ghost use Rattle.live_node.specs.Opening.{IsOwn};
+ghost use Rattle.live_node.specs.Calls.{IsRight};
 ghost use Rattle.live_node.specs.Lives.{opening_at, IsPassAt};
 ghost use Rattle.live_node.specs.Several.{Placed, placed_events, Shows};
 ghost use Rattle.live_node.specs.Vacates.{HasListRoom, MovesOne, MovesOut, Defrags, TendsSo};
+ghost use Rattle.live_node.specs.Turns.{MovesRecord};
 
 use crate::live::Live;
 use crate::machine::LivePass;
-use crate::steps::{HubCall, Step};
+use crate::steps::Step;
 use block_format::{capacity, most_records};
 use block_shelf::{Shelf, VacateRefusal};
-use defrag_pass::{MoveRefusal, choose_step, move_one};
+use defrag_pass::{MoveRefusal, move_one};
 use disk_model::Disk;
 use partition_map::device_of;
 use rec_format::{Digest, NoMemory};
@@ -63,26 +62,6 @@ impl<'a, D: Disk> Step<D> for Move<'a> {
     ghost named = { λ c setup. refl };
 }
 
-// The block that has waited longest is chosen.
-#[derive(Drop)]
-struct Choice;
-
-impl HubCall for Choice {
-    ghost use Rattle.std.specs.Prelude.{◌≡◌, refl};
-    ghost use Rattle.model_device.specs.Events.{choose_call};
-    ghost use Rattle.defrag_pass.specs.Choosing.{choose_answer};
-
-    type Answer = Result<Option<u32>, VacateRefusal>;
-
-    ghost call = { λ c. choose_call };
-
-    ghost answers = { λ c result answer. answer ≡ choose_answer result };
-
-    ghost named = { λ c setup. refl };
-
-    ghost own = { λ c setup. tt };
-}
-
 impl<D: Disk> Live<D> {
     /// An empty list with room for the digests of the most records that a block of the device can have, to be lent to `defrag_one` and `tend`.
     pub fn digest_list(&self, alloc: Global) -> Result<Vec<Digest>, NoMemory>
@@ -90,6 +69,33 @@ impl<D: Disk> Live<D> {
     {
         let most = most_records(capacity(self.geometry.block_size));
         Vec::with_capacity(alloc, most as usize)
+    }
+
+    /// Moves the record of a digest of the device out of a block, and answers whether it lay there; where it has left the block, or was
+    /// written over, nothing is moved. It is one event of the device.
+    pub fn move_record<R: Wait>(
+        &self,
+        alloc: Global,
+        rt: &R,
+        pass: &mut LivePass<D>,
+        digest: &Digest,
+        block: u32,
+    ) -> Result<bool, MoveRefusal>
+        requires pass { IsPassAt self.now pass.old }
+        requires own { IsOwn (opening_at self.now) digest.now }
+        ensures pass { IsPassAt self.now pass.new }
+        ensures numbers { KeepsNumbers pass.old pass.new }
+        ensures moves { MovesRecord D.view (opening_at self.now) (view pass.old) (view pass.new) digest.now block result }
+    {
+        let part = self.part_of(digest);
+        self.turn(alloc, rt, pass, part, &Move { digest, block })
+    }
+
+    /// Whether the digest is one of the device.
+    pub fn is_own(&self, digest: &Digest) -> bool
+        ensures { MatchBool result (IsOwn (opening_at self.now) digest.now) (IsOwn (opening_at self.now) digest.now → ⊥) }
+    {
+        device_of(digest, self.geometry.devices) == self.geometry.device
     }
 
     /// Vacates the block that has waited longest, as `Shard::defrag_one` does, and answers it and how many records were moved; none where no
@@ -146,28 +152,6 @@ impl<D: Disk> Live<D> {
 }
 
 impl<D: Disk> Live<D> {
-    // Chooses the block that has waited longest, if one waits, and lists the digests of its records. It is one event of the device.
-    fn choose<R: Wait>(
-        &self,
-        rt: &R,
-        pass: &mut LivePass<D>,
-        list: &mut Vec<Digest>,
-    ) -> Result<Option<u32>, VacateRefusal>
-        requires pass { IsPassAt self.now pass.old }
-        requires room { HasListRoom (opening_at self.now) (vec_capacity list.old) }
-        ensures pass { IsPassAt self.now pass.new }
-        ensures numbers { KeepsNumbers pass.old pass.new }
-        ensures room { vec_capacity list.new ≡ vec_capacity list.old }
-        ensures few { length list.new.items < 2 ^ 32 }
-        ensures once { (by : AnswersOnce D.view (opening_at self.now) (view pass.old) (view pass.new) choose_call (choose_answer result))
-            × (WasSafe D.view (opening_at self.now) → IfOk result (λ chosen. IfSome chosen (λ block. ListsLive (state_at (opening_at self.now) by.past).book block list.new.items))) }
-    {
-        let mut hub = self.take_hub(rt, pass);
-        let answer = choose_step(&mut hub.shelf, list);
-        self.give_alone(pass, hub, &Choice, &answer);
-        answer
-    }
-
     // Moves the records of the device's digests in the list out of the block. Others may have moved them, or written over them, in between.
     fn move_listed<R: Wait>(
         &self,
@@ -212,32 +196,10 @@ impl<D: Disk> Live<D> {
         if !self.is_own(digest) {
             return Ok(false);
         }
-        let part = self.part_of(digest);
-        match self.turn(alloc, rt, pass, part, &Move { digest, block }) {
+        match self.move_record(alloc, rt, pass, digest, block) {
             Ok(was_there) => Ok(was_there),
             Err(refusal) => Err(cause_of(refusal)),
         }
-    }
-
-    // Whether the digest is one of the device.
-    fn is_own(&self, digest: &Digest) -> bool
-        ensures { MatchBool result (IsOwn (opening_at self.now) digest.now) (IsOwn (opening_at self.now) digest.now → ⊥) }
-    {
-        device_of(digest, self.geometry.devices) == self.geometry.device
-    }
-
-    // Whether a block is to be vacated, if one is queued. It is no event.
-    fn can_gain<R: Wait>(&self, rt: &R, pass: &mut LivePass<D>) -> bool
-        requires pass { IsPassAt self.now pass.old }
-        ensures pass { IsPassAt self.now pass.new }
-        ensures numbers { KeepsNumbers pass.old pass.new }
-        ensures right { IsRight D.view (opening_at self.now) (view pass.old) (view pass.new) [] }
-        ensures answer { result ≡ can_gain (state_at (opening_at self.now) (seen_by (view pass.new))).book }
-    {
-        let hub = self.take_hub(rt, pass);
-        let gains = hub.shelf.can_gain();
-        self.table.give_hub_back(pass, hub);
-        gains
     }
 }
 

@@ -1,22 +1,19 @@
-use Rattle.std.proofs.Common.{◌≡◌, List, [], sym, ap, subst}
+use Rattle.std.proofs.Common.{◌≡◌, List, [], sym, subst}
 use Rattle.model_device.specs.Events.{Event}
 use Rattle.shard_core.specs.Numbers.{counts_of}
 use Rattle.turn_table.specs.Passes.{view}
 use Rattle.live_node.specs.Opening.{state_at}
 use Rattle.live_node.specs.Calls.{seen_by}
 use Rattle.live_node.specs.Lives.{opening_at}
-use Rattle.live_node.proofs.Right.{right_still, right_then}
+use Rattle.live_node.proofs.Right.{right_then}
 use Rattle.live_node.proofs.live.Live.counts.Goals as goal
 
 pub returns-clause-right : goal.returns-clause-right
 returns-clause-right g c =
-    let o = opening_at c.args.self.now in
-    let v1 = view c.take_hub-hub.new.pass in let v2 = view c.give_hub_back.new.pass in
-    right_then g.D.Disk.view o (view c.args.pass.now) v1 v2 [] [] c.take_hub-hub.ensures.right
-    (right_still g.D.Disk.view o v1 v2 c.give_hub_back.ensures.seen c.give_hub_back.ensures.pass.0.opened (ap (λ v. v.mine) c.give_hub_back.ensures.pass.1))
+    right_then g.D.Disk.view (opening_at c.args.self.now) (view c.args.pass.now) (view c.take_hub-hub.new.pass) (view c.give_back.new.pass) [] [] c.take_hub-hub.ensures.right c.give_back.ensures.right
 
 pub returns-clause-answer : goal.returns-clause-answer
 returns-clause-answer g c =
     let o = opening_at c.args.self.now in
-    subst (λ (l : List Event). c.counts-counts.result ≡ counts_of (state_at o l)) (sym (ap seen_by c.give_hub_back.ensures.pass.1))
+    subst (λ (l : List Event). c.counts-counts.result ≡ counts_of (state_at o l)) (sym c.give_back.ensures.seen)
     (c.counts-counts.ensures o (seen_by (view c.take_hub-hub.new.pass)) c.take_hub-hub.ensures.fits c.args.self.now.over.opening)

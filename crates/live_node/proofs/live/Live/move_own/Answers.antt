@@ -8,7 +8,7 @@ returns-then-not-is_own-clause-moves g c = ([], shows_none c.requires.here, (tt,
 
 pub returns-in-Ok-clause-moves : goal.returns-in-Ok-clause-moves
 returns-in-Ok-clause-moves g c =
-    let by = c.in-Ok.ensures.once in
+    let by = c.in-Ok.ensures.moves.once in
     let there = c.in-Ok.was_there in (
       record { past = by.past; event = by.event } ∷ [],
       shows_one by,
@@ -21,7 +21,7 @@ returns-in-Ok-clause-moves g c =
 
 pub returns-in-Err-clause-moves : goal.returns-in-Err-clause-moves
 returns-in-Err-clause-moves g c =
-    let by = c.in-Err.ensures.once in (
+    let by = c.in-Err.ensures.moves.once in (
       record { past = by.past; event = by.event } ∷ [],
       shows_one by,
       (by.event, refl, (c.args.digest.now, c.in-Err.refusal, c.cause_of.ensures, record { is_call = by.said.is_call; answered = by.said.answered })),

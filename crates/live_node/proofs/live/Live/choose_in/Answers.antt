@@ -1,0 +1,31 @@
+use Rattle.std.proofs.Common.{refl, ap, sym, subst}
+use Rattle.std.specs.Prelude.{List, IfOk, ◌≡◌}
+use Rattle.model_device.specs.Events.{choose_call}
+use Rattle.model_device.specs.Legal.{queue_front}
+use Rattle.defrag_pass.specs.Choosing.{choose_answer}
+use Rattle.turn_table.specs.Passes.{view}
+use Rattle.live_node.specs.Opening.{setup_at, state_at}
+use Rattle.live_node.specs.Calls.{seen_by}
+use Rattle.live_node.specs.Lives.{opening_at}
+use Rattle.live_node.proofs.Stepping.{fits_alone, is_setup, hub_step_fits}
+use Rattle.live_node.proofs.live.Live.choose_in.Goals as goal
+
+pub give_alone-requires-clause-made : goal.give_alone-requires-clause-made
+give_alone-requires-clause-made g c =
+    let o = opening_at c.args.self.now in
+    let chose = c.choose_step-answer in
+    let hub = c.requires.hub in
+    let fits = fits_alone c.args.self.now.over hub in
+    hub_step_fits fits choose_call (λ answer. answer ≡ choose_answer chose.result) chose.new.shelf refl tt
+    (ap (λ x. x.geometry) chose.ensures.rest, ap (λ x. x.limits) chose.ensures.rest) chose.ensures.disk.honest
+    (choose_answer chose.result, refl, chose.ensures.makes (setup_at o) (state_at o (seen_by (view c.args.pass.now))) (is_setup fits) hub.stands)
+
+pub returns-clause-chosen : goal.returns-clause-chosen
+returns-clause-chosen g c =
+    subst (λ (queue : List _). IfOk c.choose_step-answer.result (λ chosen. chosen ≡ queue_front queue)) (sym c.requires.hub.stands.queue.same) c.choose_step-answer.ensures.first
+
+pub returns-clause-lists : goal.returns-clause-lists
+returns-clause-lists g c was =
+    let o = opening_at c.args.self.now in
+    let safe = c.requires.hub.safe was in
+    c.choose_step-answer.ensures.all (setup_at o) (state_at o (seen_by (view c.args.pass.now))) safe.honest c.requires.hub.stands safe.safe.safe
