@@ -6,3 +6,5 @@ pub mod Several
 pub mod Vacating
 pub mod Sweeping
 pub mod Turning
+pub mod Committing
+pub mod Raiding

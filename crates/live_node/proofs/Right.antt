@@ -4,16 +4,17 @@ use Rattle.std.proofs.lemmas.List.{map-append, append-nil}
 use mathlib.Core.List.{IsPrefix}
 use Rattle.std.specs.Prelude.{IsSomeAnd}
 use Rattle.disk_model.specs.Disk.{DiskView}
-use Rattle.model_device.specs.Events.{Event}
+use Rattle.model_device.specs.Book.{Setup}
+use Rattle.model_device.specs.Events.{Event, after_event, after_events}
 use Rattle.model_device.specs.Device.{State}
-use Rattle.model_device.specs.Legal.{IsLegal, Follows, last_faults}
+use Rattle.model_device.specs.Legal.{IsLegal, Follows, Allowed, last_faults}
 use Rattle.turn_table.specs.declared.noted.Noted.{Noted}
 use Rattle.turn_table.specs.declared.rule.Entry.{Entry}
 use Rattle.turn_table.specs.Legal.{IsLegalAfter}
 use Rattle.turn_table.specs.Rule.{entry, events}
 use Rattle.turn_table.specs.Plays.{SeesMore, with_event}
 use Rattle.turn_table.proofs.Histories.{begins_on}
-use Rattle.live_node.specs.Opening.{Opening, setup_at, state_at, faults_at}
+use Rattle.live_node.specs.Opening.{Opening, setup_at, state_at, faults_at, WasSafe}
 use Rattle.live_node.specs.Fits.{PartEvent, MayFollow}
 use Rattle.live_node.specs.Notes.{event_in, events_in, NoteFollows}
 use Rattle.live_node.specs.Laws.{events_more, state_more}
@@ -108,10 +109,10 @@ module _ {D : Type 0} (view : D → DiskView) (o : Opening D) where
     refl,
   )
 
-  -- a call of one event, behind what entered nothing and before what entered nothing, with its place in the list
-  pub answers_placed : (u v w x : LiveView D) (Said : Event → Type 0) → IsRight view o u v [] → (by : AnswersBy view o v w Said) → IsRight view o w x [] → seen_by x ≡ seen_by w
+  -- a call of one event, behind what entered nothing and before what entered nothing
+  pub answers_between : (u v w x : LiveView D) (Said : Event → Type 0) → IsRight view o u v [] → (by : AnswersBy view o v w Said) → IsRight view o w x [] → seen_by x ≡ seen_by w
       → (all : AnswersBy view o u x Said) × (all.past ≡ by.past)
-  answers_placed u v w x Said before by after seen = (
+  answers_between u v w x Said before by after seen = (
     record {
       past = by.past;
       event = by.event;
@@ -122,10 +123,6 @@ module _ {D : Type 0} (view : D → DiskView) (o : Opening D) where
     },
     refl,
   )
-
-  pub answers_between : (u v w x : LiveView D) (Said : Event → Type 0) → IsRight view o u v [] → AnswersBy view o v w Said → IsRight view o w x [] → seen_by x ≡ seen_by w
-      → AnswersBy view o u x Said
-  answers_between u v w x Said before by after seen = (answers_placed u v w x Said before by after seen).0
 
   -- so one behind what entered nothing
   pub answers_behind : (u v w : LiveView D) (Said : Event → Type 0) → IsRight view o u v [] → (by : AnswersBy view o v w Said) → (all : AnswersBy view o u w Said) × (all.past ≡ by.past)
@@ -140,3 +137,24 @@ module _ {D : Type 0} (view : D → DiskView) (o : Opening D) where
     },
     refl,
   )
+
+-- ---- the last event of a legal list
+
+legal_last : (setup : Setup) (told : Bool) (s : State) (faults : ℕ) (xs : List Event) (e : Event) → IsLegal setup told s faults (xs ++ e ∷ []) → Follows setup told (after_events setup xs s) (last_faults faults xs) e
+legal_last setup told s faults [] e legal = legal.0
+legal_last setup told s faults (x ∷ xs) e legal = legal_last setup told (after_event setup x s) x.faults_after xs e legal.1
+
+-- what a list shows of the event behind a beginning of it
+pub allowed_at : {D : Type 0} (view : D → DiskView) (o : Opening D) (past : List Event) (event : Event) → IsLegalFrom view o (past ++ event ∷ [])
+    → Allowed (setup_at o) false (state_at o past) event event.call
+allowed_at view o past event legal = (legal_last (setup_at o) false o.state (view o.shelf.disk).faults past event legal.any).allowed
+
+module _ {D : Type 0} {view : D → DiskView} {o : Opening D} {v w : LiveView D} {Said : Event → Type 0} (by : AnswersBy view o v w Said) where
+  legal_here : IsLegalFrom view o (by.past ++ by.event ∷ [])
+  legal_here = subst (IsLegalFrom view o) by.last by.right.legal
+
+  pub allowed_in : Allowed (setup_at o) false (state_at o by.past) by.event by.event.call
+  allowed_in = allowed_at view o by.past by.event legal_here
+
+  pub allowed_told : WasSafe view o → Allowed (setup_at o) true (state_at o by.past) by.event by.event.call
+  allowed_told was = (legal_last (setup_at o) true o.state (view o.shelf.disk).faults by.past by.event (legal_here.told was)).allowed

@@ -17,7 +17,8 @@ use Rattle.sprig_tree.specs.Tallies.{tally_of, joined, parted}
 use Rattle.law_sprig.specs.Fits.{FitsPart}
 use Rattle.law_sprig.specs.Parts.{FitsParts, NamesOwn}
 use Rattle.law_sprig.proofs.Counting.{puts_sum, tombstones_sum, covered_sum}
-use Rattle.law_sprig.proofs.Device.{parts_become, parts_fit_on}
+use Rattle.law_sprig.proofs.Device.{own_stay, parts_become}
+use Rattle.law_sprig.proofs.Events.{fits_on}
 use Rattle.block_format.specs.declared.geometry.Geometry.{Geometry}
 use Rattle.block_shelf.specs.View.{ShelfView, IsSetupOf}
 use Rattle.law_steps.specs.Sprigs.{HasTimes}
@@ -32,8 +33,8 @@ use Rattle.shard_core.proofs.Making.{setup_fits}
 use Rattle.shard_core.proofs.Tallies.{tally_behind}
 use Rattle.turn_table.specs.declared.noted.Noted.{Noted}
 use Rattle.live_node.specs.Opening.{Opening, IsOpening, IsTableOf, setup_at, state_at, WasSafe}
-use Rattle.live_node.specs.Fits.{PartEvent, MayFollow, PartFits, IsTallied, IsSafeSince, HubFits, Is, StepFits, HubStepFits}
-use Rattle.live_node.specs.Laws.{state_more}
+use Rattle.live_node.specs.Fits.{PartEvent, MayFollow, PartFits, own_part, IsTallied, IsSafeSince, HubFits, Is, StepFits, HubStepFits}
+use Rattle.live_node.specs.Laws.{state_more, own_there}
 use Rattle.live_node.specs.Calls.{LiveView, seen_by}
 use Rattle.live_node.proofs.Right.{last_more, for_opening}
 
@@ -145,9 +146,9 @@ module _ {D : Type 0} {view : D → DiskView} {o : Opening D} {events : List Eve
     pub later : state_at o (events ++ e ∷ []) ≡ after
     later = state_more o events e
 
-    pub may_follow : (part : Option ℕ) → part_named setup call ≡ part → MayFollow view o events record { part = part; event = e }
+    pub may_follow : (part : Option ℕ) → own_part setup call ≡ part → MayFollow view o events record { part = part; event = e }
     may_follow part named = record {
-      named = sym named ∙ sym (ap (part_named setup) did.is_call);
+      named = sym named ∙ sym (ap (own_part setup) did.is_call);
       follows = subst (λ (n : ℕ). Follows setup false here n e) fits.hub.faults did.follows;
       told = λ was. let safe = fits.hub.safe was in subst (λ (n : ℕ). Follows setup true here n e) fits.hub.faults (did.told safe.honest safe.safe);
     }
@@ -176,11 +177,24 @@ module _ {D : Type 0} {view : D → DiskView} {o : Opening D} {events : List Eve
     is_own : NamesOwn setup e.call
     is_own = subst (NamesOwn setup) (sym did.is_call) own
 
-    -- the counts stay where no part is named
-    pub tallied_still : part_named setup call ≡ None → IsTallied setup tally after
+    -- the sprigs fit on where no part of the device is named
+    parts_stay : own_part setup call ≡ None → FitsParts setup fits.hub.tallied.sprigs after
+    parts_stay none = record {
+      count = fits.hub.tallied.fits.count;
+      each = λ part sprig at.
+          let fit = fits.hub.tallied.fits.each part sprig at in
+          fits_on setup part false here e sprig (λ named. never part (sym none ∙ own_there setup call part fit.exists (sym (ap (part_named setup) did.is_call) ∙ named))) did.follows.allowed fit;
+      own = own_stay setup false here e is_own did.follows.allowed fits.hub.tallied.fits.own;
+    }
+      where
+        never : (part : ℕ) → None ≡ Some part → ⊥
+        never part is = absurd cc
+
+    -- and so the counts stay
+    pub tallied_still : own_part setup call ≡ None → IsTallied setup tally after
     tallied_still named = record {
       sprigs = fits.hub.tallied.sprigs;
-      fits = parts_fit_on setup false here e fits.hub.tallied.sprigs did.follows.allowed is_own fits.hub.tallied.fits (ap (part_named setup) did.is_call ∙ named);
+      fits = parts_stay named;
       times = fits.hub.tallied.times;
       sum = fits.hub.tallied.sum;
     }
@@ -228,19 +242,20 @@ module _ {D : Type 0} {view : D → DiskView} {o : Opening D} {events : List Eve
   step_fits part k call Answered before behind new tally' is_part named own shape honest sprig_fits counts makes =
       let made = step_at part k call Answered before behind new is_part sprig_fits makes in
       let did = made.2 in
-      let is_named = named ∙ ap Some (sym is_part) in (
+      let is_named = named ∙ ap Some (sym is_part) in
+      let is_here = own_there setup call k sprig_fits.fits.exists is_named in (
         record { part = Some k; event = did.event },
         record {
           said = record { is_call = did.is_call; answered = subst Answered (sym did.is_answer) made.1 };
           names = refl;
-          follows = may_follow did own (Some k) is_named;
+          follows = may_follow did own (Some k) is_here;
           hub_fits = hub_then did own tally' shape honest did.stands.shelf_stands (tallied_then did own k before behind tally' is_named sprig_fits did.stands.sprig_stands counts);
           part_fits = subst (SprigStands setup k behind) (sym (later did own)) did.stands.sprig_stands;
         },
       )
 
   -- a step over the hub alone
-  pub hub_step_fits : (call : Call) (Answered : Answer → Type 0) (new : ShelfView D) → part_named setup call ≡ None → NamesOwn setup call → SameShape old new
+  pub hub_step_fits : (call : Call) (Answered : Answer → Type 0) (new : ShelfView D) → own_part setup call ≡ None → NamesOwn setup call → SameShape old new
       → (IsHonest (view old.disk) → IsHonest (view new.disk))
       → ((answer : Answer) × Answered answer × MakesEvent view setup call answer old here new (ShelfStands setup new))
       → (x : PartEvent) × HubStepFits view o events (Is call Answered) new tally x

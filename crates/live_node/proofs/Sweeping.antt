@@ -4,15 +4,13 @@ use Rattle.std.specs.Prelude.{slice_get, filter}
 use Rattle.std.proofs.lemmas.Bool.{both_ways, cond_both}
 use Rattle.std.proofs.lemmas.List.Sums.{sum_by-append, sum_by-cons}
 use Rattle.std.proofs.lemmas.List.{length-map}
-use Rattle.disk_model.specs.Disk.{DiskView}
 use Rattle.rec_format.specs.declared.version.Digest.{Digest}
 use Rattle.rec_format.specs.declared.entry.Entry.{Entry}
 use Rattle.rec_format.specs.Places.{digest_before, same_digest}
 use Rattle.rec_format.proofs.Laws.{same_digest_is}
-use Rattle.model_device.specs.Book.{Setup}
 use Rattle.model_device.specs.Device.{State}
-use Rattle.model_device.specs.Events.{Event, happened, expire_call, after_event, after_events}
-use Rattle.model_device.specs.Legal.{Allowed, Follows, IsLegal, last_faults}
+use Rattle.model_device.specs.Events.{Event, happened, expire_call, after_event}
+use Rattle.model_device.specs.Legal.{Allowed}
 use Rattle.model_device.specs.Passes.{done_by, expired_behind, is_behind}
 use Rattle.expiry_rule.specs.Seen.{is_expired_entry}
 use Rattle.sprig_tree.specs.State.{SprigState}
@@ -22,21 +20,8 @@ use Rattle.shard_core.specs.Expiring.{expired_among}
 use Rattle.live_node.specs.Opening.{Opening, setup_at, state_at}
 use Rattle.live_node.specs.Fits.{PartFits}
 use Rattle.live_node.specs.Laws.{state_more}
-use Rattle.live_node.specs.Calls.{LiveView, AnswersBy}
 use Rattle.live_node.specs.Several.{Placed}
 use Rattle.live_node.specs.Sweeps.{left_behind, AreSwept, removed_count}
-
--- ---- the last event of a legal list
-
-legal_last : (setup : Setup) (told : Bool) (s : State) (faults : ℕ) (xs : List Event) (e : Event) → IsLegal setup told s faults (xs ++ e ∷ []) → Follows setup told (after_events setup xs s) (last_faults faults xs) e
-legal_last setup told s faults [] e legal = legal.0
-legal_last setup told s faults (x ∷ xs) e legal = legal_last setup told (after_event setup x s) x.faults_after xs e legal.1
-
-pub allowed_in : {D : Type 0} {view : D → DiskView} {o : Opening D} {v w : LiveView D} {Said : Event → Type 0} (by : AnswersBy view o v w Said)
-    → Allowed (setup_at o) false (state_at o by.past) by.event by.event.call
-allowed_in {view = view} {o = o} by =
-    let legal = subst (IsLegal (setup_at o) false o.state (view o.shelf.disk).faults) by.last by.right.legal.any in
-    (legal_last (setup_at o) false o.state (view o.shelf.disk).faults by.past by.event legal).allowed
 
 -- ---- what a sprig tells of what is left
 

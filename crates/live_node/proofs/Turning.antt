@@ -24,7 +24,7 @@ use Rattle.live_node.specs.Fits.{Is}
 use Rattle.live_node.specs.Calls.{LiveView, seen_by, AnswersBy, AnswersOnce, IsRight}
 use Rattle.live_node.specs.Sweeps.{left_behind}
 use Rattle.live_node.specs.Turns.{can_vacate, Chooses, ChoosesGaining, ExpiresFirst, ExpiresNext}
-use Rattle.live_node.proofs.Right.{right_then, answers_placed}
+use Rattle.live_node.proofs.Right.{right_then, answers_between}
 use Rattle.live_node.proofs.Sweeping.{allowed_in}
 
 -- ---- a choice
@@ -139,7 +139,7 @@ expires_so part now digest (Err refusal) by first = record { digest = digest; on
 module _ {D : Type 0} {view : D → DiskView} {o : Opening D} (u v w x : LiveView D) (part now : ℕ) (before : IsRight view o u v []) (after : IsRight view o w x []) (seen : seen_by x ≡ seen_by w) where
   first_between : (result : Result Bool WriteRefusal) → ExpiresFirst view o v w part now result → ExpiresFirst view o u x part now result
   first_between result first =
-      let all = answers_placed view o u v w x (Is (expire_call first.digest now) (λ answer. answer ≡ delete_answer result)) before first.once after seen in
+      let all = answers_between view o u v w x (Is (expire_call first.digest now) (λ answer. answer ≡ delete_answer result)) before first.once after seen in
       record { digest = first.digest; once = all.0; first = ap (λ (l : List Event). slice_get (left_behind o part now None l) 0) all.1 ∙ first.first }
 
   pub expires_between : (result : Result Bool WriteRefusal) → ExpiresNext view o v w part now result → ExpiresNext view o u x part now result

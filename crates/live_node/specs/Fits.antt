@@ -1,10 +1,11 @@
 -- Crate live_node. Which hub and which sprigs fit an opening and the events since, and which events may follow.
-use Rattle.std.specs.Prelude.{◌≡◌, ℕ, true, false, List, [], ◌∷◌, ◌++◌, Option, Some, None}
+use Rattle.std.specs.Prelude.{◌≡◌, ℕ, true, false, nat_lt, List, [], ◌∷◌, ◌++◌, Option, Some, None, if◌then◌else◌}
 use Rattle.std.specs.List.{AllByRecursion}
 use Rattle.disk_model.specs.Disk.{DiskView, IsHonest}
 use Rattle.disk_model.specs.Runs.{OneOf, Leaves}
 use Rattle.model_device.specs.Book.{Setup}
 use Rattle.model_device.specs.Device.{State}
+use Rattle.model_device.specs.Steps.{part_total}
 use Rattle.model_device.specs.Events.{Event, Call, Answer, flush_call, counted, states_of}
 use Rattle.model_device.specs.Legal.{Follows}
 use Rattle.model_device.specs.Passes.{part_named}
@@ -21,7 +22,16 @@ use Rattle.live_node.specs.Opening.{Opening, setup_at, state_at, faults_at, WasS
 
 -- ---- events
 
--- an event of the list, with the part that it names
+-- a number, if it is below a limit
+abbrev pub if_below : (limit : ℕ) → Option ℕ → Option ℕ
+if_below limit None = None
+if_below limit (Some k) = if nat_lt k limit then Some k else None
+
+-- the part of the device that a call names; a turn of another device's raid may name one that this device doesn't have
+abbrev pub own_part : Setup → Call → Option ℕ
+own_part setup call = if_below (part_total setup) (part_named setup call)
+
+-- an event of the list, with the part of the device that it names
 pub record PartEvent : Type 0 where
   pub part : Option ℕ
   pub event : Event
@@ -32,7 +42,7 @@ no_event = record { part = None; event = record { call = flush_call; answer = co
 -- The event may come after these: by the definitions of a device over any disk, and over one that tells what it holds where it was honest
 -- and its image sound at the opening.
 pub record MayFollow {D : Type 0} (view : D → DiskView) (o : Opening D) (events : List Event) (e : PartEvent) : Type 0 where
-  pub named : e.part ≡ part_named (setup_at o) e.event.call
+  pub named : e.part ≡ own_part (setup_at o) e.event.call
   pub follows : Follows (setup_at o) false (state_at o events) (faults_at view o events) e.event
   pub told : WasSafe view o → Follows (setup_at o) true (state_at o events) (faults_at view o events) e.event
 

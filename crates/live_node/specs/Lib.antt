@@ -7,5 +7,7 @@ pub mod Lives
 pub mod Tries
 pub mod Several
 pub mod Vacates
+pub mod Commits
 pub mod Sweeps
 pub mod Turns
+pub mod Raids

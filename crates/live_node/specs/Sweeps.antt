@@ -10,6 +10,7 @@ use Rattle.shard_core.specs.Calls.{cause_of_write}
 use Rattle.live_node.specs.Opening.{Opening, setup_at, state_at}
 use Rattle.live_node.specs.Calls.{LiveView, seen_by}
 use Rattle.live_node.specs.Several.{Placed, placed_events, Shows}
+use Rattle.live_node.specs.Commits.{EachCommits}
 
 module _ {D : Type 0} (o : Opening D) (part now : ℕ) where
   -- the digests of the part behind one, or all of them, whose entries are expired in the state after these events
@@ -42,9 +43,11 @@ CountsSweep events (Err refusal) =
     (done : List Event) × (last : Event) × (events ≡ done ++ last ∷ []) × AllByRecursion WasDone done × (refusal.removed ≡ removed_count done)
     × (last.answer ≡ refused (cause_of_write refusal.cause))
 
--- A sweep of a part is an event of the pass for each entry that was expired.
+-- A sweep of a part is an event of the pass for each entry that was expired. With commit on the tombstones that each of them wrote are flushed
+-- in the state after it.
 pub record Sweeps {D : Type 0} (view : D → DiskView) (o : Opening D) (before after : LiveView D) (part now : ℕ) (result : Result ℕ ExpireRefusal) : Type 0 where
   pub list : List Placed
   pub shows : Shows view o before after list
   pub swept : AreSwept o part now (EndsSweep o part now (seen_by after) result) None list
   pub counts : CountsSweep (placed_events list) result
+  pub flushed : EachCommits o list

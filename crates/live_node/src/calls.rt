@@ -1,10 +1,11 @@
 // The calls on one digest: each is one event of the device.
-ghost use Rattle.std.specs.Prelude.{◌≡◌, ◌≤◌, ◌^◌, length};
+ghost use Rattle.std.specs.Prelude.{◌≡◌, ◌≤◌, ◌^◌, length, OnOk};
 ghost use Rattle.model_device.specs.Events.{put_call, bury_call, delete_call, get_call};
 ghost use Rattle.shard_core.specs.Calls.{write_answer, delete_answer, read_answer};
 ghost use Rattle.turn_table.specs.Passes.{view, KeepsNumbers};
 ghost use Rattle.live_node.specs.Opening.{IsOwn};
-ghost use Rattle.live_node.specs.Calls.{AnswersOnce};
+ghost use Rattle.live_node.specs.Calls.{seen_by, AnswersOnce};
+ghost use Rattle.live_node.specs.Commits.{LastIsFlushed, NewestIsFlushed};
 ghost use Rattle.live_node.specs.Lives.{opening_at, IsPassAt};
 
 use crate::live::Live;
@@ -20,7 +21,8 @@ use std::sync::Wait;
 
 impl<D: Disk> Live<D> {
     /// Writes a version of a record, as `Shard::put` does, and answers its stamp. `ttl` is in seconds from `now`, 0 for never; `now` is in
-    /// milliseconds; `expect` is the generation that has to be seen, 0 for no record. It is one event of the device.
+    /// milliseconds; `expect` is the generation that has to be seen, 0 for no record. It is one event of the device; with commit on what it wrote
+    /// is flushed in the state after it.
     pub fn put<R: Wait>(
         &self,
         alloc: Global,
@@ -40,6 +42,7 @@ impl<D: Disk> Live<D> {
         ensures pass { IsPassAt self.now pass.new }
         ensures numbers { KeepsNumbers pass.old pass.new }
         ensures once { AnswersOnce D.view (opening_at self.now) (view pass.old) (view pass.new) (put_call digest.now ttl expect payload.now now) (write_answer result) }
+        ensures flushed { OnOk result (NewestIsFlushed (opening_at self.now) (seen_by (view pass.new)) digest.now) }
     {
         let part = self.part_of(digest);
         let put = Put {
@@ -72,7 +75,8 @@ impl<D: Disk> Live<D> {
         self.turn(alloc, rt, pass, part, &Get { digest, now })
     }
 
-    /// Deletes a record, as `Shard::delete` does, and answers whether one was seen at `now`, in milliseconds. It is one event of the device.
+    /// Deletes a record, as `Shard::delete` does, and answers whether one was seen at `now`, in milliseconds. It is one event of the device; with
+    /// commit on its tombstone, if it wrote one, is flushed in the state after it.
     pub fn delete<R: Wait>(
         &self,
         alloc: Global,
@@ -87,12 +91,14 @@ impl<D: Disk> Live<D> {
         ensures pass { IsPassAt self.now pass.new }
         ensures numbers { KeepsNumbers pass.old pass.new }
         ensures once { AnswersOnce D.view (opening_at self.now) (view pass.old) (view pass.new) (delete_call digest.now now) (delete_answer result) }
+        ensures flushed { OnOk result (LastIsFlushed (opening_at self.now) (seen_by (view pass.new))) }
     {
         let part = self.part_of(digest);
         self.turn(alloc, rt, pass, part, &Delete { digest, now })
     }
 
-    /// Deletes a digest durably, as `Shard::bury` does, and answers the stamp of its tombstone. It is one event of the device.
+    /// Deletes a digest durably, as `Shard::bury` does, and answers the stamp of its tombstone. It is one event of the device; with commit on the
+    /// tombstone is flushed in the state after it.
     pub fn bury<R: Wait>(
         &self,
         alloc: Global,
@@ -107,6 +113,7 @@ impl<D: Disk> Live<D> {
         ensures pass { IsPassAt self.now pass.new }
         ensures numbers { KeepsNumbers pass.old pass.new }
         ensures once { AnswersOnce D.view (opening_at self.now) (view pass.old) (view pass.new) (bury_call digest.now now) (write_answer result) }
+        ensures flushed { OnOk result (NewestIsFlushed (opening_at self.now) (seen_by (view pass.new)) digest.now) }
     {
         let part = self.part_of(digest);
         self.turn(alloc, rt, pass, part, &Bury { digest, now })

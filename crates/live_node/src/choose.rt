@@ -16,7 +16,7 @@ ghost use Rattle.live_node.specs.Turns.{ChoosesGaining};
 use crate::hub::Hub;
 use crate::live::Live;
 use crate::machine::LivePass;
-use crate::steps::HubCall;
+use crate::steps::EventCall;
 use block_shelf::VacateRefusal;
 use defrag_pass::choose_step;
 use disk_model::Disk;
@@ -27,8 +27,8 @@ use std::sync::Wait;
 #[derive(Drop)]
 struct Choice;
 
-impl HubCall for Choice {
-    ghost use Rattle.std.specs.Prelude.{◌≡◌, refl};
+impl EventCall for Choice {
+    ghost use Rattle.std.specs.Prelude.{◌≡◌};
     ghost use Rattle.model_device.specs.Events.{choose_call};
     ghost use Rattle.defrag_pass.specs.Choosing.{choose_answer};
 
@@ -37,10 +37,6 @@ impl HubCall for Choice {
     ghost call = { λ c. choose_call };
 
     ghost answers = { λ c result answer. answer ≡ choose_answer result };
-
-    ghost named = { λ c setup. refl };
-
-    ghost own = { λ c setup. tt };
 }
 
 impl<D: Disk> Live<D> {

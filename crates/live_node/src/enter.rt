@@ -11,7 +11,7 @@ use crate::hub::Hub;
 use crate::live::Live;
 use crate::machine::LivePass;
 use crate::noted::{HubNotes, HubStepped, StepNotes, Stepped};
-use crate::steps::{HubCall, HubStep, Step};
+use crate::steps::{EventCall, HubStep, Step};
 use disk_model::Disk;
 use sprig_tree::Sprig;
 use std::alloc::Global;
@@ -48,7 +48,7 @@ impl<D: Disk> Live<D> {
     }
 
     // Gives the hub back with the event of a step. The pass keeps the part, whose sprig is this.
-    fn give_step<C: Step<D>>(
+    pub(crate) fn give_step<C: EventCall>(
         &self,
         pass: &mut LivePass<D>,
         hub: Hub<D>,
@@ -63,6 +63,7 @@ impl<D: Disk> Live<D> {
         ensures numbers { KeepsNumbers pass.old pass.new }
         ensures found { found_out pass.new ≡ found_out pass.old }
         ensures once { (by : AnswersBy D.view (opening_at self.now) (view pass.old) (view pass.new) (Is (C.call call.now) (C.answers call.now answer.now))) × (by.past ≡ seen_by (view pass.old)) }
+        ensures hub { HubFits D.view (opening_at self.now) (seen_by (view pass.new)) hub.shelf hub.tally }
         ensures sprig { PartFits (opening_at self.now) (seen_by (view pass.new)) part sprig.now }
     {
         let event = Noted::about::<Stepped<D, C, C::Answer>, StepNotes<C>>(&Stepped {
@@ -95,7 +96,7 @@ impl<D: Disk> Live<D> {
     }
 
     // Gives the hub back with the event of a step over it alone.
-    pub(crate) fn give_alone<C: HubCall>(
+    pub(crate) fn give_alone<C: EventCall>(
         &self,
         pass: &mut LivePass<D>,
         hub: Hub<D>,
@@ -107,6 +108,7 @@ impl<D: Disk> Live<D> {
         ensures pass { IsPassAt self.now pass.new }
         ensures numbers { KeepsNumbers pass.old pass.new }
         ensures once { (by : AnswersBy D.view (opening_at self.now) (view pass.old) (view pass.new) (Is (C.call call.now) (C.answers call.now answer.now))) × (by.past ≡ seen_by (view pass.old)) }
+        ensures hub { HubFits D.view (opening_at self.now) (seen_by (view pass.new)) hub.shelf hub.tally }
     {
         let event = Noted::about::<HubStepped<D, C, C::Answer>, HubNotes<C>>(&HubStepped {
             pass: &*pass,

@@ -15,7 +15,7 @@ ghost use Rattle.live_node.specs.Turns.{ExpiresNext};
 
 use crate::live::Live;
 use crate::machine::LivePass;
-use crate::steps::Step;
+use crate::steps::{EventCall, Step};
 use block_shelf::Shelf;
 use disk_model::Disk;
 use rec_format::Digest;
@@ -30,21 +30,25 @@ pub(crate) struct Expire<'a> {
     pub now: u64,
 }
 
-impl<'a, D: Disk> Step<D> for Expire<'a> {
-    ghost use Rattle.std.specs.Prelude.{◌≡◌, ◌≤◌, ◌^◌, refl};
-    ghost use Rattle.model_device.specs.Device.{part_of};
+impl<'a> EventCall for Expire<'a> {
+    ghost use Rattle.std.specs.Prelude.{◌≡◌};
     ghost use Rattle.model_device.specs.Events.{expire_call};
     ghost use Rattle.shard_core.specs.Calls.{delete_answer};
 
     type Answer = Result<bool, WriteRefusal>;
 
-    ghost asks = { λ c. c.now ≤ 2 ^ 61 };
-
     ghost call = { λ c. expire_call c.digest.now c.now };
 
-    ghost part = { λ c setup. part_of setup c.digest.now };
-
     ghost answers = { λ c result answer. answer ≡ delete_answer result };
+}
+
+impl<'a, D: Disk> Step<D> for Expire<'a> {
+    ghost use Rattle.std.specs.Prelude.{◌≤◌, ◌^◌, refl};
+    ghost use Rattle.model_device.specs.Device.{part_of};
+
+    ghost asks = { λ c. c.now ≤ 2 ^ 61 };
+
+    ghost part = { λ c setup. part_of setup c.digest.now };
 
     fn step(
         &self,

@@ -8,7 +8,7 @@ ghost use Rattle.live_node.specs.Lives.{opening_at, IsPassAt};
 
 use crate::live::Live;
 use crate::machine::LivePass;
-use crate::steps::{HubCall, HubStep};
+use crate::steps::{EventCall, HubStep};
 use block_shelf::Shelf;
 use disk_model::{Disk, DiskFault};
 use shard_core::{flush_low, flush_next, flush_shelf};
@@ -26,8 +26,8 @@ struct FlushSealed;
 #[derive(Drop)]
 struct FlushOne;
 
-impl HubCall for FlushAll {
-    ghost use Rattle.std.specs.Prelude.{◌≡◌, refl};
+impl EventCall for FlushAll {
+    ghost use Rattle.std.specs.Prelude.{◌≡◌};
     ghost use Rattle.model_device.specs.Events.{flush_call};
     ghost use Rattle.shard_core.specs.Calls.{flush_answer};
 
@@ -36,14 +36,10 @@ impl HubCall for FlushAll {
     ghost call = { λ c. flush_call };
 
     ghost answers = { λ c result answer. answer ≡ flush_answer result };
-
-    ghost named = { λ c setup. refl };
-
-    ghost own = { λ c setup. tt };
 }
 
-impl HubCall for FlushSealed {
-    ghost use Rattle.std.specs.Prelude.{◌≡◌, refl};
+impl EventCall for FlushSealed {
+    ghost use Rattle.std.specs.Prelude.{◌≡◌};
     ghost use Rattle.model_device.specs.Events.{flush_sealed_call};
     ghost use Rattle.shard_core.specs.Calls.{flush_answer};
 
@@ -52,14 +48,10 @@ impl HubCall for FlushSealed {
     ghost call = { λ c. flush_sealed_call };
 
     ghost answers = { λ c result answer. answer ≡ flush_answer result };
-
-    ghost named = { λ c setup. refl };
-
-    ghost own = { λ c setup. tt };
 }
 
-impl HubCall for FlushOne {
-    ghost use Rattle.std.specs.Prelude.{◌≡◌, refl};
+impl EventCall for FlushOne {
+    ghost use Rattle.std.specs.Prelude.{◌≡◌};
     ghost use Rattle.model_device.specs.Events.{flush_next_call};
     ghost use Rattle.shard_core.specs.Calls.{flush_answer};
 
@@ -68,28 +60,42 @@ impl HubCall for FlushOne {
     ghost call = { λ c. flush_next_call };
 
     ghost answers = { λ c result answer. answer ≡ flush_answer result };
+}
+
+impl<D: Disk> HubStep<D> for FlushAll {
+    ghost use Rattle.std.specs.Prelude.{refl};
+
+    fn step(&self, shelf: &mut Shelf<D>) -> Result<u64, DiskFault> {
+        flush_shelf(shelf)
+    }
 
     ghost named = { λ c setup. refl };
 
     ghost own = { λ c setup. tt };
 }
 
-impl<D: Disk> HubStep<D> for FlushAll {
-    fn step(&self, shelf: &mut Shelf<D>) -> Result<u64, DiskFault> {
-        flush_shelf(shelf)
-    }
-}
-
 impl<D: Disk> HubStep<D> for FlushSealed {
+    ghost use Rattle.std.specs.Prelude.{refl};
+
     fn step(&self, shelf: &mut Shelf<D>) -> Result<u64, DiskFault> {
         flush_low(shelf)
     }
+
+    ghost named = { λ c setup. refl };
+
+    ghost own = { λ c setup. tt };
 }
 
 impl<D: Disk> HubStep<D> for FlushOne {
+    ghost use Rattle.std.specs.Prelude.{refl};
+
     fn step(&self, shelf: &mut Shelf<D>) -> Result<u64, DiskFault> {
         flush_next(shelf)
     }
+
+    ghost named = { λ c setup. refl };
+
+    ghost own = { λ c setup. tt };
 }
 
 impl<D: Disk> Live<D> {

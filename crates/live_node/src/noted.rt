@@ -1,7 +1,7 @@
 // What a step left and what was answered, for the event that is noted of it.
 use crate::hub::Hub;
 use crate::machine::{Happening, LivePass};
-use crate::steps::{HubCall, Step};
+use crate::steps::EventCall;
 use disk_model::Disk;
 use sprig_tree::Sprig;
 use std::marker::PhantomData;
@@ -35,7 +35,7 @@ pub(crate) struct StepNotes<C> {
     call: PhantomData<C>,
 }
 
-impl<'a, D: Disk, C: Step<D>> Notes<Stepped<'a, D, C, C::Answer>, Happening> for StepNotes<C> {
+impl<'a, D: Disk, C: EventCall> Notes<Stepped<'a, D, C, C::Answer>, Happening> for StepNotes<C> {
     ghost use Rattle.std.specs.Prelude.{IsSomeAnd};
     ghost use Rattle.turn_table.specs.Passes.{view};
     ghost use Rattle.live_node.specs.Fits.{Is, StepFits};
@@ -68,7 +68,7 @@ pub(crate) struct HubNotes<C> {
     call: PhantomData<C>,
 }
 
-impl<'a, D: Disk, C: HubCall> Notes<HubStepped<'a, D, C, C::Answer>, Happening> for HubNotes<C> {
+impl<'a, D: Disk, C: EventCall> Notes<HubStepped<'a, D, C, C::Answer>, Happening> for HubNotes<C> {
     ghost use Rattle.std.specs.Prelude.{IsSomeAnd};
     ghost use Rattle.turn_table.specs.Passes.{view};
     ghost use Rattle.live_node.specs.Fits.{Is, HubStepFits};

@@ -1,5 +1,5 @@
 // A read as a step over the sprig of a digest and the shelf.
-use crate::steps::Step;
+use crate::steps::{EventCall, Step};
 use block_shelf::{ReadRefusal, Shelf};
 use disk_model::Disk;
 use rec_format::{Digest, Version};
@@ -13,21 +13,25 @@ pub(crate) struct Get<'a> {
     pub now: u64,
 }
 
-impl<'a, D: Disk> Step<D> for Get<'a> {
-    ghost use Rattle.std.specs.Prelude.{◌≡◌, ◌≤◌, ◌^◌, refl};
-    ghost use Rattle.model_device.specs.Device.{part_of};
+impl<'a> EventCall for Get<'a> {
+    ghost use Rattle.std.specs.Prelude.{◌≡◌};
     ghost use Rattle.model_device.specs.Events.{get_call};
     ghost use Rattle.shard_core.specs.Calls.{read_answer};
 
     type Answer = Result<Option<Version>, ReadRefusal>;
 
-    ghost asks = { λ c. c.now ≤ 2 ^ 61 };
-
     ghost call = { λ c. get_call c.digest.now c.now };
 
-    ghost part = { λ c setup. part_of setup c.digest.now };
-
     ghost answers = { λ c result answer. answer ≡ read_answer result };
+}
+
+impl<'a, D: Disk> Step<D> for Get<'a> {
+    ghost use Rattle.std.specs.Prelude.{◌≤◌, ◌^◌, refl};
+    ghost use Rattle.model_device.specs.Device.{part_of};
+
+    ghost asks = { λ c. c.now ≤ 2 ^ 61 };
+
+    ghost part = { λ c setup. part_of setup c.digest.now };
 
     fn step(
         &self,

@@ -17,21 +17,25 @@ use shard_core::Settings;
 use sprig_tree::Sprig;
 use std::alloc::Global;
 
-/// A call whose step is over the sprig of one part and the shelf.
-pub(crate) trait Step<D: Disk> {
+/// A call that is one event of the device.
+pub(crate) trait EventCall {
     /// What it answers.
     type Answer;
 
-    // What the caller keeps to.
-    ghost asks: { Self → Type 0 };
-
-    // The call as an event has it, and the part that it names.
+    // The call as an event has it.
     ghost call: { Self → Call };
-
-    ghost part: { Self → Setup → ℕ };
 
     // What the event answers, where this is answered.
     ghost answers: { Self → Self.Answer → EventAnswer → Type 0 };
+}
+
+/// A call whose step is over the sprig of one part and the shelf.
+pub(crate) trait Step<D: Disk>: EventCall {
+    // What the caller keeps to.
+    ghost asks: { Self → Type 0 };
+
+    // The part that the call names.
+    ghost part: { Self → Setup → ℕ };
 
     fn step(
         &self,
@@ -41,39 +45,27 @@ pub(crate) trait Step<D: Disk> {
         set: &Settings,
     ) -> Self::Answer
         requires asks { asks self.now }
-        requires own { NamesOwn (setup_for shelf.old.geometry set.now) (call self.now) }
+        requires own { NamesOwn (setup_for shelf.old.geometry set.now) (Self.call self.now) }
         requires settings { IsSettings set.now }
         requires limits { shelf.old.limits ≡ limits_of set.now }
         requires stand { let setup = setup_for shelf.old.geometry set.now in (s : State) × StandTogether setup (part self.now setup) sprig.old shelf.old s }
         ensures makes { let setup = setup_for shelf.old.geometry set.now in (s : State) → StandTogether setup (part self.now setup) sprig.old shelf.old s
-            → (answer : EventAnswer) × answers self.now result answer × StepMakes D.view setup (part self.now setup) (call self.now) answer shelf.old s sprig.new shelf.new }
+            → (answer : EventAnswer) × Self.answers self.now result answer × StepMakes D.view setup (part self.now setup) (Self.call self.now) answer shelf.old s sprig.new shelf.new }
         ensures honest { IsHonest (D.view shelf.old.disk) → IsHonest (D.view shelf.new.disk) }
         ensures shape { (shelf.new.geometry ≡ shelf.old.geometry) × (shelf.new.limits ≡ shelf.old.limits) };
 
-    ghost named: { (c : Self) (setup : Setup) → part_named setup (call c) ≡ Some (part c setup) };
+    ghost named: { (c : Self) (setup : Setup) → part_named setup (Self.call c) ≡ Some (part c setup) };
 }
 
-/// A call over the shelf alone. It names no part.
-pub(crate) trait HubCall {
-    /// What it answers.
-    type Answer;
-
-    // The call as an event has it.
-    ghost call: { Self → Call };
-
-    // What the event answers, where this is answered.
-    ghost answers: { Self → Self.Answer → EventAnswer → Type 0 };
-
-    ghost named: { (c : Self) (setup : Setup) → part_named setup (call c) ≡ None };
-
-    ghost own: { (c : Self) (setup : Setup) → NamesOwn setup (call c) };
-}
-
-/// The step of such a call.
-pub(crate) trait HubStep<D: Disk>: HubCall {
+/// A call whose step is over the shelf alone. It names no part.
+pub(crate) trait HubStep<D: Disk>: EventCall {
     fn step(&self, shelf: &mut Shelf<D>) -> Self::Answer
         ensures makes { (setup : Setup) (s : State) → IsSetupOf setup shelf.old → ShelfStands setup shelf.old s
             → (answer : EventAnswer) × Self.answers self.now result answer × MakesEvent D.view setup (Self.call self.now) answer shelf.old s shelf.new (ShelfStands setup shelf.new) }
         ensures honest { IsHonest (D.view shelf.old.disk) → IsHonest (D.view shelf.new.disk) }
         ensures shape { (shelf.new.geometry ≡ shelf.old.geometry) × (shelf.new.limits ≡ shelf.old.limits) };
+
+    ghost named: { (c : Self) (setup : Setup) → part_named setup (Self.call c) ≡ None };
+
+    ghost own: { (c : Self) (setup : Setup) → NamesOwn setup (Self.call c) };
 }

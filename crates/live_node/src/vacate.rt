@@ -13,7 +13,7 @@ ghost use Rattle.live_node.specs.Turns.{MovesRecord};
 
 use crate::live::Live;
 use crate::machine::LivePass;
-use crate::steps::Step;
+use crate::steps::{EventCall, Step};
 use block_format::{capacity, most_records};
 use block_shelf::{Shelf, VacateRefusal};
 use defrag_pass::{MoveRefusal, move_one};
@@ -32,21 +32,24 @@ pub(crate) struct Move<'a> {
     pub block: u32,
 }
 
-impl<'a, D: Disk> Step<D> for Move<'a> {
-    ghost use Rattle.std.specs.Prelude.{refl};
-    ghost use Rattle.model_device.specs.Device.{part_of};
+impl<'a> EventCall for Move<'a> {
     ghost use Rattle.model_device.specs.Events.{move_call};
     ghost use Rattle.defrag_pass.specs.Moves.{Answers};
 
     type Answer = Result<bool, MoveRefusal>;
 
-    ghost asks = { λ c. Unit {0} };
-
     ghost call = { λ c. move_call c.digest.now c.block };
 
-    ghost part = { λ c setup. part_of setup c.digest.now };
-
     ghost answers = { λ c result answer. Answers result answer };
+}
+
+impl<'a, D: Disk> Step<D> for Move<'a> {
+    ghost use Rattle.std.specs.Prelude.{refl};
+    ghost use Rattle.model_device.specs.Device.{part_of};
+
+    ghost asks = { λ c. Unit {0} };
+
+    ghost part = { λ c setup. part_of setup c.digest.now };
 
     fn step(
         &self,

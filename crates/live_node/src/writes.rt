@@ -1,5 +1,5 @@
 // Writes as steps over the sprig of a digest and the shelf.
-use crate::steps::Step;
+use crate::steps::{EventCall, Step};
 use block_shelf::Shelf;
 use disk_model::Disk;
 use rec_format::{Digest, Stamp};
@@ -16,21 +16,25 @@ pub(crate) struct Put<'a> {
     pub now: u64,
 }
 
-impl<'a, D: Disk> Step<D> for Put<'a> {
-    ghost use Rattle.std.specs.Prelude.{◌≡◌, ◌≤◌, ◌^◌, length, refl};
-    ghost use Rattle.model_device.specs.Device.{part_of};
+impl<'a> EventCall for Put<'a> {
+    ghost use Rattle.std.specs.Prelude.{◌≡◌};
     ghost use Rattle.model_device.specs.Events.{put_call};
     ghost use Rattle.shard_core.specs.Calls.{write_answer};
 
     type Answer = Result<Stamp, WriteRefusal>;
 
-    ghost asks = { λ c. (c.ttl ≤ 315360000) × (length c.payload.now ≤ 2 ^ 31) × (c.now ≤ 2 ^ 61) };
-
     ghost call = { λ c. put_call c.digest.now c.ttl c.expect c.payload.now c.now };
 
-    ghost part = { λ c setup. part_of setup c.digest.now };
-
     ghost answers = { λ c result answer. answer ≡ write_answer result };
+}
+
+impl<'a, D: Disk> Step<D> for Put<'a> {
+    ghost use Rattle.std.specs.Prelude.{◌≤◌, ◌^◌, length, refl};
+    ghost use Rattle.model_device.specs.Device.{part_of};
+
+    ghost asks = { λ c. (c.ttl ≤ 315360000) × (length c.payload.now ≤ 2 ^ 31) × (c.now ≤ 2 ^ 61) };
+
+    ghost part = { λ c setup. part_of setup c.digest.now };
 
     fn step(
         &self,
@@ -61,21 +65,25 @@ pub(crate) struct Delete<'a> {
     pub now: u64,
 }
 
-impl<'a, D: Disk> Step<D> for Delete<'a> {
-    ghost use Rattle.std.specs.Prelude.{◌≡◌, ◌≤◌, ◌^◌, refl};
-    ghost use Rattle.model_device.specs.Device.{part_of};
+impl<'a> EventCall for Delete<'a> {
+    ghost use Rattle.std.specs.Prelude.{◌≡◌};
     ghost use Rattle.model_device.specs.Events.{delete_call};
     ghost use Rattle.shard_core.specs.Calls.{delete_answer};
 
     type Answer = Result<bool, WriteRefusal>;
 
-    ghost asks = { λ c. c.now ≤ 2 ^ 61 };
-
     ghost call = { λ c. delete_call c.digest.now c.now };
 
-    ghost part = { λ c setup. part_of setup c.digest.now };
-
     ghost answers = { λ c result answer. answer ≡ delete_answer result };
+}
+
+impl<'a, D: Disk> Step<D> for Delete<'a> {
+    ghost use Rattle.std.specs.Prelude.{◌≤◌, ◌^◌, refl};
+    ghost use Rattle.model_device.specs.Device.{part_of};
+
+    ghost asks = { λ c. c.now ≤ 2 ^ 61 };
+
+    ghost part = { λ c setup. part_of setup c.digest.now };
 
     fn step(
         &self,
@@ -96,21 +104,25 @@ pub(crate) struct Bury<'a> {
     pub now: u64,
 }
 
-impl<'a, D: Disk> Step<D> for Bury<'a> {
-    ghost use Rattle.std.specs.Prelude.{◌≡◌, ◌≤◌, ◌^◌, refl};
-    ghost use Rattle.model_device.specs.Device.{part_of};
+impl<'a> EventCall for Bury<'a> {
+    ghost use Rattle.std.specs.Prelude.{◌≡◌};
     ghost use Rattle.model_device.specs.Events.{bury_call};
     ghost use Rattle.shard_core.specs.Calls.{write_answer};
 
     type Answer = Result<Stamp, WriteRefusal>;
 
-    ghost asks = { λ c. c.now ≤ 2 ^ 61 };
-
     ghost call = { λ c. bury_call c.digest.now c.now };
 
-    ghost part = { λ c setup. part_of setup c.digest.now };
-
     ghost answers = { λ c result answer. answer ≡ write_answer result };
+}
+
+impl<'a, D: Disk> Step<D> for Bury<'a> {
+    ghost use Rattle.std.specs.Prelude.{◌≤◌, ◌^◌, refl};
+    ghost use Rattle.model_device.specs.Device.{part_of};
+
+    ghost asks = { λ c. c.now ≤ 2 ^ 61 };
+
+    ghost part = { λ c setup. part_of setup c.digest.now };
 
     fn step(
         &self,

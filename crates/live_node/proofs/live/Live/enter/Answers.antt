@@ -10,7 +10,7 @@ pub step-answer-requires : goal.step-answer-requires
 step-answer-requires g c =
     let fits = fits_alone c.args.self.now.over c.requires.hub in record {
       asks = c.requires.asks;
-      own = names_own fits (g.C.Step.call c.args.call.now) c.requires.own;
+      own = names_own fits (g.C.EventCall.call c.args.call.now) c.requires.own;
       settings = settings fits;
       limits = limits fits;
       stand = (
@@ -25,7 +25,7 @@ give_step-requires-clause-made g c =
     let answer = c.step-answer in
     let old = c.args.sprig.now in
     let named = g.met.C.Step.named call (setup_at (opening_at c.args.self.now)) in
-    step_fits (fits_alone c.args.self.now.over c.requires.hub) (g.C.Step.part call) c.args.part (g.C.Step.call call) (g.C.Step.answers call answer.result) old answer.new.sprig answer.new.shelf _
+    step_fits (fits_alone c.args.self.now.over c.requires.hub) (g.C.Step.part call) c.args.part (g.C.EventCall.call call) (g.C.EventCall.answers call answer.result) old answer.new.sprig answer.new.shelf _
     c.requires.part named c.requires.own answer.ensures.shape answer.ensures.honest c.requires.sprig
     (counts_by c.args.hub.tally c.tally-before.result c.tally.result c.minus.result c.plus-hub.result c.args.part old answer.new.sprig
     c.tally-before.ensures c.tally.ensures c.minus.ensures c.plus-hub.ensures (omega arith) (omega arith) (omega arith))

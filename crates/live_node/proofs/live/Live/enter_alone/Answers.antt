@@ -1,5 +1,8 @@
+use Rattle.std.proofs.Common.{ap}
+use Rattle.model_device.specs.Steps.{part_total}
 use Rattle.turn_table.specs.Passes.{view}
 use Rattle.live_node.specs.Opening.{setup_at, state_at}
+use Rattle.live_node.specs.Fits.{if_below}
 use Rattle.live_node.specs.Calls.{seen_by}
 use Rattle.live_node.specs.Lives.{opening_at}
 use Rattle.live_node.proofs.Stepping.{fits_alone, is_setup, hub_step_fits}
@@ -10,7 +13,7 @@ give_alone-requires-clause-made g c =
     let o = opening_at c.args.self.now in
     let fits = fits_alone c.args.self.now.over c.requires.hub in
     let call = c.args.call.now in
-    hub_step_fits fits (g.C.HubCall.call call) (g.C.HubCall.answers call c.step-answer.result) c.step-answer.new.shelf (g.C.HubCall.named call (setup_at o)) (g.C.HubCall.own call (setup_at o))
+    hub_step_fits fits (g.C.EventCall.call call) (g.C.EventCall.answers call c.step-answer.result) c.step-answer.new.shelf (ap (if_below (part_total (setup_at o))) (g.met.C.HubStep.named call (setup_at o))) (g.met.C.HubStep.own call (setup_at o))
     c.step-answer.ensures.shape c.step-answer.ensures.honest
     (c.step-answer.ensures.makes (setup_at o) (state_at o (seen_by (view c.args.pass.now))) (is_setup fits) c.requires.hub.stands)
 

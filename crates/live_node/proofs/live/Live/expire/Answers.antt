@@ -12,8 +12,8 @@ use Rattle.live_node.specs.Fits.{Is, PartFits}
 use Rattle.live_node.specs.Calls.{seen_by}
 use Rattle.live_node.specs.Lives.{opening_at}
 use Rattle.live_node.specs.Sweeps.{left_behind}
-use Rattle.live_node.proofs.Right.{answers_behind}
-use Rattle.live_node.proofs.Sweeping.{allowed_in, left_is, next_in, left_less}
+use Rattle.live_node.proofs.Right.{allowed_in, answers_behind}
+use Rattle.live_node.proofs.Sweeping.{left_is, next_in, left_less}
 use Rattle.live_node.proofs.live.Live.expire.Goals as goal
 
 pub enter-requires-clause-sprig : goal.enter-requires-clause-sprig

@@ -21,4 +21,5 @@ returns-clause-sweeps g c =
       shows = shows_between swept.list c.take_part-sprig.ensures.right swept.shows gave.right gave.seen;
       swept = subst (λ (l : List Event). AreSwept o c.args.part c.args.now (EndsSweep o c.args.part c.args.now l c.sweep-answer.result) None swept.list) (sym gave.seen) swept.swept;
       counts = swept.counts;
+      flushed = swept.flushed;
     }

@@ -8,6 +8,7 @@ use Rattle.live_node.specs.Calls.{seen_by}
 use Rattle.live_node.specs.Lives.{opening_at}
 use Rattle.live_node.specs.Several.{placed_events}
 use Rattle.live_node.specs.Sweeps.{EndsSweep, WasDone, removed_count}
+use Rattle.live_node.proofs.Committing.{shown_commit}
 use Rattle.live_node.proofs.Several.{events_joined, shows_none, shows_one, shows_then}
 use Rattle.live_node.proofs.Sweeping.{left_few, left_is, none_first, removed_more, swept_more, swept_end}
 use Rattle.live_node.proofs.live.Live.sweep.Goals as goal
@@ -58,6 +59,7 @@ returns-in-Err-clause-sweeps g c =
       shows = shows_then before.0 (record { past = by.past; event = by.event } ∷ []) before.1 (shows_one by);
       swept = swept_end o c.args.part c.args.now ends None (Some c.in-Some.digest) (before.0 ++ record { past = by.past; event = by.event } ∷ [])
           (swept_more o c.args.part c.args.now None c.loop-digest.last before.0 (record { past = by.past; event = by.event }) c.in-Some.digest before.2 by.said.is_call told.once.1) tt;
+      flushed = shown_commit (before.0 ++ record { past = by.past; event = by.event } ∷ []) (shows_then before.0 (record { past = by.past; event = by.event } ∷ []) before.1 (shows_one by));
       counts = (placed_events before.0, by.event, events_joined before.0 (record { past = by.past; event = by.event } ∷ []), before.3, before.4, by.said.answered);
     }
 
@@ -74,4 +76,5 @@ returns-clause-sweeps g c =
       swept = swept_end o c.args.part c.args.now (EndsSweep o c.args.part c.args.now seen (Ok c.loop-digest.removed)) None last here.sweeps.0 here.sweeps.2
           (sym (left_is o c.args.part c.args.now seen sprig here.fits last) ∙ none_first (expired_among sprig.entries c.args.now last) (sym c.in_default.ensures));
       counts = (here.sweeps.3, here.sweeps.4);
+      flushed = shown_commit here.sweeps.0 here.sweeps.1;
     }

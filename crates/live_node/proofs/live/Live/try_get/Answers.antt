@@ -34,6 +34,6 @@ returns-clause-answers g c =
     let v0 = view c.args.pass.now in let v1 = view c.try_part.new.pass in let v2 = view c.try_hub.new.pass in let v3 = view c.enter-answer.new.pass in let v4 = view c.give_part-2.new.pass in
     subst (TryAnswers view' o v0 v4 numbers (shelf_slot c.args.self.now) c.args.digest.now c.args.now) (sym c.tried.ensures)
     (reads_once view' o v0 v4 numbers (shelf_slot c.args.self.now) c.args.digest.now c.args.now c.enter-answer.result
-    (answers_between view' o v0 v2 v3 v4 (Is (get_call c.args.digest.now c.args.now) (λ a. a ≡ read_answer c.enter-answer.result))
-    (right_then view' o v0 v1 v2 [] [] c.in-Some.ensures.right c.in-Some-try_hub.ensures.right) c.enter-answer.ensures.once.0 c.give_part-2.ensures.right c.give_part-2.ensures.seen)
+    ((answers_between view' o v0 v2 v3 v4 (Is (get_call c.args.digest.now c.args.now) (λ a. a ≡ read_answer c.enter-answer.result))
+    (right_then view' o v0 v1 v2 [] [] c.in-Some.ensures.right c.in-Some-try_hub.ensures.right) c.enter-answer.ensures.once.0 c.give_part-2.ensures.right c.give_part-2.ensures.seen).0)
     (c.give_part-2.ensures.found ∙ c.enter-answer.ensures.found ∙ c.in-Some-try_hub.ensures.some.1 ∙ c.in-Some.ensures.some.1))

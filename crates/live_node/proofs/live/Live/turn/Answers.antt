@@ -12,5 +12,5 @@ pub returns-clause-once : goal.returns-clause-once
 returns-clause-once g c =
     let o = opening_at c.args.self.now in
     let v0 = view c.args.pass.now in let v1 = view c.take_part-sprig.new.pass in let v2 = view c.take_hub-hub.new.pass in let v3 = view c.enter-answer.new.pass in let v4 = view c.give_part.new.pass in
-    answers_between g.D.Disk.view o v0 v2 v3 v4 (Is (g.C.Step.call c.args.call.now) (g.C.Step.answers c.args.call.now c.enter-answer.result))
-    (right_then g.D.Disk.view o v0 v1 v2 [] [] c.take_part-sprig.ensures.right c.take_hub-hub.ensures.right) c.enter-answer.ensures.once.0 c.give_part.ensures.right c.give_part.ensures.seen
+    (answers_between g.D.Disk.view o v0 v2 v3 v4 (Is (g.C.EventCall.call c.args.call.now) (g.C.EventCall.answers c.args.call.now c.enter-answer.result))
+    (right_then g.D.Disk.view o v0 v1 v2 [] [] c.take_part-sprig.ensures.right c.take_hub-hub.ensures.right) c.enter-answer.ensures.once.0 c.give_part.ensures.right c.give_part.ensures.seen).0
