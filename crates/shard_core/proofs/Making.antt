@@ -14,11 +14,12 @@ use Rattle.law_sprig.proofs.Device.{own_stay, parts_fit_on, parts_become}
 use Rattle.shard_core.proofs.Each.{set_same}
 use Rattle.disk_model.specs.Disk.{DiskView}
 use Rattle.block_shelf.specs.View.{IsSetupOf, IsShelf, ShelfView}
+use Rattle.rec_format.specs.Places.{device_number}
 use Rattle.rec_format.specs.Versions.{block_capacity}
 use Rattle.block_format.specs.Layout.{most_records}
 use Rattle.block_format.specs.declared.geometry.Geometry.{Geometry}
 use Rattle.shard_core.specs.declared.settings.Settings.{Settings}
-use Rattle.shard_core.specs.View.{ShardView, IsSettings, SameSetup, limits_of, setup_for, setup_of}
+use Rattle.shard_core.specs.View.{ShardView, IsSettings, IsSetupBy, SameSetup, limits_of, setup_for, setup_of}
 use Rattle.shard_core.specs.Sprigs.{AreSame, entry_in, held}
 use Rattle.law_steps.specs.Sprigs.{HasTimes, SameSprig}
 use Rattle.sprig_tree.specs.Entries.{entry_of}
@@ -41,6 +42,14 @@ setup_fits shelf set limits = record {
   cache = sym (ap (λ (l : ShelfLimits). l.cache) limits);
   sprigs = sym (ap (λ (l : ShelfLimits). l.sprigs) limits);
 }
+
+pub setup_by : {D : Type 0} (shelf : ShelfView D) (set : Settings) → shelf.limits ≡ limits_of set → IsSetupBy set (setup_for shelf.geometry set) shelf
+setup_by shelf set limits = record { of_shelf = setup_fits shelf set limits; commit = refl; raid_age = refl }
+
+-- a digest of the shelf's device is one of the setup's
+pub own_of : {D : Type 0} (setup : Setup) (shelf : ShelfView D) → IsSetupOf setup shelf → (digest : Digest) → device_number shelf.geometry.devices digest ≡ shelf.geometry.device
+    → device_number setup.devices digest ≡ setup.device
+own_of setup shelf is digest own = ap (λ (n : ℕ). device_number n digest) is.shape.devices ∙ own ∙ sym is.shape.device
 
 pub setup_is : {D : Type 0} (shard : ShardView D) → IsWhole shard → IsSetupOf (setup_of shard) shard.shelf
 setup_is shard whole = setup_fits shard.shelf shard.set whole.limits

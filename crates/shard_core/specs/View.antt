@@ -5,7 +5,7 @@ use Rattle.rec_format.specs.Versions.{block_capacity}
 use Rattle.model_device.specs.Book.{Setup}
 use Rattle.block_format.specs.declared.geometry.Geometry.{Geometry}
 use Rattle.block_shelf.specs.declared.place.ShelfLimits.{ShelfLimits}
-use Rattle.block_shelf.specs.View.{ShelfView}
+use Rattle.block_shelf.specs.View.{IsSetupOf, ShelfView}
 use Rattle.shard_core.specs.declared.settings.Settings.{Settings}
 
 pub record ShardView (D : Type 0) : Type 0 where
@@ -39,6 +39,13 @@ setup_for g set = record {
   commit = set.commit;
   raid_age = set.raid_age;
 }
+
+-- The setup of a shelf that is run with these settings. They alone say whether a write is flushed before it is answered, and from which age
+-- a tombstone may go.
+pub record IsSetupBy {D : Type 0} (set : Settings) (setup : Setup) (shelf : ShelfView D) : Type 0 where
+  pub of_shelf : IsSetupOf setup shelf
+  pub commit : setup.commit ≡ set.commit
+  pub raid_age : setup.raid_age ≡ set.raid_age
 
 abbrev pub setup_of : {D : Type 0} → ShardView D → Setup
 setup_of shard = setup_for shard.shelf.geometry shard.set

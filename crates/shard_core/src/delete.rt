@@ -3,6 +3,7 @@ ghost use Rattle.std.specs.Prelude.{◌≡◌, ◌⊎◌, ◌≤◌, ◌^◌, tr
 ghost use Rattle.disk_model.specs.Disk.{IsHonest};
 ghost use Rattle.rec_format.specs.Places.{device_number};
 ghost use Rattle.rec_format.specs.Versions.{a_tombstone, units_for};
+ghost use Rattle.model_device.specs.Book.{Setup};
 ghost use Rattle.model_device.specs.Device.{State, part_of};
 ghost use Rattle.model_device.specs.Events.{Call, Answer, bury_call, delete_call, happened};
 ghost use Rattle.expiry_rule.specs.Seen.{seen_entry};
@@ -13,7 +14,7 @@ ghost use Rattle.block_shelf.specs.Disks.{IsLater};
 ghost use Rattle.block_shelf.specs.Sure.{StaysSure};
 ghost use Rattle.block_shelf.specs.View.{SameShape};
 ghost use Rattle.block_shelf.specs.Keeping.{KeepsAll};
-ghost use Rattle.shard_core.specs.View.{IsSettings, limits_of, setup_for};
+ghost use Rattle.shard_core.specs.View.{IsSettings, IsSetupBy};
 ghost use Rattle.law_steps.specs.Standing.{StandTogether};
 ghost use Rattle.shard_core.specs.Calls.{IsRefusedStep, delete_answer, write_answer};
 ghost use Rattle.law_steps.specs.Events.{StepMakes};
@@ -47,9 +48,8 @@ pub fn delete_step<D: Disk>(
     requires named { device_number shelf.old.geometry.devices digest.now ≡ shelf.old.geometry.device }
     requires now { now ≤ 2 ^ 61 }
     requires settings { IsSettings set.now }
-    requires limits { shelf.old.limits ≡ limits_of set.now }
-    requires stand { let setup = setup_for shelf.old.geometry set.now in (s : State) × StandTogether setup (part_of setup digest.now) sprig.old shelf.old s }
-    ensures makes { let setup = setup_for shelf.old.geometry set.now in (s : State) → StandTogether setup (part_of setup digest.now) sprig.old shelf.old s
+    requires stand { (setup : Setup) × (s : State) × IsSetupBy set.now setup shelf.old × StandTogether setup (part_of setup digest.now) sprig.old shelf.old s }
+    ensures makes { (setup : Setup) (s : State) → IsSetupBy set.now setup shelf.old → StandTogether setup (part_of setup digest.now) sprig.old shelf.old s
         → StepMakes D.view setup (part_of setup digest.now) (delete_call digest.now now) (delete_answer result) shelf.old s sprig.new shelf.new }
 
     // What isn't covered is removed without a call of the disk, and that isn't refused.
@@ -85,9 +85,8 @@ pub fn bury_step<D: Disk>(
     requires named { device_number shelf.old.geometry.devices digest.now ≡ shelf.old.geometry.device }
     requires now { now ≤ 2 ^ 61 }
     requires settings { IsSettings set.now }
-    requires limits { shelf.old.limits ≡ limits_of set.now }
-    requires stand { let setup = setup_for shelf.old.geometry set.now in (s : State) × StandTogether setup (part_of setup digest.now) sprig.old shelf.old s }
-    ensures makes { let setup = setup_for shelf.old.geometry set.now in (s : State) → StandTogether setup (part_of setup digest.now) sprig.old shelf.old s
+    requires stand { (setup : Setup) × (s : State) × IsSetupBy set.now setup shelf.old × StandTogether setup (part_of setup digest.now) sprig.old shelf.old s }
+    ensures makes { (setup : Setup) (s : State) → IsSetupBy set.now setup shelf.old → StandTogether setup (part_of setup digest.now) sprig.old shelf.old s
         → StepMakes D.view setup (part_of setup digest.now) (bury_call digest.now now) (write_answer result) shelf.old s sprig.new shelf.new }
     ensures refused { IfErr result (λ refusal. ((refusal ≡ WriteRefusal.Fault) × (set.now.commit ≡ true)) ⊎ IsRefusedStep sprig.old sprig.new shelf.old shelf.new refusal) }
     ensures sure { StaysSure D.view shelf.old shelf.new }
@@ -114,10 +113,10 @@ pub(crate) fn remove_entry<D: Disk>(
     requires named { device_number shelf.old.geometry.devices digest.now ≡ shelf.old.geometry.device }
     requires found { entry_of digest.now sprig.old.entries ≡ Some entry }
     requires settings { IsSettings set.now }
-    requires limits { shelf.old.limits ≡ limits_of set.now }
-    requires stand { let setup = setup_for shelf.old.geometry set.now in (s : State) × StandTogether setup (part_of setup digest.now) sprig.old shelf.old s }
-    ensures makes { let setup = setup_for shelf.old.geometry set.now in (s : State) (call : Call) → StandTogether setup (part_of setup digest.now) sprig.old shelf.old s
-        → IsRemoving setup s call digest.now now → StepMakes D.view setup (part_of setup digest.now) call (written_answer (happened true) result) shelf.old s sprig.new shelf.new }
+    requires stand { (setup : Setup) × (s : State) × IsSetupBy set.now setup shelf.old × StandTogether setup (part_of setup digest.now) sprig.old shelf.old s }
+    ensures makes { (setup : Setup) (s : State) (call : Call) → IsSetupBy set.now setup shelf.old
+        → StandTogether setup (part_of setup digest.now) sprig.old shelf.old s → IsRemoving setup s call digest.now now
+        → StepMakes D.view setup (part_of setup digest.now) call (written_answer (happened true) result) shelf.old s sprig.new shelf.new }
 
     // What isn't covered is removed without a call of the disk, and that isn't refused.
     ensures bare { entry.cover ≡ false → IsOk result × (shelf.new.disk ≡ shelf.old.disk) }
@@ -152,10 +151,10 @@ fn entomb<D: Disk>(
     requires named { device_number shelf.old.geometry.devices digest.now ≡ shelf.old.geometry.device }
     requires found { found ≡ entry_of digest.now sprig.old.entries }
     requires settings { IsSettings set.now }
-    requires limits { shelf.old.limits ≡ limits_of set.now }
-    requires stand { let setup = setup_for shelf.old.geometry set.now in (s : State) × StandTogether setup (part_of setup digest.now) sprig.old shelf.old s }
-    ensures makes { let setup = setup_for shelf.old.geometry set.now in (s : State) (call : Call) (ok : Stamp → Answer) → StandTogether setup (part_of setup digest.now) sprig.old shelf.old s
-        → IsEntombing setup s call digest.now now ok → StepMakes D.view setup (part_of setup digest.now) call (entombed_answer ok result) shelf.old s sprig.new shelf.new }
+    requires stand { (setup : Setup) × (s : State) × IsSetupBy set.now setup shelf.old × StandTogether setup (part_of setup digest.now) sprig.old shelf.old s }
+    ensures makes { (setup : Setup) (s : State) (call : Call) (ok : Stamp → Answer) → IsSetupBy set.now setup shelf.old
+        → StandTogether setup (part_of setup digest.now) sprig.old shelf.old s → IsEntombing setup s call digest.now now ok
+        → StepMakes D.view setup (part_of setup digest.now) call (entombed_answer ok result) shelf.old s sprig.new shelf.new }
     ensures refused { IfErr result (λ refusal. ((refusal ≡ WriteRefusal.Fault) × (set.now.commit ≡ true)) ⊎ IsRefusedStep sprig.old sprig.new shelf.old shelf.new refusal) }
     ensures sure { StaysSure D.view shelf.old shelf.new }
     ensures kept { KeepsBy set.now.commit (units_for 0) shelf.old shelf.new result }

@@ -3,6 +3,7 @@ ghost use Rattle.std.specs.Prelude.{◌≡◌, ◌⊎◌, ◌<◌, ◌≤◌, �
 ghost use Rattle.disk_model.specs.Disk.{IsHonest};
 ghost use Rattle.rec_format.specs.Places.{device_number};
 ghost use Rattle.rec_format.specs.Versions.{units_for};
+ghost use Rattle.model_device.specs.Book.{Setup};
 ghost use Rattle.model_device.specs.Device.{State, part_of};
 ghost use Rattle.model_device.specs.Steps.{part_total};
 ghost use Rattle.model_device.specs.Events.{expire_call};
@@ -16,7 +17,7 @@ ghost use Rattle.block_shelf.specs.Keeping.{KeepsAll};
 ghost use Rattle.law_steps.specs.Standing.{StandTogether};
 ghost use Rattle.law_steps.specs.Events.{StepMakes};
 ghost use Rattle.shard_core.specs.Keeping.{KeepsBy, KeepsThrough};
-ghost use Rattle.shard_core.specs.View.{IsSettings, SameSetup, limits_of, setup_for, setup_of};
+ghost use Rattle.shard_core.specs.View.{IsSettings, IsSetupBy, SameSetup, setup_of};
 ghost use Rattle.shard_core.specs.Sprigs.{held};
 ghost use Rattle.shard_core.specs.Stands.{Agrees, IsWhole};
 ghost use Rattle.shard_core.specs.Calls.{IsRefusedStep, Makes, delete_answer};
@@ -47,9 +48,8 @@ pub fn expire_step<D: Disk>(
     requires named { device_number shelf.old.geometry.devices digest.now ≡ shelf.old.geometry.device }
     requires now { now ≤ 2 ^ 61 }
     requires settings { IsSettings set.now }
-    requires limits { shelf.old.limits ≡ limits_of set.now }
-    requires stand { let setup = setup_for shelf.old.geometry set.now in (s : State) × StandTogether setup (part_of setup digest.now) sprig.old shelf.old s }
-    ensures makes { let setup = setup_for shelf.old.geometry set.now in (s : State) → StandTogether setup (part_of setup digest.now) sprig.old shelf.old s
+    requires stand { (setup : Setup) × (s : State) × IsSetupBy set.now setup shelf.old × StandTogether setup (part_of setup digest.now) sprig.old shelf.old s }
+    ensures makes { (setup : Setup) (s : State) → IsSetupBy set.now setup shelf.old → StandTogether setup (part_of setup digest.now) sprig.old shelf.old s
         → StepMakes D.view setup (part_of setup digest.now) (expire_call digest.now now) (delete_answer result) shelf.old s sprig.new shelf.new }
 
     // What isn't both expired and covered is answered without a call of the disk, and that isn't refused.

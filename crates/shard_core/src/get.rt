@@ -12,7 +12,7 @@ ghost use Rattle.block_shelf.specs.Disks.{OnlyRead};
 ghost use Rattle.block_shelf.specs.View.{in_memory};
 ghost use Rattle.block_shelf.specs.Standing.{IsPlaced};
 ghost use Rattle.block_shelf.specs.Reads.{IsUndamaged};
-ghost use Rattle.shard_core.specs.View.{IsSettings, limits_of, setup_for};
+ghost use Rattle.shard_core.specs.View.{IsSettings, IsSetupBy};
 ghost use Rattle.law_steps.specs.Standing.{SprigStands, StandTogether};
 ghost use Rattle.shard_core.specs.Calls.{ReadsStored, read_answer, meta_of};
 ghost use Rattle.law_steps.specs.Events.{StepMakes};
@@ -51,9 +51,8 @@ pub fn get_step<D: Disk>(
     requires named { device_number shelf.old.geometry.devices digest.now ≡ shelf.old.geometry.device }
     requires now { now ≤ 2 ^ 61 }
     requires settings { IsSettings set.now }
-    requires limits { shelf.old.limits ≡ limits_of set.now }
-    requires stand { let setup = setup_for shelf.old.geometry set.now in (s : State) × StandTogether setup (part_of setup digest.now) sprig.old shelf.old s }
-    ensures makes { let setup = setup_for shelf.old.geometry set.now in (s : State) → StandTogether setup (part_of setup digest.now) sprig.old shelf.old s
+    requires stand { (setup : Setup) × (s : State) × IsSetupBy set.now setup shelf.old × StandTogether setup (part_of setup digest.now) sprig.old shelf.old s }
+    ensures makes { (setup : Setup) (s : State) → IsSetupBy set.now setup shelf.old → StandTogether setup (part_of setup digest.now) sprig.old shelf.old s
         → StepMakes D.view setup (part_of setup digest.now) (get_call digest.now now) (read_answer result) shelf.old s sprig.new shelf.new }
 
     // A record whose block has a write buffer, or whose flushed buffer is kept, is read without a call of the disk.
@@ -62,12 +61,12 @@ pub fn get_step<D: Disk>(
 
     // From a buffer of the clients' stream it is what was put. Where no buffer that isn't flushed has the block, it is what stands at its
     // place, on a disk that tells its bytes.
-    ensures stored { let setup = setup_for shelf.old.geometry set.now in
-        ReadsStored D.view (StandTogether setup (part_of setup digest.now) sprig.old shelf.old) (entry_of digest.now sprig.old.entries) shelf.old digest.now now result }
+    ensures stored { (setup : Setup) → IsSetupBy set.now setup shelf.old
+        → ReadsStored D.view (StandTogether setup (part_of setup digest.now) sprig.old shelf.old) (entry_of digest.now sprig.old.entries) shelf.old digest.now now result }
 
     // Over an honest disk nothing is damaged.
-    ensures undamaged { let setup = setup_for shelf.old.geometry set.now in IsHonest (D.view shelf.old.disk) → (s : State) → StandTogether setup (part_of setup digest.now) sprig.old shelf.old s
-        → IsPlaced D.view shelf.old s → IfErr result IsUndamaged }
+    ensures undamaged { IsHonest (D.view shelf.old.disk) → (setup : Setup) (s : State) → IsSetupBy set.now setup shelf.old
+        → StandTogether setup (part_of setup digest.now) sprig.old shelf.old s → IsPlaced D.view shelf.old s → IfErr result IsUndamaged }
     ensures disk { OnlyRead (D.view shelf.old.disk) (D.view shelf.new.disk) }
     ensures sprig { sprig.new ≡ sprig.old }
     ensures shelf { shelf.new ≡ record shelf.old { disk = shelf.new.disk } }

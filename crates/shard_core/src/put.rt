@@ -4,7 +4,7 @@ ghost use Rattle.std.specs.Option.{option_copied};
 ghost use Rattle.disk_model.specs.Disk.{IsHonest};
 ghost use Rattle.rec_format.specs.Places.{device_number};
 ghost use Rattle.rec_format.specs.Versions.{units_for, block_capacity, a_put};
-ghost use Rattle.model_device.specs.Book.{first_block};
+ghost use Rattle.model_device.specs.Book.{Setup, first_block};
 ghost use Rattle.model_device.specs.Device.{State, part_of};
 ghost use Rattle.model_device.specs.Events.{put_call};
 ghost use Rattle.block_format.specs.declared.geometry.Gate.TheVariants.{Shut};
@@ -14,7 +14,7 @@ ghost use Rattle.block_shelf.specs.Sure.{StaysSure};
 ghost use Rattle.block_shelf.specs.View.{SameShape, gate_at};
 ghost use Rattle.write_buffer.specs.declared.stream.Stream.TheVariants.{Client};
 ghost use Rattle.block_shelf.specs.Changes.{HasRoom};
-ghost use Rattle.shard_core.specs.View.{IsSettings, limits_of, setup_for};
+ghost use Rattle.shard_core.specs.View.{IsSettings, IsSetupBy};
 ghost use Rattle.law_steps.specs.Standing.{StandTogether};
 ghost use Rattle.shard_core.specs.Calls.{IsRefusedStep, write_answer};
 ghost use Rattle.law_steps.specs.Events.{StepMakes};
@@ -54,9 +54,8 @@ pub fn put_step<D: Disk>(
     requires size { length payload.now ≤ 2 ^ 31 }
     requires now { now ≤ 2 ^ 61 }
     requires settings { IsSettings set.now }
-    requires limits { shelf.old.limits ≡ limits_of set.now }
-    requires stand { let setup = setup_for shelf.old.geometry set.now in (s : State) × StandTogether setup (part_of setup digest.now) sprig.old shelf.old s }
-    ensures makes { let setup = setup_for shelf.old.geometry set.now in (s : State) → StandTogether setup (part_of setup digest.now) sprig.old shelf.old s
+    requires stand { (setup : Setup) × (s : State) × IsSetupBy set.now setup shelf.old × StandTogether setup (part_of setup digest.now) sprig.old shelf.old s }
+    ensures makes { (setup : Setup) (s : State) → IsSetupBy set.now setup shelf.old → StandTogether setup (part_of setup digest.now) sprig.old shelf.old s
         → StepMakes D.view setup (part_of setup digest.now) (put_call digest.now ttl expect payload.now now) (write_answer result) shelf.old s sprig.new shelf.new }
 
     // With commit off the disk is called only where a buffer begins behind a gate that isn't known to be shut.

@@ -23,7 +23,7 @@ ghost use Rattle.block_shelf.specs.Appends.{BeginsInFirst, stream_of};
 ghost use Rattle.block_shelf.specs.Changes.{HasRoom};
 ghost use Rattle.block_shelf.specs.Calls.{Goes};
 ghost use Rattle.law_steps.specs.Sprigs.{place_of, HasTimes};
-ghost use Rattle.shard_core.specs.View.{IsSettings, limits_of, setup_for};
+ghost use Rattle.shard_core.specs.View.{IsSettings, IsSetupBy};
 ghost use Rattle.law_steps.specs.Standing.{StandTogether};
 ghost use Rattle.shard_core.specs.Calls.{IsRefusedStep, IsShelfLeft};
 ghost use Rattle.law_steps.specs.Events.{StepMakes};
@@ -59,10 +59,10 @@ pub(crate) fn write_step<D: Disk>(
     requires client { stream_of class ≡ Client }
     requires found { found ≡ entry_of digest.now sprig.old.entries }
     requires settings { IsSettings set.now }
-    requires limits { shelf.old.limits ≡ limits_of set.now }
-    requires stand { let setup = setup_for shelf.old.geometry set.now in (s : State) × StandTogether setup (part_of setup digest.now) sprig.old shelf.old s }
-    ensures makes { let setup = setup_for shelf.old.geometry set.now in (s : State) (call : Call) (ok : Answer) → StandTogether setup (part_of setup digest.now) sprig.old shelf.old s
-        → IsWriteOf setup s call class digest.now version.now ok → StepMakes D.view setup (part_of setup digest.now) call (written_answer ok result) shelf.old s sprig.new shelf.new }
+    requires stand { (setup : Setup) × (s : State) × IsSetupBy set.now setup shelf.old × StandTogether setup (part_of setup digest.now) sprig.old shelf.old s }
+    ensures makes { (setup : Setup) (s : State) (call : Call) (ok : Answer) → IsSetupBy set.now setup shelf.old
+        → StandTogether setup (part_of setup digest.now) sprig.old shelf.old s → IsWriteOf setup s call class digest.now version.now ok
+        → StepMakes D.view setup (part_of setup digest.now) call (written_answer ok result) shelf.old s sprig.new shelf.new }
     ensures stamp { IfOk result (λ stamp. stamp ≡ version.now.stamp) }
 
     // With commit off the disk is called only where a buffer begins behind a gate that isn't known to be shut.

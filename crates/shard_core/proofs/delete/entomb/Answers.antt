@@ -7,18 +7,17 @@ use Rattle.rec_format.specs.declared.entry.Entry.{Entry}
 use Rattle.rec_format.specs.declared.version.Stamp.{Stamp}
 use Rattle.rec_format.specs.declared.version.Version.{Version}
 use Rattle.rec_format.specs.Versions.{IsVersion, new_stamp, units_for, version_units}
-use Rattle.model_device.specs.Book.{Setup}
 use Rattle.model_device.specs.Device.{part_of}
 use Rattle.model_device.specs.Events.{refused, spent}
 use Rattle.sprig_tree.specs.Entries.{entry_of}
 use Rattle.law_sprig.specs.Tests.{stamp_found}
 use Rattle.shard_core.specs.declared.refusals.WriteRefusal.{WriteRefusal}
 use Rattle.shard_core.specs.declared.refusals.WriteRefusal.TheVariants as write
-use Rattle.shard_core.specs.View.{setup_for}
 use Rattle.law_steps.specs.Events.{StepMakes}
 use Rattle.shard_core.specs.Writing.{IsWriteOf, written_answer, entombed_answer}
 use Rattle.block_shelf.specs.declared.place.Class.TheVariants as class
 use Rattle.cold_scan.proofs.Room.{size_bounds}
+use Rattle.shard_core.proofs.Making.{own_of}
 use Rattle.shard_core.proofs.Puts.{stamp_fine, spent_entombs, entombing_writes, makes_nothing}
 use Rattle.block_shelf.proofs.Surely.{sure_none}
 use Rattle.shard_core.specs.Keeping.{KeepsBy}
@@ -26,8 +25,7 @@ use Rattle.shard_core.proofs.Keeping.{keeps_all}
 use Rattle.shard_core.proofs.delete.entomb.Goals as goal
 
 pub returns-in_err-stamp-clause-makes : goal.returns-in_err-stamp-clause-makes
-returns-in_err-stamp-clause-makes g c s call ok stand entombs =
-    let setup : Setup = setup_for c.args.shelf.now.geometry c.args.set.now in
+returns-in_err-stamp-clause-makes g c setup s call ok is stand entombs =
     let e = c.in_err-stamp.ensures {u = tt} in
     let p = err_from_is_err_and c.from_residual.result c.from_residual.ensures.1 in
     let same : c.from_residual.result ≡ Err write.Spent = p.1 ∙ ap (λ (r : WriteRefusal). Err r) (p.2 ∙ e.0) in
@@ -41,35 +39,33 @@ returns-in_err-stamp-clause-makes g c s call ok stand entombs =
 
 pub write_step-requires-clause-version : goal.write_step-requires-clause-version
 write_step-requires-clause-version g c =
-    let setup : Setup = setup_for c.args.shelf.now.geometry c.args.set.now in
     let stands = c.requires.stand in
     let given : new_stamp (stamp_found (entry_of c.args.digest.now c.args.sprig.now.entries)) c.args.sprig.now.hw c.args.now ≡ Some c.in_ok-stamp.stamp =
     ap (λ (o : Option Entry). new_stamp (stamp_found o) c.args.sprig.now.hw c.args.now) (sym c.requires.found)
     ∙ ap (λ (n : ℕ). new_stamp (stamp_found c.args.found) n c.args.now) (sym c.hw.ensures) ∙ c.in_ok-stamp.ensures {u = tt} in
-    let f = stamp_fine setup c.args.digest.now c.args.sprig.now stands.0 stands.1.sprig_stands c.args.now c.in_ok-stamp.stamp given in
+    let f = stamp_fine stands.0 c.args.digest.now c.args.sprig.now stands.1 stands.3.sprig_stands c.args.now c.in_ok-stamp.stamp given in
     subst IsVersion (sym c.tombstone-tombstone.ensures) (record { tombstone = λ tomb. refl; time = f.time; generation = f.generation; void = omega arith })
 
 pub returns-clause-makes : goal.returns-clause-makes
-returns-clause-makes g c s call ok stand entombs =
-    let setup : Setup = setup_for c.args.shelf.now.geometry c.args.set.now in
+returns-clause-makes g c setup s call ok is stand entombs =
     let stamp : Stamp = c.in_ok-stamp.stamp in
     let given : new_stamp (stamp_found (entry_of c.args.digest.now c.args.sprig.now.entries)) c.args.sprig.now.hw c.args.now ≡ Some stamp =
     ap (λ (o : Option Entry). new_stamp (stamp_found o) c.args.sprig.now.hw c.args.now) (sym c.requires.found)
     ∙ ap (λ (n : ℕ). new_stamp (stamp_found c.args.found) n c.args.now) (sym c.hw.ensures) ∙ c.in_ok-stamp.ensures {u = tt} in
     let size = size_bounds c.args.shelf.now.geometry c.write_step.ensures.whole.geometry in
-    let writes = entombing_writes setup c.args.digest.now c.args.sprig.now s stand.sprig_stands c.args.now call ok entombs stamp given (omega (arith, size.0)) c.requires.named in
-    let made = c.write_step.ensures.makes s call (ok stamp) stand
+    let writes = entombing_writes setup c.args.digest.now c.args.sprig.now s stand.sprig_stands c.args.now call ok entombs stamp given (omega (arith, size.0, is.of_shelf.shape.capacity))
+    (own_of setup c.args.shelf.now is.of_shelf c.args.digest.now c.requires.named) in
+    let made = c.write_step.ensures.makes setup s call (ok stamp) is stand
     (subst (λ (v : Version). IsWriteOf setup s call class.Tomb c.args.digest.now v (ok stamp)) (sym c.tombstone-tombstone.ensures) writes) in
     by c.write_step.result c.write_step.ensures.stamp made
   where
     by : (r : Result Stamp WriteRefusal) → IfOk r (λ stamp. stamp ≡ c.tombstone-tombstone.result.stamp)
-        → StepMakes g.D.Disk.view (setup_for c.args.shelf.now.geometry c.args.set.now) (part_of (setup_for c.args.shelf.now.geometry c.args.set.now) c.args.digest.now) call
+        → StepMakes g.D.Disk.view setup (part_of setup c.args.digest.now) call
         (written_answer (ok c.in_ok-stamp.stamp) r) c.args.shelf.now s c.write_step.new.sprig c.write_step.new.shelf
-        → StepMakes g.D.Disk.view (setup_for c.args.shelf.now.geometry c.args.set.now) (part_of (setup_for c.args.shelf.now.geometry c.args.set.now) c.args.digest.now) call
+        → StepMakes g.D.Disk.view setup (part_of setup c.args.digest.now) call
         (entombed_answer ok r) c.args.shelf.now s c.write_step.new.sprig c.write_step.new.shelf
     by (Ok x) same made =
-        subst (λ (y : Stamp). StepMakes g.D.Disk.view (setup_for c.args.shelf.now.geometry c.args.set.now)
-        (part_of (setup_for c.args.shelf.now.geometry c.args.set.now) c.args.digest.now) call (ok y) c.args.shelf.now s c.write_step.new.sprig c.write_step.new.shelf)
+        subst (λ (y : Stamp). StepMakes g.D.Disk.view setup (part_of setup c.args.digest.now) call (ok y) c.args.shelf.now s c.write_step.new.sprig c.write_step.new.shelf)
         (sym (same ∙ ap (λ (v : Version). v.stamp) c.tombstone-tombstone.ensures)) made
     by (Err refusal) same made = made
 

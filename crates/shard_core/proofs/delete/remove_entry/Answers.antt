@@ -23,11 +23,9 @@ use Rattle.shard_core.specs.declared.refusals.WriteRefusal.{WriteRefusal}
 use Rattle.law_steps.specs.Sprigs.{place_of}
 use Rattle.law_steps.specs.Standing.{StandTogether}
 use Rattle.law_steps.specs.Events.{StepMakes}
-use Rattle.shard_core.specs.View.{setup_for}
 use Rattle.shard_core.specs.Writing.{entombed_answer, written_answer}
 use Rattle.law_steps.proofs.Found.{entry_named, live_found, lies_found, prior_stands}
 use Rattle.shard_core.proofs.Later.{later_none}
-use Rattle.shard_core.proofs.Making.{setup_fits}
 use Rattle.shard_core.proofs.Deletes.{removes_covered, makes_removed}
 use Rattle.block_shelf.proofs.Surely.{sure_same}
 use Rattle.rec_format.specs.Versions.{units_for}
@@ -37,24 +35,21 @@ use Rattle.shard_core.proofs.delete.remove_entry.Goals as goal
 
 pub prove-unreachable-requires : goal.prove-unreachable-requires
 prove-unreachable-requires g c =
-    let setup : Setup = setup_for c.args.shelf.now.geometry c.args.set.now in
     let stands = c.requires.stand in
-    let lies = lies_found setup c.args.digest.now c.args.sprig.now c.args.shelf.now stands.0 stands.1 c.args.entry c.requires.found in
+    let lies = lies_found stands.0 c.args.digest.now c.args.sprig.now c.args.shelf.now stands.1 stands.3 c.args.entry c.requires.found in
     absurd (omega (arith, lies.lies.block, ap (λ (p : Place). p.block) c.place_of_entry-place.ensures, c.if-prove.true, ap (λ (x : Geometry). x.blocks) c.geometry.ensures.shape))
 
 pub drop_live-requires-clause-block : goal.drop_live-requires-clause-block
 drop_live-requires-clause-block g c =
-    let setup : Setup = setup_for c.args.shelf.now.geometry c.args.set.now in
     let stands = c.requires.stand in
-    let lies = lies_found setup c.args.digest.now c.args.sprig.now c.args.shelf.now stands.0 stands.1 c.args.entry c.requires.found in
+    let lies = lies_found stands.0 c.args.digest.now c.args.sprig.now c.args.shelf.now stands.1 stands.3 c.args.entry c.requires.found in
     omega (arith, lies.lies.block, ap (λ (p : Place). p.block) c.place_of_entry-place.ensures)
 
 pub drop_live-requires-clause-live : goal.drop_live-requires-clause-live
 drop_live-requires-clause-live g c =
-    let setup : Setup = setup_for c.args.shelf.now.geometry c.args.set.now in
     let stands = c.requires.stand in
     let there = subst (λ (o : Option Entry). IsPriorIn c.args.shelf.now (option_map place_of o)) c.requires.found
-    (prior_stands setup c.args.digest.now c.args.sprig.now c.args.shelf.now stands.0 stands.1 g.D.Disk.view c.geometry.ensures.whole) in
+    (prior_stands stands.0 c.args.digest.now c.args.sprig.now c.args.shelf.now stands.1 stands.3 g.D.Disk.view c.geometry.ensures.whole) in
     subst (λ (p : Place). IsSomeAnd (copy_at p.unit (copies_in p.block c.args.shelf.now.lives)) (λ x. x.units ≡ p.units)) (sym c.place_of_entry-place.ensures) there.1
 
 -- the state says of the digest whether it is covered as its entry does
@@ -64,8 +59,7 @@ covers : (setup : Setup) (digest : Digest) (sprig : SprigState) (s : State) (e :
 covers setup digest sprig s e shelf stand found = cover_is setup (part_of setup digest) sprig s stand.sprig_stands.fits.entries digest refl ∙ ap cover_of found
 
 pub returns-clause-makes : goal.returns-clause-makes
-returns-clause-makes g c s call stand removing =
-    let setup : Setup = setup_for c.args.shelf.now.geometry c.args.set.now in
+returns-clause-makes g c setup s call is stand removing =
     let e : Entry = c.args.entry in
     let bare : entry_is_covered s c.args.digest.now ≡ false = covers setup c.args.digest.now c.args.sprig.now s e c.args.shelf.now stand c.requires.found ∙ sym c.delete_writes.ensures
     ∙ c.if-delete_writes.false in
@@ -73,27 +67,25 @@ returns-clause-makes g c s call stand removing =
     let lives = live_there c.args.digest.now s.book.live (live_of_entry e) (live_found setup c.args.digest.now c.args.sprig.now c.args.shelf.now s stand e c.requires.found) in
     let there = subst (λ (p : Place). Contains s.book.live (copy_live c.args.digest.now p)) (sym c.place_of_entry-place.ensures)
     (subst (λ (d : Digest). Contains s.book.live (copy_live d (place_of e))) (sym same) lives) in
-    let goes = c.drop_live.ensures.dropped setup s c.args.digest.now (setup_fits c.args.shelf.now c.args.set.now c.requires.limits) stand.shelf_stands.stands there bare in
+    let goes = c.drop_live.ensures.dropped setup s c.args.digest.now is.of_shelf stand.shelf_stands.stands there bare in
     let up : (g.D.Disk.view c.args.shelf.now.disk).faults ≤ (g.D.Disk.view c.drop_live.new.self.disk).faults =
     subst (λ d. (g.D.Disk.view c.args.shelf.now.disk).faults ≤ (g.D.Disk.view d).faults) (sym c.drop_live.ensures.disk) (le_refl (g.D.Disk.view c.args.shelf.now.disk).faults) in
     makes_removed setup s c.args.digest.now c.args.now call removing g.D.Disk.view c.args.sprig.now c.remove-gone.new.self c.args.shelf.now c.drop_live.new.self bare up goes stand
     (record { entries = ap (λ (x : SprigState). x.entries) c.remove-gone.ensures.rest; high = ap (λ (x : SprigState). x.hw) c.remove-gone.ensures.rest })
 
 pub returns-then-delete_writes-clause-makes : goal.returns-then-delete_writes-clause-makes
-returns-then-delete_writes-clause-makes g c s call stand removing =
-    let setup : Setup = setup_for c.args.shelf.now.geometry c.args.set.now in
+returns-then-delete_writes-clause-makes g c setup s call is stand removing =
     let covered : entry_is_covered s c.args.digest.now ≡ true = covers setup c.args.digest.now c.args.sprig.now s c.args.entry c.args.shelf.now stand c.requires.found
     ∙ sym c.delete_writes.ensures ∙ c.if-delete_writes.true in
-    let made = c.entomb.ensures.makes s call (λ stamp. happened true) stand (removes_covered setup s c.args.digest.now c.args.now call removing covered) in
+    let made = c.entomb.ensures.makes setup s call (λ stamp. happened true) is stand (removes_covered setup s c.args.digest.now c.args.now call removing covered) in
     subst (λ (r : Result Stamp WriteRefusal). StepMakes g.D.Disk.view setup (part_of setup c.args.digest.now) call
     (entombed_answer (λ stamp. happened true) r) c.args.shelf.now s c.entomb.new.sprig c.entomb.new.shelf) c.in_ok-entomb.was made
 
 pub returns-in_err-entomb-clause-makes : goal.returns-in_err-entomb-clause-makes
-returns-in_err-entomb-clause-makes g c s call stand removing =
-    let setup : Setup = setup_for c.args.shelf.now.geometry c.args.set.now in
+returns-in_err-entomb-clause-makes g c setup s call is stand removing =
     let covered : entry_is_covered s c.args.digest.now ≡ true = covers setup c.args.digest.now c.args.sprig.now s c.args.entry c.args.shelf.now stand c.requires.found
     ∙ sym c.delete_writes.ensures ∙ c.if-delete_writes.true in
-    let made = c.entomb.ensures.makes s call (λ stamp. happened true) stand (removes_covered setup s c.args.digest.now c.args.now call removing covered) in
+    let made = c.entomb.ensures.makes setup s call (λ stamp. happened true) is stand (removes_covered setup s c.args.digest.now c.args.now call removing covered) in
     let p = err_from_is_err_and c.from_residual.result c.from_residual.ensures.1 in
     let same : c.from_residual.result ≡ Err c.in_err-entomb.field-0.0 = p.1 ∙ ap (λ (r : WriteRefusal). Err r) p.2 in
     subst (λ (r : Result (Unit {0}) WriteRefusal). StepMakes g.D.Disk.view setup (part_of setup c.args.digest.now) call

@@ -3,13 +3,11 @@ use Rattle.std.specs.Prelude.{Some, None, Result, Err}
 use Rattle.std.specs.Option.{option_copied}
 use Rattle.std.proofs.lemmas.Result.{err_from_is_err_and}
 use Rattle.rec_format.specs.declared.entry.Entry.{Entry}
-use Rattle.model_device.specs.Book.{Setup}
 use Rattle.model_device.specs.Device.{part_of}
 use Rattle.model_device.specs.Events.{expire_call, happened}
 use Rattle.expiry_rule.specs.Seen.{expired_entry}
 use Rattle.sprig_tree.specs.Entries.{entry_of}
 use Rattle.shard_core.specs.declared.refusals.WriteRefusal.{WriteRefusal}
-use Rattle.shard_core.specs.View.{setup_for}
 use Rattle.shard_core.specs.Calls.{delete_answer}
 use Rattle.shard_core.specs.Writing.{written_answer}
 use Rattle.law_steps.specs.Events.{StepMakes}
@@ -25,8 +23,7 @@ use Rattle.block_shelf.proofs.KeptAll.{all_same}
 use Rattle.shard_core.proofs.expire.expire_step.Goals as goal
 
 pub returns-in_default-clause-makes : goal.returns-in_default-clause-makes
-returns-in_default-clause-makes g c s stand =
-    let setup : Setup = setup_for c.args.shelf.now.geometry c.args.set.now in
+returns-in_default-clause-makes g c setup s is_setup stand =
     let none : expired_entry c.args.now (entry_of c.args.digest.now c.args.sprig.now.entries) ≡ None =
     ap (expired_entry c.args.now) (sym (c.as_ref.ensures.value ∙ c.find-found.ensures.value)) ∙ sym c.expired_put.ensures ∙ ap option_copied c.in_default.is in
     makes_nothing g.D.Disk.view setup c.args.digest.now c.args.sprig.now c.args.shelf.now s (expire_call c.args.digest.now c.args.now) (happened false)
@@ -41,24 +38,22 @@ remove_entry-requires-clause-found g c =
     expired_held c.args.now (entry_of c.args.digest.now c.args.sprig.now.entries) e some
 
 pub returns-clause-makes : goal.returns-clause-makes
-returns-clause-makes g c s stand =
-    let setup : Setup = setup_for c.args.shelf.now.geometry c.args.set.now in
+returns-clause-makes g c setup s is_setup stand =
     let e : Entry = c.in-Some.entry.now in
     let some : expired_entry c.args.now (entry_of c.args.digest.now c.args.sprig.now.entries) ≡ Some e =
     ap (expired_entry c.args.now) (sym (c.as_ref.ensures.value ∙ c.find-found.ensures.value)) ∙ sym c.expired_put.ensures ∙ ap option_copied c.in-Some.is in
     let is = expired_some setup s c.args.now c.args.digest.now c.args.sprig.now stand.sprig_stands e some in
-    let made = c.remove_entry.ensures.makes s (expire_call c.args.digest.now c.args.now) stand (expires setup s c.args.digest.now c.args.now is) in
+    let made = c.remove_entry.ensures.makes setup s (expire_call c.args.digest.now c.args.now) is_setup stand (expires setup s c.args.digest.now c.args.now is) in
     subst (λ (r : Result (Unit {0}) WriteRefusal). StepMakes g.D.Disk.view setup (part_of setup c.args.digest.now) (expire_call c.args.digest.now c.args.now)
     (written_answer (happened true) r) c.args.shelf.now s c.remove_entry.new.sprig c.remove_entry.new.shelf) c.in_ok-remove_entry.was made
 
 pub returns-in_err-remove_entry-clause-makes : goal.returns-in_err-remove_entry-clause-makes
-returns-in_err-remove_entry-clause-makes g c s stand =
-    let setup : Setup = setup_for c.args.shelf.now.geometry c.args.set.now in
+returns-in_err-remove_entry-clause-makes g c setup s is_setup stand =
     let e : Entry = c.in-Some.entry.now in
     let some : expired_entry c.args.now (entry_of c.args.digest.now c.args.sprig.now.entries) ≡ Some e =
     ap (expired_entry c.args.now) (sym (c.as_ref.ensures.value ∙ c.find-found.ensures.value)) ∙ sym c.expired_put.ensures ∙ ap option_copied c.in-Some.is in
     let is = expired_some setup s c.args.now c.args.digest.now c.args.sprig.now stand.sprig_stands e some in
-    let made = c.remove_entry.ensures.makes s (expire_call c.args.digest.now c.args.now) stand (expires setup s c.args.digest.now c.args.now is) in
+    let made = c.remove_entry.ensures.makes setup s (expire_call c.args.digest.now c.args.now) is_setup stand (expires setup s c.args.digest.now c.args.now is) in
     let p = err_from_is_err_and c.from_residual.result c.from_residual.ensures.1 in
     let same : c.from_residual.result ≡ Err c.in_err-remove_entry.field-0.0 = p.1 ∙ ap (λ (r : WriteRefusal). Err r) p.2 in
     subst (λ (r : Result Bool WriteRefusal). StepMakes g.D.Disk.view setup (part_of setup c.args.digest.now) (expire_call c.args.digest.now c.args.now)

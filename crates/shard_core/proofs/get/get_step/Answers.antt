@@ -12,11 +12,9 @@ use Rattle.sprig_tree.specs.Entries.{entry_of}
 use Rattle.block_shelf.specs.declared.place.Place.{Place}
 use Rattle.block_shelf.specs.declared.refusals.ReadRefusal.{ReadRefusal}
 use Rattle.block_shelf.specs.declared.refusals.ReadRefusal.TheVariants as read
-use Rattle.block_shelf.specs.View.{in_memory}
 use Rattle.block_shelf.specs.Standing.{IsCopyIn}
 use Rattle.block_shelf.specs.Reads.{copy_bytes, HasRead, IsUndamaged}
 use Rattle.law_steps.specs.Sprigs.{place_of}
-use Rattle.shard_core.specs.View.{setup_for}
 use Rattle.law_steps.specs.Standing.{StandTogether}
 use Rattle.shard_core.specs.Calls.{ReadsStored, read_answer}
 use Rattle.law_steps.specs.Events.{StepMakes}
@@ -26,58 +24,54 @@ use Rattle.shard_core.proofs.Getting.{seen_held, live_is, shown, shown_got, show
 use Rattle.shard_core.proofs.get.get_step.Goals as goal
 
 pub returns-in_default-clause-makes : goal.returns-in_default-clause-makes
-returns-in_default-clause-makes g c s stand =
+returns-in_default-clause-makes g c setup s is_setup stand =
     let none : seen_entry c.args.now (entry_of c.args.digest.now c.args.sprig.now.entries) ≡ None = ap (seen_entry c.args.now) (sym (c.as_ref.ensures.value ∙ c.find-found.ensures.value))
     ∙ sym c.seen.ensures ∙ ap option_copied c.in_default.is in
-    makes_unseen g.D.Disk.view (setup_for c.args.shelf.now.geometry c.args.set.now) c.args.digest.now c.args.sprig.now c.args.shelf.now c.args.shelf.now s c.args.now stand
+    makes_unseen g.D.Disk.view setup c.args.digest.now c.args.sprig.now c.args.shelf.now c.args.shelf.now s c.args.now stand
     (g.met.D.Disk.is_disk c.args.shelf.now.disk) none
 
 pub returns-in_default-clause-stored : goal.returns-in_default-clause-stored
-returns-in_default-clause-stored g c =
+returns-in_default-clause-stored g c setup is_setup =
     let none : seen_entry c.args.now (entry_of c.args.digest.now c.args.sprig.now.entries) ≡ None = ap (seen_entry c.args.now) (sym (c.as_ref.ensures.value ∙ c.find-found.ensures.value))
     ∙ sym c.seen.ensures ∙ ap option_copied c.in_default.is in
     record {
       copied = λ s stand v sees e b is there at.
-          let unseen = seen_none (setup_for c.args.shelf.now.geometry c.args.set.now) s c.args.now c.args.digest.now c.args.sprig.now stand.sprig_stands none in
+          let unseen = seen_none setup s c.args.now c.args.digest.now c.args.sprig.now stand.sprig_stands none in
           let clash : None ≡ Some v = sym unseen ∙ sees in
           absurd (cc);
-      remembered = λ s stand e b is there at client. sym (seen_none (setup_for c.args.shelf.now.geometry c.args.set.now) s c.args.now c.args.digest.now c.args.sprig.now stand.sprig_stands none);
+      remembered = λ s stand e b is there at client. sym (seen_none setup s c.args.now c.args.digest.now c.args.sprig.now stand.sprig_stands none);
       placed = λ told e is apart. let clash : Some e ≡ None = sym is ∙ none in absurd (cc);
     }
 
 pub read-requires-clause-block : goal.read-requires-clause-block
 read-requires-clause-block g c =
-    let setup = setup_for c.args.shelf.now.geometry c.args.set.now in
     let e : Entry = c.in-Some.entry.now in
     let seen : seen_entry c.args.now (entry_of c.args.digest.now c.args.sprig.now.entries) ≡ Some e = ap (seen_entry c.args.now) (sym (c.as_ref.ensures.value ∙ c.find-found.ensures.value))
     ∙ sym c.seen.ensures ∙ ap option_copied c.in-Some.is in
     let stands = c.requires.stand in
-    let lies = lies_found setup c.args.digest.now c.args.sprig.now c.args.shelf.now stands.0 stands.1 e (seen_held c.args.now (entry_of c.args.digest.now c.args.sprig.now.entries) e seen) in
+    let lies = lies_found stands.0 c.args.digest.now c.args.sprig.now c.args.shelf.now stands.1 stands.3 e (seen_held c.args.now (entry_of c.args.digest.now c.args.sprig.now.entries) e seen) in
     omega (arith, lies.lies.block, ap (λ (p : Place). p.block) c.place_of_entry.ensures)
 
 pub read-requires-clause-within : goal.read-requires-clause-within
 read-requires-clause-within g c =
-    let setup = setup_for c.args.shelf.now.geometry c.args.set.now in
     let e : Entry = c.in-Some.entry.now in
     let seen : seen_entry c.args.now (entry_of c.args.digest.now c.args.sprig.now.entries) ≡ Some e = ap (seen_entry c.args.now) (sym (c.as_ref.ensures.value ∙ c.find-found.ensures.value))
     ∙ sym c.seen.ensures ∙ ap option_copied c.in-Some.is in
     let stands = c.requires.stand in
-    let lies = lies_found setup c.args.digest.now c.args.sprig.now c.args.shelf.now stands.0 stands.1 e (seen_held c.args.now (entry_of c.args.digest.now c.args.sprig.now.entries) e seen) in
+    let lies = lies_found stands.0 c.args.digest.now c.args.sprig.now c.args.shelf.now stands.1 stands.3 e (seen_held c.args.now (entry_of c.args.digest.now c.args.sprig.now.entries) e seen) in
     omega (arith, lies.lies.within, ap (λ (p : Place). p.unit) c.place_of_entry.ensures, ap (λ (p : Place). p.units) c.place_of_entry.ensures)
 
 pub read-requires-clause-units : goal.read-requires-clause-units
 read-requires-clause-units g c =
-    let setup = setup_for c.args.shelf.now.geometry c.args.set.now in
     let e : Entry = c.in-Some.entry.now in
     let seen : seen_entry c.args.now (entry_of c.args.digest.now c.args.sprig.now.entries) ≡ Some e = ap (seen_entry c.args.now) (sym (c.as_ref.ensures.value ∙ c.find-found.ensures.value))
     ∙ sym c.seen.ensures ∙ ap option_copied c.in-Some.is in
     let stands = c.requires.stand in
-    let lies = lies_found setup c.args.digest.now c.args.sprig.now c.args.shelf.now stands.0 stands.1 e (seen_held c.args.now (entry_of c.args.digest.now c.args.sprig.now.entries) e seen) in
+    let lies = lies_found stands.0 c.args.digest.now c.args.sprig.now c.args.shelf.now stands.1 stands.3 e (seen_held c.args.now (entry_of c.args.digest.now c.args.sprig.now.entries) e seen) in
     (sym (ap (λ (p : Place). p.units) c.place_of_entry.ensures), omega (arith, lies.lies.units, ap (λ (p : Place). p.units) c.place_of_entry.ensures))
 
 pub returns-in-Ok-clause-makes : goal.returns-in-Ok-clause-makes
-returns-in-Ok-clause-makes g c s stand =
-    let setup = setup_for c.args.shelf.now.geometry c.args.set.now in
+returns-in-Ok-clause-makes g c setup s is_setup stand =
     let e : Entry = c.in-Some.entry.now in
     let seen : seen_entry c.args.now (entry_of c.args.digest.now c.args.sprig.now.entries) ≡ Some e = ap (seen_entry c.args.now) (sym (c.as_ref.ensures.value ∙ c.find-found.ensures.value))
     ∙ sym c.seen.ensures ∙ ap option_copied c.in-Some.is in
@@ -91,16 +85,15 @@ returns-in-Ok-clause-makes g c s stand =
 
 pub returns-in-Ok-clause-in_memory : goal.returns-in-Ok-clause-in_memory
 returns-in-Ok-clause-in_memory g c x b found there at =
-    let setup = setup_for c.args.shelf.now.geometry c.args.set.now in
     let e : Entry = c.in-Some.entry.now in
     let seen : seen_entry c.args.now (entry_of c.args.digest.now c.args.sprig.now.entries) ≡ Some e = ap (seen_entry c.args.now) (sym (c.as_ref.ensures.value ∙ c.find-found.ensures.value))
     ∙ sym c.seen.ensures ∙ ap option_copied c.in-Some.is in
     let stands = c.requires.stand in
-    let is = seen_some setup stands.0 c.args.now c.args.digest.now c.args.sprig.now stands.1.sprig_stands e seen in
-    let live = live_is g.D.Disk.view setup c.args.digest.now c.args.sprig.now c.args.shelf.now c.read.new.self stands.0 c.args.now stands.1 e c.place_of_entry.result is c.place_of_entry.ensures in
+    let is = seen_some stands.0 stands.1 c.args.now c.args.digest.now c.args.sprig.now stands.3.sprig_stands e seen in
+    let live = live_is g.D.Disk.view stands.0 c.args.digest.now c.args.sprig.now c.args.shelf.now c.read.new.self stands.1 c.args.now stands.3 e c.place_of_entry.result is c.place_of_entry.ensures in
     let one : Some x ≡ Some e = sym found ∙ is.found_is in
     let same : x ≡ e = cc in
-    let got = c.read.ensures.in_memory setup stands.0 is.version b stands.1.shelf_stands.stands live.live live.entry_is is.names there
+    let got = c.read.ensures.in_memory stands.0 stands.1 is.version b stands.3.shelf_stands.stands live.live live.entry_is is.names there
     (at ∙ ap (λ (y : Entry). y.block) same ∙ sym (ap (λ (p : Place). p.block) c.place_of_entry.ensures)) in (
       got.0,
       subst (λ (r : Result Version ReadRefusal). IfErr (shown r) (λ refusal. refusal ≡ read.Memory)) c.in-Ok.is
@@ -108,8 +101,7 @@ returns-in-Ok-clause-in_memory g c x b found there at =
     )
 
 pub returns-in-Ok-clause-stored : goal.returns-in-Ok-clause-stored
-returns-in-Ok-clause-stored g c =
-    let setup = setup_for c.args.shelf.now.geometry c.args.set.now in
+returns-in-Ok-clause-stored g c setup is_setup =
     let e : Entry = c.in-Some.entry.now in
     let seen : seen_entry c.args.now (entry_of c.args.digest.now c.args.sprig.now.entries) ≡ Some e = ap (seen_entry c.args.now) (sym (c.as_ref.ensures.value ∙ c.find-found.ensures.value))
     ∙ sym c.seen.ensures ∙ ap option_copied c.in-Some.is in
@@ -143,8 +135,7 @@ returns-in-Ok-clause-stored g c =
     })
 
 pub returns-in-Err-clause-makes : goal.returns-in-Err-clause-makes
-returns-in-Err-clause-makes g c s stand =
-    let setup = setup_for c.args.shelf.now.geometry c.args.set.now in
+returns-in-Err-clause-makes g c setup s is_setup stand =
     let e : Entry = c.in-Some.entry.now in
     let seen : seen_entry c.args.now (entry_of c.args.digest.now c.args.sprig.now.entries) ≡ Some e = ap (seen_entry c.args.now) (sym (c.as_ref.ensures.value ∙ c.find-found.ensures.value))
     ∙ sym c.seen.ensures ∙ ap option_copied c.in-Some.is in
@@ -158,16 +149,15 @@ returns-in-Err-clause-makes g c s stand =
 
 pub returns-in-Err-clause-in_memory : goal.returns-in-Err-clause-in_memory
 returns-in-Err-clause-in_memory g c x b found there at =
-    let setup = setup_for c.args.shelf.now.geometry c.args.set.now in
     let e : Entry = c.in-Some.entry.now in
     let seen : seen_entry c.args.now (entry_of c.args.digest.now c.args.sprig.now.entries) ≡ Some e = ap (seen_entry c.args.now) (sym (c.as_ref.ensures.value ∙ c.find-found.ensures.value))
     ∙ sym c.seen.ensures ∙ ap option_copied c.in-Some.is in
     let stands = c.requires.stand in
-    let is = seen_some setup stands.0 c.args.now c.args.digest.now c.args.sprig.now stands.1.sprig_stands e seen in
-    let live = live_is g.D.Disk.view setup c.args.digest.now c.args.sprig.now c.args.shelf.now c.read.new.self stands.0 c.args.now stands.1 e c.place_of_entry.result is c.place_of_entry.ensures in
+    let is = seen_some stands.0 stands.1 c.args.now c.args.digest.now c.args.sprig.now stands.3.sprig_stands e seen in
+    let live = live_is g.D.Disk.view stands.0 c.args.digest.now c.args.sprig.now c.args.shelf.now c.read.new.self stands.1 c.args.now stands.3 e c.place_of_entry.result is c.place_of_entry.ensures in
     let one : Some x ≡ Some e = sym found ∙ is.found_is in
     let same : x ≡ e = cc in
-    let got = c.read.ensures.in_memory setup stands.0 is.version b stands.1.shelf_stands.stands live.live live.entry_is is.names there
+    let got = c.read.ensures.in_memory stands.0 stands.1 is.version b stands.3.shelf_stands.stands live.live live.entry_is is.names there
     (at ∙ ap (λ (y : Entry). y.block) same ∙ sym (ap (λ (p : Place). p.block) c.place_of_entry.ensures)) in (
       got.0,
       subst (λ (r : Result Version ReadRefusal). IfErr (shown r) (λ refusal. refusal ≡ read.Memory)) c.in-Err.is
@@ -175,8 +165,7 @@ returns-in-Err-clause-in_memory g c x b found there at =
     )
 
 pub returns-in-Err-clause-stored : goal.returns-in-Err-clause-stored
-returns-in-Err-clause-stored g c =
-    let setup = setup_for c.args.shelf.now.geometry c.args.set.now in
+returns-in-Err-clause-stored g c setup is_setup =
     let e : Entry = c.in-Some.entry.now in
     let seen : seen_entry c.args.now (entry_of c.args.digest.now c.args.sprig.now.entries) ≡ Some e = ap (seen_entry c.args.now) (sym (c.as_ref.ensures.value ∙ c.find-found.ensures.value))
     ∙ sym c.seen.ensures ∙ ap option_copied c.in-Some.is in
@@ -210,8 +199,7 @@ returns-in-Err-clause-stored g c =
     })
 
 pub returns-in-Err-clause-undamaged : goal.returns-in-Err-clause-undamaged
-returns-in-Err-clause-undamaged g c honest s stand placed =
-    let setup = setup_for c.args.shelf.now.geometry c.args.set.now in
+returns-in-Err-clause-undamaged g c honest setup s is_setup stand placed =
     let e : Entry = c.in-Some.entry.now in
     let seen : seen_entry c.args.now (entry_of c.args.digest.now c.args.sprig.now.entries) ≡ Some e = ap (seen_entry c.args.now) (sym (c.as_ref.ensures.value ∙ c.find-found.ensures.value))
     ∙ sym c.seen.ensures ∙ ap option_copied c.in-Some.is in

@@ -7,7 +7,6 @@ use Rattle.rec_format.specs.declared.entry.Entry.{Entry}
 use Rattle.rec_format.specs.declared.version.Stamp.{Stamp}
 use Rattle.rec_format.specs.declared.version.Version.{Version}
 use Rattle.rec_format.specs.Versions.{IsVersion, a_put, new_stamp, void_time, block_capacity, units_for, version_units}
-use Rattle.model_device.specs.Book.{Setup}
 use Rattle.model_device.specs.Device.{part_of}
 use Rattle.model_device.specs.Events.{put_call, stamp_given, refused}
 use Rattle.block_format.specs.declared.geometry.Geometry.{Geometry}
@@ -17,22 +16,22 @@ use Rattle.law_sprig.specs.Tests.{stamp_found, generation_seen}
 use Rattle.block_shelf.specs.declared.place.Class.TheVariants as class
 use Rattle.shard_core.specs.declared.refusals.WriteRefusal.{WriteRefusal}
 use Rattle.shard_core.specs.declared.refusals.WriteRefusal.TheVariants as write
-use Rattle.shard_core.specs.View.{setup_for}
 use Rattle.shard_core.specs.Calls.{cause_of_write, write_answer, IsRefusedStep}
 use Rattle.law_steps.specs.Events.{StepMakes}
 use Rattle.shard_core.specs.Writing.{IsWriteOf, IsFit, IsUnfit, written_answer}
 use Rattle.shard_core.specs.Keeping.{KeepsBy}
 use Rattle.shard_core.proofs.Keeping.{keeps_all}
 use Rattle.shard_core.proofs.Later.{later_none}
+use Rattle.shard_core.proofs.Making.{own_of}
 use Rattle.shard_core.proofs.Puts.{stamp_fine, unfit_refusal, spent_refusal, put_writes, stands_against, memory_wants, makes_nothing, unfit_left}
 use Rattle.block_shelf.proofs.Surely.{sure_none}
 use Rattle.block_shelf.proofs.KeptAll.{all_same}
 use Rattle.shard_core.proofs.put.put_step.Goals as goal
 
 pub returns-in_err-check_put-clause-makes : goal.returns-in_err-check_put-clause-makes
-returns-in_err-check_put-clause-makes g c s stand =
-    let setup : Setup = setup_for c.args.shelf.now.geometry c.args.set.now in
-    let capacity : c.capacity.result ≡ setup.capacity = c.capacity.ensures ∙ ap (λ (x : Geometry). block_capacity x.block_size) c.geometry-block_size.ensures.shape in
+returns-in_err-check_put-clause-makes g c setup s is stand =
+    let capacity : c.capacity.result ≡ setup.capacity = c.capacity.ensures ∙ ap (λ (x : Geometry). block_capacity x.block_size) c.geometry-block_size.ensures.shape
+    ∙ sym is.of_shelf.shape.capacity in
     let seen : generation_seen c.args.now (entry_of c.args.digest.now c.args.sprig.now.entries) ≡ c.generation_of.result = ap (generation_seen c.args.now) (sym c.find-found.ensures.value)
     ∙ sym c.generation_of.ensures in
     let refusal : WriteRefusal = c.in_err-check_put.field-0.0 in
@@ -47,9 +46,9 @@ returns-in_err-check_put-clause-makes g c s stand =
     (λ told event is answer steps. stands_against setup s told c.args.digest.now c.args.ttl c.args.expect c.args.payload.now c.args.now event (cause_of_write refusal) answer steps cause))
 
 pub returns-in_err-stamp-clause-makes : goal.returns-in_err-stamp-clause-makes
-returns-in_err-stamp-clause-makes g c s stand =
-    let setup : Setup = setup_for c.args.shelf.now.geometry c.args.set.now in
-    let capacity : c.capacity.result ≡ setup.capacity = c.capacity.ensures ∙ ap (λ (x : Geometry). block_capacity x.block_size) c.geometry-block_size.ensures.shape in
+returns-in_err-stamp-clause-makes g c setup s is stand =
+    let capacity : c.capacity.result ≡ setup.capacity = c.capacity.ensures ∙ ap (λ (x : Geometry). block_capacity x.block_size) c.geometry-block_size.ensures.shape
+    ∙ sym is.of_shelf.shape.capacity in
     let seen : generation_seen c.args.now (entry_of c.args.digest.now c.args.sprig.now.entries) ≡ c.generation_of.result = ap (generation_seen c.args.now) (sym c.find-found.ensures.value)
     ∙ sym c.generation_of.ensures in
     let fit : IsFit (length c.args.payload.now) c.capacity.result c.args.expect (generation_seen c.args.now (entry_of c.args.digest.now c.args.sprig.now.entries)) =
@@ -68,30 +67,28 @@ returns-in_err-stamp-clause-makes g c s stand =
     (λ told event is answer steps. stands_against setup s told c.args.digest.now c.args.ttl c.args.expect c.args.payload.now c.args.now event (cause_of_write write.Spent) answer steps cause))
 
 pub returns-in_default-clause-makes : goal.returns-in_default-clause-makes
-returns-in_default-clause-makes g c s stand =
-    let setup : Setup = setup_for c.args.shelf.now.geometry c.args.set.now in
+returns-in_default-clause-makes g c setup s is stand =
     makes_nothing g.D.Disk.view setup c.args.digest.now c.args.sprig.now c.args.shelf.now s (put_call c.args.digest.now c.args.ttl c.args.expect c.args.payload.now c.args.now)
     (refused (cause_of_write write.Memory)) (g.met.D.Disk.is_disk c.args.shelf.now.disk) stand
     (λ told event is answer steps. memory_wants setup s told c.args.digest.now c.args.ttl c.args.expect c.args.payload.now c.args.now event answer steps)
 
 pub write_step-requires-clause-version : goal.write_step-requires-clause-version
 write_step-requires-clause-version g c =
-    let setup : Setup = setup_for c.args.shelf.now.geometry c.args.set.now in
     let stands = c.requires.stand in
     let given : new_stamp (stamp_found (entry_of c.args.digest.now c.args.sprig.now.entries)) c.args.sprig.now.hw c.args.now ≡ Some c.in_ok-stamp.stamp =
     ap (λ (o : Option Entry). new_stamp (stamp_found o) c.args.sprig.now.hw c.args.now) (sym c.find-found.ensures.value)
     ∙ ap (λ (n : ℕ). new_stamp (stamp_found c.find-found.result) n c.args.now) (sym c.hw.ensures) ∙ c.in_ok-stamp.ensures {u = tt} in
-    let f = stamp_fine setup c.args.digest.now c.args.sprig.now stands.0 stands.1.sprig_stands c.args.now c.in_ok-stamp.stamp given in
+    let f = stamp_fine stands.0 c.args.digest.now c.args.sprig.now stands.1 stands.3.sprig_stands c.args.now c.in_ok-stamp.stamp given in
     subst IsVersion (sym (c.in-Ok.ensures {u = tt})) (record { tombstone = λ tomb. absurd (false≢true tomb); time = f.time; generation = f.generation; void = omega arith })
 
 pub returns-clause-makes : goal.returns-clause-makes
-returns-clause-makes g c s stand =
-    let setup : Setup = setup_for c.args.shelf.now.geometry c.args.set.now in
+returns-clause-makes g c setup s is stand =
     let stamp : Stamp = c.in_ok-stamp.stamp in
     let given : new_stamp (stamp_found (entry_of c.args.digest.now c.args.sprig.now.entries)) c.args.sprig.now.hw c.args.now ≡ Some stamp =
     ap (λ (o : Option Entry). new_stamp (stamp_found o) c.args.sprig.now.hw c.args.now) (sym c.find-found.ensures.value)
     ∙ ap (λ (n : ℕ). new_stamp (stamp_found c.find-found.result) n c.args.now) (sym c.hw.ensures) ∙ c.in_ok-stamp.ensures {u = tt} in
-    let capacity : c.capacity.result ≡ setup.capacity = c.capacity.ensures ∙ ap (λ (x : Geometry). block_capacity x.block_size) c.geometry-block_size.ensures.shape in
+    let capacity : c.capacity.result ≡ setup.capacity = c.capacity.ensures ∙ ap (λ (x : Geometry). block_capacity x.block_size) c.geometry-block_size.ensures.shape
+    ∙ sym is.of_shelf.shape.capacity in
     let seen : generation_seen c.args.now (entry_of c.args.digest.now c.args.sprig.now.entries) ≡ c.generation_of.result = ap (generation_seen c.args.now) (sym c.find-found.ensures.value)
     ∙ sym c.generation_of.ensures in
     let fit : IsFit (length c.args.payload.now) c.capacity.result c.args.expect (generation_seen c.args.now (entry_of c.args.digest.now c.args.sprig.now.entries)) =
@@ -101,21 +98,21 @@ returns-clause-makes g c s stand =
     c.in-Ok.ensures {u = tt} ∙ ap (λ (n : ℕ). a_put stamp n c.cover_after.result c.args.payload.now) c.void_of.ensures
     ∙ ap (λ (b : Bool). a_put stamp (void_time c.args.ttl c.args.now) b c.args.payload.now) cover in
     let writes = put_writes setup c.args.digest.now c.args.sprig.now s stand.sprig_stands c.args.now c.args.ttl c.args.expect c.args.payload.now c.capacity.result capacity fit stamp
-    given c.requires.named in
-    let made = c.write_step.ensures.makes s (put_call c.args.digest.now c.args.ttl c.args.expect c.args.payload.now c.args.now) (stamp_given stamp) stand
+    given (own_of setup c.args.shelf.now is.of_shelf c.args.digest.now c.requires.named) in
+    let made = c.write_step.ensures.makes setup s (put_call c.args.digest.now c.args.ttl c.args.expect c.args.payload.now c.args.now) (stamp_given stamp) is stand
     (subst (λ (v : Version). IsWriteOf setup s (put_call c.args.digest.now c.args.ttl c.args.expect c.args.payload.now c.args.now) class.Put c.args.digest.now v (stamp_given stamp))
     (sym version) writes) in
     by c.write_step.result c.write_step.ensures.stamp made (ap (λ (v : Version). v.stamp) version)
   where
     by : (r : Result Stamp WriteRefusal) → IfOk r (λ stamp. stamp ≡ c.in-Ok.version.stamp)
-        → StepMakes g.D.Disk.view (setup_for c.args.shelf.now.geometry c.args.set.now) (part_of (setup_for c.args.shelf.now.geometry c.args.set.now) c.args.digest.now)
+        → StepMakes g.D.Disk.view setup (part_of setup c.args.digest.now)
         (put_call c.args.digest.now c.args.ttl c.args.expect c.args.payload.now c.args.now)
         (written_answer (stamp_given c.in_ok-stamp.stamp) r) c.args.shelf.now s c.write_step.new.sprig c.write_step.new.shelf
         → c.in-Ok.version.stamp ≡ c.in_ok-stamp.stamp
-        → StepMakes g.D.Disk.view (setup_for c.args.shelf.now.geometry c.args.set.now) (part_of (setup_for c.args.shelf.now.geometry c.args.set.now) c.args.digest.now)
+        → StepMakes g.D.Disk.view setup (part_of setup c.args.digest.now)
         (put_call c.args.digest.now c.args.ttl c.args.expect c.args.payload.now c.args.now) (write_answer r) c.args.shelf.now s c.write_step.new.sprig c.write_step.new.shelf
     by (Ok x) same made stamped =
-        subst (λ (y : Stamp). StepMakes g.D.Disk.view (setup_for c.args.shelf.now.geometry c.args.set.now) (part_of (setup_for c.args.shelf.now.geometry c.args.set.now) c.args.digest.now)
+        subst (λ (y : Stamp). StepMakes g.D.Disk.view setup (part_of setup c.args.digest.now)
         (put_call c.args.digest.now c.args.ttl c.args.expect c.args.payload.now c.args.now) (stamp_given y) c.args.shelf.now s c.write_step.new.sprig c.write_step.new.shelf)
         (sym (same ∙ stamped)) made
     by (Err refusal) same made stamped = made
@@ -187,9 +184,6 @@ write_step-requires-clause-named g c = c.requires.named
 
 pub write_step-requires-clause-settings : goal.write_step-requires-clause-settings
 write_step-requires-clause-settings g c = c.requires.settings
-
-pub write_step-requires-clause-limits : goal.write_step-requires-clause-limits
-write_step-requires-clause-limits g c = c.requires.limits
 
 pub write_step-requires-clause-stand : goal.write_step-requires-clause-stand
 write_step-requires-clause-stand g c = c.requires.stand

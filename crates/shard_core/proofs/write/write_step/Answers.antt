@@ -15,22 +15,18 @@ use Rattle.block_shelf.specs.Calls.{Goes}
 use Rattle.shard_core.specs.declared.refusals.WriteRefusal.{WriteRefusal}
 use Rattle.shard_core.specs.declared.refusals.WriteRefusal.TheVariants as write
 use Rattle.rec_format.specs.Versions.{version_units}
-use Rattle.shard_core.specs.View.{setup_for}
 use Rattle.law_steps.specs.Events.{StepMakes}
 use Rattle.shard_core.specs.Writing.{Wrote, Commits, written_answer}
 use Rattle.shard_core.proofs.FlushLoop.{rose_since, setup_stays}
 use Rattle.shard_core.specs.Keeping.{KeepsBy}
 use Rattle.shard_core.proofs.Keeping.{keeps_flush, written_off, written_on, left_keeps}
 use Rattle.shard_core.proofs.Later.{later_then, shape_then}
-use Rattle.shard_core.proofs.Making.{setup_fits}
 use Rattle.shard_core.proofs.Writes.{makes_unwritten, makes_waiting, ends_done, ends_faulted}
 use Rattle.block_shelf.proofs.Surely.{sure_then}
 use Rattle.shard_core.proofs.write.write_step.Goals as goal
 
 pub returns-in_err-block-clause-makes : goal.returns-in_err-block-clause-makes
-returns-in_err-block-clause-makes g c s call ok stand may =
-    let setup : Setup = setup_for c.args.shelf.now.geometry c.args.set.now in
-    let is : IsSetupOf setup c.args.shelf.now = setup_fits c.args.shelf.now c.args.set.now c.requires.limits in
+returns-in_err-block-clause-makes g c setup s call ok is stand may =
     let refusal : WriteRefusal = c.in_err-block.field-0.0 in
     let e = c.in_err-block.ensures {u = tt} in
     let p = err_from_is_err_and c.from_residual.result c.from_residual.ensures.1 in
@@ -39,14 +35,12 @@ returns-in_err-block-clause-makes g c s call ok stand may =
     (written_answer ok r) c.args.shelf.now s c.append_entry.new.sprig c.append_entry.new.shelf) (sym same)
     (makes_unwritten g.D.Disk.view setup s call c.args.class c.args.digest.now c.args.version.now ok c.args.shelf.now c.append_entry.new.sprig may c.append_entry.new.shelf
     c.append_entry.ensures.later.count
-    stand.shelf_stands.queue refusal (e.wrote setup s is stand) (λ fault. e.cause (ap (λ (r : WriteRefusal). Err r) fault)))
+    stand.shelf_stands.queue refusal (e.wrote setup s is.of_shelf stand) (λ fault. e.cause (ap (λ (r : WriteRefusal). Err r) fault)))
 
 pub returns-then-not-set-clause-makes : goal.returns-then-not-set-clause-makes
-returns-then-not-set-clause-makes g c s call ok stand may =
-    let setup : Setup = setup_for c.args.shelf.now.geometry c.args.set.now in
-    let is : IsSetupOf setup c.args.shelf.now = setup_fits c.args.shelf.now c.args.set.now c.requires.limits in
+returns-then-not-set-clause-makes g c setup s call ok is stand may =
     makes_waiting g.D.Disk.view setup s call c.args.class c.args.digest.now c.args.version.now ok c.args.shelf.now c.append_entry.new.sprig may c.in_ok-block.block c.append_entry.new.shelf
-    ((c.in_ok-block.ensures {u = tt}).wrote setup s is stand) c.append_entry.ensures.honest c.if-not-set.true c.append_entry.ensures.later.count
+    ((c.in_ok-block.ensures {u = tt}).wrote setup s is.of_shelf stand) c.append_entry.ensures.honest (is.commit ∙ c.if-not-set.true) c.append_entry.ensures.later.count
 
 pub returns-in_err-commit-clause-later : goal.returns-in_err-commit-clause-later
 returns-in_err-commit-clause-later g c = later_then g.D.Disk.view c.args.shelf.now.disk c.append_entry.new.shelf.disk c.commit.new.shelf.disk c.append_entry.ensures.later c.commit.ensures.later
@@ -55,15 +49,14 @@ pub returns-clause-later : goal.returns-clause-later
 returns-clause-later g c = later_then g.D.Disk.view c.args.shelf.now.disk c.append_entry.new.shelf.disk c.commit.new.shelf.disk c.append_entry.ensures.later c.commit.ensures.later
 
 pub returns-in_err-commit-clause-makes : goal.returns-in_err-commit-clause-makes
-returns-in_err-commit-clause-makes g c s call ok stand may =
-    let setup : Setup = setup_for c.args.shelf.now.geometry c.args.set.now in
-    let is : IsSetupOf setup c.args.shelf.now = setup_fits c.args.shelf.now c.args.set.now c.requires.limits in
+returns-in_err-commit-clause-makes g c setup s call ok is stand may =
     let it : Wrote g.D.Disk.view setup s c.args.class c.args.digest.now c.args.version.now c.in_ok-block.block c.args.shelf.now c.append_entry.new.sprig c.append_entry.new.shelf =
-    (c.in_ok-block.ensures {u = tt}).wrote setup s is stand in
+    (c.in_ok-block.ensures {u = tt}).wrote setup s is.of_shelf stand in
     let t : State = after_step setup (wrote c.args.digest.now c.args.version.now) s in
     let went = subst (λ (r : Result (Unit {0}) WriteRefusal). (steps : List Step) × Commits r (flush_between 0 it.buffer.number (after_step setup (sealed_stream client) t).book) steps
     × Goes g.D.Disk.view setup (sealed_stream client ∷ steps) c.append_entry.new.shelf t c.commit.new.shelf) c.in_err-commit.was
-    (c.commit.ensures.committed setup t it.buffer (setup_stays setup c.args.shelf.now c.append_entry.new.shelf c.append_entry.ensures.shape is) it.stands.shelf_stands.stands it.filling it.there) in
+    (c.commit.ensures.committed setup t it.buffer (setup_stays setup c.args.shelf.now c.append_entry.new.shelf c.append_entry.ensures.shape is.of_shelf) it.stands.shelf_stands.stands it.filling
+    it.there) in
     let up = le_trans c.append_entry.ensures.later.count c.commit.ensures.later.count in
     let p = err_from_is_err_and c.from_residual-in_err-commit.result c.from_residual-in_err-commit.ensures.1 in
     let same : c.from_residual-in_err-commit.result ≡ Err write.Fault = p.1 ∙ ap (λ (r : WriteRefusal). Err r) (p.2 ∙ went.1.0) in
@@ -74,22 +67,21 @@ returns-in_err-commit-clause-makes g c s call ok stand may =
     (written_answer ok r) c.args.shelf.now s c.append_entry.new.sprig c.commit.new.shelf) (sym same)
     (ends_faulted g.D.Disk.view setup s call c.args.class c.args.digest.now c.args.version.now ok c.args.shelf.now c.append_entry.new.sprig may c.in_ok-block.block c.append_entry.new.shelf
     it c.append_entry.ensures.honest
-    c.if-not-set.false c.commit.new.shelf up (Err c.in_err-commit.field-0.0) went.0 went.1 went.2 went.1.1 rose)
+    (is.commit ∙ c.if-not-set.false) c.commit.new.shelf up (Err c.in_err-commit.field-0.0) went.0 went.1 went.2 went.1.1 rose)
 
 pub returns-clause-makes : goal.returns-clause-makes
-returns-clause-makes g c s call ok stand may =
-    let setup : Setup = setup_for c.args.shelf.now.geometry c.args.set.now in
-    let is : IsSetupOf setup c.args.shelf.now = setup_fits c.args.shelf.now c.args.set.now c.requires.limits in
+returns-clause-makes g c setup s call ok is stand may =
     let it : Wrote g.D.Disk.view setup s c.args.class c.args.digest.now c.args.version.now c.in_ok-block.block c.args.shelf.now c.append_entry.new.sprig c.append_entry.new.shelf =
-    (c.in_ok-block.ensures {u = tt}).wrote setup s is stand in
+    (c.in_ok-block.ensures {u = tt}).wrote setup s is.of_shelf stand in
     let t : State = after_step setup (wrote c.args.digest.now c.args.version.now) s in
     let went = subst (λ (r : Result (Unit {0}) WriteRefusal). (steps : List Step) × Commits r (flush_between 0 it.buffer.number (after_step setup (sealed_stream client) t).book) steps
     × Goes g.D.Disk.view setup (sealed_stream client ∷ steps) c.append_entry.new.shelf t c.commit.new.shelf) c.in_ok-commit.was
-    (c.commit.ensures.committed setup t it.buffer (setup_stays setup c.args.shelf.now c.append_entry.new.shelf c.append_entry.ensures.shape is) it.stands.shelf_stands.stands it.filling it.there) in
+    (c.commit.ensures.committed setup t it.buffer (setup_stays setup c.args.shelf.now c.append_entry.new.shelf c.append_entry.ensures.shape is.of_shelf) it.stands.shelf_stands.stands it.filling
+    it.there) in
     let up = le_trans c.append_entry.ensures.later.count c.commit.ensures.later.count in
     ends_done g.D.Disk.view setup s call c.args.class c.args.digest.now c.args.version.now ok c.args.shelf.now c.append_entry.new.sprig may c.in_ok-block.block c.append_entry.new.shelf it
     c.append_entry.ensures.honest
-    c.if-not-set.false c.commit.new.shelf up (Ok c.in_ok-commit.field-0) went.0 went.1 went.2 went.1
+    (is.commit ∙ c.if-not-set.false) c.commit.new.shelf up (Ok c.in_ok-commit.field-0) went.0 went.1 went.2 went.1
 
 -- ---- what stays
 
@@ -207,12 +199,12 @@ returns-then-not-set-clause-kept g c =
 
 pub returns-in_err-commit-clause-kept : goal.returns-in_err-commit-clause-kept
 returns-in_err-commit-clause-kept g c =
-    let setup : Setup = setup_for c.args.shelf.now.geometry c.args.set.now in
-    let is : IsSetupOf setup c.args.shelf.now = setup_fits c.args.shelf.now c.args.set.now c.requires.limits in
+    let setup : Setup = c.requires.stand.0 in
+    let is : IsSetupOf setup c.args.shelf.now = c.requires.stand.2.of_shelf in
     let units = version_units c.args.version.now in
-    let s : State = c.requires.stand.0 in
+    let s : State = c.requires.stand.1 in
     let it : Wrote g.D.Disk.view setup s c.args.class c.args.digest.now c.args.version.now c.in_ok-block.block c.args.shelf.now c.append_entry.new.sprig c.append_entry.new.shelf =
-    (c.in_ok-block.ensures {u = tt}).wrote setup s is c.requires.stand.1 in
+    (c.in_ok-block.ensures {u = tt}).wrote setup s is c.requires.stand.3 in
     let t : State = after_step setup (wrote c.args.digest.now c.args.version.now) s in
     let kept = c.commit.ensures.kept setup t it.buffer (setup_stays setup c.args.shelf.now c.append_entry.new.shelf c.append_entry.ensures.shape is) it.stands.shelf_stands.stands it.filling
     it.there in
@@ -228,12 +220,12 @@ returns-in_err-commit-clause-kept g c =
 
 pub returns-clause-kept : goal.returns-clause-kept
 returns-clause-kept g c =
-    let setup : Setup = setup_for c.args.shelf.now.geometry c.args.set.now in
-    let is : IsSetupOf setup c.args.shelf.now = setup_fits c.args.shelf.now c.args.set.now c.requires.limits in
+    let setup : Setup = c.requires.stand.0 in
+    let is : IsSetupOf setup c.args.shelf.now = c.requires.stand.2.of_shelf in
     let units = version_units c.args.version.now in
-    let s : State = c.requires.stand.0 in
+    let s : State = c.requires.stand.1 in
     let it : Wrote g.D.Disk.view setup s c.args.class c.args.digest.now c.args.version.now c.in_ok-block.block c.args.shelf.now c.append_entry.new.sprig c.append_entry.new.shelf =
-    (c.in_ok-block.ensures {u = tt}).wrote setup s is c.requires.stand.1 in
+    (c.in_ok-block.ensures {u = tt}).wrote setup s is c.requires.stand.3 in
     let t : State = after_step setup (wrote c.args.digest.now c.args.version.now) s in
     let kept = c.commit.ensures.kept setup t it.buffer (setup_stays setup c.args.shelf.now c.append_entry.new.shelf c.append_entry.ensures.shape is) it.stands.shelf_stands.stands it.filling
     it.there in

@@ -15,7 +15,7 @@ use Rattle.shard_core.specs.Sprigs.{held}
 use Rattle.shard_core.specs.View.{ShardView, SameSetup, setup_of}
 use Rattle.shard_core.specs.Stands.{Agrees}
 use Rattle.shard_core.specs.Calls.{Makes, IsRefusedStep, IsRefusedWrite, delete_answer}
-use Rattle.shard_core.proofs.Making.{whole_made, step_stands, lifted, held_at, sprigs_same, room_stays}
+use Rattle.shard_core.proofs.Making.{whole_made, step_stands, lifted, held_at, sprigs_same, room_stays, setup_by}
 use Rattle.shard_core.proofs.Tallies.{tally_behind}
 use Rattle.shard_core.proofs.shard.Shard.delete.Given.{Over}
 use Rattle.block_shelf.specs.Sure.{StaysSure}
@@ -31,7 +31,9 @@ delete_step-answer-requires-clause-stand g c =
     let place : c.part_of-part.result ≡ part_of (setup_of old) c.args.digest.now = c.part_of-part.ensures.part
     ∙ ap (λ (v : ShardView g.row.D.Denot). part_of (setup_of v) c.args.digest.now) (sym c.self.view_is) in
     let there : c.part_of-part.result < length old.sprigs = subst (λ (v : ShardView g.row.D.Denot). c.part_of-part.result < length v.sprigs) (sym c.self.view_is) c.part_of-part.ensures.there in (
+      setup_of old,
       stands.0,
+      setup_by old.shelf old.set c.self.invariant.whole.limits,
       step_stands g.D.Disk.view c.args.digest.now old old c.part_of-part.result c.index_mut.result.now c.index_mut.result.now
           (record { geometry = refl; set = refl }) place there c.index_mut.ensures.value
           (sym (set_unchanged old.sprigs c.part_of-part.result c.index_mut.result.now c.index_mut.ensures.value)) stands.0 stands.1,
@@ -61,7 +63,7 @@ made g c s agrees =
     lifted g.D.Disk.view c.args.digest.now old new c.part_of-part.result c.index_mut.result.now c.delete_step-answer.new.sprig shape place there c.index_mut.ensures.value refl
     (delete_call c.args.digest.now c.args.now) (delete_answer c.delete_step-answer.result)
     (subst (λ (v : ShardView g.row.D.Denot). device_number v.shelf.geometry.devices c.args.digest.now ≡ v.shelf.geometry.device) (sym c.self.view_is) c.requires.named) refl s agrees
-    (c.delete_step-answer.ensures.makes s
+    (c.delete_step-answer.ensures.makes (setup_of old) s (setup_by old.shelf old.set c.self.invariant.whole.limits)
     (step_stands g.D.Disk.view c.args.digest.now old new c.part_of-part.result c.index_mut.result.now c.delete_step-answer.new.sprig shape place there
     c.index_mut.ensures.value refl s agrees))
 

@@ -17,7 +17,7 @@ use Rattle.shard_core.specs.Sprigs.{held}
 use Rattle.shard_core.specs.View.{ShardView, SameSetup, setup_of}
 use Rattle.shard_core.specs.Stands.{Agrees}
 use Rattle.shard_core.specs.Calls.{Makes, GetsStored, read_answer}
-use Rattle.shard_core.proofs.Making.{keeps_few, whole_made, step_stands, lifted, held_at, room_stays}
+use Rattle.shard_core.proofs.Making.{keeps_few, whole_made, step_stands, lifted, held_at, room_stays, setup_by}
 use Rattle.shard_core.proofs.Tallies.{tally_same}
 use Rattle.shard_core.proofs.shard.Shard.get.Given.{Over}
 use Rattle.block_shelf.specs.Sure.{StaysSure}
@@ -33,7 +33,9 @@ get_step-requires-clause-stand g c =
     let place : c.part_of-part.result ≡ part_of (setup_of old) c.args.digest.now = c.part_of-part.ensures.part
     ∙ ap (λ (v : ShardView g.row.D.Denot). part_of (setup_of v) c.args.digest.now) (sym c.self.view_is) in
     let there : c.part_of-part.result < length old.sprigs = subst (λ (v : ShardView g.row.D.Denot). c.part_of-part.result < length v.sprigs) (sym c.self.view_is) c.part_of-part.ensures.there in (
+      setup_of old,
       stands.0,
+      setup_by old.shelf old.set c.self.invariant.whole.limits,
       step_stands g.D.Disk.view c.args.digest.now old old c.part_of-part.result c.index_mut.result.now c.index_mut.result.now
           (record { geometry = refl; set = refl }) place there c.index_mut.ensures.value
           (sym (set_unchanged old.sprigs c.part_of-part.result c.index_mut.result.now c.index_mut.ensures.value)) stands.0 stands.1,
@@ -53,7 +55,8 @@ made g c s agrees =
     lifted g.D.Disk.view c.args.digest.now old new c.part_of-part.result c.index_mut.result.now c.get_step.new.sprig shape place there c.index_mut.ensures.value refl
     (get_call c.args.digest.now c.args.now) (read_answer c.get_step.result)
     (subst (λ (v : ShardView g.row.D.Denot). device_number v.shelf.geometry.devices c.args.digest.now ≡ v.shelf.geometry.device) (sym c.self.view_is) c.requires.named) refl s agrees
-    (c.get_step.ensures.makes s (step_stands g.D.Disk.view c.args.digest.now old new c.part_of-part.result c.index_mut.result.now c.get_step.new.sprig shape place there
+    (c.get_step.ensures.makes (setup_of old) s (setup_by old.shelf old.set c.self.invariant.whole.limits)
+    (step_stands g.D.Disk.view c.args.digest.now old new c.part_of-part.result c.index_mut.result.now c.get_step.new.sprig shape place there
     c.index_mut.ensures.value refl s agrees))
 
 pub returns-clause-makes : goal.returns-clause-makes
@@ -105,15 +108,16 @@ returns-clause-stored g c =
     ∙ ap (λ (v : ShardView g.row.D.Denot). part_of (setup_of v) c.args.digest.now) (sym c.self.view_is) in
     let there : c.part_of-part.result < length old.sprigs = subst (λ (v : ShardView g.row.D.Denot). c.part_of-part.result < length v.sprigs) (sym c.self.view_is) c.part_of-part.ensures.there in
     let shape : SameSetup old new = record { geometry = ap (λ (x : ShelfView g.row.D.Denot). x.geometry) c.get_step.ensures.shelf; set = refl } in
+    let stored = c.get_step.ensures.stored (setup_of old) (setup_by old.shelf old.set c.self.invariant.whole.limits) in
     let held_is = held_at g.D.Disk.view c.args.digest.now old new c.part_of-part.result c.index_mut.result.now c.get_step.new.sprig shape place there c.index_mut.ensures.value refl in
     subst (λ (v : ShardView g.row.D.Denot). GetsStored g.D.Disk.view v c.args.digest.now c.args.now c.get_step.result) c.self.view_is (record {
-      remembered = λ s agrees e b is there_b at. c.get_step.ensures.stored.remembered s
+      remembered = λ s agrees e b is there_b at. stored.remembered s
           (step_stands g.D.Disk.view c.args.digest.now old new c.part_of-part.result c.index_mut.result.now c.get_step.new.sprig shape place there c.index_mut.ensures.value refl s agrees) e
           b (sym held_is ∙ is) there_b at;
-      copied = λ s agrees v sees e b is there_b at. c.get_step.ensures.stored.copied s
+      copied = λ s agrees v sees e b is there_b at. stored.copied s
           (step_stands g.D.Disk.view c.args.digest.now old new c.part_of-part.result c.index_mut.result.now c.get_step.new.sprig shape place there c.index_mut.ensures.value refl s agrees)
           v sees e b (sym held_is ∙ is) there_b at;
-      placed = λ told e is none. c.get_step.ensures.stored.placed told e (ap (seen_entry c.args.now) (sym held_is) ∙ is) none;
+      placed = λ told e is none. stored.placed told e (ap (seen_entry c.args.now) (sym held_is) ∙ is) none;
     })
 
 pub returns-clause-undamaged : goal.returns-clause-undamaged
@@ -125,7 +129,7 @@ returns-clause-undamaged g c =
     let there : c.part_of-part.result < length old.sprigs = subst (λ (v : ShardView g.row.D.Denot). c.part_of-part.result < length v.sprigs) (sym c.self.view_is) c.part_of-part.ensures.there in
     let shape : SameSetup old new = record { geometry = ap (λ (x : ShelfView g.row.D.Denot). x.geometry) c.get_step.ensures.shelf; set = refl } in
     subst (λ (v : ShardView g.row.D.Denot). IsHonest (g.D.Disk.view v.shelf.disk) → (s : State) → Agrees v s → IsPlaced g.D.Disk.view v.shelf s → IfErr c.get_step.result IsUndamaged) c.self.view_is
-    (λ honest s agrees placed. c.get_step.ensures.undamaged honest s
+    (λ honest s agrees placed. c.get_step.ensures.undamaged honest (setup_of old) s (setup_by old.shelf old.set c.self.invariant.whole.limits)
     (step_stands g.D.Disk.view c.args.digest.now old new c.part_of-part.result c.index_mut.result.now c.get_step.new.sprig shape place there c.index_mut.ensures.value refl s agrees)
     placed)
 
