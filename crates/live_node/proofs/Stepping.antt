@@ -27,7 +27,7 @@ use Rattle.law_steps.specs.Events.{MakesEvent, StepMakes}
 use Rattle.shard_core.specs.declared.settings.Settings.{Settings}
 use Rattle.shard_core.specs.Numbers.{tally_sum}
 use Rattle.shard_core.specs.Stands.{Agrees, IsWhole}
-use Rattle.shard_core.specs.View.{setup_for, limits_of, IsSettings}
+use Rattle.shard_core.specs.View.{setup_for, limits_of, IsSettings, IsSetupBy}
 use Rattle.shard_core.proofs.Events.{of_first, of_others, of_one}
 use Rattle.shard_core.proofs.Making.{setup_fits}
 use Rattle.shard_core.proofs.Tallies.{tally_behind}
@@ -112,16 +112,16 @@ module _ {D : Type 0} {view : D → DiskView} {o : Opening D} {events : List Eve
   pub is_setup : IsSetupOf setup old
   is_setup = subst (λ (x : Setup). IsSetupOf x old) same_setup (setup_fits old set' limits)
 
+  pub is_setup_by : IsSetupBy set' setup old
+  is_setup_by = record { of_shelf = is_setup; commit = ap (λ (x : Settings). x.commit) fits.is_set; raid_age = ap (λ (x : Settings). x.raid_age) fits.is_set }
+
   -- the call names a digest of the device also by the shelf in hand
   pub names_own : (call : Call) → NamesOwn setup call → NamesOwn (setup_for old.geometry set') call
   names_own call own = subst (λ (x : Setup). NamesOwn x call) (sym same_setup) own
 
   -- hub and sprig stand for the state that the events give
-  pub stand : (part : Setup → ℕ) (k : ℕ) (sprig : SprigState) → k ≡ part setup → PartFits o events k sprig
-      → StandTogether (setup_for old.geometry set') (part (setup_for old.geometry set')) sprig old here
-  stand part k sprig is_part sprig_fits =
-      subst (λ (x : Setup). StandTogether x (part x) sprig old here) (sym same_setup)
-      (record { sprig_stands = subst (λ (n : ℕ). SprigStands setup n sprig here) is_part sprig_fits; shelf_stands = fits.hub.stands })
+  pub stand : (part : Setup → ℕ) (k : ℕ) (sprig : SprigState) → k ≡ part setup → PartFits o events k sprig → StandTogether setup (part setup) sprig old here
+  stand part k sprig is_part sprig_fits = record { sprig_stands = subst (λ (n : ℕ). SprigStands setup n sprig here) is_part sprig_fits; shelf_stands = fits.hub.stands }
 
   -- the hub with the sprigs whose counts it has is a device that stands for the state
   pub as_shard : Agrees record { shelf = old; set = set'; sprigs = fits.hub.tallied.sprigs } here
@@ -225,19 +225,19 @@ module _ {D : Type 0} {view : D → DiskView} {o : Opening D} {events : List Eve
 
   -- what a step over hub and sprig makes, by the setup of the opening
   step_at : (part : Setup → ℕ) (k : ℕ) (call : Call) (Answered : Answer → Type 0) (before behind : SprigState) (new : ShelfView D) → k ≡ part setup → PartFits o events k before
-      → ((s : State) → StandTogether (setup_for old.geometry set') (part (setup_for old.geometry set')) before old s
-      → (answer : Answer) × Answered answer × StepMakes view (setup_for old.geometry set') (part (setup_for old.geometry set')) call answer old s behind new)
+      → ((x : Setup) (s : State) → IsSetupBy set' x old → StandTogether x (part x) before old s
+      → (answer : Answer) × Answered answer × StepMakes view x (part x) call answer old s behind new)
       → (answer : Answer) × Answered answer × StepMakes view setup k call answer old here behind new
   step_at part k call Answered before behind new is_part sprig_fits makes =
       subst (λ (n : ℕ). (answer : Answer) × Answered answer × StepMakes view setup n call answer old here behind new) (sym is_part)
-      (subst (λ (x : Setup). (answer : Answer) × Answered answer × StepMakes view x (part x) call answer old here behind new) same_setup (makes here (stand part k before is_part sprig_fits)))
+      (makes setup here is_setup_by (stand part k before is_part sprig_fits))
 
   -- a step over hub and sprig
   pub step_fits : (part : Setup → ℕ) (k : ℕ) (call : Call) (Answered : Answer → Type 0) (before behind : SprigState) (new : ShelfView D) (tally' : Tally)
       → k ≡ part setup → part_named setup call ≡ Some (part setup) → NamesOwn setup call → SameShape old new → (IsHonest (view old.disk) → IsHonest (view new.disk))
       → PartFits o events k before → Counts tally tally' k before behind
-      → ((s : State) → StandTogether (setup_for old.geometry set') (part (setup_for old.geometry set')) before old s
-      → (answer : Answer) × Answered answer × StepMakes view (setup_for old.geometry set') (part (setup_for old.geometry set')) call answer old s behind new)
+      → ((x : Setup) (s : State) → IsSetupBy set' x old → StandTogether x (part x) before old s
+      → (answer : Answer) × Answered answer × StepMakes view x (part x) call answer old s behind new)
       → (x : PartEvent) × StepFits view o events (Is call Answered) k new tally' behind x
   step_fits part k call Answered before behind new tally' is_part named own shape honest sprig_fits counts makes =
       let made = step_at part k call Answered before behind new is_part sprig_fits makes in

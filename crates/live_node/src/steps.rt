@@ -9,7 +9,7 @@ ghost use Rattle.law_sprig.specs.Parts.{NamesOwn};
 ghost use Rattle.block_shelf.specs.View.{IsSetupOf};
 ghost use Rattle.law_steps.specs.Standing.{ShelfStands, StandTogether};
 ghost use Rattle.law_steps.specs.Events.{MakesEvent, StepMakes};
-ghost use Rattle.shard_core.specs.View.{IsSettings, limits_of, setup_for};
+ghost use Rattle.shard_core.specs.View.{IsSettings, IsSetupBy, setup_for};
 
 use block_shelf::Shelf;
 use disk_model::Disk;
@@ -47,9 +47,8 @@ pub(crate) trait Step<D: Disk>: EventCall {
         requires asks { asks self.now }
         requires own { NamesOwn (setup_for shelf.old.geometry set.now) (Self.call self.now) }
         requires settings { IsSettings set.now }
-        requires limits { shelf.old.limits ≡ limits_of set.now }
-        requires stand { let setup = setup_for shelf.old.geometry set.now in (s : State) × StandTogether setup (part self.now setup) sprig.old shelf.old s }
-        ensures makes { let setup = setup_for shelf.old.geometry set.now in (s : State) → StandTogether setup (part self.now setup) sprig.old shelf.old s
+        requires stand { (setup : Setup) × (s : State) × IsSetupBy set.now setup shelf.old × StandTogether setup (part self.now setup) sprig.old shelf.old s }
+        ensures makes { (setup : Setup) (s : State) → IsSetupBy set.now setup shelf.old → StandTogether setup (part self.now setup) sprig.old shelf.old s
             → (answer : EventAnswer) × Self.answers self.now result answer × StepMakes D.view setup (part self.now setup) (Self.call self.now) answer shelf.old s sprig.new shelf.new }
         ensures honest { IsHonest (D.view shelf.old.disk) → IsHonest (D.view shelf.new.disk) }
         ensures shape { (shelf.new.geometry ≡ shelf.old.geometry) × (shelf.new.limits ≡ shelf.old.limits) };

@@ -3,7 +3,7 @@ use Rattle.turn_table.specs.Passes.{view}
 use Rattle.live_node.specs.Opening.{setup_at, state_at}
 use Rattle.live_node.specs.Calls.{seen_by}
 use Rattle.live_node.specs.Lives.{opening_at}
-use Rattle.live_node.proofs.Stepping.{fits_alone, names_own, settings, limits, stand, counts_by, step_fits}
+use Rattle.live_node.proofs.Stepping.{fits_alone, names_own, settings, is_setup_by, stand, counts_by, step_fits}
 use Rattle.live_node.proofs.live.Live.enter.Goals as goal
 
 pub step-answer-requires : goal.step-answer-requires
@@ -12,9 +12,10 @@ step-answer-requires g c =
       asks = c.requires.asks;
       own = names_own fits (g.C.EventCall.call c.args.call.now) c.requires.own;
       settings = settings fits;
-      limits = limits fits;
       stand = (
+        setup_at (opening_at c.args.self.now),
         state_at (opening_at c.args.self.now) (seen_by (view c.args.pass.now)),
+        is_setup_by fits,
         stand fits (g.C.Step.part c.args.call.now) c.args.part c.args.sprig.now c.requires.part c.requires.sprig,
       );
     }
