@@ -1,4 +1,4 @@
-//! Tests of links, doors and workers: sessions over connections of this machine, halts of these, and workers that rest until they are told to end.
+//! Tests of links, doors, workers and servers: sessions over connections of this machine, halts of these, workers that rest until they are told to end, and all threads of a server.
 #![tactic(auto)]
 
 #[cfg(test)]
@@ -7,5 +7,7 @@ mod connections;
 mod doors;
 #[cfg(test)]
 mod nudges;
+#[cfg(test)]
+mod serving;
 #[cfg(test)]
 mod workers;
