@@ -1,13 +1,13 @@
 -- A shelf that goes by an event's steps makes the event.
 use Rattle.std.proofs.Common.{◌≡◌, ℕ, ◌≤◌, Bool, true, false, ◌&&◌, List, [], ◌∷◌, refl}
-use Rattle.std.specs.Prelude.{is_some, filter, flat_map, nat_le}
+use Rattle.std.specs.Prelude.{filter, flat_map, nat_le}
 use Rattle.std.specs.List.{AllByRecursion}
 use Rattle.law_lists.proofs.Each.{all_joined}
-use Rattle.model_device.specs.Book.{Setup, Book, Buffer, Phase, Stream, client, defrag, filling, sealed, opening, filling_buffer}
+use Rattle.model_device.specs.Book.{Setup, Book, Buffer, Phase, Stream, filling, sealed, opening}
 use Rattle.model_device.specs.Device.{State}
 use Rattle.model_device.specs.Steps.{Step, sealed_stream, gate_begun, flushed_buffer, closing_failed, after_steps}
 use Rattle.model_device.specs.Events.{Event, Call, Answer}
-use Rattle.model_device.specs.Legal.{Allowed, flush_of, flush_between, seal_if, seal_all, is_due, seal_low}
+use Rattle.model_device.specs.Legal.{Allowed, flush_of, flush_between}
 use Rattle.disk_model.specs.Disk.{DiskView, IsHonest}
 use Rattle.sprig_tree.specs.State.{SprigState}
 use Rattle.law_sprig.specs.Sparing.{is_of_book, AreOfBook}
@@ -36,20 +36,6 @@ flushing_is_of_book step is = absurd is
 flushing_are_of_book : (steps : List Step) → AllByRecursion IsFlushing steps → AreOfBook steps
 flushing_are_of_book [] all = tt
 flushing_are_of_book (step ∷ steps) all = (flushing_is_of_book step all.0, flushing_are_of_book steps all.1)
-
-seal_is_flushing : (c : Bool) (stream : Stream) → AllByRecursion IsFlushing (seal_if c stream)
-seal_is_flushing true stream = (tt, tt)
-seal_is_flushing false stream = tt
-
-pub seal_all_flushing : (book : Book) → AllByRecursion IsFlushing (seal_all book)
-seal_all_flushing book =
-    all_joined IsFlushing (seal_if (is_some (filling_buffer client book.buffers)) client) (seal_if (is_some (filling_buffer defrag book.buffers)) defrag)
-    (seal_is_flushing (is_some (filling_buffer client book.buffers)) client) (seal_is_flushing (is_some (filling_buffer defrag book.buffers)) defrag)
-
-pub seal_low_flushing : (setup : Setup) (book : Book) → AllByRecursion IsFlushing (seal_low setup book)
-seal_low_flushing setup book =
-    all_joined IsFlushing (seal_if (is_due setup book client) client) (seal_if (is_due setup book defrag) defrag)
-    (seal_is_flushing (is_due setup book client) client) (seal_is_flushing (is_due setup book defrag) defrag)
 
 one_flushing : (number block : ℕ) (stream : Stream) (used : ℕ) (phase : Phase)
     → AllByRecursion IsFlushing (flush_of (record { number = number; block = block; stream = stream; used = used; phase = phase }))

@@ -25,7 +25,7 @@ use Rattle.live_node.specs.Calls.{LiveView, seen_by, AnswersBy, AnswersOnce, IsR
 use Rattle.live_node.specs.Sweeps.{left_behind}
 use Rattle.live_node.specs.Turns.{can_vacate, Chooses, ChoosesGaining, ExpiresFirst, ExpiresNext}
 use Rattle.live_node.proofs.Right.{right_then, answers_between}
-use Rattle.live_node.proofs.Sweeping.{allowed_in}
+use Rattle.live_node.proofs.Right.{allowed_in}
 
 -- ---- a choice
 

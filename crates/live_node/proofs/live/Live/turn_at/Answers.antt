@@ -3,8 +3,6 @@ use Rattle.disk_model.specs.Disk.{IsHonest}
 use Rattle.model_device.specs.Events.{Event, turn_call}
 use Rattle.raid_book.specs.Turns.{turn_of}
 use Rattle.shard_raid.specs.Turns.{turn_answer}
-use Rattle.shard_core.specs.View.{setup_for}
-use Rattle.shard_core.proofs.Making.{setup_fits}
 use Rattle.turn_table.specs.Passes.{view}
 use Rattle.live_node.specs.declared.raid.Turn.{Turn}
 use Rattle.live_node.specs.Opening.{setup_at, state_at}
@@ -12,7 +10,7 @@ use Rattle.live_node.specs.Fits.{PartEvent, Is, HubFits, StepFits}
 use Rattle.live_node.specs.Calls.{seen_by, AnswersBy}
 use Rattle.live_node.specs.Lives.{opening_at}
 use Rattle.live_node.proofs.Right.{right_then, answers_between}
-use Rattle.live_node.proofs.Stepping.{fits_alone, is_setup, limits, counts_by, step_fits}
+use Rattle.live_node.proofs.Stepping.{fits_alone, is_setup, counts_by, step_fits}
 use Rattle.live_node.proofs.Raiding.{turn_shown}
 use Rattle.live_node.proofs.live.Live.turn_at.Goals as goal
 
@@ -40,8 +38,6 @@ give_step-requires-clause-made g c =
     let o = opening_at c.args.self.now in
     let hub = c.take_hub-hub.ensures.fits in
     let fits = fits_alone c.args.self.now.over hub in
-    let set = c.args.self.now.set in
-    let shelf = c.take_hub-hub.result.shelf in
     let sprig = c.take_part-sprig.result in
     let sprig_fits = c.take_hub-hub.ensures.still c.args.part sprig c.take_part-sprig.ensures.pass.1 c.take_part-sprig.ensures.fits in
     let took = c.part_turn-answer in
@@ -53,7 +49,7 @@ give_step-requires-clause-made g c =
     refl c.requires.part tt (took.ensures.geometry, took.ensures.limits) (λ honest. subst (λ (d : _). IsHonest (view' d)) (sym took.ensures.disk) honest) sprig_fits
     (counts_by c.take_hub-hub.result.tally c.tally-before.result c.tally.result c.minus.result c.plus-hub.result c.args.part sprig took.new.sprig
     c.tally-before.ensures c.tally.ensures c.minus.ensures c.plus-hub.ensures (omega arith) (omega arith) (omega arith))
-    (λ s stand. (answer, refl, (took.ensures.makes (setup_for shelf.geometry set) s c.args.part c.requires.part (setup_fits shelf set (limits fits)) refl stand).makes)))
+    (λ x s is stand. (answer, refl, (took.ensures.makes x s c.args.part c.requires.part is.of_shelf is.raid_age stand).makes)))
 
 pub returns-clause-turn : goal.returns-clause-turn
 returns-clause-turn g c =
