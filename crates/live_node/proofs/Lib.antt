@@ -8,3 +8,4 @@ pub mod Sweeping
 pub mod Turning
 pub mod Committing
 pub mod Raiding
+pub mod Crossing

@@ -24,8 +24,7 @@ use Rattle.live_node.specs.Fits.{Is}
 use Rattle.live_node.specs.Calls.{LiveView, seen_by, AnswersBy, AnswersOnce, IsRight}
 use Rattle.live_node.specs.Sweeps.{left_behind}
 use Rattle.live_node.specs.Turns.{can_vacate, Chooses, ChoosesGaining, ExpiresFirst, ExpiresNext}
-use Rattle.live_node.proofs.Right.{right_then, answers_between}
-use Rattle.live_node.proofs.Right.{allowed_in}
+use Rattle.live_node.proofs.Right.{right_then, answers_between, allowed_in}
 
 -- ---- a choice
 

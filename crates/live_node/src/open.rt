@@ -129,6 +129,7 @@ impl<D: Disk> Live<D> {
         ensures legal { IfOk result (λ _. IsLegalFrom D.view (opening_at self) (seen_by (view pass))) }
         ensures stands { IfOk result (λ shard. Agrees shard (state_at (opening_at self) (seen_by (view pass)))) }
         ensures set { IfOk result (λ shard. shard.set ≡ (opening_at self).set) }
+        ensures shape { IfOk result (λ shard. shard.shelf.geometry ≡ (opening_at self).shelf.geometry) }
         ensures left { IfOk result (λ shard. WasSafe D.view (opening_at self) → IsSafeSince D.view (opening_at self) (seen_by (view pass)) shard.shelf) }
         ensures err { IfErr result (λ e. SameLive self e.live × (e.pass ≡ pass) × (0 < e.out) × (own_count pass + joined_count pass + e.out ≡ all_numbers)) }
     {

@@ -1,4 +1,4 @@
-use Rattle.std.proofs.Common.{◌≡◌, length, sym, subst, arith}
+use Rattle.std.proofs.Common.{◌≡◌, length, sym, ap, ◌∙◌, subst, arith}
 use Rattle.shard_core.specs.Stands.{Agrees}
 use Rattle.shard_core.specs.View.{ShardView}
 use Rattle.turn_table.specs.Rule.{events}
@@ -26,3 +26,6 @@ returns-in-Ok-clause-stands g c =
     let o = opening_at c.args.self in
     subst (λ (shard : ShardView g.row.D.Denot). Agrees shard (state_at o (seen_by (view c.args.pass)))) (sym c.together.ensures)
     (ends g.D.Disk.view c.args.self.over c.in-Ok.ensures.hub c.in-Ok.sprigs.items count c.in-Ok.ensures.parts)
+
+pub returns-in-Ok-clause-shape : goal.returns-in-Ok-clause-shape
+returns-in-Ok-clause-shape g c = ap (λ (shard : ShardView g.row.D.Denot). shard.shelf.geometry) c.together.ensures ∙ c.in-Ok.ensures.hub.geometry
