@@ -6,7 +6,7 @@ ghost use Rattle.sprig_tree.specs.State.{SprigState};
 ghost use Rattle.shard_core.specs.Stands.{Agrees, IsWhole};
 ghost use Rattle.turn_table.specs.Rule.{all_numbers, newcomer};
 ghost use Rattle.turn_table.specs.Passes.{view, own_count, joined_count};
-ghost use Rattle.live_node.specs.Opening.{Opening, IsTableOf, WasSafe, opened, state_at};
+ghost use Rattle.live_node.specs.Opening.{Opening, IsTableOf, WasSafe, opened, state_at, faults_at};
 ghost use Rattle.live_node.specs.Fits.{HubFits, PartFits, IsSafeSince};
 ghost use Rattle.live_node.specs.Calls.{seen_by, IsLegalFrom};
 ghost use Rattle.live_node.specs.Lives.{opening_at, IsPassAt, SameLive};
@@ -116,9 +116,10 @@ impl<D: Disk> Live<D> {
         }
     }
 
-    /// Takes the device out of its table. It stands for the state at the end of the list that the pass has seen, which is the whole list. Over a
-    /// disk that was honest, and whose image was sound, each image that the disk might have left since the opening survives the state after
-    /// some of the events, or after some of the steps of the next one.
+    /// Takes the device out of its table. It stands for the state at the end of the list that the pass has seen, which is the whole list. Its
+    /// shape and settings are those that it opened with, and its disk has failed as often as the list tells. Over a disk that was honest, and
+    /// whose image was sound, each image that the disk might have left since the opening survives the state after some of the events, or
+    /// after some of the steps of the next one.
     ///
     /// # Errors
     ///
@@ -130,6 +131,7 @@ impl<D: Disk> Live<D> {
         ensures stands { IfOk result (λ shard. Agrees shard (state_at (opening_at self) (seen_by (view pass)))) }
         ensures set { IfOk result (λ shard. shard.set ≡ (opening_at self).set) }
         ensures shape { IfOk result (λ shard. shard.shelf.geometry ≡ (opening_at self).shelf.geometry) }
+        ensures faults { IfOk result (λ shard. (D.view shard.shelf.disk).faults ≡ faults_at D.view (opening_at self) (seen_by (view pass))) }
         ensures left { IfOk result (λ shard. WasSafe D.view (opening_at self) → IsSafeSince D.view (opening_at self) (seen_by (view pass)) shard.shelf) }
         ensures err { IfErr result (λ e. SameLive self e.live × (e.pass ≡ pass) × (0 < e.out) × (own_count pass + joined_count pass + e.out ≡ all_numbers)) }
     {
