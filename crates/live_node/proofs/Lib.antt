@@ -9,3 +9,4 @@ pub mod Turning
 pub mod Committing
 pub mod Raiding
 pub mod Crossing
+pub mod Leaving

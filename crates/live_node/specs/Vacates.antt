@@ -1,17 +1,19 @@
 -- Crate live_node. How a block is vacated by events of the list.
-use Rattle.std.specs.Prelude.{◌≡◌, ◌⊎◌, ◌≤◌, ℕ, Bool, List, [], ◌∷◌, ◌++◌, Option, Some, None, Result, Ok, Err, Contains, IsTrue, MatchBool}
+use Rattle.std.specs.Prelude.{◌≡◌, ◌⊎◌, ◌≤◌, ℕ, Bool, false, List, [], ◌∷◌, ◌++◌, Option, Some, None, Result, Ok, Err, Contains, IsTrue, MatchBool}
 use Rattle.std.specs.List.{AllByRecursion}
 use Rattle.rec_format.specs.declared.version.Digest.{Digest}
 use Rattle.rec_format.specs.Versions.{block_capacity}
 use Rattle.disk_model.specs.Disk.{DiskView}
-use Rattle.model_device.specs.Book.{live_of}
+use mathlib.Core.List.{IsPrefix}
+use Rattle.model_device.specs.Book.{Book, live_of}
 use Rattle.model_device.specs.Events.{Event, happened, choose_call, move_call, flush_sealed_call}
 use Rattle.model_device.specs.Legal.{is_in_block}
 use Rattle.model_device.specs.Vacating.{can_gain, moved_by, moved_count}
+use Rattle.law_trail.specs.Trail.{IsBooked}
 use Rattle.block_format.specs.Layout.{most_records}
 use Rattle.block_shelf.specs.declared.refusals.VacateRefusal.{VacateRefusal}
 use Rattle.defrag_pass.specs.declared.refusal.MoveRefusal.{MoveRefusal}
-use Rattle.defrag_pass.specs.Choosing.{choose_answer}
+use Rattle.defrag_pass.specs.Choosing.{HasFew, choose_answer}
 use Rattle.defrag_pass.specs.Moves.{Answers}
 use Rattle.shard_core.specs.declared.defrag.Vacated.{Vacated}
 use Rattle.shard_core.specs.declared.refusals.DefragRefusal.{DefragRefusal}
@@ -79,8 +81,32 @@ EachMoves o (Ok (Some vacated)) past moves =
     (digest : Digest) → IsOwn o digest → IsTrue (is_in_block vacated.block (live_of digest (state_at o past).book.live)) → HasMove vacated.block moves digest
 EachMoves o (Err refusal) past moves = Unit {0}
 
+-- ---- what has left the block
+
+-- Nothing but what is live in the block now has to leave it: it has no buffer, and the book is in order.
+pub record CanEmpty (block : ℕ) (book : Book) : Type 0 where
+  pub booked : IsBooked book
+  pub few : HasFew block book
+
+-- Between these two of the list there is a state in which the record of the digest isn't in the block.
+pub record HasLeft {D : Type 0} (o : Opening D) (from to : List Event) (block : ℕ) (digest : Digest) : Type 0 where
+  pub later : List Event
+  pub begins : IsPrefix from later
+  pub ends : IsPrefix later to
+  pub out : is_in_block block (live_of digest (state_at o later).book.live) ≡ false
+
+abbrev pub AllLeft : {D : Type 0} → Opening D → (from to : List Event) → (block : ℕ) → Type 0
+AllLeft o from to block = (digest : Digest) → HasLeft o from to block digest
+
+-- each record of the device that was live in the block as it was chosen has left it since, where nothing was refused
+abbrev pub EachLeaves : {D : Type 0} → Opening D → Result (Option Vacated) DefragRefusal → (first : Placed) → (to : List Event) → Type 0
+EachLeaves o (Ok None) first to = Unit {0}
+EachLeaves o (Ok (Some vacated)) first to =
+    (digest : Digest) → IsOwn o digest → IsTrue (is_in_block vacated.block (live_of digest (state_at o first.past).book.live)) → HasLeft o (first.past ++ first.event ∷ []) to vacated.block digest
+EachLeaves o (Err refusal) first to = Unit {0}
+
 -- A vacating is the choice of a block and then moves out of it, each an event of the pass. Over a disk that was honest, and whose image was
--- sound, each record that was live in the block as it was chosen is among them.
+-- sound, each record that was live in it as it was chosen is among them, and has left the block in a later state.
 pub record Defrags {D : Type 0} (view : D → DiskView) (o : Opening D) (before after : LiveView D) (result : Result (Option Vacated) DefragRefusal) : Type 0 where
   pub first : Placed
   pub moves : List Placed
@@ -89,6 +115,7 @@ pub record Defrags {D : Type 0} (view : D → DiskView) (o : Opening D) (before 
   pub shows : Shows view o before after (first ∷ moves)
   pub answers : DefragsSo result chosen (placed_events moves)
   pub each : WasSafe view o → EachMoves o result first.past (placed_events moves)
+  pub leaves : WasSafe view o → EachLeaves o result first (seen_by after)
 
 -- A tending is a flush of what is sealed, and then, where the state that the pass has seen next says that this can gain room, a vacating,
 -- whatever comes of either.

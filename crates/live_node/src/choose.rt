@@ -10,7 +10,7 @@ ghost use Rattle.live_node.specs.Opening.{WasSafe, state_at};
 ghost use Rattle.live_node.specs.Fits.{HubFits};
 ghost use Rattle.live_node.specs.Calls.{seen_by, AnswersOnce, IsRight};
 ghost use Rattle.live_node.specs.Lives.{opening_at, Holds, IsPassAt};
-ghost use Rattle.live_node.specs.Vacates.{HasListRoom};
+ghost use Rattle.live_node.specs.Vacates.{CanEmpty, HasListRoom};
 ghost use Rattle.live_node.specs.Turns.{ChoosesGaining};
 
 use crate::hub::Hub;
@@ -84,6 +84,7 @@ impl<D: Disk> Live<D> {
         ensures few { length list.new.items < 2 ^ 32 }
         ensures once { (by : AnswersOnce D.view (opening_at self.now) (view pass.old) (view pass.new) choose_call (choose_answer result))
             × (WasSafe D.view (opening_at self.now) → IfOk result (λ chosen. IfSome chosen (λ block. ListsLive (state_at (opening_at self.now) by.past).book block list.new.items))) }
+        ensures low { IfOk result (λ chosen. IfSome chosen (λ block. CanEmpty block (state_at (opening_at self.now) (seen_by (view pass.new))).book)) }
     {
         let hub = self.take_hub(rt, pass);
         self.choose_in(pass, hub, list)
@@ -108,6 +109,7 @@ impl<D: Disk> Live<D> {
         ensures once { (by : AnswersOnce D.view (opening_at self.now) (view pass.old) (view pass.new) choose_call (choose_answer result)) × (by.past ≡ seen_by (view pass.old)) }
         ensures lists { WasSafe D.view (opening_at self.now)
             → IfOk result (λ chosen. IfSome chosen (λ block. ListsLive (state_at (opening_at self.now) (seen_by (view pass.old))).book block list.new.items)) }
+        ensures low { IfOk result (λ chosen. IfSome chosen (λ block. CanEmpty block (state_at (opening_at self.now) (seen_by (view pass.new))).book)) }
     {
         let answer = choose_step(&mut hub.shelf, list);
         self.give_alone(pass, hub, &Choice, &answer);

@@ -1,12 +1,17 @@
-use Rattle.std.proofs.Common.{refl, ap, sym, subst}
-use Rattle.std.specs.Prelude.{List, IfOk, ◌≡◌}
+use Rattle.std.proofs.Common.{refl, ap, sym, subst, ◌∙◌, false}
+use Rattle.std.specs.Prelude.{List, IfOk, IfSome, ◌≡◌}
 use Rattle.model_device.specs.Events.{choose_call}
-use Rattle.model_device.specs.Legal.{queue_front}
+use Rattle.model_device.specs.Device.{State}
+use Rattle.model_device.specs.Legal.{Allowed, queue_front}
 use Rattle.defrag_pass.specs.Choosing.{choose_answer}
 use Rattle.turn_table.specs.Passes.{view}
 use Rattle.live_node.specs.Opening.{setup_at, state_at}
 use Rattle.live_node.specs.Calls.{seen_by}
 use Rattle.live_node.specs.Lives.{opening_at}
+use Rattle.live_node.specs.Laws.{state_more}
+use Rattle.live_node.specs.Vacates.{CanEmpty}
+use Rattle.live_node.proofs.Leaving.{choose_still, low_chosen}
+use Rattle.live_node.proofs.Sweeping.{allowed_in}
 use Rattle.live_node.proofs.Stepping.{fits_alone, is_setup, hub_step_fits}
 use Rattle.live_node.proofs.live.Live.choose_in.Goals as goal
 
@@ -29,3 +34,16 @@ returns-clause-lists g c was =
     let o = opening_at c.args.self.now in
     let safe = c.requires.hub.safe was in
     c.choose_step-answer.ensures.all (setup_at o) (state_at o (seen_by (view c.args.pass.now))) safe.honest c.requires.hub.stands safe.safe.safe
+
+pub returns-clause-low : goal.returns-clause-low
+returns-clause-low g c =
+    let o = opening_at c.args.self.now in
+    let chose = c.choose_step-answer in
+    let gave = c.give_alone.ensures.once in
+    let by = gave.0 in
+    let s = state_at o (seen_by (view c.args.pass.now)) in
+    let still : state_at o (seen_by (view c.give_alone.new.pass)) ≡ s =
+    ap (state_at o) by.last ∙ state_more o by.past by.event
+    ∙ choose_still (setup_at o) false (state_at o by.past) by.event (subst (Allowed (setup_at o) false (state_at o by.past) by.event) by.said.is_call (allowed_in by)) ∙ ap (state_at o) gave.1 in
+    subst (λ (t : State). IfOk chose.result (λ chosen. IfSome chosen (λ block. CanEmpty block t.book))) (sym still)
+    (low_chosen chose.result s.book c.requires.hub.stands.stands.order.booked (chose.ensures.low (setup_at o) s (is_setup (fits_alone c.args.self.now.over c.requires.hub)) c.requires.hub.stands))
