@@ -78,7 +78,9 @@ module _ (setup : Setup) (block : ℕ) (told : Bool) (s : State) (booked : IsBoo
         let same : s ≡ after_event setup event s = sym (ap (λ (l : List Step). after_steps setup l s) is.1) in record {
           out = subst (λ (t : State). is_in_block block (live_of digest t.book.live) ≡ false) same out;
           keeps = subst (λ (t : State). Keeps block s.book t.book) same (keeps_none block s.book none);
-          less = let as_much : use_of (after_event setup event s).book block ≤ use_of s.book block = subst (λ (t : State). use_of t.book block ≤ use_of s.book block) same (le_refl (use_of s.book block)) in omega (arith, as_much);
+          less =
+              let as_much : use_of (after_event setup event s).book block ≤ use_of s.book block =
+              subst (λ (t : State). use_of t.book block ≤ use_of s.book block) same (le_refl (use_of s.book block)) in omega (arith, as_much);
         }
 
     goes : (b : Bool) (copy : Live) → live_of digest s.book.live ≡ Some copy → (copy.block == block) ≡ true → CanPlace setup defrag copy.units s.book → event.steps ≡ moved digest ∷ [] → MovesOut b
@@ -121,7 +123,8 @@ pub list_keeps : (setup : Setup) (block : ℕ) (told : Bool) (events : List Even
     → IsEmptied setup block s events ⊎ Keeps block s.book (after_events setup events s).book
 list_keeps setup block told [] s faults legal booked none = inr (keeps_none block s.book none)
 list_keeps setup block told (event ∷ events) s faults legal booked none =
-    by (use_of s.book block == 0) refl (λ unbuffered. list_keeps setup block told events (after_event setup event s) event.faults_after legal.1 (event_booked setup told s faults event legal.0 booked) unbuffered)
+    by (use_of s.book block == 0) refl
+    (λ unbuffered. list_keeps setup block told events (after_event setup event s) event.faults_after legal.1 (event_booked setup told s faults event legal.0 booked) unbuffered)
   where
     next : State
     next = after_event setup event s

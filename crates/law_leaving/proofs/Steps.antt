@@ -11,7 +11,8 @@ use Rattle.rec_format.specs.declared.version.Digest.{Digest}
 use Rattle.rec_format.specs.Places.{same_digest}
 use Rattle.rec_format.specs.Versions.{version_units}
 use Rattle.rec_format.proofs.Laws.{same_digest_is, same_digest_refl}
-use Rattle.model_device.specs.Book.{Setup, Book, Buffer, Live, Stream, client, defrag, has_buffer, use_of, live_of, without_live, placed, placing_number, dropped_live, with_seal, with_gate_begun, with_flushed, with_first_passed, refreshed}
+use Rattle.model_device.specs.Book.{Setup, Book, Buffer, Live, Stream, client, defrag, has_buffer, use_of, live_of, without_live}
+use Rattle.model_device.specs.Book.{placed, placing_number, dropped_live, with_seal, with_gate_begun, with_flushed, with_first_passed, refreshed}
 use Rattle.model_device.specs.Device.{State}
 use Rattle.model_device.specs.Steps.{Step, wrote, moved, removed, rid_of, uncovered, sealed_stream, gate_begun, flushed_buffer, closing_failed, raid_begun}
 use Rattle.model_device.specs.Steps.{raid_given_up, marked_part, scanned_block, compared_part, done_part, moved_state, after_step, after_steps}
@@ -104,7 +105,8 @@ module _ (block : ℕ) where
     where
       by : (d : Digest) (b : Bool) → same_digest d digest ≡ b → is_in_block block (live_of d (without_live digest book.live)) ≡ true → is_in_block block (live_of d book.live) ≡ true
       by d false other is = ap (is_in_block block) (sym (others_live digest d book.live other)) ∙ is
-      by d true same is = absurd (false≢true (ap (is_in_block block) (sym (ap (λ (x : Digest). live_of x (without_live digest book.live)) (same_digest_is d digest same) ∙ none_live digest book.live)) ∙ is))
+      by d true same is =
+          absurd (false≢true (ap (is_in_block block) (sym (ap (λ (x : Digest). live_of x (without_live digest book.live)) (same_digest_is d digest same) ∙ none_live digest book.live)) ∙ is))
 
   -- ---- a copy that is placed
 
