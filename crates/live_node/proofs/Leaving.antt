@@ -8,8 +8,8 @@ use Rattle.rec_format.specs.declared.version.Digest.{Digest}
 use Rattle.model_device.specs.Book.{Setup, Book, live_of}
 use Rattle.model_device.specs.Device.{State}
 use Rattle.model_device.specs.Steps.{Step, after_steps}
-use Rattle.model_device.specs.Events.{Event, Call, happened, choose_call, move_call, after_event, after_events}
-use Rattle.model_device.specs.Legal.{Allowed, Follows, IsLegal, WhereReads, last_faults, is_in_block, queue_front}
+use Rattle.model_device.specs.Events.{Event, choose_call, move_call, after_event, after_events}
+use Rattle.model_device.specs.Legal.{Allowed, IsLegal, WhereReads, last_faults, is_in_block, queue_front}
 use Rattle.law_trail.specs.Trail.{IsBooked}
 use Rattle.law_trail.proofs.Legal.{run_booked}
 use Rattle.law_leaving.specs.Leaving.{Keeps, IsEmptied}
@@ -19,8 +19,7 @@ use Rattle.defrag_pass.specs.Choosing.{HasFew}
 use Rattle.shard_core.proofs.Events.{after_all}
 use Rattle.live_node.specs.Opening.{Opening, setup_at, state_at, faults_at}
 use Rattle.live_node.specs.Laws.{state_more}
-use Rattle.live_node.specs.Fits.{Is}
-use Rattle.live_node.specs.Calls.{LiveView, seen_by, AnswersBy, IsLegalFrom}
+use Rattle.live_node.specs.Calls.{IsLegalFrom}
 use Rattle.live_node.specs.Several.{Placed, placed_events, AreInTurn}
 use Rattle.live_node.specs.Vacates.{CanEmpty, HasLeft, AllLeft, IsMoveOf}
 use Rattle.live_node.proofs.Right.{prefix_here, prefix_on}
@@ -74,7 +73,8 @@ placed_in from to (p ∷ ps) turns e there = by (cons_cases p.event (placed_even
 
 -- ---- what has left
 
-left_on : {D : Type 0} (o : Opening D) (block : ℕ) (digest : Digest) (before from to after : List Event) → IsPrefix before from → IsPrefix to after → HasLeft o from to block digest → HasLeft o before after block digest
+left_on : {D : Type 0} (o : Opening D) (block : ℕ) (digest : Digest) (before from to after : List Event) → IsPrefix before from → IsPrefix to after → HasLeft o from to block digest
+    → HasLeft o before after block digest
 left_on o block digest before from to after first last left = record {
   later = left.later;
   begins = prefix_on before from left.later first left.begins;

@@ -10,8 +10,9 @@ use Rattle.rec_format.specs.Versions.{is_expired_put, a_tombstone, version_units
 use Rattle.model_device.specs.Book.{Setup, defrag, has_room, live_of}
 use Rattle.model_device.specs.Device.{State, entry, entry_passes, entry_is_covered, next_stamp_of}
 use Rattle.model_device.specs.Steps.{moved, removed, closing_failed}
-use Rattle.model_device.specs.Events.{Event, Call, Cause, Answer, happened, refused, damaged, disk_fault, no_memory, move_call, expire_call}
-use Rattle.model_device.specs.Legal.{Allowed, NoMemory, Unless, Only, DamageFound, DiskFails, Removes, Entombs, WriteEnds, the_stamp, no_write, tombstone_reserve, is_in_block, live_units, no_place, move_reserve, queue_front}
+use Rattle.model_device.specs.Events.{Event, Cause, happened, refused, damaged, disk_fault, no_memory, move_call, expire_call}
+use Rattle.model_device.specs.Legal.{Allowed, NoMemory, Unless, Only, DamageFound, DiskFails, Removes, Entombs, WriteEnds}
+use Rattle.model_device.specs.Legal.{the_stamp, no_write, tombstone_reserve, is_in_block, live_units, no_place, move_reserve, queue_front}
 use Rattle.model_device.specs.Vacating.{can_gain}
 use Rattle.law_sprig.proofs.Behind.{next_is}
 use Rattle.block_shelf.specs.declared.refusals.VacateRefusal.{VacateRefusal}
@@ -79,7 +80,8 @@ moved_there setup told s event digest block allowed b answer = by (is_in_block b
     placed None may = goes may
     placed (Some cause) only = absurd (let clash : happened b ≡ refused cause = sym answer ∙ only.0 in cc)
 
-    by : (here : Bool) → MatchBool here (NoMemory event ⊎ Unless event (no_place setup defrag move_reserve (live_units (live_of digest s.book.live)) s.book) Goes) (Only event (happened false)) → b ≡ here
+    by : (here : Bool) → MatchBool here (NoMemory event ⊎ Unless event (no_place setup defrag move_reserve (live_units (live_of digest s.book.live)) s.book) Goes) (Only event (happened false))
+        → b ≡ here
     by false none = let same : happened b ≡ happened false = sym answer ∙ none.0 in cc
     by true (inl none) = absurd (let clash : happened b ≡ refused no_memory = sym answer ∙ none.0 in cc)
     by true (inr may) = placed (no_place setup defrag move_reserve (live_units (live_of digest s.book.live)) s.book) may
@@ -87,7 +89,8 @@ moved_there setup told s event digest block allowed b answer = by (is_in_block b
 pub moves_there : {D : Type 0} {view : D → DiskView} {o : Opening D} {v w : LiveView D} (digest : Digest) (block : ℕ) (result : Result Bool MoveRefusal)
     (by : AnswersBy view o v w (Is (move_call digest block) (Answers result))) → IfOk result (λ was_there. was_there ≡ is_in_block block (live_of digest (state_at o by.past).book.live))
 moves_there {o = o} digest block (Ok was_there) by =
-    moved_there (setup_at o) false (state_at o by.past) by.event digest block (subst (Allowed (setup_at o) false (state_at o by.past) by.event) by.said.is_call (allowed_in by)) was_there by.said.answered
+    moved_there (setup_at o) false (state_at o by.past) by.event digest block (subst (Allowed (setup_at o) false (state_at o by.past) by.event) by.said.is_call (allowed_in by))
+    was_there by.said.answered
 moves_there digest block (Err refusal) by = tt
 
 -- ---- a removal

@@ -1,5 +1,5 @@
 -- Crate live_node. The turns of a worker at the table: calls that make one event, or none where there is nothing to do.
-use Rattle.std.specs.Prelude.{◌≡◌, ℕ, Bool, true, false, ◌&&◌, List, [], Option, Some, None, Result, Ok, Err, IfOk, IfSome, is_some, slice_get}
+use Rattle.std.specs.Prelude.{◌≡◌, ℕ, Bool, true, false, ◌&&◌, List, [], Option, Some, None, Result, Ok, IfOk, IfSome, is_some, slice_get}
 use Rattle.rec_format.specs.declared.version.Digest.{Digest}
 use Rattle.disk_model.specs.Disk.{DiskView}
 use Rattle.model_device.specs.Book.{live_of}
@@ -27,27 +27,31 @@ can_vacate s = can_gain s.book && is_some (queue_front s.book.queue)
 
 -- A choice is one event, and a block could be vacated with gain before it. Over a disk that was honest, and whose image was sound, each record that
 -- is live in the block is listed.
-pub record Chooses {D : Type 0} (view : D → DiskView) (o : Opening D) (before after : LiveView D) (list : List Digest) (result : Result (Option ℕ) VacateRefusal) : Type 0 where
+pub record Chooses {D : Type 0} (view : D → DiskView) (o : Opening D) (before after : LiveView D) (list : List Digest)
+    (result : Result (Option ℕ) VacateRefusal) : Type 0 where
   pub once : AnswersOnce view o before after choose_call (choose_answer result)
   pub gains : can_vacate (state_at o once.past) ≡ true
   pub lists : WasSafe view o → IfOk result (λ chosen. IfSome chosen (λ block. ListsLive (state_at o once.past).book block list))
 
 -- where none can be vacated with gain in the state that the pass has then seen, none is chosen, and there is no event
-abbrev pub ChoosesGaining : {D : Type 0} → (view : D → DiskView) → Opening D → (before after : LiveView D) → List Digest → Result (Option ℕ) VacateRefusal → Type 0
+abbrev pub ChoosesGaining : {D : Type 0} → (view : D → DiskView) → Opening D → (before after : LiveView D) → List Digest
+    → Result (Option ℕ) VacateRefusal → Type 0
 ChoosesGaining view o before after list (Ok None) = IsRight view o before after [] × (can_vacate (state_at o (seen_by after)) ≡ false)
 ChoosesGaining view o before after list result = Chooses view o before after list result
 
 -- ---- the move of a record
 
 -- A move is one event, and answers whether the record was in the block before it.
-pub record MovesRecord {D : Type 0} (view : D → DiskView) (o : Opening D) (before after : LiveView D) (digest : Digest) (block : ℕ) (result : Result Bool MoveRefusal) : Type 0 where
+pub record MovesRecord {D : Type 0} (view : D → DiskView) (o : Opening D) (before after : LiveView D) (digest : Digest) (block : ℕ)
+    (result : Result Bool MoveRefusal) : Type 0 where
   pub once : AnswersBy view o before after (Is (move_call digest block) (Answers result))
   pub there : IfOk result (λ was_there. was_there ≡ is_in_block block (live_of digest (state_at o once.past).book.live))
 
 -- ---- the removal of an entry
 
 -- The first entry of the part that is expired is removed, by one event.
-pub record ExpiresFirst {D : Type 0} (view : D → DiskView) (o : Opening D) (before after : LiveView D) (part now : ℕ) (result : Result Bool WriteRefusal) : Type 0 where
+pub record ExpiresFirst {D : Type 0} (view : D → DiskView) (o : Opening D) (before after : LiveView D) (part now : ℕ)
+    (result : Result Bool WriteRefusal) : Type 0 where
   pub digest : Digest
   pub once : AnswersOnce view o before after (expire_call digest now) (delete_answer result)
   pub first : slice_get (left_behind o part now None once.past) 0 ≡ Some digest

@@ -102,7 +102,8 @@ AllLeft o from to block = (digest : Digest) → HasLeft o from to block digest
 abbrev pub EachLeaves : {D : Type 0} → Opening D → Result (Option Vacated) DefragRefusal → (first : Placed) → (to : List Event) → Type 0
 EachLeaves o (Ok None) first to = Unit {0}
 EachLeaves o (Ok (Some vacated)) first to =
-    (digest : Digest) → IsOwn o digest → IsTrue (is_in_block vacated.block (live_of digest (state_at o first.past).book.live)) → HasLeft o (first.past ++ first.event ∷ []) to vacated.block digest
+    (digest : Digest) → IsOwn o digest → IsTrue (is_in_block vacated.block (live_of digest (state_at o first.past).book.live))
+    → HasLeft o (first.past ++ first.event ∷ []) to vacated.block digest
 EachLeaves o (Err refusal) first to = Unit {0}
 
 -- A vacating is the choice of a block and then moves out of it, each an event of the pass. Over a disk that was honest, and whose image was
