@@ -2,3 +2,4 @@ mod arenas;
 mod counters;
 mod devices;
 mod piles;
+mod raids;
