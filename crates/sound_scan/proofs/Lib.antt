@@ -1,0 +1,9 @@
+pub mod Leasts
+pub mod Names
+pub mod Walks
+pub mod Bares
+pub mod Twins
+pub mod Takes
+pub mod InBodies
+pub mod Blocks
+pub mod Audits

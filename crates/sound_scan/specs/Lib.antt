@@ -1,0 +1,4 @@
+pub mod Least
+pub mod Tallied
+pub mod Opened
+pub mod Audited
