@@ -25,11 +25,11 @@ verdict_of (Bare digest) = audit.bare digest
 abbrev pub IsOf : Geometry → List Copy → Verdict → Type 0
 IsOf g copies found = IsFirst (is_stray_in g copies) (has_twins_in copies) (has_bare_in copies) found
 
--- On a disk that tells its bytes the device is of the shape that was asked for, and behind its open gates stand these bodies. The verdict
--- is that of their copies, and it is that of a sound image exactly where the image that was read is sound.
+-- Over any disk bodies were found. On a disk that tells its bytes the device is of the shape that was asked for, and these are the bodies behind
+-- its open gates; the verdict is that of their copies, and it is that of a sound image exactly where the image that was read is sound.
 pub record IsAudited (asked : Asked) (disk : DiskView) (found : Verdict) : Type 0 where
   pub shape : Geometry
   pub bodies : List Body
-  pub passes : Passes asked disk.seen shape bodies
-  pub verdict : (setup : Setup) → IsShapeOf setup shape → verdict_of found ≡ audit.verdict setup (copies_of bodies)
-  pub sound : (setup : Setup) → IsShapeOf setup shape → (found ≡ Sound) ↔ IsSound setup disk.seen bodies
+  pub passes : disk.tells → Passes asked disk.seen shape bodies
+  pub verdict : disk.tells → (setup : Setup) → IsShapeOf setup shape → verdict_of found ≡ audit.verdict setup (copies_of bodies)
+  pub sound : disk.tells → (setup : Setup) → IsShapeOf setup shape → (found ≡ Sound) ↔ IsSound setup disk.seen bodies

@@ -86,7 +86,7 @@ fn judge<D: Disk>(
 /// device as a cold start does, and one that a start refuses is refused for the same cause, with its disk; then it reads the open bodies
 /// once more. It has the memory of two bodies, and some eighty bytes for each digest and stamp that it finds.
 pub fn sound_of<D: Disk>(alloc: Global, disk: D, asked: Asked) -> Result<Audit<D>, StartRefusal<D>>
-    ensures audited { (D.view disk).tells → IfOk result (λ audit. IsAudited asked (D.view disk) audit.verdict) }
+    ensures audited { IfOk result (λ audit. IsAudited asked (D.view disk) audit.verdict) }
     ensures refused { (D.view disk).tells → IfErr result (λ refusal. IsRefused asked (D.view disk).seen refusal.cause) }
     ensures only { (D.view disk).tells → IfOk result (λ audit. IsOnly (D.view disk).seen (D.view audit.disk).may_leave) }
     ensures settled { (D.view disk).tells → IfErr result (λ refusal. IsByBytes refusal.cause → IsOnly (D.view disk).seen (D.view refusal.disk).may_leave) }
