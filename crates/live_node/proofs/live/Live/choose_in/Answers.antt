@@ -11,7 +11,7 @@ use Rattle.live_node.specs.Lives.{opening_at}
 use Rattle.live_node.specs.Laws.{state_more}
 use Rattle.live_node.specs.Vacates.{CanEmpty}
 use Rattle.live_node.proofs.Leaving.{choose_still, low_chosen}
-use Rattle.live_node.proofs.Sweeping.{allowed_in}
+use Rattle.live_node.proofs.Right.{allowed_in}
 use Rattle.live_node.proofs.Stepping.{fits_alone, is_setup, hub_step_fits}
 use Rattle.live_node.proofs.live.Live.choose_in.Goals as goal
 
