@@ -19,8 +19,11 @@ use Rattle.shard_core.specs.declared.refusals.WriteRefusal.{WriteRefusal}
 use Rattle.line_proto.specs.declared.reply.LineFault.{LineFault}
 use Rattle.shard_core.proofs.Events.{RunsBy, runs_one, runs_made}
 use Rattle.core_run.specs.Standing.{Each, StandsOn, StandsSafelyOn}
-use Rattle.core_run.specs.Turns.{GoesOn, Through, TendTurn, CloseTurn, EndsAs, WorksEach, plus_one, plus_both, FlushesOn, IsFlushed, FlushesEach, DefragsOn}
-use Rattle.core_run.specs.Turns.{IsDefrag, IsDefragged, DefragsEach, ExpiresOn, IsExpiry, IsExpired, ExpiresAll, slot_for, RaidsOn, IsRaid, IsRaided, RaidsEach}
+use Rattle.node_replies.specs.Outcomes.{EndsAs, IsFlushed}
+use Rattle.node_replies.specs.Through.{Through}
+use Rattle.core_run.specs.Turns.{GoesOn, TendTurn, CloseTurn, WorksEach, plus_one, plus_both, FlushesOn, FlushesEach, DefragsOn}
+use Rattle.node_replies.specs.Outcomes.{IsDefragged, IsExpired, IsRaided}
+use Rattle.core_run.specs.Turns.{IsDefrag, DefragsEach, ExpiresOn, IsExpiry, ExpiresAll, slot_for, RaidsOn, IsRaid, RaidsEach}
 use Rattle.core_run.proofs.Places.{moved, events_of, nones, no_events, only_at, only_event}
 use Rattle.core_run.proofs.Making.{Made, LeftOn, Along, along_none, along_one, slot_at}
 use Rattle.core_run.proofs.Turning.{rests_any, rests_safe, rests_left, many_any, many_safe, many_left}

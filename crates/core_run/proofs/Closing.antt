@@ -17,7 +17,8 @@ use Rattle.model_node.specs.RunEnd.{IsQuiet, AllQuiet}
 use Rattle.core_run.specs.Views.{serving, disks_served, faults_of}
 use Rattle.core_run.specs.Standing.{Each, StandsOn, StandsSafelyOn}
 use Rattle.core_run.specs.Calls.{ClosedSo, Closes}
-use Rattle.core_run.specs.Turns.{Through, CloseTurn, FlushesOn, first_failed}
+use Rattle.node_replies.specs.Through.{Through}
+use Rattle.core_run.specs.Turns.{CloseTurn, FlushesOn, first_failed}
 use Rattle.core_run.proofs.Surely.{sure_through}
 use Rattle.core_run.proofs.Places.{events_of}
 use Rattle.core_run.proofs.Making.{Made, LeftOn, along_after, each_more}

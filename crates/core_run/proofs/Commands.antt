@@ -34,10 +34,14 @@ use Rattle.shard_core.specs.declared.refusals.WriteRefusal.{WriteRefusal}
 use Rattle.core_run.specs.Views.{NodeView, serving, halted, disks_served, views_of, view_at, unknown, AreLater}
 use Rattle.core_run.specs.Standing.{Each, StandsOn, StandsSafelyOn, StandsFor, StandsSafely, Halts, HaltsSafely}
 use Rattle.core_run.specs.Shown.{RaidsOf, ShowsOn}
-use Rattle.core_run.specs.Calls.{digest_of, RepliesStored, RaidedExactly, Acts, Tends}
+use Rattle.node_replies.specs.Digests.{digest_of}
+use Rattle.core_run.specs.Calls.{RepliesStored, RaidedExactly, Acts, Tends}
 use Rattle.core_run.specs.Sure.{AreSureSince, StaySure}
-use Rattle.core_run.specs.Turns.{GoesOn, GetsOn, RepliesTo, RepliesOn, TendTurn, Through, WorksEach, plus_one, plus_both, IsFlushed, FlushesOn, FlushesEach}
-use Rattle.core_run.specs.Turns.{IsDefragged, DefragsOn, DefragsEach, IsExpired, ExpiresOn, ExpiresAll, IsRaided, RaidsOn, IsRaid, RaidsEach, slot_for}
+use Rattle.node_replies.specs.Outcomes.{IsFlushed}
+use Rattle.node_replies.specs.Through.{Through}
+use Rattle.core_run.specs.Turns.{GoesOn, GetsOn, RepliesTo, RepliesOn, TendTurn, WorksEach, plus_one, plus_both, FlushesOn, FlushesEach}
+use Rattle.node_replies.specs.Outcomes.{IsDefragged, IsExpired, IsRaided}
+use Rattle.core_run.specs.Turns.{DefragsOn, DefragsEach, ExpiresOn, ExpiresAll, RaidsOn, IsRaid, RaidsEach, slot_for}
 use Rattle.core_run.proofs.Places.{moved, events_of, slots_after, node_after_of, nones, no_events}
 use Rattle.core_run.proofs.Making.{Made, Along, slot_at, each_length, each_more, along_none}
 use Rattle.core_run.proofs.Acting.{Safely, over_any, over_safe, each_moved, event_turn, flush_turns, defrag_turns, expire_turns, raid_turns, tend_turns}

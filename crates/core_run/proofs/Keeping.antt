@@ -13,7 +13,8 @@ use Rattle.core_run.specs.Views.{NodeView, IsNode, AreDevices, serving, halted}
 use Rattle.line_proto.specs.declared.command.Command.{Command}
 use Rattle.line_proto.specs.declared.reply.Reply.{Reply}
 use Rattle.core_run.specs.Calls.{Acts, Tends}
-use Rattle.core_run.specs.Turns.{Through, TendTurn, WorksEach}
+use Rattle.node_replies.specs.Through.{Through}
+use Rattle.core_run.specs.Turns.{TendTurn, WorksEach}
 use Rattle.core_run.proofs.Commands.{tend_tends, tends_halted}
 
 module _ {D : Type 0} where

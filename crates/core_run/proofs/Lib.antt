@@ -8,7 +8,6 @@ pub mod Sparing
 pub mod Taking
 pub mod Raiding
 pub mod Startings
-pub mod Counting
 pub mod Acting
 pub mod Replying
 pub mod Surely

@@ -22,7 +22,7 @@ use Rattle.core_run.specs.Shown.{RaidsOf}
 use Rattle.core_run.proofs.Places.{events_of}
 use Rattle.core_run.proofs.Making.{Made, LeftOn, Along, along_legal, along_after, along_left, nothing_left}
 use Rattle.core_run.proofs.Acting.{Safely, along_both}
-use Rattle.core_run.specs.Turns.{Through}
+use Rattle.node_replies.specs.Through.{Through}
 
 -- ---- what is seen of a node
 

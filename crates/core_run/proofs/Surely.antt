@@ -11,7 +11,8 @@ use Rattle.shard_core.specs.View.{ShardView}
 use Rattle.core_run.specs.Views.{serving, disks_served, faults_of}
 use Rattle.core_run.specs.Starts.{StartsEach}
 use Rattle.core_run.specs.Sure.{IsSureSince, AreSureSince, StaySure}
-use Rattle.core_run.specs.Turns.{GoesOn, Through, WorksEach}
+use Rattle.node_replies.specs.Through.{Through}
+use Rattle.core_run.specs.Turns.{GoesOn, WorksEach}
 use Rattle.core_run.specs.Standing.{Each, StandsOn}
 use Rattle.model_node.specs.Commands.{Node}
 use Rattle.model_node.specs.Outside.{counts_of}

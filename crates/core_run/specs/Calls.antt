@@ -28,15 +28,6 @@ use Rattle.core_run.specs.Shown.{ShowsOn}
 use Rattle.law_raid.specs.Exact.{RaidsExactly, RaidSpares, RaidLeavesNone}
 use Rattle.core_run.specs.Standing.{Each, StandsSafelyOn, StandsFor, StandsSafely, Halts, HaltsSafely}
 
--- the digest that a command is on
-abbrev pub digest_of : Command → Option Digest
-digest_of (command.Put digest ttl expect payload) = Some digest
-digest_of (command.Get digest) = Some digest
-digest_of (command.Meta digest) = Some digest
-digest_of (command.Del digest) = Some digest
-digest_of (command.Bury digest) = Some digest
-digest_of _ = None
-
 -- A get is replied as its record is stored on its device: as it was put, where its block has a write buffer to which clients write, or such a
 -- flushed buffer of it is kept; and where neither is there, as it stands at its place, on a disk that tells its bytes: `err damaged` comes then
 -- exactly where no head of the record stands there.

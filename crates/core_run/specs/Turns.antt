@@ -25,6 +25,7 @@ use Rattle.line_proto.specs.declared.command.Command.TheVariants as command
 use Rattle.line_proto.specs.declared.reply.Reply.{Reply}
 use Rattle.line_proto.specs.declared.reply.Reply.TheVariants as reply
 use Rattle.line_proto.specs.declared.reply.LineFault.{LineFault}
+use Rattle.node_replies.specs.Outcomes.{IsDefragged, IsExpired, IsRaided}
 use Rattle.model_node.specs.Commands.{Slot, Raids, answer_reply, fault_of, meta_reply, expired_entries}
 use Rattle.law_raid.specs.Exact.{RaidsExactly, RaidSpares}
 
@@ -65,15 +66,6 @@ pub record TendsOn {D : Type 0} (view : D → DiskView) (old new : ShardView D) 
   pub goes : GoesOn view old new
   pub makes : (s : State) → Agrees old s → MakesEvents view (Tends (setup_of old) s) old s new
 
--- what some work comes to by its answer: its two sums, or the cause for which it was refused
-abbrev pub EndsAs : {R E : Type 0} → (sums : R → ℕ × ℕ) → (IsCause : E → Cause → Type 0) → Result R E → Outcome → Type 0
-EndsAs sums IsCause (Ok one) outcome = outcome ≡ did (sums one).0 (sums one).1
-EndsAs sums IsCause (Err why) outcome = (cause : Cause) × IsCause why cause × (outcome ≡ stopped cause)
-
--- so many records were moved out of so many blocks, or one wasn't
-abbrev pub IsDefragged : Result (ℕ × ℕ) DefragCause → Outcome → Type 0
-IsDefragged result outcome = EndsAs (λ sums. sums) IsCauseOf result outcome
-
 -- so it is for one device, where as many blocks may be vacated as are queued at the start
 abbrev pub IsDefrag : {D : Type 0} → ShardView D → State → Result (ℕ × ℕ) DefragCause → List Event → Type 0
 IsDefrag shard s result events = (outcome : Outcome) × IsDefragged result outcome × VacatesUpTo (setup_of shard) (length s.book.queue) s 0 0 events outcome
@@ -81,10 +73,6 @@ IsDefrag shard s result events = (outcome : Outcome) × IsDefragged result outco
 pub record DefragsOn {D : Type 0} (view : D → DiskView) (result : Result (ℕ × ℕ) DefragCause) (old new : ShardView D) : Type 0 where
   pub goes : GoesOn view old new
   pub makes : (s : State) → Agrees old s → MakesEvents view (IsDefrag old s result) old s new
-
--- so many expired entries were removed, or one wasn't
-abbrev pub IsExpired : Result ℕ WriteRefusal → Outcome → Type 0
-IsExpired result outcome = EndsAs (λ n. (n, 0)) (λ refusal cause. cause ≡ cause_of_write refusal) result outcome
 
 -- so it is for one device, where all that is expired at the start is gone over
 abbrev pub IsExpiry : {D : Type 0} → ShardView D → (now : ℕ) → State → Result ℕ WriteRefusal → List Event → Type 0
@@ -99,10 +87,6 @@ pub record ExpiresOn {D : Type 0} (view : D → DiskView) (now : ℕ) (result : 
 -- a device of the model in a state for which a shard stands
 abbrev pub slot_for : {D : Type 0} → (view : D → DiskView) → ShardView D → State → Slot
 slot_for view shard s = record { setup = setup_of shard; state = s; faults = (view shard.shelf.disk).faults }
-
--- so many tombstones were removed and so many covers cleared, or a turn was refused
-abbrev pub IsRaided : Result (ℕ × ℕ) LineFault → Outcome → Type 0
-IsRaided result outcome = EndsAs (λ sums. sums) (λ fault cause. fault ≡ fault_of cause) result outcome
 
 -- Where no gate is unsure, over an honest disk whose image was sound, a raid that isn't refused removes and clears just what may go.
 abbrev pub IsExact : {D : Type 0} → (view : D → DiskView) → ShardView D → (now : ℕ) → State → Result (ℕ × ℕ) LineFault → (after : State) → Type 0
@@ -133,18 +117,7 @@ pub record FlushesOn {D E : Type 0} (view : D → DiskView) (flushed : Result �
   pub quiet : OnOk flushed (new.shelf.buffers ≡ [])
   pub left : OnErr flushed (new.shelf.buffers ≢ [])
 
--- so many buffers were flushed, or the disk failed
-abbrev pub IsFlushed : {E : Type 0} → Result ℕ E → Outcome → Type 0
-IsFlushed flushed outcome = EndsAs (λ n. (n, 0)) (λ fault cause. cause ≡ disk_fault) flushed outcome
-
 -- ---- all devices, one after another
-
--- Each of the first k elements takes its turn, in which the sum so far is taken up, and the others are as they were.
-abbrev pub Through : {A S : Type 0} → (Turn : A → S → S → A → Type 0) → (k : ℕ) → A → (olds news : List S) → A → Type 0
-Through Turn zero a olds news b = (news ≡ olds) × (b ≡ a)
-Through Turn (suc k) a [] news b = ⊥
-Through Turn (suc k) a (old ∷ olds) [] b = ⊥
-Through {A} Turn (suc k) a (old ∷ olds) (new ∷ news) b = (mid : A) × Turn a old new mid × Through Turn k mid olds news b
 
 abbrev pub TendTurn : {D A : Type 0} → (view : D → DiskView) → A → (old new : ShardView D) → A → Type 0
 TendTurn view a old new b = TendsOn view old new
@@ -192,20 +165,3 @@ first_failed device None (Err fault) = Some device
 -- In the closing each device is flushed, also behind one that fails; the first that fails is told, by its number.
 abbrev pub CloseTurn : {D : Type 0} → (E : Type 0) → (view : D → DiskView) → ℕ × Option ℕ → (old new : ShardView D) → ℕ × Option ℕ → Type 0
 CloseTurn E view a old new b = (flushed : Result ℕ E) × FlushesOn view flushed old new × (b ≡ (a.0 + 1, first_failed a.0 a.1 flushed))
-
--- ---- numbers
-
--- the sum of two numbers where it goes around at 2^64
-abbrev pub wrapped : ℕ → ℕ → ℕ
-wrapped a b = (a + b) % 2 ^ 64
-
-abbrev pub wrapped_sum : Counts → Counts → Counts
-wrapped_sum a b = record {
-  records = wrapped a.records b.records;
-  tombstones = wrapped a.tombstones b.tombstones;
-  covered = wrapped a.covered b.covered;
-  free = wrapped a.free b.free;
-  pending = wrapped a.pending b.pending;
-  queued = wrapped a.queued b.queued;
-  held = wrapped a.held b.held;
-}

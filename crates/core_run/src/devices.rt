@@ -3,9 +3,11 @@ ghost use Rattle.std.specs.Prelude.{◌≡◌, ◌≤◌, ◌<◌, ◌^◌, ℕ,
 ghost use Rattle.disk_model.specs.declared.disk.DiskFault.{DiskFault};
 ghost use Rattle.model_node.specs.Commands.{Node, node_counts};
 ghost use Rattle.core_run.specs.Standing.{Each, StandsOn};
-ghost use Rattle.core_run.specs.Turns.{Through, TendTurn, CloseTurn, DefragsOn, DefragsEach, ExpiresOn, ExpiresAll, FlushesEach, wrapped_sum};
+ghost use Rattle.node_replies.specs.Through.{Through};
+ghost use Rattle.core_run.specs.Turns.{TendTurn, CloseTurn, DefragsOn, DefragsEach, ExpiresOn, ExpiresAll, FlushesEach};
 
 use disk_model::{Disk, DiskFault};
+use node_replies::{NO_COUNTS, plus};
 use rec_format::Counts;
 use shard_core::{DefragCause, Shard, WriteRefusal};
 use std::alloc::Global;
@@ -123,38 +125,12 @@ pub fn close_each<D: Disk>(shards: &mut [Shard<D>]) -> Option<u16>
     failed
 }
 
-// The numbers of no device.
-const NONE: Counts = Counts {
-    records: 0,
-    tombstones: 0,
-    covered: 0,
-    free: 0,
-    pending: 0,
-    queued: 0,
-    held: 0,
-};
-
-// The sums of the numbers.
-fn plus(sum: Counts, more: Counts) -> Counts
-    ensures { result ≡ wrapped_sum sum more }
-{
-    Counts {
-        records: sum.records.wrapping_add(more.records),
-        tombstones: sum.tombstones.wrapping_add(more.tombstones),
-        covered: sum.covered.wrapping_add(more.covered),
-        free: sum.free.wrapping_add(more.free),
-        pending: sum.pending.wrapping_add(more.pending),
-        queued: sum.queued.wrapping_add(more.queued),
-        held: sum.held.wrapping_add(more.held),
-    }
-}
-
 /// The numbers of all devices together. A sum of at most 16 devices doesn't go around.
 pub fn counts_of<D: Disk>(shards: &[Shard<D>]) -> Counts
     requires few { length shards.now ≤ 16 }
     ensures { (node : Node) → Each (StandsOn D.view) shards.now node → result ≡ node_counts node }
 {
-    let mut sum = NONE;
+    let mut sum = NO_COUNTS;
     for shard in shards {
         sum = plus(sum, shard.counts());
     }

@@ -6,7 +6,6 @@ mod devices;
 mod format;
 mod node;
 mod raid;
-mod replies;
 mod starts;
 
 pub use format::{FormatRefusal, format_devices};

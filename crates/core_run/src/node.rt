@@ -10,17 +10,18 @@ ghost use Rattle.core_run.specs.Sure.{AreSureSince};
 ghost use Rattle.core_run.specs.Standing.{StandsFor};
 ghost use Rattle.core_run.specs.Starts.{StartsEach, RefusesAt};
 ghost use Rattle.core_run.specs.Turns.{RepliesOn, GoesOn};
-ghost use Rattle.core_run.specs.Calls.{Acts, Closes, digest_of};
+ghost use Rattle.core_run.specs.Calls.{Acts, Closes};
+ghost use Rattle.node_replies.specs.Digests.{digest_of};
 
 use crate::devices::{close_each, counts_of, defrag_each, expire_each, flush_each, tend_each};
 use crate::raid::raid_each;
-use crate::replies::{
-    defrag_reply, delete_reply, expire_reply, flush_reply, known_reply, raid_reply, read_reply,
-    write_reply,
-};
 use crate::starts::{start_all, stop_all};
 use disk_model::Disk;
 use line_proto::{Command, Reply, Store};
+use node_replies::{
+    defrag_reply, delete_reply, digest_of, expire_reply, flush_reply, known_reply, raid_reply,
+    read_reply, write_reply,
+};
 use partition_map::device_of;
 use rec_format::{Counts, Digest};
 use shard_core::{Settings, Shard, StartCause};
@@ -156,20 +157,6 @@ impl<D: Disk> Node<D> {
             stop_all(&mut shards, &mut disks);
         }
         disks
-    }
-}
-
-// The digest that a command is on.
-fn digest_of<'a>(command: &'a Command) -> Option<&'a Digest>
-    ensures { option_map (λ digest. digest.now) result ≡ digest_of command.now }
-{
-    match command {
-        Command::Put { digest, .. }
-        | Command::Get(digest)
-        | Command::Meta(digest)
-        | Command::Del(digest)
-        | Command::Bury(digest) => Some(digest),
-        _ => None,
     }
 }
 

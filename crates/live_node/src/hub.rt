@@ -1,7 +1,7 @@
 // The hub of a device: its shelf, with the three counts of its entries.
 ghost use Rattle.std.specs.Prelude.{◌≡◌, List};
 ghost use Rattle.model_device.specs.Events.{Event};
-ghost use Rattle.shard_core.specs.Numbers.{counts_of};
+ghost use Rattle.shard_core.specs.Numbers.{AreFew, counts_of};
 ghost use Rattle.live_node.specs.Opening.{Opening, IsOpening, state_at};
 ghost use Rattle.live_node.specs.Fits.{HubFits};
 ghost use Rattle.live_node.specs.Turns.{can_vacate};
@@ -21,7 +21,8 @@ pub struct Hub<D: Disk> {
 impl<D: Disk> Hub<D> {
     // The numbers of the device.
     pub(crate) fn counts(&self) -> Counts
-        ensures { (o : Opening D) (events : List Event) → HubFits D.view o events self.now.shelf self.now.tally → IsOpening o → result ≡ counts_of (state_at o events) }
+        ensures numbers { (o : Opening D) (events : List Event) → HubFits D.view o events self.now.shelf self.now.tally → IsOpening o → result ≡ counts_of (state_at o events) }
+        ensures few { (o : Opening D) (events : List Event) → HubFits D.view o events self.now.shelf self.now.tally → IsOpening o → AreFew result }
     {
         let _shape = self.shelf.geometry();
         Counts {

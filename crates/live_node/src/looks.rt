@@ -3,7 +3,7 @@ ghost use Rattle.std.specs.Prelude.{◌≡◌, []};
 ghost use Rattle.model_device.specs.Device.{seen as seen_version};
 ghost use Rattle.model_device.specs.Steps.{part_total};
 ghost use Rattle.shard_core.specs.Calls.{meta_of};
-ghost use Rattle.shard_core.specs.Numbers.{counts_of};
+ghost use Rattle.shard_core.specs.Numbers.{AreFew, counts_of};
 ghost use Rattle.turn_table.specs.Passes.{view, KeepsNumbers};
 ghost use Rattle.live_node.specs.Opening.{IsOwn, setup_at, state_at};
 ghost use Rattle.live_node.specs.Calls.{seen_by, IsRight};
@@ -48,6 +48,7 @@ impl<D: Disk> Live<D> {
         ensures numbers { KeepsNumbers pass.old pass.new }
         ensures right { IsRight D.view (opening_at self.now) (view pass.old) (view pass.new) [] }
         ensures answer { result ≡ counts_of (state_at (opening_at self.now) (seen_by (view pass.new))) }
+        ensures few { AreFew result }
     {
         let hub = self.take_hub(rt, pass);
         let counts = hub.counts();

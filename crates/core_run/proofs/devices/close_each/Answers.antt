@@ -1,8 +1,10 @@
 use Rattle.std.proofs.Common.{◌≡◌, ℕ, ◌+◌, ◌<◌, length, sym, subst, ◌∙◌, arith, refl, get_or}
 use Rattle.std.specs.Prelude.{None}
 use Rattle.disk_model.specs.declared.disk.DiskFault.{DiskFault}
-use Rattle.core_run.specs.Turns.{Through, CloseTurn, FlushesOn, first_failed}
-use Rattle.core_run.proofs.Looping.{through_next, failed_first, failed_kept, failed_none}
+use Rattle.node_replies.specs.Through.{Through}
+use Rattle.core_run.specs.Turns.{CloseTurn, FlushesOn, first_failed}
+use Rattle.node_replies.proofs.Through.{through_next}
+use Rattle.core_run.proofs.Looping.{failed_first, failed_kept, failed_none}
 use Rattle.core_run.proofs.devices.close_each.Goals as goal
 use Rattle.core_run.proofs.devices.close_each.Goals.{then-is_err+then-is_none, else-is_err, else-is_err-via-then-is_err+else-is_none, else-is_err-via-else-is_err}
 

@@ -1,6 +1,7 @@
 use Rattle.std.proofs.Common.{None}
 use Rattle.disk_model.specs.declared.disk.DiskFault.{DiskFault}
-use Rattle.core_run.specs.Turns.{Through, CloseTurn}
+use Rattle.node_replies.specs.Through.{Through}
+use Rattle.core_run.specs.Turns.{CloseTurn}
 use Rattle.core_run.proofs.devices.close_each.Given as goal
 
 abbrev pub invariant-loop-device : goal.invariant-loop-device

@@ -6,9 +6,9 @@ use Rattle.shard_core.specs.Numbers.{AreFew, counts_of}
 use Rattle.shard_core.specs.View.{ShardView}
 use Rattle.model_node.specs.Commands.{Node, node_counts}
 use Rattle.core_run.specs.Standing.{StandsOn}
-use Rattle.core_run.specs.Turns.{wrapped_sum}
+use Rattle.node_replies.specs.Counts.{wrapped_sum}
 use Rattle.core_run.proofs.Making.{slot_at, each_length}
-use Rattle.core_run.proofs.Counting.{wrapped_counts, AreUnder, most_of_one, none_under, under_more, wrapped_more, unwrapped}
+use Rattle.node_replies.proofs.Counting.{wrapped_counts, AreUnder, most_of_one, none_under, under_more, wrapped_more, unwrapped}
 use Rattle.core_run.proofs.devices.counts_of.Goals as goal
 
 pub loop-shard-init : goal.loop-shard-init

@@ -1,7 +1,7 @@
 use Rattle.std.proofs.Common.{◌≡◌, ◌*◌, take}
 use Rattle.model_node.specs.Commands.{Node, node_counts}
 use Rattle.core_run.specs.Standing.{Each, StandsOn}
-use Rattle.core_run.proofs.Counting.{wrapped_counts, AreUnder, most_of_one}
+use Rattle.node_replies.proofs.Counting.{wrapped_counts, AreUnder, most_of_one}
 use Rattle.core_run.proofs.devices.counts_of.Given as goal
 
 -- the numbers of the devices so far are together, where a sum goes around at 2^64; and they are few

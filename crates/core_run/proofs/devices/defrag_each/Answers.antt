@@ -1,7 +1,8 @@
 use Rattle.std.proofs.Common.{ℕ, ◌+◌, ◌<◌, sym, subst, arith, refl}
 use Rattle.std.proofs.lemmas.Result.{err_from_is_err_and}
 use Rattle.core_run.specs.Turns.{WorkTurn, DefragsOn, plus_both}
-use Rattle.core_run.proofs.Looping.{through_next, through_all, worked_all, work_fails}
+use Rattle.node_replies.proofs.Through.{through_next, through_all}
+use Rattle.core_run.proofs.Looping.{worked_all, work_fails}
 use Rattle.core_run.proofs.devices.defrag_each.Goals as goal
 
 pub returns-in_err-one : goal.returns-in_err-one

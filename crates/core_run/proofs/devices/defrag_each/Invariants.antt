@@ -1,5 +1,6 @@
 use Rattle.std.proofs.Common.{◌≤◌, ◌*◌, ◌^◌}
-use Rattle.core_run.specs.Turns.{Through, WorkTurn, DefragsOn, plus_both}
+use Rattle.node_replies.specs.Through.{Through}
+use Rattle.core_run.specs.Turns.{WorkTurn, DefragsOn, plus_both}
 use Rattle.core_run.proofs.devices.defrag_each.Given as goal
 
 abbrev pub invariant-loop-shard : goal.invariant-loop-shard

@@ -3,7 +3,8 @@ use Rattle.std.specs.Prelude.{Result, Ok, Err}
 use Rattle.law_lists.proofs.Answers.{err_alone}
 use Rattle.disk_model.specs.declared.disk.DiskFault.{DiskFault}
 use Rattle.core_run.specs.Turns.{WorkTurn, FlushesOn, FlushesEach, plus_one}
-use Rattle.core_run.proofs.Looping.{through_next, through_all, worked_all, work_fails, one_fault}
+use Rattle.node_replies.proofs.Through.{through_next, through_all}
+use Rattle.core_run.proofs.Looping.{worked_all, work_fails, one_fault}
 use Rattle.core_run.proofs.devices.flush_each.Goals as goal
 
 pub loop-shard-init : goal.loop-shard-init

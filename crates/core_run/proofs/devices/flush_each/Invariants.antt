@@ -1,6 +1,7 @@
 use Rattle.std.proofs.Common.{◌≤◌, ◌*◌, ◌^◌}
 use Rattle.disk_model.specs.declared.disk.DiskFault.{DiskFault}
-use Rattle.core_run.specs.Turns.{Through, WorkTurn, FlushesOn, plus_one}
+use Rattle.node_replies.specs.Through.{Through}
+use Rattle.core_run.specs.Turns.{WorkTurn, FlushesOn, plus_one}
 use Rattle.core_run.proofs.devices.flush_each.Given as goal
 
 abbrev pub invariant-loop-shard : goal.invariant-loop-shard

@@ -1,7 +1,7 @@
 use Rattle.std.proofs.Common.{ℕ, sym, subst, arith, refl, ◌<◌, get_or}
 use Rattle.shard_core.proofs.Tending.{only_tends}
 use Rattle.core_run.specs.Turns.{TendTurn, TendsOn}
-use Rattle.core_run.proofs.Looping.{through_next, through_all}
+use Rattle.node_replies.proofs.Through.{through_next, through_all}
 use Rattle.core_run.proofs.devices.tend_each.Goals as goal
 
 pub loop-shard-init : goal.loop-shard-init

@@ -1,5 +1,6 @@
 use Rattle.std.proofs.Common.{ℕ}
-use Rattle.core_run.specs.Turns.{Through, TendTurn}
+use Rattle.node_replies.specs.Through.{Through}
+use Rattle.core_run.specs.Turns.{TendTurn}
 use Rattle.core_run.proofs.devices.tend_each.Given as goal
 
 abbrev pub invariant-loop-shard : goal.invariant-loop-shard

@@ -4,7 +4,7 @@ use Rattle.model_device.specs.Device.{seen}
 use Rattle.model_device.specs.Events.{put_call, bury_call}
 use Rattle.shard_core.specs.Calls.{write_answer, meta_of, Makes}
 use Rattle.line_proto.specs.declared.command.Command.{Command}
-use Rattle.core_run.specs.Calls.{digest_of}
+use Rattle.node_replies.specs.Digests.{digest_of}
 use Rattle.core_run.specs.Turns.{GetsOn, RepliesOn}
 use Rattle.core_run.proofs.Replying.{written_goes_on, read_goes_on, one_digest}
 use Rattle.core_run.proofs.node.act_on.Goals as goal

@@ -5,7 +5,8 @@ use Rattle.disk_model.specs.declared.disk.DiskFault.{DiskFault}
 use Rattle.shard_core.specs.View.{ShardView}
 use Rattle.core_run.specs.Views.{NodeView, IsNode, serving}
 use Rattle.core_run.specs.Calls.{Closes}
-use Rattle.core_run.specs.Turns.{Through, CloseTurn}
+use Rattle.node_replies.specs.Through.{Through}
+use Rattle.core_run.specs.Turns.{CloseTurn}
 use Rattle.core_run.proofs.Keeping.{SameEach, seen_so, items_are, all_kept, node_kept, node_serves, few_served, same_through}
 use Rattle.core_run.proofs.Closing.{close_closes}
 use Rattle.core_run.proofs.node.Node.close.Given.{Over}

@@ -4,7 +4,8 @@ use Rattle.std.specs.Vec.{with_items}
 use Rattle.shard_core.specs.View.{ShardView}
 use Rattle.core_run.specs.Views.{NodeView}
 use Rattle.core_run.specs.Calls.{Tends}
-use Rattle.core_run.specs.Turns.{Through, TendTurn}
+use Rattle.node_replies.specs.Through.{Through}
+use Rattle.core_run.specs.Turns.{TendTurn}
 use Rattle.core_run.proofs.Keeping.{SameEach, seen_so, items_are, all_kept, same_through, tends_so}
 use Rattle.core_run.proofs.node.NodeStore.tend.Given.{Over}
 use Rattle.core_run.proofs.node.NodeStore.tend.Goals as goal

@@ -6,7 +6,7 @@ ghost use Rattle.model_device.specs.Vacating.{Outcome};
 ghost use Rattle.model_node.specs.Commands.{answer_reply, defragged_reply, expired_reply, fault_of, flushed_reply, meta_reply, raided_reply};
 ghost use Rattle.shard_core.specs.Vacating.{IsCauseOf};
 ghost use Rattle.shard_core.specs.Calls.{cause_of_write, delete_answer, meta_of, read_answer, write_answer};
-ghost use Rattle.core_run.specs.Turns.{IsDefragged, IsExpired, IsFlushed, IsRaided};
+ghost use Rattle.node_replies.specs.Outcomes.{IsDefragged, IsExpired, IsFlushed, IsRaided};
 
 use disk_model::DiskFault;
 use line_proto::{LineFault, Reply};

@@ -7,7 +7,7 @@ use Rattle.model_device.specs.Book.{held_blocks}
 use Rattle.model_device.specs.Device.{State, put_count, tombstone_count, covered_count}
 use Rattle.shard_core.specs.Numbers.{AreFew, counts_of}
 use Rattle.model_node.specs.Commands.{Slot, Node, total, node_counts}
-use Rattle.core_run.specs.Turns.{wrapped, wrapped_sum}
+use Rattle.node_replies.specs.Counts.{wrapped, wrapped_sum}
 
 -- the numbers of some devices, where a sum goes around at 2^64
 abbrev pub wrapped_counts : Node → Counts

@@ -1,0 +1,4 @@
+pub mod Making
+pub mod Lines
+pub mod Ends
+pub mod Kept

@@ -1,0 +1,4 @@
+pub mod Pairs
+pub mod Known
+pub mod Working
+pub mod Counted

@@ -1,0 +1,13 @@
+use Rattle.node_replies.specs.Through.{Through}
+use Rattle.live_store.specs.Known.{ArePasses, KeepNumbers, known_each}
+use Rattle.live_store.specs.Works.{Expires}
+use Rattle.live_store.proofs.Working.{WorkTurn}
+use Rattle.live_store.proofs.each.expire_each.Given as goal
+
+-- the devices so far are swept
+abbrev pub invariant-loop-device : goal.invariant-loop-device
+invariant-loop-device g l = record {
+  seated : ArePasses l.lives l.passes;
+  numbers : KeepNumbers l.initial.passes l.passes;
+  turns : Through (WorkTurn (Expires g.D.Disk.view l.now)) l.device (0, 0) (known_each l.lives l.initial.passes) (known_each l.lives l.passes) (l.removed, 0);
+}

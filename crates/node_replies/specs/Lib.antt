@@ -1,0 +1,4 @@
+pub mod Outcomes
+pub mod Through
+pub mod Counts
+pub mod Digests
