@@ -2,3 +2,4 @@ pub mod Pairs
 pub mod Known
 pub mod Working
 pub mod Counted
+pub mod Acting

@@ -1,0 +1,84 @@
+use Rattle.std.proofs.Common.{◌≡◌, ◌<◌, length, set, refl, subst, ◌∙◌, arith, ap, get_or}
+use Rattle.model_device.specs.Vacating.{did, stopped}
+use Rattle.node_replies.specs.Counts.{wrapped}
+use Rattle.turn_table.specs.Passes.{KeepsNumbers}
+use Rattle.live_node.specs.Lives.{IsPassAt}
+use Rattle.live_store.specs.Known.{ArePasses, KeepNumbers, known_of, known_each}
+use Rattle.live_store.specs.Works.{Expires}
+use Rattle.live_store.proofs.Pairs.{pairs_length, pair_at, pair_set, pair_then, pairs_same}
+use Rattle.live_store.proofs.Working.{WorkTurn, worked_all, turn_taken, turn_stops, turns_over}
+use Rattle.live_store.proofs.each.expire_each.Given.{Over}
+use Rattle.live_store.proofs.each.expire_each.Goals as goal
+use Rattle.live_store.proofs.each.expire_each.Goals.{After-expire}
+
+pub loop-device-init : goal.loop-device-init
+loop-device-init g c = record { seated = c.requires.passes; numbers = pairs_same KeepsNumbers (λ pass. (refl, refl)) c.args.passes.now; turns = (refl, refl) }
+
+pub bounds-passes-device : goal.bounds-passes-device
+bounds-passes-device g c =
+    let many = pairs_length IsPassAt c.args.lives.now c.loop-device.passes c.loop-device.invariant.seated in
+    let there = c.loop-device-test.true in
+    omega (arith, many, there)
+
+pub expire-requires-clause-pass : goal.expire-requires-clause-pass
+expire-requires-clause-pass g c = pair_at IsPassAt c.args.lives.now c.loop-device.passes c.loop-device.device c.index-lives-device.result (get_or c.loop-device.passes c.loop-device.device c.index-passes-device.result) c.loop-device.invariant.seated
+      c.loop-device-test.true c.index-lives-device.is (ap (get_or c.loop-device.passes c.loop-device.device) c.index-passes-device.is)
+
+-- behind an expiry
+
+many : (g : Over) (c : After-expire g) → length c.loop-device.passes ≡ length c.args.lives.now
+many g c = pairs_length IsPassAt c.args.lives.now c.loop-device.passes c.loop-device.invariant.seated
+
+within : (g : Over) (c : After-expire g) → c.loop-device.device < length c.loop-device.passes
+within g c = let all = many g c in let there = c.loop-device-test.true in omega (arith, all, there)
+
+seated : (g : Over) (c : After-expire g) → ArePasses c.args.lives.now (set c.loop-device.passes c.loop-device.device c.expire.new.pass)
+seated g c = pair_set IsPassAt c.args.lives.now c.loop-device.passes c.loop-device.device c.index-lives-device.result c.expire.new.pass c.loop-device.invariant.seated c.loop-device-test.true
+    c.index-lives-device.is c.expire.ensures.pass
+
+numbers : (g : Over) (c : After-expire g) → KeepNumbers c.args.passes.now (set c.loop-device.passes c.loop-device.device c.expire.new.pass)
+numbers g c =
+    let kept = c.expire.ensures.numbers in
+    pair_then KeepsNumbers c.args.passes.now c.loop-device.passes c.loop-device.device (get_or c.loop-device.passes c.loop-device.device c.index-passes-device.result) c.expire.new.pass c.loop-device.invariant.numbers (within g c)
+    (ap (get_or c.loop-device.passes c.loop-device.device) c.index-passes-device.is) (λ first before. (kept.0 ∙ before.0, kept.1 ∙ before.1))
+
+pub returns-in-Err-clause-passes : goal.returns-in-Err-clause-passes
+returns-in-Err-clause-passes g c = seated g (goal.at.returns-in-Err-clause-passes g c).After-expire
+
+pub returns-in-Err-clause-numbers : goal.returns-in-Err-clause-numbers
+returns-in-Err-clause-numbers g c = numbers g (goal.at.returns-in-Err-clause-numbers g c).After-expire
+
+pub returns-in-Err-clause-expires : goal.returns-in-Err-clause-expires
+returns-in-Err-clause-expires g c =
+    let e = c.in-Err.ensures {u = tt} in (
+      stopped e.expires.1.0,
+      (e.expires.1.0, e.expires.1.1, refl),
+      turn_stops c.args.lives.now c.args.passes.now c.loop-device.passes c.loop-device.device c.index-lives-device.result (get_or c.loop-device.passes c.loop-device.device c.index-passes-device.result) c.loop-device-test.true
+          (pairs_length IsPassAt c.args.lives.now c.loop-device.passes c.loop-device.invariant.seated) c.index-lives-device.is (ap (get_or c.loop-device.passes c.loop-device.device) c.index-passes-device.is)
+          (Expires g.D.Disk.view c.args.now) (0, 0) (c.loop-device.removed, 0) c.expire.new.pass e.expires.1.0 c.loop-device.invariant.turns
+          (subst (Expires g.D.Disk.view c.args.now (known_of c.index-lives-device.result (get_or c.loop-device.passes c.loop-device.device c.index-passes-device.result)) (known_of c.index-lives-device.result c.expire.new.pass)) e.expires.1.2 e.expires.2),
+    )
+
+pub loop-device-preserved : goal.loop-device-preserved
+loop-device-preserved g c =
+    let e = c.in-Ok.ensures {u = tt} in
+    let after = (goal.at.loop-device-preserved g c).After-expire in
+    record {
+      seated = seated g after;
+      numbers = numbers g after;
+      turns = turn_taken c.args.lives.now c.args.passes.now c.loop-device.passes c.loop-device.device c.index-lives-device.result (get_or c.loop-device.passes c.loop-device.device c.index-passes-device.result) c.loop-device-test.true
+          (pairs_length IsPassAt c.args.lives.now c.loop-device.passes c.loop-device.invariant.seated) c.index-lives-device.is (ap (get_or c.loop-device.passes c.loop-device.device) c.index-passes-device.is)
+          (WorkTurn (Expires g.D.Disk.view c.args.now)) (0, 0) (c.loop-device.removed, 0) (wrapped c.loop-device.removed c.in-Ok.here, 0) c.expire.new.pass c.loop-device.invariant.turns
+          (c.in-Ok.here, 0,
+          subst (Expires g.D.Disk.view c.args.now (known_of c.index-lives-device.result (get_or c.loop-device.passes c.loop-device.device c.index-passes-device.result)) (known_of c.index-lives-device.result c.expire.new.pass)) e.expires.1 e.expires.2, refl);
+    }
+
+pub returns-clause-expires : goal.returns-clause-expires
+returns-clause-expires g c = (
+  did c.loop-device.removed 0,
+  refl,
+  worked_all (Expires g.D.Disk.view c.args.now) (0, 0) (known_each c.args.lives.now c.args.passes.now) (known_each c.args.lives.now c.loop-device.passes) (c.loop-device.removed, 0)
+      (turns_over (WorkTurn (Expires g.D.Disk.view c.args.now)) c.args.lives.now c.args.passes.now c.loop-device.passes c.loop-device.device (0, 0) (c.loop-device.removed, 0)
+      (pairs_length IsPassAt c.args.lives.now c.loop-device.passes c.loop-device.invariant.seated) c.loop-device.invariant.turns
+      (λ there. let over = c.loop-device-test.false in omega (arith, over, there))),
+)
