@@ -1,0 +1,5 @@
+pub mod Stations
+pub mod Turns
+pub mod Flushes
+pub mod Expires
+pub mod Defrags
