@@ -1,0 +1,9 @@
+//! The devices of a node under their tables, for many threads: how they come out and are flushed in the end.
+#![tactic(auto)]
+
+mod closing;
+mod tables;
+mod take;
+
+pub use closing::{Closing, close_all};
+pub use tables::Tables;
