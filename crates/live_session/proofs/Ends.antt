@@ -272,7 +272,8 @@ module _ {D R : Type 0} (view : D → DiskView) (limit : ℕ) (bytes output : Li
   last_of line front told last mid then HaltStop of stops = absurd ((answer_goes_on view line mid then reply.Halted new later stops.0).0 refl)
 
   -- the text that was told is a front of that of all lines
-  last_front : (stop : Stop) (front : List (Answered D)) (last : Answered D) (text unsent : List ℕ) → text ≡ output ++ unsent → LastIs stop front last text → IsFrontOf output (told_by (front ++ last ∷ []))
+  last_front : (stop : Stop) (front : List (Answered D)) (last : Answered D) (text unsent : List ℕ) → text ≡ output ++ unsent → LastIs stop front last text
+      → IsFrontOf output (told_by (front ++ last ∷ []))
   last_front QuitStop front last text unsent is (all, bye) = text_front text (front ++ last ∷ []) unsent (sym all) is
   last_front MemoryStop front last text unsent is all = (
     unsent ++ reply_text last.reply,
@@ -333,7 +334,8 @@ module _ {D R : Type 0} (view : D → DiskView) (limit : ℕ) (bytes output : Li
   ends_lift (Long n) ends = whole_lines (Long n) output [] no_more ends.2 (λ lines told stay. (told, stay, refl, refl, ends.1, ends.0))
 
 -- The same of the session's own word.
-pub ran_serves : {D R : Type 0} (view : D → DiskView) (limit : ℕ) (taken taken' : List ℕ) (left left' written written' : Option (List ℕ)) (old : LiveStore D R) (times : Times) (new : LiveStore D R) (later : Times)
+pub ran_serves : {D R : Type 0} (view : D → DiskView) (limit : ℕ) (taken taken' : List ℕ) (left left' written written' : Option (List ℕ)) (old : LiveStore D R) (times : Times) (new : LiveStore D R)
+    (later : Times)
     (result : Ended) → Ran (Acts view) (Ticked view) limit taken taken' left left' written written' old new times later result
     → IsServed view limit taken taken' left left' written written' (known_by old) times (known_by new) later result
 ran_serves view limit taken taken' left left' written written' old times new later result ran =

@@ -71,7 +71,8 @@ module _ {D R : Type 0} (view : D → DiskView) where
   answers_lift line old times r new later (inr d) = declined line old times r new later d
 
   -- no answer takes leave or halts
-  pub answer_goes_on : (line : LineEnd) (old : Store) (times : Times) (r : Reply) (new : Store) (later : Times) → Answers (Acts view) line old times r new later → (r ≢ reply.Halted) × (r ≢ reply.Bye)
+  pub answer_goes_on : (line : LineEnd) (old : Store) (times : Times) (r : Reply) (new : Store) (later : Times) → Answers (Acts view) line old times r new later → (r ≢ reply.Halted)
+      × (r ≢ reply.Bye)
   answer_goes_on line old times r new later (inl c) = c.acted.goes_on
   answer_goes_on line old times r new later (inr d) = declines_goes_on r d.why
     where

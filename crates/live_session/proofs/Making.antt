@@ -58,7 +58,8 @@ module _ {D : Type 0} (view : D → DiskView) where
   defrag_made : (old new : Known D) (outcome : Outcome) → Defragments view old new outcome → Made view old.opening old.pass new.pass
   defrag_made old new outcome does = made_then old.opening old.pass does.first new.pass ([], inr does.looks) (vacates_made old.opening _ 0 0 does.first new.pass outcome does.vacates)
 
-  sweeps_made : (o : Opening D) (now count part removed : ℕ) (before after : LiveView D) (outcome : Outcome) → SweepsFrom view o now count part removed before after outcome → Made view o before after
+  sweeps_made : (o : Opening D) (now count part removed : ℕ) (before after : LiveView D) (outcome : Outcome) → SweepsFrom view o now count part removed before after outcome
+      → Made view o before after
   sweeps_made o now zero part removed before after outcome does = none_made o before after does.0
   sweeps_made o now (suc count) part removed before after outcome (inl (mid, here, first, rest)) =
       made_then o before mid after (placed_events first.list, inr first.shows.right) (sweeps_made o now count (part + 1) _ mid after outcome rest)
@@ -87,7 +88,8 @@ module _ {D : Type 0} (view : D → DiskView) where
       let at = place_there olds device there in
       ([], record { old = at.0; new = at.0; from = at.1; to = ap (λ (l : List (Known D)). slice_get l device) same ∙ at.1; makes = inl (refl, refl) })
 
-  pairs_make : (Does : (old new : Known D) → Type 0) → ((old new : Known D) → Does old new → Made view old.opening old.pass new.pass) → (device : ℕ) (olds news : List (Known D)) → device < length olds
+  pairs_make : (Does : (old new : Known D) → Type 0) → ((old new : Known D) → Does old new → Made view old.opening old.pass new.pass) → (device : ℕ) (olds news : List (Known D))
+      → device < length olds
       → EachPair SameDevice olds news → EachPair Does olds news → MakesSome device olds news
   pairs_make Does makes device [] news there same each = absurd (omega arith)
   pairs_make Does makes device (old ∷ olds) [] there same each = absurd each
@@ -139,7 +141,8 @@ module _ {D : Type 0} (view : D → DiskView) where
 
   pub carries_makes : (device : ℕ) (olds : List (Known D)) (c : Command) (now : ℕ) (r : Reply) (news : List (Known D)) → device < length olds → EachPair SameDevice olds news
       → Carries view olds c now r news → MakesSome device olds news
-  carries_makes device olds (command.Put digest ttl expect payload) now r news there same does = one_makes _ (replies_made (command.Put digest ttl expect payload) now r) device _ olds news there same does
+  carries_makes device olds (command.Put digest ttl expect payload) now r news there same does =
+      one_makes _ (replies_made (command.Put digest ttl expect payload) now r) device _ olds news there same does
   carries_makes device olds (command.Get digest) now r news there same does = one_makes _ (replies_made (command.Get digest) now r) device _ olds news there same does
   carries_makes device olds (command.Meta digest) now r news there same does = one_makes _ (replies_made (command.Meta digest) now r) device _ olds news there same does
   carries_makes device olds (command.Del digest) now r news there same does = one_makes _ (replies_made (command.Del digest) now r) device _ olds news there same does

@@ -86,7 +86,8 @@ pub record MakesAt {D : Type 0} (view : D → DiskView) (device : ℕ) (olds new
 
 -- Each line made these events on the device, and all together are the pass's own events of the session, in their order: in the device's list
 -- nothing else is the pass's.
-pub record OwnEvents {D : Type 0} (view : D → DiskView) (device : ℕ) (olds : List (Known D)) (lines : List (Answered D)) (news : List (Known D)) : Type 0 where
+pub record OwnEvents {D : Type 0} (view : D → DiskView) (device : ℕ) (olds : List (Known D)) (lines : List (Answered D))
+    (news : List (Known D)) : Type 0 where
   pub events : List (List Event)
   pub each : EachPair (λ l made. MakesAt view device l.before l.after made) lines events
   pub all : MakesAt view device olds news (flat_map (λ made. made) events)

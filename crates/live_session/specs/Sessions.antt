@@ -44,14 +44,17 @@ pub record LastLeaves {D : Type 0} (lines : List (Answered D)) : Type 0 where
 
 -- The replies of all these are written, or of all but the last.
 abbrev pub WritesAllBut : {D : Type 0} → List (Answered D) → (output : List ℕ) → Type 0
-WritesAllBut {D} lines output = (output ≡ told_by lines) ⊎ ((front : List (Answered D)) × (last : Answered D) × (lines ≡ front ++ last ∷ []) × (output ≡ told_by front))
+WritesAllBut {D} lines output = (output ≡ told_by lines)
+    ⊎ ((front : List (Answered D)) × (last : Answered D) × (lines ≡ front ++ last ∷ []) × (output ≡ told_by front))
 
 -- How a session may end, and what was answered and written then. For want of memory the last reply may be missing, and at a fault of the sink
 -- some front of the replies is written.
 abbrev pub EndsWith : {D : Type 0} → (limit : ℕ) → (bytes output : List ℕ) → (ended : Bool) → List (Answered D) → (unanswered : List LineEnd) → Ended → Type 0
-EndsWith limit bytes output ended lines unanswered (Finish n) = (output ≡ told_by lines) × AllStay lines × (unanswered ≡ []) × IsTrue ended × (n ≡ length lines)
+EndsWith limit bytes output ended lines unanswered (Finish n) = (output ≡ told_by lines) × AllStay lines × (unanswered ≡ []) × IsTrue ended
+    × (n ≡ length lines)
 EndsWith limit bytes output ended lines unanswered (Quit n) = (output ≡ told_by lines) × LastLeaves lines × (n ≡ length lines)
-EndsWith limit bytes output ended lines unanswered SourceFault = (output ≡ told_by lines) × AllStay lines × (unanswered ≡ []) × (ended ≡ false) × (length bytes < limit)
+EndsWith limit bytes output ended lines unanswered SourceFault = (output ≡ told_by lines) × AllStay lines × (unanswered ≡ []) × (ended ≡ false)
+    × (length bytes < limit)
 EndsWith limit bytes output ended lines unanswered SinkFault = Unit {0}
 EndsWith limit bytes output ended lines unanswered Memory = WritesAllBut lines output
 EndsWith limit bytes output ended lines unanswered Halted = ⊥
@@ -61,8 +64,8 @@ EndsWith limit bytes output ended lines unanswered (Long n) =
 -- Some bytes were taken and some written. The lines of those taken were answered in their order, from what was known of the devices at first to
 -- what is known in the end, at the times of the clock; what was written is the front of their replies. On each device the lines' events are the
 -- pass's own.
-pub record IsServed {D : Type 0} (view : D → DiskView) (limit : ℕ) (taken taken' : List ℕ) (left left' written written' : Option (List ℕ)) (olds : List (Known D)) (times : Times)
-    (news : List (Known D)) (later : Times) (result : Ended) : Type 0 where
+pub record IsServed {D : Type 0} (view : D → DiskView) (limit : ℕ) (taken taken' : List ℕ) (left left' written written' : Option (List ℕ))
+    (olds : List (Known D)) (times : Times) (news : List (Known D)) (later : Times) (result : Ended) : Type 0 where
   pub bytes : List ℕ
   pub output : List ℕ
   pub takes : taken' ≡ taken ++ bytes

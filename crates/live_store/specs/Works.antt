@@ -61,7 +61,8 @@ abbrev pub VacatesUpTo : {D : Type 0} → (view : D → DiskView) → Opening D 
 VacatesUpTo view o zero moved vacated before after outcome = (after ≡ before) × (outcome ≡ did moved vacated)
 VacatesUpTo {D} view o (suc most) moved vacated before after outcome =
     (Defrags view o before after (Ok None) × (outcome ≡ did moved vacated))
-    ⊎ ((mid : LiveView D) × (one : Vacated) × Defrags view o before mid (Ok (Some one)) × VacatesUpTo view o most (wrapped moved one.moved) (vacated + 1) mid after outcome)
+    ⊎ ((mid : LiveView D) × (one : Vacated) × Defrags view o before mid (Ok (Some one))
+        × VacatesUpTo view o most (wrapped moved one.moved) (vacated + 1) mid after outcome)
     ⊎ ((refusal : DefragRefusal) × (cause : Cause) × Defrags view o before after (Err refusal) × IsCauseOf refusal.cause cause × (outcome ≡ stopped cause))
 
 -- The numbers of the device are looked at, and then at most as many blocks are vacated as waited.
@@ -71,10 +72,12 @@ pub record Defragments {D : Type 0} (view : D → DiskView) (old new : Known D) 
   pub vacates : VacatesUpTo view old.opening (length (state_at old.opening (seen_by first)).book.queue) 0 0 first new.pass outcome
 
 -- So many parts from this one on are swept, one after another, until one is refused. The sum goes around at 2^64.
-abbrev pub SweepsFrom : {D : Type 0} → (view : D → DiskView) → Opening D → (now : ℕ) → (count part removed : ℕ) → (before after : LiveView D) → Outcome → Type 0
+abbrev pub SweepsFrom : {D : Type 0} → (view : D → DiskView) → Opening D → (now : ℕ) → (count part removed : ℕ) → (before after : LiveView D) → Outcome
+    → Type 0
 SweepsFrom view o now zero part removed before after outcome = (after ≡ before) × (outcome ≡ did removed 0)
 SweepsFrom {D} view o now (suc count) part removed before after outcome =
-    ((mid : LiveView D) × (here : ℕ) × Sweeps view o before mid part now (Ok here) × SweepsFrom view o now count (part + 1) (wrapped removed here) mid after outcome)
+    ((mid : LiveView D) × (here : ℕ) × Sweeps view o before mid part now (Ok here)
+        × SweepsFrom view o now count (part + 1) (wrapped removed here) mid after outcome)
     ⊎ ((refusal : ExpireRefusal) × Sweeps view o before after part now (Err refusal) × (outcome ≡ stopped (cause_of_write refusal.cause)))
 
 -- all parts of the device
@@ -105,7 +108,8 @@ EachDevice Work (old ∷ olds) (new ∷ news) a b outcome =
     ⊎ ((cause : Cause) × Work old new (stopped cause) × (news ≡ olds) × (outcome ≡ stopped cause))
 
 -- it is replied by what that comes to
-pub record EachThen {D : Type 0} (Work : (old new : Known D) → Outcome → Type 0) (to_reply : Outcome → Reply) (olds : List (Known D)) (r : Reply) (news : List (Known D)) : Type 0 where
+pub record EachThen {D : Type 0} (Work : (old new : Known D) → Outcome → Type 0) (to_reply : Outcome → Reply) (olds : List (Known D)) (r : Reply)
+    (news : List (Known D)) : Type 0 where
   pub outcome : Outcome
   pub works : EachDevice Work olds news 0 0 outcome
   pub replied : r ≡ to_reply outcome

@@ -24,7 +24,8 @@ bounds-passes-device g c =
 
 pub counts-requires : goal.counts-requires
 counts-requires g c = record {
-  pass = pair_at IsPassAt c.args.lives.now c.loop-device.passes c.loop-device.device c.index-lives-device.result (get_or c.loop-device.passes c.loop-device.device c.index-passes-device.result) c.loop-device.invariant.seated
+  pass = pair_at IsPassAt c.args.lives.now c.loop-device.passes c.loop-device.device c.index-lives-device.result (get_or c.loop-device.passes c.loop-device.device c.index-passes-device.result)
+      c.loop-device.invariant.seated
       c.loop-device-test.true c.index-lives-device.is (ap (get_or c.loop-device.passes c.loop-device.device) c.index-passes-device.is);
 }
 
@@ -38,10 +39,13 @@ loop-device-preserved g c =
     record {
       seated = pair_set IsPassAt c.args.lives.now c.loop-device.passes c.loop-device.device c.index-lives-device.result c.counts.new.pass c.loop-device.invariant.seated there
           c.index-lives-device.is e.pass;
-      numbers = pair_then KeepsNumbers c.args.passes.now c.loop-device.passes c.loop-device.device (get_or c.loop-device.passes c.loop-device.device c.index-passes-device.result) c.counts.new.pass c.loop-device.invariant.numbers
+      numbers = pair_then KeepsNumbers c.args.passes.now c.loop-device.passes c.loop-device.device (get_or c.loop-device.passes c.loop-device.device c.index-passes-device.result) c.counts.new.pass
+          c.loop-device.invariant.numbers
           (omega (arith, many, there)) (ap (get_or c.loop-device.passes c.loop-device.device) c.index-passes-device.is) (λ first before. (kept.0 ∙ before.0, kept.1 ∙ before.1));
-      turns = turn_taken c.args.lives.now c.args.passes.now c.loop-device.passes c.loop-device.device c.index-lives-device.result (get_or c.loop-device.passes c.loop-device.device c.index-passes-device.result) there many
-          c.index-lives-device.is (ap (get_or c.loop-device.passes c.loop-device.device) c.index-passes-device.is) (LookTurn g.D.Disk.view) 0 0 0 c.counts.new.pass c.loop-device.invariant.turns e.right;
+      turns = turn_taken c.args.lives.now c.args.passes.now c.loop-device.passes c.loop-device.device c.index-lives-device.result
+          (get_or c.loop-device.passes c.loop-device.device c.index-passes-device.result) there many
+          c.index-lives-device.is (ap (get_or c.loop-device.passes c.loop-device.device) c.index-passes-device.is) (LookTurn g.D.Disk.view) 0 0 0 c.counts.new.pass c.loop-device.invariant.turns
+              e.right;
       counted = subst (λ (l : List (Known g.row.D.Denot)). CountedSoFar g.D.Disk.view (c.loop-device.device + 1) l c.plus-sum.result)
           (sym (known_set c.args.lives.now c.loop-device.passes c.loop-device.device c.index-lives-device.result c.counts.new.pass there c.index-lives-device.is))
           (counted_more g.D.Disk.view c.loop-device.device (known_each c.args.lives.now c.loop-device.passes) (known_of c.index-lives-device.result c.counts.new.pass) c.loop-device.sum

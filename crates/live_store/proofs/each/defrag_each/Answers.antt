@@ -25,7 +25,9 @@ bounds-passes-device g c =
     omega (arith, many, there)
 
 pub defrag-requires-clause-pass : goal.defrag-requires-clause-pass
-defrag-requires-clause-pass g c = pair_at IsPassAt c.args.lives.now c.loop-device.passes c.loop-device.device c.index-lives-device.result (get_or c.loop-device.passes c.loop-device.device c.index-passes-device.result) c.loop-device.invariant.seated
+defrag-requires-clause-pass g c =
+    pair_at IsPassAt c.args.lives.now c.loop-device.passes c.loop-device.device c.index-lives-device.result (get_or c.loop-device.passes c.loop-device.device c.index-passes-device.result)
+    c.loop-device.invariant.seated
       c.loop-device-test.true c.index-lives-device.is (ap (get_or c.loop-device.passes c.loop-device.device) c.index-passes-device.is)
 
 pub defrag-requires-clause-room : goal.defrag-requires-clause-room
@@ -48,7 +50,8 @@ seated g c = pair_set IsPassAt c.args.lives.now c.loop-device.passes c.loop-devi
 numbers : (g : Over) (c : After-defrag g) → KeepNumbers c.args.passes.now (set c.loop-device.passes c.loop-device.device c.defrag.new.pass)
 numbers g c =
     let kept = c.defrag.ensures.numbers in
-    pair_then KeepsNumbers c.args.passes.now c.loop-device.passes c.loop-device.device (get_or c.loop-device.passes c.loop-device.device c.index-passes-device.result) c.defrag.new.pass c.loop-device.invariant.numbers (within g c)
+    pair_then KeepsNumbers c.args.passes.now c.loop-device.passes c.loop-device.device (get_or c.loop-device.passes c.loop-device.device c.index-passes-device.result) c.defrag.new.pass
+        c.loop-device.invariant.numbers (within g c)
     (ap (get_or c.loop-device.passes c.loop-device.device) c.index-passes-device.is) (λ first before. (kept.0 ∙ before.0, kept.1 ∙ before.1))
 
 pub returns-in-Err-clause-passes : goal.returns-in-Err-clause-passes
@@ -62,10 +65,13 @@ returns-in-Err-clause-defrags g c =
     let e = c.in-Err.ensures {u = tt} in (
       stopped e.defrags.1.0,
       (e.defrags.1.0, e.defrags.1.1, refl),
-      turn_stops c.args.lives.now c.args.passes.now c.loop-device.passes c.loop-device.device c.index-lives-device.result (get_or c.loop-device.passes c.loop-device.device c.index-passes-device.result) c.loop-device-test.true
-          (pairs_length IsPassAt c.args.lives.now c.loop-device.passes c.loop-device.invariant.seated) c.index-lives-device.is (ap (get_or c.loop-device.passes c.loop-device.device) c.index-passes-device.is)
+      turn_stops c.args.lives.now c.args.passes.now c.loop-device.passes c.loop-device.device c.index-lives-device.result
+          (get_or c.loop-device.passes c.loop-device.device c.index-passes-device.result) c.loop-device-test.true
+          (pairs_length IsPassAt c.args.lives.now c.loop-device.passes c.loop-device.invariant.seated) c.index-lives-device.is
+              (ap (get_or c.loop-device.passes c.loop-device.device) c.index-passes-device.is)
           (Defragments g.D.Disk.view) (0, 0) (c.loop-device.moved, c.loop-device.vacated) c.defrag.new.pass e.defrags.1.0 c.loop-device.invariant.turns
-          (subst (Defragments g.D.Disk.view (known_of c.index-lives-device.result (get_or c.loop-device.passes c.loop-device.device c.index-passes-device.result)) (known_of c.index-lives-device.result c.defrag.new.pass)) e.defrags.1.2 e.defrags.2),
+          (subst (Defragments g.D.Disk.view (known_of c.index-lives-device.result (get_or c.loop-device.passes c.loop-device.device c.index-passes-device.result))
+              (known_of c.index-lives-device.result c.defrag.new.pass)) e.defrags.1.2 e.defrags.2),
     )
 
 pub loop-device-preserved : goal.loop-device-preserved
@@ -76,11 +82,15 @@ loop-device-preserved g c =
       seated = seated g after;
       numbers = numbers g after;
       room = e.room ∙ c.loop-device.invariant.room;
-      turns = turn_taken c.args.lives.now c.args.passes.now c.loop-device.passes c.loop-device.device c.index-lives-device.result (get_or c.loop-device.passes c.loop-device.device c.index-passes-device.result) c.loop-device-test.true
-          (pairs_length IsPassAt c.args.lives.now c.loop-device.passes c.loop-device.invariant.seated) c.index-lives-device.is (ap (get_or c.loop-device.passes c.loop-device.device) c.index-passes-device.is)
-          (WorkTurn (Defragments g.D.Disk.view)) (0, 0) (c.loop-device.moved, c.loop-device.vacated) (wrapped c.loop-device.moved c.in-Ok.one.0, wrapped c.loop-device.vacated c.in-Ok.one.1) c.defrag.new.pass c.loop-device.invariant.turns
+      turns = turn_taken c.args.lives.now c.args.passes.now c.loop-device.passes c.loop-device.device c.index-lives-device.result
+          (get_or c.loop-device.passes c.loop-device.device c.index-passes-device.result) c.loop-device-test.true
+          (pairs_length IsPassAt c.args.lives.now c.loop-device.passes c.loop-device.invariant.seated) c.index-lives-device.is
+              (ap (get_or c.loop-device.passes c.loop-device.device) c.index-passes-device.is)
+          (WorkTurn (Defragments g.D.Disk.view)) (0, 0) (c.loop-device.moved, c.loop-device.vacated) (wrapped c.loop-device.moved c.in-Ok.one.0, wrapped c.loop-device.vacated c.in-Ok.one.1)
+              c.defrag.new.pass c.loop-device.invariant.turns
           (c.in-Ok.one.0, c.in-Ok.one.1,
-          subst (Defragments g.D.Disk.view (known_of c.index-lives-device.result (get_or c.loop-device.passes c.loop-device.device c.index-passes-device.result)) (known_of c.index-lives-device.result c.defrag.new.pass)) e.defrags.1 e.defrags.2, refl);
+          subst (Defragments g.D.Disk.view (known_of c.index-lives-device.result (get_or c.loop-device.passes c.loop-device.device c.index-passes-device.result))
+              (known_of c.index-lives-device.result c.defrag.new.pass)) e.defrags.1 e.defrags.2, refl);
     }
 
 pub returns-clause-defrags : goal.returns-clause-defrags

@@ -24,7 +24,8 @@ bounds-passes-device g c =
 
 pub flush-requires : goal.flush-requires
 flush-requires g c = record {
-  pass = pair_at IsPassAt c.args.lives.now c.loop-device.passes c.loop-device.device c.index-lives-device.result (get_or c.loop-device.passes c.loop-device.device c.index-passes-device.result) c.loop-device.invariant.seated
+  pass = pair_at IsPassAt c.args.lives.now c.loop-device.passes c.loop-device.device c.index-lives-device.result (get_or c.loop-device.passes c.loop-device.device c.index-passes-device.result)
+      c.loop-device.invariant.seated
       c.loop-device-test.true c.index-lives-device.is (ap (get_or c.loop-device.passes c.loop-device.device) c.index-passes-device.is);
 }
 
@@ -43,7 +44,8 @@ seated g c = pair_set IsPassAt c.args.lives.now c.loop-device.passes c.loop-devi
 numbers : (g : Over) (c : After-flush g) → KeepNumbers c.args.passes.now (set c.loop-device.passes c.loop-device.device c.flush.new.pass)
 numbers g c =
     let kept = c.flush.ensures.numbers in
-    pair_then KeepsNumbers c.args.passes.now c.loop-device.passes c.loop-device.device (get_or c.loop-device.passes c.loop-device.device c.index-passes-device.result) c.flush.new.pass c.loop-device.invariant.numbers (within g c)
+    pair_then KeepsNumbers c.args.passes.now c.loop-device.passes c.loop-device.device (get_or c.loop-device.passes c.loop-device.device c.index-passes-device.result) c.flush.new.pass
+        c.loop-device.invariant.numbers (within g c)
     (ap (get_or c.loop-device.passes c.loop-device.device) c.index-passes-device.is) (λ first before. (kept.0 ∙ before.0, kept.1 ∙ before.1))
 
 pub returns-in-Err-clause-passes : goal.returns-in-Err-clause-passes
@@ -57,8 +59,10 @@ returns-in-Err-clause-flushes g c =
     let e = c.in-Err.ensures {u = tt} in (
       stopped disk_fault,
       (disk_fault, refl, refl),
-      turn_stops c.args.lives.now c.args.passes.now c.loop-device.passes c.loop-device.device c.index-lives-device.result (get_or c.loop-device.passes c.loop-device.device c.index-passes-device.result) c.loop-device-test.true
-          (pairs_length IsPassAt c.args.lives.now c.loop-device.passes c.loop-device.invariant.seated) c.index-lives-device.is (ap (get_or c.loop-device.passes c.loop-device.device) c.index-passes-device.is)
+      turn_stops c.args.lives.now c.args.passes.now c.loop-device.passes c.loop-device.device c.index-lives-device.result
+          (get_or c.loop-device.passes c.loop-device.device c.index-passes-device.result) c.loop-device-test.true
+          (pairs_length IsPassAt c.args.lives.now c.loop-device.passes c.loop-device.invariant.seated) c.index-lives-device.is
+              (ap (get_or c.loop-device.passes c.loop-device.device) c.index-passes-device.is)
           (Flushes g.D.Disk.view) (0, 0) (c.loop-device.flushed, 0) c.flush.new.pass disk_fault c.loop-device.invariant.turns
           (record { flushed = Err c.in-Err.fault; once = e.once; comes_to = (disk_fault, refl, refl) }),
     )
@@ -70,8 +74,10 @@ loop-device-preserved g c =
     record {
       seated = seated g after;
       numbers = numbers g after;
-      turns = turn_taken c.args.lives.now c.args.passes.now c.loop-device.passes c.loop-device.device c.index-lives-device.result (get_or c.loop-device.passes c.loop-device.device c.index-passes-device.result) c.loop-device-test.true
-          (pairs_length IsPassAt c.args.lives.now c.loop-device.passes c.loop-device.invariant.seated) c.index-lives-device.is (ap (get_or c.loop-device.passes c.loop-device.device) c.index-passes-device.is)
+      turns = turn_taken c.args.lives.now c.args.passes.now c.loop-device.passes c.loop-device.device c.index-lives-device.result
+          (get_or c.loop-device.passes c.loop-device.device c.index-passes-device.result) c.loop-device-test.true
+          (pairs_length IsPassAt c.args.lives.now c.loop-device.passes c.loop-device.invariant.seated) c.index-lives-device.is
+              (ap (get_or c.loop-device.passes c.loop-device.device) c.index-passes-device.is)
           (WorkTurn (Flushes g.D.Disk.view)) (0, 0) (c.loop-device.flushed, 0) (wrapped c.loop-device.flushed c.in-Ok.buffers, 0) c.flush.new.pass c.loop-device.invariant.turns
           (c.in-Ok.buffers, 0, record { flushed = Ok c.in-Ok.buffers; once = e.once; comes_to = refl }, refl);
     }

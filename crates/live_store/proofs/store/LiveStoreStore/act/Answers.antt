@@ -30,7 +30,8 @@ pub act_on-requires-clause-pass : goal.act_on-requires-clause-pass
 act_on-requires-clause-pass g c =
     let there = c.device_of.ensures.below in
     let at = c.from-device.ensures in
-    pair_at IsPassAt c.args.self.now.lives.now c.args.self.now.passes.items c.from-device.result (get_or c.args.self.now.lives.now c.from-device.result c.index-self-device.result) c.index_mut.result.now c.args.self.now.seated (omega (arith, there, at))
+    pair_at IsPassAt c.args.self.now.lives.now c.args.self.now.passes.items c.from-device.result (get_or c.args.self.now.lives.now c.from-device.result c.index-self-device.result)
+        c.index_mut.result.now c.args.self.now.seated (omega (arith, there, at))
     (ap (get_or c.args.self.now.lives.now c.from-device.result) c.index-self-device.is) c.index_mut.ensures.value
 
 pub act_on-requires-clause-own : goal.act_on-requires-clause-own
@@ -50,7 +51,8 @@ invariant_of-self g c = record {
   seated =
       let there = c.device_of.ensures.below in
       let at = c.from-device.ensures in
-      pair_set IsPassAt c.args.self.now.lives.now c.args.self.now.passes.items c.from-device.result (get_or c.args.self.now.lives.now c.from-device.result c.index-self-device.result) c.act_on.new.pass c.args.self.now.seated (omega (arith, there, at))
+      pair_set IsPassAt c.args.self.now.lives.now c.args.self.now.passes.items c.from-device.result (get_or c.args.self.now.lives.now c.from-device.result c.index-self-device.result)
+          c.act_on.new.pass c.args.self.now.seated (omega (arith, there, at))
       (ap (get_or c.args.self.now.lives.now c.from-device.result) c.index-self-device.is) c.act_on.ensures.pass;
 }
 
@@ -68,8 +70,10 @@ returns-in-Some g c =
           (omega (arith, below, at, many)) c.index_mut.ensures.value (λ first before. (kept.0 ∙ before.0, kept.1 ∙ before.1));
       carries = carries_one g.D.Disk.view (known_each lives passes) (known_each lives (set passes c.from-device.result c.act_on.new.pass)) c.args.now c.act_on.result c.in-Some.digest.now
           c.args.command.now (sym c.digest_of.ensures ∙ ap (option_map (λ d. d.now)) c.in-Some.is)
-          (calls_one (RepliesOn g.D.Disk.view c.args.command.now c.args.now c.act_on.result) lives passes c.in-Some.digest.now c.from-device.result (get_or c.args.self.now.lives.now c.from-device.result c.index-self-device.result) c.index_mut.result.now
-          c.act_on.new.pass (omega (arith, below, at)) many (ap (get_or c.args.self.now.lives.now c.from-device.result) c.index-self-device.is) c.index_mut.ensures.value (at ∙ c.device_of.ensures.value) c.act_on.ensures.replies);
+          (calls_one (RepliesOn g.D.Disk.view c.args.command.now c.args.now c.act_on.result) lives passes c.in-Some.digest.now c.from-device.result
+              (get_or c.args.self.now.lives.now c.from-device.result c.index-self-device.result) c.index_mut.result.now
+          c.act_on.new.pass (omega (arith, below, at)) many (ap (get_or c.args.self.now.lives.now c.from-device.result) c.index-self-device.is) c.index_mut.ensures.value
+              (at ∙ c.device_of.ensures.value) c.act_on.ensures.replies);
       goes_on = (c.act_on.ensures.goes_on.0, c.act_on.ensures.goes_on.1);
       mode = λ is. absurd (c.act_on.ensures.goes_on.2 is);
     }
@@ -125,9 +129,11 @@ returns-in-Defrag g c =
     record {
       lives = refl;
       numbers = numbers_all passes c.defrag_each.new.passes store.passes.len whole many (subst (λ (l : List (LivePass g.row.D.Denot)). KeepNumbers l c.defrag_each.new.passes) same e.numbers);
-      carries = carries_all passes c.defrag_each.new.passes store.passes.len whole many g.D.Disk.view lives c.args.command.now command.Defrag c.args.now c.defrag_reply.result c.in-Defrag.is (record {
+      carries = carries_all passes c.defrag_each.new.passes store.passes.len whole many g.D.Disk.view lives c.args.command.now command.Defrag c.args.now c.defrag_reply.result c.in-Defrag.is
+          (record {
         outcome = e.defrags.0;
-        works = subst (λ (l : List (LivePass g.row.D.Denot)). EachDevice (Defragments g.D.Disk.view) (known_each lives l) (known_each lives c.defrag_each.new.passes) 0 0 e.defrags.0) same e.defrags.2;
+        works = subst (λ (l : List (LivePass g.row.D.Denot)). EachDevice (Defragments g.D.Disk.view) (known_each lives l) (known_each lives c.defrag_each.new.passes) 0 0 e.defrags.0) same
+            e.defrags.2;
         replied = replied;
       });
       goes_on = (stays.0, stays.1);
@@ -148,9 +154,11 @@ returns-in-Expire g c =
     record {
       lives = refl;
       numbers = numbers_all passes c.expire_each.new.passes store.passes.len whole many (subst (λ (l : List (LivePass g.row.D.Denot)). KeepNumbers l c.expire_each.new.passes) same e.numbers);
-      carries = carries_all passes c.expire_each.new.passes store.passes.len whole many g.D.Disk.view lives c.args.command.now command.Expire c.args.now c.expire_reply.result c.in-Expire.is (record {
+      carries = carries_all passes c.expire_each.new.passes store.passes.len whole many g.D.Disk.view lives c.args.command.now command.Expire c.args.now c.expire_reply.result c.in-Expire.is
+          (record {
         outcome = e.expires.0;
-        works = subst (λ (l : List (LivePass g.row.D.Denot)). EachDevice (Expires g.D.Disk.view c.args.now) (known_each lives l) (known_each lives c.expire_each.new.passes) 0 0 e.expires.0) same e.expires.2;
+        works = subst (λ (l : List (LivePass g.row.D.Denot)). EachDevice (Expires g.D.Disk.view c.args.now) (known_each lives l) (known_each lives c.expire_each.new.passes) 0 0 e.expires.0) same
+            e.expires.2;
         replied = replied;
       });
       goes_on = (stays.0, stays.1);
