@@ -53,10 +53,10 @@ module _ (D : RattleType) (g : disk.Ghosts D.Denot) (s : IsSend D) where
   live_sync =
       let T : declared.Declared = live.the_type D g in
       recorded_sync _ _ T.to T.to_one (struct_sync (declared.shape T)
-          (search (table_sync, place_send, sprig_sync) depth 6, (search sendable depth 20, (search sendable depth 20, (search (sendable, crosses) depth 20, tt)))))
+      (search (table_sync, place_send, sprig_sync) depth 6, (search sendable depth 20, (search sendable depth 20, (search (sendable, crosses) depth 20, tt)))))
 
   pub live_send : IsSend (live.the_row D g)
   live_send =
       let T : declared.Declared = live.the_type D g in
       recorded_send _ _ T.to T.to_one (struct_send (declared.shape T)
-          (search (table_send, place_send, sprig_send) depth 6, (search sendable depth 20, (search sendable depth 20, (search (sendable, crosses) depth 20, tt)))))
+      (search (table_send, place_send, sprig_send) depth 6, (search sendable depth 20, (search sendable depth 20, (search (sendable, crosses) depth 20, tt)))))

@@ -286,7 +286,7 @@ module _ {D R : Type 0} (view : D → DiskView) (limit : ℕ) (bytes output : Li
       → EndsWith limit bytes output at_end (front ++ last ∷ []) unanswered result) → Ending result
   stopped_lines result text unsent n stop is s ends =
       let chain = subst (λ (t : List ℕ). Chain view (map line_end s.lines) old times t s.mid s.then) (sym s.serves.told)
-          (turns_chain view (map line_end s.lines) s.serves.replies old times s.mid s.then s.serves.turns) in
+      (turns_chain view (map line_end s.lines) s.serves.replies old times s.mid s.then s.serves.turns) in
       let parts = parts_of bytes left s.lines s.rest s.line s.whole s.each s.takes_up in
       let last = last_of s.line chain.lines s.told s.last s.mid s.then stop chain.of_text s.stops in
       let said = subst (LastIs stop chain.lines last.one) (sym s.all) last.is in
@@ -295,7 +295,7 @@ module _ {D R : Type 0} (view : D → DiskView) (limit : ℕ) (bytes output : Li
       let whole = length-map s.lines line_end in
       let count = s.counted in
       let order : map line_end s.lines ++ s.line ∷ [] ≡ map (λ (l : Answered D). l.line) (chain.lines ++ last.one ∷ []) =
-          (λ i. sym chain.of_lines i ++ sym last.of_line i ∷ []) ∙ sym (map-append (λ (l : Answered D). l.line) chain.lines (last.one ∷ [])) in
+      (λ i. sym chain.of_lines i ++ sym last.of_line i ∷ []) ∙ sym (map-append (λ (l : Answered D). l.line) chain.lines (last.one ∷ [])) in
       record {
         lines = chain.lines ++ last.one ∷ [];
         unanswered = parts.unanswered;

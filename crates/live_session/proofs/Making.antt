@@ -127,14 +127,16 @@ module _ {D : Type 0} (view : D → DiskView) where
         let to = ap (λ (l : List (Known D)). slice_get l device) one.others ∙ ap (λ (n : ℕ). slice_get (set olds called one.new) n) is ∙ set_here called olds one.old one.new one.there in
         (made.0, record { old = one.old; new = one.new; from = from; to = to; makes = on one.old one.new (same_at device olds news one.old one.new same from to) made })
     | inr other ↦
-        let at = place_there olds device there in
-        ([], record {
-          old = at.0;
-          new = at.0;
-          from = at.1;
-          to = ap (λ (l : List (Known D)). slice_get l device) one.others ∙ set_other olds called device one.new other ∙ at.1;
-          makes = inl (refl, refl);
-        })
+        let at = place_there olds device there in (
+          [],
+          record {
+            old = at.0;
+            new = at.0;
+            from = at.1;
+            to = ap (λ (l : List (Known D)). slice_get l device) one.others ∙ set_other olds called device one.new other ∙ at.1;
+            makes = inl (refl, refl);
+          },
+        )
   ]
 
   -- ---- a command

@@ -54,7 +54,7 @@ module _ {D : Type 0} (view : D → DiskView) (olds news : List (Known D)) (now 
 -- one of the lives is called
 pub calls_one : {D : Type 0} (Does : (old new : Known D) → Type 0) (lives : List (Live D)) (passes : List (LivePass D)) (digest : Digest) (k : ℕ) (live : Live D) (old new : LivePass D)
     → k < length lives → length passes ≡ length lives → live ≡ get_or lives k live → old ≡ get_or passes k old → k ≡ device_number (length lives) digest
-        → Does (known_of live old) (known_of live new)
+    → Does (known_of live old) (known_of live new)
     → CallsOne Does (device_number (length (known_each lives passes)) digest) (known_each lives passes) (known_each lives (set passes k new))
 calls_one {D = D} Does lives passes digest k live old new there many live_is old_is place does =
     let here : k ≡ device_number (length (known_each lives passes)) digest = place ∙ ap (λ (n : ℕ). device_number n digest) (sym (known_length lives passes many)) in

@@ -62,7 +62,7 @@ VacatesUpTo view o zero moved vacated before after outcome = (after ≡ before) 
 VacatesUpTo {D} view o (suc most) moved vacated before after outcome =
     (Defrags view o before after (Ok None) × (outcome ≡ did moved vacated))
     ⊎ ((mid : LiveView D) × (one : Vacated) × Defrags view o before mid (Ok (Some one))
-        × VacatesUpTo view o most (wrapped moved one.moved) (vacated + 1) mid after outcome)
+    × VacatesUpTo view o most (wrapped moved one.moved) (vacated + 1) mid after outcome)
     ⊎ ((refusal : DefragRefusal) × (cause : Cause) × Defrags view o before after (Err refusal) × IsCauseOf refusal.cause cause × (outcome ≡ stopped cause))
 
 -- The numbers of the device are looked at, and then at most as many blocks are vacated as waited.
@@ -77,7 +77,7 @@ abbrev pub SweepsFrom : {D : Type 0} → (view : D → DiskView) → Opening D �
 SweepsFrom view o now zero part removed before after outcome = (after ≡ before) × (outcome ≡ did removed 0)
 SweepsFrom {D} view o now (suc count) part removed before after outcome =
     ((mid : LiveView D) × (here : ℕ) × Sweeps view o before mid part now (Ok here)
-        × SweepsFrom view o now count (part + 1) (wrapped removed here) mid after outcome)
+    × SweepsFrom view o now count (part + 1) (wrapped removed here) mid after outcome)
     ⊎ ((refusal : ExpireRefusal) × Sweeps view o before after part now (Err refusal) × (outcome ≡ stopped (cause_of_write refusal.cause)))
 
 -- all parts of the device

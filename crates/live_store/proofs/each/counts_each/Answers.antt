@@ -45,7 +45,7 @@ loop-device-preserved g c =
       turns = turn_taken c.args.lives.now c.args.passes.now c.loop-device.passes c.loop-device.device c.index-lives-device.result
           (get_or c.loop-device.passes c.loop-device.device c.index-passes-device.result) there many
           c.index-lives-device.is (ap (get_or c.loop-device.passes c.loop-device.device) c.index-passes-device.is) (LookTurn g.D.Disk.view) 0 0 0 c.counts.new.pass c.loop-device.invariant.turns
-              e.right;
+          e.right;
       counted = subst (λ (l : List (Known g.row.D.Denot)). CountedSoFar g.D.Disk.view (c.loop-device.device + 1) l c.plus-sum.result)
           (sym (known_set c.args.lives.now c.loop-device.passes c.loop-device.device c.index-lives-device.result c.counts.new.pass there c.index-lives-device.is))
           (counted_more g.D.Disk.view c.loop-device.device (known_each c.args.lives.now c.loop-device.passes) (known_of c.index-lives-device.result c.counts.new.pass) c.loop-device.sum

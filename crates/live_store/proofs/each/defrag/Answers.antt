@@ -54,7 +54,7 @@ returns-in-Err-clause-defrags g c =
       (why.0, why.1, refl),
       defragments g (goal.at.returns-in-Err-clause-defrags g c).After-counts-queued (view c.defrag_one.new.pass) (stopped why.0)
           (vacated_stop g.D.Disk.view (opening_at c.args.live.now) c.counts-queued.result.queued (view c.counts-queued.new.pass) c.loop-vacated.moved c.loop-vacated.vacated
-              (view c.loop-vacated.pass)
+          (view c.loop-vacated.pass)
           (view c.defrag_one.new.pass) c.in-Err.refusal why.0 c.loop-vacated.invariant.so_far c.loop-vacated-test.true e.defrags why.1),
     )
 

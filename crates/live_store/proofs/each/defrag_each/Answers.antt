@@ -28,7 +28,7 @@ pub defrag-requires-clause-pass : goal.defrag-requires-clause-pass
 defrag-requires-clause-pass g c =
     pair_at IsPassAt c.args.lives.now c.loop-device.passes c.loop-device.device c.index-lives-device.result (get_or c.loop-device.passes c.loop-device.device c.index-passes-device.result)
     c.loop-device.invariant.seated
-      c.loop-device-test.true c.index-lives-device.is (ap (get_or c.loop-device.passes c.loop-device.device) c.index-passes-device.is)
+    c.loop-device-test.true c.index-lives-device.is (ap (get_or c.loop-device.passes c.loop-device.device) c.index-passes-device.is)
 
 pub defrag-requires-clause-room : goal.defrag-requires-clause-room
 defrag-requires-clause-room g c =
@@ -51,7 +51,7 @@ numbers : (g : Over) (c : After-defrag g) → KeepNumbers c.args.passes.now (set
 numbers g c =
     let kept = c.defrag.ensures.numbers in
     pair_then KeepsNumbers c.args.passes.now c.loop-device.passes c.loop-device.device (get_or c.loop-device.passes c.loop-device.device c.index-passes-device.result) c.defrag.new.pass
-        c.loop-device.invariant.numbers (within g c)
+    c.loop-device.invariant.numbers (within g c)
     (ap (get_or c.loop-device.passes c.loop-device.device) c.index-passes-device.is) (λ first before. (kept.0 ∙ before.0, kept.1 ∙ before.1))
 
 pub returns-in-Err-clause-passes : goal.returns-in-Err-clause-passes
@@ -68,10 +68,10 @@ returns-in-Err-clause-defrags g c =
       turn_stops c.args.lives.now c.args.passes.now c.loop-device.passes c.loop-device.device c.index-lives-device.result
           (get_or c.loop-device.passes c.loop-device.device c.index-passes-device.result) c.loop-device-test.true
           (pairs_length IsPassAt c.args.lives.now c.loop-device.passes c.loop-device.invariant.seated) c.index-lives-device.is
-              (ap (get_or c.loop-device.passes c.loop-device.device) c.index-passes-device.is)
+          (ap (get_or c.loop-device.passes c.loop-device.device) c.index-passes-device.is)
           (Defragments g.D.Disk.view) (0, 0) (c.loop-device.moved, c.loop-device.vacated) c.defrag.new.pass e.defrags.1.0 c.loop-device.invariant.turns
           (subst (Defragments g.D.Disk.view (known_of c.index-lives-device.result (get_or c.loop-device.passes c.loop-device.device c.index-passes-device.result))
-              (known_of c.index-lives-device.result c.defrag.new.pass)) e.defrags.1.2 e.defrags.2),
+          (known_of c.index-lives-device.result c.defrag.new.pass)) e.defrags.1.2 e.defrags.2),
     )
 
 pub loop-device-preserved : goal.loop-device-preserved
@@ -85,12 +85,15 @@ loop-device-preserved g c =
       turns = turn_taken c.args.lives.now c.args.passes.now c.loop-device.passes c.loop-device.device c.index-lives-device.result
           (get_or c.loop-device.passes c.loop-device.device c.index-passes-device.result) c.loop-device-test.true
           (pairs_length IsPassAt c.args.lives.now c.loop-device.passes c.loop-device.invariant.seated) c.index-lives-device.is
-              (ap (get_or c.loop-device.passes c.loop-device.device) c.index-passes-device.is)
+          (ap (get_or c.loop-device.passes c.loop-device.device) c.index-passes-device.is)
           (WorkTurn (Defragments g.D.Disk.view)) (0, 0) (c.loop-device.moved, c.loop-device.vacated) (wrapped c.loop-device.moved c.in-Ok.one.0, wrapped c.loop-device.vacated c.in-Ok.one.1)
-              c.defrag.new.pass c.loop-device.invariant.turns
-          (c.in-Ok.one.0, c.in-Ok.one.1,
-          subst (Defragments g.D.Disk.view (known_of c.index-lives-device.result (get_or c.loop-device.passes c.loop-device.device c.index-passes-device.result))
-              (known_of c.index-lives-device.result c.defrag.new.pass)) e.defrags.1 e.defrags.2, refl);
+          c.defrag.new.pass c.loop-device.invariant.turns (
+            c.in-Ok.one.0,
+            c.in-Ok.one.1,
+            subst (Defragments g.D.Disk.view (known_of c.index-lives-device.result (get_or c.loop-device.passes c.loop-device.device c.index-passes-device.result))
+                (known_of c.index-lives-device.result c.defrag.new.pass)) e.defrags.1 e.defrags.2,
+            refl,
+          );
     }
 
 pub returns-clause-defrags : goal.returns-clause-defrags

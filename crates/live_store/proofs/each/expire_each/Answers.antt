@@ -24,7 +24,7 @@ pub expire-requires-clause-pass : goal.expire-requires-clause-pass
 expire-requires-clause-pass g c =
     pair_at IsPassAt c.args.lives.now c.loop-device.passes c.loop-device.device c.index-lives-device.result (get_or c.loop-device.passes c.loop-device.device c.index-passes-device.result)
     c.loop-device.invariant.seated
-      c.loop-device-test.true c.index-lives-device.is (ap (get_or c.loop-device.passes c.loop-device.device) c.index-passes-device.is)
+    c.loop-device-test.true c.index-lives-device.is (ap (get_or c.loop-device.passes c.loop-device.device) c.index-passes-device.is)
 
 -- behind an expiry
 
@@ -42,7 +42,7 @@ numbers : (g : Over) (c : After-expire g) → KeepNumbers c.args.passes.now (set
 numbers g c =
     let kept = c.expire.ensures.numbers in
     pair_then KeepsNumbers c.args.passes.now c.loop-device.passes c.loop-device.device (get_or c.loop-device.passes c.loop-device.device c.index-passes-device.result) c.expire.new.pass
-        c.loop-device.invariant.numbers (within g c)
+    c.loop-device.invariant.numbers (within g c)
     (ap (get_or c.loop-device.passes c.loop-device.device) c.index-passes-device.is) (λ first before. (kept.0 ∙ before.0, kept.1 ∙ before.1))
 
 pub returns-in-Err-clause-passes : goal.returns-in-Err-clause-passes
@@ -59,10 +59,10 @@ returns-in-Err-clause-expires g c =
       turn_stops c.args.lives.now c.args.passes.now c.loop-device.passes c.loop-device.device c.index-lives-device.result
           (get_or c.loop-device.passes c.loop-device.device c.index-passes-device.result) c.loop-device-test.true
           (pairs_length IsPassAt c.args.lives.now c.loop-device.passes c.loop-device.invariant.seated) c.index-lives-device.is
-              (ap (get_or c.loop-device.passes c.loop-device.device) c.index-passes-device.is)
+          (ap (get_or c.loop-device.passes c.loop-device.device) c.index-passes-device.is)
           (Expires g.D.Disk.view c.args.now) (0, 0) (c.loop-device.removed, 0) c.expire.new.pass e.expires.1.0 c.loop-device.invariant.turns
           (subst (Expires g.D.Disk.view c.args.now (known_of c.index-lives-device.result (get_or c.loop-device.passes c.loop-device.device c.index-passes-device.result))
-              (known_of c.index-lives-device.result c.expire.new.pass)) e.expires.1.2 e.expires.2),
+          (known_of c.index-lives-device.result c.expire.new.pass)) e.expires.1.2 e.expires.2),
     )
 
 pub loop-device-preserved : goal.loop-device-preserved
@@ -75,11 +75,14 @@ loop-device-preserved g c =
       turns = turn_taken c.args.lives.now c.args.passes.now c.loop-device.passes c.loop-device.device c.index-lives-device.result
           (get_or c.loop-device.passes c.loop-device.device c.index-passes-device.result) c.loop-device-test.true
           (pairs_length IsPassAt c.args.lives.now c.loop-device.passes c.loop-device.invariant.seated) c.index-lives-device.is
-              (ap (get_or c.loop-device.passes c.loop-device.device) c.index-passes-device.is)
-          (WorkTurn (Expires g.D.Disk.view c.args.now)) (0, 0) (c.loop-device.removed, 0) (wrapped c.loop-device.removed c.in-Ok.here, 0) c.expire.new.pass c.loop-device.invariant.turns
-          (c.in-Ok.here, 0,
-          subst (Expires g.D.Disk.view c.args.now (known_of c.index-lives-device.result (get_or c.loop-device.passes c.loop-device.device c.index-passes-device.result))
-              (known_of c.index-lives-device.result c.expire.new.pass)) e.expires.1 e.expires.2, refl);
+          (ap (get_or c.loop-device.passes c.loop-device.device) c.index-passes-device.is)
+          (WorkTurn (Expires g.D.Disk.view c.args.now)) (0, 0) (c.loop-device.removed, 0) (wrapped c.loop-device.removed c.in-Ok.here, 0) c.expire.new.pass c.loop-device.invariant.turns (
+            c.in-Ok.here,
+            0,
+            subst (Expires g.D.Disk.view c.args.now (known_of c.index-lives-device.result (get_or c.loop-device.passes c.loop-device.device c.index-passes-device.result))
+                (known_of c.index-lives-device.result c.expire.new.pass)) e.expires.1 e.expires.2,
+            refl,
+          );
     }
 
 pub returns-clause-expires : goal.returns-clause-expires

@@ -45,7 +45,7 @@ numbers : (g : Over) (c : After-flush g) → KeepNumbers c.args.passes.now (set 
 numbers g c =
     let kept = c.flush.ensures.numbers in
     pair_then KeepsNumbers c.args.passes.now c.loop-device.passes c.loop-device.device (get_or c.loop-device.passes c.loop-device.device c.index-passes-device.result) c.flush.new.pass
-        c.loop-device.invariant.numbers (within g c)
+    c.loop-device.invariant.numbers (within g c)
     (ap (get_or c.loop-device.passes c.loop-device.device) c.index-passes-device.is) (λ first before. (kept.0 ∙ before.0, kept.1 ∙ before.1))
 
 pub returns-in-Err-clause-passes : goal.returns-in-Err-clause-passes
@@ -62,7 +62,7 @@ returns-in-Err-clause-flushes g c =
       turn_stops c.args.lives.now c.args.passes.now c.loop-device.passes c.loop-device.device c.index-lives-device.result
           (get_or c.loop-device.passes c.loop-device.device c.index-passes-device.result) c.loop-device-test.true
           (pairs_length IsPassAt c.args.lives.now c.loop-device.passes c.loop-device.invariant.seated) c.index-lives-device.is
-              (ap (get_or c.loop-device.passes c.loop-device.device) c.index-passes-device.is)
+          (ap (get_or c.loop-device.passes c.loop-device.device) c.index-passes-device.is)
           (Flushes g.D.Disk.view) (0, 0) (c.loop-device.flushed, 0) c.flush.new.pass disk_fault c.loop-device.invariant.turns
           (record { flushed = Err c.in-Err.fault; once = e.once; comes_to = (disk_fault, refl, refl) }),
     )
@@ -77,7 +77,7 @@ loop-device-preserved g c =
       turns = turn_taken c.args.lives.now c.args.passes.now c.loop-device.passes c.loop-device.device c.index-lives-device.result
           (get_or c.loop-device.passes c.loop-device.device c.index-passes-device.result) c.loop-device-test.true
           (pairs_length IsPassAt c.args.lives.now c.loop-device.passes c.loop-device.invariant.seated) c.index-lives-device.is
-              (ap (get_or c.loop-device.passes c.loop-device.device) c.index-passes-device.is)
+          (ap (get_or c.loop-device.passes c.loop-device.device) c.index-passes-device.is)
           (WorkTurn (Flushes g.D.Disk.view)) (0, 0) (c.loop-device.flushed, 0) (wrapped c.loop-device.flushed c.in-Ok.buffers, 0) c.flush.new.pass c.loop-device.invariant.turns
           (c.in-Ok.buffers, 0, record { flushed = Ok c.in-Ok.buffers; once = e.once; comes_to = refl }, refl);
     }

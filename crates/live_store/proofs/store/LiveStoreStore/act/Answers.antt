@@ -31,7 +31,7 @@ act_on-requires-clause-pass g c =
     let there = c.device_of.ensures.below in
     let at = c.from-device.ensures in
     pair_at IsPassAt c.args.self.now.lives.now c.args.self.now.passes.items c.from-device.result (get_or c.args.self.now.lives.now c.from-device.result c.index-self-device.result)
-        c.index_mut.result.now c.args.self.now.seated (omega (arith, there, at))
+    c.index_mut.result.now c.args.self.now.seated (omega (arith, there, at))
     (ap (get_or c.args.self.now.lives.now c.from-device.result) c.index-self-device.is) c.index_mut.ensures.value
 
 pub act_on-requires-clause-own : goal.act_on-requires-clause-own
@@ -52,7 +52,7 @@ invariant_of-self g c = record {
       let there = c.device_of.ensures.below in
       let at = c.from-device.ensures in
       pair_set IsPassAt c.args.self.now.lives.now c.args.self.now.passes.items c.from-device.result (get_or c.args.self.now.lives.now c.from-device.result c.index-self-device.result)
-          c.act_on.new.pass c.args.self.now.seated (omega (arith, there, at))
+      c.act_on.new.pass c.args.self.now.seated (omega (arith, there, at))
       (ap (get_or c.args.self.now.lives.now c.from-device.result) c.index-self-device.is) c.act_on.ensures.pass;
 }
 
@@ -71,9 +71,9 @@ returns-in-Some g c =
       carries = carries_one g.D.Disk.view (known_each lives passes) (known_each lives (set passes c.from-device.result c.act_on.new.pass)) c.args.now c.act_on.result c.in-Some.digest.now
           c.args.command.now (sym c.digest_of.ensures ∙ ap (option_map (λ d. d.now)) c.in-Some.is)
           (calls_one (RepliesOn g.D.Disk.view c.args.command.now c.args.now c.act_on.result) lives passes c.in-Some.digest.now c.from-device.result
-              (get_or c.args.self.now.lives.now c.from-device.result c.index-self-device.result) c.index_mut.result.now
+          (get_or c.args.self.now.lives.now c.from-device.result c.index-self-device.result) c.index_mut.result.now
           c.act_on.new.pass (omega (arith, below, at)) many (ap (get_or c.args.self.now.lives.now c.from-device.result) c.index-self-device.is) c.index_mut.ensures.value
-              (at ∙ c.device_of.ensures.value) c.act_on.ensures.replies);
+          (at ∙ c.device_of.ensures.value) c.act_on.ensures.replies);
       goes_on = (c.act_on.ensures.goes_on.0, c.act_on.ensures.goes_on.1);
       mode = λ is. absurd (c.act_on.ensures.goes_on.2 is);
     }
@@ -131,11 +131,11 @@ returns-in-Defrag g c =
       numbers = numbers_all passes c.defrag_each.new.passes store.passes.len whole many (subst (λ (l : List (LivePass g.row.D.Denot)). KeepNumbers l c.defrag_each.new.passes) same e.numbers);
       carries = carries_all passes c.defrag_each.new.passes store.passes.len whole many g.D.Disk.view lives c.args.command.now command.Defrag c.args.now c.defrag_reply.result c.in-Defrag.is
           (record {
-        outcome = e.defrags.0;
-        works = subst (λ (l : List (LivePass g.row.D.Denot)). EachDevice (Defragments g.D.Disk.view) (known_each lives l) (known_each lives c.defrag_each.new.passes) 0 0 e.defrags.0) same
-            e.defrags.2;
-        replied = replied;
-      });
+            outcome = e.defrags.0;
+            works = subst (λ (l : List (LivePass g.row.D.Denot)). EachDevice (Defragments g.D.Disk.view) (known_each lives l) (known_each lives c.defrag_each.new.passes) 0 0 e.defrags.0) same
+                e.defrags.2;
+            replied = replied;
+          });
       goes_on = (stays.0, stays.1);
       mode = λ is. absurd (stays.2 is);
     }
@@ -156,11 +156,11 @@ returns-in-Expire g c =
       numbers = numbers_all passes c.expire_each.new.passes store.passes.len whole many (subst (λ (l : List (LivePass g.row.D.Denot)). KeepNumbers l c.expire_each.new.passes) same e.numbers);
       carries = carries_all passes c.expire_each.new.passes store.passes.len whole many g.D.Disk.view lives c.args.command.now command.Expire c.args.now c.expire_reply.result c.in-Expire.is
           (record {
-        outcome = e.expires.0;
-        works = subst (λ (l : List (LivePass g.row.D.Denot)). EachDevice (Expires g.D.Disk.view c.args.now) (known_each lives l) (known_each lives c.expire_each.new.passes) 0 0 e.expires.0) same
-            e.expires.2;
-        replied = replied;
-      });
+            outcome = e.expires.0;
+            works = subst (λ (l : List (LivePass g.row.D.Denot)). EachDevice (Expires g.D.Disk.view c.args.now) (known_each lives l) (known_each lives c.expire_each.new.passes) 0 0 e.expires.0) same
+                e.expires.2;
+            replied = replied;
+          });
       goes_on = (stays.0, stays.1);
       mode = λ is. absurd (stays.2 is);
     }
