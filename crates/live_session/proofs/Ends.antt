@@ -162,10 +162,10 @@ module _ {D R : Type 0} (view : D → DiskView) (limit : ℕ) (bytes output : Li
     pub ends : EndsWith limit bytes output at_end lines unanswered result
 
   abbrev Turned : List LineEnd → (text : List ℕ) → Type 0
-  Turned ends text = HasTurns (Acts view) (Ticked view) ends old times text new later
+  Turned ends text = HasTurns (Acts view) (Ticked R view) ends old times text new later
 
-  chain_of : (ends : List LineEnd) (text : List ℕ) → Turned ends text → Chain view ends old times text new later
-  chain_of ends text serves = subst (λ (t : List ℕ). Chain view ends old times t new later) (sym serves.told) (turns_chain view ends serves.replies old times new later serves.turns)
+  chain_of : (ends : List LineEnd) (text : List ℕ) → Turned ends text → Chain R view ends old times text new later
+  chain_of ends text serves = subst (λ (t : List ℕ). Chain R view ends old times t new later) (sym serves.told) (turns_chain R view ends serves.replies old times new later serves.turns)
 
   all_front : (lines : List (Answered D)) → output ≡ told_by lines → IsFrontOf output (told_by lines)
   all_front lines all = ([], sym all ∙ sym (append-nil output))
@@ -174,7 +174,7 @@ module _ {D R : Type 0} (view : D → DiskView) (limit : ℕ) (bytes output : Li
   text_front : (text : List ℕ) (lines : List (Answered D)) (unsent : List ℕ) → told_by lines ≡ text → text ≡ output ++ unsent → IsFrontOf output (told_by lines)
   text_front text lines unsent of is = (unsent, of ∙ is)
 
-  whole_lines : (result : Ended) (text unsent : List ℕ) → text ≡ output ++ unsent → HasWholeTurns (Acts view) (Ticked view) bytes old times text new later
+  whole_lines : (result : Ended) (text unsent : List ℕ) → text ≡ output ++ unsent → HasWholeTurns (Acts view) (Ticked R view) bytes old times text new later
       → ((lines : List (Answered D)) → text ≡ told_by lines → AllStay lines → EndsWith limit bytes output false lines [] result) → Ending result
   whole_lines result text unsent is whole ends =
       let chain = chain_of (map line_end whole.lines) text whole.serves in
@@ -189,7 +189,7 @@ module _ {D R : Type 0} (view : D → DiskView) (limit : ℕ) (bytes output : Li
         ends = ends chain.lines (sym chain.of_text) chain.stay;
       }
 
-  all_lines : (result : Ended) (text unsent : List ℕ) (n : ℕ) → text ≡ output ++ unsent → HasAllTurns (Acts view) (Ticked view) bytes left n old times text new later
+  all_lines : (result : Ended) (text unsent : List ℕ) (n : ℕ) → text ≡ output ++ unsent → HasAllTurns (Acts view) (Ticked R view) bytes left n old times text new later
       → ((lines : List (Answered D)) → text ≡ told_by lines → AllStay lines → n ≡ length lines → EndsWith limit bytes output true lines [] result) → Ending result
   all_lines result text unsent n is all ends =
       let chain = chain_of (map line_end all.lines ++ unended all.rest) text all.serves in
@@ -214,7 +214,7 @@ module _ {D R : Type 0} (view : D → DiskView) (limit : ℕ) (bytes output : Li
         ends = ends chain.lines (sym chain.of_text) chain.stay (omega (arith, counted, same, both, whole, count));
       }
 
-  first_lines : (result : Ended) (text unsent : List ℕ) → text ≡ output ++ unsent → HasFirstTurns (Acts view) (Ticked view) bytes old times text new later
+  first_lines : (result : Ended) (text unsent : List ℕ) → text ≡ output ++ unsent → HasFirstTurns (Acts view) (Ticked R view) bytes old times text new later
       → ((lines : List (Answered D)) (unanswered : List LineEnd) → text ≡ told_by lines → AllStay lines → EndsWith limit bytes output false lines unanswered result) → Ending result
   first_lines result text unsent is first ends =
       let chain = chain_of (map line_end first.lines) text first.serves in
@@ -251,25 +251,25 @@ module _ {D R : Type 0} (view : D → DiskView) (limit : ℕ) (bytes output : Li
   told_more front one told last of is =
       (λ i. sym of i ++ is i) ∙ ap (λ (l : List ℕ). told_by front ++ l) (sym (append-nil (reply_text one.reply))) ∙ sym (flat_map-append (λ (l : Answered D). reply_text l.reply) front (one ∷ []))
 
-  one_last : (line : LineEnd) (front : List (Answered D)) (told last : List ℕ) (mid : LiveStore D R) (then : Times) (stop : Stop) (r : Reply) → (lifted : Lifted view line mid then r new later)
-      → LastIs stop front (one_line view line mid then r new later lifted) (told ++ last) → Last line front told last mid then stop
+  one_last : (line : LineEnd) (front : List (Answered D)) (told last : List ℕ) (mid : LiveStore D R) (then : Times) (stop : Stop) (r : Reply) → (lifted : Lifted R view line mid then r new later)
+      → LastIs stop front (one_line R view line mid then r new later lifted) (told ++ last) → Last line front told last mid then stop
   one_last line front told last mid then stop r lifted is = record {
-    one = one_line view line mid then r new later lifted;
+    one = one_line R view line mid then r new later lifted;
     of_line = refl;
     answered = (later, refl, lifted.answered, lifted.clock, (refl, refl));
     is = is;
   }
 
   last_of : (line : LineEnd) (front : List (Answered D)) (told last : List ℕ) (mid : LiveStore D R) (then : Times) (stop : Stop) → told_by front ≡ told
-      → StopsAtLine (Acts view) (Ticked view) line mid then last new later stop → Last line front told last mid then stop
+      → StopsAtLine (Acts view) (Ticked R view) line mid then last new later stop → Last line front told last mid then stop
   last_of line front told last mid then QuitStop of stops =
-      let lifted = quit view line mid then reply.Bye new later stops.0 in
-      one_last line front told last mid then QuitStop reply.Bye lifted (told_more front (one_line view line mid then reply.Bye new later lifted) told last of stops.1, refl)
+      let lifted = quit R view line mid then reply.Bye new later stops.0 in
+      one_last line front told last mid then QuitStop reply.Bye lifted (told_more front (one_line R view line mid then reply.Bye new later lifted) told last of stops.1, refl)
   last_of line front told last mid then MemoryStop of (r, inl turn, none) =
-      one_last line front told last mid then MemoryStop r (turn_lifts view line mid then r new later turn) (ap (λ (l : List ℕ). told ++ l) none ∙ append-nil told ∙ sym of)
+      one_last line front told last mid then MemoryStop r (turn_lifts R view line mid then r new later turn) (ap (λ (l : List ℕ). told ++ l) none ∙ append-nil told ∙ sym of)
   last_of line front told last mid then MemoryStop of (r, inr quits, none) =
-      one_last line front told last mid then MemoryStop r (quit view line mid then r new later quits) (ap (λ (l : List ℕ). told ++ l) none ∙ append-nil told ∙ sym of)
-  last_of line front told last mid then HaltStop of stops = absurd ((answer_goes_on view line mid then reply.Halted new later stops.0).0 refl)
+      one_last line front told last mid then MemoryStop r (quit R view line mid then r new later quits) (ap (λ (l : List ℕ). told ++ l) none ∙ append-nil told ∙ sym of)
+  last_of line front told last mid then HaltStop of stops = absurd ((answer_goes_on R view line mid then reply.Halted new later stops.0).0 refl)
 
   -- the text that was told is a front of that of all lines
   last_front : (stop : Stop) (front : List (Answered D)) (last : Answered D) (text unsent : List ℕ) → text ≡ output ++ unsent → LastIs stop front last text
@@ -281,12 +281,12 @@ module _ {D R : Type 0} (view : D → DiskView) (limit : ℕ) (bytes output : Li
   )
   last_front HaltStop front last text unsent is all = absurd all
 
-  stopped_lines : (result : Ended) (text unsent : List ℕ) (n : ℕ) (stop : Stop) → text ≡ output ++ unsent → StopsAfter (Acts view) (Ticked view) bytes left n old times text new later stop
+  stopped_lines : (result : Ended) (text unsent : List ℕ) (n : ℕ) (stop : Stop) → text ≡ output ++ unsent → StopsAfter (Acts view) (Ticked R view) bytes left n old times text new later stop
       → ((front : List (Answered D)) (last : Answered D) (at_end : Bool) (unanswered : List LineEnd) → AllStay front → n ≡ length front → LastIs stop front last text
       → EndsWith limit bytes output at_end (front ++ last ∷ []) unanswered result) → Ending result
   stopped_lines result text unsent n stop is s ends =
-      let chain = subst (λ (t : List ℕ). Chain view (map line_end s.lines) old times t s.mid s.then) (sym s.serves.told)
-      (turns_chain view (map line_end s.lines) s.serves.replies old times s.mid s.then s.serves.turns) in
+      let chain = subst (λ (t : List ℕ). Chain R view (map line_end s.lines) old times t s.mid s.then) (sym s.serves.told)
+      (turns_chain R view (map line_end s.lines) s.serves.replies old times s.mid s.then s.serves.turns) in
       let parts = parts_of bytes left s.lines s.rest s.line s.whole s.each s.takes_up in
       let last = last_of s.line chain.lines s.told s.last s.mid s.then stop chain.of_text s.stops in
       let said = subst (LastIs stop chain.lines last.one) (sym s.all) last.is in
@@ -302,7 +302,7 @@ module _ {D R : Type 0} (view : D → DiskView) (limit : ℕ) (bytes output : Li
         at_end = parts.at_end;
         are_taken = subst (λ (l : List LineEnd). AreTaken bytes parts.at_end l parts.unanswered) order parts.are_taken;
         input_ends = parts.input_ends;
-        answered = answered_then view (known_by old) (known_by s.mid) (known_by new) times s.then later chain.lines (last.one ∷ []) chain.answered last.answered;
+        answered = answered_then R view (known_by old) (known_by s.mid) (known_by new) times s.then later chain.lines (last.one ∷ []) chain.answered last.answered;
         front = last_front stop chain.lines last.one text unsent is said;
         ends = ends chain.lines last.one parts.at_end parts.unanswered chain.stay (omega (arith, counted, same, whole, count)) said;
       }
@@ -315,13 +315,13 @@ module _ {D R : Type 0} (view : D → DiskView) (limit : ℕ) (bytes output : Li
   no_more : output ≡ output ++ []
   no_more = sym (append-nil output)
 
-  some_lines : (text unsent : List ℕ) → text ≡ output ++ unsent → HasSomeTurns (Acts view) (Ticked view) bytes left old times text new later → Ending SinkFault
+  some_lines : (text unsent : List ℕ) → text ≡ output ++ unsent → HasSomeTurns (Acts view) (Ticked R view) bytes left old times text new later → Ending SinkFault
   some_lines text unsent is (inl first) = first_lines SinkFault text unsent is first (λ lines unanswered told stay. tt)
   some_lines text unsent is (inr (inl (n, all))) = all_lines SinkFault text unsent n is all (λ lines told stay count. tt)
   some_lines text unsent is (inr (inr (n, stop, s))) = stopped_lines SinkFault text unsent n stop is s (λ front last at_end unanswered stay count said. tt)
 
-  pub ends_lift : (result : Ended) → EndsSo (Acts view) (Ticked view) limit bytes left old times output new later result → Ending result
-  ends_lift (Finish n) ends = all_lines (Finish n) output [] n no_more ends.1 (λ lines told stay count. (told, stay, refl, tt, count))
+  pub ends_lift : (result : Ended) → EndsSo (Acts view) (Ticked R view) limit bytes left old times output new later result → Ending result
+  ends_lift (Finish n) ends = all_lines (Finish n) output [] n no_more ends.1 (λ lines told stay count. (told, stay, refl, refl, count))
   ends_lift (Quit n) ends =
       stopped_lines (Quit n) output [] ends.0 QuitStop no_more ends.2
       (λ front last at_end unanswered stay count said.
@@ -336,7 +336,7 @@ module _ {D R : Type 0} (view : D → DiskView) (limit : ℕ) (bytes output : Li
 -- The same of the session's own word.
 pub ran_serves : {D R : Type 0} (view : D → DiskView) (limit : ℕ) (taken taken' : List ℕ) (left left' written written' : Option (List ℕ)) (old : LiveStore D R) (times : Times) (new : LiveStore D R)
     (later : Times)
-    (result : Ended) → Ran (Acts view) (Ticked view) limit taken taken' left left' written written' old new times later result
+    (result : Ended) → Ran (Acts view) (Ticked R view) limit taken taken' left left' written written' old new times later result
     → IsServed view limit taken taken' left left' written written' (known_by old) times (known_by new) later result
 ran_serves view limit taken taken' left left' written written' old times new later result ran =
     let e = ends_lift view limit ran.bytes ran.output left' old times new later result ran.ends in

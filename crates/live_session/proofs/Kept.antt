@@ -28,8 +28,8 @@ module _ {D R : Type 0} (view : D → DiskView) where
   )
 
   pub ran_kept : (limit : _) (taken taken' : _) (left left' written written' : _) (old new : LiveStore D R) (times later : Times) (result : Ended)
-      → Ran (Acts view) (Ticked view) limit taken taken' left left' written written' old new times later result → Keeps old new
+      → Ran (Acts view) (Ticked R view) limit taken taken' left left' written written' old new times later result → Keeps old new
   ran_kept limit taken taken' left left' written written' old new times later result ran =
-      ran_keeps (Acts view) (Ticked view) Keeps keeps_none keeps_then (λ old c now r new acts. (acts.lives, acts.numbers))
+      ran_keeps (Acts view) (Ticked R view) Keeps keeps_none keeps_then (λ old c now r new acts. (acts.lives, acts.numbers))
       (λ old new same. subst (λ (s : LiveStore D R). Keeps old s) (sym same) (keeps_none old))
       limit taken taken' left left' written written' old new times later result ran

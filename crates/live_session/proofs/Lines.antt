@@ -22,8 +22,8 @@ use Rattle.live_store.proofs.Known.{devices_same}
 use Rattle.live_session.specs.Lines.{Answered, IsAnswered, IsCarriedOut, AreAnswered, TellsTime, told_by}
 use Rattle.live_session.specs.Sessions.{AllStay}
 
-module _ {D R : Type 0} (view : D → DiskView) where
-  abbrev Store : Type 0
+module _ {D : Type 0} (R : Type 0) (view : D → DiskView) where
+  abbrev pub Store : Type 0
   Store = LiveStore D R
 
   abbrev pub Ticked : Store → Store → Type 0
@@ -32,7 +32,7 @@ module _ {D R : Type 0} (view : D → DiskView) where
   -- ---- one line
 
   -- The line is answered so, and the session goes on.
-  record Lifted (line : LineEnd) (old : Store) (times : Times) (r : Reply) (new : Store) (later : Times) : Type 0 where
+  pub record Lifted (line : LineEnd) (old : Store) (times : Times) (r : Reply) (new : Store) (later : Times) : Type 0 where
     pub time : Option ℕ
     pub answered : IsAnswered view record { line = line; time = time; reply = r; before = known_by old; after = known_by new }
     pub clock : TellsTime times time later
@@ -59,7 +59,7 @@ module _ {D R : Type 0} (view : D → DiskView) where
     clock = d.same_times;
   }
 
-  quit : (line : LineEnd) (old : Store) (times : Times) (r : Reply) (new : Store) (later : Times) → Quits line old times r new later → Lifted line old times r new later
+  pub quit : (line : LineEnd) (old : Store) (times : Times) (r : Reply) (new : Store) (later : Times) → Quits line old times r new later → Lifted line old times r new later
   quit line old times r new later q = record {
     time = Some q.now;
     answered = inr (inr (record { is_quit = q.is_quit; now = q.now; at = refl; nothing = ap known_by q.same_store; farewell = q.farewell }));
@@ -80,7 +80,7 @@ module _ {D R : Type 0} (view : D → DiskView) where
       declines_goes_on r (inl refused) = ((λ is. absurd cc), (λ is. absurd cc))
       declines_goes_on r (inr lacks) = ((λ is. absurd cc), (λ is. absurd cc))
 
-  turn_lifts : (line : LineEnd) (old : Store) (times : Times) (r : Reply) (new : Store) (later : Times) → WholeTurn (Acts view) Ticked line old times r new later → Lifted line old times r new later
+  pub turn_lifts : (line : LineEnd) (old : Store) (times : Times) (r : Reply) (new : Store) (later : Times) → WholeTurn (Acts view) Ticked line old times r new later → Lifted line old times r new later
   turn_lifts line old times r new later turn = subst (λ (s : Store). Lifted line old times r s later) (sym turn.tended) (answers_lift line old times r turn.answered later turn.answer)
 
   -- ---- lines, one after another
@@ -118,5 +118,5 @@ module _ {D R : Type 0} (view : D → DiskView) where
   answered_then olds mids news times then later (x ∷ xs) ys first rest = (first.0, first.1, first.2, first.3, answered_then x.after mids news first.0 then later xs ys first.4 rest)
 
   -- one line behind them
-  pub one_line : (line : LineEnd) (old : Store) (times : Times) (r : Reply) (new : Store) (later : Times) → Lifted line old times r new later → Answered D
+  abbrev pub one_line : (line : LineEnd) (old : Store) (times : Times) (r : Reply) (new : Store) (later : Times) → Lifted line old times r new later → Answered D
   one_line line old times r new later lifted = record { line = line; time = lifted.time; reply = r; before = known_by old; after = known_by new }

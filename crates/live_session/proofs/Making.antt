@@ -53,7 +53,7 @@ module _ {D : Type 0} (view : D → DiskView) where
   vacates_made o (suc most) moved vacated before after outcome (inl none) = (placed_events (none.0.first ∷ none.0.moves), inr none.0.shows.right)
   vacates_made o (suc most) moved vacated before after outcome (inr (inl (mid, one, first, rest))) =
       made_then o before mid after (placed_events (first.first ∷ first.moves), inr first.shows.right) (vacates_made o most _ (vacated + 1) mid after outcome rest)
-  vacates_made o (suc most) moved vacated before after outcome (inr (inr (refusal, cause, stop, is))) = (placed_events (stop.first ∷ stop.moves), inr stop.shows.right)
+  vacates_made o (suc most) moved vacated before after outcome (inr (inr (refusal, cause, stop, is, ends))) = (placed_events (stop.first ∷ stop.moves), inr stop.shows.right)
 
   defrag_made : (old new : Known D) (outcome : Outcome) → Defragments view old new outcome → Made view old.opening old.pass new.pass
   defrag_made old new outcome does = made_then old.opening old.pass does.first new.pass ([], inr does.looks) (vacates_made old.opening _ 0 0 does.first new.pass outcome does.vacates)
@@ -102,7 +102,7 @@ module _ {D : Type 0} (view : D → DiskView) where
   each_makes Work makes device [] news a b outcome there same each = absurd (omega arith)
   each_makes Work makes device (old ∷ olds) [] a b outcome there same each = absurd each
   each_makes Work makes zero (old ∷ olds) (new ∷ news) a b outcome there same (inl (x, y, work, rest)) = first_makes old new olds news same.0 (makes old new (did x y) work)
-  each_makes Work makes zero (old ∷ olds) (new ∷ news) a b outcome there same (inr (cause, work, rest)) = first_makes old new olds news same.0 (makes old new (stopped cause) work)
+  each_makes Work makes zero (old ∷ olds) (new ∷ news) a b outcome there same (inr (cause, work, rest, is)) = first_makes old new olds news same.0 (makes old new (stopped cause) work)
   each_makes Work makes (suc k) (old ∷ olds) (new ∷ news) a b outcome there same (inl (x, y, work, rest)) =
       next_makes k old new olds news (each_makes Work makes k olds news _ _ outcome (omega arith) same.1 rest)
   each_makes Work makes (suc k) (old ∷ olds) (new ∷ news) a b outcome there same (inr (cause, work, others, is)) = next_makes k old new olds news (none_makes k olds news (omega arith) others)
