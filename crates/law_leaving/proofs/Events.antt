@@ -1,9 +1,8 @@
 -- An event brings no copy into a block without a buffer in which something is live, and what it moves out of it lies elsewhere.
-use Rattle.std.proofs.Common.{◌≡◌, ◌⊎◌, inl, inr, ℕ, ◌+◌, ◌≤◌, Bool, true, false, List, [], ◌∷◌, ◌++◌, Option, Some, None, refl, sym, ◌∙◌, ap, subst, arith}
+use Rattle.std.proofs.Common.{◌≡◌, ◌⊎◌, inl, inr, ℕ, ◌+◌, ◌≤◌, Bool, true, false, List, [], ◌∷◌, Option, Some, None, refl, sym, ◌∙◌, ap, subst, arith}
 use Rattle.std.proofs.Math.Nat.{le_refl}
 use Rattle.std.proofs.lemmas.Bool.{false≢true, false_from_ne_true, eqb-true, eq-eqb}
-use Rattle.std.specs.Prelude.{◌==◌, filter, Contains, MatchBool}
-use Rattle.std.specs.List.{AllByRecursion}
+use Rattle.std.specs.Prelude.{◌==◌, filter, MatchBool}
 use Rattle.law_lists.proofs.Counts.{part_of_sum}
 use Rattle.law_lists.proofs.Each.{all_at, all_from}
 use Rattle.law_lists.proofs.Members.{filter_there}
@@ -11,8 +10,8 @@ use Rattle.rec_format.specs.declared.version.Digest.{Digest}
 use Rattle.model_device.specs.Book.{Setup, Book, Live, defrag, has_buffer, has_room, use_of, live_of, placing_number}
 use Rattle.model_device.specs.Device.{State}
 use Rattle.model_device.specs.Steps.{Step, moved, closing_failed, after_step, after_steps}
-use Rattle.model_device.specs.Events.{Event, Cause, Answer, happened, refused, no_memory, damaged, disk_fault, move_call, after_event, after_events}
-use Rattle.model_device.specs.Legal.{Allowed, Follows, IsLegal, NoMemory, Only, Unless, DamageFound, DiskFails, is_in_block, live_units, no_place, move_reserve}
+use Rattle.model_device.specs.Events.{Event, Cause, happened, refused, no_memory, damaged, disk_fault, move_call, after_event, after_events}
+use Rattle.model_device.specs.Legal.{Allowed, IsLegal, NoMemory, Only, Unless, DamageFound, DiskFails, is_in_block, live_units, no_place, move_reserve}
 use Rattle.model_device.specs.Vacating.{moved_by}
 use Rattle.law_trail.specs.Trail.{IsBooked, NotFree, CanPlace}
 use Rattle.law_trail.specs.Needs.{HasRoomThrough}

@@ -1,7 +1,6 @@
 -- A legal event places at most one copy, by its first step.
 use Rattle.std.proofs.Common.{◌≡◌, ◌⊎◌, inl, inr, ℕ, Bool, true, false, cond, List, [], ◌∷◌, ◌++◌, Option, Some, None, refl, sym, ◌∙◌, subst}
-use Rattle.std.proofs.lemmas.Bool.{false≢true}
-use Rattle.std.specs.Prelude.{◌==◌, ◌&&◌, nat_le, filter, length, MatchBool, MatchOption}
+use Rattle.std.specs.Prelude.{◌&&◌, nat_le, filter, MatchBool, MatchOption}
 use Rattle.std.specs.List.{AllByRecursion}
 use Rattle.law_lists.proofs.Each.{all_joined, all_parted, all_map}
 use Rattle.rec_format.specs.declared.version.Digest.{Digest}

@@ -3,15 +3,15 @@ use Rattle.std.proofs.Common.{◌≡◌, ◌≢◌, ℕ, ◌+◌, ◌≤◌, Boo
 use Rattle.std.proofs.Math.Nat.{le_refl}
 use Rattle.std.proofs.lemmas.Bool.{false≢true, both_ways, eq-eqb, eqb-true, cond-false, cond-true, false_from_ne_true}
 use Rattle.std.proofs.lemmas.List.Sums.{sum_by-cons}
-use Rattle.std.specs.Prelude.{◌==◌, filter, sum_by, MatchOption, Contains}
-use Rattle.std.specs.List.{AllByRecursion, list_any}
+use Rattle.std.specs.Prelude.{◌==◌, filter, sum_by, MatchOption}
+use Rattle.std.specs.List.{list_any}
 use Rattle.law_lists.proofs.Each.{all_at}
 use Rattle.law_lists.proofs.Finding.{any_there, none_fewer}
 use Rattle.rec_format.specs.declared.version.Digest.{Digest}
 use Rattle.rec_format.specs.Places.{same_digest}
 use Rattle.rec_format.specs.Versions.{version_units}
 use Rattle.rec_format.proofs.Laws.{same_digest_is, same_digest_refl}
-use Rattle.model_device.specs.Book.{Setup, Book, Buffer, Live, Stream, client, defrag, has_buffer, use_of, live_of, without_live}
+use Rattle.model_device.specs.Book.{Setup, Book, Buffer, Live, client, defrag, has_buffer, use_of, live_of, without_live}
 use Rattle.model_device.specs.Book.{placed, placing_number, dropped_live, with_seal, with_gate_begun, with_flushed, with_first_passed, refreshed}
 use Rattle.model_device.specs.Device.{State}
 use Rattle.model_device.specs.Steps.{Step, wrote, moved, removed, rid_of, uncovered, sealed_stream, gate_begun, flushed_buffer, closing_failed, raid_begun}
@@ -20,7 +20,7 @@ use Rattle.model_device.specs.Legal.{is_in_block}
 use Rattle.law_trail.specs.Trail.{places_of, IsBooked, NotFree, CanPlace}
 use Rattle.law_trail.specs.Needs.{HasRoomFor}
 use Rattle.law_trail.proofs.Places.{buffer_place}
-use Rattle.law_trail.proofs.Books.{live_there, live_not_free, others_live, none_live}
+use Rattle.law_trail.proofs.Books.{live_there, others_live, none_live}
 use Rattle.law_trail.proofs.Others.{open_places}
 use Rattle.law_trail.proofs.Placing.{PlacesCopy, placed_is, seal_places}
 use Rattle.law_trail.proofs.Writing.{takes_room}

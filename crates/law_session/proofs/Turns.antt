@@ -23,7 +23,7 @@ use Rattle.model_node.specs.Run.{ImagesLeft, Served, Serves, ServesAll, AnswersL
 use Rattle.model_node.specs.Run.{node_after_line, node_after_lines, states_while, states_of_lines, times_of, replies_of}
 use Rattle.model_node.specs.Headline.{Gives}
 use Rattle.model_node.specs.Meaning.{left_between, SurvivesOne, LeavesEach, Showing, ActsFrom, TendsFrom}
-use Rattle.law_session.specs.Chain.{line_end_of, TicksAll, InHalt, ShowsLine, ShowsAll, ActsOn, TendsOn, Chain}
+use Rattle.law_session.specs.Chain.{line_end_of, TicksAll, InHalt, ShowsAll, ActsOn, TendsOn, Chain}
 use Rattle.law_session.specs.Whole.{RestsOn}
 use Rattle.law_session.proofs.States.{setups_of, on_same, lines_setups, reply_setups, states_front, states_back, times_append, after_append, serves_append, serves_more}
 use Rattle.law_session.proofs.Replies.{AllGo, halted_of, halted_in, go_halted}

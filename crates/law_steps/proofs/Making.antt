@@ -1,5 +1,5 @@
 -- A shelf that goes by an event's steps makes the event.
-use Rattle.std.proofs.Common.{◌≡◌, ℕ, ◌≤◌, Bool, true, false, ◌&&◌, List, [], ◌∷◌, refl}
+use Rattle.std.proofs.Common.{◌≡◌, ℕ, ◌≤◌, true, false, ◌&&◌, List, [], ◌∷◌, refl}
 use Rattle.std.specs.Prelude.{filter, flat_map, nat_le}
 use Rattle.std.specs.List.{AllByRecursion}
 use Rattle.law_lists.proofs.Each.{all_joined}

@@ -1,5 +1,5 @@
 -- How a call comes behind the events of a device, and what stands of many devices.
-use Rattle.std.proofs.Common.{◌≡◌, ℕ, suc, zero, ◌+◌, ◌<◌, ◌≤◌, Bool, true, false, List, [], ◌∷◌, ◌++◌, length, slice_index_or, refl, sym, ap, subst, ◌∙◌, inr, append_assoc, arith}
+use Rattle.std.proofs.Common.{◌≡◌, ℕ, suc, zero, ◌+◌, ◌<◌, ◌≤◌, Bool, true, false, List, [], ◌∷◌, ◌++◌, length, slice_index_or, sym, ap, subst, ◌∙◌, inr, arith}
 use Rattle.std.specs.Prelude.{Result, OnOk}
 use Rattle.disk_model.specs.Disk.{DiskView, IsHonest}
 use Rattle.disk_model.specs.Runs.{leaves_then, leaves_more}
@@ -17,8 +17,8 @@ use Rattle.shard_core.specs.View.{ShardView, SameSetup, setup_for, setup_of}
 use Rattle.shard_core.proofs.Events.{of_first, of_others, of_one}
 use Rattle.turn_table.specs.Passes as table
 use Rattle.live_node.specs.declared.live.Live.{Live}
-use Rattle.live_node.specs.Opening.{Opening, setup_at, state_at, WasSafe}
-use Rattle.live_node.specs.Calls.{LiveView, seen_by}
+use Rattle.live_node.specs.Opening.{Opening, setup_at, state_at}
+use Rattle.live_node.specs.Calls.{seen_by}
 use Rattle.live_node.specs.Laws.{state_more}
 use Rattle.live_node.specs.Lives.{LivePass}
 use Rattle.live_node.proofs.Right.{last_more}

@@ -1,19 +1,16 @@
 -- How far the devices of a node were brought.
-use Rattle.std.proofs.Common.{◌≡◌, inl, List, [], ◌∷◌, ◌++◌, refl, sym, ap, subst, ◌∙◌, append_assoc}
+use Rattle.std.proofs.Common.{◌≡◌, List, [], ◌∷◌, ◌++◌, sym, ap, subst, ◌∙◌, append_assoc}
 use Rattle.std.proofs.lemmas.List.{append-nil}
 use Rattle.disk_model.specs.Disk.{DiskView}
-use Rattle.model_device.specs.Device.{State}
 use Rattle.shard_core.specs.View.{ShardView}
-use Rattle.turn_table.specs.declared.noted.Noted.{Noted}
 use Rattle.turn_table.specs.Passes.{view}
 use Rattle.live_node.specs.declared.live.Live.{Live}
 use Rattle.live_node.specs.Calls.{seen_by}
 use Rattle.live_node.specs.Lives.{LivePass, opening_at}
 use Rattle.live_serve.specs.declared.closing.Closing.{Closing}
 use Rattle.live_serve.specs.Pairs.{EachPair}
-use Rattle.live_serve.specs.Devices.{Named, Known, named_each, known_each, IsUnderTable, IsFirstPass, StandsAsNoted, StopsAt, ComesOut, ComesOutAt, ComesBack, IsFlushed}
-use Rattle.live_serve.proofs.Pairing.{pair_push, pair_append}
-use Rattle.live_serve.proofs.Coming.{none_made}
+use Rattle.live_serve.specs.Devices.{Known, known_each, ComesOut, ComesOutAt, IsFlushed}
+use Rattle.live_serve.proofs.Pairing.{pair_push}
 
 -- Some came out of their tables, and stand behind the first.
 pub record OutSoFar {D : Type 0} (view : D → DiskView) (all : List (Known D)) (first shards : List (ShardView D)) (lives : List (Live D)) (passes : List (LivePass D)) : Type 0 where

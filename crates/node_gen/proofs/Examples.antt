@@ -4,7 +4,6 @@ use Rattle.std.specs.Prelude.{codes}
 use Rattle.std.specs.Fmt.{digits}
 use Rattle.hex.specs.Hex.{encode_lower}
 use Rattle.hex.proofs.OnLiterals.{hex_on_literals}
-use Rattle.node_gen.specs.declared.counts.ReplyCounts.{ReplyCounts}
 use Rattle.node_gen.specs.Replies.{counts_of}
 use Rattle.node_gen.specs.Script.{nth_digest, digest_line, divisible_by, script}
 use Rattle.node_gen.specs.Summary.{summary}

@@ -1,4 +1,4 @@
-use Rattle.std.proofs.Common.{◌≡◌, List, [], ◌++◌, ap, subst, ◌∙◌, length, arith}
+use Rattle.std.proofs.Common.{◌≡◌, List, ◌++◌, ap, subst, ◌∙◌, length, arith}
 use Rattle.shard_core.specs.View.{ShardView}
 use Rattle.live_serve.specs.Pairs.{EachPair}
 use Rattle.live_serve.specs.Devices.{ComesOutAt, IsFlushed, known_each}

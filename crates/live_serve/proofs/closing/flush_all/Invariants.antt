@@ -1,4 +1,4 @@
-use Rattle.std.proofs.Common.{◌≡◌, ◌≤◌, ◌+◌, vec_len, vec_capacity}
+use Rattle.std.proofs.Common.{◌≤◌, ◌+◌, vec_len, vec_capacity}
 use Rattle.live_serve.proofs.Going.{FlushedSoFar}
 use Rattle.live_serve.proofs.closing.flush_all.Given as goal
 
