@@ -12,7 +12,7 @@ use Rattle.model_device.proofs.InRow.{after_joined}
 use Rattle.live_node.specs.Opening.{Opening, setup_at, state_at}
 use Rattle.live_node.specs.Calls.{LiveView, seen_by, AnswersOnce}
 use Rattle.live_node.specs.Laws.{state_more}
-use Rattle.live_node.proofs.Sweeping.{allowed_in}
+use Rattle.live_node.proofs.Right.{allowed_in}
 use Rattle.disk_model.specs.Disk.{DiskView}
 use Rattle.live_chores.specs.Flushes.{HasNoneToFlush}
 

@@ -1,3 +1,4 @@
 pub mod Fresh
 pub mod Flushing
 pub mod Looking
+pub mod Raiding

@@ -3,3 +3,4 @@ pub mod Turns
 pub mod Flushes
 pub mod Expires
 pub mod Defrags
+pub mod Raids
