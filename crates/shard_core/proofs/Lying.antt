@@ -53,7 +53,7 @@ module _ (P : Digest → Type 0) where
 
 -- ---- what lies in a block
 
-same_place : (block : ℕ) (o : Option Entry) → is_in_block block (option_map live_of_entry o) ≡ lies_in block o
+pub same_place : (block : ℕ) (o : Option Entry) → is_in_block block (option_map live_of_entry o) ≡ lies_in block o
 same_place block None = refl
 same_place block (Some e) = refl
 

@@ -215,8 +215,8 @@ fn count_of(was_there: bool) -> u32
     if was_there { 1 } else { 0 }
 }
 
-// The digest of the first entry of a sprig that lies in the block.
-fn first_in(sprig: &Sprig, block: u32) -> Option<Digest>
+/// The digest of the first entry of a sprig that lies in a block.
+pub fn first_in(sprig: &Sprig, block: u32) -> Option<Digest>
     ensures { MatchOption result ((digest : Digest) → lies_in block (entry_of digest sprig.now.entries) ≡ false) (λ digest. lies_in block (entry_of digest sprig.now.entries) ≡ true) }
 {
     let mut next = sprig.next_after(None);

@@ -26,7 +26,7 @@ mod write;
 pub use block_shelf::ReadRefusal;
 pub use cold_scan::{Asked, StartCause, StartRefusal};
 pub use counts::tally_sum;
-pub use defrag::Vacated;
+pub use defrag::{Vacated, first_in};
 pub use delete::{bury_step, delete_step};
 pub use expire::{expire_step, next_expired};
 pub use flush::{flush_low, flush_next, flush_shelf};
