@@ -40,6 +40,10 @@ module _ {D : Type 0} {view : D → DiskView} {o : Opening D} where
     turns = turns_then (seen_by u) (seen_by v) (seen_by w) xs ys first.turns then.turns;
   }
 
+  -- some events, and then what entered nothing
+  pub shows_still : {u v w : LiveView D} (xs : List Placed) → Shows view o u v xs → IsRight view o v w [] → Shows view o u w xs
+  shows_still {u = u} {w = w} xs first then = subst (Shows view o u w) (append-nil xs) (shows_then xs [] first (shows_none then))
+
   -- some events, behind what entered nothing and before what entered nothing
   pub shows_between : {u v w x : LiveView D} (xs : List Placed) → IsRight view o u v [] → Shows view o v w xs → IsRight view o w x [] → seen_by x ≡ seen_by w → Shows view o u x xs
   shows_between {u = u} {v = v} {w = w} {x = x} xs before shows after seen = record {

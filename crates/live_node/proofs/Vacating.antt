@@ -1,5 +1,5 @@
 -- Moves out of a block, one after another.
-use Rattle.std.proofs.Common.{◌≡◌, ℕ, suc, ◌+◌, ◌<◌, Bool, List, [], ◌∷◌, ◌++◌, length, take, get_or, refl, sym, ap, subst, ◌∙◌, arith}
+use Rattle.std.proofs.Common.{◌≡◌, ℕ, suc, ◌+◌, ◌<◌, Bool, true, List, [], ◌∷◌, ◌++◌, length, take, get_or, refl, sym, ap, subst, ◌∙◌, append_assoc, arith}
 use Rattle.std.specs.Prelude.{Ok, Contains}
 use Rattle.std.proofs.Math.Seq.{take-suc}
 use Rattle.std.proofs.lemmas.List.Sums.{sum_by-cons}
@@ -11,7 +11,8 @@ use Rattle.model_device.specs.Vacating.{moved_by, moved_count}
 use Rattle.shard_core.proofs.Vacating.{counts_joined}
 use Rattle.live_node.specs.Opening.{Opening, IsOwn}
 use Rattle.shard_core.specs.declared.refusals.DefragCause.{DefragCause}
-use Rattle.live_node.specs.Vacates.{IsDone, HasMove, HaveMoves, IsStop, StopsAfter, MovesOut, MovesOne}
+use Rattle.shard_core.specs.declared.refusals.DefragRefusal.{DefragRefusal}
+use Rattle.live_node.specs.Vacates.{IsDone, HasMove, HaveMoves, IsStop, IsGone, StopsAfter, MovesOut, MovesOne}
 
 pub take_more : {X : Type 0} (xs : List X) (at : ℕ) (x : X) → at < length xs → take (at + 1) xs ≡ take at xs ++ get_or xs at x ∷ []
 take_more xs at x there = let one : suc at ≡ at + 1 = omega arith in subst (λ (n : ℕ). take n xs ≡ take at xs ++ get_or xs at x ∷ []) one (take-suc xs at x there)
@@ -52,6 +53,37 @@ module _ {D : Type 0} (o : Opening D) (block : ℕ) (list : List Digest) (at : �
 pub moves_stop : {D : Type 0} (o : Opening D) (block : ℕ) (digests : List Digest) (xs ys : List Event) (n : ℕ) (cause : DefragCause) → MovesOut o block digests (Ok n) xs
     → (last : Event) × (ys ≡ last ∷ []) × IsStop block cause last → StopsAfter block (record { moved = n; cause = cause }) (xs ++ ys)
 moves_stop o block digests xs ys n cause moved one = (xs, one.0, ap (λ (l : List Event). xs ++ l) one.1, moved.0, moved.1, one.2)
+
+-- ---- some moves and then others
+
+module _ {D : Type 0} (o : Opening D) (block : ℕ) where
+  -- one more of a record that was there
+  pub gone_more : (xs : List Event) (n : ℕ) (e : Event) → MovesOut o block [] (Ok n) xs → IsGone block e → MovesOut o block [] (Ok (n + 1)) (xs ++ e ∷ [])
+  gone_more xs n e moved gone = (
+    all_joined (IsDone block) xs (e ∷ []) moved.0 ((gone.0, (true, record { is_call = gone.1.is_call; answered = gone.1.answered })), tt),
+    count_more xs (e ∷ []) n 1 moved.1 (one_count e true gone.1.answered),
+    tt,
+  )
+
+  -- those of a list of digests, and others
+  module _ (list : List Digest) (xs ys : List Event) (n : ℕ) (moved : MovesOut o block list (Ok n) xs) where
+    pub moves_joined : (m : ℕ) → MovesOut o block [] (Ok m) ys → MovesOut o block list (Ok (n + m)) (xs ++ ys)
+    moves_joined m rest = (
+      all_joined (IsDone block) xs ys moved.0 rest.0,
+      count_more xs ys n m moved.1 rest.1,
+      all_map (λ x. IsOwn o x → HasMove block xs x) (λ x. IsOwn o x → HasMove block (xs ++ ys) x) list (λ x has own. move_more block xs ys x (has own)) moved.2,
+    )
+
+    -- the others end with one that was refused
+    pub stops_joined : (refusal : DefragRefusal) → StopsAfter block refusal ys → StopsAfter block (record { moved = n + refusal.moved; cause = refusal.cause }) (xs ++ ys)
+    stops_joined refusal stops = (
+      xs ++ stops.0,
+      stops.1,
+      ap (λ (l : List Event). xs ++ l) stops.2 ∙ sym (append_assoc xs stops.0 (stops.1 ∷ [])),
+      all_joined (IsDone block) xs stops.0 moved.0 stops.3,
+      count_more xs stops.0 n refusal.moved moved.1 stops.4,
+      stops.5,
+    )
 
 -- each digest in a list has its move where all have
 pub has_move : {D : Type 0} (o : Opening D) (block : ℕ) (moves : List Event) (list items : List Digest) → list ≡ items → HaveMoves o block moves list

@@ -1,11 +1,13 @@
 -- Crate live_node. How a block is vacated by events of the list.
-use Rattle.std.specs.Prelude.{◌≡◌, ◌⊎◌, ◌≤◌, ℕ, Bool, false, List, [], ◌∷◌, ◌++◌, Option, Some, None, Result, Ok, Err, Contains, IsTrue, MatchBool}
+use Rattle.std.specs.Prelude.{◌≡◌, ◌⊎◌, ◌≤◌, ◌<◌, ℕ, Bool, true, false, List, [], ◌∷◌, ◌++◌, Option, Some, None, Result, Ok, Err, Contains, IsTrue, MatchBool}
 use Rattle.std.specs.List.{AllByRecursion}
 use Rattle.rec_format.specs.declared.version.Digest.{Digest}
 use Rattle.rec_format.specs.Versions.{block_capacity}
 use Rattle.disk_model.specs.Disk.{DiskView}
 use mathlib.Core.List.{IsPrefix}
 use Rattle.model_device.specs.Book.{Book, live_of}
+use Rattle.model_device.specs.Device.{part_of}
+use Rattle.model_device.specs.Steps.{part_total}
 use Rattle.model_device.specs.Events.{Event, happened, choose_call, move_call, flush_sealed_call}
 use Rattle.model_device.specs.Legal.{is_in_block}
 use Rattle.model_device.specs.Vacating.{can_gain, moved_by, moved_count}
@@ -19,7 +21,7 @@ use Rattle.shard_core.specs.declared.defrag.Vacated.{Vacated}
 use Rattle.shard_core.specs.declared.refusals.DefragRefusal.{DefragRefusal}
 use Rattle.shard_core.specs.declared.refusals.DefragCause.{DefragCause}
 use Rattle.shard_core.specs.Vacating.{move_cause, vacate_cause}
-use Rattle.live_node.specs.Opening.{Opening, IsOwn, WasSafe, state_at}
+use Rattle.live_node.specs.Opening.{Opening, IsOwn, WasSafe, setup_at, state_at}
 use Rattle.live_node.specs.Fits.{Is}
 use Rattle.live_node.specs.Calls.{LiveView, seen_by, AnswersBy, IsRight}
 use Rattle.live_node.specs.Several.{Placed, placed_events, Shows}
@@ -98,16 +100,52 @@ pub record HasLeft {D : Type 0} (o : Opening D) (from to : List Event) (block : 
 abbrev pub AllLeft : {D : Type 0} → Opening D → (from to : List Event) → (block : ℕ) → Type 0
 AllLeft o from to block = (digest : Digest) → HasLeft o from to block digest
 
--- each record of the device that was live in the block as it was chosen has left it since, where nothing was refused
+-- that of each digest of the device
+abbrev pub OwnLeft : {D : Type 0} → Opening D → (from to : List Event) → (block : ℕ) → Type 0
+OwnLeft o from to block = (digest : Digest) → IsOwn o digest → HasLeft o from to block digest
+
+-- and that of each digest of these parts, from one on and below another
+abbrev pub PartsLeft : {D : Type 0} → Opening D → (from to : List Event) → (block first last : ℕ) → Type 0
+PartsLeft o from to block first last = (digest : Digest) → first ≤ part_of (setup_at o) digest → part_of (setup_at o) digest < last → HasLeft o from to block digest
+
+-- wherever before these events a block waited, each record of the device has left it since
+abbrev pub LeavesNone : {D : Type 0} → Opening D → (seen to : List Event) → (block : ℕ) → Type 0
+LeavesNone o seen to block = (from : List Event) → IsPrefix from seen → CanEmpty block (state_at o from).book → OwnLeft o from to block
+
+-- each record of the device has left the block since it was chosen, where nothing was refused
 abbrev pub EachLeaves : {D : Type 0} → Opening D → Result (Option Vacated) DefragRefusal → (first : Placed) → (to : List Event) → Type 0
 EachLeaves o (Ok None) first to = Unit {0}
-EachLeaves o (Ok (Some vacated)) first to =
-    (digest : Digest) → IsOwn o digest → IsTrue (is_in_block vacated.block (live_of digest (state_at o first.past).book.live))
-    → HasLeft o (first.past ++ first.event ∷ []) to vacated.block digest
+EachLeaves o (Ok (Some vacated)) first to = OwnLeft o (first.past ++ first.event ∷ []) to vacated.block
 EachLeaves o (Err refusal) first to = Unit {0}
 
--- A vacating is the choice of a block and then moves out of it, each an event of the pass. Over a disk that was honest, and whose image was
--- sound, each record that was live in it as it was chosen is among them, and has left the block in a later state.
+-- ---- what lies in the block besides what was listed
+
+-- a record was there, and was moved out of the block
+abbrev pub IsGone : (block : ℕ) → Event → Type 0
+IsGone block e = (digest : Digest) × Is (move_call digest block) (λ answer. answer ≡ happened true) e
+
+-- no record of a digest of the part lies in the block after these events
+abbrev pub NoneLies : {D : Type 0} → Opening D → List Event → (part block : ℕ) → Type 0
+NoneLies o events part block = (digest : Digest) → part_of (setup_at o) digest ≡ part → is_in_block block (live_of digest (state_at o events).book.live) ≡ false
+
+-- One record of the part is moved out of the block, by one event; or none of the part lies there, and there is no event.
+abbrev pub MovesFirst : {D : Type 0} → (view : D → DiskView) → Opening D → (before after : LiveView D) → (part block : ℕ) → Result Bool DefragCause → Type 0
+MovesFirst view o before after part block (Ok true) = AnswersBy view o before after (IsGone block)
+MovesFirst view o before after part block (Ok false) = IsRight view o before after [] × NoneLies o (seen_by after) part block
+MovesFirst view o before after part block (Err cause) = AnswersBy view o before after (IsStop block cause)
+
+-- One record is moved out of the block, and all of the parts from one on and below this one have left it; or all of those from that one on have.
+abbrev pub MovesNext : {D : Type 0} → (view : D → DiskView) → Opening D → (before after : LiveView D) → (first block : ℕ) → Result (Option ℕ) DefragCause → Type 0
+MovesNext view o before after first block (Ok (Some part)) =
+    AnswersBy view o before after (IsGone block) × PartsLeft o (seen_by before) (seen_by after) block first part
+MovesNext view o before after first block (Ok None) =
+    IsRight view o before after [] × PartsLeft o (seen_by before) (seen_by after) block first (part_total (setup_at o))
+MovesNext view o before after first block (Err cause) = AnswersBy view o before after (IsStop block cause)
+
+-- ---- a vacating as a whole
+
+-- A vacating is the choice of a block and then moves out of it, each an event of the pass. Over every disk each record of the device has left
+-- the block in a later state. Over a disk that was honest, and whose image was sound, each that was live in it as it was chosen has its move.
 pub record Defrags {D : Type 0} (view : D → DiskView) (o : Opening D) (before after : LiveView D) (result : Result (Option Vacated) DefragRefusal) : Type 0 where
   pub first : Placed
   pub moves : List Placed
@@ -116,7 +154,7 @@ pub record Defrags {D : Type 0} (view : D → DiskView) (o : Opening D) (before 
   pub shows : Shows view o before after (first ∷ moves)
   pub answers : DefragsSo result chosen (placed_events moves)
   pub each : WasSafe view o → EachMoves o result first.past (placed_events moves)
-  pub leaves : WasSafe view o → EachLeaves o result first (seen_by after)
+  pub leaves : EachLeaves o result first (seen_by after)
 
 -- A tending is a flush of what is sealed, and then, where the state that the pass has seen next says that this can gain room, a vacating,
 -- whatever comes of either.

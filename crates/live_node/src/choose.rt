@@ -81,7 +81,8 @@ impl<D: Disk> Live<D> {
         ensures pass { IsPassAt self.now pass.new }
         ensures numbers { KeepsNumbers pass.old pass.new }
         ensures room { vec_capacity list.new ≡ vec_capacity list.old }
-        ensures few { length list.new.items < 2 ^ 32 }
+        ensures few { length list.new.items < 2 ^ 31 }
+        ensures below { IfOk result (λ chosen. IfSome chosen (λ block. block < (opening_at self.now).shelf.geometry.blocks)) }
         ensures once { (by : AnswersOnce D.view (opening_at self.now) (view pass.old) (view pass.new) choose_call (choose_answer result))
             × (WasSafe D.view (opening_at self.now) → IfOk result (λ chosen. IfSome chosen (λ block. ListsLive (state_at (opening_at self.now) by.past).book block list.new.items))) }
         ensures low { IfOk result (λ chosen. IfSome chosen (λ block. CanEmpty block (state_at (opening_at self.now) (seen_by (view pass.new))).book)) }
@@ -103,7 +104,8 @@ impl<D: Disk> Live<D> {
         ensures pass { IsPassAt self.now pass.new }
         ensures numbers { KeepsNumbers pass.old pass.new }
         ensures room { vec_capacity list.new ≡ vec_capacity list.old }
-        ensures few { length list.new.items < 2 ^ 32 }
+        ensures few { length list.new.items < 2 ^ 31 }
+        ensures below { IfOk result (λ chosen. IfSome chosen (λ block. block < (opening_at self.now).shelf.geometry.blocks)) }
         ensures none { ListsNone result list.new.items }
         ensures chosen { IfOk result (λ chosen. chosen ≡ queue_front (state_at (opening_at self.now) (seen_by (view pass.old))).book.queue) }
         ensures once { (by : AnswersOnce D.view (opening_at self.now) (view pass.old) (view pass.new) choose_call (choose_answer result)) × (by.past ≡ seen_by (view pass.old)) }

@@ -18,6 +18,7 @@ mod noted;
 mod open;
 mod raid;
 mod reads;
+mod rest;
 mod shares;
 mod steps;
 mod tries;

@@ -5,10 +5,10 @@ ghost use Rattle.model_device.specs.Vacating.{moved_by};
 ghost use Rattle.shard_core.specs.Vacating.{move_cause, vacate_cause};
 ghost use Rattle.turn_table.specs.Passes.{view, KeepsNumbers};
 ghost use Rattle.live_node.specs.Opening.{IsOwn};
-ghost use Rattle.live_node.specs.Calls.{IsRight};
+ghost use Rattle.live_node.specs.Calls.{seen_by, IsRight};
 ghost use Rattle.live_node.specs.Lives.{opening_at, IsPassAt};
 ghost use Rattle.live_node.specs.Several.{Placed, placed_events, Shows};
-ghost use Rattle.live_node.specs.Vacates.{HasListRoom, MovesOne, MovesOut, Defrags, TendsSo};
+ghost use Rattle.live_node.specs.Vacates.{HasListRoom, MovesOne, MovesOut, LeavesNone, Defrags, TendsSo};
 ghost use Rattle.live_node.specs.Turns.{MovesRecord};
 
 use crate::live::Live;
@@ -102,8 +102,9 @@ impl<D: Disk> Live<D> {
     }
 
     /// Vacates the block that has waited longest, as `Shard::defrag_one` does, and answers it and how many records were moved; none where no
-    /// block waited. The choice and each move are events of the device of their own, and other passes' events may come between them. It
-    /// takes the list that it is lent for the digests of the block's records, which has room for them.
+    /// block waited. Where it answers a block each record that was live in it has left it since, whatever the disk. The choice and each move
+    /// are events of the device of their own, and other passes' events may come between them. It takes the list that it is lent for the
+    /// digests of the block's records, which has room for them.
     pub fn defrag_one<R: Wait>(
         &self,
         alloc: Global,
@@ -119,7 +120,7 @@ impl<D: Disk> Live<D> {
         ensures defrags { Defrags D.view (opening_at self.now) (view pass.old) (view pass.new) result }
     {
         match self.choose(rt, pass, list) {
-            Ok(Some(block)) => match self.move_listed(alloc, rt, pass, list, block) {
+            Ok(Some(block)) => match self.vacate(alloc, rt, pass, list, block) {
                 Ok(moved) => Ok(Some(Vacated { block, moved })),
                 Err(refusal) => Err(refusal),
             },
@@ -155,6 +156,35 @@ impl<D: Disk> Live<D> {
 }
 
 impl<D: Disk> Live<D> {
+    // Moves the records of the device's digests in the list out of the block, and then what lies there besides: that is nothing but over a
+    // disk that doesn't give what was written.
+    fn vacate<R: Wait>(
+        &self,
+        alloc: Global,
+        rt: &R,
+        pass: &mut LivePass<D>,
+        list: &[Digest],
+        block: u32,
+    ) -> Result<u32, DefragRefusal>
+        requires pass { IsPassAt self.now pass.old }
+        requires here { IsRight D.view (opening_at self.now) (view pass.old) (view pass.old) [] }
+        requires few { length list.now < 2 ^ 31 }
+        requires block { block < (opening_at self.now).shelf.geometry.blocks }
+        ensures pass { IsPassAt self.now pass.new }
+        ensures numbers { KeepsNumbers pass.old pass.new }
+        ensures moves { (events : List Placed) × Shows D.view (opening_at self.now) (view pass.old) (view pass.new) events × MovesOut (opening_at self.now) block list.now result (placed_events events) }
+        ensures leaves { IfOk result (λ moved. LeavesNone (opening_at self.now) (seen_by (view pass.old)) (seen_by (view pass.new)) block) }
+    {
+        let moved = self.move_listed(alloc, rt, pass, list, block)?;
+        match self.move_rest(alloc, rt, pass, block) {
+            Ok(rest) => Ok(moved + rest),
+            Err(refusal) => Err(DefragRefusal {
+                moved: moved + refusal.moved,
+                cause: refusal.cause,
+            }),
+        }
+    }
+
     // Moves the records of the device's digests in the list out of the block. Others may have moved them, or written over them, in between.
     fn move_listed<R: Wait>(
         &self,
@@ -166,10 +196,11 @@ impl<D: Disk> Live<D> {
     ) -> Result<u32, DefragRefusal>
         requires pass { IsPassAt self.now pass.old }
         requires here { IsRight D.view (opening_at self.now) (view pass.old) (view pass.old) [] }
-        requires few { length list.now < 2 ^ 32 }
+        requires few { length list.now < 2 ^ 31 }
         ensures pass { IsPassAt self.now pass.new }
         ensures numbers { KeepsNumbers pass.old pass.new }
         ensures moves { (events : List Placed) × Shows D.view (opening_at self.now) (view pass.old) (view pass.new) events × MovesOut (opening_at self.now) block list.now result (placed_events events) }
+        ensures few { IfOk result (λ moved. moved ≤ length list.now) }
     {
         let mut moved = 0;
         for digest in list {
@@ -215,7 +246,7 @@ fn count_of(was_there: bool) -> u32
 }
 
 // What a refused move is to the vacating.
-fn cause_of(refusal: MoveRefusal) -> DefragCause
+pub(crate) fn cause_of(refusal: MoveRefusal) -> DefragCause
     ensures { result ≡ move_cause refusal }
 {
     match refusal {

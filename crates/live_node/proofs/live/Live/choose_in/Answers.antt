@@ -1,5 +1,6 @@
 use Rattle.std.proofs.Common.{refl, ap, sym, subst, ◌∙◌, false}
-use Rattle.std.specs.Prelude.{List, IfOk, IfSome, ◌≡◌}
+use Rattle.std.specs.Prelude.{List, IfOk, IfSome, ◌≡◌, ◌<◌}
+use Rattle.block_format.specs.declared.geometry.Geometry.{Geometry}
 use Rattle.model_device.specs.Events.{choose_call}
 use Rattle.model_device.specs.Device.{State}
 use Rattle.model_device.specs.Legal.{Allowed, queue_front}
@@ -34,6 +35,10 @@ returns-clause-lists g c was =
     let o = opening_at c.args.self.now in
     let safe = c.requires.hub.safe was in
     c.choose_step-answer.ensures.all (setup_at o) (state_at o (seen_by (view c.args.pass.now))) safe.honest c.requires.hub.stands safe.safe.safe
+
+pub returns-clause-below : goal.returns-clause-below
+returns-clause-below g c =
+    subst (λ (x : Geometry). IfOk c.choose_step-answer.result (λ chosen. IfSome chosen (λ block. block < x.blocks))) c.requires.hub.geometry c.choose_step-answer.ensures.below
 
 pub returns-clause-low : goal.returns-clause-low
 returns-clause-low g c =
