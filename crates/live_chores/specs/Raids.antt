@@ -41,48 +41,16 @@ abbrev pub is_resting : (age : ℕ) → Option ℕ → (now : ℕ) → Bool
 is_resting age None now = false
 is_resting age (Some ended) now = nat_lt (now - ended) (age * 1000)
 
--- ---- without a raid
-
 -- there is neither a tombstone nor a covered record
 abbrev pub HasNoTombs : State → Type 0
 HasNoTombs s = ((counts_of s).tombstones ≡ 0) × ((counts_of s).covered ≡ 0)
 
+-- what came of the begin of a raid: none begins where the numbers are used up
 abbrev pub did_begin : Option RaidView → Did
 did_begin None = Idle
 did_begin (Some raid) = Worked
 
--- It rests: it doesn't ask the device.
-pub record Rests {D : Type 0} (before after : LiveView D) (age now : ℕ) (old : Raiding) (did : Did) (new : Raiding) : Type 0 where
-  pub resting : is_resting age old.ended now ≡ true
-  pub none : after ≡ before
-  pub came : did ≡ Idle
-  pub same : new ≡ old
-
--- There is nothing that a raid may take, and no event.
-pub record FindsNone {D : Type 0} (view : D → DiskView) (o : Opening D) (before after : LiveView D) (age now : ℕ) (old : Raiding) (did : Did) (new : Raiding) : Type 0 where
-  pub awake : is_resting age old.ended now ≡ false
-  pub right : IsRight view o before after []
-  pub nothing : HoldsFresh o before after HasNoTombs
-  pub came : did ≡ Idle
-  pub same : new ≡ old
-
--- There is, and a raid is begun by one event; none where the numbers are used up.
-pub record Begins {D : Type 0} (view : D → DiskView) (o : Opening D) (before after : LiveView D) (age now : ℕ) (old : Raiding) (did : Did) (new : Raiding) : Type 0 where
-  pub awake : is_resting age old.ended now ≡ false
-  pub something : HoldsFresh o before after (λ s. HasNoTombs s → ⊥)
-  pub once : AnswersOnce view o before after begin_call (raid_numbered (number_of new.raid))
-  pub came : did ≡ did_begin new.raid
-  pub ended : new.ended ≡ old.ended
-
-abbrev pub StartsRaid : {D : Type 0} → (view : D → DiskView) → Opening D → (before after : LiveView D) → (age now : ℕ) → (old : Raiding) → Did → (new : Raiding) → Type 0
-StartsRaid view o before after age now old did new =
-    Rests before after age now old did new
-    ⊎ FindsNone view o before after age now old did new
-    ⊎ Begins view o before after age now old did new
-
--- ---- with a raid
-
--- what came of the raid's turn
+-- what came of a raid's turn
 abbrev pub did_step : Result RaidDid RaidRefusal → Did
 did_step (Ok (turn.Marked marks)) = Worked
 did_step (Ok (turn.Scanned block)) = Worked
@@ -101,23 +69,52 @@ raiding_by Idle now ended raid = record { raid = None; ended = Some now }
 raiding_by Refused now ended raid = record { raid = None; ended = Some now }
 raiding_by Memory now ended raid = record { raid = None; ended = Some now }
 
--- The next turn of its raid is taken, by one event.
-pub record StepsRaid {D : Type 0} (view : D → DiskView) (o : Opening D) (before after : LiveView D) (now : ℕ) (raid : RaidView) (old : Raiding) (did : Did) (new : Raiding) : Type 0 where
-  pub result : Result RaidDid RaidRefusal
-  pub then : RaidView
-  pub turn : TakesRaidTurn view o before after now raid then result
-  pub came : did ≡ did_step result
-  pub left : new ≡ raiding_by did now old.ended then
+module _ {D : Type 0} (view : D → DiskView) (o : Opening D) (before after : LiveView D) (age now : ℕ) (old : Raiding) (did : Did) (new : Raiding) where
+  -- ---- without a raid
 
--- ---- a turn
+  -- It rests: it doesn't ask the device.
+  pub record Rests : Type 0 where
+    pub resting : is_resting age old.ended now ≡ true
+    pub none : after ≡ before
+    pub came : did ≡ Idle
+    pub same : new ≡ old
 
-abbrev pub TurnsRaid : {D : Type 0} → (view : D → DiskView) → Opening D → (before after : LiveView D) → (age now : ℕ) → (old : Raiding) → Did → (new : Raiding) → Type 0
-TurnsRaid view o before after age now old did new =
-    MatchOption old.raid (StartsRaid view o before after age now old did new) (λ raid. StepsRaid view o before after now raid old did new)
+  -- There is nothing that a raid may take, and no event.
+  pub record FindsNone : Type 0 where
+    pub awake : is_resting age old.ended now ≡ false
+    pub right : IsRight view o before after []
+    pub nothing : HoldsFresh o before after HasNoTombs
+    pub came : did ≡ Idle
+    pub same : new ≡ old
+
+  -- There is, and a raid is begun by one event; none where the numbers are used up.
+  pub record Begins : Type 0 where
+    pub awake : is_resting age old.ended now ≡ false
+    pub something : HoldsFresh o before after (λ s. HasNoTombs s → ⊥)
+    pub once : AnswersOnce view o before after begin_call (raid_numbered (number_of new.raid))
+    pub came : did ≡ did_begin new.raid
+    pub ended : new.ended ≡ old.ended
+
+  abbrev pub StartsRaid : Type 0
+  StartsRaid = Rests ⊎ FindsNone ⊎ Begins
+
+  -- ---- with a raid
+
+  -- The next turn of its raid is taken, by one event.
+  pub record StepsRaid (raid : RaidView) : Type 0 where
+    pub result : Result RaidDid RaidRefusal
+    pub then : RaidView
+    pub turn : TakesRaidTurn view o before after now raid then result
+    pub came : did ≡ did_step result
+    pub left : new ≡ raiding_by did now old.ended then
+
+  abbrev pub TurnsRaid : Type 0
+  TurnsRaid = MatchOption old.raid StartsRaid (λ raid. StepsRaid raid)
 
 -- Without a raid a turn begins one, but where it rests, or where there is nothing that a raid may take. With a raid it takes the next turn of that.
 -- Either is one event.
-pub record RaidsOnce {R D : Type 0} (view : D → DiskView) (old : Station R D) (age : ℕ) (had : Raiding) (now : ℕ) (did : Did) (new : Station R D) (later : ℕ) (has : Raiding) : Type 0 where
-  pub stays : Stays old new
-  pub age_stays : later ≡ age
-  pub turns : TurnsRaid view (opened_at old) (known_at old) (known_at new) age now had did has
+module _ {R D : Type 0} (view : D → DiskView) (old : Station R D) (age : ℕ) (had : Raiding) (now : ℕ) where
+  pub record RaidsOnce (did : Did) (new : Station R D) (later : ℕ) (has : Raiding) : Type 0 where
+    pub stays : Stays old new
+    pub age_stays : later ≡ age
+    pub turns : TurnsRaid view (opened_at old) (known_at old) (known_at new) age now had did has

@@ -94,7 +94,7 @@ impl<'a, R: Wait, D: Disk> RaidChore<'a, R, D> {
         requires none { (raiding_of self.old).raid ≡ None }
         ensures stays { Stays (raider self.old) (raider self.new) }
         ensures age { rest_of self.new ≡ rest_of self.old }
-        ensures steps { StepsRaid D.view (opened_at (raider self.old)) (known_at (raider self.old)) (known_at (raider self.new)) now raid (raiding_of self.old) result (raiding_of self.new) }
+        ensures steps { StepsRaid D.view (opened_at (raider self.old)) (known_at (raider self.old)) (known_at (raider self.new)) (rest_of self.old) now (raiding_of self.old) result (raiding_of self.new) raid }
     {
         let at = &mut self.station;
         let did = match at
