@@ -7,3 +7,4 @@ pub mod Numbered
 pub mod Commits
 pub mod RunEnds
 pub mod Sparing
+pub mod Digits

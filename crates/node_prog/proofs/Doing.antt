@@ -11,6 +11,7 @@ use Rattle.node_words.specs.declared.job.Job.TheVariants as job
 use Rattle.node_words.specs.Words.{Text, Asks}
 use Rattle.node_jobs.specs.Settling.{settings_of}
 use Rattle.node_jobs.specs.Formatting.{Formats}
+use Rattle.node_jobs.specs.declared.check.Telling.TheVariants.{Counts, Soundness}
 use Rattle.node_jobs.specs.Checking.{Checks}
 use Rattle.node_jobs.specs.Generating.{Generates}
 use Rattle.node_prog.specs.Done.{IsDone}
@@ -21,9 +22,10 @@ pub done : (words : List Text) (disks last : List FileState) (status : ℕ) (not
     → Generates view_of records shape (settings_of tuning) disks last status note times before after)
     → (((job : Job) (names : List Text) → Asks words job names → ⊥) → IsTold WordsRefused status note × (last ≡ disks))
     → ((shape : Shape) (names : List Text) → Asks words (job.Format shape) names → Formats view_of shape disks last status note before after)
-    → ((names : List Text) → Asks words job.Check names → Checks view_of disks last status note before after)
+    → ((names : List Text) → Asks words job.Check names → Checks Counts view_of disks last status note before after)
+    → ((names : List Text) → Asks words job.Audit names → Checks Soundness view_of disks last status note before after)
     → before.disks ≡ faults_of view_of disks → after.disks ≡ faults_of view_of last → IsDone words disks status note
-done words disks last status note {times} {before} {after} served generated refused formatted checked counted counts = record {
+done words disks last status note {times} {before} {after} served generated refused formatted checked audited counted counts = record {
   last = last;
   times = times;
   before = before;
@@ -34,5 +36,6 @@ done words disks last status note {times} {before} {after} served generated refu
   formatted = formatted;
   served = served;
   checked = checked;
+  audited = audited;
   generated = generated;
 }

@@ -1,10 +1,10 @@
 -- The disks of the first names, and the next one.
-use Rattle.std.proofs.Common.{◌≡◌, ℕ, ◌+◌, List, [], ◌∷◌, ◌++◌, take, slice_get, Some, None, ◌≢◌, refl, sym, ap, ◌∙◌, subst}
+use Rattle.std.proofs.Common.{◌≡◌, ◌⊎◌, inl, inr, ℕ, ◌+◌, List, [], ◌∷◌, ◌++◌, take, slice_get, Some, None, ◌≢◌, refl, sym, ap, ◌∙◌, subst}
 use Rattle.std.proofs.lemmas.List.{take_more}
 use Rattle.std.proofs.lemmas.Option.{same_Some, slice_get_within, get_or_from_slice_get}
 use Rattle.disk_file.specs.View.{FileState}
 use Rattle.node_words.specs.declared.job.Job.{Job}
-use Rattle.node_words.specs.declared.job.Job.TheVariants.{Format, Run, Check, Generate}
+use Rattle.node_words.specs.declared.job.Job.TheVariants.{Format, Run, Check, Audit, Generate}
 use Rattle.node_words.specs.declared.plan.Plan.{Plan}
 use Rattle.node_words.specs.Planning.{made_length}
 use Rattle.node_words.specs.Words.{Text, Asks}
@@ -35,19 +35,22 @@ plan_length words plan exact job names asks =
 
 -- ---- the way of a job
 
--- what was read is a check
-pub read_alone : (words : List Text) (read : Job) (of : List Text) → Exact words (Some (read, of)) → read ≡ Check → (job : Job) (names : List Text) → Asks words job names → way.Read ≡ way_of job
-read_alone words read of exact check job names asks = ap way_of (sym check ∙ one_job words read of exact job names asks)
+-- what was read is a job that reads alone
+pub read_alone : (words : List Text) (read : Job) (of : List Text) → Exact words (Some (read, of)) → (read ≡ Check) ⊎ (read ≡ Audit)
+    → (job : Job) (names : List Text) → Asks words job names → way.Read ≡ way_of job
+read_alone words read of exact (inl is) job names asks = ap way_of (sym is ∙ one_job words read of exact job names asks)
+read_alone words read of exact (inr is) job names asks = ap way_of (sym is ∙ one_job words read of exact job names asks)
 
--- what neither makes devices nor is a check
-not_made : (job : Job) → None ≡ made_length job → job ≢ Check → way.Open ≡ way_of job
-not_made (Format shape) none other = cc
-not_made (Run tuning) none other = refl
-not_made Check none other = absurd (other refl)
-not_made (Generate count shape tuning) none other = cc
+-- what neither makes devices nor reads alone
+not_made : (job : Job) → None ≡ made_length job → job ≢ Check → job ≢ Audit → way.Open ≡ way_of job
+not_made (Format shape) none check audit = cc
+not_made (Run tuning) none check audit = refl
+not_made Check none check audit = absurd (check refl)
+not_made Audit none check audit = absurd (audit refl)
+not_made (Generate count shape tuning) none check audit = cc
 
--- what was read is no check, and devices aren't made
-pub read_and_written : (words : List Text) (read : Job) (of : List Text) → Exact words (Some (read, of)) → read ≢ Check → (job : Job) (names : List Text) → Asks words job names
-    → None ≡ made_length job → way.Open ≡ way_of job
-read_and_written words read of exact other job names asks none =
-    not_made job none (subst (λ (j : Job). j ≢ Check) (one_job words read of exact job names asks) other)
+-- what was read doesn't read alone, and devices aren't made
+pub read_and_written : (words : List Text) (read : Job) (of : List Text) → Exact words (Some (read, of)) → read ≢ Check → read ≢ Audit → (job : Job) (names : List Text)
+    → Asks words job names → None ≡ made_length job → way.Open ≡ way_of job
+read_and_written words read of exact check audit job names asks none =
+    let same = one_job words read of exact job names asks in not_made job none (subst (λ (j : Job). j ≢ Check) same check) (subst (λ (j : Job). j ≢ Audit) same audit)

@@ -11,6 +11,7 @@ use Rattle.node_words.specs.declared.job.Job.TheVariants as job
 use Rattle.node_words.specs.Words.{Asks}
 use Rattle.node_jobs.specs.Settling.{settings_of}
 use Rattle.node_jobs.specs.Formatting.{Formats}
+use Rattle.node_jobs.specs.declared.check.Telling.TheVariants.{Counts, Soundness}
 use Rattle.node_jobs.specs.Checking.{Checks}
 use Rattle.node_jobs.specs.Generating.{Generates}
 use Rattle.node_prog.specs.Opened.{way_of, AreOpened}
@@ -28,7 +29,8 @@ pub record IsDone (words : List (List ℕ)) (disks : List FileState) (status : �
   pub formatted : (shape : Shape) (names : List (List ℕ)) → Asks words (job.Format shape) names → Formats view_of shape disks last status note before after
   pub served : (tuning : Tuning) (names : List (List ℕ)) → Asks words (job.Run tuning) names
       → Runs (settings_of tuning) (disks_between view_of disks last) status note times before after
-  pub checked : (names : List (List ℕ)) → Asks words job.Check names → Checks view_of disks last status note before after
+  pub checked : (names : List (List ℕ)) → Asks words job.Check names → Checks Counts view_of disks last status note before after
+  pub audited : (names : List (List ℕ)) → Asks words job.Audit names → Checks Soundness view_of disks last status note before after
   pub generated : (records : ℕ) (shape : Shape) (tuning : Tuning) (names : List (List ℕ)) → Asks words (job.Generate records shape tuning) names
       → Generates view_of records shape (settings_of tuning) disks last status note times before after
 

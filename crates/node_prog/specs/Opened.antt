@@ -13,6 +13,7 @@ abbrev pub way_of : Job → Way
 way_of (job.Format shape) = way.Make (file_length shape)
 way_of (job.Run tuning) = way.Open
 way_of job.Check = way.Read
+way_of job.Audit = way.Read
 way_of (job.Generate count shape tuning) = way.Make (file_length shape)
 
 -- The disk is the whole of what has the name, or was made under it, or is the first bytes of what was there.

@@ -4,7 +4,7 @@ use Rattle.std.proofs.lemmas.Fmt.{decimal_injective}
 use Rattle.node_words.specs.declared.job.Shape.{Shape}
 use Rattle.node_words.specs.declared.job.Tuning.{Tuning}
 use Rattle.node_words.specs.declared.job.Job.{Job}
-use Rattle.node_words.specs.declared.job.Job.TheVariants.{Format, Run, Check, Generate}
+use Rattle.node_words.specs.declared.job.Job.TheVariants.{Format, Run, Check, Audit, Generate}
 use Rattle.node_words.specs.Words.{Text, Pair, number, power, choice, yes_no, Says, Row, HasRows, shape_rows, tuning_rows, rows_of, first_words, IsCounted}
 use Rattle.node_words.proofs.Numbers.{one_number}
 
@@ -64,6 +64,7 @@ pub one_job : (pairs : List Pair) (j k : Job) → first_words j ≡ first_words 
 one_job pairs (Format s) (Format t) same some more one two = ap Format (one_shape pairs s t one two)
 one_job pairs (Run s) (Run t) same some more one two = ap Run (one_tuning pairs s t one two)
 one_job pairs Check Check same some more one two = refl
+one_job pairs Audit Audit same some more one two = refl
 one_job pairs (Generate m s t) (Generate n u v) same some more one two =
     let a = apart pairs (shape_rows s) (tuning_rows t) one in
     let b = apart pairs (shape_rows u) (tuning_rows v) two in

@@ -6,7 +6,7 @@ use Rattle.std.proofs.Math.Pow.{pow_mono}
 use Rattle.node_words.specs.declared.job.Shape.{Shape}
 use Rattle.node_words.specs.declared.job.Tuning.{Tuning}
 use Rattle.node_words.specs.declared.job.Job.{Job}
-use Rattle.node_words.specs.declared.job.Job.TheVariants.{Format, Run, Check, Generate}
+use Rattle.node_words.specs.declared.job.Job.TheVariants.{Format, Run, Check, Audit, Generate}
 use Rattle.node_words.specs.declared.request.Request.{Request}
 use Rattle.node_words.specs.Words.{Text, Pair, Says, number, power, HasRows, shape_rows, tuning_rows, rows_of, IsCounted, Asks}
 use Rattle.node_words.specs.Ranges.{IsBlockSize, IsShape, IsTuning, IsInRange}
@@ -48,6 +48,7 @@ job_in : (pairs : List Pair) (job : Job) → IsCounted job → HasRows pairs (ro
 job_in pairs (Format shape) counted has = shape_in pairs shape has
 job_in pairs (Run tuning) counted has = tuning_in pairs tuning has
 job_in pairs Check counted has = tt
+job_in pairs Audit counted has = tt
 job_in pairs (Generate count shape tuning) counted has =
     let parts = apart pairs (shape_rows shape) (tuning_rows tuning) has in
     (counted.0, counted.1, shape_in pairs shape parts.0, tuning_in pairs tuning parts.1)

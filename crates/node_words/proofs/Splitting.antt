@@ -5,7 +5,7 @@ use Rattle.std.specs.List.{AllByRecursion}
 use Rattle.std.proofs.lemmas.Bool.{ne_eqb, cases_Bool}
 use Rattle.std.proofs.lemmas.List.Elements.{All-from_recursion, All-contains}
 use Rattle.node_words.specs.declared.job.Job.{Job}
-use Rattle.node_words.specs.declared.job.Job.TheVariants.{Check}
+use Rattle.node_words.specs.declared.job.Job.TheVariants.{Check, Audit}
 use Rattle.node_words.specs.Options.{split, is_dashed}
 use Rattle.node_words.specs.Words.{Text, Pair, IsName, names_in, rows_of}
 
@@ -39,6 +39,7 @@ rejoin (option ∷ value ∷ words) = elim (cases_Bool (is_dashed option)) [
 
 dashed_names : (job : Job) → AllByRecursion (λ name. is_dashed name ≡ true) (names_in (rows_of job))
 dashed_names Check = tt
+dashed_names Audit = tt
 dashed_names _ = search rules
 
 -- the options of a job have a dash in front

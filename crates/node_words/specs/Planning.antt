@@ -13,4 +13,5 @@ abbrev pub made_length : Job → Option ℕ
 made_length (job.Format shape) = Some (file_length shape)
 made_length (job.Run tuning) = None
 made_length job.Check = None
+made_length job.Audit = None
 made_length (job.Generate count shape tuning) = Some (file_length shape)

@@ -27,4 +27,5 @@ abbrev pub IsInRange : Job → Type 0
 IsInRange (job.Format shape) = IsShape shape
 IsInRange (job.Run tuning) = IsTuning tuning
 IsInRange job.Check = Unit {0}
+IsInRange job.Audit = Unit {0}
 IsInRange (job.Generate count shape tuning) = (1 ≤ count) × (count ≤ 1000000) × IsShape shape × IsTuning tuning

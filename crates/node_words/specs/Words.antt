@@ -74,6 +74,7 @@ abbrev pub first_words : Job → List Text
 first_words (job.Format shape) = codes "format" ∷ []
 first_words (job.Run tuning) = codes "run" ∷ []
 first_words job.Check = codes "check" ∷ []
+first_words job.Audit = codes "audit" ∷ []
 first_words (job.Generate count shape tuning) = codes "gen" ∷ decimal count ∷ []
 
 -- a number among them is from one to a million
@@ -86,6 +87,7 @@ abbrev pub rows_of : Job → List Row
 rows_of (job.Format shape) = shape_rows shape
 rows_of (job.Run tuning) = tuning_rows tuning
 rows_of job.Check = []
+rows_of job.Audit = []
 rows_of (job.Generate count shape tuning) = shape_rows shape ++ tuning_rows tuning
 
 -- ---- device names

@@ -35,6 +35,8 @@ pub enum Job {
     Run(Tuning),
     /// Tell what is on devices, and change nothing.
     Check,
+    /// Tell whether the images of devices are sound, and change nothing.
+    Audit,
     /// Make devices and fill them.
     Generate {
         /// How many records are put, 1 to 1,000,000.

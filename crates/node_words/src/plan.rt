@@ -28,7 +28,7 @@ impl Job {
     {
         match self {
             Job::Format(shape) | Job::Generate { shape, .. } => Some(shape.file_length()),
-            Job::Run(_) | Job::Check => None,
+            Job::Run(_) | Job::Check | Job::Audit => None,
         }
     }
 }

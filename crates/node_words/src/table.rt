@@ -42,6 +42,7 @@ pub fn job_of(word: &str, options: &mut Options<'_>) -> Option<Job>
         "format" => Some(Job::Format(shape_of(options)?)),
         "run" => Some(Job::Run(tuning_of(options)?)),
         "check" => Some(Job::Check),
+        "audit" => Some(Job::Audit),
         _ => None,
     }
 }

@@ -119,7 +119,7 @@ fn start_plainly<D: Disk, C: Clock>(
 fn lines_asked(words: &[String]) -> Option<u64> {
     match read_words(words)?.job {
         Job::Generate { count, .. } => Some(lines_of(count)),
-        Job::Format(_) | Job::Run(_) | Job::Check => None,
+        Job::Format(_) | Job::Run(_) | Job::Check | Job::Audit => None,
     }
 }
 

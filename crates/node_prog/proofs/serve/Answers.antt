@@ -10,4 +10,5 @@ returns g c =
     (λ none. let told = c.node_top-outcome.ensures.refused none in (told.0, told.1))
     (λ shape names asks. let made = c.node_top-outcome.ensures.formatted shape names asks in made.0)
     (λ names asks. let read = c.node_top-outcome.ensures.checked names asks in read.0)
+    (λ names asks. let read = c.node_top-outcome.ensures.audited names asks in read.0)
     refl refl

@@ -15,4 +15,4 @@ returns-in-Check c job names asks length =
 pub returns-in_default-job : goal.returns-in_default-job
 returns-in_default-job c job names asks length =
     read_and_written (map string_bytes c.args.words.now) c.in-Some-read_words.request.job (map string_bytes c.in-Some-read_words.request.names.now)
-    c.in-Some-read_words.ensures.exact c.in_default-job.not-Check job names asks (sym c.in_default.is ∙ length)
+    c.in-Some-read_words.ensures.exact c.in_default-job.not-Check c.in_default-job.not-Audit job names asks (sym c.in_default.is ∙ length)
