@@ -1,0 +1,5 @@
+mod defrags;
+mod devices;
+mod expiries;
+mod flushes;
+mod raids;
