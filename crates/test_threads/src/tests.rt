@@ -2,4 +2,3 @@ mod arenas;
 mod counters;
 mod devices;
 mod piles;
-mod raids;

@@ -14,11 +14,11 @@ use std::alloc::Global;
 use std::test::Fail;
 use turn_table::Noted;
 
-pub(super) const RISING: Digest = Digest([
+const RISING: Digest = Digest([
     0, 1, 2, 3, 4, 5, 6, 7, 8, 9, 10, 11, 12, 13, 14, 15, 16, 17, 18, 19,
 ]);
 
-pub(super) const FALLING: Digest = Digest([
+const FALLING: Digest = Digest([
     19, 18, 17, 16, 15, 14, 13, 12, 11, 10, 9, 8, 7, 6, 5, 4, 3, 2, 1, 0,
 ]);
 
@@ -27,7 +27,7 @@ const ALONE: Asked = Asked {
     devices: 1,
 };
 
-fn settings(commit: bool) -> Settings
+fn settings() -> Settings
     ensures { IsSettings result }
 {
     Settings {
@@ -35,7 +35,7 @@ fn settings(commit: bool) -> Settings
         lwm: 50,
         pending: 4,
         cache: 0,
-        commit,
+        commit: false,
         raid_age: 0,
     }
 }
@@ -53,18 +53,7 @@ fn shape() -> Geometry
 }
 
 // A new device without others, under its table.
-pub(super) fn opened(alloc: Global) -> Result<(Live<MemDisk>, LivePass<MemDisk>), Fail>
-    ensures pass { IfOk result (λ r. IsPassAt r.0 r.1 × (own_count r.1 ≡ all_numbers) × (joined_count r.1 ≡ 0)) }
-    ensures alone { IfOk result (λ r. ((opening_at r.0).shelf.geometry.device ≡ 0) × ((opening_at r.0).shelf.geometry.devices ≡ 1)) }
-{
-    opened_with(alloc, false)
-}
-
-// The same, whose writes are committed, or wait for their flush.
-pub(super) fn opened_with(
-    alloc: Global,
-    commit: bool,
-) -> Result<(Live<MemDisk>, LivePass<MemDisk>), Fail>
+fn opened(alloc: Global) -> Result<(Live<MemDisk>, LivePass<MemDisk>), Fail>
     ensures pass { IfOk result (λ r. IsPassAt r.0 r.1 × (own_count r.1 ≡ all_numbers) × (joined_count r.1 ≡ 0)) }
     ensures alone { IfOk result (λ r. ((opening_at r.0).shelf.geometry.device ≡ 0) × ((opening_at r.0).shelf.geometry.devices ≡ 1)) }
 {
@@ -72,7 +61,7 @@ pub(super) fn opened_with(
     if format_disk(&mut disk, &shape()).is_err() {
         return Err(Fail::new("it isn't formatted"));
     }
-    let Ok(shard) = Shard::start(alloc, disk, ALONE, settings(commit)) else {
+    let Ok(shard) = Shard::start(alloc, disk, ALONE, settings()) else {
         return Err(Fail::new("it isn't taken into use"));
     };
     let state = Noted::about::<Shard<MemDisk>, Standing>(&shard);
@@ -82,7 +71,7 @@ pub(super) fn opened_with(
     }
 }
 
-pub(super) fn ended(live: Live<MemDisk>, pass: LivePass<MemDisk>) -> Shard<MemDisk>
+fn ended(live: Live<MemDisk>, pass: LivePass<MemDisk>) -> Shard<MemDisk>
     requires { IsPassAt live pass × (own_count pass + joined_count pass ≡ all_numbers) }
 {
     match live.close(pass) {
@@ -168,20 +157,5 @@ fn a_flush_is_an_event_like_any_other(rt: HostRuntime) -> Result<(), Fail> {
     assert!(rt; put.is_ok() && stamp.is_ok() && raid.is_some());
     assert!(rt; sealed == Ok(0) && flushed == Ok(1));
     assert!(rt; counts.records == 0 && counts.tombstones == 1 && counts.pending == 1);
-    Ok(())
-}
-
-#[test]
-fn a_committed_write_waits_for_no_flush(rt: HostRuntime) -> Result<(), Fail> {
-    let alloc = rt.alloc();
-    let (live, mut pass) = opened_with(alloc, true)?;
-    let put = live.put(alloc, &rt, &mut pass, &RISING, 0, b"hello", None, 1000);
-    let first = live.counts(&rt, &mut pass);
-    let stamp = live.bury(alloc, &rt, &mut pass, &RISING, 2000);
-    let second = live.counts(&rt, &mut pass);
-    ended(live, pass);
-    assert!(rt; put.is_ok() && stamp.is_ok());
-    assert!(rt; first.records == 1 && first.pending == 0);
-    assert!(rt; second.tombstones == 1 && second.pending == 0);
     Ok(())
 }
