@@ -88,7 +88,7 @@ pub fn share(live: &Live<MemDisk>, pass: &mut LivePass<MemDisk>) -> LivePass<Mem
     live.split(pass, 1)
 }
 
-// Joins a chore's pass, and ends the device.
+// Joins a chore's pass, so that the device may be ended.
 pub fn rejoined(live: &Live<MemDisk>, pass: &mut LivePass<MemDisk>, other: LivePass<MemDisk>)
     requires beside { IsBeside live.now pass.old }
     requires given { IsGiven live.now other }
