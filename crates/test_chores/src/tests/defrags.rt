@@ -49,12 +49,7 @@ fn given<'a, R>(live: &Live<MemDisk>, chore: DefragChore<'a, R, MemDisk>) -> Liv
 }
 
 // Puts two records into one block, and flushes it.
-fn fill<R: Wait>(
-    alloc: Global,
-    rt: &R,
-    live: &Live<MemDisk>,
-    pass: &mut LivePass<MemDisk>,
-) -> bool
+fn fill<R: Wait>(alloc: Global, rt: &R, live: &Live<MemDisk>, pass: &mut LivePass<MemDisk>) -> bool
     requires beside { IsBeside live.now pass.old }
     requires alone { IsAlone live.now }
     ensures beside { IsBeside live.now pass.new }
@@ -84,7 +79,10 @@ fn a_queued_block_is_emptied_turn_by_turn(rt: HostRuntime) -> Result<(), Fail> {
     let again = flush(&rt, &live, &mut pass);
     let chosen = turn(alloc, &live, &mut chore);
     let gone = delete(alloc, &rt, &live, &mut pass, &FALLING);
-    let moves = (turn(alloc, &live, &mut chore), turn(alloc, &live, &mut chore));
+    let moves = (
+        turn(alloc, &live, &mut chore),
+        turn(alloc, &live, &mut chore),
+    );
     let other = turn(alloc, &live, &mut chore);
     let last = turn(alloc, &live, &mut chore);
     let nothing = turn(alloc, &live, &mut chore);

@@ -68,7 +68,10 @@ fn a_flusher_flushes_one_buffer_in_each_turn(rt: HostRuntime) -> Result<(), Fail
     ended(live, pass);
     assert!(rt; one && two);
     assert_eq!(rt; idle, Did::Idle);
-    assert_eq!(rt; (first, second, third), (Did::Worked, Did::Worked, Did::Idle));
+    assert_eq!(rt;
+        (first, second, third),
+        (Did::Worked, Did::Worked, Did::Idle)
+    );
     assert!(rt; counts.pending == 0 && counts.free == 7);
     Ok(())
 }

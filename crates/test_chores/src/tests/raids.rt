@@ -3,9 +3,7 @@ ghost use Rattle.std.specs.Prelude.{◌≡◌, ◌≤◌, ◌^◌};
 ghost use Rattle.live_chores.specs.Raids.{raider};
 ghost use Rattle.test_chores.specs.Trials.{IsHired, IsGiven};
 
-use crate::tests::devices::{
-    RISING, bury, counts, ended, flush, opened, put, rejoined, share,
-};
+use crate::tests::devices::{RISING, bury, counts, ended, flush, opened, put, rejoined, share};
 use disk_model::MemDisk;
 use live_chores::RaidChore;
 use live_node::{Live, LivePass};
