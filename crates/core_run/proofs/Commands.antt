@@ -1,6 +1,6 @@
 -- Each command of a node that serves, and of one that halted, means what it has to mean.
-use Rattle.std.proofs.Common.{◌≡◌, inl, inr, ℕ, zero, suc, ◌+◌, ◌<◌, true, false, List, [], ◌∷◌, length, map, set, refl, sym, ◌∙◌, ap, subst, arith}
-use Rattle.std.specs.Prelude.{◌≢◌, ◌⊎◌, Bool, Option, Some, None, Result, Ok, Err, MatchOption, slice_get}
+use Rattle.std.proofs.Common.{◌≡◌, inl, inr, ℕ, ◌+◌, true, false, List, [], ◌∷◌, length, map, set, refl, sym, ◌∙◌, ap, subst, arith}
+use Rattle.std.specs.Prelude.{◌≢◌, Bool, Option, Some, None, Result, Ok, Err, MatchOption, slice_get}
 use Rattle.std.proofs.lemmas.Option.{slice_get_within, get_or_from_slice_get}
 use Rattle.law_lists.proofs.Places.{set_unchanged}
 use Rattle.disk_model.specs.Disk.{DiskView, IsDisk}

@@ -10,7 +10,6 @@ use Rattle.rec_format.specs.declared.version.Version.{Version}
 use Rattle.rec_format.specs.declared.entry.Entry.{Entry}
 use Rattle.rec_format.specs.Places.{device_number}
 use Rattle.model_device.specs.Book.{Setup, Buffer}
-use Rattle.model_device.specs.Book as book
 use Rattle.model_device.specs.Device.{seen}
 use Rattle.model_device.specs.Events.{Event, Call, put_call, bury_call, delete_call, expire_call, get_call, found_version, refused}
 use Rattle.model_device.specs.Vacating.{Outcome, stopped}

@@ -1,7 +1,6 @@
 -- Crate core_run. What the calls of a node mean by what is seen of it.
 use Rattle.std.specs.Prelude.{◌≡◌, ◌⊎◌, ℕ, ◌+◌, ◌<◌, true, false, List, [], ◌∷◌, length, Option, Some, None, MatchOption, Result, slice_get}
 use Rattle.disk_model.specs.Disk.{DiskView}
-use Rattle.rec_format.specs.declared.version.Digest.{Digest}
 use Rattle.rec_format.specs.declared.version.Version.{Version}
 use Rattle.rec_format.specs.Places.{device_number}
 use Rattle.model_device.specs.Device.{State}

@@ -1,23 +1,22 @@
 -- Crate core_run. What a call of one device makes, and what a loop over all devices makes, turn by turn.
-use Rattle.std.specs.Prelude.{◌≡◌, ◌≢◌, ℕ, zero, suc, ◌+◌, ◌%◌, ◌^◌, List, [], ◌∷◌, length, Option, Some, None, Result, Ok, Err, OnOk, OnErr, ◌⊎◌}
+use Rattle.std.specs.Prelude.{◌≡◌, ◌≢◌, ℕ, ◌+◌, List, [], ◌∷◌, length, Option, Some, None, Result, Ok, Err, OnOk, OnErr, ◌⊎◌}
 use Rattle.disk_model.specs.Disk.{DiskView, IsHonest}
 use Rattle.model_device.specs.Device.{State, seen}
-use Rattle.model_device.specs.Events.{Call, put_call, get_call, delete_call, bury_call, flush_call, Answer, Cause, disk_fault, Event, after_events}
-use Rattle.model_device.specs.Vacating.{Outcome, VacatesUpTo, Tends, did, stopped}
+use Rattle.model_device.specs.Events.{Call, put_call, get_call, delete_call, bury_call, flush_call, Answer, Event, after_events}
+use Rattle.model_device.specs.Vacating.{Outcome, VacatesUpTo, Tends}
 use Rattle.model_device.specs.Expiring.{ExpiresEach}
 use Rattle.block_shelf.specs.Disks.{IsLater}
 use Rattle.block_shelf.specs.View.{IsShelf, AreSure}
 use Rattle.block_shelf.specs.Sure.{StaysSure}
 use Rattle.block_shelf.specs.Scans.{possible_copies}
 use Rattle.block_shelf.specs.declared.refusals.ReadRefusal.{ReadRefusal}
-use Rattle.rec_format.specs.declared.entry.Counts.{Counts}
 use Rattle.rec_format.specs.declared.version.Digest.{Digest}
 use Rattle.rec_format.specs.declared.version.Version.{Version}
 use Rattle.rec_format.specs.Places.{device_number}
 use Rattle.shard_core.specs.View.{ShardView, SameSetup, setup_of}
 use Rattle.shard_core.specs.Stands.{Agrees, IsWhole, IsSafe}
-use Rattle.shard_core.specs.Calls.{Makes, GetsStored, cause_of_write, read_answer, flush_answer}
-use Rattle.shard_core.specs.Vacating.{MakesEvents, IsCauseOf}
+use Rattle.shard_core.specs.Calls.{Makes, GetsStored, read_answer, flush_answer}
+use Rattle.shard_core.specs.Vacating.{MakesEvents}
 use Rattle.shard_core.specs.declared.refusals.DefragCause.{DefragCause}
 use Rattle.shard_core.specs.declared.refusals.WriteRefusal.{WriteRefusal}
 use Rattle.line_proto.specs.declared.command.Command.{Command}
@@ -26,7 +25,7 @@ use Rattle.line_proto.specs.declared.reply.Reply.{Reply}
 use Rattle.line_proto.specs.declared.reply.Reply.TheVariants as reply
 use Rattle.line_proto.specs.declared.reply.LineFault.{LineFault}
 use Rattle.node_replies.specs.Outcomes.{IsDefragged, IsExpired, IsRaided}
-use Rattle.model_node.specs.Commands.{Slot, Raids, answer_reply, fault_of, meta_reply, expired_entries}
+use Rattle.model_node.specs.Commands.{Slot, Raids, answer_reply, meta_reply, expired_entries}
 use Rattle.law_raid.specs.Exact.{RaidsExactly, RaidSpares}
 
 -- ---- one device
