@@ -1,14 +1,13 @@
 -- Where a flush of one buffer flushes none, none is left sealed and none is due.
-use Rattle.std.proofs.Common.{◌≡◌, inl, inr, ℕ, ◌≤◌, Bool, true, false, ◌&&◌, List, [], ◌∷◌, ◌++◌, length, Option, Some, None, refl, ap, sym, subst, ◌∙◌, arith}
+use Rattle.std.proofs.Common.{◌≡◌, inl, inr, ℕ, ◌≤◌, Bool, true, false, ◌&&◌, List, [], ◌∷◌, ◌++◌, length, None, refl, ap, sym, subst, ◌∙◌, arith}
 use Rattle.std.proofs.lemmas.List.{append-nil}
 use Rattle.std.proofs.lemmas.Bool.{and_parts, false≢true, false_from_ne_true}
 use Rattle.std.specs.Prelude.{nat_le}
 use Rattle.model_device.specs.Book.{Setup, Book, Buffer, Stream, client, defrag, Phase, filling, sealed, opening, seal_stream, filling_buffer, holds_dead}
 use Rattle.model_device.specs.Device.{State}
 use Rattle.model_device.specs.Steps.{Step, after_step, after_steps}
-use Rattle.model_device.specs.Events.{Answer, Event, Cause, flush_next_call, counted, refused, disk_fault, after_event}
-use Rattle.model_device.specs.Legal.{Allowed, seal_if, is_due, seal_low, has_gathered, flush_of, first_sealed, flush_first, flush_count}
-use Rattle.model_device.proofs.InRow.{after_joined}
+use Rattle.model_device.specs.Events.{Event, flush_next_call, counted, after_event}
+use Rattle.model_device.specs.Legal.{Allowed, seal_if, is_due, seal_low, has_gathered, first_sealed, flush_first, flush_count}
 use Rattle.live_node.specs.Opening.{Opening, setup_at, state_at}
 use Rattle.live_node.specs.Calls.{LiveView, seen_by, AnswersOnce}
 use Rattle.live_node.specs.Laws.{state_more}

@@ -3,7 +3,7 @@ use Rattle.std.proofs.Common.{List}
 use mathlib.Core.List.{IsPrefix}
 use Rattle.model_device.specs.Events.{Event}
 use Rattle.live_node.specs.Calls.{LiveView, seen_by}
-use Rattle.live_node.proofs.Right.{prefix_here, prefix_on}
+use Rattle.live_node.proofs.Right.{prefix_on}
 use Rattle.live_chores.specs.Turns.{IsFresh}
 
 module _ {D : Type 0} (u v w : LiveView D) where

@@ -1,7 +1,7 @@
 -- The looks of one turn of an expirer.
 use Rattle.std.proofs.Common.{◌≡◌, ℕ, ◌+◌, ◌%◌, ◌<◌, List, [], inl, inr, below_more, refl, sym, ap, subst, ◌∙◌, arith}
-use Rattle.std.specs.Prelude.{◌⊎◌, Bool, Option, Some, None, Result, Ok, Err, slice_get}
-use Rattle.std.proofs.Math.Nat.{mod-add-mod, mod-eq_of_lt, mod_self}
+use Rattle.std.specs.Prelude.{◌⊎◌, Bool, Option, Some, None, Result, slice_get}
+use Rattle.std.proofs.Math.Nat.{mod-add-mod, mod-eq_of_lt}
 use mathlib.Core.List.{IsPrefix}
 use Rattle.disk_model.specs.Disk.{DiskView}
 use Rattle.model_device.specs.Steps.{part_total}

@@ -1,7 +1,6 @@
 -- Crate live_chores. A turn of a tomb raider.
 use Rattle.std.specs.Prelude.{◌≡◌, ◌⊎◌, ℕ, ◌-◌, ◌*◌, Bool, true, false, nat_lt, [], Option, Some, None, Result, Ok, Err, MatchOption}
 use Rattle.disk_model.specs.Disk.{DiskView}
-use Rattle.rec_format.specs.declared.entry.Counts.{Counts}
 use Rattle.model_device.specs.Device.{State}
 use Rattle.model_device.specs.Events.{begin_call, raid_numbered}
 use Rattle.shard_core.specs.Numbers.{counts_of}

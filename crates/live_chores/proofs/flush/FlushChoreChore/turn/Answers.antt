@@ -1,4 +1,4 @@
-use Rattle.std.proofs.Common.{◌≡◌, ℕ, refl, arith}
+use Rattle.std.proofs.Common.{◌≡◌, refl, arith}
 use Rattle.live_chores.proofs.Flushing.{counted_as, worked_one, idle_none}
 use Rattle.live_chores.proofs.flush.FlushChoreChore.turn.Goals as goal
 
