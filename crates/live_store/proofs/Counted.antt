@@ -1,11 +1,11 @@
 -- The numbers of all devices, one after another.
-use Rattle.std.proofs.Common.{◌≡◌, ℕ, zero, suc, ◌+◌, ◌*◌, ◌<◌, ◌≤◌, List, [], ◌∷◌, length, map, take, set, get_or, refl, sym, ◌∙◌, ap, subst, arith}
+use Rattle.std.proofs.Common.{◌≡◌, ℕ, zero, suc, ◌+◌, ◌*◌, ◌<◌, ◌≤◌, List, [], ◌∷◌, length, map, take, set, refl, sym, ◌∙◌, ap, subst, arith}
 use Rattle.std.specs.Prelude.{Some, slice_get}
 use Rattle.std.proofs.lemmas.List.{take_all, length-map}
 use Rattle.disk_model.specs.Disk.{DiskView}
 use Rattle.rec_format.specs.declared.entry.Counts.{Counts}
 use Rattle.shard_core.specs.Numbers.{AreFew, counts_of}
-use Rattle.model_node.specs.Commands.{Slot, Node, node_counts}
+use Rattle.model_node.specs.Commands.{Node, node_counts}
 use Rattle.node_replies.specs.Counts.{wrapped_sum}
 use Rattle.node_replies.specs.Through.{Through}
 use Rattle.node_replies.proofs.Counting.{wrapped_counts, AreUnder, most_of_one, none_under, under_more, wrapped_more, unwrapped}

@@ -1,6 +1,6 @@
 -- Work of all devices, one after another, up to the first that is refused; and that of one device, call after call.
-use Rattle.std.proofs.Common.{◌≡◌, inl, inr, ℕ, zero, suc, ◌+◌, ◌-◌, ◌<◌, List, [], ◌∷◌, length, get_or, set, refl, sym, ◌∙◌, ap, subst, arith}
-use Rattle.std.specs.Prelude.{◌⊎◌, Ok, Err, Some, None}
+use Rattle.std.proofs.Common.{◌≡◌, inl, inr, ℕ, zero, suc, ◌+◌, ◌-◌, ◌<◌, List, [], ◌∷◌, length, get_or, set, refl, sym, ap, subst, arith}
+use Rattle.std.specs.Prelude.{Ok, Err, Some, None}
 use Rattle.disk_model.specs.Disk.{DiskView}
 use Rattle.model_device.specs.Events.{Cause, overload, no_space, spent, damaged, no_memory, disk_fault}
 use Rattle.model_device.specs.Vacating.{Outcome, did, stopped}

@@ -1,4 +1,4 @@
-use Rattle.std.proofs.Common.{◌≡◌, ◌<◌, ◌+◌, List, length, set, refl, sym, subst, ◌∙◌, arith, ap, get_or}
+use Rattle.std.proofs.Common.{◌+◌, List, refl, sym, subst, ◌∙◌, arith, ap, get_or}
 use Rattle.turn_table.specs.Passes.{KeepsNumbers}
 use Rattle.live_node.specs.Lives.{IsPassAt}
 use Rattle.live_store.specs.Known.{Known, known_of, known_each}

@@ -1,12 +1,11 @@
-use Rattle.std.proofs.Common.{◌≡◌, ℕ, ◌+◌, ◌<◌, length, refl, sym, ap, subst, ◌∙◌, arith}
+use Rattle.std.proofs.Common.{ℕ, ◌+◌, refl, sym, ap, subst, ◌∙◌, arith}
 use Rattle.std.specs.Prelude.{Option, Ok}
 use Rattle.rec_format.specs.declared.entry.Counts.{Counts}
 use Rattle.model_device.specs.Vacating.{Outcome, did, stopped}
 use Rattle.shard_core.specs.declared.defrag.Vacated.{Vacated}
 use Rattle.node_replies.specs.Counts.{wrapped}
 use Rattle.turn_table.specs.Passes.{view}
-use Rattle.live_node.specs.Opening.{state_at}
-use Rattle.live_node.specs.Calls.{LiveView, seen_by}
+use Rattle.live_node.specs.Calls.{LiveView}
 use Rattle.live_node.specs.Lives.{opening_at}
 use Rattle.live_node.specs.Vacates.{Defrags}
 use Rattle.live_store.specs.Known.{known_of}

@@ -1,10 +1,9 @@
-use Rattle.std.proofs.Common.{◌≡◌, inl, inr, ◌+◌, ◌<◌, List, length, get_or, set, refl, sym, ap, subst, ◌∙◌, arith}
-use Rattle.std.specs.Prelude.{Some, slice_get, vec_len, vec_capacity, option_map}
+use Rattle.std.proofs.Common.{inl, inr, List, get_or, set, refl, sym, ap, subst, ◌∙◌, arith}
+use Rattle.std.specs.Prelude.{Some, option_map}
 use Rattle.std.proofs.lemmas.Option.{slice_get-get_or}
 use Rattle.rec_format.specs.Places.{device_number}
 use Rattle.line_proto.specs.declared.command.Command.{Command}
 use Rattle.line_proto.specs.declared.command.Command.TheVariants as command
-use Rattle.line_proto.specs.declared.reply.Reply.{Reply}
 use Rattle.line_proto.specs.declared.reply.Reply.TheVariants as reply
 use Rattle.line_proto.specs.declared.reply.LineFault.TheVariants as why
 use Rattle.turn_table.specs.Passes.{KeepsNumbers}
@@ -12,10 +11,9 @@ use Rattle.live_node.specs.declared.live.Live.{Live}
 use Rattle.live_node.specs.Lives.{LivePass, IsPassAt}
 use Rattle.live_store.specs.Known.{AreDevices, KeepNumbers, known_each}
 use Rattle.live_store.specs.Works.{RepliesOn, Flushes, Defragments, Expires, EachDevice}
-use Rattle.live_store.specs.Stores.{Acts, known_by}
+use Rattle.live_store.specs.Stores.{Acts}
 use Rattle.live_store.proofs.Acting.{Stays, calls_one, carries_one, carries_all, numbers_all, seated_all, flushed_stays, defragged_stays, expired_stays}
 use Rattle.live_store.proofs.Pairs.{pairs_length, pair_at, pair_set, pair_then, pairs_same}
-use Rattle.live_store.proofs.store.LiveStoreStore.act.Given.{Over}
 use Rattle.live_store.proofs.store.LiveStoreStore.act.Goals as goal
 
 pub index_mut-requires : goal.index_mut-requires
