@@ -19,6 +19,11 @@ take() {
                 cp -r "$top/crates/$name/$part" "$room/crates/$name/"
             fi
         done
+        # What rt has kept of it in this repository: rt sees whether that is of these sources.
+        if [ -e "$top/crates/$name/out/rlib/stamp" ]; then
+            mkdir "$room/crates/$name/out"
+            cp -a "$top/crates/$name/out/rlib" "$room/crates/$name/out/"
+        fi
         line=$(grep -E "^$name( [^:]*)?:" "$top/crates.txt")
         echo "$line" >>"$room/crates.txt"
         # shellcheck disable=SC2086 # the names behind the colon
@@ -40,10 +45,10 @@ put() {
     cat >"$scratch/$1"
 }
 
-# Proves the scratch crate and what it stands on, builds it, runs it, and writes what it prints.
+# Proves the scratch crate and what it stands on, builds it, runs it with these words, and writes what it prints.
 run() {
     echo "proving and building; the first time may take a quarter of an hour" >&2
-    if ! (cd "$scratch" && rt run 2>"$room/log" </dev/null); then
+    if ! (cd "$scratch" && rt run ${1:+-- "$@"} 2>"$room/log" </dev/null); then
         tail -n 20 "$room/log" >&2
         return 1
     fi
