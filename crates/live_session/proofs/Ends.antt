@@ -1,6 +1,6 @@
 -- How a session ended, by its lines.
 use Rattle.std.proofs.Common.{◌≡◌, inl, inr, ℕ, zero, suc, ◌+◌, ◌<◌, Bool, true, false, List, [], ◌∷◌, ◌++◌, length, map, refl, sym, ◌∙◌, ap, subst, arith, append_assoc, append-nil, length-append}
-use Rattle.std.specs.Prelude.{◌≢◌, ◌⊎◌, Option, Some, None, IsTrue, flat_map, slice_get}
+use Rattle.std.specs.Prelude.{Option, Some, IsTrue, flat_map, slice_get}
 use Rattle.std.specs.List.{AllByRecursion}
 use Rattle.std.proofs.lemmas.List.{map-append, length-map}
 use Rattle.std.proofs.lemmas.Grind.{flat_map-append}
@@ -12,12 +12,12 @@ use Rattle.line_proto.specs.declared.reply.Reply.TheVariants as reply
 use Rattle.line_proto.specs.declared.line_end.LineEnd.{LineEnd}
 use Rattle.line_proto.specs.declared.line_end.LineEnd.TheVariants.{TooLong}
 use Rattle.line_proto.specs.Lines.{reply_text}
-use Rattle.line_proto.specs.Stream.{IsOneLine, ended, line_end, FallInto}
+use Rattle.line_proto.specs.Stream.{IsOneLine, ended, line_end}
 use Rattle.node_session.specs.declared.stop.Stop.{Stop}
 use Rattle.node_session.specs.declared.stop.Stop.TheVariants.{Quit as QuitStop, Memory as MemoryStop, Halted as HaltStop}
 use Rattle.node_session.specs.declared.ended.Ended.{Ended}
 use Rattle.node_session.specs.declared.ended.Ended.TheVariants.{Finish, Quit, SourceFault, SinkFault, Memory, Halted, Long}
-use Rattle.node_session.specs.Turns.{Times, HasTurns, StopsAtLine, TurnAny}
+use Rattle.node_session.specs.Turns.{Times, HasTurns, StopsAtLine}
 use Rattle.node_session.specs.Session.{unended, TakesUp, HasWholeTurns, HasAllTurns, HasFirstTurns, HasSomeTurns, StopsAfter, EndsSo, Ran}
 use Rattle.law_session.proofs.Lines.{falls_any, falls_behind, falls_first}
 use Rattle.law_lists.proofs.Places.{place_there}
@@ -28,7 +28,7 @@ use Rattle.live_store.specs.declared.store.LiveStore.{LiveStore}
 use Rattle.live_store.specs.Known.{Known}
 use Rattle.live_store.specs.Stores.{Acts, known_by}
 use Rattle.live_session.specs.Lines.{Answered, IsAnswered, AreAnswered, MakesOn, MakesAt, OwnEvents, told_by}
-use Rattle.live_session.specs.Sessions.{rest_end, AreTaken, IsFrontOf, AllStay, LastLeaves, EndsWith, IsServed}
+use Rattle.live_session.specs.Sessions.{AreTaken, IsFrontOf, AllStay, EndsWith, IsServed}
 use Rattle.live_session.proofs.Making.{carries_makes, none_makes}
 use Rattle.live_session.proofs.Lines.{Chain, Ticked, Lifted, turns_chain, answered_then, one_line, quit, turn_lifts, answer_goes_on}
 

@@ -1,13 +1,11 @@
 -- What a session keeps of its store: the devices, and the numbers of the passes.
-use Rattle.std.proofs.Common.{◌≡◌, List, refl, sym, ◌∙◌, ap, subst}
-use Rattle.std.specs.Prelude.{Option}
+use Rattle.std.proofs.Common.{◌≡◌, refl, sym, ◌∙◌, subst}
 use Rattle.disk_model.specs.Disk.{DiskView}
 use Rattle.node_session.specs.declared.ended.Ended.{Ended}
 use Rattle.node_session.specs.Turns.{Times}
 use Rattle.node_session.specs.Session.{Ran}
 use Rattle.law_session.proofs.Kept.{ran_keeps}
 use Rattle.turn_table.specs.Passes.{KeepsNumbers}
-use Rattle.live_node.specs.Lives.{LivePass}
 use Rattle.live_store.specs.declared.store.LiveStore.{LiveStore}
 use Rattle.live_store.specs.Known.{KeepNumbers}
 use Rattle.live_store.specs.Stores.{Acts, lives_of, passes_of}

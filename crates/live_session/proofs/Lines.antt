@@ -1,25 +1,18 @@
 -- From the turns of a session over a store to lines, each with its reply and what was known of the devices.
-use Rattle.std.proofs.Common.{◌≡◌, inl, inr, ℕ, ◌<◌, List, [], ◌∷◌, ◌++◌, length, map, refl, sym, ◌∙◌, ap, subst}
+use Rattle.std.proofs.Common.{◌≡◌, inl, inr, ℕ, List, [], ◌∷◌, ◌++◌, map, refl, sym, ap, subst}
 use Rattle.std.specs.Prelude.{◌≢◌, ◌⊎◌, Option, Some, None, flat_map}
-use Rattle.std.specs.List.{AllByRecursion}
-use Rattle.std.proofs.lemmas.List.{map-append}
-use Rattle.std.proofs.lemmas.Grind.{flat_map-append}
 use Rattle.disk_model.specs.Disk.{DiskView}
-use Rattle.line_proto.specs.declared.command.Command.{Command}
 use Rattle.line_proto.specs.declared.reply.Reply.{Reply}
 use Rattle.line_proto.specs.declared.reply.Reply.TheVariants as reply
 use Rattle.line_proto.specs.declared.reply.LineFault.TheVariants as why
 use Rattle.line_proto.specs.declared.line_end.LineEnd.{LineEnd}
 use Rattle.line_proto.specs.Lines.{reply_text}
 use Rattle.node_session.specs.Turns.{Times, Answers, CarriesOut, Declines, Quits, WholeTurn, Turns}
-use Rattle.live_node.specs.declared.live.Live.{Live}
-use Rattle.live_node.specs.Lives.{LivePass}
 use Rattle.live_store.specs.declared.store.LiveStore.{LiveStore}
-use Rattle.live_store.specs.Pairs.{EachPair}
-use Rattle.live_store.specs.Known.{Known, KeepNumbers, SameDevice, known_each}
+use Rattle.live_store.specs.Known.{Known}
 use Rattle.live_store.specs.Stores.{Acts, known_by, lives_of, passes_of}
 use Rattle.live_store.proofs.Known.{devices_same}
-use Rattle.live_session.specs.Lines.{Answered, IsAnswered, IsCarriedOut, AreAnswered, TellsTime, told_by}
+use Rattle.live_session.specs.Lines.{Answered, IsAnswered, AreAnswered, TellsTime, told_by}
 use Rattle.live_session.specs.Sessions.{AllStay}
 
 module _ {D : Type 0} (R : Type 0) (view : D → DiskView) where

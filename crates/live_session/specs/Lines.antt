@@ -1,5 +1,5 @@
 -- Crate live_session. The lines of a session over devices under their tables: each with its reply, and with what it made on each device.
-use Rattle.std.specs.Prelude.{◌≡◌, ◌≢◌, ◌⊎◌, ℕ, List, [], ◌∷◌, ◌++◌, Option, Some, None, flat_map, slice_get}
+use Rattle.std.specs.Prelude.{◌≡◌, ◌≢◌, ◌⊎◌, ℕ, List, [], ◌∷◌, Option, Some, None, flat_map, slice_get}
 use Rattle.disk_model.specs.Disk.{DiskView}
 use Rattle.rec_format.specs.Versions.{bounded_time}
 use Rattle.model_device.specs.Events.{Event}
