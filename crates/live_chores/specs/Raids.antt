@@ -28,9 +28,9 @@ module _ {R D : Type 0} where
   abbrev pub raider : RaidChore R D → Station R D
   raider chore = chore.station
 
-  -- how long it rests behind a raid, in seconds
-  abbrev pub rest_of : RaidChore R D → ℕ
-  rest_of chore = chore.age
+  -- how long it rests behind a raid, in seconds: the raid age of its device
+  abbrev pub rest_at : Station R D → ℕ
+  rest_at station = (opened_at station).set.raid_age
 
   abbrev pub raiding_of : RaidChore R D → Raiding
   raiding_of chore = record { raid = chore.raid; ended = chore.ended }
@@ -112,8 +112,7 @@ module _ {D : Type 0} (view : D → DiskView) (o : Opening D) (before after : Li
 
 -- Without a raid a turn begins one, but where it rests, or where there is nothing that a raid may take. With a raid it takes the next turn of that.
 -- Either is one event.
-module _ {R D : Type 0} (view : D → DiskView) (old : Station R D) (age : ℕ) (had : Raiding) (now : ℕ) where
-  pub record RaidsOnce (did : Did) (new : Station R D) (later : ℕ) (has : Raiding) : Type 0 where
+module _ {R D : Type 0} (view : D → DiskView) (old : Station R D) (had : Raiding) (now : ℕ) where
+  pub record RaidsOnce (did : Did) (new : Station R D) (has : Raiding) : Type 0 where
     pub stays : Stays old new
-    pub age_stays : later ≡ age
-    pub turns : TurnsRaid view (opened_at old) (known_at old) (known_at new) age now had did has
+    pub turns : TurnsRaid view (opened_at old) (known_at old) (known_at new) (rest_at old) now had did has

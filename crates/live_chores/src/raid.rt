@@ -1,5 +1,5 @@
 // The tomb raider.
-ghost use Rattle.std.specs.Prelude.{◌≡◌, ◌≤◌, None};
+ghost use Rattle.std.specs.Prelude.{◌≡◌, None};
 ghost use Rattle.live_node.specs.Lives.{IsPassAt};
 
 use crate::station::Station;
@@ -10,35 +10,29 @@ use shard_core::{Raid, RaidDid, RaidRefusal};
 use std::alloc::Global;
 use std::sync::Wait;
 
-/// Raids tombs, one turn of a raid in each of its own. Behind a raid, and behind one that was refused, it rests for an age; and it begins
-/// none where the device has neither a tombstone nor a covered record.
+/// Raids tombs, one turn of a raid in each of its own. Behind a raid, and behind one that was refused, it rests for the device's raid age; and
+/// it begins none where the device has neither a tombstone nor a covered record.
 #[derive(Drop)]
 pub struct RaidChore<'a, R, D: Disk> {
     station: Station<'a, R, D>,
-    // How long it rests, in seconds.
-    age: u64,
     raid: Option<Raid>,
     // When the last raid ended, in milliseconds.
     ended: Option<u64>,
-    ghost short: { age ≤ 315360000 },
 }
 
 impl<'a, R, D: Disk> RaidChore<'a, R, D> {
     ghost use Rattle.live_chores.specs.Stations.{live_at, pass_at};
-    ghost use Rattle.live_chores.specs.Raids.{raider, rest_of, raiding_of, is_resting};
+    ghost use Rattle.live_chores.specs.Raids.{raider, rest_at, raiding_of, is_resting};
 
-    /// A raider of a device, with a pass of its own, which rests so many seconds behind a raid. It has no raid, and doesn't rest.
-    pub fn new(rt: &'a R, live: &'a Live<D>, pass: LivePass<D>, age: u64) -> RaidChore<'a, R, D>
+    /// A raider of a device, with a pass of its own. It has no raid, and doesn't rest.
+    pub fn new(rt: &'a R, live: &'a Live<D>, pass: LivePass<D>) -> RaidChore<'a, R, D>
         requires pass { IsPassAt live.now pass }
-        requires age { age ≤ 315360000 }
         ensures live { live_at (raider result) ≡ live.now }
         ensures pass { pass_at (raider result) ≡ pass }
-        ensures age { rest_of result ≡ age }
         ensures none { raiding_of result ≡ record { raid = None; ended = None } }
     {
         RaidChore {
             station: Station { rt, live, pass },
-            age,
             raid: None,
             ended: None,
         }
@@ -54,10 +48,10 @@ impl<'a, R, D: Disk> RaidChore<'a, R, D> {
 
     // Whether it rests behind a raid.
     fn is_resting(&self, now: u64) -> bool
-        ensures { result ≡ is_resting (rest_of self.now) (raiding_of self.now).ended now }
+        ensures { result ≡ is_resting (rest_at (raider self.now)) (raiding_of self.now).ended now }
     {
         match self.ended {
-            Some(ended) => now.saturating_sub(ended) < self.age * 1000,
+            Some(ended) => now.saturating_sub(ended) < self.station.live.raid_age() * 1000,
             None => false,
         }
     }
@@ -65,14 +59,13 @@ impl<'a, R, D: Disk> RaidChore<'a, R, D> {
 
 impl<'a, R: Wait, D: Disk> RaidChore<'a, R, D> {
     ghost use Rattle.live_chores.specs.Stations.{opened_at, known_at, Stays};
-    ghost use Rattle.live_chores.specs.Raids.{raider, rest_of, raiding_of, StartsRaid, StepsRaid};
+    ghost use Rattle.live_chores.specs.Raids.{raider, rest_at, raiding_of, StartsRaid, StepsRaid};
 
     // A raid is begun, where it doesn't rest and there is something that a raid may take.
     fn begin(&mut self, now: u64) -> Did
         requires none { (raiding_of self.old).raid ≡ None }
         ensures stays { Stays (raider self.old) (raider self.new) }
-        ensures age { rest_of self.new ≡ rest_of self.old }
-        ensures starts { StartsRaid D.view (opened_at (raider self.old)) (known_at (raider self.old)) (known_at (raider self.new)) (rest_of self.old) now (raiding_of self.old) result (raiding_of self.new) }
+        ensures starts { StartsRaid D.view (opened_at (raider self.old)) (known_at (raider self.old)) (known_at (raider self.new)) (rest_at (raider self.old)) now (raiding_of self.old) result (raiding_of self.new) }
     {
         if self.is_resting(now) {
             return Did::Idle;
@@ -93,8 +86,7 @@ impl<'a, R: Wait, D: Disk> RaidChore<'a, R, D> {
     fn step(&mut self, alloc: Global, mut raid: Raid, now: u64) -> Did
         requires none { (raiding_of self.old).raid ≡ None }
         ensures stays { Stays (raider self.old) (raider self.new) }
-        ensures age { rest_of self.new ≡ rest_of self.old }
-        ensures steps { StepsRaid D.view (opened_at (raider self.old)) (known_at (raider self.old)) (known_at (raider self.new)) (rest_of self.old) now (raiding_of self.old) result (raiding_of self.new) raid }
+        ensures steps { StepsRaid D.view (opened_at (raider self.old)) (known_at (raider self.old)) (known_at (raider self.new)) (rest_at (raider self.old)) now (raiding_of self.old) result (raiding_of self.new) raid }
     {
         let at = &mut self.station;
         let did = match at
@@ -115,9 +107,9 @@ impl<'a, R: Wait, D: Disk> RaidChore<'a, R, D> {
 }
 
 impl<'a, R: Wait, D: Disk> Chore for RaidChore<'a, R, D> {
-    ghost use Rattle.live_chores.specs.Raids.{raider, rest_of, raiding_of, RaidsOnce};
+    ghost use Rattle.live_chores.specs.Raids.{raider, raiding_of, RaidsOnce};
 
-    ghost turns = { λ old now did new. RaidsOnce D.view (raider old) (rest_of old) (raiding_of old) now did (raider new) (rest_of new) (raiding_of new) };
+    ghost turns = { λ old now did new. RaidsOnce D.view (raider old) (raiding_of old) now did (raider new) (raiding_of new) };
 
     fn turn(&mut self, alloc: Global, now: u64) -> Did {
         match self.raid.take() {

@@ -1,5 +1,5 @@
 // The calls that are no event: each answers by the list that its pass has then seen.
-ghost use Rattle.std.specs.Prelude.{◌≡◌, []};
+ghost use Rattle.std.specs.Prelude.{◌≡◌, ◌≤◌, []};
 ghost use Rattle.model_device.specs.Device.{seen as seen_version};
 ghost use Rattle.model_device.specs.Steps.{part_total};
 ghost use Rattle.shard_core.specs.Calls.{meta_of};
@@ -61,5 +61,13 @@ impl<D: Disk> Live<D> {
         ensures { result ≡ part_total (setup_at (opening_at self.now)) }
     {
         self.table.parts() as u32
+    }
+
+    /// The age in seconds from which a raid may take a tombstone, as the device is run. It takes nothing.
+    pub fn raid_age(&self) -> u64
+        ensures age { result ≡ (opening_at self.now).set.raid_age }
+        ensures most { result ≤ 315360000 }
+    {
+        self.set.raid_age
     }
 }

@@ -44,7 +44,7 @@ fn settings() -> Settings
         pending: 4,
         cache: 0,
         commit: false,
-        raid_age: 0,
+        raid_age: 10,
     }
 }
 

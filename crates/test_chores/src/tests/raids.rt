@@ -12,7 +12,7 @@ use std::alloc::Global;
 use std::sync::Wait;
 use std::test::Fail;
 
-// One that rests for 10 seconds behind a raid.
+// It rests for 10 seconds behind a raid.
 fn hired<'a, R>(
     rt: &'a R,
     live: &'a Live<MemDisk>,
@@ -21,7 +21,7 @@ fn hired<'a, R>(
     requires given { IsGiven live.now pass }
     ensures hired { IsHired live.now (raider result) }
 {
-    RaidChore::new(rt, live, pass, 10)
+    RaidChore::new(rt, live, pass)
 }
 
 fn turn<'a, R: Wait>(
@@ -44,7 +44,7 @@ fn given<'a, R>(live: &Live<MemDisk>, chore: RaidChore<'a, R, MemDisk>) -> LiveP
     chore.into_pass()
 }
 
-// Takes turns at 2,000 milliseconds until one does nothing, and tells what came of that. Of a raid over 4,096 parts and 8 blocks there are fewer than
+// Takes turns at 12,000 milliseconds until one does nothing, and tells what came of that. Of a raid over 4,096 parts and 8 blocks there are fewer than
 // 10,000 turns, where it finds one copy: each part is marked and ends, each block is scanned, the copy is compared.
 fn raided<'a, R: Wait>(
     alloc: Global,
@@ -55,7 +55,7 @@ fn raided<'a, R: Wait>(
     ensures hired { IsHired live.now (raider chore.new) }
 {
     for _ in 0..10_000u32 {
-        let did = turn(alloc, live, chore, 2000);
+        let did = turn(alloc, live, chore, 12_000);
         if did != Did::Worked {
             return did;
         }
@@ -63,7 +63,7 @@ fn raided<'a, R: Wait>(
     Did::Worked
 }
 
-// There is nothing to raid at first. The tombstone has no older copy, and goes; then there is nothing again.
+// There is nothing to raid at first. The tombstone is 11 seconds old and has no older copy, and goes; then there is nothing again.
 #[test]
 fn a_tombstone_without_an_older_copy_goes(rt: HostRuntime) -> Result<(), Fail> {
     let alloc = rt.alloc();
@@ -72,10 +72,10 @@ fn a_tombstone_without_an_older_copy_goes(rt: HostRuntime) -> Result<(), Fail> {
     let nothing = turn(alloc, &live, &mut chore, 1000);
     let buried = bury(alloc, &rt, &live, &mut pass, &RISING);
     let before = counts(&rt, &live, &mut pass);
-    let begun = turn(alloc, &live, &mut chore, 2000);
+    let begun = turn(alloc, &live, &mut chore, 12_000);
     let over = raided(alloc, &live, &mut chore);
     let after = counts(&rt, &live, &mut pass);
-    let late = turn(alloc, &live, &mut chore, 12_000);
+    let late = turn(alloc, &live, &mut chore, 22_000);
     rejoined(&live, &mut pass, given(&live, chore));
     ended(live, pass);
     assert!(rt; buried);
@@ -96,8 +96,8 @@ fn a_tombstone_over_an_older_copy_stays_and_the_raider_rests(rt: HostRuntime) ->
     let buried = bury(alloc, &rt, &live, &mut pass, &RISING);
     let over = raided(alloc, &live, &mut chore);
     let after = counts(&rt, &live, &mut pass);
-    let rests = turn(alloc, &live, &mut chore, 11_999);
-    let begins = turn(alloc, &live, &mut chore, 12_000);
+    let rests = turn(alloc, &live, &mut chore, 21_999);
+    let begins = turn(alloc, &live, &mut chore, 22_000);
     rejoined(&live, &mut pass, given(&live, chore));
     ended(live, pass);
     assert!(rt; one && flushed && buried);
