@@ -1,6 +1,6 @@
--- One turn more.
-use Rattle.std.proofs.Common.{◌≡◌, refl, subst, ℕ, ◌+◌, ◌-◌, ◌^◌, min, length, Bool, true, List, [], ◌∷◌, ◌++◌, arith, length-append}
-use Rattle.node_workers.specs.Turns.{Times, TakesTurn, GoesOn, is_idle}
+-- One turn more, and what turns keep.
+use Rattle.std.proofs.Common.{◌≡◌, refl, sym, subst, ℕ, ◌+◌, ◌-◌, ◌^◌, min, length, Bool, true, List, [], ◌∷◌, ◌++◌, arith, length-append}
+use Rattle.node_workers.specs.Turns.{Times, TakesTurn, GoesOn, Works, is_idle}
 use Rattle.node_workers.specs.declared.chore.Did.{Did}
 
 -- turns and one behind them
@@ -30,3 +30,17 @@ has_taken_more turns tells count old times mid then did new later more (dids, co
   goes_on_once_more turns tells dids old times mid then did new later so_far turn
       (subst (λ b. tells (is_idle did) b) goes (subst (λ b. tells b goes_on) is_idle_so told)),
 )
+
+module _ {T : Type 0} (turns : T → ℕ → Did → T → Type 0) (tells : Bool → Bool → Type 0) (Q : T → Type 0)
+    (on_turn : (old : T) (now : ℕ) (did : Did) (new : T) → turns old now did new → Q old → Q new) where
+  turn_keeps : (old : T) (times : Times) (did : Did) (new : T) (later : Times) → TakesTurn turns old times did new later → Q old → Q new
+  turn_keeps old times did new later turn q = on_turn old _ did new turn.turned q
+
+  turns_keep : (dids : List Did) (old : T) (times : Times) (new : T) (later : Times) → GoesOn turns tells dids old times new later → Q old → Q new
+  turns_keep [] old times new later (same, same_times) q = subst Q (sym same) q
+  turns_keep (did ∷ dids) old times new later (mid, then, turn, goes, rest) q = turns_keep dids mid then new later rest (turn_keeps old times did mid then turn q)
+
+  -- What each turn of a chore keeps, a worker keeps.
+  pub works_keep : (count : ℕ) (old : T) (times : Times) (new : T) (later : Times) → Works turns tells count old times new later → Q old → Q new
+  works_keep count old times new later works q =
+      turn_keeps works.mid works.then works.last new later works.turned (turns_keep works.dids old times works.mid works.then works.went_on q)

@@ -3,3 +3,4 @@ mod devices;
 mod expiries;
 mod flushes;
 mod raids;
+mod workers;

@@ -13,7 +13,7 @@ use std::alloc::{AllocError, Global};
 use std::sync::Wait;
 use std::test::Fail;
 
-fn hired<'a, R>(
+pub fn hired<'a, R>(
     rt: &'a R,
     live: &'a Live<MemDisk>,
     pass: LivePass<MemDisk>,
@@ -35,7 +35,7 @@ fn turn<'a, R: Wait>(
     chore.turn(alloc, 2000)
 }
 
-fn given<'a, R>(live: &Live<MemDisk>, chore: FlushChore<'a, R, MemDisk>) -> LivePass<MemDisk>
+pub fn given<'a, R>(live: &Live<MemDisk>, chore: FlushChore<'a, R, MemDisk>) -> LivePass<MemDisk>
     requires hired { IsHired live.now (flusher chore) }
     ensures given { IsGiven live.now result }
 {
@@ -43,7 +43,7 @@ fn given<'a, R>(live: &Live<MemDisk>, chore: FlushChore<'a, R, MemDisk>) -> Live
 }
 
 // A payload of more than half a block.
-fn long(alloc: Global) -> Result<Vec<u8>, AllocError>
+pub fn long(alloc: Global) -> Result<Vec<u8>, AllocError>
     ensures { IfOk result (λ v. vec_len v ≡ 9000) }
 {
     vec![in alloc; 7u8; 9000]
