@@ -8,6 +8,7 @@ use crate::machine::Machine;
 use crate::noted::Noted;
 use crate::row::{lay, take_out, unlay};
 use crate::table::{NewRefusal, NotClosed, NotMade, Pass, PassOf, Slotted, StillOut, Table};
+use crate::waiters::Waiters;
 use atomic_table::Refused;
 use std::alloc::Global;
 
@@ -52,6 +53,8 @@ impl<M: Machine> Table<M> {
                     table,
                     parts: count,
                     spare,
+                    part_waiters: Waiters::new(),
+                    hub_waiters: Waiters::new(),
                 };
                 Ok((table, pass))
             }
@@ -90,6 +93,8 @@ impl<M: Machine> Table<M> {
             table,
             parts,
             spare,
+            part_waiters: _,
+            hub_waiters: _,
         } = self;
         let closed = table.close_with(pass.into_seat());
         Ok(take_out(closed, parts, spare))

@@ -14,6 +14,7 @@ mod rule;
 mod shares;
 mod steps;
 mod table;
+mod waiters;
 
 pub use machine::Machine;
 pub use noted::{Noted, Notes};

@@ -63,7 +63,7 @@ impl<M: Machine> Table<M> {
             if let Some(value) = self.try_part(pass, part) {
                 return value;
             }
-            self.table.shared.park(rt, part as usize, 0);
+            self.part_waiters.park(rt, &self.table.shared, part as usize);
         }
         unreachable!()
     }
@@ -117,7 +117,7 @@ impl<M: Machine> Table<M> {
             if let Some(value) = self.try_hub(pass) {
                 return value;
             }
-            self.table.shared.park(rt, self.parts, 0);
+            self.hub_waiters.park(rt, &self.table.shared, self.parts);
         }
         unreachable!()
     }
@@ -142,7 +142,7 @@ impl<M: Machine> Table<M> {
         }
         slots.store::<GiveWith<M>>(&mut pass.seat, self.parts, 1);
         pass.hub = false;
-        slots.wake_one(self.parts);
+        self.hub_waiters.wake_one(slots, self.parts);
     }
 
     /// Gives the hub back with no event. The list stays.
@@ -162,7 +162,7 @@ impl<M: Machine> Table<M> {
         }
         slots.store::<GiveBack<M>>(&mut pass.seat, self.parts, 1);
         pass.hub = false;
-        slots.wake_one(self.parts);
+        self.hub_waiters.wake_one(slots, self.parts);
     }
 
     /// Gives the part back that the pass holds.
@@ -185,6 +185,6 @@ impl<M: Machine> Table<M> {
         }
         slots.store::<GivePart<M>>(&mut pass.seat, slot, 1);
         pass.part = None;
-        slots.wake_one(slot);
+        self.part_waiters.wake_one(slots, slot);
     }
 }

@@ -4,6 +4,7 @@ ghost use Rattle.std.specs.Prelude.{◌≡◌, ◌+◌, ◌<◌, ◌≤◌, fals
 use crate::machine::Machine;
 use crate::noted::Noted;
 use crate::rule::{Place, Turns, View};
+use crate::waiters::Waiters;
 use atomic_table::{Seat, TableRule};
 use std::alloc::Global;
 
@@ -36,6 +37,8 @@ pub struct Slotted<S, V, K, Q: TableRule<S, V, K>, P> {
     pub(crate) parts: usize,
     // The emptied `Vec` of the parts, for the end.
     pub(crate) spare: Vec<P>,
+    pub(crate) part_waiters: Waiters,
+    pub(crate) hub_waiters: Waiters,
     ghost room: { (vec_len spare ≡ 0) × (parts ≤ vec_capacity spare) × (0 < parts) },
     ghost sized: { (table.shared.table_id.words ≡ parts + 1) × (table.shared.table_id.slots ≡ parts + 1) },
 }
