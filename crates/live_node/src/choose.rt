@@ -100,7 +100,7 @@ impl<D: Disk> Live<D> {
     ) -> Result<Option<u32>, VacateRefusal>
         requires pass { Holds self.now None true pass.old }
         requires room { HasListRoom (opening_at self.now) (vec_capacity list.old) }
-        requires hub { HubFits D.view (opening_at self.now) (seen_by (view pass.old)) hub.shelf hub.tally }
+        requires hub { HubFits D.view (opening_at self.now) (seen_by (view pass.old)) hub.shelf.value hub.tally }
         ensures pass { IsPassAt self.now pass.new }
         ensures numbers { KeepsNumbers pass.old pass.new }
         ensures room { vec_capacity list.new ≡ vec_capacity list.old }
@@ -113,7 +113,7 @@ impl<D: Disk> Live<D> {
             → IfOk result (λ chosen. IfSome chosen (λ block. ListsLive (state_at (opening_at self.now) (seen_by (view pass.old))).book block list.new.items)) }
         ensures low { IfOk result (λ chosen. IfSome chosen (λ block. CanEmpty block (state_at (opening_at self.now) (seen_by (view pass.new))).book)) }
     {
-        let answer = choose_step(&mut hub.shelf, list);
+        let answer = choose_step(&mut *hub.shelf, list);
         self.give_alone(pass, hub, &Choice, &answer);
         answer
     }

@@ -1,5 +1,5 @@
 // The hub of a device: its shelf, with the three counts of its entries.
-ghost use Rattle.std.specs.Prelude.{◌≡◌, List};
+ghost use Rattle.std.specs.Prelude.{◌≡◌, List, IfOk, IfErr};
 ghost use Rattle.model_device.specs.Events.{Event};
 ghost use Rattle.shard_core.specs.Numbers.{AreFew, counts_of};
 ghost use Rattle.live_node.specs.Opening.{Opening, IsOpening, state_at};
@@ -10,19 +10,32 @@ use block_shelf::Shelf;
 use disk_model::Disk;
 use rec_format::Counts;
 use sprig_tree::Tally;
+use std::alloc::{AllocFailed, Global};
 
-/// The shelf of a device, and how many records, tombstones and covered records there are.
+/// The shelf of a device, and how many records, tombstones and covered records there are. The shelf lies in a box, so a hub is moved by a few
+/// words, and a slot of the table needs no more room than a sprig.
 #[derive(Drop)]
 pub struct Hub<D: Disk> {
-    pub(crate) shelf: Shelf<D>,
+    pub(crate) shelf: Box<Shelf<D>>,
     pub(crate) tally: Tally,
 }
 
 impl<D: Disk> Hub<D> {
+    /// The hub of a shelf and of its counts. Where there is no memory the shelf comes back.
+    pub(crate) fn new(alloc: Global, shelf: Shelf<D>, tally: Tally) -> Result<Hub<D>, Shelf<D>>
+        ensures ok { IfOk result (λ hub. (hub.shelf.value ≡ shelf) × (hub.tally ≡ tally)) }
+        ensures err { IfErr result (λ back. back ≡ shelf) }
+    {
+        match Box::new(alloc, shelf) {
+            Ok(shelf) => Ok(Hub { shelf, tally }),
+            Err(AllocFailed { value }) => Err(value),
+        }
+    }
+
     // The numbers of the device.
     pub(crate) fn counts(&self) -> Counts
-        ensures numbers { (o : Opening D) (events : List Event) → HubFits D.view o events self.now.shelf self.now.tally → IsOpening o → result ≡ counts_of (state_at o events) }
-        ensures few { (o : Opening D) (events : List Event) → HubFits D.view o events self.now.shelf self.now.tally → IsOpening o → AreFew result }
+        ensures numbers { (o : Opening D) (events : List Event) → HubFits D.view o events self.now.shelf.value self.now.tally → IsOpening o → result ≡ counts_of (state_at o events) }
+        ensures few { (o : Opening D) (events : List Event) → HubFits D.view o events self.now.shelf.value self.now.tally → IsOpening o → AreFew result }
     {
         let _shape = self.shelf.geometry();
         Counts {
@@ -35,7 +48,7 @@ impl<D: Disk> Hub<D> {
 
     // Whether a block is queued, and to vacate it gains room.
     pub(crate) fn can_vacate(&self) -> bool
-        ensures { (o : Opening D) (events : List Event) → HubFits D.view o events self.now.shelf self.now.tally → result ≡ can_vacate (state_at o events) }
+        ensures { (o : Opening D) (events : List Event) → HubFits D.view o events self.now.shelf.value self.now.tally → result ≡ can_vacate (state_at o events) }
     {
         if self.shelf.counts().queued == 0 {
             return false;

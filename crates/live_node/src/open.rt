@@ -48,7 +48,7 @@ fn made<D: Disk>(
     requires count { (0 < vec_len sprigs) × (vec_len sprigs + 1 < 2 ^ 32) }
     requires over { IsTableOf opening rest.geometry rest.set (vec_len sprigs) }
     requires room { most_records (block_capacity rest.geometry.block_size) ≤ vec_capacity rest.listed }
-    requires hub { HubFits D.view opening [] hub.shelf hub.tally }
+    requires hub { HubFits D.view opening [] hub.shelf.value hub.tally }
     requires parts { (k : ℕ) (p : SprigState) → slice_get sprigs.items k ≡ Some p → PartFits opening [] k p }
     ensures opening { IfOk result (λ r. opening_at r.0 ≡ opening) }
     ensures pass { IfOk result (λ r. IsPassAt r.0 r.1 × (view r.1 ≡ newcomer opening)) }
@@ -105,12 +105,24 @@ impl<D: Disk> Live<D> {
         } = shard.into_parts();
         let geometry = shelf.geometry();
         let tally = tally_sum(&sprigs);
+        let hub = match Hub::new(alloc, shelf, tally) {
+            Ok(hub) => hub,
+            Err(shelf) => {
+                let shard = Shard::of_parts(Parts {
+                    shelf,
+                    set,
+                    sprigs,
+                    listed,
+                });
+                return Err((shard, AllocError));
+            }
+        };
         let rest = Rest {
             geometry,
             set,
             listed,
         };
-        match made(alloc, Hub { shelf, tally }, sprigs, rest, state) {
+        match made(alloc, hub, sprigs, rest, state) {
             Ok(opened) => Ok(opened),
             Err(NotOpened { hub, sprigs, rest }) => Err((together(hub, sprigs, rest), AllocError)),
         }
@@ -166,9 +178,9 @@ impl<D: Disk> Live<D> {
 
 // The device of a hub, its sprigs and the rest.
 fn together<D: Disk>(hub: Hub<D>, sprigs: Vec<Sprig>, rest: Rest) -> Shard<D>
-    requires whole { IsWhole (record { shelf = hub.shelf; set = rest.set; sprigs = sprigs.items }) }
-    requires room { most_records (block_capacity hub.shelf.geometry.block_size) ≤ vec_capacity rest.listed }
-    ensures { result ≡ record { shelf = hub.shelf; set = rest.set; sprigs = sprigs.items } }
+    requires whole { IsWhole (record { shelf = hub.shelf.value; set = rest.set; sprigs = sprigs.items }) }
+    requires room { most_records (block_capacity hub.shelf.value.geometry.block_size) ≤ vec_capacity rest.listed }
+    ensures { result ≡ record { shelf = hub.shelf.value; set = rest.set; sprigs = sprigs.items } }
 {
     let Hub { shelf, tally: _ } = hub;
     let Rest {
@@ -177,7 +189,7 @@ fn together<D: Disk>(hub: Hub<D>, sprigs: Vec<Sprig>, rest: Rest) -> Shard<D>
         listed,
     } = rest;
     Shard::of_parts(Parts {
-        shelf,
+        shelf: Box::into_inner(shelf),
         set,
         sprigs,
         listed,

@@ -129,7 +129,7 @@ impl<D: Disk> Live<D> {
         let mut sprig = self.take_part(rt, pass, part);
         let mut hub = self.take_hub(rt, pass);
         let before = sprig.tally();
-        let answer = part_turn(&mut sprig, &mut hub.shelf, raid, self.set.raid_age, now);
+        let answer = part_turn(&mut sprig, &mut *hub.shelf, raid, self.set.raid_age, now);
         hub.tally = hub.tally.minus(before).plus(sprig.tally());
         self.give_step(pass, hub, &sprig, part, &turn, &answer);
         self.give_part(pass, sprig, part);
@@ -155,7 +155,7 @@ impl<D: Disk> Live<D> {
         let mut hub = self.take_hub(rt, pass);
         // By its book's shape the turn that is next is one at a part of the device, if it is at a part.
         let _next = hub.shelf.raid().next();
-        let answer = shelf_turn(alloc, &mut hub.shelf, raid);
+        let answer = shelf_turn(alloc, &mut *hub.shelf, raid);
         self.give_alone(pass, hub, &turn, &answer);
         answer
     }

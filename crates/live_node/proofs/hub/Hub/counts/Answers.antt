@@ -13,7 +13,7 @@ use Rattle.live_node.proofs.hub.Hub.counts.Given.{Over}
 use Rattle.live_node.proofs.hub.Hub.counts.Goals as goal
 
 module _ (g : Over) (c : goal.After-counts g) (o : Opening g.row.D.Denot) (events : List Event)
-    (hub : HubFits g.D.Disk.view o events c.args.self.now.shelf c.args.self.now.tally) (opening : IsOpening o) where
+    (hub : HubFits g.D.Disk.view o events c.args.self.now.shelf.value c.args.self.now.tally) (opening : IsOpening o) where
   abbrev told : Counts
   told = record {
     records = c.args.self.now.tally.records;
@@ -25,11 +25,11 @@ module _ (g : Over) (c : goal.After-counts g) (o : Opening g.row.D.Denot) (event
     held = c.counts.result.held;
   }
 
-  abbrev fits : FitsAlone g.D.Disk.view o events o.set c.args.self.now.shelf c.args.self.now.tally
+  abbrev fits : FitsAlone g.D.Disk.view o events o.set c.args.self.now.shelf.value c.args.self.now.tally
   fits = record { opening = opening; is_set = refl; hub = hub }
 
   abbrev shard : ShardView g.row.D.Denot
-  shard = record { shelf = c.args.self.now.shelf; set = o.set; sprigs = hub.tallied.sprigs }
+  shard = record { shelf = c.args.self.now.shelf.value; set = o.set; sprigs = hub.tallied.sprigs }
 
   tells : told ≡ counts_of (state_at o events)
   tells =

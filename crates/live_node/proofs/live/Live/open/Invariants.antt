@@ -1,4 +1,4 @@
 use Rattle.live_node.proofs.live.Live.open.Given as goal
 
 abbrev pub ghost-made : goal.ghost-made
-ghost-made g a = record { shelf = a.hub.shelf; set = a.rest.set; state = a.state.now.value }
+ghost-made g a = record { shelf = a.hub.shelf.value; set = a.rest.set; state = a.state.now.value }

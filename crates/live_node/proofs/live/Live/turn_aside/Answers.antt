@@ -24,7 +24,7 @@ shelf_turn-answer-requires g c = λ is.
     let sprigs = c.args.self.now.over.opening.settings.sprigs in
     let at : c.next-next.result ≡ next = c.next-next.ensures.value ∙ ap (λ (b : BookState). b.next) c.raid.ensures.book ∙ sym is.next in
     let fits = subst (λ (b : BookState). FitsTurn next b) c.raid.ensures.book (subst (λ (n : RaidNext). FitsTurn n c.raid.result.now) at c.next-next.ensures.fits) in
-    none_next next c.take_hub-hub.result.shelf.raid (part_total (setup_at o)) fits c.take_hub-hub.ensures.fits.stands.queue.raid.turns.parts
+    none_next next c.take_hub-hub.result.shelf.value.raid (part_total (setup_at o)) fits c.take_hub-hub.ensures.fits.stands.queue.raid.turns.parts
     (part_bounds o.shelf.geometry.device o.shelf.geometry.devices o.set.sprigs sprigs.0 sprigs.1).0 c.requires.aside
 
 pub give_alone-requires-clause-made : goal.give_alone-requires-clause-made
@@ -72,6 +72,6 @@ returns-clause-turn g c =
     let all = subst (λ (t : Turn). (by : AnswersBy view' o v0 v2 (Is (turn_call t.number (turn_of t.next) t.now) (λ a. a ≡ answer))) × (by.past ≡ seen_by v1)) c.next_turn-turn.ensures
     (behind.0, behind.1 ∙ gave.1) in
     turn_shown view' o v0 v2 c.args.now raid took.new.raid took.result all.0
-    c.take_hub-hub.result.shelf tally (subst (λ (l : List Event). HubFits view' o l c.take_hub-hub.result.shelf tally) (sym all.1) c.take_hub-hub.ensures.fits)
+    c.take_hub-hub.result.shelf.value tally (subst (λ (l : List Event). HubFits view' o l c.take_hub-hub.result.shelf.value tally) (sym all.1) c.take_hub-hub.ensures.fits)
     took.new.shelf tally c.give_alone.ensures.hub
     took.ensures.taken (λ other. (took.ensures.stale other).0) took.ensures.follows took.ensures.kept

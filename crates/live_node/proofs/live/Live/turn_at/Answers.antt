@@ -67,6 +67,6 @@ returns-clause-turn g c =
     let all = subst (λ (t : Turn). (by : AnswersBy view' o v0 v4 (Is (turn_call t.number (turn_of t.next) t.now) (λ a. a ≡ answer))) × (by.past ≡ seen_by v2)) c.next_turn-turn.ensures
     (between.0, between.1 ∙ gave.1) in
     turn_shown view' o v0 v4 c.args.now raid took.new.raid took.result all.0
-    c.take_hub-hub.result.shelf c.take_hub-hub.result.tally (subst (λ (l : List Event). HubFits view' o l c.take_hub-hub.result.shelf c.take_hub-hub.result.tally) (sym all.1) c.take_hub-hub.ensures.fits)
+    c.take_hub-hub.result.shelf.value c.take_hub-hub.result.tally (subst (λ (l : List Event). HubFits view' o l c.take_hub-hub.result.shelf.value c.take_hub-hub.result.tally) (sym all.1) c.take_hub-hub.ensures.fits)
     took.new.shelf c.plus-hub.result (subst (λ (l : List Event). HubFits view' o l took.new.shelf c.plus-hub.result) (sym c.give_part.ensures.seen) c.give_step.ensures.hub)
     took.ensures.taken (λ other. (took.ensures.stale other).0) took.ensures.follows took.ensures.kept
