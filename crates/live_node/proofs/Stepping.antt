@@ -93,6 +93,10 @@ pub fits_alone : {D : Type 0} {view : D → DiskView} {o : Opening D} {geometry 
     → IsTableOf o geometry set parts → HubFits view o events shelf tally → FitsAlone view o events set shelf tally
 fits_alone over hub = record { opening = over.opening; is_set = over.is_set; hub = hub }
 
+-- the hub fits by its shelf as it is lent out of its box
+pub by_lent : {D : Type 0} {view : D → DiskView} {o : Opening D} {events : List Event} {lent shelf : ShelfView D} {tally : Tally} → lent ≡ shelf → HubFits view o events shelf tally → HubFits view o events lent tally
+by_lent {view} {o} {events} {tally} same fits = subst (λ (s : ShelfView _). HubFits view o events s tally) (sym same) fits
+
 module _ {D : Type 0} {view : D → DiskView} {o : Opening D} {events : List Event} {set' : Settings} {old : ShelfView D} {tally : Tally} (fits : FitsAlone view o events set' old tally) where
   abbrev here : State
   here = state_at o events

@@ -37,12 +37,13 @@ impl<D: Disk> Hub<D> {
         ensures numbers { (o : Opening D) (events : List Event) → HubFits D.view o events self.now.shelf.value self.now.tally → IsOpening o → result ≡ counts_of (state_at o events) }
         ensures few { (o : Opening D) (events : List Event) → HubFits D.view o events self.now.shelf.value self.now.tally → IsOpening o → AreFew result }
     {
-        let _shape = self.shelf.geometry();
+        let shelf = &*self.shelf;
+        let _shape = shelf.geometry();
         Counts {
             records: self.tally.records,
             tombstones: self.tally.tombstones,
             covered: self.tally.covered,
-            ..self.shelf.counts()
+            ..shelf.counts()
         }
     }
 
@@ -50,9 +51,10 @@ impl<D: Disk> Hub<D> {
     pub(crate) fn can_vacate(&self) -> bool
         ensures { (o : Opening D) (events : List Event) → HubFits D.view o events self.now.shelf.value self.now.tally → result ≡ can_vacate (state_at o events) }
     {
-        if self.shelf.counts().queued == 0 {
+        let shelf = &*self.shelf;
+        if shelf.counts().queued == 0 {
             return false;
         }
-        self.shelf.can_gain()
+        shelf.can_gain()
     }
 }

@@ -154,8 +154,9 @@ impl<D: Disk> Live<D> {
         let turn = next_turn(raid, now);
         let mut hub = self.take_hub(rt, pass);
         // By its book's shape the turn that is next is one at a part of the device, if it is at a part.
-        let _next = hub.shelf.raid().next();
-        let answer = shelf_turn(alloc, &mut *hub.shelf, raid);
+        let shelf = &mut *hub.shelf;
+        let _next = shelf.raid().next();
+        let answer = shelf_turn(alloc, shelf, raid);
         self.give_alone(pass, hub, &turn, &answer);
         answer
     }

@@ -63,7 +63,8 @@ impl<M: Machine> Table<M> {
             if let Some(value) = self.try_part(pass, part) {
                 return value;
             }
-            self.part_waiters.park(rt, &self.table.shared, part as usize);
+            self.part_waiters
+                .park(rt, &self.table.shared, part as usize);
         }
         unreachable!()
     }

@@ -8,12 +8,12 @@ use Rattle.shard_core.proofs.FewNumbers.{few_counts}
 use Rattle.shard_core.proofs.Tallies.{tally_tells}
 use Rattle.live_node.specs.Opening.{Opening, IsOpening, state_at}
 use Rattle.live_node.specs.Fits.{HubFits}
-use Rattle.live_node.proofs.Stepping.{FitsAlone, as_shard, as_whole}
+use Rattle.live_node.proofs.Stepping.{FitsAlone, by_lent, as_shard, as_whole}
 use Rattle.live_node.proofs.hub.Hub.counts.Given.{Over}
 use Rattle.live_node.proofs.hub.Hub.counts.Goals as goal
 
 module _ (g : Over) (c : goal.After-counts g) (o : Opening g.row.D.Denot) (events : List Event)
-    (hub : HubFits g.D.Disk.view o events c.args.self.now.shelf.value c.args.self.now.tally) (opening : IsOpening o) where
+    (hub : HubFits g.D.Disk.view o events c.deref-shelf.result.now c.args.self.now.tally) (opening : IsOpening o) where
   abbrev told : Counts
   told = record {
     records = c.args.self.now.tally.records;
@@ -25,11 +25,11 @@ module _ (g : Over) (c : goal.After-counts g) (o : Opening g.row.D.Denot) (event
     held = c.counts.result.held;
   }
 
-  abbrev fits : FitsAlone g.D.Disk.view o events o.set c.args.self.now.shelf.value c.args.self.now.tally
+  abbrev fits : FitsAlone g.D.Disk.view o events o.set c.deref-shelf.result.now c.args.self.now.tally
   fits = record { opening = opening; is_set = refl; hub = hub }
 
   abbrev shard : ShardView g.row.D.Denot
-  shard = record { shelf = c.args.self.now.shelf.value; set = o.set; sprigs = hub.tallied.sprigs }
+  shard = record { shelf = c.deref-shelf.result.now; set = o.set; sprigs = hub.tallied.sprigs }
 
   tells : told ≡ counts_of (state_at o events)
   tells =
@@ -51,7 +51,7 @@ module _ (g : Over) (c : goal.After-counts g) (o : Opening g.row.D.Denot) (event
       (c.counts.ensures.queued (setup_of shard) (state_at o events) agrees.shelf.queue) c.counts.ensures.few)
 
 pub returns-clause-numbers : goal.returns-clause-numbers
-returns-clause-numbers g c = tells g c
+returns-clause-numbers g c = λ o events hub. tells g c o events (by_lent c.deref-shelf.ensures hub)
 
 pub returns-clause-few : goal.returns-clause-few
-returns-clause-few g c = small g c
+returns-clause-few g c = λ o events hub. small g c o events (by_lent c.deref-shelf.ensures hub)

@@ -6,6 +6,7 @@ use Rattle.live_node.specs.Opening.{setup_at, state_at}
 use Rattle.live_node.specs.Calls.{seen_by}
 use Rattle.live_node.specs.Lives.{opening_at}
 use Rattle.live_node.proofs.Right.{right_then}
+use Rattle.live_node.proofs.Stepping.{by_lent}
 use Rattle.live_node.proofs.live.Live.can_gain.Goals as goal
 
 pub returns-clause-right : goal.returns-clause-right
@@ -16,6 +17,6 @@ pub returns-clause-answer : goal.returns-clause-answer
 returns-clause-answer g c =
     let o = opening_at c.args.self.now in
     let list = seen_by (view c.take_hub-hub.new.pass) in
-    let hub = c.take_hub-hub.ensures.fits in
+    let hub = by_lent c.deref.ensures c.take_hub-hub.ensures.fits in
     subst (λ (l : List Event). c.can_gain-gains.result ≡ can_gain (state_at o l).book) (sym c.give_back.ensures.seen)
     (c.can_gain-gains.ensures.state (setup_at o) (state_at o list) hub.stands.stands hub.stands.queue)

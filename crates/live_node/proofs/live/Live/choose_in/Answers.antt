@@ -1,5 +1,7 @@
-use Rattle.std.proofs.Common.{refl, ap, sym, subst, ◌∙◌, false}
+use Rattle.std.proofs.Common.{◌≤◌, length, refl, ap, sym, subst, ◌∙◌, false, arith}
 use Rattle.std.specs.Prelude.{List, IfOk, IfSome, ◌≡◌, ◌<◌}
+use Rattle.rec_format.specs.Versions.{block_capacity}
+use Rattle.block_format.specs.Layout.{most_records}
 use Rattle.block_format.specs.declared.geometry.Geometry.{Geometry}
 use Rattle.model_device.specs.Events.{choose_call}
 use Rattle.model_device.specs.Device.{State}
@@ -13,14 +15,14 @@ use Rattle.live_node.specs.Laws.{state_more}
 use Rattle.live_node.specs.Vacates.{CanEmpty}
 use Rattle.live_node.proofs.Leaving.{choose_still, low_chosen}
 use Rattle.live_node.proofs.Right.{allowed_in}
-use Rattle.live_node.proofs.Stepping.{fits_alone, is_setup, hub_step_fits}
+use Rattle.live_node.proofs.Stepping.{by_lent, fits_alone, is_setup, hub_step_fits}
 use Rattle.live_node.proofs.live.Live.choose_in.Goals as goal
 
 pub give_alone-requires-clause-made : goal.give_alone-requires-clause-made
 give_alone-requires-clause-made g c =
     let o = opening_at c.args.self.now in
     let chose = c.choose_step-answer in
-    let hub = c.requires.hub in
+    let hub = by_lent c.deref_mut-shelf.ensures.value c.requires.hub in
     let fits = fits_alone c.args.self.now.over hub in
     hub_step_fits fits choose_call (λ answer. answer ≡ choose_answer chose.result) chose.new.shelf refl tt
     (ap (λ x. x.geometry) chose.ensures.rest, ap (λ x. x.limits) chose.ensures.rest) chose.ensures.disk.honest
@@ -28,22 +30,26 @@ give_alone-requires-clause-made g c =
 
 pub returns-clause-chosen : goal.returns-clause-chosen
 returns-clause-chosen g c =
-    subst (λ (queue : List _). IfOk c.choose_step-answer.result (λ chosen. chosen ≡ queue_front queue)) (sym c.requires.hub.stands.queue.same) c.choose_step-answer.ensures.first
+    let hub = by_lent c.deref_mut-shelf.ensures.value c.requires.hub in
+    subst (λ (queue : List _). IfOk c.choose_step-answer.result (λ chosen. chosen ≡ queue_front queue)) (sym hub.stands.queue.same) c.choose_step-answer.ensures.first
 
 pub returns-clause-lists : goal.returns-clause-lists
 returns-clause-lists g c was =
     let o = opening_at c.args.self.now in
-    let safe = c.requires.hub.safe was in
-    c.choose_step-answer.ensures.all (setup_at o) (state_at o (seen_by (view c.args.pass.now))) safe.honest c.requires.hub.stands safe.safe.safe
+    let hub = by_lent c.deref_mut-shelf.ensures.value c.requires.hub in
+    let safe = hub.safe was in
+    c.choose_step-answer.ensures.all (setup_at o) (state_at o (seen_by (view c.args.pass.now))) safe.honest hub.stands safe.safe.safe
 
 pub returns-clause-below : goal.returns-clause-below
 returns-clause-below g c =
-    subst (λ (x : Geometry). IfOk c.choose_step-answer.result (λ chosen. IfSome chosen (λ block. block < x.blocks))) c.requires.hub.geometry c.choose_step-answer.ensures.below
+    let hub = by_lent c.deref_mut-shelf.ensures.value c.requires.hub in
+    subst (λ (x : Geometry). IfOk c.choose_step-answer.result (λ chosen. IfSome chosen (λ block. block < x.blocks))) hub.geometry c.choose_step-answer.ensures.below
 
 pub returns-clause-low : goal.returns-clause-low
 returns-clause-low g c =
     let o = opening_at c.args.self.now in
     let chose = c.choose_step-answer in
+    let hub = by_lent c.deref_mut-shelf.ensures.value c.requires.hub in
     let gave = c.give_alone.ensures.once in
     let by = gave.0 in
     let s = state_at o (seen_by (view c.args.pass.now)) in
@@ -51,4 +57,8 @@ returns-clause-low g c =
     ap (state_at o) by.last ∙ state_more o by.past by.event
     ∙ choose_still (setup_at o) false (state_at o by.past) by.event (subst (Allowed (setup_at o) false (state_at o by.past) by.event) by.said.is_call (allowed_in by)) ∙ ap (state_at o) gave.1 in
     subst (λ (t : State). IfOk chose.result (λ chosen. IfSome chosen (λ block. CanEmpty block t.book))) (sym still)
-    (low_chosen chose.result s.book c.requires.hub.stands.stands.order.booked (chose.ensures.low (setup_at o) s (is_setup (fits_alone c.args.self.now.over c.requires.hub)) c.requires.hub.stands))
+    (low_chosen chose.result s.book hub.stands.stands.order.booked (chose.ensures.low (setup_at o) s (is_setup (fits_alone c.args.self.now.over hub)) hub.stands))
+
+pub returns-clause-few : goal.returns-clause-few
+returns-clause-few g c =
+    let bound = subst (λ (x : Geometry). length c.choose_step-answer.new.digests.items ≤ most_records (block_capacity x.block_size)) (sym c.geometry-shape.ensures.shape) c.choose_step-answer.ensures.few in omega (arith, bound)

@@ -13,7 +13,7 @@ use Rattle.live_node.specs.Calls.{seen_by, AnswersBy}
 use Rattle.live_node.specs.Lives.{opening_at}
 use Rattle.live_node.proofs.Opened.{part_bounds}
 use Rattle.live_node.proofs.Right.{answers_behind}
-use Rattle.live_node.proofs.Stepping.{fits_alone, is_setup, hub_step_fits}
+use Rattle.live_node.proofs.Stepping.{by_lent, fits_alone, is_setup, hub_step_fits}
 use Rattle.live_node.proofs.Raiding.{none_own, none_next, turn_shown}
 use Rattle.live_node.proofs.live.Live.turn_aside.Goals as goal
 
@@ -24,14 +24,15 @@ shelf_turn-answer-requires g c = λ is.
     let sprigs = c.args.self.now.over.opening.settings.sprigs in
     let at : c.next-next.result ≡ next = c.next-next.ensures.value ∙ ap (λ (b : BookState). b.next) c.raid.ensures.book ∙ sym is.next in
     let fits = subst (λ (b : BookState). FitsTurn next b) c.raid.ensures.book (subst (λ (n : RaidNext). FitsTurn n c.raid.result.now) at c.next-next.ensures.fits) in
-    none_next next c.take_hub-hub.result.shelf.value.raid (part_total (setup_at o)) fits c.take_hub-hub.ensures.fits.stands.queue.raid.turns.parts
+    let hub = by_lent c.deref_mut-shelf.ensures.value c.take_hub-hub.ensures.fits in
+    none_next next c.deref_mut-shelf.result.now.raid (part_total (setup_at o)) fits hub.stands.queue.raid.turns.parts
     (part_bounds o.shelf.geometry.device o.shelf.geometry.devices o.set.sprigs sprigs.0 sprigs.1).0 c.requires.aside
 
 pub give_alone-requires-clause-made : goal.give_alone-requires-clause-made
 give_alone-requires-clause-made g c =
     let view' = g.D.Disk.view in
     let o = opening_at c.args.self.now in
-    let hub = c.take_hub-hub.ensures.fits in
+    let hub = by_lent c.deref_mut-shelf.ensures.value c.take_hub-hub.ensures.fits in
     let fits = fits_alone c.args.self.now.over hub in
     let took = c.shelf_turn-answer in
     let answer = turn_answer took.result in
@@ -72,6 +73,6 @@ returns-clause-turn g c =
     let all = subst (λ (t : Turn). (by : AnswersBy view' o v0 v2 (Is (turn_call t.number (turn_of t.next) t.now) (λ a. a ≡ answer))) × (by.past ≡ seen_by v1)) c.next_turn-turn.ensures
     (behind.0, behind.1 ∙ gave.1) in
     turn_shown view' o v0 v2 c.args.now raid took.new.raid took.result all.0
-    c.take_hub-hub.result.shelf.value tally (subst (λ (l : List Event). HubFits view' o l c.take_hub-hub.result.shelf.value tally) (sym all.1) c.take_hub-hub.ensures.fits)
+    c.deref_mut-shelf.result.now tally (subst (λ (l : List Event). HubFits view' o l c.deref_mut-shelf.result.now tally) (sym all.1) (by_lent c.deref_mut-shelf.ensures.value c.take_hub-hub.ensures.fits))
     took.new.shelf tally c.give_alone.ensures.hub
     took.ensures.taken (λ other. (took.ensures.stale other).0) took.ensures.follows took.ensures.kept

@@ -10,7 +10,7 @@ use Rattle.live_node.specs.Fits.{PartEvent, Is, HubFits, StepFits}
 use Rattle.live_node.specs.Calls.{seen_by, AnswersBy}
 use Rattle.live_node.specs.Lives.{opening_at}
 use Rattle.live_node.proofs.Right.{right_then, answers_between}
-use Rattle.live_node.proofs.Stepping.{fits_alone, is_setup, counts_by, step_fits}
+use Rattle.live_node.proofs.Stepping.{by_lent, fits_alone, is_setup, counts_by, step_fits}
 use Rattle.live_node.proofs.Raiding.{turn_shown}
 use Rattle.live_node.proofs.live.Live.turn_at.Goals as goal
 
@@ -20,7 +20,7 @@ take_part-sprig-requires-clause-part g c = subst (λ (n : ℕ). c.args.part < n)
 pub part_turn-answer-requires : goal.part_turn-answer-requires
 part_turn-answer-requires g c =
     let o = opening_at c.args.self.now in
-    let hub = c.take_hub-hub.ensures.fits in
+    let hub = by_lent c.deref_mut.ensures.value c.take_hub-hub.ensures.fits in
     let sprig = c.take_hub-hub.ensures.still c.args.part c.take_part-sprig.result c.take_part-sprig.ensures.pass.1 c.take_part-sprig.ensures.fits in record {
       stand = (
         setup_at o,
@@ -36,7 +36,7 @@ pub give_step-requires-clause-made : goal.give_step-requires-clause-made
 give_step-requires-clause-made g c =
     let view' = g.D.Disk.view in
     let o = opening_at c.args.self.now in
-    let hub = c.take_hub-hub.ensures.fits in
+    let hub = by_lent c.deref_mut.ensures.value c.take_hub-hub.ensures.fits in
     let fits = fits_alone c.args.self.now.over hub in
     let sprig = c.take_part-sprig.result in
     let sprig_fits = c.take_hub-hub.ensures.still c.args.part sprig c.take_part-sprig.ensures.pass.1 c.take_part-sprig.ensures.fits in
@@ -67,6 +67,6 @@ returns-clause-turn g c =
     let all = subst (λ (t : Turn). (by : AnswersBy view' o v0 v4 (Is (turn_call t.number (turn_of t.next) t.now) (λ a. a ≡ answer))) × (by.past ≡ seen_by v2)) c.next_turn-turn.ensures
     (between.0, between.1 ∙ gave.1) in
     turn_shown view' o v0 v4 c.args.now raid took.new.raid took.result all.0
-    c.take_hub-hub.result.shelf.value c.take_hub-hub.result.tally (subst (λ (l : List Event). HubFits view' o l c.take_hub-hub.result.shelf.value c.take_hub-hub.result.tally) (sym all.1) c.take_hub-hub.ensures.fits)
+    c.deref_mut.result.now c.take_hub-hub.result.tally (subst (λ (l : List Event). HubFits view' o l c.deref_mut.result.now c.take_hub-hub.result.tally) (sym all.1) (by_lent c.deref_mut.ensures.value c.take_hub-hub.ensures.fits))
     took.new.shelf c.plus-hub.result (subst (λ (l : List Event). HubFits view' o l took.new.shelf c.plus-hub.result) (sym c.give_part.ensures.seen) c.give_step.ensures.hub)
     took.ensures.taken (λ other. (took.ensures.stale other).0) took.ensures.follows took.ensures.kept

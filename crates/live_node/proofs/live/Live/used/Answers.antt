@@ -6,6 +6,7 @@ use Rattle.live_node.specs.Opening.{setup_at, state_at}
 use Rattle.live_node.specs.Calls.{seen_by}
 use Rattle.live_node.specs.Lives.{opening_at}
 use Rattle.live_node.proofs.Right.{right_then}
+use Rattle.live_node.proofs.Stepping.{by_lent}
 use Rattle.live_node.proofs.live.Live.used.Goals as goal
 
 pub returns-clause-right : goal.returns-clause-right
@@ -17,4 +18,4 @@ returns-clause-answer g c =
     let o = opening_at c.args.self.now in
     let list = seen_by (view c.take_hub-hub.new.pass) in
     subst (λ (l : List Event). c.used-used.result ≡ use_of (state_at o l).book c.args.block) (sym c.give_back.ensures.seen)
-    (c.used-used.ensures.state (setup_at o) (state_at o list) c.take_hub-hub.ensures.fits.stands.stands)
+    (c.used-used.ensures.state (setup_at o) (state_at o list) (by_lent c.deref.ensures c.take_hub-hub.ensures.fits).stands.stands)
