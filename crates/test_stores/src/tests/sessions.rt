@@ -205,11 +205,7 @@ fn end_each(lives: [Live<MemDisk>; 2], pass: LivePass<MemDisk>, other: LivePass<
 }
 
 // What a session over two new devices writes, and the numbers of each behind it.
-fn told_over_two<R: Wait>(
-    rt: &R,
-    alloc: Global,
-    text: &[u8],
-) -> Option<(Vec<u8>, Counts, Counts)> {
+fn told_over_two<R: Wait>(rt: &R, alloc: Global, text: &[u8]) -> Option<(Vec<u8>, Counts, Counts)> {
     let client = client_of(alloc, text)?;
     let seats = seats(alloc, 2)?;
     let TwoDevices {
@@ -301,7 +297,11 @@ fn all_told(told: Told) -> Option<(Vec<u8>, Vec<u8>, Vec<u8>)> {
 }
 
 // What three sessions write, as they come.
-fn told_beside<R: Wait>(rt: &R, alloc: Global, texts: [&[u8]; 3]) -> Option<(Vec<u8>, Vec<u8>, Vec<u8>)> {
+fn told_beside<R: Wait>(
+    rt: &R,
+    alloc: Global,
+    texts: [&[u8]; 3],
+) -> Option<(Vec<u8>, Vec<u8>, Vec<u8>)> {
     let clients = (
         client_of(alloc, texts[0])?,
         client_of(alloc, texts[1])?,
