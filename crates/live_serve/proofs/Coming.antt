@@ -23,8 +23,9 @@ use Rattle.live_node.specs.Laws.{state_more}
 use Rattle.live_node.specs.Lives.{LivePass}
 use Rattle.live_node.proofs.Right.{last_more}
 use Rattle.live_serve.specs.declared.closing.Closing.{Closing}
-use Rattle.live_serve.specs.Pairs.{EachPair}
-use Rattle.live_serve.specs.Devices.{Named, Known, known_each, opening_for, IsUnderTable, IsFirstPass, HasAllNumbers, ComesOut, ComesOutAt, IsClosed, IsClosedAt, IsFlushed, ComesBack}
+use Rattle.live_store.specs.Pairs.{EachPair}
+use Rattle.live_store.specs.Known.{Known, known_each}
+use Rattle.live_serve.specs.Devices.{Named, opening_for, IsUnderTable, IsFirstPass, HasAllNumbers, ComesOut, ComesOutAt, IsClosed, IsClosedAt, IsFlushed, ComesBack}
 
 -- a legal list, and an event that may follow it
 legal_more : (setup : Setup) (told : Bool) (s : State) (faults : ℕ) (list : List Event) (e : Event) → IsLegal setup told s faults list

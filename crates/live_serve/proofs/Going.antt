@@ -8,8 +8,9 @@ use Rattle.live_node.specs.declared.live.Live.{Live}
 use Rattle.live_node.specs.Calls.{seen_by}
 use Rattle.live_node.specs.Lives.{LivePass, opening_at}
 use Rattle.live_serve.specs.declared.closing.Closing.{Closing}
-use Rattle.live_serve.specs.Pairs.{EachPair}
-use Rattle.live_serve.specs.Devices.{Known, known_each, ComesOut, ComesOutAt, IsFlushed}
+use Rattle.live_store.specs.Pairs.{EachPair}
+use Rattle.live_store.specs.Known.{Known, known_each}
+use Rattle.live_serve.specs.Devices.{ComesOut, ComesOutAt, IsFlushed}
 use Rattle.live_serve.proofs.Pairing.{pair_push}
 
 -- Some came out of their tables, and stand behind the first.

@@ -1,3 +1,4 @@
 pub mod Pairing
 pub mod Coming
 pub mod Going
+pub mod Entering

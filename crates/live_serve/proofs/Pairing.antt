@@ -1,7 +1,7 @@
 -- Two lists, place by place.
-use Rattle.std.proofs.Common.{◌≡◌, ◌+◌, List, [], ◌∷◌, ◌++◌, length, refl, ap, suc, subst, arith}
+use Rattle.std.proofs.Common.{◌≡◌, ◌+◌, List, [], ◌∷◌, ◌++◌, length, suc, subst, arith}
 use Rattle.std.specs.List.{All}
-use Rattle.live_serve.specs.Pairs.{EachPair}
+use Rattle.live_store.specs.Pairs.{EachPair}
 
 module _ {A B : Type 0} (Is : A → B → Type 0) where
   -- a pair more
@@ -17,12 +17,6 @@ module _ {A B : Type 0} (Is : A → B → Type 0) where
   pair_append [] (b ∷ ys) xs' ys' each more = absurd each
   pair_append (a ∷ xs) [] xs' ys' each more = absurd each
   pair_append (a ∷ xs) (b ∷ ys) xs' ys' each more = (each.0, pair_append xs ys xs' ys' each.1 more)
-
-  pub pair_length : (xs : List A) (ys : List B) → EachPair Is xs ys → length ys ≡ length xs
-  pair_length [] [] each = refl
-  pair_length [] (y ∷ ys) each = absurd each
-  pair_length (x ∷ xs) [] each = absurd each
-  pair_length (x ∷ xs) (y ∷ ys) each = ap suc (pair_length xs ys each.1)
 
   -- the first pair, and those behind it
   pub first_pair : (xs xs' : List A) (ys ys' : List B) (x : A) (y : B) → EachPair Is xs ys → xs ≡ x ∷ xs' → ys ≡ y ∷ ys' → Is x y × EachPair Is xs' ys'

@@ -13,9 +13,10 @@ use Rattle.turn_table.specs.Passes.{view, own_count, joined_count}
 use Rattle.live_node.specs.declared.live.Live.{Live}
 use Rattle.live_node.specs.Opening.{Opening, WasSafe, opened, state_at, faults_at}
 use Rattle.live_node.specs.Fits.{IsSafeSince, Is}
-use Rattle.live_node.specs.Calls.{LiveView, seen_by, IsLegalFrom}
-use Rattle.live_node.specs.Lives.{LivePass, opening_at}
-use Rattle.live_serve.specs.Pairs.{EachPair}
+use Rattle.live_node.specs.Calls.{seen_by, IsLegalFrom}
+use Rattle.live_node.specs.Lives.{LivePass, opening_at, IsPassAt}
+use Rattle.live_store.specs.Pairs.{EachPair}
+use Rattle.live_store.specs.Known.{Known}
 use Rattle.live_serve.specs.declared.closing.Closing.{Closing}
 
 -- ---- before
@@ -48,28 +49,23 @@ pub record IsFirstPass {D : Type 0} (named : Named D) (pass : LivePass D) : Type
   pub knows : view pass ≡ newcomer (opening_for named)
   pub numbers : (own_count pass ≡ all_numbers) × (joined_count pass ≡ 0)
 
+-- These are under their tables, each with its first pass.
+pub record AreOpened {D : Type 0} (all : List (Named D)) (lives : List (Live D)) (passes : List (LivePass D)) : Type 0 where
+  pub under : EachPair IsUnderTable all lives
+  pub first : EachPair IsFirstPass all passes
+  pub seated : EachPair IsPassAt lives passes
+
 -- Those in front of a device are under their tables, it isn't, and those behind it are left.
 pub record StopsAt {D : Type 0} (all : List (Named D)) (shard : ShardView D) (shards : List (ShardView D)) (notes : List (Noted State)) (lives : List (Live D)) (passes : List (LivePass D)) : Type 0 where
   pub done : List (Named D)
   pub state : State
   pub parts : all ≡ done ++ record { shard = shard; state = state } ∷ named_each shards notes
-  pub under : EachPair IsUnderTable done lives
-  pub first : EachPair IsFirstPass done passes
+  pub opened : AreOpened done lives passes
   pub rest : EachPair StandsAsNoted shards notes
 
 -- no other pass of its device is out: all numbers are its own, or were joined into it
 abbrev pub HasAllNumbers : {D : Type 0} → LivePass D → Type 0
 HasAllNumbers pass = own_count pass + joined_count pass ≡ all_numbers
-
--- What a pass knows of a device, and what that opened with.
-pub record Known (D : Type 0) : Type 0 where
-  pub opening : Opening D
-  pub pass : LiveView D
-
-abbrev pub known_each : {D : Type 0} → List (Live D) → List (LivePass D) → List (Known D)
-known_each [] passes = []
-known_each (live ∷ lives) [] = []
-known_each (live ∷ lives) (pass ∷ passes) = record { opening = opening_at live; pass = view pass } ∷ known_each lives passes
 
 -- ---- behind
 

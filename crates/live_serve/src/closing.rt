@@ -4,8 +4,9 @@ ghost use Rattle.shard_core.specs.View.{ShardView};
 ghost use Rattle.turn_table.specs.Passes.{view};
 ghost use Rattle.live_node.specs.Calls.{seen_by};
 ghost use Rattle.live_node.specs.Lives.{opening_at, IsPassAt};
-ghost use Rattle.live_serve.specs.Pairs.{EachPair};
-ghost use Rattle.live_serve.specs.Devices.{ComesOut, ComesOutAt, HasAllNumbers, IsFlushed, IsClosedAt, known_each};
+ghost use Rattle.live_store.specs.Pairs.{EachPair};
+ghost use Rattle.live_store.specs.Known.{known_each};
+ghost use Rattle.live_serve.specs.Devices.{ComesOut, ComesOutAt, HasAllNumbers, IsFlushed, IsClosedAt};
 
 use crate::tables::Tables;
 use crate::take::take_first;

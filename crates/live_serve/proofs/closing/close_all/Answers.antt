@@ -1,8 +1,9 @@
 use Rattle.std.proofs.Common.{◌≡◌, List, ◌++◌, ap, subst, ◌∙◌, length, arith}
 use Rattle.shard_core.specs.View.{ShardView}
-use Rattle.live_serve.specs.Pairs.{EachPair}
-use Rattle.live_serve.specs.Devices.{ComesOutAt, IsFlushed, known_each}
-use Rattle.live_serve.proofs.Pairing.{pair_length}
+use Rattle.live_store.specs.Pairs.{EachPair}
+use Rattle.live_store.specs.Known.{known_each}
+use Rattle.live_store.proofs.Pairs.{pairs_length}
+use Rattle.live_serve.specs.Devices.{ComesOutAt, IsFlushed}
 use Rattle.live_serve.proofs.Coming.{closed_each, known_few}
 use Rattle.live_serve.proofs.closing.close_all.Goals as goal
 
@@ -12,7 +13,7 @@ flush_all-requires-clause-room g c =
     let known = known_each c.args.tables.lives.items c.args.tables.passes.items in
     let same : c.take_out.new.shards.items ≡ out.0 = out.1 ∙ ap (λ (l : List (ShardView g.row.D.Denot)). l ++ out.0) c.args.tables.room.0 in
     let few = known_few c.args.tables.lives.items c.args.tables.passes.items in
-    let many = pair_length (ComesOutAt g.D.Disk.view) known out.0 out.2 in
+    let many = pairs_length (ComesOutAt g.D.Disk.view) known out.0 out.2 in
     omega (arith, ap length same, few, many, c.args.tables.room.3, c.take_out.new.shards.ok, c.args.tables.lives.ok)
 
 pub returns : goal.returns

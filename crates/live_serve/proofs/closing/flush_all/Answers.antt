@@ -1,5 +1,5 @@
 use Rattle.std.proofs.Common.{[], refl, sym, ap, subst, length, arith}
-use Rattle.live_serve.specs.Pairs.{EachPair}
+use Rattle.live_store.specs.Pairs.{EachPair}
 use Rattle.live_serve.specs.Devices.{IsFlushed}
 use Rattle.live_serve.proofs.Going.{flushed_more}
 use Rattle.live_serve.proofs.closing.flush_all.Goals as goal

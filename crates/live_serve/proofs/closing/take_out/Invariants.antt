@@ -1,8 +1,9 @@
 use Rattle.std.proofs.Common.{◌≡◌, ◌≤◌, ◌+◌, vec_len, vec_capacity}
 use Rattle.std.specs.List.{All}
 use Rattle.live_node.specs.Lives.{IsPassAt}
-use Rattle.live_serve.specs.Pairs.{EachPair}
-use Rattle.live_serve.specs.Devices.{HasAllNumbers, known_each}
+use Rattle.live_store.specs.Pairs.{EachPair}
+use Rattle.live_store.specs.Known.{known_each}
+use Rattle.live_serve.specs.Devices.{HasAllNumbers}
 use Rattle.live_serve.proofs.Going.{OutSoFar}
 use Rattle.live_serve.proofs.closing.take_out.Given as goal
 

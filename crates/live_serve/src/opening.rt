@@ -1,0 +1,121 @@
+// How devices come under their tables.
+ghost use Rattle.std.specs.Prelude.{◌≡◌, ◌+◌, ◌≤◌, ◌++◌, ◌∷◌, [], List, All, IfOk, IfErr, OnOk, vec_len, vec_capacity};
+ghost use Rattle.shard_core.specs.View.{ShardView};
+ghost use Rattle.live_node.specs.Lives.{IsPassAt};
+ghost use Rattle.live_store.specs.Pairs.{EachPair};
+ghost use Rattle.live_store.specs.Known.{known_each};
+ghost use Rattle.live_serve.specs.Devices.{AreOpened, ComesBack, ComesOutAt, HasAllNumbers, StandsAsNoted, StopsAt, named_each};
+
+use crate::closing::take_out;
+use crate::tables::Tables;
+use crate::take::{put_behind, take_first};
+use disk_model::Disk;
+use live_node::{DeviceState, Live, LivePass};
+use rec_format::NoMemory;
+use shard_core::Shard;
+use std::alloc::Global;
+use turn_table::Noted;
+
+// Tables without a device, with room for so many.
+fn room_for<D: Disk>(alloc: Global, devices: usize) -> Result<Tables<D>, NoMemory>
+    ensures none { IfOk result (λ tables. (tables.lives.items ≡ []) × (tables.passes.items ≡ [])) }
+    ensures room { IfOk result (λ tables. (devices ≤ vec_capacity tables.lives) × (devices ≤ vec_capacity tables.passes) × (devices ≤ vec_capacity tables.shards) × (devices ≤ vec_capacity tables.closings)) }
+{
+    let passes = Vec::with_capacity(alloc, devices)?;
+    let shards = Vec::with_capacity(alloc, devices)?;
+    let closings = Vec::with_capacity(alloc, devices)?;
+    let lives = Vec::with_capacity(alloc, devices)?;
+    Ok(Tables {
+        lives,
+        passes,
+        shards,
+        closings,
+    })
+}
+
+// Each device comes under its table, in order. Where there is no memory for one, it comes back, and those behind it are left.
+fn open_each<D: Disk>(
+    alloc: Global,
+    shards: &mut Vec<Shard<D>>,
+    states: &mut Vec<Noted<DeviceState>>,
+    lives: &mut Vec<Live<D>>,
+    passes: &mut Vec<LivePass<D>>,
+) -> Result<(), Shard<D>>
+    requires stands { EachPair StandsAsNoted shards.old.items states.old.items }
+    requires none { (lives.old.items ≡ []) × (passes.old.items ≡ []) }
+    requires room { (vec_len shards.old ≤ vec_capacity lives.old) × (vec_len shards.old ≤ vec_capacity passes.old) }
+    ensures ok { OnOk result (AreOpened (named_each shards.old.items states.old.items) lives.new.items passes.new.items) }
+    ensures err { IfErr result (λ shard. StopsAt (named_each shards.old.items states.old.items) shard shards.new.items states.new.items lives.new.items passes.new.items) }
+{
+    while let Some(shard) = take_first(shards) {
+        let Some(state) = take_first(states) else {
+            unreachable!()
+        };
+        match Live::open(alloc, shard, &state) {
+            Ok((live, pass)) => {
+                lives.push_reserved(live);
+                passes.push_reserved(pass);
+            }
+            Err((shard, _)) => return Err(shard),
+        }
+    }
+    Ok(())
+}
+
+// All devices come back, in order: those that had come under their tables, out of these again, then the one at which it stopped, and the rest.
+fn all_back<D: Disk>(
+    lives: Vec<Live<D>>,
+    passes: Vec<LivePass<D>>,
+    shard: Shard<D>,
+    rest: Vec<Shard<D>>,
+    back: Vec<Shard<D>>,
+) -> Vec<Shard<D>>
+    requires passes { EachPair IsPassAt lives.items passes.items }
+    requires all { All HasAllNumbers passes.items }
+    requires none { back.items ≡ [] }
+    requires room { vec_len lives + vec_len rest + 1 ≤ vec_capacity back }
+    ensures { (outs : List (ShardView D)) × (result.items ≡ outs ++ shard ∷ rest.items) × EachPair (ComesOutAt D.view) (known_each lives.items passes.items) outs }
+{
+    let mut back = back;
+    take_out(lives, passes, &mut back);
+    back.push_reserved(shard);
+    put_behind(&mut back, rest);
+    back
+}
+
+/// Each device comes under its table, in order. The caller names a state for which each stands. Its first pass has all pass numbers, has seen
+/// nothing and made no call.
+///
+/// # Errors
+///
+/// There is no memory. All devices come back, in order, each as it was, or out of its table with no event.
+pub fn open_all<D: Disk>(
+    alloc: Global,
+    shards: Vec<Shard<D>>,
+    states: Vec<Noted<DeviceState>>,
+) -> Result<Tables<D>, Vec<Shard<D>>>
+    requires stands { EachPair StandsAsNoted shards.items states.items }
+    ensures ok { IfOk result (λ tables. AreOpened (named_each shards.items states.items) tables.lives.items tables.passes.items) }
+    ensures err { IfErr result (λ back. EachPair (ComesBack D.view) (named_each shards.items states.items) back.items) }
+{
+    let Ok(tables) = room_for(alloc, shards.len()) else {
+        return Err(shards);
+    };
+    let Tables {
+        mut lives,
+        mut passes,
+        shards: back,
+        closings,
+    } = tables;
+    let mut shards = shards;
+    let mut states = states;
+    match open_each(alloc, &mut shards, &mut states, &mut lives, &mut passes) {
+        Ok(()) => Ok(Tables {
+            lives,
+            passes,
+            shards: back,
+            closings,
+        }),
+        Err(shard) => Err(all_back(lives, passes, shard, shards, back)),
+    }
+}
