@@ -1,5 +1,4 @@
 use Rattle.std.proofs.Common.{◌≡◌, List, ◌++◌, length, ap, ◌∙◌, arith}
-use Rattle.std.proofs.lemmas.List.{length-append}
 use Rattle.shard_core.specs.View.{ShardView}
 use Rattle.live_store.specs.Known.{known_each}
 use Rattle.live_store.proofs.Pairs.{pairs_length}

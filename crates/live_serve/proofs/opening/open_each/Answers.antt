@@ -1,7 +1,6 @@
 use Rattle.std.proofs.Common.{length, ap, arith}
-use Rattle.live_serve.specs.Devices.{named_each, StandsAsNoted}
-use Rattle.live_serve.proofs.Pairing.{no_second}
-use Rattle.live_serve.proofs.Entering.{opened_none, opened_more, opened_all, opened_stop, stands_next}
+use Rattle.live_serve.specs.Devices.{named_each}
+use Rattle.live_serve.proofs.Entering.{opened_none, opened_more, stands_next}
 use Rattle.live_serve.proofs.opening.open_each.Goals as goal
 
 pub loop-shard-init : goal.loop-shard-init
