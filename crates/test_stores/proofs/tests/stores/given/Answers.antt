@@ -1,7 +1,6 @@
-use Rattle.std.proofs.Common.{subst, ◌∙◌, sym, arith, length, ap, List}
+use Rattle.std.proofs.Common.{subst, sym, arith, length, ap, List}
 use Rattle.std.specs.List.{AllByRecursion}
-use Rattle.live_node.specs.declared.live.Live.{Live}
-use Rattle.live_node.specs.Lives.{LivePass, IsPassAt}
+use Rattle.live_node.specs.Lives.{IsPassAt}
 use Rattle.live_store.specs.Known.{ArePasses}
 use Rattle.live_store.proofs.Pairs.{pairs_length}
 use Rattle.test_stores.specs.Trials.{HasOne}
