@@ -1,4 +1,3 @@
 mod arenas;
 mod counters;
-mod devices;
 mod piles;

@@ -1,18 +1,14 @@
-ghost use Rattle.std.specs.Prelude.{◌≡◌, ◌+◌, ◌*◌, IfOk, vec_capacity};
-ghost use Rattle.block_format.specs.Layout.{IsGeometry, device_end};
-ghost use Rattle.shard_core.specs.View.{IsSettings};
-ghost use Rattle.turn_table.specs.Rule.{all_numbers};
-ghost use Rattle.turn_table.specs.Passes.{own_count, joined_count, KeepsNumbers};
-ghost use Rattle.live_node.specs.Lives.{opening_at, IsPassAt};
+// What passes of one device see of one another.
+ghost use Rattle.std.specs.Prelude.{IfOk};
+ghost use Rattle.test_devices.specs.Trials.{IsAlone, IsFirst};
 
-use block_format::Geometry;
+use crate::tests::devices;
+use crate::tests::devices::{ended, formatted, settings};
 use disk_model::MemDisk;
-use live_node::{Live, LiveOut, LivePass, Standing};
+use live_node::{Live, LiveOut, LivePass};
 use rec_format::Digest;
-use shard_core::{Asked, Settings, Shard, format_disk};
 use std::alloc::Global;
 use std::test::Fail;
-use turn_table::Noted;
 
 const RISING: Digest = Digest([
     0, 1, 2, 3, 4, 5, 6, 7, 8, 9, 10, 11, 12, 13, 14, 15, 16, 17, 18, 19,
@@ -22,61 +18,17 @@ const FALLING: Digest = Digest([
     19, 18, 17, 16, 15, 14, 13, 12, 11, 10, 9, 8, 7, 6, 5, 4, 3, 2, 1, 0,
 ]);
 
-const ALONE: Asked = Asked {
-    device: 0,
-    devices: 1,
-};
-
-fn settings() -> Settings
-    ensures { IsSettings result }
-{
-    Settings {
-        sprigs: 1,
-        lwm: 50,
-        pending: 4,
-        cache: 0,
-        commit: false,
-        raid_age: 0,
-    }
-}
-
-fn shape() -> Geometry
-    ensures shape { IsGeometry result }
-    ensures end { device_end result ≡ 4096 + 8 * 16384 }
-{
-    Geometry {
-        block_size: 16384,
-        blocks: 8,
-        device: 0,
-        devices: 1,
-    }
-}
-
-// A new device without others, under its table.
+// A new device of 8 blocks.
 fn opened(alloc: Global) -> Result<(Live<MemDisk>, LivePass<MemDisk>), Fail>
-    ensures pass { IfOk result (λ r. IsPassAt r.0 r.1 × (own_count r.1 ≡ all_numbers) × (joined_count r.1 ≡ 0)) }
-    ensures alone { IfOk result (λ r. ((opening_at r.0).shelf.geometry.device ≡ 0) × ((opening_at r.0).shelf.geometry.devices ≡ 1)) }
+    ensures pass { IfOk result (λ r. IsFirst r.0 r.1) }
+    ensures alone { IfOk result (λ r. IsAlone r.0) }
 {
-    let mut disk = MemDisk::new(alloc, 4096 + 8 * 16384)?;
-    if format_disk(&mut disk, &shape()).is_err() {
-        return Err(Fail::new("it isn't formatted"));
-    }
-    let Ok(shard) = Shard::start(alloc, disk, ALONE, settings()) else {
-        return Err(Fail::new("it isn't taken into use"));
+    let Ok(disk) = formatted(alloc, 8, 0, 1) else {
+        return Err(Fail::new("there is no disk"));
     };
-    let state = Noted::about::<Shard<MemDisk>, Standing>(&shard);
-    match Live::open(alloc, shard, &state) {
+    match devices::opened(alloc, disk, settings(1, 0)) {
         Ok(opened) => Ok(opened),
-        Err(_) => Err(Fail::new("memory")),
-    }
-}
-
-fn ended(live: Live<MemDisk>, pass: LivePass<MemDisk>) -> Shard<MemDisk>
-    requires { IsPassAt live pass × (own_count pass + joined_count pass ≡ all_numbers) }
-{
-    match live.close(pass) {
-        Ok(shard) => shard,
-        Err(_) => unreachable!(),
+        Err(_) => Err(Fail::new("there is no device")),
     }
 }
 

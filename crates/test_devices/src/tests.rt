@@ -1,0 +1,7 @@
+mod calls;
+mod devices;
+pub mod mixed;
+mod order_trials;
+mod orders;
+mod passes;
+mod reads;
