@@ -1,8 +1,6 @@
 // A small device under its table.
-ghost use Rattle.std.specs.Prelude.{◌≡◌, ◌+◌, ◌*◌, ◌<◌, ◌≤◌, IfOk};
-ghost use Rattle.block_format.specs.Layout.{IsGeometry, device_end};
+ghost use Rattle.std.specs.Prelude.{◌≡◌, ◌+◌, ◌<◌, ◌≤◌, IfOk};
 ghost use Rattle.shard_core.specs.View.{IsSettings};
-ghost use Rattle.turn_table.specs.Rule.{all_numbers};
 ghost use Rattle.turn_table.specs.Passes.{own_count, joined_count};
 ghost use Rattle.live_node.specs.Lives.{IsPassAt};
 ghost use Rattle.test_devices.specs.Trials.{IsAlone, IsShardAlone, IsFirst, HasAll, IsGiven};

@@ -1,6 +1,4 @@
 // A disk that waits within a read, and what others may do meanwhile.
-ghost use Rattle.std.specs.Prelude.{◌≡◌};
-ghost use Rattle.live_node.specs.Lives.{IsPassAt};
 ghost use Rattle.test_devices.specs.Trials.{IsAlone, IsGiven};
 
 use crate::tests::devices::{ended, formatted, opened, rejoined, settings, share};
