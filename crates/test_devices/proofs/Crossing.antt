@@ -1,43 +1,13 @@
--- A device over a disk in memory may be shared by threads, and what a thread works with there may go to it.
-use denote.RattleType.{RattleType}
-use denote.Struct.Declared as declared
-use denote.Param.Send.{IsSend, IsSync, sendable, recorded_send, struct_send}
+-- A disk in memory may go to another thread, and a device over one may be shared by threads.
+use denote.Param.Send.{IsSend, IsSync, sendable}
 use Rattle.std.proofs.Crossing.{crosses}
 use Rattle.disk_model.specs.contracts.mem.MemDisk as disk
 use Rattle.disk_model.specs.contracts.mem.MemDiskDisk.TheImpl as disk_impl
-use Rattle.sprig_tree.specs.contracts.sprig.Sprig as sprig
-use Rattle.turn_table.specs.contracts.rule.Place as place
-use Rattle.turn_table.specs.contracts.rule.View as view
-use Rattle.turn_table.specs.contracts.table.PassOf as pass
-use Rattle.turn_table.specs.contracts.noted.Noted as noted
-use Rattle.turn_table.proofs.Crossing as turn
-use Rattle.live_node.specs.contracts.hub.Hub as hub
 use Rattle.live_node.specs.contracts.live.Live as live
-use Rattle.live_node.specs.contracts.machine.Happening as happening
-use Rattle.live_node.specs.contracts.machine.Origin as origin
-use Rattle.live_node.proofs.hub.Hub.TheSendSync as hub_crosses
 use Rattle.live_node.proofs.Crossing as crossing
-use Rattle.test_devices.specs.contracts.tests.mixed.Hand as hand
-use Rattle.test_devices.proofs.tests.mixed.Talk.TheSendSync as talk_crosses
 
-disk_send : IsSend disk.the_row
+pub disk_send : IsSend disk.the_row
 disk_send = search (sendable, crosses) depth 30
 
 pub disk_live_sync : IsSync (live.the_row disk.the_row disk_impl.ghosts)
 disk_live_sync = crossing.live_sync disk.the_row disk_impl.ghosts disk_send
-
-sprig_send : IsSend sprig.the_row
-sprig_send = search (sendable, crosses) depth 20
-
--- a pass as a field
-pass_field_send : (E O : RattleType) → IsSend (pass.the_field (hub.the_row disk.the_row disk_impl.ghosts) sprig.the_row E O).row
-pass_field_send E O =
-    let H : RattleType = hub.the_row disk.the_row disk_impl.ghosts in
-    let placed = turn.place_send H sprig.the_row E (hub_crosses.the_send disk.the_row disk_impl.ghosts disk_send) sprig_send in
-    let seated = turn.seat_send (place.the_row H sprig.the_row E) (view.the_row E O) placed in
-    search (sendable, crosses) depth 20
-
-pub hand_send : IsSend hand.the_row
-hand_send =
-    let T : declared.Declared = hand.the_type in
-    recorded_send _ _ T.to T.to_one (struct_send (declared.shape T) (pass_field_send (noted.the_row happening.the_row) (origin.the_row disk.the_row disk_impl.ghosts), (talk_crosses.the_field_send, tt)))
