@@ -9,4 +9,3 @@ mod take;
 pub use closing::{Closing, close_all};
 pub use opening::open_all;
 pub use tables::Tables;
-pub use take::take_first;
