@@ -113,6 +113,7 @@ module _ (Halts : (before after : Node) → Type 0) (o : Outside) (first : Node)
   closed_cause end.NoMemory out closes = absurd closes
   closed_cause (end.DeviceRefused device why) out closes = absurd closes
   closed_cause (end.DeviceShort device size) out closes = absurd closes
+  closed_cause end.DoorFault out closes = absurd closes
   closed_cause end.InputTooLong out closes = absurd closes
 
   halted_cause : (e : RunEnd) → EndsAtRestart o served → EndsOnce served → InHalt Halts first served → HaltsWith e Halts first → Cause e
@@ -125,6 +126,7 @@ module _ (Halts : (before after : Node) → Type 0) (o : Outside) (first : Node)
   halted_cause end.SourceFault ends once halt so = absurd so
   halted_cause end.SinkFault ends once halt so = absurd so
   halted_cause (end.DeviceShort device size) ends once halt so = absurd so
+  halted_cause end.DoorFault ends once halt so = absurd so
   halted_cause end.InputTooLong ends once halt so = absurd so
 
   pub cause_of : (result : Ended) → EndsWith input_limit o.taken o.written o.ended served unserved result → EndsOnce served → InHalt Halts first served

@@ -21,6 +21,7 @@ status_of end.SinkFault = 5
 status_of end.NoMemory = 6
 status_of (end.DeviceRefused device why) = 7
 status_of (end.DeviceShort device size) = 7
+status_of end.DoorFault = 8
 status_of end.InputTooLong = 10
 
 -- what it says of the disk
@@ -38,6 +39,7 @@ note_of end.SinkFault = codes "sink fault"
 note_of end.NoMemory = codes "no memory"
 note_of (end.DeviceRefused device why) = refusal_note device (refusal_of why)
 note_of (end.DeviceShort device size) = short_note device size
+note_of end.DoorFault = codes "door fault"
 note_of end.InputTooLong = codes "input too long"
 
 -- ---- words of the causes
@@ -92,6 +94,7 @@ HasCause end.SinkFault o first lines unserved closing = Rose o.before.sink o.aft
 HasCause end.NoMemory o first lines unserved closing = Unit {0}
 HasCause (end.DeviceRefused device why) o first lines unserved closing = EndsAtRestart o lines × (device < length first)
 HasCause (end.DeviceShort device size) o first lines unserved closing = ⊥
+HasCause end.DoorFault o first lines unserved closing = ⊥
 HasCause end.InputTooLong o first lines unserved closing = IsCutShort o lines unserved × (length o.taken ≡ input_limit)
 
 -- the device is refused for this, by what it reads, as one of so many

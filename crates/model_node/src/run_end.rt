@@ -61,6 +61,8 @@ pub enum RunEnd {
     SourceFault,
     /// Handing on a reply failed.
     SinkFault,
+    /// No further link could be had from the door of a server.
+    DoorFault,
     /// There was no memory, outside of a line's work.
     NoMemory,
     /// This device wasn't taken into use, for what its disk reads.
@@ -84,6 +86,7 @@ impl RunEnd {
             RunEnd::SinkFault => 5,
             RunEnd::NoMemory => 6,
             RunEnd::DeviceRefused { .. } | RunEnd::DeviceShort { .. } => 7,
+            RunEnd::DoorFault => 8,
             RunEnd::InputTooLong => 10,
         }
     }
@@ -101,6 +104,7 @@ impl RunEnd {
             RunEnd::NoMemory => Note::of("no memory"),
             RunEnd::DeviceRefused { device, why } => why.note(*device),
             RunEnd::DeviceShort { device, len } => Note::short(*device, *len),
+            RunEnd::DoorFault => Note::of("door fault"),
             RunEnd::InputTooLong => Note::of("input too long"),
         }
     }
