@@ -109,9 +109,9 @@ pub record HoldsThroughout (setups : List Setup) (o : Outside) (since now : Imag
 
 -- ---- many callers
 
--- What is to be promised of many callers, and isn't yet: no clause cites it. One device under many callers: one legal list from its start,
--- and the closing flush; each image that its disk might have left survives the state after some of the list and some of the steps of the
--- next event. The list's counts of faults are between those at entry, which the start may have raised, and those at exit.
+-- One device under many callers: one legal list from its start, and the closing flush; each image that its disk might have left survives
+-- the state after some of the list and some of the steps of the next event, and each that it may leave in the end the last state. The
+-- list's counts of faults are between those at entry, which the start may have raised, and those at exit.
 pub record HoldsForAll (setup : Setup) (how : RunEnd) (image : List ℕ) (before after : ℕ) (since now : List ℕ → Type 0) : Type 0 where
   pub bodies : List Body
   pub sound : IsSound setup image bodies
