@@ -10,3 +10,4 @@ mod starts;
 
 pub use format::{FormatRefusal, format_devices};
 pub use node::{Node, NodeRefusal};
+pub use starts::{start_all, stop_all};
