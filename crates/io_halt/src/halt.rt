@@ -1,10 +1,12 @@
 // What ends a source from outside. No clause tells when it comes: what the system answers of a descriptor is outside of all proofs.
-ghost use Rattle.std.specs.Prelude.{◌≡◌, None, IfSome, IsFalse};
+ghost use Rattle.std.specs.Prelude.{◌≡◌, ◌≢◌, ◌/◌, min, pos, None, IfSome, IsFalse};
+ghost use Rattle.std.specs.Duration.{as_nanos};
 
 use libc::net::{POLLIN, POLLNVAL, poll};
 use libc::types::pollfd;
 use std::marker::Model;
 use std::os::fd::RawFd;
+use std::time::Duration;
 
 // Waits without a limit.
 const FOREVER: i32 = -1;
@@ -14,6 +16,20 @@ const AT_ONCE: i32 = 0;
 
 // How often a wait begins again where it fails, as where a signal interrupts it.
 const TRIES: u32 = 1_000;
+
+// The number of no descriptor, of which the system tells nothing.
+const NOTHING: RawFd = -1;
+
+/// What came first of a halt and of a descriptor that was waited for.
+#[derive(Clone, Copy, Debug, PartialEq, Eq, Drop)]
+pub enum First {
+    /// The halt, with the other or alone.
+    Halt,
+    /// Something is to be had from the descriptor, or the system doesn't let it be waited for.
+    Input,
+    /// Neither, within the limit.
+    Late,
+}
 
 /// What ends a source from outside: a descriptor that comes to its end, as a pipe does whose other end is closed, or that has something
 /// to be read. Nothing is ever read from it. There may be none, and then nothing ends the source so.
@@ -58,16 +74,42 @@ impl Halt {
     pub fn comes_first(&self, input: RawFd) -> bool
         ensures { self.now ≡ None → IsFalse result }
     {
-        let Some(descriptor) = self.descriptor else {
-            return false;
-        };
-        let mut asked = [asked_of(descriptor), asked_of(input)];
+        self.first_of(input, None) == First::Halt
+    }
+
+    /// Which is there first: the halt, something to be had from this descriptor, or the end of the limit, where there is one. A limit counts
+    /// in whole milliseconds, at most 2^31 - 1 of them, and anew where a signal interrupts the wait. Without one a halt that never comes isn't
+    /// waited for.
+    pub fn first_of(&self, input: RawFd, limit: Option<Duration>) -> First
+        ensures never { self.now ≡ None → result ≢ First.Halt }
+        ensures unlimited { limit ≡ None → result ≢ First.Late }
+    {
+        if self.descriptor.is_none() && limit.is_none() {
+            return First::Input;
+        }
+        let mut asked = [
+            asked_of(self.descriptor.unwrap_or(NOTHING)),
+            asked_of(input),
+        ];
         for _ in 0..TRIES {
-            if poll(&mut asked, FOREVER) >= 0 {
-                return asked[0].revents != 0;
+            match poll(&mut asked, timeout_of(limit)) {
+                0 if limit.is_some() => return First::Late,
+                0.. if self.descriptor.is_some() && asked[0].revents != 0 => return First::Halt,
+                0.. => return First::Input,
+                _ => {}
             }
         }
-        false
+        First::Input
+    }
+}
+
+// The milliseconds of a limit, as the system takes them.
+fn timeout_of(limit: Option<Duration>) -> i32
+    ensures { IfSome limit (λ l. result ≡ pos (min (as_nanos l / 1000000) 2147483647)) }
+{
+    match limit {
+        Some(limit) => i32::try_from(limit.as_millis()).unwrap_or(i32::MAX),
+        None => FOREVER,
     }
 }
 

@@ -1,8 +1,9 @@
-//! A source that ends where something outside ends it, as a signal to a start script does.
+//! A source that ends where something outside ends it, as a signal to a start script does; and a wait for that or for a descriptor, within
+//! a limit.
 #![tactic(auto)]
 
 mod halt;
 mod halting;
 
-pub use halt::Halt;
+pub use halt::{First, Halt};
 pub use halting::HaltingSource;

@@ -17,11 +17,13 @@ use std::time::Duration;
 const PATIENCE: u64 = 10;
 
 /// The connections that a listener accepts, so many at most where they are bounded, until a halt comes, which also ends each link. A link
-/// whose peer takes no reply for ten seconds fails; a peer that sends nothing is waited for.
+/// whose peer takes no reply for ten seconds fails, and one whose peer is silent for longer than it may is at its end; where that isn't limited
+/// the peer is waited for.
 #[derive(Drop)]
 pub struct TcpDoor {
     listener: TcpListener,
     halt: Halt,
+    idle: Option<Duration>,
     left: Option<u32>,
     faults: u64,
     ended: bool,
@@ -32,17 +34,23 @@ impl Model for TcpDoor {
 
     ghost Value = { DoorState };
 
-    ghost view = { λ d. record { left = d.left; halt = d.halt; faults = d.faults; ended = d.ended } };
+    ghost view = { λ d. record { left = d.left; halt = d.halt; idle = d.idle; faults = d.faults; ended = d.ended } };
 }
 
 impl TcpDoor {
-    /// A door of so many links, or of any number where none is given.
-    pub fn new(listener: TcpListener, links: Option<u32>, halt: Halt) -> TcpDoor
-        ensures { result ≡ record { left = links; halt = halt; faults = 0; ended = false } }
+    /// A door of so many links, or of any number where none is given, whose peers may be silent for so long, or for ever.
+    pub fn new(
+        listener: TcpListener,
+        links: Option<u32>,
+        halt: Halt,
+        idle: Option<Duration>,
+    ) -> TcpDoor
+        ensures { result ≡ record { left = links; halt = halt; idle = idle; faults = 0; ended = false } }
     {
         TcpDoor {
             listener,
             halt,
+            idle,
             left: links,
             faults: 0,
             ended: false,
@@ -64,12 +72,12 @@ fn accept(listener: &TcpListener) -> io::Result<TcpStream> {
 
 // The link over a connection that was accepted. No small write waits for an answer to the one before it. Where that or the limit of its
 // writes can't be had, the link goes without.
-fn link_over(stream: TcpStream, halt: Halt) -> TcpLink
-    ensures { result ≡ fresh_link halt }
+fn link_over(stream: TcpStream, halt: Halt, idle: Option<Duration>) -> TcpLink
+    ensures { result ≡ fresh_link halt idle }
 {
     let _ = stream.set_nodelay(true);
     let _ = stream.set_write_timeout(Some(Duration::from_secs(PATIENCE)));
-    TcpLink::new(stream, halt)
+    TcpLink::new(stream, halt, idle)
 }
 
 impl Door for TcpDoor {
@@ -86,13 +94,13 @@ impl Door for TcpDoor {
         ensures never { self.old.halt ≡ None → IsTrue (gave_none result) → IsTrue self.old.ended ⊎ IsTrue (none_left self.old.left) }
         ensures last { self.new.ended ≡ gave_none result }
 
-        // A link is one through which nothing went yet, and which this door's halt ends.
-        ensures fresh { IfOk result (λ given. IfSome given (λ link. link ≡ fresh_link self.old.halt)) }
+        // A link is one through which nothing went yet, and which this door's halt ends, or a peer that is silent for as long as the door says.
+        ensures fresh { IfOk result (λ given. IfSome given (λ link. link ≡ fresh_link self.old.halt self.old.idle)) }
         ensures left { self.new.left ≡ (if gave_link result then one_fewer self.old.left else self.old.left) }
 
         // A fault is counted.
         ensures faults { self.new.faults ≡ (if is_ok result then self.old.faults else one_more self.old.faults) }
-        ensures halt { self.new.halt ≡ self.old.halt }
+        ensures same { (self.new.halt ≡ self.old.halt) × (self.new.idle ≡ self.old.idle) }
     {
         self.ended = self.ended
             || self.left == Some(0)
@@ -105,6 +113,6 @@ impl Door for TcpDoor {
             return Err(DoorFault);
         };
         self.left = self.left.map(|left| left.saturating_sub(1));
-        Ok(Some(link_over(stream, self.halt)))
+        Ok(Some(link_over(stream, self.halt, self.idle)))
     }
 }

@@ -1,21 +1,31 @@
 // A connection as a source and a sink.
-ghost use Rattle.std.specs.Prelude.{◌≡◌, ◌<◌, ◌≤◌, length, None, Some, Ok, IfOk, IsTrue, is_ok, if◌then◌else◌};
+ghost use Rattle.std.specs.Prelude.{◌≡◌, ◌≢◌, ◌<◌, ◌≤◌, length, None, Some, Ok, IfOk, IsSome, is_ok, if◌then◌else◌};
 ghost use Rattle.model_faults.specs.Counts.{one_more};
 ghost use Rattle.io_traits.specs.Source.{ReadGives};
 ghost use Rattle.io_traits.specs.Sink.{WriteGives};
 ghost use Rattle.net_link.specs.View.{fresh_link};
 
 use http_server::Log;
-use io_halt::Halt;
+use io_halt::{First, Halt};
 use io_traits::{Ends, Sink, SinkFault, Source, SourceFault, remember};
 use std::io::{self, ErrorKind, Read, Write};
 use std::marker::Model;
 use std::net::TcpStream;
 use std::os::fd::AsRawFd;
+use std::time::Duration;
+
+/// What ended a link on this side.
+#[derive(Clone, Copy, Debug, PartialEq, Eq, Drop)]
+pub enum Stop {
+    /// Its halt came.
+    Halted,
+    /// Its peer was silent for too long.
+    Idle,
+}
 
 /// A connection, with the history of the bytes that were taken from it and of those that the system took. It is at its end where its peer
-/// ends it, or once its halt has come: before each read it waits until the halt comes or something is to be had from the peer. It keeps
-/// nothing back, so what the system took is handed on.
+/// ends it, once its halt has come, or once its peer was silent for longer than it may, where that is limited: before each read it waits for
+/// the first of these, or for something to be had from the peer. It keeps nothing back, so what the system took is handed on.
 #[derive(Drop)]
 pub struct TcpLink {
     stream: TcpStream,
@@ -24,7 +34,8 @@ pub struct TcpLink {
     source_faults: u64,
     sink_faults: u64,
     halt: Halt,
-    is_halted: bool,
+    idle: Option<Duration>,
+    stopped: Option<Stop>,
 }
 
 impl Model for TcpLink {
@@ -33,13 +44,14 @@ impl Model for TcpLink {
 
     ghost Value = { LinkState };
 
-    ghost view = { λ s. record { gone = logged_bytes s.gone.items; written = logged_bytes s.written.items; source_faults = s.source_faults; sink_faults = s.sink_faults; halt = s.halt; is_halted = s.is_halted } };
+    ghost view = { λ s. record { gone = logged_bytes s.gone.items; written = logged_bytes s.written.items; source_faults = s.source_faults; sink_faults = s.sink_faults; halt = s.halt; idle = s.idle; stopped = s.stopped } };
 }
 
 impl TcpLink {
-    /// The link over a connection, of which nothing was taken and to which nothing was written, until the halt comes.
-    pub fn new(stream: TcpStream, halt: Halt) -> TcpLink
-        ensures { result ≡ fresh_link halt }
+    /// The link over a connection, of which nothing was taken and to which nothing was written, until the halt comes or the peer is silent
+    /// for so long, where that is limited.
+    pub fn new(stream: TcpStream, halt: Halt, idle: Option<Duration>) -> TcpLink
+        ensures { result ≡ fresh_link halt idle }
     {
         TcpLink {
             stream,
@@ -48,8 +60,26 @@ impl TcpLink {
             source_faults: 0,
             sink_faults: 0,
             halt,
-            is_halted: false,
+            idle,
+            stopped: None,
         }
+    }
+
+    // Waits for the peer until the halt comes or the peer was silent for too long, where neither was so before.
+    fn await_peer(&mut self)
+        ensures stays { IsSome self.old.stopped → self.new.stopped ≡ self.old.stopped }
+        ensures never { self.old.halt ≡ None → self.old.stopped ≢ Some Stop.Halted → self.new.stopped ≢ Some Stop.Halted }
+        ensures unlimited { self.old.idle ≡ None → self.old.stopped ≢ Some Stop.Idle → self.new.stopped ≢ Some Stop.Idle }
+        ensures rest { self.new ≡ record self.old { stopped = self.new.stopped } }
+    {
+        if self.stopped.is_some() {
+            return;
+        }
+        self.stopped = match self.halt.first_of(self.stream.as_raw_fd(), self.idle) {
+            First::Halt => Some(Stop::Halted),
+            First::Late => Some(Stop::Idle),
+            First::Input => None,
+        };
     }
 }
 
@@ -98,20 +128,21 @@ impl Source for TcpLink {
     fn read_some(&mut self, out: &mut [u8]) -> Result<usize, SourceFault>
         requires { 0 < length out.old }
 
-        // Once halted it is at its end for good, without a fault, and nothing is taken.
-        ensures halted { IsTrue self.new.is_halted → (result ≡ Ok 0) × (self.new.gone ≡ self.old.gone) }
-        ensures ended { IsTrue self.old.is_halted → IsTrue self.new.is_halted }
+        // Once ended on this side it is at its end for good, without a fault, and nothing is taken.
+        ensures stopped { IsSome self.new.stopped → (result ≡ Ok 0) × (self.new.gone ≡ self.old.gone) }
+        ensures stays { IsSome self.old.stopped → self.new.stopped ≡ self.old.stopped }
 
-        // It is halted only by a halt that may come.
-        ensures never { self.old.halt ≡ None → self.new.is_halted ≡ self.old.is_halted }
+        // It is halted only by a halt that may come, and idle only where its peer's silence is limited.
+        ensures never { self.old.halt ≡ None → self.old.stopped ≢ Some Stop.Halted → self.new.stopped ≢ Some Stop.Halted }
+        ensures unlimited { self.old.idle ≡ None → self.old.stopped ≢ Some Stop.Idle → self.new.stopped ≢ Some Stop.Idle }
 
         // Each byte that the system gave is kept, and each fault is counted.
         ensures bytes { ReadGives self.old.gone self.new.gone None None out.new result }
         ensures faults { self.new.source_faults ≡ (if is_ok result then self.old.source_faults else one_more self.old.source_faults) }
-        ensures rest { self.new ≡ record self.old { gone = self.new.gone; source_faults = self.new.source_faults; is_halted = self.new.is_halted } }
+        ensures rest { self.new ≡ record self.old { gone = self.new.gone; source_faults = self.new.source_faults; stopped = self.new.stopped } }
     {
-        self.is_halted = self.is_halted || self.halt.comes_first(self.stream.as_raw_fd());
-        if self.is_halted {
+        self.await_peer();
+        if self.stopped.is_some() {
             return Ok(0);
         }
         let Ok(count) = read_once(&mut self.stream, out) else {

@@ -3,9 +3,10 @@ use Rattle.std.proofs.Common.{◌≡◌, ℕ, ◌<◌, ◌^◌, Bool, true, fals
 use Rattle.std.proofs.lemmas.Fmt.{decimal_injective}
 use Rattle.node_words.specs.declared.job.Shape.{Shape}
 use Rattle.node_words.specs.declared.job.Tuning.{Tuning}
+use Rattle.node_words.specs.declared.job.Serving.{Serving}
 use Rattle.node_words.specs.declared.job.Job.{Job}
-use Rattle.node_words.specs.declared.job.Job.TheVariants.{Format, Run, Check, Audit, Generate}
-use Rattle.node_words.specs.Words.{Text, Pair, number, power, choice, yes_no, Says, Row, HasRows, shape_rows, tuning_rows, rows_of, first_words, IsCounted}
+use Rattle.node_words.specs.declared.job.Job.TheVariants.{Format, Run, Serve, Check, Audit, Generate}
+use Rattle.node_words.specs.Words.{Text, Pair, number, power, choice, yes_no, Says, Row, HasRows, shape_rows, tuning_rows, serving_rows, rows_of, first_words, IsCounted}
 use Rattle.node_words.proofs.Numbers.{one_number}
 
 one_value : (said : Option Text) (least greatest default m n : ℕ) → greatest < 2 ^ 64 → Says said (number least greatest default m) → Says said (number least greatest default n) → m ≡ n
@@ -47,6 +48,14 @@ one_tuning pairs s t one two =
     let raid_age = one_value _ 0 315360000 86400 s.raid_age t.raid_age (lit< tt) one.1.1.1.1.1.0 two.1.1.1.1.1.0 in
     λ i. record { sprigs = sprigs i; lwm = lwm i; pending = pending i; cache = cache i; commit = commit i; raid_age = raid_age i }
 
+one_serving : (pairs : List Pair) (s t : Serving) → HasRows pairs (serving_rows s) → HasRows pairs (serving_rows t) → s ≡ t
+one_serving pairs s t one two =
+    let port = one_value _ 1 65535 3000 s.port t.port (lit< tt) one.0 two.0 in
+    let links = one_value _ 0 1000000 0 s.links t.links (lit< tt) one.1.0 two.1.0 in
+    let seats = one_value _ 1 64 4 s.seats t.seats (lit< tt) one.1.1.0 two.1.1.0 in
+    let idle = one_value _ 0 86400 60 s.idle t.idle (lit< tt) one.1.1.1.0 two.1.1.1.0 in
+    λ i. record { port = port i; links = links i; seats = seats i; idle = idle i }
+
 -- ---- the first words tell the command
 
 -- the first byte of the first word
@@ -63,6 +72,12 @@ second words = []
 pub one_job : (pairs : List Pair) (j k : Job) → first_words j ≡ first_words k → IsCounted j → IsCounted k → HasRows pairs (rows_of j) → HasRows pairs (rows_of k) → j ≡ k
 one_job pairs (Format s) (Format t) same some more one two = ap Format (one_shape pairs s t one two)
 one_job pairs (Run s) (Run t) same some more one two = ap Run (one_tuning pairs s t one two)
+one_job pairs (Serve s u) (Serve t v) same some more one two =
+    let a = apart pairs (tuning_rows s) (serving_rows u) one in
+    let b = apart pairs (tuning_rows t) (serving_rows v) two in
+    let tuning = one_tuning pairs s t a.0 b.0 in
+    let serving = one_serving pairs u v a.1 b.1 in
+    λ i. Serve (tuning i) (serving i)
 one_job pairs Check Check same some more one two = refl
 one_job pairs Audit Audit same some more one two = refl
 one_job pairs (Generate m s t) (Generate n u v) same some more one two =

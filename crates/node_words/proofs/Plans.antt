@@ -5,7 +5,7 @@ use Rattle.std.specs.Prelude.{String, string_bytes}
 use Rattle.node_words.specs.declared.job.Job.{Job}
 use Rattle.node_words.specs.declared.plan.Plan.{Plan}
 use Rattle.node_words.specs.Words.{Text, Asks}
-use Rattle.node_words.specs.Planning.{made_length}
+use Rattle.node_words.specs.Planning.{made_length, serving_of}
 use Rattle.node_words.specs.Planned.{IsPlanned}
 
 -- what was read, as `read_words` says it
@@ -26,19 +26,34 @@ few_names words job names exact =
 one_pair : (j k : Job) (m n : List Text) → ◌≡◌ {A = Option (Job × List Text)} (Some (j, m)) (Some (k, n)) → (j ≡ k) × (m ≡ n)
 one_pair j k m n is = let pairs : ◌≡◌ {A = Job × List Text} (j, m) (k, n) = cc in (λ i. (pairs i).0, λ i. (pairs i).1)
 
-pub some_planned : (words : List Text) (job : Job) (names : List Text) (made : Plan) → Exact words (Some (job, names)) → made.names ≡ names
-    → made.make_len ≡ made_length job → (plan : Plan) → (Some made ≡ Some plan) ↔ IsPlanned words plan
-some_planned words job names made exact names_are len_is plan = (to, from)
+-- what is prepared for a job over devices of these names
+abbrev pub planned : Job → List Text → Plan
+planned job names = record {
+  names = names;
+  make_len = made_length job;
+  port = (serving_of job).port;
+  links = (serving_of job).links;
+  idle = (serving_of job).idle;
+}
+
+-- words that ask for the job have it prepared so
+pub asked_planned : (words : List Text) (job : Job) (names : List Text) → Asks words job names → IsPlanned words (planned job names)
+asked_planned words job names asks = record { job = job; asks = asks; make_len = refl; port = refl; links = refl; idle = refl }
+
+one_plan : (words : List Text) (plan : Plan) (is : IsPlanned words plan) → planned is.job plan.names ≡ plan
+one_plan words plan is =
+    λ i. record { names = plan.names; make_len = sym is.make_len i; port = sym is.port i; links = sym is.links i; idle = sym is.idle i }
+
+pub some_planned : (words : List Text) (job : Job) (names : List Text) (made : Plan) → Exact words (Some (job, names)) → made ≡ planned job names
+    → (plan : Plan) → (Some made ≡ Some plan) ↔ IsPlanned words plan
+some_planned words job names made exact made_is plan = (to, from)
   where
     to : Some made ≡ Some plan → IsPlanned words plan
     to is =
-        let asks = subst (λ (n : List Text). Asks words job n) (sym names_are) ((exact job names).0 refl) in
-        let same : made ≡ plan = cc in
-        subst (IsPlanned words) same (record { job = job; asks = asks; make_len = len_is })
+        let same : planned job names ≡ plan = cc in
+        subst (IsPlanned words) same (asked_planned words job names ((exact job names).0 refl))
 
     from : IsPlanned words plan → Some made ≡ Some plan
-    from planned =
-        let same = one_pair job planned.job names plan.names ((exact planned.job plan.names).1 planned.asks) in
-        let a : made.names ≡ plan.names = names_are ∙ same.1 in
-        let b : made.make_len ≡ plan.make_len = len_is ∙ ap made_length same.0 ∙ sym planned.make_len in
-        λ i. Some (record { names = a i; make_len = b i })
+    from is =
+        let same = one_pair job is.job names plan.names ((exact is.job plan.names).1 is.asks) in
+        ap Some (made_is ∙ (λ i. planned (same.0 i) (same.1 i)) ∙ one_plan words plan is)

@@ -5,11 +5,12 @@ use Rattle.std.proofs.lemmas.Bool.{cases_lt}
 use Rattle.std.proofs.Math.Pow.{pow_mono}
 use Rattle.node_words.specs.declared.job.Shape.{Shape}
 use Rattle.node_words.specs.declared.job.Tuning.{Tuning}
+use Rattle.node_words.specs.declared.job.Serving.{Serving}
 use Rattle.node_words.specs.declared.job.Job.{Job}
-use Rattle.node_words.specs.declared.job.Job.TheVariants.{Format, Run, Check, Audit, Generate}
+use Rattle.node_words.specs.declared.job.Job.TheVariants.{Format, Run, Serve, Check, Audit, Generate}
 use Rattle.node_words.specs.declared.request.Request.{Request}
-use Rattle.node_words.specs.Words.{Text, Pair, Says, number, power, HasRows, shape_rows, tuning_rows, rows_of, IsCounted, Asks}
-use Rattle.node_words.specs.Ranges.{IsBlockSize, IsShape, IsTuning, IsInRange}
+use Rattle.node_words.specs.Words.{Text, Pair, Says, number, power, HasRows, shape_rows, tuning_rows, serving_rows, rows_of, IsCounted, Asks}
+use Rattle.node_words.specs.Ranges.{IsBlockSize, IsShape, IsTuning, IsServing, IsInRange}
 use Rattle.node_words.specs.Reading.{asked_for}
 use Rattle.node_words.proofs.Determining.{apart}
 
@@ -44,9 +45,20 @@ tuning_in pairs tuning has = record {
   raid_age = (number_in _ 0 315360000 86400 tuning.raid_age (lit≤ tt) (lit≤ tt) has.1.1.1.1.1.0).1;
 }
 
+serving_in : (pairs : List Pair) (serving : Serving) → HasRows pairs (serving_rows serving) → IsServing serving
+serving_in pairs serving has = record {
+  port = number_in _ 1 65535 3000 serving.port (lit≤ tt) (lit≤ tt) has.0;
+  links = (number_in _ 0 1000000 0 serving.links (lit≤ tt) (lit≤ tt) has.1.0).1;
+  seats = number_in _ 1 64 4 serving.seats (lit≤ tt) (lit≤ tt) has.1.1.0;
+  idle = (number_in _ 0 86400 60 serving.idle (lit≤ tt) (lit≤ tt) has.1.1.1.0).1;
+}
+
 job_in : (pairs : List Pair) (job : Job) → IsCounted job → HasRows pairs (rows_of job) → IsInRange job
 job_in pairs (Format shape) counted has = shape_in pairs shape has
 job_in pairs (Run tuning) counted has = tuning_in pairs tuning has
+job_in pairs (Serve tuning serving) counted has =
+    let parts = apart pairs (tuning_rows tuning) (serving_rows serving) has in
+    (tuning_in pairs tuning parts.0, serving_in pairs serving parts.1)
 job_in pairs Check counted has = tt
 job_in pairs Audit counted has = tt
 job_in pairs (Generate count shape tuning) counted has =

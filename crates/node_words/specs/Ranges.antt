@@ -2,6 +2,7 @@
 use Rattle.std.specs.Prelude.{ℕ, ◌^◌, ◌≤◌, ◌≡◌}
 use Rattle.node_words.specs.declared.job.Shape.{Shape}
 use Rattle.node_words.specs.declared.job.Tuning.{Tuning}
+use Rattle.node_words.specs.declared.job.Serving.{Serving}
 use Rattle.node_words.specs.declared.job.Job.{Job}
 use Rattle.node_words.specs.declared.job.Job.TheVariants as job
 
@@ -22,10 +23,18 @@ pub record IsTuning (tuning : Tuning) : Type 0 where
   pub cache : tuning.cache ≤ 64
   pub raid_age : tuning.raid_age ≤ 315360000
 
+-- settings with which connections can be served
+pub record IsServing (serving : Serving) : Type 0 where
+  pub port : (1 ≤ serving.port) × (serving.port ≤ 65535)
+  pub links : serving.links ≤ 1000000
+  pub seats : (1 ≤ serving.seats) × (serving.seats ≤ 64)
+  pub idle : serving.idle ≤ 86400
+
 -- the numbers of a job are in their ranges
 abbrev pub IsInRange : Job → Type 0
 IsInRange (job.Format shape) = IsShape shape
 IsInRange (job.Run tuning) = IsTuning tuning
+IsInRange (job.Serve tuning serving) = IsTuning tuning × IsServing serving
 IsInRange job.Check = Unit {0}
 IsInRange job.Audit = Unit {0}
 IsInRange (job.Generate count shape tuning) = (1 ≤ count) × (count ≤ 1000000) × IsShape shape × IsTuning tuning

@@ -4,6 +4,7 @@ use Rattle.std.specs.List.{AllByRecursion}
 use Rattle.std.specs.Int.{IsPowerOfTwo}
 use Rattle.node_words.specs.declared.job.Shape.{Shape}
 use Rattle.node_words.specs.declared.job.Tuning.{Tuning}
+use Rattle.node_words.specs.declared.job.Serving.{Serving}
 use Rattle.node_words.specs.declared.job.Job.{Job}
 use Rattle.node_words.specs.declared.job.Job.TheVariants as job
 
@@ -67,12 +68,22 @@ tuning_rows tuning =
     ∷ (codes "--raid-age", number 0 315360000 86400 tuning.raid_age)
     ∷ []
 
+-- the options of how connections are served
+abbrev pub serving_rows : Serving → List Row
+serving_rows serving =
+    (codes "--port", number 1 65535 3000 serving.port)
+    ∷ (codes "--links", number 0 1000000 0 serving.links)
+    ∷ (codes "--seats", number 1 64 4 serving.seats)
+    ∷ (codes "--idle", number 0 86400 60 serving.idle)
+    ∷ []
+
 -- ---- the commands
 
 -- the words in front of a job's options: the command word, and behind `gen` the number of records
 abbrev pub first_words : Job → List Text
 first_words (job.Format shape) = codes "format" ∷ []
 first_words (job.Run tuning) = codes "run" ∷ []
+first_words (job.Serve tuning serving) = codes "serve" ∷ []
 first_words job.Check = codes "check" ∷ []
 first_words job.Audit = codes "audit" ∷ []
 first_words (job.Generate count shape tuning) = codes "gen" ∷ decimal count ∷ []
@@ -86,6 +97,7 @@ IsCounted _ = Unit {0}
 abbrev pub rows_of : Job → List Row
 rows_of (job.Format shape) = shape_rows shape
 rows_of (job.Run tuning) = tuning_rows tuning
+rows_of (job.Serve tuning serving) = tuning_rows tuning ++ serving_rows serving
 rows_of job.Check = []
 rows_of job.Audit = []
 rows_of (job.Generate count shape tuning) = shape_rows shape ++ tuning_rows tuning

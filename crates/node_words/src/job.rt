@@ -1,4 +1,7 @@
 // What the words can ask for.
+ghost use Rattle.std.specs.Prelude.{◌≡◌, []};
+ghost use Rattle.node_words.specs.Planning.{default_serving};
+ghost use Rattle.node_words.specs.Words.{HasRows, serving_rows};
 
 /// The blocks of each device that is made.
 #[derive(Clone, Copy, Debug, PartialEq, Eq, Drop)]
@@ -26,6 +29,33 @@ pub struct Tuning {
     pub raid_age: u64,
 }
 
+/// How connections are served.
+#[derive(Clone, Copy, Debug, PartialEq, Eq, Drop)]
+pub struct Serving {
+    /// The port at which connections are taken, 1 to 65,535.
+    pub port: u16,
+    /// How many connections are served before the end, at most 1,000,000; 0 is without end.
+    pub links: u32,
+    /// How many connections are served at the same time, 1 to 64.
+    pub seats: u8,
+    /// The seconds after which a connection that sends nothing is closed, at most 86,400; 0 is never.
+    pub idle: u32,
+}
+
+impl Default for Serving {
+    // It is what the rows of these options say where none is given.
+    ghost is_default = { λ s. (s ≡ default_serving) × HasRows [] (serving_rows s) };
+
+    fn default() -> Serving {
+        Serving {
+            port: 3_000,
+            links: 0,
+            seats: 4,
+            idle: 60,
+        }
+    }
+}
+
 /// A job with its options. The options' defaults stand in for those that weren't given.
 #[derive(Clone, Copy, Debug, PartialEq, Eq, Drop)]
 pub enum Job {
@@ -33,6 +63,13 @@ pub enum Job {
     Format(Shape),
     /// Serve standard input.
     Run(Tuning),
+    /// Serve connections of the network.
+    Serve {
+        /// How the devices are run meanwhile.
+        tuning: Tuning,
+        /// How the connections are served.
+        serving: Serving,
+    },
     /// Tell what is on devices, and change nothing.
     Check,
     /// Tell whether the images of devices are sound, and change nothing.

@@ -2,7 +2,7 @@
 //!
 //! A list is a command word, behind `gen` a number, then options with their values in any order, each at most once, then
 //! the names of 1 to 16 devices that differ. `read_words` answers the job with its options and the names; `names_of` what
-//! has to be made before it is carried out.
+//! has to be opened or made before it is carried out.
 #![tactic(auto)]
 
 mod job;
@@ -13,7 +13,7 @@ mod plan;
 mod request;
 mod table;
 
-pub use job::{Job, Shape, Tuning};
+pub use job::{Job, Serving, Shape, Tuning};
 pub use names::Names;
 pub use plan::{Plan, names_of};
 pub use request::{Request, read_words};

@@ -1,10 +1,10 @@
 // The options of each job. A row has the name, the least and the greatest value, and the default.
 ghost use Rattle.std.specs.Prelude.{◌≤◌, [], ◌∷◌, codes, decimal, IfSome};
 ghost use Rattle.node_words.specs.Reading.{ReadsRows, AsksForRows, ReadsJob};
-ghost use Rattle.node_words.specs.Words.{shape_rows, tuning_rows, rows_of, IsCounted};
+ghost use Rattle.node_words.specs.Words.{shape_rows, tuning_rows, serving_rows, rows_of, IsCounted};
 
 use crate::options::Options;
-use crate::{Job, Shape, Tuning};
+use crate::{Job, Serving, Shape, Tuning};
 
 // What the options say of the devices to be made.
 fn shape_of(options: &mut Options<'_>) -> Option<Shape>
@@ -32,6 +32,19 @@ fn tuning_of(options: &mut Options<'_>) -> Option<Tuning>
     })
 }
 
+// What the options say of how connections are served.
+fn serving_of(options: &mut Options<'_>) -> Option<Serving>
+    ensures value { ReadsRows serving_rows options.old.pairs result }
+    ensures asked { AsksForRows serving_rows options.old options.new result }
+{
+    Some(Serving {
+        port: options.number("--port", 1, 65_535, 3_000)? as u16,
+        links: options.number("--links", 0, 1_000_000, 0)?,
+        seats: options.number("--seats", 1, 64, 4)? as u8,
+        idle: options.number("--idle", 0, 86_400, 60)?,
+    })
+}
+
 /// The job of a command word alone, with its options; each option of the job has then been asked for. It is none where
 /// there is no such command, or an option says what its row doesn't allow.
 pub fn job_of(word: &str, options: &mut Options<'_>) -> Option<Job>
@@ -41,6 +54,10 @@ pub fn job_of(word: &str, options: &mut Options<'_>) -> Option<Job>
     match word {
         "format" => Some(Job::Format(shape_of(options)?)),
         "run" => Some(Job::Run(tuning_of(options)?)),
+        "serve" => Some(Job::Serve {
+            tuning: tuning_of(options)?,
+            serving: serving_of(options)?,
+        }),
         "check" => Some(Job::Check),
         "audit" => Some(Job::Audit),
         _ => None,

@@ -10,5 +10,11 @@ copied-requires c = few_names (map string_bytes c.args.words.now) c.in-Some.requ
 
 pub returns : goal.returns
 returns c =
-    some_planned (map string_bytes c.args.words.now) c.in-Some.request.job (map string_bytes c.in-Some.request.names.now) _
-    c.in-Some.ensures.exact c.in_ok-copied.ensures c.made_length.ensures
+    some_planned (map string_bytes c.args.words.now) c.in-Some.request.job (map string_bytes c.in-Some.request.names.now) _ c.in-Some.ensures.exact
+    (λ i. record {
+      names = c.in_ok-copied.ensures i;
+      make_len = c.made_length.ensures i;
+      port = (c.serving-serving.ensures i).port;
+      links = (c.serving-serving.ensures i).links;
+      idle = (c.serving-serving.ensures i).idle;
+    })
