@@ -1,0 +1,9 @@
+pub mod Places
+pub mod Pairing
+pub mod Dealt
+pub mod Giving
+pub mod Coming
+pub mod Keeping
+pub mod Rooms
+pub mod Splitting
+pub mod Crossing

@@ -1,0 +1,3 @@
+pub mod Chores
+pub mod Crews
+pub mod Dealing
