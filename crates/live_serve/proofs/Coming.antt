@@ -1,14 +1,15 @@
 -- How a call comes behind the events of a device, and what stands of many devices.
-use Rattle.std.proofs.Common.{◌≡◌, ℕ, suc, zero, ◌<◌, ◌≤◌, Bool, true, false, List, [], ◌∷◌, ◌++◌, length, slice_index_or, sym, ap, subst, ◌∙◌, inr, arith}
-use Rattle.std.specs.Prelude.{Result, OnOk}
-use Rattle.disk_model.specs.Disk.{DiskView, IsHonest}
-use Rattle.disk_model.specs.Runs.{leaves_then, leaves_more}
+use Rattle.std.proofs.Common.{◌≡◌, ◌≢◌, ℕ, suc, zero, ◌<◌, ◌≤◌, Bool, true, false, List, [], ◌∷◌, ◌++◌, length, slice_index_or, refl, sym, ap, subst, ◌∙◌, inl, arith}
+use Rattle.std.specs.Prelude.{Result, OnOk, OnErr}
+use Rattle.disk_model.specs.Disk.{DiskView, IsDisk, IsHonest}
+use Rattle.disk_model.specs.Runs.{OneOf, leaves_then, leaves_more}
 use Rattle.disk_model.specs.declared.disk.DiskFault.{DiskFault}
 use Rattle.model_device.specs.Book.{Setup}
 use Rattle.model_device.specs.Device.{State}
 use Rattle.model_device.specs.Events.{Event, Call, Answer, after_event, after_events, flush_call}
 use Rattle.model_device.specs.Legal.{Follows, IsLegal, last_faults}
 use Rattle.law_start.specs.Surviving.{Survives}
+use Rattle.block_shelf.proofs.Going.{stays}
 use Rattle.law_steps.specs.Standing.{ShelfIsSafe}
 use Rattle.law_steps.specs.Events.{MakesEvent}
 use Rattle.shard_core.specs.Calls.{Makes, flush_answer}
@@ -17,7 +18,7 @@ use Rattle.shard_core.specs.View.{ShardView, SameSetup, setup_for, setup_of}
 use Rattle.shard_core.proofs.Events.{of_first, of_others, of_one}
 use Rattle.turn_table.specs.Passes as table
 use Rattle.live_node.specs.declared.live.Live.{Live}
-use Rattle.live_node.specs.Opening.{Opening, setup_at, state_at}
+use Rattle.live_node.specs.Opening.{Opening, opened, setup_at, state_at}
 use Rattle.live_node.specs.Calls.{seen_by}
 use Rattle.live_node.specs.Laws.{state_more}
 use Rattle.live_node.specs.Lives.{LivePass}
@@ -25,7 +26,8 @@ use Rattle.live_node.proofs.Right.{last_more}
 use Rattle.live_serve.specs.declared.closing.Closing.{Closing}
 use Rattle.live_store.specs.Pairs.{EachPair}
 use Rattle.live_store.specs.Known.{Known, known_each}
-use Rattle.live_serve.specs.Devices.{Named, opening_for, IsUnderTable, IsFirstPass, HasAllNumbers, ComesOut, ComesOutAt, IsClosed, IsClosedAt, IsFlushed, ComesBack}
+use Rattle.live_crew.specs.Crews.{HasAllNumbers}
+use Rattle.live_serve.specs.Devices.{Named, opening_for, IsUnderTable, IsFirstPass, ComesOut, ComesOutAt, IsClosed, IsClosedAt, IsFlushed, ComesBack}
 
 -- a legal list, and an event that may follow it
 legal_more : (setup : Setup) (told : Bool) (s : State) (faults : ℕ) (list : List Event) (e : Event) → IsLegal setup told s faults list
@@ -73,15 +75,33 @@ module _ {D : Type 0} (view : D → DiskView) (o : Opening D) (list : List Event
 
   -- so it is with a closing flush
   pub closed : (flushed : Result ℕ DiskFault) (new : ShardView D) → Makes view flush_call (flush_answer flushed) old here new → SameSetup old new
-      → (IsHonest (view old.shelf.disk) → IsHonest (view new.shelf.disk)) → OnOk flushed (new.shelf.buffers ≡ []) → IsClosed view o list flushed new
-  closed flushed new made shape honest quiet =
+      → (IsHonest (view old.shelf.disk) → IsHonest (view new.shelf.disk)) → OnOk flushed (new.shelf.buffers ≡ [])
+      → OnErr flushed (new.shelf.buffers ≢ []) → IsClosed view o list flushed new
+  closed flushed new made shape honest quiet left =
       let one : MakesEvent view setup flush_call (flush_answer flushed) old.shelf here new.shelf (Agrees new) =
       subst (λ (x : Setup). MakesEvent view x flush_call (flush_answer flushed) old.shelf here new.shelf (Agrees new)) same_setup made in record {
         flush = one.event;
         is_flush = record { is_call = one.is_call; answered = one.is_answer };
         out = out_behind flush_call (flush_answer flushed) new shape honest one;
         quiet = quiet;
+        left = left;
       }
+
+-- a device to which nothing was done comes back with no event
+pub as_it_is : {D : Type 0} (view : D → DiskView) (shard : ShardView D) (s : State) → IsDisk (view shard.shelf.disk) → Agrees shard s → ComesOut view (opened shard s) [] shard
+as_it_is {D} view shard s is_disk agrees =
+    let o : Opening D = opened shard s in record {
+      legal = record { any = tt; told = λ was. tt };
+      stands = agrees;
+      set = refl;
+      geometry = refl;
+      faults = refl;
+      safe = λ was. record {
+        honest = was.honest;
+        safe = was.safe;
+        leaves = stays view (setup_at o) shard.shelf s is_disk (OneOf (Survives (setup_at o)) (s ∷ [])) (λ c here. inl here) was.safe.safe;
+      };
+    }
 
 -- ---- many devices
 
@@ -108,7 +128,7 @@ module _ {D : Type 0} (view : D → DiskView) where
   none_made (n ∷ named) (l ∷ lives) (p ∷ passes) [] under first out = absurd out
   none_made (n ∷ named) (l ∷ lives) (p ∷ passes) (s ∷ outs) under first out =
       let seen : seen_by {D = D} (table.view p) ≡ [] = ap (seen_by {D = D}) first.0.knows in (
-        inr (subst (λ (list : List Event). ComesOut view (opening_for n) list s) seen (subst (λ (o : Opening D). ComesOut view o (seen_by {D = D} (table.view p)) s) under.0 out.0)),
+        subst (λ (list : List Event). ComesOut view (opening_for n) list s) seen (subst (λ (o : Opening D). ComesOut view o (seen_by {D = D} (table.view p)) s) under.0 out.0),
         none_made named lives passes outs under.1 first.1 out.1,
       )
 

@@ -1,7 +1,7 @@
 -- How far the devices of a node were brought under their tables.
-use Rattle.std.proofs.Common.{◌≡◌, ℕ, ◌+◌, ◌≤◌, inl, List, [], ◌∷◌, ◌++◌, length, refl, sym, ap, suc, subst, ◌∙◌, arith, append_assoc, length-append}
+use Rattle.std.proofs.Common.{◌≡◌, ℕ, ◌+◌, ◌≤◌, List, [], ◌∷◌, ◌++◌, length, refl, sym, ap, suc, subst, ◌∙◌, arith, append_assoc, length-append}
 use Rattle.std.proofs.lemmas.List.{append-nil}
-use Rattle.disk_model.specs.Disk.{DiskView}
+use Rattle.disk_model.specs.Disk.{DiskView, IsDisk}
 use Rattle.model_device.specs.Device.{State}
 use Rattle.shard_core.specs.Stands.{Agrees}
 use Rattle.shard_core.specs.View.{ShardView}
@@ -16,7 +16,7 @@ use Rattle.live_store.specs.Known.{known_each}
 use Rattle.live_store.proofs.Pairs.{pairs_length}
 use Rattle.live_serve.specs.Devices.{Named, named_each, StandsAsNoted, IsUnderTable, IsFirstPass, AreOpened, StopsAt, ComesOutAt, ComesBack}
 use Rattle.live_serve.proofs.Pairing.{pair_push, pair_append, first_pair}
-use Rattle.live_serve.proofs.Coming.{none_made}
+use Rattle.live_serve.proofs.Coming.{as_it_is, none_made}
 
 -- Some are under their tables, and the others are left.
 pub record OpenedSoFar {D : Type 0} (all : List (Named D)) (lives : List (Live D)) (passes : List (LivePass D)) (shards : List (ShardView D)) (notes : List (Noted State)) : Type 0 where
@@ -74,6 +74,7 @@ module _ {D : Type 0} where
       state = note.value;
       parts = so_far.parts ∙ ap (λ (l : List (Named D)). so_far.done ++ l) next_is;
       opened = so_far.opened;
+      agrees = stands_next;
       rest = (first_pair StandsAsNoted shards shards' notes notes' shard note so_far.rest is_shards is_notes).1;
     }
 
@@ -109,21 +110,23 @@ module _ {D : Type 0} where
       let under = pairs_length IsUnderTable stop.done lives stop.opened.under in
       omega arith
 
-  pub as_they_were : (view' : D → DiskView) (shards : List (ShardView D)) (notes : List (Noted State)) → EachPair StandsAsNoted shards notes → EachPair (ComesBack view') (named_each shards notes) shards
-  as_they_were view' [] [] stands = tt
-  as_they_were view' [] (note ∷ notes) stands = tt
-  as_they_were view' (shard ∷ shards) [] stands = absurd stands
-  as_they_were view' (shard ∷ shards) (note ∷ notes) stands = (inl refl, as_they_were view' shards notes stands.1)
+  module _ (view' : D → DiskView) (is_disk : (disk : D) → IsDisk (view' disk)) where
+    pub as_they_were : (shards : List (ShardView D)) (notes : List (Noted State)) → EachPair StandsAsNoted shards notes → EachPair (ComesBack view') (named_each shards notes) shards
+    as_they_were [] [] stands = tt
+    as_they_were [] (note ∷ notes) stands = tt
+    as_they_were (shard ∷ shards) [] stands = absurd stands
+    as_they_were (shard ∷ shards) (note ∷ notes) stands = (as_it_is view' shard note.value (is_disk shard.shelf.disk) stands.0, as_they_were shards notes stands.1)
 
-  pub all_come_back : (view' : D → DiskView) (all : List (Named D)) (shard : ShardView D) (shards : List (ShardView D)) (notes : List (Noted State)) (lives : List (Live D)) (passes : List (LivePass D))
-      (outs back : List (ShardView D)) → StopsAt all shard shards notes lives passes → EachPair (ComesOutAt view') (known_each lives passes) outs → back ≡ outs ++ shard ∷ shards
-      → EachPair (ComesBack view') all back
-  all_come_back view' all shard shards notes lives passes outs back stop out is_back =
-      let here : Named D = record { shard = shard; state = stop.state } in
-      let front : EachPair (ComesBack view') stop.done outs = none_made view' stop.done lives passes outs stop.opened.under stop.opened.first out in
-      subst (λ (l : List (Named D)). EachPair (ComesBack view') l back) (sym stop.parts)
-      (subst (EachPair (ComesBack view') (stop.done ++ here ∷ named_each shards notes)) (sym is_back)
-      (pair_append (ComesBack view') stop.done outs (here ∷ named_each shards notes) (shard ∷ shards) front (inl refl, as_they_were view' shards notes stop.rest)))
+    pub all_come_back : (all : List (Named D)) (shard : ShardView D) (shards : List (ShardView D)) (notes : List (Noted State)) (lives : List (Live D)) (passes : List (LivePass D))
+        (outs back : List (ShardView D)) → StopsAt all shard shards notes lives passes → EachPair (ComesOutAt view') (known_each lives passes) outs → back ≡ outs ++ shard ∷ shards
+        → EachPair (ComesBack view') all back
+    all_come_back all shard shards notes lives passes outs back stop out is_back =
+        let here : Named D = record { shard = shard; state = stop.state } in
+        let front : EachPair (ComesBack view') stop.done outs = none_made view' stop.done lives passes outs stop.opened.under stop.opened.first out in
+        let one : ComesBack view' here shard = as_it_is view' shard stop.state (is_disk shard.shelf.disk) stop.agrees in
+        subst (λ (l : List (Named D)). EachPair (ComesBack view') l back) (sym stop.parts)
+        (subst (EachPair (ComesBack view') (stop.done ++ here ∷ named_each shards notes)) (sym is_back)
+        (pair_append (ComesBack view') stop.done outs (here ∷ named_each shards notes) (shard ∷ shards) front (one, as_they_were shards notes stop.rest)))
 
   -- those taken out, the one at which it stopped, and the rest
   pub back_is : (first took outs pushed rest all : List (ShardView D)) (shard : ShardView D) → first ≡ [] → took ≡ first ++ outs → pushed ≡ took ++ shard ∷ [] → all ≡ pushed ++ rest

@@ -1,5 +1,5 @@
 -- Crate live_serve. Devices that come under tables, are served there, and come out again.
-use Rattle.std.specs.Prelude.{◌≡◌, ◌⊎◌, ◌+◌, ℕ, List, [], ◌∷◌, ◌++◌, Result, OnOk}
+use Rattle.std.specs.Prelude.{◌≡◌, ◌≢◌, ◌+◌, ◌≤◌, ℕ, List, [], ◌∷◌, ◌++◌, length, Some, slice_get, Result, OnOk, OnErr}
 use Rattle.disk_model.specs.Disk.{DiskView}
 use Rattle.disk_model.specs.declared.disk.DiskFault.{DiskFault}
 use Rattle.model_device.specs.Device.{State}
@@ -39,6 +39,14 @@ opening_for named = opened named.shard named.state
 abbrev pub StandsAsNoted : {D : Type 0} → ShardView D → Noted State → Type 0
 StandsAsNoted shard note = Agrees shard note.value
 
+-- These are all devices of a node, 1 to 16, in order, with the same settings.
+pub record AreOfOneNode {D : Type 0} (shards : List (ShardView D)) : Type 0 where
+  pub some : 1 ≤ length shards
+  pub few : length shards ≤ 16
+  pub numbered : (device : ℕ) (shard : ShardView D) → slice_get shards device ≡ Some shard
+      → (shard.shelf.geometry.device ≡ device) × (shard.shelf.geometry.devices ≡ length shards)
+  pub alike : (a b : ℕ) (one other : ShardView D) → slice_get shards a ≡ Some one → slice_get shards b ≡ Some other → one.set ≡ other.set
+
 -- ---- under its table
 
 abbrev pub IsUnderTable : {D : Type 0} → Named D → Live D → Type 0
@@ -61,11 +69,8 @@ pub record StopsAt {D : Type 0} (all : List (Named D)) (shard : ShardView D) (sh
   pub state : State
   pub parts : all ≡ done ++ record { shard = shard; state = state } ∷ named_each shards notes
   pub opened : AreOpened done lives passes
+  pub agrees : Agrees shard state
   pub rest : EachPair StandsAsNoted shards notes
-
--- no other pass of its device is out: all numbers are its own, or were joined into it
-abbrev pub HasAllNumbers : {D : Type 0} → LivePass D → Type 0
-HasAllNumbers pass = own_count pass + joined_count pass ≡ all_numbers
 
 -- ---- behind
 
@@ -84,12 +89,14 @@ pub record ComesOut {D : Type 0} (view : D → DiskView) (o : Opening D) (list :
 abbrev pub ComesOutAt : {D : Type 0} → (view : D → DiskView) → Known D → ShardView D → Type 0
 ComesOutAt view known after = ComesOut view known.opening (seen_by known.pass) after
 
--- The last of its events is the closing flush, which answers so; those before it are these. Where that went well nothing is pending.
+-- The last of its events is the closing flush, which answers so; those before it are these. Where that went well nothing is pending, and where
+-- it didn't something is.
 pub record IsClosed {D : Type 0} (view : D → DiskView) (o : Opening D) (past : List Event) (flushed : Result ℕ DiskFault) (after : ShardView D) : Type 0 where
   pub flush : Event
   pub is_flush : Is flush_call (λ answer. answer ≡ flush_answer flushed) flush
   pub out : ComesOut view o (past ++ flush ∷ []) after
   pub quiet : OnOk flushed (after.shelf.buffers ≡ [])
+  pub left : OnErr flushed (after.shelf.buffers ≢ [])
 
 -- Whatever it came out of, its closing flush is the last of its events.
 abbrev pub IsFlushed : {D : Type 0} → (view : D → DiskView) → ShardView D → Closing D → Type 0
@@ -99,6 +106,6 @@ IsFlushed {D} view before closing = (o : Opening D) (past : List Event) → Come
 abbrev pub IsClosedAt : {D : Type 0} → (view : D → DiskView) → Known D → Closing D → Type 0
 IsClosedAt view known closing = IsClosed view known.opening (seen_by known.pass) closing.flushed closing.shard
 
--- A device comes back as it was, or out of its table with no event.
+-- A device comes back with no event.
 abbrev pub ComesBack : {D : Type 0} → (view : D → DiskView) → Named D → ShardView D → Type 0
-ComesBack view named after = (after ≡ named.shard) ⊎ ComesOut view (opening_for named) [] after
+ComesBack view named after = ComesOut view (opening_for named) [] after

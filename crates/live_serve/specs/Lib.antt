@@ -1,1 +1,4 @@
+pub mod Crew
 pub mod Devices
+pub mod Naming
+pub mod Serving

@@ -1,12 +1,13 @@
 // How devices come out of their tables, and are flushed in the end.
-ghost use Rattle.std.specs.Prelude.{◌≡◌, ◌+◌, ◌≤◌, ◌++◌, [], List, All, vec_len, vec_capacity};
+ghost use Rattle.std.specs.Prelude.{◌≡◌, ◌+◌, ◌≤◌, ◌++◌, [], List, All, map, vec_len, vec_capacity};
 ghost use Rattle.shard_core.specs.View.{ShardView};
 ghost use Rattle.turn_table.specs.Passes.{view};
 ghost use Rattle.live_node.specs.Calls.{seen_by};
 ghost use Rattle.live_node.specs.Lives.{opening_at, IsPassAt};
 ghost use Rattle.live_store.specs.Pairs.{EachPair};
 ghost use Rattle.live_store.specs.Known.{known_each};
-ghost use Rattle.live_serve.specs.Devices.{ComesOut, ComesOutAt, HasAllNumbers, IsFlushed, IsClosedAt};
+ghost use Rattle.live_crew.specs.Crews.{HasAllNumbers};
+ghost use Rattle.live_serve.specs.Devices.{ComesOut, ComesOutAt, IsFlushed, IsClosedAt};
 
 use crate::tables::Tables;
 use crate::take::take_first;
@@ -65,8 +66,11 @@ pub(crate) fn take_out<D: Disk>(
     lives.destroy_empty();
 }
 
-// The closing flush of each device, in order.
-fn flush_all<D: Disk>(shards: Vec<Shard<D>>, closings: Vec<Closing<D>>) -> Vec<Closing<D>>
+/// The closing flush of each device, in order.
+pub(crate) fn flush_all<D: Disk>(
+    shards: Vec<Shard<D>>,
+    closings: Vec<Closing<D>>,
+) -> Vec<Closing<D>>
     requires none { closings.items ≡ [] }
     requires room { vec_len shards ≤ vec_capacity closings }
     ensures { EachPair (IsFlushed D.view) shards.items result.items }
@@ -94,4 +98,18 @@ pub fn close_all<D: Disk>(tables: Tables<D>) -> Vec<Closing<D>>
     } = tables;
     take_out(lives, passes, &mut shards);
     flush_all(shards, closings)
+}
+
+/// The disks of devices that were closed, in order, as they are, in a list that has room for them.
+pub fn stop_closed<D: Disk>(closings: Vec<Closing<D>>, disks: Vec<D>) -> Vec<D>
+    requires none { disks.items ≡ [] }
+    requires room { vec_len closings ≤ vec_capacity disks }
+    ensures { result.items ≡ map (λ c. c.shard.shelf.disk) closings.items }
+{
+    let mut closings = closings;
+    let mut disks = disks;
+    while let Some(closing) = take_first(&mut closings) {
+        disks.push_reserved(closing.shard.stop());
+    }
+    disks
 }

@@ -1,11 +1,15 @@
-//! The devices of a node under their tables, for many threads: how they come under them, come out, and are flushed in the end.
+//! The devices of a node under their tables, for many threads: how they come under them, are served, come out, and are flushed in the end.
 #![tactic(auto)]
 
 mod closing;
+mod naming;
 mod opening;
+mod serving;
 mod tables;
 mod take;
 
-pub use closing::{Closing, close_all};
-pub use opening::open_all;
+pub use closing::{Closing, close_all, stop_closed};
+pub use naming::name_each;
+pub use opening::{NotOpened, open_all};
+pub use serving::{Served, serve_shards};
 pub use tables::Tables;

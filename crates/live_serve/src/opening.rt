@@ -4,9 +4,10 @@ ghost use Rattle.shard_core.specs.View.{ShardView};
 ghost use Rattle.live_node.specs.Lives.{IsPassAt};
 ghost use Rattle.live_store.specs.Pairs.{EachPair};
 ghost use Rattle.live_store.specs.Known.{known_each};
-ghost use Rattle.live_serve.specs.Devices.{AreOpened, ComesBack, ComesOutAt, HasAllNumbers, StandsAsNoted, StopsAt, named_each};
+ghost use Rattle.live_crew.specs.Crews.{HasAllNumbers};
+ghost use Rattle.live_serve.specs.Devices.{AreOpened, ComesBack, ComesOutAt, StandsAsNoted, StopsAt, named_each};
 
-use crate::closing::take_out;
+use crate::closing::{Closing, take_out};
 use crate::tables::Tables;
 use crate::take::{put_behind, take_first};
 use disk_model::Disk;
@@ -16,20 +17,32 @@ use shard_core::Shard;
 use std::alloc::Global;
 use turn_table::Noted;
 
-// Tables without a device, with room for so many.
-fn room_for<D: Disk>(alloc: Global, devices: usize) -> Result<Tables<D>, NoMemory>
-    ensures none { IfOk result (λ tables. (tables.lives.items ≡ []) × (tables.passes.items ≡ [])) }
-    ensures room { IfOk result (λ tables. (devices ≤ vec_capacity tables.lives) × (devices ≤ vec_capacity tables.passes) × (devices ≤ vec_capacity tables.shards) × (devices ≤ vec_capacity tables.closings)) }
+/// Devices that didn't come under their tables, in order, and the room for their closings.
+#[derive(Drop)]
+pub struct NotOpened<D: Disk> {
+    pub shards: Vec<Shard<D>>,
+    pub closings: Vec<Closing<D>>,
+}
+
+// Room for the devices and for their passes, and for the devices as they come out.
+struct Room<D: Disk> {
+    lives: Vec<Live<D>>,
+    passes: Vec<LivePass<D>>,
+    back: Vec<Shard<D>>,
+}
+
+// Room for so many devices.
+fn room_for<D: Disk>(alloc: Global, devices: usize) -> Result<Room<D>, NoMemory>
+    ensures none { IfOk result (λ room. (room.lives.items ≡ []) × (room.passes.items ≡ []) × (room.back.items ≡ [])) }
+    ensures room { IfOk result (λ room. (devices ≤ vec_capacity room.lives) × (devices ≤ vec_capacity room.passes) × (devices ≤ vec_capacity room.back)) }
 {
     let passes = Vec::with_capacity(alloc, devices)?;
-    let shards = Vec::with_capacity(alloc, devices)?;
-    let closings = Vec::with_capacity(alloc, devices)?;
+    let back = Vec::with_capacity(alloc, devices)?;
     let lives = Vec::with_capacity(alloc, devices)?;
-    Ok(Tables {
+    Ok(Room {
         lives,
         passes,
-        shards,
-        closings,
+        back,
     })
 }
 
@@ -83,30 +96,33 @@ fn all_back<D: Disk>(
     back
 }
 
-/// Each device comes under its table, in order. The caller names a state for which each stands. Its first pass has all pass numbers, has seen
-/// nothing and made no call.
+/// Each device comes under its table, in order. The caller names a state for which each stands, and gives a list with room for their closings.
+/// The first pass of each has all pass numbers, has seen nothing and made no call.
 ///
 /// # Errors
 ///
-/// There is no memory. All devices come back, in order, each as it was, or out of its table with no event.
+/// There is no memory. All devices come back, in order, each with no event, and the list with its room.
 pub fn open_all<D: Disk>(
     alloc: Global,
     shards: Vec<Shard<D>>,
     states: Vec<Noted<DeviceState>>,
-) -> Result<Tables<D>, Vec<Shard<D>>>
+    closings: Vec<Closing<D>>,
+) -> Result<Tables<D>, NotOpened<D>>
     requires stands { EachPair StandsAsNoted shards.items states.items }
+    requires none { closings.items ≡ [] }
+    requires room { vec_len shards ≤ vec_capacity closings }
     ensures ok { IfOk result (λ tables. AreOpened (named_each shards.items states.items) tables.lives.items tables.passes.items) }
-    ensures err { IfErr result (λ back. EachPair (ComesBack D.view) (named_each shards.items states.items) back.items) }
+    ensures err { IfErr result (λ not. EachPair (ComesBack D.view) (named_each shards.items states.items) not.shards.items) }
+    ensures room { IfErr result (λ not. (not.closings.items ≡ []) × (vec_len not.shards ≤ vec_capacity not.closings)) }
 {
-    let Ok(tables) = room_for(alloc, shards.len()) else {
-        return Err(shards);
+    let Ok(room) = room_for(alloc, shards.len()) else {
+        return Err(NotOpened { shards, closings });
     };
-    let Tables {
+    let Room {
         mut lives,
         mut passes,
-        shards: back,
-        closings,
-    } = tables;
+        back,
+    } = room;
     let mut shards = shards;
     let mut states = states;
     match open_each(alloc, &mut shards, &mut states, &mut lives, &mut passes) {
@@ -116,6 +132,9 @@ pub fn open_all<D: Disk>(
             shards: back,
             closings,
         }),
-        Err(shard) => Err(all_back(lives, passes, shard, shards, back)),
+        Err(shard) => Err(NotOpened {
+            shards: all_back(lives, passes, shard, shards, back),
+            closings,
+        }),
     }
 }

@@ -1,12 +1,14 @@
-//! How far long work is, told in percent on one line of a terminal. A disk, a link and a clock tell it or keep the line away from the
-//! output, and else are what they stand over.
+//! How far long work is, told in percent on one line of a terminal. A disk, a link, a clock and a door tell it or keep the line away from
+//! other output, and else are what they stand over.
 #![tactic(auto)]
 
+mod announced;
 mod cleared;
 mod counted_clock;
 mod progress;
 mod watched;
 
+pub use announced::Announced;
 pub use cleared::Cleared;
 pub use counted_clock::CountedClock;
 pub use progress::{Making, Progress};

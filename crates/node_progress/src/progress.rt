@@ -96,6 +96,13 @@ impl<E: Eprint + IsTerminal + Drop> Progress<E> {
         }
     }
 
+    /// The devices are started, and links are served: tells these words on a line of their own, also to what is no terminal.
+    pub fn announce(&self, words: &str) {
+        self.end();
+        self.begin();
+        let _ = self.to.eprint(format_args!("{words}\n"));
+    }
+
     /// What tells how far a new file is.
     pub fn making(&self) -> Making<'_, E> {
         Making { progress: self }

@@ -2,7 +2,7 @@ use Rattle.std.proofs.Common.{[], refl, sym, ap, ◌∙◌, length, arith}
 use Rattle.std.proofs.lemmas.List.{append-nil}
 use Rattle.live_node.specs.Lives.{IsPassAt}
 use Rattle.live_store.specs.Known.{known_each}
-use Rattle.live_serve.specs.Devices.{HasAllNumbers}
+use Rattle.live_crew.specs.Crews.{HasAllNumbers}
 use Rattle.live_serve.proofs.Pairing.{first_pair, first_all}
 use Rattle.live_serve.proofs.Going.{out_more}
 use Rattle.live_serve.proofs.closing.take_out.Goals as goal

@@ -3,7 +3,7 @@ use Rattle.std.specs.List.{All}
 use Rattle.live_node.specs.Lives.{IsPassAt}
 use Rattle.live_store.specs.Pairs.{EachPair}
 use Rattle.live_store.specs.Known.{known_each}
-use Rattle.live_serve.specs.Devices.{HasAllNumbers}
+use Rattle.live_crew.specs.Crews.{HasAllNumbers}
 use Rattle.live_serve.proofs.Going.{OutSoFar}
 use Rattle.live_serve.proofs.closing.take_out.Given as goal
 

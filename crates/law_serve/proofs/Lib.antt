@@ -1,0 +1,4 @@
+pub mod Devices
+pub mod Naming
+pub mod Promises
+pub mod Whole
