@@ -4,10 +4,11 @@ use Rattle.std.proofs.lemmas.List.{take_more}
 use Rattle.std.proofs.lemmas.Option.{same_Some, slice_get_within, get_or_from_slice_get}
 use Rattle.disk_file.specs.View.{FileState}
 use Rattle.node_words.specs.declared.job.Job.{Job}
-use Rattle.node_words.specs.declared.job.Job.TheVariants.{Format, Run, Check, Audit, Generate}
+use Rattle.node_words.specs.declared.job.Job.TheVariants.{Format, Run, Serve, Check, Audit, Generate}
 use Rattle.node_words.specs.declared.plan.Plan.{Plan}
 use Rattle.node_words.specs.Planning.{made_length}
 use Rattle.node_words.specs.Words.{Text, Asks}
+use Rattle.node_words.proofs.Plans.{planned, asked_planned}
 use Rattle.node_jobs.proofs.Asked.{Exact, ExactPlan, one_job}
 use Rattle.node_prog.specs.declared.devices.Way.{Way}
 use Rattle.node_prog.specs.declared.devices.Way.TheVariants as way
@@ -30,8 +31,7 @@ opened_more how names at disks disk name so_far there is =
 -- what is to be made is what the job makes
 pub plan_length : (words : List Text) (plan : Plan) → ExactPlan words (Some plan) → (job : Job) (names : List Text) → Asks words job names → plan.make_len ≡ made_length job
 plan_length words plan exact job names asks =
-    ap (λ (p : Plan). p.make_len) (same_Some plan (record { names = names; make_len = made_length job })
-    ((exact (record { names = names; make_len = made_length job })).1 (record { job = job; asks = asks; make_len = refl })))
+    ap (λ (p : Plan). p.make_len) (same_Some plan (planned job names) ((exact (planned job names)).1 (asked_planned words job names asks)))
 
 -- ---- the way of a job
 
@@ -45,6 +45,7 @@ read_alone words read of exact (inr is) job names asks = ap way_of (sym is ∙ o
 not_made : (job : Job) → None ≡ made_length job → job ≢ Check → job ≢ Audit → way.Open ≡ way_of job
 not_made (Format shape) none check audit = cc
 not_made (Run tuning) none check audit = refl
+not_made (Serve tuning serving) none check audit = refl
 not_made Check none check audit = absurd (check refl)
 not_made Audit none check audit = absurd (audit refl)
 not_made (Generate count shape tuning) none check audit = cc

@@ -1,11 +1,19 @@
 -- Crate node_prog. What is done over the devices that were opened.
-use Rattle.std.specs.Prelude.{◌≡◌, ℕ, List, Option}
+use Rattle.std.specs.Prelude.{◌≡◌, ℕ, Bool, false, List, Option, None, Some}
 use Rattle.disk_file.specs.View.{FileState, view_of}
 use Rattle.core_run.specs.Views.{faults_of}
 use Rattle.model_node.specs.declared.run_end.RunEnd.TheVariants.{WordsRefused}
 use Rattle.law_run.specs.Promises.{Ends, Runs, IsTold, disks_between}
+use Rattle.net_link.specs.View.{LinkState, DoorState}
+use Rattle.node_progress.specs.Doors as doors
+use Rattle.node_session.specs.declared.ended.Ended.{Ended}
+use Rattle.node_session.specs.Turns.{Times}
+use Rattle.live_store.specs.Known.{Known}
+use Rattle.live_serve.specs.Serving.{ServesLink}
+use Rattle.law_serve.specs.Promises.{Serves}
 use Rattle.node_words.specs.declared.job.Shape.{Shape}
 use Rattle.node_words.specs.declared.job.Tuning.{Tuning}
+use Rattle.node_words.specs.declared.job.Serving.{Serving}
 use Rattle.node_words.specs.declared.job.Job.{Job}
 use Rattle.node_words.specs.declared.job.Job.TheVariants as job
 use Rattle.node_words.specs.Words.{Asks}
@@ -16,19 +24,34 @@ use Rattle.node_jobs.specs.Checking.{Checks}
 use Rattle.node_jobs.specs.Generating.{Generates}
 use Rattle.node_prog.specs.Opened.{way_of, AreOpened}
 
--- What the words ask for was done over these disks, in this order: there are ends of a link before and behind it, the times of a clock, and
--- the disks that were left, of which its promise holds. Other words were refused, and left the disks as they were.
+-- a link that is a connection is served over disks of files
+abbrev pub ServesConnection : List (Known FileState) → Times → Ended → List (Known FileState) → Times → Type 0
+ServesConnection = ServesLink view_of (λ (link : LinkState). link.gone) (λ link. None) (λ link. Some link.written) (λ link. Some link.written) (λ link. link.source_faults)
+    (λ link. link.sink_faults)
+
+abbrev pub door_faults : Option DoorState → ℕ
+door_faults door = doors.faults_of (λ (d : DoorState). d.faults) door
+
+abbrev pub door_ended : Option DoorState → Bool
+door_ended door = doors.has_ended (λ (d : DoorState). d.ended) door
+
+-- What the words ask for was done over these disks, in this order: there are ends of a link and a door before and behind it, the times of a
+-- clock, and the disks that were left, of which its promise holds. Of links over many threads nothing is known before of the images. Other words were refused, and left the disks as they were.
 pub record IsDone (words : List (List ℕ)) (disks : List FileState) (status : ℕ) (note : List ℕ) : Type 0 where
   pub last : List FileState
   pub times : Option (List ℕ)
   pub before : Ends
   pub after : Ends
+  pub door : Option DoorState
+  pub shut : Option DoorState
   pub counted : before.disks ≡ faults_of view_of disks
   pub counts : after.disks ≡ faults_of view_of last
   pub refused : ((job : Job) (names : List (List ℕ)) → Asks words job names → ⊥) → IsTold WordsRefused status note × (last ≡ disks)
   pub formatted : (shape : Shape) (names : List (List ℕ)) → Asks words (job.Format shape) names → Formats view_of shape disks last status note before after
   pub served : (tuning : Tuning) (names : List (List ℕ)) → Asks words (job.Run tuning) names
       → Runs (settings_of tuning) (disks_between view_of disks last) status note times before after
+  pub serves : (tuning : Tuning) (serving : Serving) (names : List (List ℕ)) → Asks words (job.Serve tuning serving) names
+      → Serves view_of ServesConnection false (settings_of tuning) serving.seats status note times disks last (door_faults door) (door_faults shut) (door_ended shut) (shut ≡ door)
   pub checked : (names : List (List ℕ)) → Asks words job.Check names → Checks Counts view_of disks last status note before after
   pub audited : (names : List (List ℕ)) → Asks words job.Audit names → Checks Soundness view_of disks last status note before after
   pub generated : (records : ℕ) (shape : Shape) (tuning : Tuning) (names : List (List ℕ)) → Asks words (job.Generate records shape tuning) names

@@ -12,6 +12,7 @@ use Rattle.node_prog.specs.declared.devices.Way.TheVariants as way
 abbrev pub way_of : Job → Way
 way_of (job.Format shape) = way.Make (file_length shape)
 way_of (job.Run tuning) = way.Open
+way_of (job.Serve tuning serving) = way.Open
 way_of job.Check = way.Read
 way_of job.Audit = way.Read
 way_of (job.Generate count shape tuning) = way.Make (file_length shape)

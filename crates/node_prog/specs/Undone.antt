@@ -6,7 +6,7 @@ use Rattle.disk_file.specs.Known.{Known, Standing}
 use Rattle.disk_file.specs.Refusals.{IsRefused, IsUnmade, Came, AreTold}
 use Rattle.disk_file.specs.declared.device_file.OpenFault.{OpenFault}
 use Rattle.node_prog.specs.declared.devices.Unfit.{Unfit}
-use Rattle.node_prog.specs.declared.devices.Unfit.TheVariants.{Fault, Same}
+use Rattle.node_prog.specs.declared.devices.Unfit.TheVariants.{Fault, Same, Port}
 use Rattle.node_prog.specs.declared.devices.Undone.{Undone}
 use Rattle.node_prog.specs.declared.devices.Undone.TheVariants as undone
 use Rattle.node_prog.specs.declared.devices.Way.{Way}
@@ -48,10 +48,11 @@ IsRefusedAs known becomes past stands old new (way.Make len) name fault = IsUnma
 IsRefusedAs known becomes past stands old new way.Open name fault = IsRefused (known new) past name true fault
 IsRefusedAs known becomes past stands old new way.Read name fault = IsRefused (known new) past name false fault
 
--- the fault is that of the call, and the first name is one of the same thing
+-- the fault is that of the call, and the first name is one of the same thing; a port is no device
 abbrev pub IsUnfit : {D F : Type 0} → (D → Known) → (D → Change → D → Type 0) → (F → List Call) → (F → Option Standing) → (old new : D) → (names : List (List ℕ)) → Way → ℕ → List ℕ → Unfit → Type 0
 IsUnfit known becomes past stands old new names how at name (Fault fault) = IsRefusedAs known becomes past stands old new how name fault
 IsUnfit known becomes past stands old new names how at name (Same first) = IsSame (known old) names name at (string_bytes first)
+IsUnfit known becomes past stands old new names how at name (Port error) = ⊥
 
 -- A refusal names the device and the reason, as one of making or of opening it; or memory was wanting for it.
 abbrev pub IsTold : Way → List ℕ → Unfit → Undone → Type 0

@@ -8,7 +8,7 @@ use crate::terminal::Screen;
 use disk_model::{Disk, MemDisk};
 use io_traits::{Clock, ListClock, Sink, Source};
 use node_gen::lines_of;
-use node_jobs::{Outcome, node_top};
+use node_jobs::{Outcome, job_alone};
 use node_progress::{Cleared, CountedClock, Progress, Watched};
 use node_words::{Job, read_words};
 use scenario_play::{Around, Ending, Noted, NotedClock, Notes};
@@ -37,7 +37,7 @@ fn top<D: Disk, L: Source + Sink, C: Clock>(
     if !names_so_many(words, disks.len()) {
         return None;
     }
-    let outcome = node_top(alloc, words, disks, link, clock);
+    let outcome = job_alone(alloc, words, disks, link, clock);
     Some(outcome)
 }
 
@@ -119,7 +119,7 @@ fn start_plainly<D: Disk, C: Clock>(
 fn lines_asked(words: &[String]) -> Option<u64> {
     match read_words(words)?.job {
         Job::Generate { count, .. } => Some(lines_of(count)),
-        Job::Format(_) | Job::Run(_) | Job::Check | Job::Audit => None,
+        Job::Format(_) | Job::Run(_) | Job::Serve { .. } | Job::Check | Job::Audit => None,
     }
 }
 
