@@ -1,7 +1,7 @@
 """A client of Hemwaziq: it sends the lines of docs/PROTOCOL.md and reads the replies. It needs Python 3.8 and its standard library alone.
 
-    client = connect("localhost", 3000)                   over TCP, or over any pair of binary streams: Client(reader, writer)
-    client = Client.start(["./hemwaziq", "run", "d0"])    over the streams of a program that it starts
+    client = connect()                                    over TCP to `./hemwaziq serve d0`: connect("127.0.0.1", 3000)
+    client = Client.start(["./hemwaziq", "run", "d0"])    over the streams of a program that it starts, or over any: Client(reader, writer)
     client.put("user:7", b"hello")                        Stamp(generation=1, time=1795855907390)
     client.get("user:7")                                  Record(data=b'hello', generation=1, time=1795855907390, void=0), or None
     client.put("user:7", b"world", expect=1)              only where the generation is 1; else it raises WrongGeneration
@@ -15,7 +15,8 @@ A key is a text or bytes, in a set. Its digest is the first 20 bytes of a hash o
 text: a byte for the kind of key, the length of the set in 4 bytes, the set, the key. The hash is SHA-1, where Aerospike takes RIPEMD-160, which
 isn't in every Python; so the digests aren't those of Aerospike. Who has digests of their own passes them as `Digest(20 bytes)`.
 
-One client is one connection, and is for one thread at a time: take one for each thread.
+One client is one connection, and is for one thread at a time: take one for each thread. A server serves so many at a time as it has seats, and
+ends one that sends nothing for a minute (`--seats`, `--idle`); that client's next command raises Closed, and a new one goes on.
 """
 
 import collections
@@ -366,8 +367,9 @@ class Client(_Commands):
         self.close()
 
 
-def connect(host, port, set_name="", timeout=None):
-    """A client over TCP. Where a reply takes longer than the timeout, in seconds, the client is closed."""
+def connect(host="127.0.0.1", port=3000, set_name="", timeout=None):
+    """A client over TCP. Where a reply takes longer than the timeout, in seconds, the client is closed; so it is where all seats are taken for
+    longer. Where nothing serves the port it raises ConnectionRefusedError."""
     link = socket.create_connection((host, port), timeout)
     link.setsockopt(socket.IPPROTO_TCP, socket.TCP_NODELAY, 1)
     reader, writer = link.makefile("rb"), link.makefile("wb")

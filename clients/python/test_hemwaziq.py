@@ -6,10 +6,12 @@ Run it as it is. The program is ./hemwaziq at the top of the repository, or the 
 
 import io
 import os
+import select
 import socket
 import subprocess
 import tempfile
 import threading
+import time
 import unittest
 from pathlib import Path
 
@@ -213,6 +215,88 @@ class OverTheProgram(unittest.TestCase):
         self.assertEqual(examples.add(other, "alice", 7), 107)
         self.assertEqual(examples.add(client, "alice", -107), 0)
         self.assertRaises(ValueError, examples.add, client, "alice", -1)
+
+
+class OverAServer(unittest.TestCase):
+    def setUp(self):
+        folder = tempfile.TemporaryDirectory()
+        self.addCleanup(folder.cleanup)
+        self.device = f"{folder.name}/d0"
+        subprocess.run([PROGRAM, "format", "--block-size", "16384", "--blocks", "64", self.device], check=True, capture_output=True)
+
+    def serve(self, *options):
+        """Starts a server of so many links that it ends by itself, and waits until a client can connect."""
+        with socket.create_server(("127.0.0.1", 0)) as door:
+            self.port = door.getsockname()[1]
+        words = [PROGRAM, "serve", "--port", str(self.port), *options, self.device]
+        server = subprocess.Popen(words, stdin=subprocess.DEVNULL, stdout=subprocess.DEVNULL, stderr=subprocess.PIPE)
+        self.addCleanup(server.stderr.close)
+        self.addCleanup(server.wait)
+        self.addCleanup(server.terminate)
+        self.assertTrue(select.select([server.stderr], [], [], 60)[0], "the server doesn't tell that it serves")
+        self.assertEqual(server.stderr.readline().decode(), f"serving {self.device} on 127.0.0.1:{self.port}\n")
+        return server
+
+    def connect(self):
+        client = hemwaziq.connect("127.0.0.1", self.port, timeout=60)
+        self.addCleanup(client.close)
+        return client
+
+    def test_what_one_client_put_another_one_gets(self):
+        server = self.serve("--links", "2")
+        first, second = self.connect(), self.connect()
+        put = first.put("alice", b"hello")
+        self.assertEqual(second.get("alice"), Record(b"hello", 1, put.time, 0))
+        self.assertEqual(second.bury("alice").generation, 2)
+        self.assertIsNone(first.get("alice"))
+        first.put("bob", b"1")
+        first.quit()
+        second.quit()
+        self.assertEqual(server.wait(60), 0)
+        with Client.start([PROGRAM, "run", self.device]) as client:
+            self.assertEqual((client.get("alice"), client.get("bob").data), (None, b"1"))
+
+    def test_what_a_client_may_not(self):
+        self.serve()
+        client = self.connect()
+        self.assertRaises(hemwaziq.ModeRefused, client.restart)
+        self.assertRaises(hemwaziq.ModeRefused, client.raid)
+        self.assertEqual(client.counts().records, 0)
+
+    def test_a_client_that_sends_nothing_is_closed(self):
+        self.serve("--idle", "1")
+        client = self.connect()
+        client.put("alice", b"1")
+        time.sleep(2)
+        self.assertRaises(Closed, client.get, "alice")
+        self.assertEqual(self.connect().get("alice").data, b"1")
+
+    def test_a_batch_whose_replies_are_more_than_a_socket_holds(self):
+        self.serve()
+        client, data = self.connect(), bytes(range(250)) * 40
+        client.put("alice", data)
+        with client.batch() as batch:
+            seen = [batch.get("alice") for _ in range(3_000)]
+        self.assertEqual({get.value().data for get in seen}, {data})
+
+    def test_a_balance_that_clients_change_at_the_same_time(self):
+        self.serve("--seats", "8")
+        clients, times = [self.connect() for _ in range(8)], 25
+        ready = threading.Barrier(len(clients))
+
+        def work(client):
+            ready.wait()
+            for _ in range(times):
+                examples.add(client, "alice", 7, tries=10_000)
+
+        threads = [threading.Thread(target=work, args=(client,)) for client in clients]
+        for thread in threads:
+            thread.start()
+        for thread in threads:
+            thread.join()
+        record = self.connect().get("alice", within="balances")
+        # Each change is one put, so the generations count them.
+        self.assertEqual((record.data, record.generation), (b"%d" % (7 * 8 * times), 8 * times))
 
 
 class Between:
