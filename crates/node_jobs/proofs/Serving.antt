@@ -14,7 +14,8 @@ use Rattle.node_words.specs.declared.job.Job.TheVariants.{Format, Run, Serve, Ch
 use Rattle.node_words.specs.Ranges.{IsTuning, IsServing, IsInRange}
 use Rattle.node_words.specs.Words.{Text, Asks}
 use Rattle.node_jobs.specs.Serving.{serve_of, IsServe, AsksOther}
-use Rattle.node_jobs.proofs.Asked.{Exact, nothing, they_ask, one_job, not_both}
+use Rattle.node_words.proofs.Plans.{Exact}
+use Rattle.node_jobs.proofs.Asked.{nothing, they_ask, one_job, not_both}
 
 -- they ask so, or for another job
 abbrev pub AreAsked : (words : List Text) → Option (Tuning × Serving) → Type 0

@@ -8,8 +8,8 @@ use Rattle.node_words.specs.declared.job.Job.TheVariants.{Format, Run, Serve, Ch
 use Rattle.node_words.specs.declared.plan.Plan.{Plan}
 use Rattle.node_words.specs.Planning.{made_length}
 use Rattle.node_words.specs.Words.{Text, Asks}
-use Rattle.node_words.proofs.Plans.{planned, asked_planned}
-use Rattle.node_jobs.proofs.Asked.{Exact, ExactPlan, one_job}
+use Rattle.node_words.proofs.Plans.{Exact, planned, asked_planned}
+use Rattle.node_jobs.proofs.Asked.{ExactPlan, one_job}
 use Rattle.node_prog.specs.declared.devices.Way.{Way}
 use Rattle.node_prog.specs.declared.devices.Way.TheVariants as way
 use Rattle.node_prog.specs.Opened.{way_of, IsOpened, AreOpened}
