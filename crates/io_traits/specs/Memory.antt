@@ -43,9 +43,10 @@ pub record TextOutputState : Type 0 where
   pub sink : SinkState
   pub writes : List Writing
 
--- A door in memory: the links left, the numbers of the calls that are to fail, how many calls were made, how many of them failed, and whether the last answer was that no further link comes.
+-- A door in memory: the links left, how many were given, the numbers of the calls that are to fail, how many calls were made, how many of them failed, and whether the last answer was that no further link comes.
 pub record DoorState (L : Type 0) : Type 0 where
   pub links : List L
+  pub given : ℕ
   pub fails : List ℕ
   pub calls : ℕ
   pub faults : ℕ

@@ -14,10 +14,11 @@ pub record LinkState : Type 0 where
   pub idle : Option Duration
   pub stopped : Option Stop
 
--- how many links are left, where they are bounded; what ends it from outside, if something does; how long the peer of a link may be silent, if that is limited; how many
+-- how many links are left, where they are bounded; how many were given; what ends it from outside, if something does; how long the peer of a link may be silent, if that is limited; how many
 -- calls failed; and whether it has ended
 pub record DoorState : Type 0 where
   pub left : Option ℕ
+  pub given : ℕ
   pub halt : Option ℤ
   pub idle : Option Duration
   pub faults : ℕ

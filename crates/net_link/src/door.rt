@@ -1,10 +1,11 @@
 // Where connections come from.
-ghost use Rattle.std.specs.Prelude.{◌≡◌, ◌⊎◌, false, None, Some, Ok, IsTrue, IfOk, IfSome, is_ok, if◌then◌else◌};
+ghost use Rattle.std.specs.Prelude.{◌≡◌, ◌+◌, ◌⊎◌, false, None, Some, Ok, IsTrue, IfOk, IfSome, is_ok, if◌then◌else◌};
 ghost use Rattle.model_faults.specs.Counts.{one_more};
-ghost use Rattle.io_traits.specs.Door.{gave_none};
+ghost use Rattle.io_traits.specs.Door.{gave_none, links_given};
 ghost use Rattle.net_link.specs.View.{fresh_link, none_left, one_fewer, gave_link};
 
 use crate::TcpLink;
+use http_server::Log;
 use io_halt::Halt;
 use io_traits::{Door, DoorFault};
 use std::io::{self, ErrorKind};
@@ -25,16 +26,18 @@ pub struct TcpDoor {
     halt: Halt,
     idle: Option<Duration>,
     left: Option<u32>,
+    given: Log<(), ()>,
     faults: u64,
     ended: bool,
 }
 
 impl Model for TcpDoor {
+    ghost use Rattle.std.specs.Prelude.{length};
     ghost use Rattle.net_link.specs.View.{DoorState};
 
     ghost Value = { DoorState };
 
-    ghost view = { λ d. record { left = d.left; halt = d.halt; idle = d.idle; faults = d.faults; ended = d.ended } };
+    ghost view = { λ d. record { left = d.left; given = length d.given.items; halt = d.halt; idle = d.idle; faults = d.faults; ended = d.ended } };
 }
 
 impl TcpDoor {
@@ -45,13 +48,14 @@ impl TcpDoor {
         halt: Halt,
         idle: Option<Duration>,
     ) -> TcpDoor
-        ensures { result ≡ record { left = links; halt = halt; idle = idle; faults = 0; ended = false } }
+        ensures { result ≡ record { left = links; given = 0; halt = halt; idle = idle; faults = 0; ended = false } }
     {
         TcpDoor {
             listener,
             halt,
             idle,
             left: links,
+            given: Log::new(),
             faults: 0,
             ended: false,
         }
@@ -87,6 +91,10 @@ impl Door for TcpDoor {
 
     ghost ended = { λ d. d.ended };
 
+    ghost given = { λ d. d.given };
+
+    ghost may_give = { λ d link. link ≡ fresh_link d.halt d.idle };
+
     fn next_link(&mut self) -> Result<Option<TcpLink>, DoorFault>
         // It ends where all its links were given, for good, and else only by a halt that may come.
         ensures all { IsTrue (none_left self.old.left) → result ≡ Ok None }
@@ -97,6 +105,7 @@ impl Door for TcpDoor {
         // A link is one through which nothing went yet, and which this door's halt ends, or a peer that is silent for as long as the door says.
         ensures fresh { IfOk result (λ given. IfSome given (λ link. link ≡ fresh_link self.old.halt self.old.idle)) }
         ensures left { self.new.left ≡ (if gave_link result then one_fewer self.old.left else self.old.left) }
+        ensures given { self.new.given ≡ self.old.given + links_given result }
 
         // A fault is counted.
         ensures faults { self.new.faults ≡ (if is_ok result then self.old.faults else one_more self.old.faults) }
@@ -113,6 +122,7 @@ impl Door for TcpDoor {
             return Err(DoorFault);
         };
         self.left = self.left.map(|left| left.saturating_sub(1));
+        self.given = self.given.and(&(), &());
         Ok(Some(link_over(stream, self.halt, self.idle)))
     }
 }

@@ -8,3 +8,11 @@ faults_of faults (Some door) = faults door
 abbrev pub has_ended : {G : Type 0} → (G → Bool) → Option G → Bool
 has_ended ended None = true
 has_ended ended (Some door) = ended door
+
+abbrev pub given_by : {G : Type 0} → (G → ℕ) → Option G → ℕ
+given_by given None = 0
+given_by given (Some door) = given door
+
+abbrev pub MayGive : {G L : Type 0} → (G → L → Type 0) → Option G → L → Type 0
+MayGive may_give None link = ⊥
+MayGive may_give (Some door) link = may_give door link

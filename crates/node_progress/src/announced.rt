@@ -49,13 +49,17 @@ impl<'a, G: Door, E: Eprint + IsTerminal + Drop> Announced<'a, G, E> {
 }
 
 impl<'a, G: Door, E: Eprint + IsTerminal + Drop> Door for Announced<'a, G, E> {
-    ghost use Rattle.node_progress.specs.Doors.{faults_of, has_ended};
+    ghost use Rattle.node_progress.specs.Doors.{MayGive, faults_of, given_by, has_ended};
 
     type Link = G::Link;
 
     ghost faults = { λ a. faults_of G.faults a };
 
     ghost ended = { λ a. has_ended G.ended a };
+
+    ghost given = { λ a. given_by G.given a };
+
+    ghost may_give = { λ a link. MayGive G.may_give a link };
 
     fn next_link(&mut self) -> Result<Option<G::Link>, DoorFault> {
         if let Some(words) = self.words.take() {
