@@ -20,7 +20,7 @@ use Rattle.live_node.specs.declared.live.Live.{Live}
 use Rattle.live_node.specs.Lives.{opening_at}
 use Rattle.live_chores.specs.declared.station.Station.{Station}
 use Rattle.live_chores.specs.Stations.{opened_at, known_at, Stays}
-use Rattle.live_chores.specs.Expires.{part_behind, most_looks, SawNone, Removes, Looks, EndsLooks, ExpiresOnce}
+use Rattle.live_chores.specs.Expires.{part_behind, goes_on, most_looks, SawNone, Removes, Looks, EndsLooks, ExpiresOnce}
 use Rattle.live_chores.proofs.Fresh.{fresh_end, fresh_more}
 
 -- ---- the parts one after another
@@ -71,7 +71,7 @@ module _ {D : Type 0} (view : D → DiskView) (o : Opening D) (now : ℕ) where
       let all = answers_behind view o before mid after (Is (expire_call first.digest now) (λ a. a ≡ delete_answer result)) right first.once in
       record { digest = first.digest; once = all.0; first = ap (λ (l : List Event). slice_get (left_behind o part now None l) 0) all.1 ∙ first.first }
 
-  pub removes_behind : (before mid after : LiveView D) (looks part : ℕ) (did : Did) → ComesToNone before mid looks → looks < most_looks
+  pub removes_behind : (before mid after : LiveView D) (looks part : ℕ) (did : Did) → ComesToNone before mid looks → looks < most_looks o
       → Removes view o mid after now part did → EndsLooks view o before after now looks part did
   removes_behind before mid after looks part Worked so_far few removes = (few, first_behind before mid after looks part _ so_far removes)
   removes_behind before mid after looks part Idle so_far few removes = absurd removes
@@ -122,27 +122,28 @@ module _ {R D : Type 0} (view : D → DiskView) (first : Station R D) (part now 
           stands = look.2 ∙ ap (λ (p : ℕ). part_behind o p 1) so_far.stands ∙ one_behind o part looks;
         }
 
-    pub ends_some : (did : Did) → looks < most_looks → Looks view (opened_at mid) (known_at mid) (known_at new) now here next (Some did) → ExpiresOnce view first part now did new next
+    pub ends_some : (did : Did) → looks < most_looks (opened_at first) → Looks view (opened_at mid) (known_at mid) (known_at new) now here next (Some did) → ExpiresOnce view first part now did new next
     ends_some did few looked =
         let o = opened_at first in
         let look = look_there mid new here next (Some did) so_far.stays looked in record {
           stays = stays_on mid new so_far.stays stays;
           passed = looks;
           none = saw_on view o now (known_at first) (known_at mid) (known_at new) part looks so_far.saw (removes_seen view o now (known_at mid) (known_at new) here did look.0);
-          stands = look.1 ∙ so_far.stands;
-          ends = subst (λ (p : ℕ). EndsLooks view o (known_at first) (known_at new) now looks p did) (sym look.1)
+          stands = look.1 ∙ ap (λ (p : ℕ). goes_on o did p) so_far.stands;
+          ends = subst (λ (p : ℕ). EndsLooks view o (known_at first) (known_at new) now looks p did) so_far.stands
               (removes_behind view o now (known_at first) (known_at mid) (known_at new) looks here did so_far.none few look.0);
         }
 
-  pub ends_none : (new : Station R D) (next : ℕ) → SoFar view first part now new next most_looks → ExpiresOnce view first part now Idle new next
-  ends_none new next so_far = record {
+  pub ends_none : (new : Station R D) (next looks : ℕ) → looks ≡ most_looks (opened_at first) → SoFar view first part now new next looks
+      → ExpiresOnce view first part now Idle new next
+  ends_none new next looks all so_far = record {
     stays = so_far.stays;
-    passed = most_looks;
+    passed = looks;
     none = so_far.saw;
     stands = so_far.stands;
-    ends = (refl, right so_far.none);
+    ends = (all, right so_far.none);
   }
     where
-      right : ComesToNone view (opened_at first) now (known_at first) (known_at new) most_looks → IsRight view (opened_at first) (known_at first) (known_at new) []
-      right (inl none) = absurd (let zero : most_looks ≡ 0 = none.0 in omega (arith, zero))
+      right : ComesToNone view (opened_at first) now (known_at first) (known_at new) looks → IsRight view (opened_at first) (known_at first) (known_at new) []
+      right (inl none) = absurd (let zero = none.0 in omega (arith, zero, all))
       right (inr is) = is

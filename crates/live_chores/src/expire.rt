@@ -12,11 +12,12 @@ use shard_core::WriteRefusal;
 use std::alloc::Global;
 use std::sync::Wait;
 
-// How many parts are looked at in one turn, at most.
-const LOOKS: u32 = 256;
+// In how many turns an expirer that finds nothing comes round, at most.
+const ROUND: u32 = 4096;
 
-/// Removes what is expired, part after part. In each turn it looks at its part and the next ones, at most 256 of them, and removes the
-/// first entry that it finds expired. Behind the last part comes the first.
+/// Removes what is expired, part after part. In each turn it looks at its part and the next ones, so many at most that it comes round in 4,096
+/// turns, and removes the first entry that it finds expired. Where that is refused it goes on with the next part, so that no entry holds up those
+/// of other parts. Behind the last part comes the first.
 #[derive(Drop)]
 pub struct ExpireChore<'a, R, D: Disk> {
     station: Station<'a, R, D>,
@@ -25,8 +26,8 @@ pub struct ExpireChore<'a, R, D: Disk> {
 }
 
 impl<'a, R, D: Disk> ExpireChore<'a, R, D> {
-    ghost use Rattle.live_chores.specs.Stations.{live_at, pass_at};
-    ghost use Rattle.live_chores.specs.Expires.{expirer, looks_at, part_behind};
+    ghost use Rattle.live_chores.specs.Stations.{live_at, pass_at, opened_at};
+    ghost use Rattle.live_chores.specs.Expires.{expirer, looks_at, part_behind, most_looks};
 
     /// An expirer of a device, with a pass of its own. It looks at the first part first.
     pub fn new(rt: &'a R, live: &'a Live<D>, pass: LivePass<D>) -> ExpireChore<'a, R, D>
@@ -49,6 +50,13 @@ impl<'a, R, D: Disk> ExpireChore<'a, R, D> {
         self.station.pass
     }
 
+    // How many parts are looked at in one turn, at most.
+    fn looks(&self) -> u32
+        ensures looks { result ≡ most_looks (opened_at (expirer self.now)) }
+    {
+        self.station.live.parts() / ROUND + 1
+    }
+
     // The part behind the one that it looks at.
     fn next_part(&self) -> u32
         ensures part { result ≡ part_behind (opening_at (live_at (expirer self.now))) (looks_at self.now) 1 }
@@ -68,7 +76,7 @@ impl<'a, R: Wait, D: Disk> ExpireChore<'a, R, D> {
     ghost use Rattle.live_chores.specs.Expires.{expirer, looks_at, Looks};
 
     // Looks at its part, and removes the first entry that is expired there. Where there is none it goes on to the next part, and nothing is
-    // answered.
+    // answered; behind a refusal it goes on too.
     fn look(&mut self, alloc: Global, now: u64) -> Option<Did>
         requires now { now ≤ 2 ^ 61 }
         ensures stays { Stays (expirer self.old) (expirer self.new) }
@@ -84,8 +92,14 @@ impl<'a, R: Wait, D: Disk> ExpireChore<'a, R, D> {
                 self.part = self.next_part();
                 None
             }
-            Err(WriteRefusal::Memory) => Some(Did::Memory),
-            Err(_) => Some(Did::Refused),
+            Err(WriteRefusal::Memory) => {
+                self.part = self.next_part();
+                Some(Did::Memory)
+            }
+            Err(_) => {
+                self.part = self.next_part();
+                Some(Did::Refused)
+            }
         }
     }
 }
@@ -96,7 +110,8 @@ impl<'a, R: Wait, D: Disk> Chore for ExpireChore<'a, R, D> {
     ghost turns = { λ old now did new. ExpiresOnce D.view (expirer old) (looks_at old) now did (expirer new) (looks_at new) };
 
     fn turn(&mut self, alloc: Global, now: u64) -> Did {
-        for _look in 0..LOOKS {
+        let looks = self.looks();
+        for _look in 0..looks {
             if let Some(did) = self.look(alloc, now) {
                 return did;
             }
