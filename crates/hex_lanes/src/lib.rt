@@ -1,8 +1,9 @@
 //! Hex text of bytes and back, sixteen bytes at a time: what the crate `hex` answers, in a fraction of its time.
 #![tactic(auto)]
 
-ghost use Rattle.std.specs.Prelude.{◌≡◌, ◌+◌, ◌*◌, ◌%◌, ◌^◌, ◌<◌, ◌⊎◌, length, Ok, Err, IfOk, IfErr, MatchResult};
+ghost use Rattle.std.specs.Prelude.{◌≡◌, ◌+◌, ◌*◌, ◌%◌, ◌^◌, ◌<◌, ◌≤◌, ◌⊎◌, ◌++◌, length, Ok, Err, IfOk, IfErr, IsOk, OnOk, OnErr, MatchResult};
 ghost use Rattle.std.specs.String.{string_bytes};
+ghost use Rattle.std.specs.Vec.{vec_len, vec_capacity};
 ghost use Rattle.hex.specs.Hex.{decode_of, encode_lower};
 ghost use Rattle.hex.specs.declared.error.FromHexError.TheVariants.{OddLength, OutOfMemory};
 
@@ -40,15 +41,32 @@ fn encode_into(bytes: &[u8], text: &mut [u8])
     let _ = hex::encode_to_slice(&bytes[at..], rest);
 }
 
+/// At `Ok` the hex digits of the bytes stand behind what was in `text`, in lower case and the high half of each byte first.
+/// An `Err` is want of memory, comes only where the room was missing, and changes nothing.
+pub fn encode_onto(bytes: &[u8], text: &mut Vec<u8>) -> Result<(), AllocError>
+    ensures ok { OnOk result (text.new.items ≡ text.old.items ++ encode_lower bytes.now) }
+    ensures err { OnErr result (text.new.items ≡ text.old.items) }
+    ensures room { vec_len text.old + 2 * length bytes.now ≤ vec_capacity text.old → IsOk result }
+{
+    let before = text.len();
+    let Some(digits) = bytes.len().checked_mul(2) else {
+        return Err(AllocError);
+    };
+    let Some(after) = before.checked_add(digits) else {
+        return Err(AllocError);
+    };
+    text.resize(after, 0)?;
+    let (_, room) = text.split_at_mut(before);
+    encode_into(bytes, room);
+    Ok(())
+}
+
 /// The hex digits of the bytes, in lower case and the high half of each byte first. It fails only where memory does.
 pub fn encode(alloc: Global, bytes: &[u8]) -> Result<String, AllocError>
     ensures { IfOk result (λ text. string_bytes text ≡ encode_lower bytes.now) }
 {
-    let Some(long) = bytes.len().checked_mul(2) else {
-        return Err(AllocError);
-    };
-    let mut text = vec![in alloc; 0u8; long]?;
-    encode_into(bytes, text.as_mut_slice());
+    let mut text = Vec::new(alloc);
+    encode_onto(bytes, &mut text)?;
     Ok(unsafe { String::from_utf8_unchecked(text) })
 }
 

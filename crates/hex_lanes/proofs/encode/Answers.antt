@@ -1,14 +1,14 @@
-use Rattle.std.proofs.Common.{◌≡◌, arith, length, drop}
-use Rattle.std.proofs.lemmas.List.{take_at}
+use Rattle.std.proofs.Common.{◌≡◌, ◌∙◌, ◌++◌, sym, ap, subst}
 use Rattle.std.proofs.lemmas.Str.{IsUtf8-from_ascii}
-use Rattle.hex.specs.Hex.{lower_digits}
+use Rattle.std.specs.Str.{IsAscii}
+use Rattle.hex.specs.Hex.{encode_lower, lower_digits}
 use Rattle.hex.proofs.HexLemmas.{IsAscii-encode_with}
 use Rattle.hex_lanes.proofs.Chunks.{IsAscii-lower_digits}
 use Rattle.hex_lanes.proofs.encode.Goals as goal
 
 pub from_utf8_unchecked-requires : goal.from_utf8_unchecked-requires
 from_utf8_unchecked-requires c =
-    let ascii = IsAscii-encode_with lower_digits c.args.bytes.now IsAscii-lower_digits in
-    let long : length c.encode_into.new.text ≡ c.in_ok-text.text.len = omega arith in
-    let text = IsUtf8-from_ascii _ (rw (← c.encode_into.ensures) at ascii) in
-    rw (take_at c.encode_into.new.text (drop (length c.encode_into.new.text) c.in_ok-text.text.items) c.in_ok-text.text.len long) text
+    let digits = IsAscii-encode_with lower_digits c.args.bytes.now IsAscii-lower_digits in
+    let alone : c.encode_onto.new.text.items ≡ encode_lower c.args.bytes.now =
+    c.in_ok-encode_onto.ensures.ok ∙ ap (λ l. l ++ encode_lower c.args.bytes.now) c.new-text.ensures.items in
+    IsUtf8-from_ascii _ (subst IsAscii (sym alone) digits)
