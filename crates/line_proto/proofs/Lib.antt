@@ -3,3 +3,4 @@ pub mod Falling
 pub mod Words
 pub mod Spelling
 pub mod Cutting
+pub mod Printing

@@ -1,63 +1,88 @@
-// A reply to a line.
-ghost use Rattle.std.specs.Prelude.{◌≡◌, ◌≢◌, ◌++◌, ◌∷◌, [], OnOk, OnErr, IfOk, codes, decimal};
-ghost use Rattle.std.specs.String.{string_bytes};
-ghost use Rattle.line_proto.specs.Lines.{reply_text, fault_words, data_text, words_line};
+// A reply to a line. Each of these writes behind what is in `out`. An `Err` is want of memory; what was in `out` stays, and
+// some of the text may stand behind it.
+ghost use Rattle.std.specs.Prelude.{◌≡◌, ◌≢◌, ◌++◌, ◌∷◌, [], OnOk, OnErr, decimal, map};
+ghost use Rattle.std.specs.List.{flat_map};
+ghost use Rattle.line_proto.specs.Lines.{reply_text, data_text, words_line};
+ghost use Rattle.line_proto.specs.Printing.{GoesOn, spaced};
 
 use crate::{LineFault, NoMemory, Reply};
+use itoa::Buffer;
 use rec_format::{Bytes, Counts, Stamp};
 use std::alloc::Global;
 
-/// At `Ok` the hex digits of the bytes in lower case, and a dash where there are no bytes. An `Err` is want of
-/// memory.
-pub fn data_of_bytes(alloc: Global, bytes: &[u8]) -> Result<String, NoMemory>
-    ensures { IfOk result (λ text. string_bytes text ≡ data_text bytes.now) }
+// How many bytes the line of a version has besides its digits, or more.
+const VALUE_ROOM: usize = 64;
+
+fn put(text: &[u8], out: &mut Vec<u8>) -> Result<(), NoMemory>
+    ensures ok { OnOk result (out.new.items ≡ out.old.items ++ text.now) }
+    ensures kept { GoesOn out.old.items out.new.items }
+{
+    out.extend_from_slice(text)
+}
+
+// A space and the number.
+fn put_number(number: u64, out: &mut Vec<u8>) -> Result<(), NoMemory>
+    ensures ok { OnOk result (out.new.items ≡ out.old.items ++ spaced number) }
+    ensures kept { GoesOn out.old.items out.new.items }
+{
+    let mut buffer = Buffer::new();
+    put(b" ", out)?;
+    put(buffer.format(number).as_bytes(), out)
+}
+
+fn put_numbers(numbers: &[u64], out: &mut Vec<u8>) -> Result<(), NoMemory>
+    ensures ok { OnOk result (out.new.items ≡ out.old.items ++ flat_map spaced numbers.now) }
+    ensures kept { GoesOn out.old.items out.new.items }
+{
+    for number in numbers {
+        put_number(*number, out)?;
+    }
+    Ok(())
+}
+
+fn put_words(word: &[u8], numbers: &[u64], out: &mut Vec<u8>) -> Result<(), NoMemory>
+    ensures ok { OnOk result (out.new.items ≡ out.old.items ++ words_line (word.now ∷ map decimal numbers.now)) }
+    ensures kept { GoesOn out.old.items out.new.items }
+{
+    put(word, out)?;
+    put_numbers(numbers, out)
+}
+
+fn put_line(word: &[u8], numbers: &[u64], out: &mut Vec<u8>) -> Result<(), NoMemory>
+    ensures ok { OnOk result (out.new.items ≡ out.old.items ++ (words_line (word.now ∷ map decimal numbers.now) ++ 10 ∷ [])) }
+    ensures kept { GoesOn out.old.items out.new.items }
+{
+    put_words(word, numbers, out)?;
+    put(b"\n", out)
+}
+
+// The hex digits of the bytes in lower case, and a dash where there are no bytes.
+fn put_data(bytes: &[u8], out: &mut Vec<u8>) -> Result<(), NoMemory>
+    ensures ok { OnOk result (out.new.items ≡ out.old.items ++ data_text bytes.now) }
+    ensures kept { GoesOn out.old.items out.new.items }
 {
     if bytes.is_empty() {
-        String::from_str(alloc, "-")
-    } else {
-        hex_lanes::encode(alloc, bytes)
+        return put(b"-", out);
     }
+    hex_lanes::encode_onto(bytes, out)
 }
 
-fn written_text(alloc: Global, stamp: Stamp) -> Result<String, NoMemory>
-    ensures { IfOk result (λ text. string_bytes text ≡ reply_text (Reply.Written stamp)) }
+// Room for the whole line is taken first, so that its digits stay where they are made.
+fn put_value(stamp: Stamp, void: u64, payload: &Bytes, out: &mut Vec<u8>) -> Result<(), NoMemory>
+    ensures ok { OnOk result (out.new.items ≡ out.old.items ++ reply_text (Reply.Val stamp void payload.now)) }
+    ensures kept { GoesOn out.old.items out.new.items }
 {
-    let generation = stamp.gen_;
-    let lut = stamp.lut;
-    Ok(format!(in alloc; "ok {generation} {lut}\n")?)
+    let bytes = payload.as_slice();
+    out.reserve(bytes.len().saturating_mul(2).saturating_add(VALUE_ROOM))?;
+    put_words(b"val", &[u64::from(stamp.gen_), stamp.lut, void], out)?;
+    put(b" ", out)?;
+    put_data(bytes, out)?;
+    put(b"\n", out)
 }
 
-fn number_text(alloc: Global, n: u64) -> Result<String, NoMemory>
-    ensures { IfOk result (λ text. string_bytes text ≡ words_line (codes "ok" ∷ decimal n ∷ []) ++ 10 ∷ []) }
-{
-    Ok(format!(in alloc; "ok {n}\n")?)
-}
-
-fn numbers_text(alloc: Global, first: u64, second: u64) -> Result<String, NoMemory>
-    ensures { IfOk result (λ text. string_bytes text ≡ words_line (codes "ok" ∷ decimal first ∷ decimal second ∷ []) ++ 10 ∷ []) }
-{
-    Ok(format!(in alloc; "ok {first} {second}\n")?)
-}
-
-fn value_text(alloc: Global, stamp: Stamp, void: u64, payload: &Bytes) -> Result<String, NoMemory>
-    ensures { IfOk result (λ text. string_bytes text ≡ reply_text (Reply.Val stamp void payload.now)) }
-{
-    let generation = stamp.gen_;
-    let lut = stamp.lut;
-    let data = data_of_bytes(alloc, payload.as_slice())?;
-    Ok(format!(in alloc; "val {generation} {lut} {void} {data}\n")?)
-}
-
-fn meta_text(alloc: Global, stamp: Stamp, void: u64, units: u32) -> Result<String, NoMemory>
-    ensures { IfOk result (λ text. string_bytes text ≡ reply_text (Reply.MetaOf stamp void units)) }
-{
-    let generation = stamp.gen_;
-    let lut = stamp.lut;
-    Ok(format!(in alloc; "meta {generation} {lut} {void} {units}\n")?)
-}
-
-fn counts_text(alloc: Global, counts: Counts) -> Result<String, NoMemory>
-    ensures { IfOk result (λ text. string_bytes text ≡ reply_text (Reply.StatOf counts)) }
+fn put_counts(counts: Counts, out: &mut Vec<u8>) -> Result<(), NoMemory>
+    ensures ok { OnOk result (out.new.items ≡ out.old.items ++ reply_text (Reply.StatOf counts)) }
+    ensures kept { GoesOn out.old.items out.new.items }
 {
     let Counts {
         records,
@@ -68,53 +93,61 @@ fn counts_text(alloc: Global, counts: Counts) -> Result<String, NoMemory>
         queued,
         held,
     } = counts;
-    Ok(format!(in alloc;
-        "stat {records} {tombstones} {covered} {free} {pending} {queued} {held}\n"
-    )?)
+    put_line(
+        b"stat",
+        &[records, tombstones, covered, free, pending, queued, held],
+        out,
+    )
 }
 
-fn fault_text(alloc: Global, fault: LineFault) -> Result<String, NoMemory>
-    ensures { IfOk result (λ text. string_bytes text ≡ reply_text (Reply.Fail fault)) }
+fn put_fault(fault: LineFault, out: &mut Vec<u8>) -> Result<(), NoMemory>
+    ensures ok { OnOk result (out.new.items ≡ out.old.items ++ reply_text (Reply.Fail fault)) }
+    ensures kept { GoesOn out.old.items out.new.items }
 {
     match fault {
-        LineFault::Line => String::from_str(alloc, "err line\n"),
-        LineFault::Mode => String::from_str(alloc, "err mode\n"),
-        LineFault::Big => String::from_str(alloc, "err big\n"),
-        LineFault::Gen(seen) => Ok(format!(in alloc; "err gen {seen}\n")?),
-        LineFault::Spent => String::from_str(alloc, "err spent\n"),
-        LineFault::Load => String::from_str(alloc, "err load\n"),
-        LineFault::Space => String::from_str(alloc, "err space\n"),
-        LineFault::Memory => String::from_str(alloc, "err memory\n"),
-        LineFault::Fault => String::from_str(alloc, "err fault\n"),
-        LineFault::Damaged => String::from_str(alloc, "err damaged\n"),
+        LineFault::Line => put(b"err line\n", out),
+        LineFault::Mode => put(b"err mode\n", out),
+        LineFault::Big => put(b"err big\n", out),
+        LineFault::Gen(seen) => put_line(b"err gen", &[u64::from(seen)], out),
+        LineFault::Spent => put(b"err spent\n", out),
+        LineFault::Load => put(b"err load\n", out),
+        LineFault::Space => put(b"err space\n", out),
+        LineFault::Memory => put(b"err memory\n", out),
+        LineFault::Fault => put(b"err fault\n", out),
+        LineFault::Damaged => put(b"err damaged\n", out),
     }
 }
 
-fn text_of(alloc: Global, reply: &Reply) -> Result<String, NoMemory>
+fn put_reply(reply: &Reply, out: &mut Vec<u8>) -> Result<(), NoMemory>
     requires { reply.now ≢ Reply.Halted }
-    ensures { IfOk result (λ text. string_bytes text ≡ reply_text reply.now) }
+    ensures ok { OnOk result (out.new.items ≡ out.old.items ++ reply_text reply.now) }
+    ensures kept { GoesOn out.old.items out.new.items }
 {
     match reply {
-        Reply::Written { stamp } => written_text(alloc, *stamp),
-        Reply::Flushed { buffers } => number_text(alloc, *buffers),
-        Reply::Defragged { moved, vacated } => numbers_text(alloc, *moved, *vacated),
-        Reply::Expired { removed } => number_text(alloc, *removed),
-        Reply::Raided { removed, cleared } => numbers_text(alloc, *removed, *cleared),
+        Reply::Written { stamp } => put_line(b"ok", &[u64::from(stamp.gen_), stamp.lut], out),
+        Reply::Flushed { buffers } => put_line(b"ok", &[*buffers], out),
+        Reply::Defragged { moved, vacated } => put_line(b"ok", &[*moved, *vacated], out),
+        Reply::Expired { removed } => put_line(b"ok", &[*removed], out),
+        Reply::Raided { removed, cleared } => put_line(b"ok", &[*removed, *cleared], out),
         Reply::Restarted {
             records,
             tombstones,
-        } => numbers_text(alloc, *records, *tombstones),
+        } => put_line(b"ok", &[*records, *tombstones], out),
         Reply::Val {
             stamp,
             void,
             payload,
-        } => value_text(alloc, *stamp, *void, payload),
-        Reply::MetaOf { stamp, void, units } => meta_text(alloc, *stamp, *void, *units),
-        Reply::Nothing => String::from_str(alloc, "none\n"),
-        Reply::Gone => String::from_str(alloc, "gone\n"),
-        Reply::StatOf(counts) => counts_text(alloc, *counts),
-        Reply::Bye => String::from_str(alloc, "bye\n"),
-        Reply::Fail(fault) => fault_text(alloc, *fault),
+        } => put_value(*stamp, *void, payload, out),
+        Reply::MetaOf { stamp, void, units } => put_line(
+            b"meta",
+            &[u64::from(stamp.gen_), stamp.lut, *void, u64::from(*units)],
+            out,
+        ),
+        Reply::Nothing => put(b"none\n", out),
+        Reply::Gone => put(b"gone\n", out),
+        Reply::StatOf(counts) => put_counts(*counts, out),
+        Reply::Bye => put(b"bye\n", out),
+        Reply::Fail(fault) => put_fault(*fault, out),
         Reply::Halted => unreachable!(),
     }
 }
@@ -126,6 +159,10 @@ pub fn print_reply(alloc: Global, reply: &Reply, out: &mut Vec<u8>) -> Result<()
     ensures ok { OnOk result (out.new.items ≡ out.old.items ++ reply_text reply.now) }
     ensures err { OnErr result (out.new.items ≡ out.old.items) }
 {
-    let text = text_of(alloc, reply)?;
-    out.extend_from_slice(text.as_bytes())
+    let before = out.len();
+    if let Err(lack) = put_reply(reply, out) {
+        out.truncate(before);
+        return Err(lack);
+    }
+    Ok(())
 }

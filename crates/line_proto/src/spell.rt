@@ -1,9 +1,8 @@
 // A command to its line.
 ghost use Rattle.std.specs.Prelude.{◌≡◌, ◌++◌, ◌∷◌, [], OnOk, OnErr, IfOk};
 ghost use Rattle.std.specs.String.{string_bytes};
-ghost use Rattle.line_proto.specs.Lines.{IsCommandLine, HasLine, digest_text, expect_text, words_line, command_line, command_text};
+ghost use Rattle.line_proto.specs.Lines.{IsCommandLine, HasLine, digest_text, data_text, expect_text, words_line, command_line, command_text};
 
-use crate::print::data_of_bytes;
 use crate::{Command, NoMemory};
 use rec_format::{Bytes, Digest};
 use std::alloc::Global;
@@ -15,6 +14,17 @@ fn text_of_expect(alloc: Global, expect: Option<u16>) -> Result<String, NoMemory
     match expect {
         None => String::from_str(alloc, "*"),
         Some(generation) => Ok(format!(in alloc; "{generation}")?),
+    }
+}
+
+// At `Ok` the hex digits of the bytes in lower case, and a dash where there are no bytes. An `Err` is want of memory.
+fn data_of_bytes(alloc: Global, bytes: &[u8]) -> Result<String, NoMemory>
+    ensures { IfOk result (λ text. string_bytes text ≡ data_text bytes.now) }
+{
+    if bytes.is_empty() {
+        String::from_str(alloc, "-")
+    } else {
+        hex_lanes::encode(alloc, bytes)
     }
 }
 
