@@ -70,9 +70,11 @@ fn serve_rest<T: Store, L: Sink, C: Clock>(
     store: &mut T,
     link: &mut L,
     clock: &mut C,
+    replies: &mut Replies,
     answered: u64,
 ) -> Ended
-    requires { answered + 1 < 2 ^ 64 }
+    requires fits { answered + 1 < 2 ^ 64 }
+    requires none_waits { replies.old ≡ [] }
     ensures ends { (text : List ℕ) × (output : List ℕ) × (ended : Ended)
         × EndsAtRest T.acts T.tends answered store.old (C.times clock.old) text store.new (C.times clock.new) ended
         × Extends (L.written link.old) (L.written link.new) output
@@ -84,8 +86,7 @@ fn serve_rest<T: Store, L: Sink, C: Clock>(
     ensures taken { L.taken link.new ≡ L.taken link.old }
     ensures source_faults { L.source_faults link.new ≡ L.source_faults link.old }
 {
-    let mut replies = Replies::new(alloc);
-    let stopped = turn(alloc, store, clock, &LineEnd::TooLong, &mut replies);
+    let stopped = turn(alloc, store, clock, &LineEnd::TooLong, replies);
     if replies.hand_on(link).is_err() {
         return Ended::SinkFault;
     }
@@ -120,6 +121,7 @@ fn serve<T: Store, L: Source + Sink, C: Clock>(
     ensures sink_later { L.sink_faults link.old ≤ L.sink_faults link.new }
 {
     let mut lines = Lines::new(alloc);
+    let mut replies = Replies::new(alloc);
     let mut answered = 0;
     let mut taken = 0;
     while taken < limit {
@@ -134,10 +136,18 @@ fn serve<T: Store, L: Source + Sink, C: Clock>(
             if rest == 0 {
                 return Ended::Finish { lines: answered };
             }
-            return serve_rest(alloc, store, link, clock, answered);
+            return serve_rest(alloc, store, link, clock, &mut replies, answered);
         }
         taken += count as u64;
-        match serve_ready(alloc, store, link, clock, &mut lines, &mut answered) {
+        match serve_ready(
+            alloc,
+            store,
+            link,
+            clock,
+            &mut lines,
+            &mut replies,
+            &mut answered,
+        ) {
             Ok(None) => {}
             Ok(Some(stop)) => return end_of(stop, answered),
             Err(SinkFault) => return Ended::SinkFault,

@@ -14,6 +14,9 @@ use std::marker::Model;
 // How many bytes are collected before they are handed on.
 const REPLY_ROOM: usize = 65_536;
 
+// How much room is kept for later replies. Those with payloads of at most 32,700 bytes never take more.
+const KEPT_ROOM: usize = 4 * REPLY_ROOM;
+
 /// The texts of replies, one behind the other, that are to be handed on together.
 #[derive(Drop)]
 pub struct Replies {
@@ -47,8 +50,8 @@ impl Replies {
         print_reply(alloc, reply, &mut self.text)
     }
 
-    /// At `Ok` all of the text is written and the link flushed, and collecting begins anew; where there was no text, nothing
-    /// is done. After an `Err` a front of the text may be written, and the text stays.
+    /// At `Ok` all of the text is written and the link flushed, and collecting begins anew, in the room that there is; where
+    /// there was no text, nothing is done. After an `Err` a front of the text may be written, and the text stays.
     pub fn hand_on<K: Sink>(&mut self, link: &mut K) -> Result<(), SinkFault>
         ensures bytes { Sends self.old self.new (K.written link.old) (K.written link.new) result }
         ensures handed { OnOk result (AllHandedOn (K.written link.old) (K.written link.new) (K.handed link.old) (K.handed link.new)) }
@@ -64,7 +67,7 @@ impl Replies {
             return Ok(());
         }
         send(link, &self.text)?;
-        self.text.clear();
+        empty(&mut self.text);
         Ok(())
     }
 
@@ -85,6 +88,16 @@ impl Replies {
             return Ok(());
         }
         self.hand_on(link)
+    }
+}
+
+// Lets go of the text. Its room stays, where it isn't more than is kept.
+fn empty(text: &mut Vec<u8>)
+    ensures { text.new.items ≡ [] }
+{
+    text.clear();
+    if text.capacity() > KEPT_ROOM {
+        text.shrink_to_fit();
     }
 }
 

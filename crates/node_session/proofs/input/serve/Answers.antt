@@ -22,6 +22,7 @@ loop-taken-init g c = record {
   serves = serves_none g.T.Store.acts g.T.Store.tends _ _;
   extends = extends_none _;
   stands = c.new-lines.ensures.stands;
+  none_waits = c.new-replies.ensures;
   counted = refl;
   size = refl;
   within = omega arith;
@@ -30,8 +31,8 @@ loop-taken-init g c = record {
   sink_later = omega arith;
 }
 
-pub serve_ready-requires : goal.serve_ready-requires
-serve_ready-requires g c =
+pub serve_ready-requires-clause-fits : goal.serve_ready-requires-clause-fits
+serve_ready-requires-clause-fits g c =
     let was = c.loop-taken.invariant in
     let piece = c.in-Ok.ensures.piece in
     let ready = count_ready c.take_piece.new.lines (was.rest ++ piece.0) (piece.5.2 was.rest was.stands) in
@@ -72,8 +73,8 @@ returns-then-rest-eq0-clause-run g c =
     }
 
 -- a rest is there, so one more line fits the count
-pub serve_rest-requires : goal.serve_rest-requires
-serve_rest-requires g c =
+pub serve_rest-requires-clause-fits : goal.serve_rest-requires-clause-fits
+serve_rest-requires-clause-fits g c =
     let was = c.loop-taken.invariant in
     let piece = c.in-Ok.ensures.piece in
     let none : length piece.0 ≡ 0 = omega (arith, piece.5.0) in
@@ -147,6 +148,7 @@ loop-taken-preserved g c =
       serves = on.serves;
       extends = extends_on _ _ _ was.output done.0 (extends_same _ _ _ was.output was.extends c.take_piece.ensures.written) done.2;
       stands = subst (λ k. KeepsBytes k on.rest) (sym (c.in-Ok-None.ensures.lines (ap Ok c.in-Ok-None.field-0-is))) on.stands;
+      none_waits = c.in-Ok-None.ensures.none_waits;
       counted = on.counted;
       size = omega (arith, was.size, piece.5.0, length-append was.bytes piece.0);
       within = omega (arith, c.min-room.ensures, length-take c.min-room.result c.loop-taken.buffer, piece.5.0, piece.3);

@@ -1,4 +1,4 @@
-use Rattle.std.proofs.Common.{◌≡◌, ◌≤◌, ◌-◌, ℕ, List, ◌++◌, length, map}
+use Rattle.std.proofs.Common.{◌≡◌, ◌≤◌, ◌-◌, ℕ, List, [], ◌++◌, length, map}
 use Rattle.io_traits.specs.Sink.{Extends, AllHandedOn}
 use Rattle.io_traits.specs.Source.{Shortens}
 use Rattle.line_proto.specs.Stream.{FallInto, KeepsBytes, line_end}
@@ -17,6 +17,7 @@ invariant-loop-taken g l = record {
   serves : HasTurns g.T.Store.acts g.T.Store.tends (map line_end whole) l.fn.store (g.C.Clock.times l.fn.clock) output l.store (g.C.Clock.times l.clock);
   extends : Extends (g.L.Ends.written l.fn.link) (g.L.Ends.written l.link) output;
   stands : KeepsBytes l.lines rest;
+  none_waits : l.replies ≡ [];
   counted : l.answered ≡ length whole;
   size : l.taken ≡ length bytes;
   within : l.taken ≤ l.limit;

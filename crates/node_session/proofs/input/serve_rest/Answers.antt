@@ -50,10 +50,10 @@ rest_waits acts tends answered old times first waiting new later (Some stop) don
 
 pub returns-then-is_err-clause-ends : goal.returns-then-is_err-clause-ends
 returns-then-is_err-clause-ends g c =
-    let first = c.new-replies.result in
+    let first = c.args.replies.now in
     let waits = rest_waits g.T.Store.acts g.T.Store.tends c.args.answered c.args.store.now (g.C.Clock.times c.args.clock.now) first c.turn-stopped.new.replies c.turn-stopped.new.store
     (g.C.Clock.times c.turn-stopped.new.clock) c.turn-stopped.result c.turn-stopped.ensures.done c.turn-stopped.ensures.stopped in
-    let waiting : c.turn-stopped.new.replies ≡ waits.text = waits.added ∙ ap (λ (l : List ℕ). l ++ waits.text) c.new-replies.ensures in
+    let waiting : c.turn-stopped.new.replies ≡ waits.text = waits.added ∙ ap (λ (l : List ℕ). l ++ waits.text) c.requires.none_waits in
     let sends = c.hand_on.ensures.bytes in (
       waits.text,
       sends.sent,
@@ -67,12 +67,12 @@ returns-then-is_err-clause-ends g c =
       ),
     )
 
-pub returns-clause-ends : goal.returns-clause-ends
-returns-clause-ends g c =
+pub returns-in-None-clause-ends : goal.returns-in-None-clause-ends
+returns-in-None-clause-ends g c =
     let done = c.in-None.ensures.done in
     let sends = c.hand_on.ensures.bytes in
     let none : sends.unsent ≡ [] = search rules in
-    let waiting : c.turn-stopped.new.replies ≡ reply_text done.0 = done.2 ∙ ap (λ (l : List ℕ). l ++ reply_text done.0) c.new-replies.ensures in (
+    let waiting : c.turn-stopped.new.replies ≡ reply_text done.0 = done.2 ∙ ap (λ (l : List ℕ). l ++ reply_text done.0) c.requires.none_waits in (
       reply_text done.0,
       reply_text done.0,
       Finish (c.args.answered + 1),
