@@ -1,3 +1,4 @@
 pub mod Calling
+pub mod Counting
 pub mod Doing
 pub mod Serving

@@ -1,3 +1,4 @@
 pub mod Calling
 pub mod Closing
+pub mod Manning
 pub mod Serving
