@@ -14,8 +14,8 @@ use Rattle.node_serve.specs.declared.duty.Duty.TheVariants.{Seat, Worker}
 use Rattle.node_serve.specs.Serving.{DoesDuty, EachDone, AllDone, is_seat, seat_count}
 
 module _ {D : Type 0} (does : D → D → List Ended → Type 0) where
-  -- without the first of them
-  rest_done : (old : D) (olds : List D) (new : D) (news : List D) (hows : List Ended) (served : List (List Ended))
+  -- Without the first of them.
+  pub rest_done : (old : D) (olds : List D) (new : D) (news : List D) (hows : List Ended) (served : List (List Ended))
       → EachDone does (old ∷ olds) (new ∷ news) (hows ∷ served) → EachDone does olds news served
   rest_done old olds new news hows served done = record {
     as_many = (let e = done.as_many in omega arith);
