@@ -65,72 +65,74 @@ module _ {R D C : Type 0} (serves : LiveStore D R → Times → Ended → LiveSt
   tends = λ old new. new ≡ old
 
   -- what becomes of a duty
-  abbrev pub Does : LiveDuty R D C → LiveDuty R D C → Type 0
+  abbrev pub Does : LiveDuty R D C → LiveDuty R D C → List Ended → Type 0
   Does = DoesDuty serves (Acts view) tends turns tells times
 
   -- it is done where it was
-  pub at_stays : (lives : List (Live D)) (old new : LiveDuty R D C) → Does old new → IsAt lives old → IsAt lives new
-  at_stays lives (Seat store clock) (Seat store' clock') does at =
+  pub at_stays : (lives : List (Live D)) (old new : LiveDuty R D C) (hows : List Ended) → Does old new hows → IsAt lives old → IsAt lives new
+  at_stays lives (Seat store clock) (Seat store' clock') hows does at =
       duty_keeps serves (Acts view) tends turns tells times (λ s. lives_of s ≡ lives) (λ c. Unit {0})
       (λ old command now reply new acted p. acted.lives ∙ p) (λ old new same p. ap lives_of same ∙ p) (λ old now did new turned q. q)
-      (Seat store clock) (Seat store' clock') does at
-  at_stays lives (Worker chore clock who) (Worker chore' clock' who') does at =
+      (Seat store clock) (Seat store' clock') hows does at
+  at_stays lives (Worker chore clock who) (Worker chore' clock' who') hows does at =
       let is_there : LiveChore R D → Type 0 = λ c. slice_get lives (device_of who) ≡ Some (live_at (station_of c)) in
       let kept : is_there chore' = duty_keeps serves (Acts view) tends turns tells times (λ s. Unit {0}) is_there
       (λ old command now reply new acted p. p) (λ old new same p. p)
       (λ old now did new turned q. q ∙ ap (λ (l : Live D). Some l) (sym (turn_stays view old now did new turned).live))
-      (Worker chore clock who) (Worker chore' clock' who') does at in
-      subst (λ (w : ℕ). slice_get lives (device_of w) ≡ Some (live_at (station_of chore'))) (sym does.0) kept
-  at_stays lives (Seat store clock) (Worker chore clock' who) does at = absurd does
-  at_stays lives (Worker chore clock who) (Seat store clock') does at = absurd does
+      (Worker chore clock who) (Worker chore' clock' who') hows does at in
+      subst (λ (w : ℕ). slice_get lives (device_of w) ≡ Some (live_at (station_of chore'))) (sym does.1) kept
+  at_stays lives (Seat store clock) (Worker chore clock' who) hows does at = absurd does
+  at_stays lives (Worker chore clock who) (Seat store clock') hows does at = absurd does
 
   -- with as many numbers of each device
-  pub numbers_stay : (device : ℕ) (old new : LiveDuty R D C) → Does old new → numbers_at device new ≡ numbers_at device old
-  numbers_stay device (Seat store clock) (Seat store' clock') does =
+  pub numbers_stay : (device : ℕ) (old new : LiveDuty R D C) (hows : List Ended) → Does old new hows → numbers_at device new ≡ numbers_at device old
+  numbers_stay device (Seat store clock) (Seat store' clock') hows does =
       kept_there (passes_of store) (passes_of store')
       (duty_keeps serves (Acts view) tends turns tells times (λ s. KeepNumbers (passes_of store) (passes_of s)) (λ c. Unit {0})
       (λ old command now reply new acted p. pairs_then KeepsNumbers keeps_on (passes_of store) (passes_of old) (passes_of new) p acted.numbers)
       (λ old new same p. subst (λ (s : LiveStore D R). KeepNumbers (passes_of store) (passes_of s)) (sym same) p) (λ old now did new turned q. q)
-      (Seat store clock) (Seat store' clock') does (pairs_same KeepsNumbers keeps_here (passes_of store)))
+      (Seat store clock) (Seat store' clock') hows does (pairs_same KeepsNumbers keeps_here (passes_of store)))
       device
-  numbers_stay device (Worker chore clock who) (Worker chore' clock' who') does =
+  numbers_stay device (Worker chore clock who) (Worker chore' clock' who') hows does =
       let has : LiveChore R D → Type 0 = λ c. KeepsNumbers (pass_at (station_of chore)) (pass_at (station_of c)) in
       let kept : has chore' = duty_keeps serves (Acts view) tends turns tells times (λ s. Unit {0}) has
       (λ old command now reply new acted p. p) (λ old new same p. p)
       (λ old now did new turned q. keeps_on (pass_at (station_of chore)) (pass_at (station_of old)) (pass_at (station_of new)) q (turn_stays view old now did new turned).numbers)
-      (Worker chore clock who) (Worker chore' clock' who') does (keeps_here (pass_at (station_of chore))) in
-      λ i. cond (device_of (does.0 i) == device) (kept_numbers (pass_at (station_of chore)) (pass_at (station_of chore')) kept i) 0
-  numbers_stay device (Seat store clock) (Worker chore clock' who) does = absurd does
-  numbers_stay device (Worker chore clock who) (Seat store clock') does = absurd does
+      (Worker chore clock who) (Worker chore' clock' who') hows does (keeps_here (pass_at (station_of chore))) in
+      λ i. cond (device_of (does.1 i) == device) (kept_numbers (pass_at (station_of chore)) (pass_at (station_of chore')) kept i) 0
+  numbers_stay device (Seat store clock) (Worker chore clock' who) hows does = absurd does
+  numbers_stay device (Worker chore clock who) (Seat store clock') hows does = absurd does
 
   -- All of them are at work as before: no pass number is lost.
-  pub at_work_stays : (lives : List (Live D)) (passes : List (LivePass D)) (olds news : List (LiveDuty R D C)) → EachDone Does olds news → AreAtWork lives passes olds → AreAtWork lives passes news
-  at_work_stays lives passes olds news done work = record {
-    at = all_stay Does (IsAt lives) (at_stays lives) olds news done work.at;
+  pub at_work_stays : (lives : List (Live D)) (passes : List (LivePass D)) (olds news : List (LiveDuty R D C)) (served : List (List Ended)) → EachDone Does olds news served
+      → AreAtWork lives passes olds → AreAtWork lives passes news
+  at_work_stays lives passes olds news served done work = record {
+    at = all_stay Does (IsAt lives) (at_stays lives) olds news served done work.at;
     seated = work.seated;
     counted = λ device there.
-        ap (λ (n : ℕ). numbers_there (slice_get passes device) + n) (sum_stays Does (numbers_at device) (numbers_stay device) olds news done) ∙ work.counted device there;
+        ap (λ (n : ℕ). numbers_there (slice_get passes device) + n) (sum_stays Does (numbers_at device) (numbers_stay device) olds news served done) ∙ work.counted device there;
   }
 
   -- ---- the order of the duties
 
-  stands_stay : (devices place : ℕ) (old new : LiveDuty R D C) → Does old new → StandsAt devices place old → StandsAt devices place new
-  stands_stay devices place (Seat store clock) (Seat store' clock') does stands = stands
-  stands_stay devices place (Worker chore clock who) (Worker chore' clock' who') does stands =
+  stands_stay : (devices place : ℕ) (old new : LiveDuty R D C) (hows : List Ended) → Does old new hows → StandsAt devices place old → StandsAt devices place new
+  stands_stay devices place (Seat store clock) (Seat store' clock') hows does stands = stands
+  stands_stay devices place (Worker chore clock who) (Worker chore' clock' who') hows does stands =
       let kept : place_of chore' ≡ place % 4 = duty_keeps serves (Acts view) tends turns tells times (λ s. Unit {0}) (λ c. place_of c ≡ place % 4)
       (λ old command now reply new acted p. p) (λ old new same p. p) (λ old now did new turned q. turn_place view old now did new turned ∙ q)
-      (Worker chore clock who) (Worker chore' clock' who') does stands.2 in (stands.0, does.0 ∙ stands.1, kept)
-  stands_stay devices place (Seat store clock) (Worker chore clock' who) does stands = absurd does
-  stands_stay devices place (Worker chore clock who) (Seat store clock') does stands = absurd does
+      (Worker chore clock who) (Worker chore' clock' who') hows does stands.2 in (stands.0, does.1 ∙ stands.1, kept)
+  stands_stay devices place (Seat store clock) (Worker chore clock' who) hows does stands = absurd does
+  stands_stay devices place (Worker chore clock who) (Seat store clock') hows does stands = absurd does
 
   -- Each of them stays at its place, and is what it was.
-  pub crew_stays : (devices workers seats : ℕ) (olds news : List (LiveDuty R D C)) → EachDone Does olds news → IsCrew devices workers seats olds → IsCrew devices workers seats news
-  crew_stays devices workers seats olds news done crew = record {
+  pub crew_stays : (devices workers seats : ℕ) (olds news : List (LiveDuty R D C)) (served : List (List Ended)) → EachDone Does olds news served
+      → IsCrew devices workers seats olds → IsCrew devices workers seats news
+  crew_stays devices workers seats olds news served done crew = record {
     in_order = λ place duty there.
         let below : place < length olds = (let within = slice_get_within news place duty there in let many = done.as_many in omega arith) in
         let before = crew.in_order place (slice_index_or olds place duty) (slice_get-get_or olds place duty below) in
         subst (StandsAt devices place) (get_or_from_slice_get news place duty duty there)
-        (stands_stay devices place (slice_index_or olds place duty) (slice_index_or news place duty) (done.each place duty below) before);
+        (stands_stay devices place (slice_index_or olds place duty) (slice_index_or news place duty) (slice_index_or served place []) (done.each place duty below) before);
     many = done.as_many ∙ crew.many;
-    seated = seats_stay serves (Acts view) tends turns tells times olds news done ∙ crew.seated;
+    seated = seats_stay serves (Acts view) tends turns tells times olds news served done ∙ crew.seated;
   }

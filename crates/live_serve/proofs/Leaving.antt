@@ -120,22 +120,22 @@ module _ {D : Type 0} where
 -- ---- all of it
 
 module _ {D : Type 0} (view' : D → DiskView) (Serves : List (Known D) → Times → Ended → List (Known D) → Times → Type 0) (named : List (Named D)) (times : Times) (seats : ℕ)
-    (faults later : ℕ) (ended : Bool) (SameDoor : Type 0) (closings : List (Closing D)) where
+    (faults later given after : ℕ) (ended : Bool) (SameDoor : Type 0) (closings : List (Closing D)) where
   -- the links were served, or there was no memory for that
   pub served_by : (closed : Option Closed) (lent lives : List (Live D)) (back news : List (LivePass D)) → lent ≡ lives → back ≡ news → EachPair IsUnderTable named lives → EachPair IsPassAt lent news
       → EachPair (IsClosedAt view') (known_each lives back) closings → faults ≤ later
-      → MatchOption closed SameDoor (λ why. door.IsClosed why faults later ended × SeatsServe Serves (known_each lent news) times seats)
-      → ServedBy view' Serves named times seats faults later ended SameDoor closings closed
+      → MatchOption closed SameDoor (λ why. door.IsClosed why faults later ended × SeatsServe Serves (known_each lent news) times seats given after)
+      → ServedBy view' Serves named times seats faults later given after ended SameDoor closings closed
   served_by closed lent lives back news one two under seated are_closed rose came = record {
     known = known_each lives news;
     opened = opened_so named lives news under (subst (λ (l : List (Live D)). EachPair IsPassAt l news) one seated);
     are_closed = subst (λ (l : List (LivePass D)). EachPair (IsClosedAt view') (known_each lives l) closings) two are_closed;
     rose = rose;
-    done = subst (λ (l : List (Live D)). MatchOption closed SameDoor (λ why. door.IsClosed why faults later ended × SeatsServe Serves (known_each l news) times seats)) one came;
+    done = subst (λ (l : List (Live D)). MatchOption closed SameDoor (λ why. door.IsClosed why faults later ended × SeatsServe Serves (known_each l news) times seats given after)) one came;
   }
 
   -- no device came under its table for good
   pub served_none : (shards : List (ShardView D)) → EachPair (ComesBack view') named shards → EachPair (IsFlushed view') shards closings → faults ≤ later → SameDoor
-      → ServedBy view' Serves named times seats faults later ended SameDoor closings None
+      → ServedBy view' Serves named times seats faults later given after ended SameDoor closings None
   served_none shards back flush rose same =
       record { known = known_none named; opened = opened_none named; are_closed = closed_none view' named shards closings back flush; rose = rose; done = same }

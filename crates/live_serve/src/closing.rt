@@ -10,9 +10,9 @@ ghost use Rattle.live_crew.specs.Crews.{HasAllNumbers};
 ghost use Rattle.live_serve.specs.Devices.{ComesOut, ComesOutAt, IsFlushed, IsClosedAt};
 
 use crate::tables::Tables;
-use crate::take::take_first;
 use disk_model::{Disk, DiskFault};
 use live_node::{Live, LivePass};
+use node_serve::take_first;
 use shard_core::Shard;
 
 /// A device that was served, and what its closing flush answered: how many buffers, or a fault of its disk.

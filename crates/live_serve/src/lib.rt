@@ -6,7 +6,6 @@ mod naming;
 mod opening;
 mod serving;
 mod tables;
-mod take;
 
 pub use closing::{Closing, close_all, stop_closed};
 pub use naming::name_each;

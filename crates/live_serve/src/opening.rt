@@ -9,9 +9,9 @@ ghost use Rattle.live_serve.specs.Devices.{AreOpened, ComesBack, ComesOutAt, Sta
 
 use crate::closing::{Closing, take_out};
 use crate::tables::Tables;
-use crate::take::{put_behind, take_first};
 use disk_model::Disk;
 use live_node::{DeviceState, Live, LivePass};
+use node_serve::take_first;
 use rec_format::NoMemory;
 use shard_core::Shard;
 use std::alloc::Global;
@@ -73,6 +73,18 @@ fn open_each<D: Disk>(
         }
     }
     Ok(())
+}
+
+// Puts the elements of a list behind those of another, in order.
+fn put_behind<T>(list: &mut Vec<T>, rest: Vec<T>)
+    requires room { vec_len list.old + vec_len rest ≤ vec_capacity list.old }
+    ensures behind { list.new.items ≡ list.old.items ++ rest.items }
+{
+    let mut rest = rest;
+    while let Some(first) = take_first(&mut rest) {
+        list.push_reserved(first);
+    }
+    rest.destroy_empty();
 }
 
 // All devices come back, in order: those that had come under their tables, out of these again, then the one at which it stopped, and the rest.

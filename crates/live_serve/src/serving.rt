@@ -1,5 +1,5 @@
 // How the devices of a node are served by many threads.
-ghost use Rattle.std.specs.Prelude.{◌≡◌, ◌≤◌, [], ◌^◌, All, MatchOption, length, vec_len, vec_capacity};
+ghost use Rattle.std.specs.Prelude.{◌≡◌, ◌≤◌, [], ◌^◌, All, MatchOption, vec_len, vec_capacity};
 ghost use Rattle.live_node.specs.Lives.{IsPassAt};
 ghost use Rattle.live_store.specs.Pairs.{EachPair};
 ghost use Rattle.live_store.specs.Known.{known_each};
@@ -9,7 +9,7 @@ ghost use Rattle.node_serve.specs.Serving as many;
 ghost use Rattle.node_serve.specs.Serving.{seat_count};
 ghost use Rattle.live_crew.specs.Crews.{AreAtWork, AreOfNode, HasAllNumbers};
 ghost use Rattle.live_crew.specs.Dealing.{CanBeDealt};
-ghost use Rattle.live_serve.specs.Crew.{HasServed};
+ghost use Rattle.live_serve.specs.Crew.{HaveServed};
 ghost use Rattle.live_serve.specs.Devices.{AreOfOneNode, StandsAsNoted, named_each};
 ghost use Rattle.live_serve.specs.Serving.{SeatsServe, ServedBy, ServesLink};
 
@@ -63,14 +63,11 @@ fn work_through<
     ensures later { G.faults door ≤ G.faults result.0 }
     ensures came { MatchOption result.1 (result.0 ≡ door)
         (λ why. IsClosed why (G.faults door) (G.faults result.0) (G.ended result.0) × (seat_count duties.new.items ≡ seats)
-        × All (HasServed (many.ServesLink (Acts D.view) (λ old new. new ≡ old) G.Link.taken G.Link.left G.Link.written G.Link.handed G.Link.source_faults G.Link.sink_faults (2 ^ 40))
-        lives.now (C.times clock.now)) duties.new.items) }
+        × HaveServed (many.ServesLink (Acts D.view) (λ old new. new ≡ old) (G.may_give door) G.Link.taken G.Link.left G.Link.written G.Link.handed G.Link.source_faults
+        G.Link.sink_faults (2 ^ 40)) lives.now (C.times clock.now) (G.given door) (G.given result.0) duties.new.items) }
 {
     match deal(alloc, rt, lives, passes, seats, clock, duties) {
-        Ok(()) => {
-            let (door, closed) = serve(rt, alloc, door, nudge, duties);
-            (door, Some(closed))
-        }
+        Ok(()) => serve(rt, alloc, door, nudge, duties),
         Err(_) => (door, None),
     }
 }
@@ -100,8 +97,8 @@ fn serve_door<
     ensures later { G.faults door ≤ G.faults result.0 }
     ensures came { MatchOption result.1 (result.0 ≡ door)
         (λ why. IsClosed why (G.faults door) (G.faults result.0) (G.ended result.0)
-        × SeatsServe (ServesLink D.view G.Link.taken G.Link.left G.Link.written G.Link.handed G.Link.source_faults G.Link.sink_faults)
-        (known_each lives.now passes.new) (C.times clock.now) seats) }
+        × SeatsServe (ServesLink D.view (G.may_give door) G.Link.taken G.Link.left G.Link.written G.Link.handed G.Link.source_faults G.Link.sink_faults)
+        (known_each lives.now passes.new) (C.times clock.now) seats (G.given door) (G.given result.0)) }
 {
     let mut duties = Vec::new(alloc);
     let came = work_through(
@@ -142,9 +139,9 @@ pub fn serve_shards<
     requires stands { EachPair StandsAsNoted shards.items states.items }
     requires none { closings.items ≡ [] }
     requires room { vec_len shards ≤ vec_capacity closings }
-    ensures { ServedBy D.view (ServesLink D.view G.Link.taken G.Link.left G.Link.written G.Link.handed G.Link.source_faults G.Link.sink_faults)
-        (named_each shards.items states.items) (C.times clock.now) seats (G.faults door) (G.faults result.door) (G.ended result.door) (result.door ≡ door)
-        result.closings.items result.closed }
+    ensures { ServedBy D.view (ServesLink D.view (G.may_give door) G.Link.taken G.Link.left G.Link.written G.Link.handed G.Link.source_faults G.Link.sink_faults)
+        (named_each shards.items states.items) (C.times clock.now) seats (G.faults door) (G.faults result.door) (G.given door) (G.given result.door) (G.ended result.door)
+        (result.door ≡ door) result.closings.items result.closed }
 {
     match open_all(alloc, shards, states, closings) {
         Ok(mut tables) => {

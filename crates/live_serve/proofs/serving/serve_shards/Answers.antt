@@ -44,11 +44,11 @@ returns-in-Ok g c =
     let seated = subst (λ (l : List (Live g.row.D.Denot)). EachPair IsPassAt l c.serve_door-door.new.passes) c.deref.ensures.value c.serve_door-door.ensures.seated in
     let many = as_many c.in-Ok.tables.lives.items c.in-Ok.tables.passes.items c.serve_door-door.new.passes c.in-Ok.ensures.ok.seated seated in
     let same = whole c.in-Ok.tables.passes.len c.serve_door-door.new.passes c.in-Ok.tables.passes.items c.in-Ok.tables.passes.ok.0 many in
-    served_by g.D.Disk.view _ (named_each c.args.shards.items c.args.states.items) (g.C.Clock.times c.args.clock.now) c.args.seats _ _ _ _ c.close_all.result.items c.serve_door-door.result.1
+    served_by g.D.Disk.view _ (named_each c.args.shards.items c.args.states.items) (g.C.Clock.times c.args.clock.now) c.args.seats _ _ _ _ _ _ c.close_all.result.items c.serve_door-door.result.1
     c.deref.result.now c.in-Ok.tables.lives.items _ c.serve_door-door.new.passes c.deref.ensures.value same c.in-Ok.ensures.ok.under c.serve_door-door.ensures.seated c.close_all.ensures
     c.serve_door-door.ensures.later c.serve_door-door.ensures.came
 
 pub returns-in-Err : goal.returns-in-Err
 returns-in-Err g c =
-    served_none g.D.Disk.view _ (named_each c.args.shards.items c.args.states.items) (g.C.Clock.times c.args.clock.now) c.args.seats _ _ _ _ c.flush_all.result.items c.in-Err.back.shards.items
+    served_none g.D.Disk.view _ (named_each c.args.shards.items c.args.states.items) (g.C.Clock.times c.args.clock.now) c.args.seats _ _ _ _ _ _ c.flush_all.result.items c.in-Err.back.shards.items
     c.in-Err.ensures.err c.flush_all.ensures (le_refl (g.G.Door.faults c.args.door)) (λ i. c.args.door)
