@@ -1,7 +1,6 @@
 -- What became of devices that were served, by how they came under their tables, and by their closings.
-use Rattle.std.proofs.Common.{◌≡◌, ℕ, zero, suc, ◌+◌, ◌<◌, ◌≤◌, Bool, List, [], ◌∷◌, length, map, slice_index_or, refl, sym, ap, subst, ◌∙◌, arith}
+use Rattle.std.proofs.Common.{◌≡◌, ℕ, zero, suc, ◌<◌, ◌≤◌, Bool, List, [], ◌∷◌, length, map, slice_index_or, refl, sym, ap, subst, ◌∙◌, arith}
 use Rattle.std.specs.Prelude.{Option, Some, None, MatchOption, slice_get}
-use Rattle.std.specs.List.{All}
 use Rattle.disk_model.specs.Disk.{DiskView}
 use Rattle.model_device.specs.Device.{State}
 use Rattle.shard_core.specs.View.{ShardView}
@@ -10,20 +9,18 @@ use Rattle.node_session.specs.Turns.{Times}
 use Rattle.node_serve.specs.declared.closed.Closed.{Closed}
 use Rattle.node_serve.specs.Closing as door
 use Rattle.turn_table.specs.declared.noted.Noted.{Noted}
-use Rattle.turn_table.specs.declared.rule.View.{View}
-use Rattle.turn_table.specs.Rule.{all_numbers, newcomer}
-use Rattle.turn_table.specs.Passes.{view, own_count, joined_count}
+use Rattle.turn_table.specs.Rule.{newcomer}
 use Rattle.live_node.specs.declared.live.Live.{Live}
 use Rattle.live_node.specs.Opening.{Opening, opened}
 use Rattle.live_node.specs.Calls.{LiveView}
 use Rattle.live_node.specs.Lives.{LivePass, IsPassAt, opening_at}
 use Rattle.live_store.specs.Pairs.{EachPair}
-use Rattle.live_store.specs.Known.{Known, known_each, EachLive, IsDevice}
+use Rattle.live_store.specs.Known.{Known, known_each}
 use Rattle.live_store.proofs.Pairs.{pairs_length}
 use Rattle.live_crew.specs.Crews.{AreOfNode}
 use Rattle.live_crew.specs.Dealing.{CanBeDealt}
 use Rattle.live_serve.specs.declared.closing.Closing.{Closing}
-use Rattle.live_serve.specs.Devices.{Named, named_each, opening_for, StandsAsNoted, AreOfOneNode, IsUnderTable, IsFirstPass, ComesBack, IsFlushed, IsClosedAt}
+use Rattle.live_serve.specs.Devices.{Named, named_each, opening_for, AreOfOneNode, IsUnderTable, IsFirstPass, ComesBack, IsFlushed, IsClosedAt}
 use Rattle.live_serve.specs.Serving.{openings_of, SeatsServe, ServedBy}
 
 -- ---- devices under their tables

@@ -3,7 +3,6 @@ use Rattle.std.proofs.Common.{◌≡◌, ℕ, ◌+◌, ◌≤◌, ◌^◌, Bool,
 use Rattle.std.specs.Prelude.{MatchOption}
 use Rattle.std.specs.List.{All}
 use Rattle.std.proofs.lemmas.List.Sums.{sum_by-cons}
-use mathlib.Core.List.{IsPrefix}
 use Rattle.disk_model.specs.Disk.{DiskView}
 use Rattle.node_session.specs.declared.ended.Ended.{Ended}
 use Rattle.node_session.specs.Turns.{Times}
@@ -13,8 +12,7 @@ use Rattle.node_serve.specs.Closing.{IsClosed}
 use Rattle.node_serve.specs.Serving as many
 use Rattle.node_serve.specs.Serving.{is_seat, links_served, seat_count}
 use Rattle.live_node.specs.declared.live.Live.{Live}
-use Rattle.live_node.specs.Opening.{Opening}
-use Rattle.live_node.specs.Lives.{LivePass, IsPassAt, opening_at}
+use Rattle.live_node.specs.Lives.{LivePass, IsPassAt}
 use Rattle.live_store.specs.declared.store.LiveStore.{LiveStore}
 use Rattle.live_store.specs.Pairs.{EachPair}
 use Rattle.live_store.specs.Known.{Known, known_each}

@@ -1,6 +1,5 @@
 -- Crate live_serve. What a crew over the devices of a node has done.
 use Rattle.std.specs.Prelude.{◌≡◌, ℕ, ◌+◌, ◌≤◌, List, []}
-use Rattle.disk_model.specs.Disk.{DiskView}
 use Rattle.node_session.specs.declared.ended.Ended.{Ended}
 use Rattle.node_session.specs.Turns.{Times}
 use Rattle.node_serve.specs.declared.duty.Duty.TheVariants.{Seat, Worker}

@@ -1,4 +1,4 @@
-use Rattle.std.proofs.Common.{◌≡◌, List, length, sym, ap, subst, ◌∙◌}
+use Rattle.std.proofs.Common.{List, sym, subst}
 use Rattle.std.proofs.Math.Nat.{le_refl}
 use Rattle.std.specs.List.{All}
 use Rattle.live_node.specs.declared.live.Live.{Live}
@@ -10,7 +10,6 @@ use Rattle.live_serve.specs.Devices.{named_each}
 use Rattle.live_serve.proofs.Crewing.{whole}
 use Rattle.live_serve.proofs.Entering.{opened_count}
 use Rattle.live_serve.proofs.Leaving.{of_node, can_deal, as_many, served_by, served_none}
-use Rattle.live_serve.proofs.serving.serve_shards.Given.{Over}
 use Rattle.live_serve.proofs.serving.serve_shards.Goals as goal
 
 pub serve_door-door-requires-clause-devices : goal.serve_door-door-requires-clause-devices
