@@ -1,23 +1,20 @@
 -- What is promised of one device holds behind its start, its list of events and its closing flush.
-use Rattle.std.proofs.Common.{◌≡◌, ◌≢◌, ◌⊎◌, inl, inr, ℕ, ◌+◌, ◌<◌, ◌≤◌, Bool, true, false, List, [], ◌∷◌, ◌++◌, map, refl, sym, ap, subst, ◌∙◌, arith}
+use Rattle.std.proofs.Common.{◌≡◌, ◌≢◌, inl, inr, ℕ, ◌≤◌, Bool, true, false, List, [], ◌∷◌, ◌++◌, map, refl, sym, ap, subst, ◌∙◌, arith}
 use Rattle.std.specs.Prelude.{Result, Ok, Err, OnOk, OnErr}
 use Rattle.model_faults.specs.Counts.{Rose}
-use Rattle.disk_model.specs.Disk.{DiskView, IsDisk, IsHonest, IsOnly, meanwhile}
+use Rattle.disk_model.specs.Disk.{DiskView, IsHonest, IsOnly}
 use Rattle.disk_model.specs.Runs.{OneOf, Leaves, leaves_then}
 use Rattle.disk_model.specs.declared.disk.DiskFault.{DiskFault}
 use Rattle.model_device.specs.Book.{Setup}
 use Rattle.model_device.specs.Device.{State}
 use Rattle.model_device.specs.Steps.{Step, after_steps}
-use Rattle.model_device.specs.Events.{Event, Call, Answer, flush_call, refused, disk_fault, after_event, after_events, states_of}
+use Rattle.model_device.specs.Events.{Event, Call, refused, disk_fault, after_event, after_events, states_of}
 use Rattle.model_device.specs.Legal.{Allowed, FlushEnds, Follows, IsLegal, last_faults, seal_all, flush_all}
 use Rattle.law_start.specs.Sound.{IsSound}
-use Rattle.law_start.specs.Start.{start_state}
 use Rattle.law_start.specs.Surviving.{Survives}
 use Rattle.law_images.proofs.Held.{held_survives}
-use Rattle.block_format.specs.Layout.{Body}
 use Rattle.cold_scan.specs.declared.header.Asked.{Asked}
 use Rattle.cold_scan.specs.Starting.{Passes}
-use Rattle.cold_scan.specs.Found.{found_state}
 use Rattle.write_buffer.specs.Buffers.{BufferState}
 use Rattle.block_shelf.specs.Standing.{book_buffer}
 use Rattle.block_shelf.specs.View.{ShelfView, records_of, gate_at}
@@ -25,7 +22,7 @@ use Rattle.law_steps.specs.Standing.{ShelfIsSafe}
 use Rattle.shard_core.proofs.Events.{of_first}
 use Rattle.shard_core.specs.Calls.{flush_answer}
 use Rattle.shard_core.specs.declared.settings.Settings.{Settings}
-use Rattle.shard_core.specs.View.{ShardView, setup_for, setup_of}
+use Rattle.shard_core.specs.View.{ShardView, setup_for}
 use Rattle.model_node.specs.declared.run_end.RunEnd.{RunEnd}
 use Rattle.model_node.specs.declared.run_end.RunEnd.TheVariants as end
 use Rattle.core_run.specs.Views.{asked}

@@ -1,12 +1,10 @@
 -- For each device that was started there is a state that may be named.
-use Rattle.std.proofs.Common.{◌≡◌, ℕ, ◌+◌, Bool, true, false, List, [], ◌∷◌, length, refl, sym, ap, subst, ◌∙◌}
+use Rattle.std.proofs.Common.{◌≡◌, ℕ, ◌+◌, Bool, true, false, List, [], ◌∷◌, length, refl, sym, ap, subst}
 use Rattle.std.specs.Prelude.{IsTrue}
 use Rattle.std.specs.List.{AllByRecursion}
 use Rattle.std.proofs.lemmas.List.{length-map}
 use Rattle.disk_model.specs.Disk.{DiskView, IsHonest}
 use Rattle.model_device.specs.Book.{Setup}
-use Rattle.model_device.specs.Device.{State}
-use Rattle.block_format.specs.declared.geometry.Geometry.{Geometry}
 use Rattle.block_format.specs.Layout.{Body}
 use Rattle.law_start.specs.Start.{start_state}
 use Rattle.law_start.specs.Sound.{IsSound}
@@ -19,7 +17,7 @@ use Rattle.core_run.specs.Views.{asked}
 use Rattle.core_run.specs.Starts.{Started, StartsEach}
 use Rattle.law_run.specs.Promises.{HonestEach, OnlyEach, SoundEach, AreNumbered, PassEach, AreReady, disks_between, reads_of, setups_for}
 use Rattle.law_run.proofs.Starting.{geometries_of, tells_at, started_numbered, started_passes}
-use Rattle.live_serve.specs.Naming.{place_of, HasName, MayBeNamed}
+use Rattle.live_serve.specs.Naming.{place_of, HasName}
 
 none_there : {A : Type 0} (x : A) (xs : List A) → x ∷ xs ≡ [] → ⊥
 none_there x xs is = cc

@@ -1,12 +1,9 @@
 -- What a server promises holds behind the start, the service and the closing of its devices.
-use Rattle.std.proofs.Common.{◌≡◌, ◌⊎◌, inl, inr, ℕ, suc, ◌+◌, ◌<◌, ◌≤◌, Bool, true, false, List, [], ◌∷◌, length, map, refl, sym, ap, subst, ◌∙◌, arith}
+use Rattle.std.proofs.Common.{◌≡◌, ℕ, suc, ◌+◌, ◌<◌, ◌≤◌, Bool, true, List, [], ◌∷◌, length, map, refl, sym, ap, subst, ◌∙◌, arith}
 use Rattle.std.specs.Prelude.{Option, Some, None, IfSome, Result, Ok, Err, is_err, if◌then◌else◌}
-use Rattle.std.specs.List.{AllByRecursion}
-use Rattle.disk_model.specs.Disk.{DiskView, IsDisk, IsOnly}
+use Rattle.disk_model.specs.Disk.{DiskView, IsOnly}
 use Rattle.disk_model.specs.declared.disk.DiskFault.{DiskFault}
 use Rattle.model_device.specs.Device.{State}
-use Rattle.block_format.specs.declared.geometry.Geometry.{Geometry}
-use Rattle.cold_scan.specs.declared.header.StartCause.{StartCause}
 use Rattle.shard_core.specs.declared.settings.Settings.{Settings}
 use Rattle.shard_core.specs.View.{ShardView}
 use Rattle.node_serve.specs.declared.closed.Closed.{Closed}
@@ -16,17 +13,16 @@ use Rattle.node_session.specs.Turns.{Times}
 use Rattle.turn_table.specs.declared.noted.Noted.{Noted}
 use Rattle.model_node.specs.declared.run_end.RunEnd.{RunEnd}
 use Rattle.model_node.specs.declared.run_end.RunEnd.TheVariants as end
-use Rattle.core_run.specs.Views.{asked, view_at}
+use Rattle.core_run.specs.Views.{asked}
 use Rattle.core_run.specs.Starts.{Started, StartsEach}
-use Rattle.law_run.specs.Promises.{OnlyEach, reads_of}
-use Rattle.law_run.specs.Concluding.{closed_end}
+use Rattle.law_run.specs.Promises.{OnlyEach}
 use Rattle.law_run.proofs.Starting.{geometries_of, started_count, started_numbered, started_passes}
 use Rattle.live_node.specs.Opening.{Opening, opened}
-use Rattle.live_node.specs.Calls.{LiveView, seen_by}
+use Rattle.live_node.specs.Calls.{seen_by}
 use Rattle.live_store.specs.Pairs.{EachPair}
 use Rattle.live_store.specs.Known.{Known}
 use Rattle.live_serve.specs.declared.closing.Closing.{Closing}
-use Rattle.live_serve.specs.Devices.{Named, named_each, opening_for, IsClosed, IsClosedAt}
+use Rattle.live_serve.specs.Devices.{named_each, opening_for, IsClosed, IsClosedAt}
 use Rattle.live_serve.specs.Serving.{openings_of, ServedBy}
 use Rattle.live_serve.specs.Naming.{MayBeNamed, IsNamedBy}
 use Rattle.law_serve.specs.Devices.{DeviceHolds, EachHolds}
@@ -151,9 +147,9 @@ module _ {D : Type 0} (view : D → DiskView) (set : Settings) (how : RunEnd) (t
 -- ---- the whole
 
 module _ {D : Type 0} (view : D → DiskView) (Link : List (Known D) → Times → Ended → List (Known D) → Times → Type 0) (told : Bool) (set : Settings) (seats : ℕ) (times : Times)
-    (disks : List D) (shards : List (ShardView D)) (notes : List (Noted State)) (faults later : ℕ) (ended : Bool) (SameDoor : Type 0) (closings : List (Closing D)) (closed : Option Closed)
+    (disks : List D) (shards : List (ShardView D)) (notes : List (Noted State)) (faults later given after : ℕ) (ended : Bool) (SameDoor : Type 0) (closings : List (Closing D)) (closed : Option Closed)
     (starts : StartsEach view set 0 (length disks) disks shards) (named : EachPair (IsNamedBy view told) shards notes)
-    (served : ServedBy view Link (named_each shards notes) times seats faults later ended SameDoor closings closed) (only : told ≡ true → OnlyEach view disks) where
+    (served : ServedBy view Link (named_each shards notes) times seats faults later given after ended SameDoor closings closed) (only : told ≡ true → OnlyEach view disks) where
   abbrev Failing : Option ℕ
   Failing = first_failed 0 closings
 
@@ -173,7 +169,7 @@ module _ {D : Type 0} (view : D → DiskView) (Link : List (Known D) → Times �
   there None is count = tt
   there (Some device) is count = let before = fails_before 0 closings device is in omega (arith, before, count)
 
-  pub serving : (count : length closings ≡ length disks) → IsServing view Link told set seats How times disks (disks_closed closings) faults later ended SameDoor
+  pub serving : (count : length closings ≡ length disks) → IsServing view Link told set seats How times disks (disks_closed closings) faults later given after ended SameDoor
   serving count = record {
     geometries = geometries_of shards;
     count = map_count shards ∙ started_count view set 0 (length disks) disks shards starts;

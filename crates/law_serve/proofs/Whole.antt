@@ -1,22 +1,20 @@
 -- The promise of a server, where its devices were served, and where they weren't.
-use Rattle.std.proofs.Common.{◌≡◌, inl, inr, ℕ, zero, suc, ◌+◌, ◌<◌, ◌≤◌, Bool, true, List, [], ◌∷◌, ◌++◌, length, map, reverse, refl, sym, ap, subst, ◌∙◌, arith}
+use Rattle.std.proofs.Common.{◌≡◌, inl, inr, ℕ, zero, suc, ◌+◌, ◌≤◌, Bool, true, List, [], ◌∷◌, ◌++◌, length, reverse, refl, sym, ap, subst, ◌∙◌, arith}
 use Rattle.std.specs.Prelude.{Option, Some, None, slice_get}
 use Rattle.std.proofs.lemmas.List.{append-nil, length-map}
-use Rattle.std.proofs.lemmas.Option.{slice_get_within}
 use Rattle.disk_model.specs.Disk.{DiskView, IsDisk}
 use Rattle.model_device.specs.Device.{State}
 use Rattle.cold_scan.specs.declared.header.StartCause.{StartCause}
 use Rattle.shard_core.specs.declared.settings.Settings.{Settings}
 use Rattle.shard_core.specs.View.{ShardView}
-use Rattle.shard_core.specs.Stands.{Agrees}
 use Rattle.node_serve.specs.declared.closed.Closed.{Closed}
 use Rattle.node_session.specs.declared.ended.Ended.{Ended}
 use Rattle.node_session.specs.Turns.{Times}
 use Rattle.turn_table.specs.declared.noted.Noted.{Noted}
 use Rattle.model_node.specs.declared.run_end.RunEnd.{RunEnd}
 use Rattle.model_node.specs.declared.run_end.RunEnd.TheVariants.{NoMemory}
-use Rattle.core_run.specs.Views.{asked, disks_served, faults_of}
-use Rattle.core_run.specs.Starts.{Started, StartsEach, RefusesAt}
+use Rattle.core_run.specs.Views.{disks_served, faults_of}
+use Rattle.core_run.specs.Starts.{StartsEach, RefusesAt}
 use Rattle.law_run.specs.Promises.{Ends, IsTold, OnlyEach, ReadAlone}
 use Rattle.law_run.specs.Concluding.{refusal_end}
 use Rattle.law_run.proofs.Disks.{read_alone_none}
@@ -26,10 +24,10 @@ use Rattle.live_store.specs.Pairs.{EachPair}
 use Rattle.live_store.specs.Known.{Known}
 use Rattle.live_store.proofs.Pairs.{pairs_length}
 use Rattle.live_serve.specs.declared.closing.Closing.{Closing}
-use Rattle.live_serve.specs.Devices.{Named, named_each, opening_for, StandsAsNoted, AreOfOneNode, IsClosedAt}
+use Rattle.live_serve.specs.Devices.{named_each, opening_for, StandsAsNoted, AreOfOneNode, IsClosedAt}
 use Rattle.live_serve.specs.Naming.{IsNamedBy}
-use Rattle.live_serve.specs.Serving.{openings_of, ServedBy}
-use Rattle.law_serve.specs.Promises.{first_failed, disks_closed, serving_end, NotServing, IsServing, Serves}
+use Rattle.live_serve.specs.Serving.{ServedBy}
+use Rattle.law_serve.specs.Promises.{first_failed, disks_closed, serving_end, IsServing, Serves}
 use Rattle.law_serve.proofs.Promises.{serving}
 
 -- ---- devices that were started
@@ -78,9 +76,9 @@ module _ {D : Type 0} where
   named_count view known (shard ∷ shards) (note ∷ notes) named = ap suc (named_count view known shards notes named.1)
 
   pub closed_count : (view : D → DiskView) (known : Bool) (Link : List (Known D) → Times → Ended → List (Known D) → Times → Type 0) (shards : List (ShardView D)) (notes : List (Noted State))
-      (times : Times) (seats faults later : ℕ) (ended : Bool) (SameDoor : Type 0) (closings : List (Closing D)) (closed : Option Closed) → EachPair (IsNamedBy view known) shards notes
-      → ServedBy view Link (named_each shards notes) times seats faults later ended SameDoor closings closed → length closings ≡ length shards
-  closed_count view known Link shards notes times seats faults later ended SameDoor closings closed named served =
+      (times : Times) (seats faults later given after : ℕ) (ended : Bool) (SameDoor : Type 0) (closings : List (Closing D)) (closed : Option Closed) → EachPair (IsNamedBy view known) shards notes
+      → ServedBy view Link (named_each shards notes) times seats faults later given after ended SameDoor closings closed → length closings ≡ length shards
+  closed_count view known Link shards notes times seats faults later given after ended SameDoor closings closed named served =
       let many = pairs_length (IsClosedAt view) served.known closings served.are_closed in
       let all = sym (length-map served.known (λ (k : Known D). k.opening)) ∙ (ap length served.opened ∙ length-map (named_each shards notes) (opening_for {D = D})) in
       many ∙ (all ∙ named_count view known shards notes named)
@@ -88,9 +86,9 @@ module _ {D : Type 0} where
 -- ---- the promise
 
 module _ {D : Type 0} (view : D → DiskView) (is_disk : (disk : D) → IsDisk (view disk)) (Link : List (Known D) → Times → Ended → List (Known D) → Times → Type 0) (known : Bool) (set : Settings)
-    (seats status : ℕ) (note : List ℕ) (times : Times) (disks news : List D) (faults later : ℕ) (ended : Bool) (SameDoor : Type 0) (same : SameDoor) where
+    (seats status : ℕ) (note : List ℕ) (times : Times) (disks news : List D) (faults later given after : ℕ) (ended : Bool) (SameDoor : Type 0) (same : SameDoor) where
   abbrev Promise : Type 0
-  Promise = Serves view Link known set seats status note times disks news faults later ended SameDoor
+  Promise = Serves view Link known set seats status note times disks news faults later given after ended SameDoor
 
   -- there was no memory before anything was done
   pub lacked_first : IsTold NoMemory status note → news ≡ disks → Promise
@@ -124,20 +122,20 @@ module _ {D : Type 0} (view : D → DiskView) (is_disk : (disk : D) → IsDisk (
       }
 
 module _ {D : Type 0} (view : D → DiskView) (Link : List (Known D) → Times → Ended → List (Known D) → Times → Type 0) (known : Bool) (set : Settings)
-    (seats status : ℕ) (note : List ℕ) (times : Times) (disks news : List D) (shards : List (ShardView D)) (notes : List (Noted State)) (faults later : ℕ) (ended : Bool) (SameDoor : Type 0)
+    (seats status : ℕ) (note : List ℕ) (times : Times) (disks news : List D) (shards : List (ShardView D)) (notes : List (Noted State)) (faults later given after : ℕ) (ended : Bool) (SameDoor : Type 0)
     (closings : List (Closing D)) (closed : Option Closed) where
   -- they were served
   pub served_so : (how : RunEnd) (failed : Option ℕ) → how ≡ serving_end closed failed → failed ≡ first_failed 0 closings → news ≡ disks_closed closings → IsTold how status note
       → StartsEach view set 0 (length disks) disks shards → EachPair (IsNamedBy view known) shards notes
-      → ServedBy view Link (named_each shards notes) times seats faults later ended SameDoor closings closed → (known ≡ true → OnlyEach view disks)
-      → Serves view Link known set seats status note times disks news faults later ended SameDoor
+      → ServedBy view Link (named_each shards notes) times seats faults later given after ended SameDoor closings closed → (known ≡ true → OnlyEach view disks)
+      → Serves view Link known set seats status note times disks news faults later given after ended SameDoor
   served_so how failed is first back told starts named served only =
-      let count = closed_count view known Link shards notes times seats faults later ended SameDoor closings closed named served
+      let count = closed_count view known Link shards notes times seats faults later given after ended SameDoor closings closed named served
       ∙ started_count view set 0 (length disks) disks shards starts in
-      let kept = serving view Link known set seats times disks shards notes faults later ended SameDoor closings closed starts named served only count in
+      let kept = serving view Link known set seats times disks shards notes faults later given after ended SameDoor closings closed starts named served only count in
       let so : serving_end closed (first_failed 0 closings) ≡ how = sym (is ∙ ap (serving_end closed) first) in record {
         end = how;
         told = told;
-        kept = inr (subst (λ (e : RunEnd). IsServing view Link known set seats e times disks news faults later ended SameDoor) so
-            (subst (λ (l : List D). IsServing view Link known set seats (serving_end closed (first_failed 0 closings)) times disks l faults later ended SameDoor) (sym back) kept));
+        kept = inr (subst (λ (e : RunEnd). IsServing view Link known set seats e times disks news faults later given after ended SameDoor) so
+            (subst (λ (l : List D). IsServing view Link known set seats (serving_end closed (first_failed 0 closings)) times disks l faults later given after ended SameDoor) (sym back) kept));
       }

@@ -35,10 +35,10 @@ serving_end None failed = end.NoMemory
 serving_end (Some GaveNone) failed = closed_end failed
 serving_end (Some Failed) failed = end.DoorFault
 
--- All devices were taken into use, each has its list of events with its closing flush, and the links of the door were served, by so many seats; or
--- there was no memory for these, and then the door wasn't asked.
+-- All devices were taken into use, each has its list of events with its closing flush, and the links of the door were served, by so many seats, as
+-- many links as it gave; or there was no memory for these, and then the door wasn't asked.
 pub record IsServing {D : Type 0} (view : D → DiskView) (Serves : List (Known D) → Times → Ended → List (Known D) → Times → Type 0) (known : Bool) (set : Settings)
-    (seats : ℕ) (how : RunEnd) (times : Times) (olds news : List D) (faults later : ℕ) (ended : Bool) (SameDoor : Type 0) : Type 0 where
+    (seats : ℕ) (how : RunEnd) (times : Times) (olds news : List D) (faults later given after : ℕ) (ended : Bool) (SameDoor : Type 0) : Type 0 where
   pub geometries : List Geometry
   pub count : length geometries ≡ length olds
   pub place : AreNumbered 0 (length olds) geometries
@@ -50,7 +50,7 @@ pub record IsServing {D : Type 0} (view : D → DiskView) (Serves : List (Known 
   pub ends : how ≡ serving_end closed failed
   pub there : IfSome failed (λ device. device < length olds)
   pub rose : faults ≤ later
-  pub links : MatchOption closed SameDoor (λ why. door.IsClosed why faults later ended × SeatsServe Serves all times seats)
+  pub links : MatchOption closed SameDoor (λ why. door.IsClosed why faults later ended × SeatsServe Serves all times seats given after)
 
 -- A device wasn't taken into use, or there was no memory before anything was served. The disks were read alone, and the door wasn't asked.
 pub record NotServing {D : Type 0} (view : D → DiskView) (how : RunEnd) (olds news : List D) (SameDoor : Type 0) : Type 0 where
@@ -61,7 +61,7 @@ pub record NotServing {D : Type 0} (view : D → DiskView) (how : RunEnd) (olds 
 
 -- The promise of a server: its status and its note tell how it ended, and what has to hold where it ended so holds.
 pub record Serves {D : Type 0} (view : D → DiskView) (Link : List (Known D) → Times → Ended → List (Known D) → Times → Type 0) (known : Bool) (set : Settings)
-    (seats : ℕ) (status : ℕ) (note : List ℕ) (times : Times) (olds news : List D) (faults later : ℕ) (ended : Bool) (SameDoor : Type 0) : Type 0 where
+    (seats : ℕ) (status : ℕ) (note : List ℕ) (times : Times) (olds news : List D) (faults later given after : ℕ) (ended : Bool) (SameDoor : Type 0) : Type 0 where
   pub end : RunEnd
   pub told : IsTold end status note
-  pub kept : NotServing view end olds news SameDoor ⊎ IsServing view Link known set seats end times olds news faults later ended SameDoor
+  pub kept : NotServing view end olds news SameDoor ⊎ IsServing view Link known set seats end times olds news faults later given after ended SameDoor
