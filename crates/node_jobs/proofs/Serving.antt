@@ -1,5 +1,5 @@
 -- Whether words ask for `serve`.
-use Rattle.std.proofs.Common.{◌≡◌, ℕ, Bool, List, Option, Some, None, refl, subst}
+use Rattle.std.proofs.Common.{◌≡◌, ℕ, Bool, List, Option, Some, refl, subst}
 use Rattle.std.specs.Prelude.{IfSome, MatchOption}
 use Rattle.disk_model.specs.Disk.{DiskView}
 use Rattle.shard_core.specs.declared.settings.Settings.{Settings}
@@ -13,9 +13,9 @@ use Rattle.node_words.specs.declared.job.Job.{Job}
 use Rattle.node_words.specs.declared.job.Job.TheVariants.{Format, Run, Serve, Check, Audit, Generate}
 use Rattle.node_words.specs.Ranges.{IsTuning, IsServing, IsInRange}
 use Rattle.node_words.specs.Words.{Text, Asks}
-use Rattle.node_jobs.specs.Serving.{serve_of, IsServe, AsksOther}
+use Rattle.node_jobs.specs.Serving.{serve_of, AsksOther}
 use Rattle.node_words.proofs.Plans.{Exact}
-use Rattle.node_jobs.proofs.Asked.{nothing, they_ask, one_job, not_both}
+use Rattle.node_jobs.proofs.Asked.{they_ask, one_job, not_both}
 
 -- they ask so, or for another job
 abbrev pub AreAsked : (words : List Text) → Option (Tuning × Serving) → Type 0
@@ -60,8 +60,8 @@ in_range (Generate count shape tuning) is = tt
 
 -- what serves with these settings and seats serves with those
 pub same_service : {D : Type 0} {view : D → DiskView} {Link : List (Known D) → Times → Ended → List (Known D) → Times → Type 0} {known : Bool} {set : Settings} {seats status : ℕ} {note : List ℕ} {times : Times}
-    {olds news : List D} {faults later : ℕ} {ended : Bool} {SameDoor : Type 0} (other : Settings) (many : ℕ) → set ≡ other → seats ≡ many
-    → Serves view Link known set seats status note times olds news faults later ended SameDoor → Serves view Link known other many status note times olds news faults later ended SameDoor
-same_service {view = view} {Link = Link} {known = known} {status = status} {note = note} {times = times} {olds = olds} {news = news} {faults = faults} {later = later} {ended = ended} {SameDoor = SameDoor}
+    {olds news : List D} {faults later given after : ℕ} {ended : Bool} {SameDoor : Type 0} (other : Settings) (many : ℕ) → set ≡ other → seats ≡ many
+    → Serves view Link known set seats status note times olds news faults later given after ended SameDoor → Serves view Link known other many status note times olds news faults later given after ended SameDoor
+same_service {view = view} {Link = Link} {known = known} {status = status} {note = note} {times = times} {olds = olds} {news = news} {faults = faults} {later = later} {given = given} {after = after} {ended = ended} {SameDoor = SameDoor}
     other many set_is seats_is serves =
-    subst (λ (p : Settings × ℕ). Serves view Link known p.0 p.1 status note times olds news faults later ended SameDoor) (λ i. (set_is i, seats_is i)) serves
+    subst (λ (p : Settings × ℕ). Serves view Link known p.0 p.1 status note times olds news faults later given after ended SameDoor) (λ i. (set_is i, seats_is i)) serves

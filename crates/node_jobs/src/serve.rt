@@ -62,7 +62,7 @@ fn outcome_of<D: Disk>(
 }
 
 /// Serves the links of the door over the 1 to 16 devices, in order, until it gives none or fails, so many at the same time, and answers how it
-/// ended, as a status and a note, the disks, in order, and the door. Beside the links four workers of each device flush, vacate blocks, remove what
+/// ended, as a status and a note, the disks, in order, and the door. Each link that the door gives is served. Beside the links four workers of each device flush, vacate blocks, remove what
 /// is expired and raid tombs. At status 0 the door gave none and nothing is pending. The caller may know that the disks are honest, that each has
 /// one image, and that it is sound; then a crash leaves of a device at each moment what some state of its list of events allows, and from the end
 /// on what its last state allows.
@@ -86,8 +86,9 @@ pub fn serve_with<
     requires disks { (1 ≤ vec_len disks) × (vec_len disks ≤ 16) }
     requires set { IsSettings set }
     requires sound { IsTrue sound.now.value → AreReady set (disks_between D.view disks.items disks.items) }
-    ensures { Serves D.view (ServesLink D.view G.Link.taken G.Link.left G.Link.written G.Link.handed G.Link.source_faults G.Link.sink_faults) sound.now.value set seats
-        result.0.status result.0.note (C.times clock.now) disks.items result.0.disks.items (G.faults door) (G.faults result.1) (G.ended result.1) (result.1 ≡ door) }
+    ensures { Serves D.view (ServesLink D.view (G.may_give door) G.Link.taken G.Link.left G.Link.written G.Link.handed G.Link.source_faults G.Link.sink_faults) sound.now.value set seats
+        result.0.status result.0.note (C.times clock.now) disks.items result.0.disks.items (G.faults door) (G.faults result.1) (G.given door) (G.given result.1) (G.ended result.1)
+        (result.1 ≡ door) }
 {
     let Ok(mut shards) = Vec::with_capacity(alloc, disks.len()) else {
         return (Outcome::new(RunEnd::NoMemory, disks), door);

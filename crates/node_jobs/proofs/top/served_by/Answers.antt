@@ -1,7 +1,5 @@
-use Rattle.std.proofs.Common.{map, subst, sym, Option}
+use Rattle.std.proofs.Common.{map, subst, sym}
 use Rattle.std.specs.Prelude.{string_bytes}
-use Rattle.node_words.specs.declared.job.Tuning.{Tuning}
-use Rattle.node_words.specs.declared.job.Serving.{Serving}
 use Rattle.node_words.specs.declared.job.Job.TheVariants.{Serve}
 use Rattle.node_jobs.proofs.Asked.{nothing}
 use Rattle.node_jobs.proofs.Serving.{asked, only, in_range, AreAsked, IsOnly, AreInRange}
