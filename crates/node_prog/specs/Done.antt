@@ -1,10 +1,10 @@
 -- Crate node_prog. What is done over the devices that were opened.
-use Rattle.std.specs.Prelude.{◌≡◌, ℕ, Bool, false, List, Option, None, Some}
+use Rattle.std.specs.Prelude.{◌≡◌, ◌≤◌, ℕ, Bool, false, List, Option, None, Some}
 use Rattle.disk_file.specs.View.{FileState, view_of}
 use Rattle.core_run.specs.Views.{faults_of}
 use Rattle.model_node.specs.declared.run_end.RunEnd.TheVariants.{WordsRefused}
 use Rattle.law_run.specs.Promises.{Ends, Runs, IsTold, disks_between}
-use Rattle.net_link.specs.View.{LinkState, DoorState}
+use Rattle.net_link.specs.View.{LinkState, DoorState, fresh_link}
 use Rattle.node_progress.specs.Doors as doors
 use Rattle.node_session.specs.declared.ended.Ended.{Ended}
 use Rattle.node_session.specs.Turns.{Times}
@@ -24,13 +24,20 @@ use Rattle.node_jobs.specs.Checking.{Checks}
 use Rattle.node_jobs.specs.Generating.{Generates}
 use Rattle.node_prog.specs.Opened.{way_of, AreOpened}
 
--- a link that is a connection is served over disks of files
-abbrev pub ServesConnection : List (Known FileState) → Times → Ended → List (Known FileState) → Times → Type 0
-ServesConnection = ServesLink view_of (λ (link : LinkState). link.gone) (λ link. None) (λ link. Some link.written) (λ link. Some link.written) (λ link. link.source_faults)
+-- a connection that the door may give: nothing went through it yet, and it has the door's halt and limit of silence
+abbrev pub IsFresh : Option DoorState → LinkState → Type 0
+IsFresh door link = doors.MayGive (λ (d : DoorState) (l : LinkState). l ≡ fresh_link d.halt d.idle) door link
+
+-- a link that is a connection which the door gave is served over disks of files
+abbrev pub ServesConnection : Option DoorState → List (Known FileState) → Times → Ended → List (Known FileState) → Times → Type 0
+ServesConnection door = ServesLink view_of (IsFresh door) (λ (link : LinkState). link.gone) (λ link. None) (λ link. Some link.written) (λ link. Some link.written) (λ link. link.source_faults)
     (λ link. link.sink_faults)
 
 abbrev pub door_faults : Option DoorState → ℕ
 door_faults door = doors.faults_of (λ (d : DoorState). d.faults) door
+
+abbrev pub door_given : Option DoorState → ℕ
+door_given door = doors.given_by (λ (d : DoorState). d.given) door
 
 abbrev pub door_ended : Option DoorState → Bool
 door_ended door = doors.has_ended (λ (d : DoorState). d.ended) door
@@ -51,7 +58,8 @@ pub record IsDone (words : List (List ℕ)) (disks : List FileState) (status : �
   pub served : (tuning : Tuning) (names : List (List ℕ)) → Asks words (job.Run tuning) names
       → Runs (settings_of tuning) (disks_between view_of disks last) status note times before after
   pub serves : (tuning : Tuning) (serving : Serving) (names : List (List ℕ)) → Asks words (job.Serve tuning serving) names
-      → Serves view_of ServesConnection false (settings_of tuning) serving.seats status note times disks last (door_faults door) (door_faults shut) (door_ended shut) (shut ≡ door)
+      → Serves view_of (ServesConnection door) false (settings_of tuning) serving.seats status note times disks last (door_faults door) (door_faults shut) (door_given door) (door_given shut)
+      (door_ended shut) (shut ≡ door) × (1 ≤ serving.seats)
   pub checked : (names : List (List ℕ)) → Asks words job.Check names → Checks Counts view_of disks last status note before after
   pub audited : (names : List (List ℕ)) → Asks words job.Audit names → Checks Soundness view_of disks last status note before after
   pub generated : (records : ℕ) (shape : Shape) (tuning : Tuning) (names : List (List ℕ)) → Asks words (job.Generate records shape tuning) names
