@@ -8,7 +8,7 @@ use io_traits::{
 use line_proto::{Command, Reply, Store};
 use node_serve::{Closed, Duty, serve};
 use node_workers::{Chore, Did};
-use std::alloc::Global;
+use std::alloc::{AllocError, Global};
 use std::process::Abort;
 use std::sync::Wait;
 use std::sync::atomic::{AtomicU64, Ordering};
@@ -249,7 +249,7 @@ fn serve_all<R: Threads + Wait + Abort + std::rt::Clock + Sync, L: Source + Sink
     let (_door, closed) = serve(rt, alloc, door, &nudge, &mut duties);
     assert_eq!(rt; nudge.stops.load(Ordering::SeqCst), 1);
     assert!(rt; nudge.asked_by(0) && nudge.asked_by(1) && !nudge.asked_by(2));
-    Ok(closed)
+    Ok(closed.ok_or(AllocError)?)
 }
 
 // Serves two links, of which each waits with its second line for a reply at the other.
