@@ -122,8 +122,8 @@ module _ {D : Type 0} (view : D → DiskView) (is_disk : (disk : D) → IsDisk (
       }
 
 module _ {D : Type 0} (view : D → DiskView) (Link : List (Known D) → Times → Ended → List (Known D) → Times → Type 0) (known : Bool) (set : Settings)
-    (seats status : ℕ) (note : List ℕ) (times : Times) (disks news : List D) (shards : List (ShardView D)) (notes : List (Noted State)) (faults later given after : ℕ) (ended : Bool) (SameDoor : Type 0)
-    (closings : List (Closing D)) (closed : Option Closed) where
+    (seats status : ℕ) (note : List ℕ) (times : Times) (disks news : List D) (shards : List (ShardView D)) (notes : List (Noted State)) (faults later given after : ℕ) (ended : Bool)
+    (SameDoor : Type 0) (closings : List (Closing D)) (closed : Option Closed) where
   -- they were served
   pub served_so : (how : RunEnd) (failed : Option ℕ) → how ≡ serving_end closed failed → failed ≡ first_failed 0 closings → news ≡ disks_closed closings → IsTold how status note
       → StartsEach view set 0 (length disks) disks shards → EachPair (IsNamedBy view known) shards notes

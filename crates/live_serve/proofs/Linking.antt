@@ -140,8 +140,9 @@ module _ {D R C L : Type 0} (view : D → DiskView) (may_give : L → Type 0) (t
       let none : length hows ≡ 0 = ap length each.0 in
       omega (arith, rest, none, sum_by-cons length hows served)
 
-  pub seats_serve : (given after : ℕ) (duties : List (LiveDuty R D C)) (seats : ℕ) → seat_count duties ≡ seats → HaveServed (StoreServes view may_give taken left written handed source_faults sink_faults) lives times given after duties → All (IsAt lives) duties
-      → All (IsSeenBy passes) duties → SeatsServe (ServesLink view may_give taken left written handed source_faults sink_faults) (known_each lives passes) times seats given after
+  pub seats_serve : (given after : ℕ) (duties : List (LiveDuty R D C)) (seats : ℕ) → seat_count duties ≡ seats
+      → HaveServed (StoreServes view may_give taken left written handed source_faults sink_faults) lives times given after duties → All (IsAt lives) duties → All (IsSeenBy passes) duties
+      → SeatsServe (ServesLink view may_give taken left written handed source_faults sink_faults) (known_each lives passes) times seats given after
   seats_serve given after duties seats count have at seen = record {
     lasts = lasts_of duties;
     count = lasts_count duties ∙ count;
@@ -152,8 +153,10 @@ module _ {D R C L : Type 0} (view : D → DiskView) (may_give : L → Type 0) (t
 
   -- so it is, for whatever reason the door gives no further link
   pub door_came : (closed : Option Closed) (Same : Type 0) (faults later given after : ℕ) (ended : Bool) (duties : List (LiveDuty R D C)) (seats : ℕ)
-      → MatchOption closed Same (λ why. IsClosed why faults later ended × (seat_count duties ≡ seats) × HaveServed (StoreServes view may_give taken left written handed source_faults sink_faults) lives times given after duties)
+      → MatchOption closed Same (λ why. IsClosed why faults later ended × (seat_count duties ≡ seats)
+      × HaveServed (StoreServes view may_give taken left written handed source_faults sink_faults) lives times given after duties)
       → All (IsAt lives) duties → All (IsSeenBy passes) duties
-      → MatchOption closed Same (λ why. IsClosed why faults later ended × SeatsServe (ServesLink view may_give taken left written handed source_faults sink_faults) (known_each lives passes) times seats given after)
+      → MatchOption closed Same (λ why. IsClosed why faults later ended
+      × SeatsServe (ServesLink view may_give taken left written handed source_faults sink_faults) (known_each lives passes) times seats given after)
   door_came None Same faults later given after ended duties seats came at seen = came
   door_came (Some why) Same faults later given after ended duties seats came at seen = (came.0, seats_serve given after duties seats came.1 came.2 at seen)

@@ -61,7 +61,9 @@ in_range (Generate count shape tuning) is = tt
 -- what serves with these settings and seats serves with those
 pub same_service : {D : Type 0} {view : D → DiskView} {Link : List (Known D) → Times → Ended → List (Known D) → Times → Type 0} {known : Bool} {set : Settings} {seats status : ℕ} {note : List ℕ} {times : Times}
     {olds news : List D} {faults later given after : ℕ} {ended : Bool} {SameDoor : Type 0} (other : Settings) (many : ℕ) → set ≡ other → seats ≡ many
-    → Serves view Link known set seats status note times olds news faults later given after ended SameDoor → Serves view Link known other many status note times olds news faults later given after ended SameDoor
-same_service {view = view} {Link = Link} {known = known} {status = status} {note = note} {times = times} {olds = olds} {news = news} {faults = faults} {later = later} {given = given} {after = after} {ended = ended} {SameDoor = SameDoor}
+    → Serves view Link known set seats status note times olds news faults later given after ended SameDoor
+    → Serves view Link known other many status note times olds news faults later given after ended SameDoor
+same_service {view = view} {Link = Link} {known = known} {status = status} {note = note} {times = times} {olds = olds} {news = news}
+    {faults = faults} {later = later} {given = given} {after = after} {ended = ended} {SameDoor = SameDoor}
     other many set_is seats_is serves =
     subst (λ (p : Settings × ℕ). Serves view Link known p.0 p.1 status note times olds news faults later given after ended SameDoor) (λ i. (set_is i, seats_is i)) serves
