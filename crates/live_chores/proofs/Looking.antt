@@ -16,8 +16,7 @@ use Rattle.live_node.specs.Calls.{LiveView, seen_by, IsRight}
 use Rattle.live_node.specs.Sweeps.{left_behind}
 use Rattle.live_node.specs.Turns.{ExpiresFirst}
 use Rattle.live_node.proofs.Right.{prefix_here, prefix_on, seen_begins, right_then, answers_behind}
-use Rattle.live_node.specs.declared.live.Live.{Live}
-use Rattle.live_node.specs.Lives.{opening_at}
+use Rattle.live_node.specs.Lives.{Live, opening_at}
 use Rattle.live_chores.specs.declared.station.Station.{Station}
 use Rattle.live_chores.specs.Stations.{opened_at, known_at, Stays}
 use Rattle.live_chores.specs.Expires.{part_behind, goes_on, most_looks, SawNone, Removes, Looks, EndsLooks, ExpiresOnce}

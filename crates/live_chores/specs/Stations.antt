@@ -1,10 +1,9 @@
 -- Crate live_chores. The device and the pass of a chore, and what a turn keeps of them.
 use Rattle.std.specs.Prelude.{◌≡◌}
 use Rattle.turn_table.specs.Passes.{view, KeepsNumbers}
-use Rattle.live_node.specs.declared.live.Live.{Live}
 use Rattle.live_node.specs.Opening.{Opening}
 use Rattle.live_node.specs.Calls.{LiveView}
-use Rattle.live_node.specs.Lives.{LivePass, opening_at}
+use Rattle.live_node.specs.Lives.{Live, LivePass, opening_at}
 use Rattle.live_chores.specs.declared.station.Station.{Station}
 
 module _ {R D : Type 0} where

@@ -36,6 +36,8 @@ impl<'a, R, D: Disk> ExpireChore<'a, R, D> {
         ensures pass { pass_at (expirer result) ≡ pass }
         ensures part { looks_at result ≡ 0 }
     {
+        // A device has a first part.
+        let _parts = live.parts();
         ExpireChore {
             station: Station { rt, live, pass },
             part: 0,
@@ -62,12 +64,9 @@ impl<'a, R, D: Disk> ExpireChore<'a, R, D> {
         ensures part { result ≡ part_behind (opening_at (live_at (expirer self.now))) (looks_at self.now) 1 }
         ensures there { result < part_total (setup_at (opening_at (live_at (expirer self.now)))) }
     {
+        let parts = self.station.live.parts();
         let next = self.part + 1;
-        if next < self.station.live.parts() {
-            next
-        } else {
-            0
-        }
+        if next < parts { next } else { 0 }
     }
 }
 

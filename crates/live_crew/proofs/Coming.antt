@@ -8,8 +8,7 @@ use Rattle.std.proofs.lemmas.List.Elements.{All-cons, All-nil, All-pop, All-weak
 use Rattle.std.proofs.lemmas.List.Sums.{sum_by_push}
 use Rattle.law_lists.proofs.Places.{set_other}
 use Rattle.turn_table.specs.Rule.{all_numbers}
-use Rattle.live_node.specs.declared.live.Live.{Live}
-use Rattle.live_node.specs.Lives.{LivePass, IsPassAt}
+use Rattle.live_node.specs.Lives.{Live, LivePass, IsPassAt}
 use Rattle.live_node.proofs.Right.{prefix_here, prefix_on}
 use Rattle.turn_table.specs.Passes.{view}
 use Rattle.live_node.specs.Calls.{seen_by}

@@ -10,8 +10,7 @@ use Rattle.law_lists.proofs.Places.{place_cases}
 use Rattle.node_workers.specs.Turns.{Times}
 use Rattle.turn_table.specs.Passes.{own_count, joined_count}
 use Rattle.turn_table.specs.Rule.{all_numbers}
-use Rattle.live_node.specs.declared.live.Live.{Live}
-use Rattle.live_node.specs.Lives.{LivePass, IsPassAt}
+use Rattle.live_node.specs.Lives.{Live, LivePass, IsPassAt}
 use Rattle.live_chores.specs.Stations.{live_at, pass_at}
 use Rattle.live_store.specs.declared.store.LiveStore.{LiveStore}
 use Rattle.live_store.specs.Pairs.{EachPair}

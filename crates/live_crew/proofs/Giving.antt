@@ -5,8 +5,7 @@ use Rattle.std.specs.List.{All}
 use Rattle.std.proofs.lemmas.List.{take_more, take_all, get_or-set_other}
 use Rattle.std.proofs.lemmas.List.Elements.{All-push, All-nil, All-set}
 use Rattle.turn_table.specs.Passes.{own_count, joined_count}
-use Rattle.live_node.specs.declared.live.Live.{Live}
-use Rattle.live_node.specs.Lives.{LivePass, IsPassAt}
+use Rattle.live_node.specs.Lives.{Live, LivePass, IsPassAt}
 use Rattle.live_store.specs.Pairs.{EachPair}
 use Rattle.live_store.proofs.Pairs.{pairs_length, pairs_same, pair_set, pair_then}
 use Rattle.live_crew.specs.Crews.{IsNewPass, numbers_of, numbers_there}

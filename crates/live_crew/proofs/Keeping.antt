@@ -7,8 +7,7 @@ use Rattle.node_session.specs.declared.ended.Ended.{Ended}
 use Rattle.node_workers.specs.declared.chore.Did.{Did}
 use Rattle.node_workers.specs.Turns.{Times}
 use Rattle.turn_table.specs.Passes.{KeepsNumbers}
-use Rattle.live_node.specs.declared.live.Live.{Live}
-use Rattle.live_node.specs.Lives.{LivePass}
+use Rattle.live_node.specs.Lives.{Live, LivePass}
 use Rattle.live_chores.specs.Stations.{live_at, pass_at, Stays}
 use Rattle.live_store.specs.declared.store.LiveStore.{LiveStore}
 use Rattle.live_store.specs.Known.{KeepNumbers}

@@ -2,8 +2,7 @@
 use Rattle.std.proofs.Common.{◌≡◌, ℕ, ◌+◌, refl, sym, ap, subst, ◌∙◌, arith}
 use Rattle.turn_table.specs.Passes.{view, own_count, joined_count}
 use Rattle.turn_table.specs.Plays.{first_share, last_share}
-use Rattle.live_node.specs.declared.live.Live.{Live}
-use Rattle.live_node.specs.Lives.{LivePass, IsPassAt}
+use Rattle.live_node.specs.Lives.{Live, LivePass, IsPassAt}
 use Rattle.live_chores.specs.Stations.{live_at, pass_at}
 use Rattle.live_crew.specs.declared.chore.LiveChore.{LiveChore}
 use Rattle.live_crew.specs.Chores.{station_of, place_of, IsAtFirst}

@@ -3,9 +3,8 @@ use Rattle.std.specs.Prelude.{◌≡◌, ℕ, ◌+◌, ◌/◌, ◌<◌, ◌≤�
 use mathlib.Core.List.{IsPrefix}
 use Rattle.turn_table.specs.Passes.{view, own_count, joined_count}
 use Rattle.turn_table.specs.Rule.{all_numbers}
-use Rattle.live_node.specs.declared.live.Live.{Live}
 use Rattle.live_node.specs.Calls.{LiveView, seen_by}
-use Rattle.live_node.specs.Lives.{LivePass, opening_at, IsPassAt}
+use Rattle.live_node.specs.Lives.{Live, LivePass, opening_at, IsPassAt}
 use Rattle.live_chores.specs.Stations.{live_at, pass_at, known_at}
 use Rattle.live_store.specs.declared.store.LiveStore.{LiveStore}
 use Rattle.live_store.specs.Pairs.{EachPair}

@@ -3,8 +3,7 @@ use Rattle.std.specs.Prelude.{◌≡◌, ℕ, ◌+◌, ◌*◌, ◌%◌, ◌<◌
 use Rattle.node_workers.specs.Turns.{Times}
 use Rattle.turn_table.specs.Passes.{own_count, joined_count}
 use Rattle.turn_table.specs.Rule.{all_numbers}
-use Rattle.live_node.specs.declared.live.Live.{Live}
-use Rattle.live_node.specs.Lives.{LivePass, IsPassAt}
+use Rattle.live_node.specs.Lives.{Live, LivePass, IsPassAt}
 use Rattle.live_store.specs.Pairs.{EachPair}
 use Rattle.node_serve.specs.declared.duty.Duty.TheVariants.{Seat, Worker}
 use Rattle.node_serve.specs.Serving.{seat_count}

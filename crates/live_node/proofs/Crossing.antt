@@ -1,7 +1,7 @@
 -- A device under its table may be shared by threads, and may go to another one, and so may a pass of it, where the disk may.
 use denote.RattleType.{RattleType}
 use denote.Struct.Declared as declared
-use denote.Param.Send.{IsSend, IsSync, sendable, recorded_send, recorded_sync, struct_send, struct_sync}
+use denote.Param.Send.{IsSend, IsSync, sendable, recorded_send, recorded_sync, view_send, view_sync, struct_send, struct_sync}
 use Rattle.std.proofs.Crossing.{crosses}
 use Rattle.std.specs.contracts.alloc.Global as global
 use Rattle.std.specs.contracts.impls.GlobalAllocator.TheImpl as global_allocator
@@ -19,6 +19,7 @@ use Rattle.turn_table.specs.contracts.table.Slotted as slotted
 use Rattle.turn_table.proofs.Crossing as turn
 use Rattle.live_node.specs.contracts.hub.Hub as hub
 use Rattle.live_node.specs.contracts.live.Live as live
+use Rattle.live_node.specs.contracts.live.Live.TheInside as inside
 use Rattle.live_node.proofs.hub.Hub.TheSendSync as hub_crosses
 
 -- ---- a table as a field
@@ -51,12 +52,12 @@ module _ (D : RattleType) (g : disk.Ghosts D.Denot) (s : IsSend D) where
 
   pub live_sync : IsSync (live.the_row D g)
   live_sync =
-      let T : declared.Declared = live.the_type D g in
-      recorded_sync _ _ T.to T.to_one (struct_sync (declared.shape T)
-      (search (table_sync, place_send, sprig_sync) depth 6, (search sendable depth 20, (search sendable depth 20, (search (sendable, crosses) depth 20, tt)))))
+      let T : declared.Declared = inside.the_type D g in
+      view_sync (inside.the_row D g) _ _ _ _ (recorded_sync _ _ T.to T.to_one (struct_sync (declared.shape T)
+      (search (table_sync, place_send, sprig_sync) depth 6, (search sendable depth 20, (search sendable depth 20, (search (sendable, crosses) depth 20, tt))))))
 
   pub live_send : IsSend (live.the_row D g)
   live_send =
-      let T : declared.Declared = live.the_type D g in
-      recorded_send _ _ T.to T.to_one (struct_send (declared.shape T)
-      (search (table_send, place_send, sprig_send) depth 6, (search sendable depth 20, (search sendable depth 20, (search (sendable, crosses) depth 20, tt)))))
+      let T : declared.Declared = inside.the_type D g in
+      view_send (inside.the_row D g) _ _ _ _ (recorded_send _ _ T.to T.to_one (struct_send (declared.shape T)
+      (search (table_send, place_send, sprig_send) depth 6, (search sendable depth 20, (search sendable depth 20, (search (sendable, crosses) depth 20, tt))))))

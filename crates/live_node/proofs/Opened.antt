@@ -25,6 +25,7 @@ use Rattle.shard_core.specs.Stands.{Agrees, IsWhole}
 use Rattle.shard_core.specs.View.{ShardView}
 use Rattle.live_node.specs.Opening.{Opening, IsTableOf, opened, setup_at, state_at}
 use Rattle.live_node.specs.Fits.{PartFits, HubFits}
+use Rattle.live_node.specs.Lives.{Live, opening_at, shelf_slot, IsOver}
 use Rattle.live_node.proofs.Stepping.{fits_alone, same_setup, limits, settings}
 
 -- A device has at least one part, and at most 2^20.
@@ -34,6 +35,15 @@ part_bounds device devices sprigs some most =
     let few : q ≤ 4095 - device = div-le_self (4095 - device) devices in
     let wide : (q + 1) * sprigs ≤ (q + 1) * 256 = mul-le-mul_left (q + 1) most in
     (mul-pos {m = q + 1} {n = sprigs} (omega arith) some, omega (arith, few, wide))
+
+-- What holds of the table holds of the device that is seen as it,
+pub over_at : {D : Type 0} {table live : Live D} {geometry : Geometry} {set : Settings} → table ≡ live
+    → IsTableOf (opening_at table) geometry set (shelf_slot table) → IsTableOf (opening_at live) geometry set (shelf_slot live)
+over_at {geometry = geometry} {set = set} same over = subst (λ (l : Live _). IsTableOf (opening_at l) geometry set (shelf_slot l)) same over
+
+-- and so by the shape and the settings that it opened with.
+pub is_over : {D : Type 0} (live : Live D) {geometry : Geometry} {set : Settings} → IsTableOf (opening_at live) geometry set (shelf_slot live) → IsOver live
+is_over live over = record { opening = over.opening; is_geometry = refl; is_set = refl; all = over.all }
 
 -- ---- the beginning
 

@@ -18,6 +18,7 @@ use Rattle.live_node.specs.Opening.{Opening, setup_at, state_at, faults_at, WasS
 use Rattle.live_node.specs.Fits.{PartEvent, MayFollow}
 use Rattle.live_node.specs.Notes.{event_in, events_in, NoteFollows}
 use Rattle.live_node.specs.Laws.{events_more, state_more}
+use Rattle.live_node.specs.Lives.{Live, opening_at}
 use Rattle.live_node.specs.Calls.{LiveView, seen_by, own_of, IsLegalFrom, IsRight, AnswersBy}
 
 pub last_more : (list : List Event) (e : Event) (faults : ℕ) → last_faults faults (list ++ e ∷ []) ≡ e.faults_after
@@ -49,6 +50,12 @@ seen_begins v w begins = (
   events_in (events begins.0),
   sym (map-append event_in (events v.seen) (events begins.0)) ∙ ap events_in (sym (map-append (λ (x : Entry (Noted PartEvent)). x.event) v.seen begins.0) ∙ ap events begins.1),
 )
+
+-- ---- what a device is seen as
+
+-- What a pass knows of the table's opening it knows of the device's.
+pub opened_at : {D : Type 0} {table live : Live D} {known : Option (Opening D)} → table ≡ live → known ≡ Some (opening_at table) → known ≡ Some (opening_at live)
+opened_at same opened = opened ∙ ap (λ (l : Live _). Some (opening_at l)) same
 
 -- ---- what a call shows
 

@@ -113,6 +113,7 @@ impl<D: Disk> Live<D> {
             → IfOk result (λ chosen. IfSome chosen (λ block. ListsLive (state_at (opening_at self.now) (seen_by (view pass.old))).book block list.new.items)) }
         ensures low { IfOk result (λ chosen. IfSome chosen (λ block. CanEmpty block (state_at (opening_at self.now) (seen_by (view pass.new))).book)) }
     {
+        self.known();
         let shelf = &mut *hub.shelf;
         // By its shape a block has fewer than 2^31 records.
         let _shape = shelf.geometry();

@@ -90,6 +90,7 @@ impl<D: Disk> Live<D> {
         ensures numbers { KeepsNumbers pass.old pass.new }
         ensures once { AnswersBy D.view (opening_at self.now) (view pass.old) (view pass.new) (Is (C.call call.now) (C.answers call.now result)) }
     {
+        self.known();
         let answer = call.step(&mut *hub.shelf);
         self.give_alone(pass, hub, call, &answer);
         answer

@@ -81,6 +81,7 @@ impl<D: Disk> Live<D> {
         ensures numbers { KeepsNumbers pass.old pass.new }
         ensures sweeps { Sweeps D.view (opening_at self.now) (view pass.old) (view pass.new) part now result }
     {
+        self.known();
         let mut sprig = self.take_part(rt, pass, part);
         let answer = self.sweep(alloc, rt, pass, &mut sprig, part, now);
         self.give_part(pass, sprig, part);
@@ -104,6 +105,7 @@ impl<D: Disk> Live<D> {
         ensures numbers { KeepsNumbers pass.old pass.new }
         ensures expires { ExpiresNext D.view (opening_at self.now) (view pass.old) (view pass.new) part now result }
     {
+        self.known();
         let mut sprig = self.take_part(rt, pass, part);
         let answer = self.expire_first(alloc, rt, pass, &mut sprig, part, now);
         self.give_part(pass, sprig, part);

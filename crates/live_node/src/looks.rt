@@ -1,5 +1,5 @@
 // The calls that are no event: each answers by the list that its pass has then seen.
-ghost use Rattle.std.specs.Prelude.{◌≡◌, ◌≤◌, []};
+ghost use Rattle.std.specs.Prelude.{◌≡◌, ◌<◌, ◌≤◌, []};
 ghost use Rattle.model_device.specs.Device.{seen as seen_version};
 ghost use Rattle.model_device.specs.Steps.{part_total};
 ghost use Rattle.shard_core.specs.Calls.{meta_of};
@@ -50,15 +50,17 @@ impl<D: Disk> Live<D> {
         ensures answer { result ≡ counts_of (state_at (opening_at self.now) (seen_by (view pass.new))) }
         ensures few { AreFew result }
     {
+        self.known();
         let hub = self.take_hub(rt, pass);
         let counts = hub.counts();
         self.give_back(pass, hub);
         counts
     }
 
-    /// How many parts the device has. It takes nothing.
+    /// How many parts the device has, at least one. It takes nothing.
     pub fn parts(&self) -> u32
-        ensures { result ≡ part_total (setup_at (opening_at self.now)) }
+        ensures total { result ≡ part_total (setup_at (opening_at self.now)) }
+        ensures some { 0 < result }
     {
         self.table.parts() as u32
     }

@@ -125,6 +125,7 @@ impl<D: Disk> Live<D> {
         ensures numbers { KeepsNumbers pass.old pass.new }
         ensures turn { TakesRaidTurn D.view (opening_at self.now) (view pass.old) (view pass.new) now raid.old raid.new result }
     {
+        self.known();
         let turn = next_turn(raid, now);
         let mut sprig = self.take_part(rt, pass, part);
         let mut hub = self.take_hub(rt, pass);
@@ -151,6 +152,7 @@ impl<D: Disk> Live<D> {
         ensures numbers { KeepsNumbers pass.old pass.new }
         ensures turn { TakesRaidTurn D.view (opening_at self.now) (view pass.old) (view pass.new) now raid.old raid.new result }
     {
+        self.known();
         let turn = next_turn(raid, now);
         let mut hub = self.take_hub(rt, pass);
         // By its book's shape the turn that is next is one at a part of the device, if it is at a part.

@@ -43,6 +43,7 @@ impl<D: Disk> Live<D> {
         ensures few { MatchResult result (λ moved. moved ≤ 2 ^ 16) (λ refusal. refusal.moved ≤ 2 ^ 16) }
         ensures leaves { IfOk result (λ moved. LeavesNone (opening_at self.now) (seen_by (view pass.old)) (seen_by (view pass.new)) block) }
     {
+        self.known();
         let left = self.used(rt, pass, block).min(MOST_UNITS);
         let mut part = 0;
         for moved in 0..left {
@@ -108,6 +109,7 @@ impl<D: Disk> Live<D> {
         ensures numbers { KeepsNumbers pass.old pass.new }
         ensures moves { MovesFirst D.view (opening_at self.now) (view pass.old) (view pass.new) part block result }
     {
+        self.known();
         let mut sprig = self.take_part(rt, pass, part);
         let answer = self.move_lying(alloc, rt, pass, &mut sprig, part, block);
         self.give_part(pass, sprig, part);
@@ -157,6 +159,7 @@ impl<D: Disk> Live<D> {
         ensures fits { PartFits (opening_at self.now) (seen_by (view pass.new)) part sprig.new }
         ensures moves { MovesFirst D.view (opening_at self.now) (view pass.old) (view pass.new) part block result }
     {
+        self.known();
         let hub = self.take_hub(rt, pass);
         match self.enter(alloc, pass, hub, sprig, part, &Move { digest, block }) {
             Ok(was_there) => Ok(was_there),

@@ -91,6 +91,7 @@ impl<D: Disk> Live<D> {
         ensures numbers { KeepsNumbers pass.old pass.new }
         ensures answers { TryAnswers D.view (opening_at self.now) (view pass.old) (view pass.new) (own_count pass.old + joined_count pass.old) (shelf_slot self.now) digest.now now result }
     {
+        self.known();
         let part = self.part_of(digest);
         let Some(mut sprig) = self.try_part(pass, part) else {
             return Err(TryRefusal::Again { slot: part });

@@ -8,7 +8,7 @@ ghost use Rattle.turn_table.specs.Passes.{view, found_out, held_part, KeepsNumbe
 ghost use Rattle.live_node.specs.Opening.{IsOwn, setup_at};
 ghost use Rattle.live_node.specs.Fits.{HubFits, PartFits, Is};
 ghost use Rattle.live_node.specs.Calls.{seen_by, AnswersBy, IsRight};
-ghost use Rattle.live_node.specs.Lives.{opening_at, shelf_slot, Holds, IsPassAt};
+ghost use Rattle.live_node.specs.Lives.{opening_at, shelf_slot, IsOver, Holds, IsPassAt};
 
 use crate::hub::Hub;
 use crate::live::Live;
@@ -29,6 +29,13 @@ impl<D: Disk> Live<D> {
         ensures there { result < shelf_slot self.now }
     {
         part_number(digest, self.set.sprigs, self.geometry.devices)
+    }
+
+    // What holds of each device under its table. It does nothing.
+    pub(crate) fn known(&self)
+        ensures { IsOver self.now }
+    {
+        let _ = &self.table;
     }
 
     // Takes the sprig of a part, and waits as long as it is out.

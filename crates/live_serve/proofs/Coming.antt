@@ -17,11 +17,10 @@ use Rattle.shard_core.specs.Stands.{Agrees}
 use Rattle.shard_core.specs.View.{ShardView, SameSetup, setup_for, setup_of}
 use Rattle.shard_core.proofs.Events.{of_first, of_others, of_one}
 use Rattle.turn_table.specs.Passes as table
-use Rattle.live_node.specs.declared.live.Live.{Live}
 use Rattle.live_node.specs.Opening.{Opening, opened, setup_at, state_at}
 use Rattle.live_node.specs.Calls.{seen_by}
 use Rattle.live_node.specs.Laws.{state_more}
-use Rattle.live_node.specs.Lives.{LivePass}
+use Rattle.live_node.specs.Lives.{Live, LivePass}
 use Rattle.live_node.proofs.Right.{last_more}
 use Rattle.live_serve.specs.declared.closing.Closing.{Closing}
 use Rattle.live_store.specs.Pairs.{EachPair}

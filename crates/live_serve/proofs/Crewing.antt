@@ -14,8 +14,7 @@ use Rattle.node_serve.specs.declared.closed.Closed.{Closed}
 use Rattle.node_serve.specs.Closing.{IsClosed}
 use Rattle.node_serve.specs.Serving.{DoesDuty, EachDone, AllDone, ServesLinks, seat_count}
 use Rattle.node_serve.proofs.Doing.{rest_done}
-use Rattle.live_node.specs.declared.live.Live.{Live}
-use Rattle.live_node.specs.Lives.{LivePass}
+use Rattle.live_node.specs.Lives.{Live, LivePass}
 use Rattle.live_store.specs.declared.store.LiveStore.{LiveStore}
 use Rattle.live_store.specs.Pairs.{EachPair}
 use Rattle.live_store.specs.Stores.{Acts}

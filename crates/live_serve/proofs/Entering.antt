@@ -8,9 +8,8 @@ use Rattle.shard_core.specs.View.{ShardView}
 use Rattle.turn_table.specs.declared.noted.Noted.{Noted}
 use Rattle.turn_table.specs.Rule.{all_numbers, newcomer}
 use Rattle.turn_table.specs.Passes.{view, own_count, joined_count}
-use Rattle.live_node.specs.declared.live.Live.{Live}
 use Rattle.live_node.specs.Opening.{opened}
-use Rattle.live_node.specs.Lives.{LivePass, opening_at, IsPassAt}
+use Rattle.live_node.specs.Lives.{Live, LivePass, opening_at, IsPassAt}
 use Rattle.live_store.specs.Pairs.{EachPair}
 use Rattle.live_store.specs.Known.{known_each}
 use Rattle.live_store.proofs.Pairs.{pairs_length}

@@ -4,9 +4,8 @@ use Rattle.std.proofs.lemmas.List.{append-nil}
 use Rattle.disk_model.specs.Disk.{DiskView}
 use Rattle.shard_core.specs.View.{ShardView}
 use Rattle.turn_table.specs.Passes.{view}
-use Rattle.live_node.specs.declared.live.Live.{Live}
 use Rattle.live_node.specs.Calls.{seen_by}
-use Rattle.live_node.specs.Lives.{LivePass, opening_at}
+use Rattle.live_node.specs.Lives.{Live, LivePass, opening_at}
 use Rattle.live_serve.specs.declared.closing.Closing.{Closing}
 use Rattle.live_store.specs.Pairs.{EachPair}
 use Rattle.live_store.specs.Known.{Known, known_each}

@@ -10,10 +10,9 @@ use Rattle.node_serve.specs.declared.closed.Closed.{Closed}
 use Rattle.node_serve.specs.Closing as door
 use Rattle.turn_table.specs.declared.noted.Noted.{Noted}
 use Rattle.turn_table.specs.Rule.{newcomer}
-use Rattle.live_node.specs.declared.live.Live.{Live}
 use Rattle.live_node.specs.Opening.{Opening, opened}
 use Rattle.live_node.specs.Calls.{LiveView}
-use Rattle.live_node.specs.Lives.{LivePass, IsPassAt, opening_at}
+use Rattle.live_node.specs.Lives.{Live, LivePass, IsPassAt, opening_at}
 use Rattle.live_store.specs.Pairs.{EachPair}
 use Rattle.live_store.specs.Known.{Known, known_each}
 use Rattle.live_store.proofs.Pairs.{pairs_length}

@@ -11,8 +11,7 @@ use Rattle.node_serve.specs.declared.closed.Closed.{Closed}
 use Rattle.node_serve.specs.Closing.{IsClosed}
 use Rattle.node_serve.specs.Serving as many
 use Rattle.node_serve.specs.Serving.{is_seat, links_served, seat_count}
-use Rattle.live_node.specs.declared.live.Live.{Live}
-use Rattle.live_node.specs.Lives.{LivePass, IsPassAt}
+use Rattle.live_node.specs.Lives.{Live, LivePass, IsPassAt}
 use Rattle.live_store.specs.declared.store.LiveStore.{LiveStore}
 use Rattle.live_store.specs.Pairs.{EachPair}
 use Rattle.live_store.specs.Known.{Known, known_each}

@@ -4,7 +4,7 @@ use Rattle.node_session.specs.declared.ended.Ended.{Ended}
 use Rattle.node_session.specs.Turns.{Times}
 use Rattle.node_serve.specs.declared.duty.Duty.TheVariants.{Seat, Worker}
 use Rattle.node_serve.specs.Serving.{ServesLinks, links_served, seat_count}
-use Rattle.live_node.specs.declared.live.Live.{Live}
+use Rattle.live_node.specs.Lives.{Live}
 use Rattle.live_store.specs.declared.store.LiveStore.{LiveStore}
 use Rattle.live_store.specs.Pairs.{EachPair}
 use Rattle.live_store.specs.Stores.{known_by}

@@ -10,11 +10,10 @@ use Rattle.shard_core.specs.View.{ShardView}
 use Rattle.turn_table.specs.declared.noted.Noted.{Noted}
 use Rattle.turn_table.specs.Rule.{all_numbers, newcomer}
 use Rattle.turn_table.specs.Passes.{view, own_count, joined_count}
-use Rattle.live_node.specs.declared.live.Live.{Live}
 use Rattle.live_node.specs.Opening.{Opening, WasSafe, opened, state_at, faults_at}
 use Rattle.live_node.specs.Fits.{IsSafeSince, Is}
 use Rattle.live_node.specs.Calls.{seen_by, IsLegalFrom}
-use Rattle.live_node.specs.Lives.{LivePass, opening_at, IsPassAt}
+use Rattle.live_node.specs.Lives.{Live, LivePass, opening_at, IsPassAt}
 use Rattle.live_store.specs.Pairs.{EachPair}
 use Rattle.live_store.specs.Known.{Known}
 use Rattle.live_serve.specs.declared.closing.Closing.{Closing}

@@ -22,8 +22,7 @@ use Rattle.line_proto.specs.declared.reply.LineFault.TheVariants as why
 use Rattle.model_node.specs.Commands.{flushed_reply, defragged_reply, expired_reply}
 use Rattle.node_replies.specs.Digests.{digest_of}
 use Rattle.node_replies.specs.Outcomes.{IsFlushed, IsDefragged, IsExpired}
-use Rattle.live_node.specs.declared.live.Live.{Live}
-use Rattle.live_node.specs.Lives.{LivePass}
+use Rattle.live_node.specs.Lives.{Live, LivePass}
 use Rattle.live_store.specs.Known.{Known, ArePasses, KeepNumbers, known_of, known_each}
 use Rattle.live_store.specs.Works.{RepliesOn, CallsOne, Carries}
 use Rattle.live_store.proofs.Known.{known_length, known_there, known_set}

@@ -14,10 +14,9 @@ use Rattle.shard_core.specs.Vacating.{IsCauseOf}
 use Rattle.node_replies.specs.Counts.{wrapped}
 use Rattle.node_replies.specs.Through.{Through}
 use Rattle.node_replies.proofs.Through.{through_next, through_all}
-use Rattle.live_node.specs.declared.live.Live.{Live}
 use Rattle.live_node.specs.Opening.{Opening}
 use Rattle.live_node.specs.Calls.{LiveView}
-use Rattle.live_node.specs.Lives.{LivePass}
+use Rattle.live_node.specs.Lives.{Live, LivePass}
 use Rattle.live_node.specs.Vacates.{Defrags}
 use Rattle.live_node.specs.Sweeps.{Sweeps}
 use Rattle.live_store.specs.Known.{Known, known_of, known_each}

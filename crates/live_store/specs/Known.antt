@@ -4,10 +4,9 @@ use Rattle.disk_model.specs.Disk.{DiskView}
 use Rattle.model_device.specs.Device.{State}
 use Rattle.model_node.specs.Commands.{Slot}
 use Rattle.turn_table.specs.Passes.{view, KeepsNumbers}
-use Rattle.live_node.specs.declared.live.Live.{Live}
 use Rattle.live_node.specs.Opening.{Opening, setup_at, state_at, faults_at}
 use Rattle.live_node.specs.Calls.{LiveView, seen_by}
-use Rattle.live_node.specs.Lives.{LivePass, opening_at, IsPassAt}
+use Rattle.live_node.specs.Lives.{Live, LivePass, opening_at, IsPassAt}
 use Rattle.live_node.specs.Vacates.{HasListRoom}
 use Rattle.live_store.specs.Pairs.{EachPair}
 

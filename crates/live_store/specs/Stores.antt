@@ -5,8 +5,7 @@ use Rattle.line_proto.specs.declared.command.Command.{Command}
 use Rattle.line_proto.specs.declared.reply.Reply.{Reply}
 use Rattle.line_proto.specs.declared.reply.Reply.TheVariants as reply
 use Rattle.line_proto.specs.declared.reply.LineFault.TheVariants as why
-use Rattle.live_node.specs.declared.live.Live.{Live}
-use Rattle.live_node.specs.Lives.{LivePass}
+use Rattle.live_node.specs.Lives.{Live, LivePass}
 use Rattle.live_store.specs.declared.store.LiveStore.{LiveStore}
 use Rattle.live_store.specs.Known.{Known, known_each, KeepNumbers}
 use Rattle.live_store.specs.Works.{Carries, HasNoCall}

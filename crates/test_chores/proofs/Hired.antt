@@ -1,6 +1,6 @@
 -- A chore that stays at its device with its numbers is hired still.
 use Rattle.std.proofs.Common.{◌∙◌}
-use Rattle.live_node.specs.declared.live.Live.{Live}
+use Rattle.live_node.specs.Lives.{Live}
 use Rattle.live_chores.specs.declared.station.Station.{Station}
 use Rattle.live_chores.specs.Stations.{Stays}
 use Rattle.test_chores.specs.Trials.{IsHired}

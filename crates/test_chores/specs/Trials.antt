@@ -2,8 +2,7 @@
 use Rattle.std.specs.Prelude.{◌≡◌, ◌+◌}
 use Rattle.turn_table.specs.Rule.{all_numbers}
 use Rattle.turn_table.specs.Passes.{own_count, joined_count}
-use Rattle.live_node.specs.declared.live.Live.{Live}
-use Rattle.live_node.specs.Lives.{LivePass, opening_at, IsPassAt}
+use Rattle.live_node.specs.Lives.{Live, LivePass, opening_at, IsPassAt}
 use Rattle.live_chores.specs.declared.station.Station.{Station}
 use Rattle.live_chores.specs.Stations.{live_at, pass_at}
 

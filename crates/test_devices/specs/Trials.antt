@@ -3,8 +3,7 @@ use Rattle.std.specs.Prelude.{◌≡◌, ◌+◌}
 use Rattle.turn_table.specs.Rule.{all_numbers}
 use Rattle.turn_table.specs.Passes.{own_count, joined_count}
 use Rattle.shard_core.specs.View.{ShardView}
-use Rattle.live_node.specs.declared.live.Live.{Live}
-use Rattle.live_node.specs.Lives.{LivePass, opening_at, IsPassAt}
+use Rattle.live_node.specs.Lives.{Live, LivePass, opening_at, IsPassAt}
 
 module _ {D : Type 0} where
   -- The device has no others beside it.

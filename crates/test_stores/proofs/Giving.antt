@@ -1,8 +1,7 @@
 -- The passes of a store, as they come off the end of their list.
 use Rattle.std.proofs.Common.{◌≡◌, ◌+◌, List, [], ◌∷◌, ◌++◌, length, refl, sym, ◌∙◌, ap, subst, arith, length-append}
 use Rattle.std.specs.List.{AllByRecursion}
-use Rattle.live_node.specs.declared.live.Live.{Live}
-use Rattle.live_node.specs.Lives.{LivePass, IsPassAt}
+use Rattle.live_node.specs.Lives.{Live, LivePass, IsPassAt}
 use Rattle.live_store.specs.Pairs.{EachPair}
 use Rattle.live_store.proofs.Pairs.{pairs_length}
 use Rattle.test_stores.specs.Trials.{HasOne, IsShare}

@@ -1,7 +1,7 @@
 -- One device of a node, and two.
 use Rattle.std.proofs.Common.{◌≡◌, ℕ, zero, suc, ◌≤◌, List, [], ◌∷◌, length, refl, sym, ◌∙◌, subst, arith}
 use Rattle.std.specs.Prelude.{Some, slice_get}
-use Rattle.live_node.specs.declared.live.Live.{Live}
+use Rattle.live_node.specs.Lives.{Live}
 use Rattle.live_store.specs.Known.{EachLive, IsDevice, AreDevices}
 use Rattle.test_stores.specs.Trials.{IsMade, HasRoom}
 

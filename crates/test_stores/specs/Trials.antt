@@ -7,8 +7,7 @@ use Rattle.shard_core.specs.View.{ShardView}
 use Rattle.shard_core.specs.Stands.{Agrees}
 use Rattle.turn_table.specs.Rule.{all_numbers}
 use Rattle.turn_table.specs.Passes.{own_count, joined_count}
-use Rattle.live_node.specs.declared.live.Live.{Live}
-use Rattle.live_node.specs.Lives.{LivePass, opening_at, IsPassAt}
+use Rattle.live_node.specs.Lives.{Live, LivePass, opening_at, IsPassAt}
 use Rattle.live_node.specs.Vacates.{HasListRoom}
 use Rattle.live_store.specs.declared.store.LiveStore.{LiveStore}
 use Rattle.live_store.specs.Known.{IsDevice}

@@ -1,7 +1,6 @@
 use Rattle.std.proofs.Common.{get_or, length, ap, set, subst, sym, arith}
 use Rattle.turn_table.specs.Passes.{view}
-use Rattle.live_node.specs.Lives.{IsPassAt}
-use Rattle.live_node.specs.declared.live.Live.{Live}
+use Rattle.live_node.specs.Lives.{Live, IsPassAt}
 use Rattle.live_node.proofs.Right.{seen_begins}
 use Rattle.live_store.proofs.Pairs.{pair_at}
 use Rattle.live_crew.specs.Crews.{IsAt, HasSeenFirst, LiveDuty, numbers_of}

@@ -4,8 +4,7 @@ use Rattle.std.proofs.lemmas.Option.{slice_get-get_or}
 use Rattle.model_device.specs.Vacating.{did, stopped}
 use Rattle.node_replies.specs.Counts.{wrapped}
 use Rattle.turn_table.specs.Passes.{KeepsNumbers}
-use Rattle.live_node.specs.declared.live.Live.{Live}
-use Rattle.live_node.specs.Lives.{opening_at, IsPassAt}
+use Rattle.live_node.specs.Lives.{Live, opening_at, IsPassAt}
 use Rattle.live_node.specs.Vacates.{HasListRoom}
 use Rattle.live_store.specs.Known.{ArePasses, KeepNumbers, known_of, known_each}
 use Rattle.live_store.specs.Works.{Defragments}

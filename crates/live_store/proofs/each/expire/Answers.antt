@@ -24,7 +24,7 @@ returns-in-Err-clause-expires g c =
     let why = cause_of_write (let refusal = c.in-Err.refusal in refusal.cause) in (
       stopped why,
       (why, refl, refl),
-      subst (λ (n : ℕ). SweepsFrom g.D.Disk.view (opening_at c.args.live.now) c.args.now n 0 0 (view c.args.pass.now) (view c.expire_part.new.pass) (stopped why)) c.parts-part-end.ensures
+      subst (λ (n : ℕ). SweepsFrom g.D.Disk.view (opening_at c.args.live.now) c.args.now n 0 0 (view c.args.pass.now) (view c.expire_part.new.pass) (stopped why)) c.parts-part-end.ensures.total
           (swept_stop g.D.Disk.view (opening_at c.args.live.now) c.args.now c.parts-part-end.result (view c.args.pass.now) c.loop-part.part c.loop-part.removed (view c.loop-part.pass)
           (view c.expire_part.new.pass) c.in-Err.refusal c.loop-part.invariant.so_far c.loop-part-test.true e.sweeps),
     )

@@ -23,7 +23,7 @@ give_alone-requires-clause-made g c =
     let o = opening_at c.args.self.now in
     let chose = c.choose_step-answer in
     let hub = by_lent c.deref_mut-shelf.ensures.value c.requires.hub in
-    let fits = fits_alone c.args.self.now.over hub in
+    let fits = fits_alone c.known.ensures hub in
     hub_step_fits fits choose_call (λ answer. answer ≡ choose_answer chose.result) chose.new.shelf refl tt
     (ap (λ x. x.geometry) chose.ensures.rest, ap (λ x. x.limits) chose.ensures.rest) chose.ensures.disk.honest
     (choose_answer chose.result, refl, chose.ensures.makes (setup_at o) (state_at o (seen_by (view c.args.pass.now))) (is_setup fits) hub.stands)
@@ -57,7 +57,7 @@ returns-clause-low g c =
     ap (state_at o) by.last ∙ state_more o by.past by.event
     ∙ choose_still (setup_at o) false (state_at o by.past) by.event (subst (Allowed (setup_at o) false (state_at o by.past) by.event) by.said.is_call (allowed_in by)) ∙ ap (state_at o) gave.1 in
     subst (λ (t : State). IfOk chose.result (λ chosen. IfSome chosen (λ block. CanEmpty block t.book))) (sym still)
-    (low_chosen chose.result s.book hub.stands.stands.order.booked (chose.ensures.low (setup_at o) s (is_setup (fits_alone c.args.self.now.over hub)) hub.stands))
+    (low_chosen chose.result s.book hub.stands.stands.order.booked (chose.ensures.low (setup_at o) s (is_setup (fits_alone c.known.ensures hub)) hub.stands))
 
 pub returns-clause-few : goal.returns-clause-few
 returns-clause-few g c =

@@ -16,7 +16,7 @@ pub returns-clause-answer : goal.returns-clause-answer
 returns-clause-answer g c =
     let o = opening_at c.args.self.now in
     subst (λ (l : List Event). c.counts-counts.result ≡ counts_of (state_at o l)) (sym c.give_back.ensures.seen)
-    (c.counts-counts.ensures.numbers o (seen_by (view c.take_hub-hub.new.pass)) c.take_hub-hub.ensures.fits c.args.self.now.over.opening)
+    (c.counts-counts.ensures.numbers o (seen_by (view c.take_hub-hub.new.pass)) c.take_hub-hub.ensures.fits c.known.ensures.opening)
 
 pub returns-clause-few : goal.returns-clause-few
-returns-clause-few g c = c.counts-counts.ensures.few (opening_at c.args.self.now) (seen_by (view c.take_hub-hub.new.pass)) c.take_hub-hub.ensures.fits c.args.self.now.over.opening
+returns-clause-few g c = c.counts-counts.ensures.few (opening_at c.args.self.now) (seen_by (view c.take_hub-hub.new.pass)) c.take_hub-hub.ensures.fits c.known.ensures.opening

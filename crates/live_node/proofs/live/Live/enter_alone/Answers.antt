@@ -12,7 +12,7 @@ pub give_alone-requires-clause-made : goal.give_alone-requires-clause-made
 give_alone-requires-clause-made g c =
     let o = opening_at c.args.self.now in
     let hub = by_lent c.deref_mut.ensures.value c.requires.hub in
-    let fits = fits_alone c.args.self.now.over hub in
+    let fits = fits_alone c.known.ensures hub in
     let call = c.args.call.now in
     hub_step_fits fits (g.C.EventCall.call call) (g.C.EventCall.answers call c.step-answer.result) c.step-answer.new.shelf (ap (if_below (part_total (setup_at o))) (g.met.C.HubStep.named call (setup_at o))) (g.met.C.HubStep.own call (setup_at o))
     c.step-answer.ensures.shape c.step-answer.ensures.honest

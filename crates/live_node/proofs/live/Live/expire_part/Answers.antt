@@ -6,7 +6,7 @@ use Rattle.live_node.proofs.Several.{right_here, shows_between}
 use Rattle.live_node.proofs.live.Live.expire_part.Goals as goal
 
 pub take_part-sprig-requires-clause-part : goal.take_part-sprig-requires-clause-part
-take_part-sprig-requires-clause-part g c = subst (λ (n : ℕ). c.args.part < n) (sym c.args.self.now.over.all) c.requires.part
+take_part-sprig-requires-clause-part g c = subst (λ (n : ℕ). c.args.part < n) (sym c.known.ensures.all) c.requires.part
 
 pub sweep-answer-requires-clause-here : goal.sweep-answer-requires-clause-here
 sweep-answer-requires-clause-here g c = right_here c.take_part-sprig.ensures.right

@@ -3,7 +3,7 @@ use Rattle.model_device.specs.Events.{Event}
 use Rattle.turn_table.specs.Passes.{view}
 use Rattle.live_node.specs.Fits.{HubFits, Is}
 use Rattle.live_node.specs.Lives.{opening_at}
-use Rattle.live_node.proofs.Right.{answers_entered, seen_more}
+use Rattle.live_node.proofs.Right.{opened_at, answers_entered, seen_more}
 use Rattle.live_node.proofs.Stepping.{hub_step_noted}
 use Rattle.live_node.proofs.live.Live.give_alone.Goals as goal
 
@@ -12,7 +12,7 @@ returns-clause-once g c =
     let gave = c.give_hub in
     let said = (hub_step_noted (view c.args.pass.now) (opening_at c.args.self.now) c.about-event.result c.requires.pass.0.opened c.about-event.ensures).said in
     answers_entered g.D.Disk.view (opening_at c.args.self.now) (view c.args.pass.now) (view gave.new.pass) c.about-event.result
-    (Is (g.C.EventCall.call c.args.call.now) (g.C.EventCall.answers c.args.call.now c.args.answer.now)) said gave.ensures.pass.1 gave.ensures.seen gave.ensures.pass.0.opened
+    (Is (g.C.EventCall.call c.args.call.now) (g.C.EventCall.answers c.args.call.now c.args.answer.now)) said gave.ensures.pass.1 gave.ensures.seen (opened_at c.self.view_is gave.ensures.pass.0.opened)
 
 pub returns-clause-hub : goal.returns-clause-hub
 returns-clause-hub g c =

@@ -5,7 +5,7 @@ use Rattle.live_node.proofs.Leaving.{first_between}
 use Rattle.live_node.proofs.live.Live.move_first.Goals as goal
 
 pub take_part-sprig-requires-clause-part : goal.take_part-sprig-requires-clause-part
-take_part-sprig-requires-clause-part g c = subst (λ (n : ℕ). c.args.part < n) (sym c.args.self.now.over.all) c.requires.part
+take_part-sprig-requires-clause-part g c = subst (λ (n : ℕ). c.args.part < n) (sym c.known.ensures.all) c.requires.part
 
 pub move_lying-answer-requires-clause-here : goal.move_lying-answer-requires-clause-here
 move_lying-answer-requires-clause-here g c = right_here c.take_part-sprig.ensures.right

@@ -18,7 +18,7 @@ pub enter-requires-clause-own : goal.enter-requires-clause-own
 enter-requires-clause-own g c =
     let took = c.take_hub-hub in
     let fits = took.ensures.still c.args.part c.args.sprig.now c.requires.pass.1 c.requires.fits in
-    lies_in_own c.args.self.now.over took.ensures.fits c.args.part c.args.block c.args.digest.now
+    lies_in_own c.known.ensures took.ensures.fits c.args.part c.args.block c.args.digest.now
     (lies_here (opening_at c.args.self.now) (seen_by (view took.new.pass)) c.args.part c.args.block c.args.sprig.now fits c.args.digest.now c.requires.lies)
 
 pub enter-requires-clause-part : goal.enter-requires-clause-part

@@ -13,7 +13,7 @@ pub loop-part-init : goal.loop-part-init
 loop-part-init g c = record { pass = c.requires.pass; numbers = (refl, refl); right = c.requires.here; left = λ digest up below. absurd (omega (arith, up, below)) }
 
 pub move_first-requires-clause-part : goal.move_first-requires-clause-part
-move_first-requires-clause-part g c = subst (λ (n : ℕ). c.loop-part.part < n) c.parts-part-end.ensures c.loop-part-test.true
+move_first-requires-clause-part g c = subst (λ (n : ℕ). c.loop-part.part < n) c.parts-part-end.ensures.total c.loop-part-test.true
 
 pub loop-part-preserved : goal.loop-part-preserved
 loop-part-preserved g c =
@@ -47,5 +47,5 @@ returns-in_err-move_first-clause-moves g c =
 pub returns-clause-moves : goal.returns-clause-moves
 returns-clause-moves g c = (
   c.loop-part.invariant.right,
-  λ digest up below. c.loop-part.invariant.left digest up (omega (arith, below, c.loop-part-test.false, c.parts-part-end.ensures)),
+  λ digest up below. c.loop-part.invariant.left digest up (omega (arith, below, c.loop-part-test.false, c.parts-part-end.ensures.total)),
 )

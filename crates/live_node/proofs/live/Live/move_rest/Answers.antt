@@ -68,7 +68,7 @@ returns-in-Ok-None-clause-leaves g c from first can =
     let u = view c.args.pass.now in let v = view c.loop-moved.pass in let w = view c.move_next.new.pass in
     let here = c.loop-moved.invariant in
     let none = subst (λ (x : Option ℕ). MovesNext g.D.Disk.view o v w c.loop-moved.part c.args.block (Ok x)) c.in-Ok-None.field-0-is c.in-Ok-None.ensures.moves in
-    parts_own o c.args.block from (seen_by w) c.args.self.now.over.opening
+    parts_own o c.args.block from (seen_by w) c.known.ensures.opening
     (parts_both o c.args.block from (seen_by u) (seen_by v) (seen_by w) 0 c.loop-moved.part (part_total (setup_at o)) first (seen_begins u v here.moves.1.right.seen)
     (seen_begins v w none.0.seen) here.left none.1)
 

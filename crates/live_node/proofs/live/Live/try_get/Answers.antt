@@ -16,7 +16,7 @@ pub returns-in_default-try_hub-clause-answers : goal.returns-in_default-try_hub-
 returns-in_default-try_hub-clause-answers g c =
     let o = opening_at c.args.self.now in
     let none = c.in_default-try_hub.ensures.none in
-    let slot : c.parts.result ≡ shelf_slot c.args.self.now = c.parts.ensures ∙ sym c.args.self.now.over.all in
+    let slot : c.parts.result ≡ shelf_slot c.args.self.now = c.parts.ensures.total ∙ sym c.known.ensures.all in
     let v0 = view c.args.pass.now in let v1 = view c.try_part.new.pass in let v2 = view c.try_hub.new.pass in let v3 = view c.give_part.new.pass in (
       inr slot,
       record {

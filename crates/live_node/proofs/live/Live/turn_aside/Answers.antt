@@ -21,7 +21,7 @@ pub shelf_turn-answer-requires : goal.shelf_turn-answer-requires
 shelf_turn-answer-requires g c = λ is.
     let o = opening_at c.args.self.now in
     let next = c.args.raid.now.next in
-    let sprigs = c.args.self.now.over.opening.settings.sprigs in
+    let sprigs = c.known.ensures.opening.settings.sprigs in
     let at : c.next-next.result ≡ next = c.next-next.ensures.value ∙ ap (λ (b : BookState). b.next) c.raid.ensures.book ∙ sym is.next in
     let fits = subst (λ (b : BookState). FitsTurn next b) c.raid.ensures.book (subst (λ (n : RaidNext). FitsTurn n c.raid.result.now) at c.next-next.ensures.fits) in
     let hub = by_lent c.deref_mut-shelf.ensures.value c.take_hub-hub.ensures.fits in
@@ -33,7 +33,7 @@ give_alone-requires-clause-made g c =
     let view' = g.D.Disk.view in
     let o = opening_at c.args.self.now in
     let hub = by_lent c.deref_mut-shelf.ensures.value c.take_hub-hub.ensures.fits in
-    let fits = fits_alone c.args.self.now.over hub in
+    let fits = fits_alone c.known.ensures hub in
     let took = c.shelf_turn-answer in
     let answer = turn_answer took.result in
     let raid = c.args.raid.now in

@@ -10,12 +10,13 @@ use Rattle.live_node.specs.Fits.{PartEvent, Is, HubFits, StepFits}
 use Rattle.live_node.specs.Calls.{seen_by, AnswersBy}
 use Rattle.live_node.specs.Lives.{opening_at}
 use Rattle.live_node.proofs.Right.{right_then, answers_between}
+use Rattle.live_node.proofs.Opened.{over_at}
 use Rattle.live_node.proofs.Stepping.{by_lent, fits_alone, is_setup, counts_by, step_fits}
 use Rattle.live_node.proofs.Raiding.{turn_shown}
 use Rattle.live_node.proofs.live.Live.turn_at.Goals as goal
 
 pub take_part-sprig-requires-clause-part : goal.take_part-sprig-requires-clause-part
-take_part-sprig-requires-clause-part g c = subst (λ (n : ℕ). c.args.part < n) (sym c.args.self.now.over.all) c.requires.there
+take_part-sprig-requires-clause-part g c = subst (λ (n : ℕ). c.args.part < n) (sym c.known.ensures.all) c.requires.there
 
 pub part_turn-answer-requires : goal.part_turn-answer-requires
 part_turn-answer-requires g c =
@@ -27,7 +28,7 @@ part_turn-answer-requires g c =
         state_at o (seen_by (view c.take_hub-hub.new.pass)),
         c.args.part,
         c.requires.part,
-        is_setup (fits_alone c.args.self.now.over hub),
+        is_setup (fits_alone (over_at c.self.view_is c.self.invariant.0) hub),
         record { sprig_stands = sprig; shelf_stands = hub.stands },
       );
     }
@@ -37,7 +38,7 @@ give_step-requires-clause-made g c =
     let view' = g.D.Disk.view in
     let o = opening_at c.args.self.now in
     let hub = by_lent c.deref_mut.ensures.value c.take_hub-hub.ensures.fits in
-    let fits = fits_alone c.args.self.now.over hub in
+    let fits = fits_alone (over_at c.self.view_is c.self.invariant.0) hub in
     let sprig = c.take_part-sprig.result in
     let sprig_fits = c.take_hub-hub.ensures.still c.args.part sprig c.take_part-sprig.ensures.pass.1 c.take_part-sprig.ensures.fits in
     let took = c.part_turn-answer in

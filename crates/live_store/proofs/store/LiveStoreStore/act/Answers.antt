@@ -7,8 +7,7 @@ use Rattle.line_proto.specs.declared.command.Command.TheVariants as command
 use Rattle.line_proto.specs.declared.reply.Reply.TheVariants as reply
 use Rattle.line_proto.specs.declared.reply.LineFault.TheVariants as why
 use Rattle.turn_table.specs.Passes.{KeepsNumbers}
-use Rattle.live_node.specs.declared.live.Live.{Live}
-use Rattle.live_node.specs.Lives.{LivePass, IsPassAt}
+use Rattle.live_node.specs.Lives.{Live, LivePass, IsPassAt}
 use Rattle.live_store.specs.Known.{AreDevices, KeepNumbers, known_each}
 use Rattle.live_store.specs.Works.{RepliesOn, Flushes, Defragments, Expires, EachDevice}
 use Rattle.live_store.specs.Stores.{Acts}
