@@ -1,9 +1,9 @@
 // A disk in memory, which keeps a record of its moments.
-ghost use Rattle.std.specs.Prelude.{◌≡◌, ◌⊎◌, ◌+◌, ◌-◌, ◌++◌, ◌≤◌, ◌^◌, ◌<◌, None, Some, false, true, ℕ, [], ◌∷◌, List, min, length, replicate, OnOk, OnErr, IfOk, is_err, take, drop, if◌then◌else◌};
+ghost use Rattle.std.specs.Prelude.{◌≡◌, ◌⊎◌, ◌+◌, ◌-◌, ◌++◌, ◌≤◌, ◌^◌, ◌<◌, None, Some, false, true, ℕ, [], ◌∷◌, List, min, length, replicate, OnOk, OnErr, IfOk, is_err, take, drop, ◌||◌, if◌then◌else◌};
 ghost use Rattle.disk_model.specs.Bytes.{range, Torn, overwrite};
 ghost use Rattle.disk_model.specs.Replay.{State, synced, after_write, after, replay, MayLeave, RecordsChange};
 ghost use Rattle.disk_model.specs.Disk.{Written, Within, TornFrom, TellsSame, TellsTorn, Loosens, IsOnly, IsSettled, IsHonest, IsCall, meanwhile};
-ghost use Rattle.disk_model.specs.Faults.{is_asked, IsCounted, IsAskedAfter, IsAskedOf, IsSame, FailsWhere, faults_after, is_due, flipped};
+ghost use Rattle.disk_model.specs.Faults.{is_asked, is_stopped, IsCounted, IsAskedAfter, IsAskedOf, IsSame, FailsWhere, faults_after, is_due, flipped};
 ghost use Rattle.model_faults.specs.Counts.{one_more};
 ghost use Rattle.disk_model.specs.Picked.{picked_of, Tracks};
 ghost use Rattle.disk_model.specs.Past.{bytes_after, recorded, is_disk};
@@ -13,7 +13,7 @@ use crate::tally::Tally;
 use crate::{Disk, DiskCall, DiskFault, NoMemory};
 use std::alloc::{AllocError, Global};
 
-/// A disk in memory, which keeps a record of its moments, and fails where it is asked to. It is honest until a read is asked to lie.
+/// A disk in memory, which keeps a record of its moments, and fails or stops where it is asked to. It is honest until a read is asked to lie.
 #[derive(Drop)]
 pub struct MemDisk {
     alloc: Global,
@@ -28,6 +28,8 @@ pub struct MemDisk {
     starved: u64,
     /// The number of the read that is to lie.
     lie: Option<u64>,
+    /// The number of the first call of any kind that fails, and with it all behind it.
+    stop: Option<u64>,
     ghost whole: { length content.items ≡ length first.items },
     ghost same: { content.items ≡ bytes_after first.items changes.items },
 }
@@ -70,6 +72,7 @@ impl MemDisk {
             calls: 0,
             starved: 0,
             lie: None,
+            stop: None,
         })
     }
 
@@ -94,6 +97,23 @@ impl MemDisk {
         ensures others { self.new ≡ record self.old { lie = Some (min (self.old.reads.done + skip) (2 ^ 64 - 1)) } }
     {
         self.lie = Some(self.reads.done.saturating_add(skip));
+    }
+
+    /// Asks that after so many more calls of any kind every call fails, as of a drive that is gone. It stands in place of an earlier stop.
+    pub fn stop_after(&mut self, calls: u64)
+        ensures { self.new ≡ record self.old { stop = Some (min (self.old.calls + calls) (2 ^ 64 - 1)) } }
+    {
+        self.stop = Some(self.calls.saturating_add(calls));
+    }
+
+    // Whether the next call comes behind the last that the disk answers.
+    fn is_stopped(&self) -> bool
+        ensures { result ≡ is_stopped self.now.stop self.now.calls }
+    {
+        match self.stop {
+            Some(number) => number <= self.calls,
+            None => false,
+        }
     }
 
     /// How often there was no memory to record a call.
@@ -271,16 +291,17 @@ impl Disk for MemDisk {
         ensures bytes { TellsSame (view_of self.old) (view_of self.new) }
         ensures images { Within (view_of self.old).may_leave (meanwhile (view_of self.old) (view_of self.new)) }
         ensures call { IsCall (view_of self.old) (view_of self.new) result }
-        // It fails exactly where it was asked to.
-        ensures fails { is_err result ≡ is_asked self.old.reads }
+        // It fails exactly where it was asked to, or where the disk has stopped.
+        ensures fails { is_err result ≡ (is_asked self.old.reads || is_stopped self.old.stop self.old.calls) }
         // It gives the bytes, but for the first of the read that lies.
         ensures gives { OnOk result (out.new ≡ (if is_due self.old.lie self.old.reads then flipped (range place (length out.old) (view_of self.old).seen) else range place (length out.old) (view_of self.old).seen)) }
         ensures reads { IsCounted self.old.reads self.new.reads }
         ensures others { self.new ≡ record self.old { reads = self.new.reads; faults = faults_after self.old.faults result; calls = one_more self.old.calls } }
     {
+        let stops = self.is_stopped();
         self.calls = self.calls.saturating_add(1);
         let lies = is_lie_due(self.lie, &self.reads);
-        if self.reads.count() {
+        if self.reads.count() || stops {
             self.faults = self.faults.saturating_add(1);
             return Err(DiskFault);
         }
@@ -300,18 +321,19 @@ impl Disk for MemDisk {
         ensures more { Within (view_of self.new).may_leave (view_of self.old).may_leave }
         ensures loose { OnOk result (Loosens place (length bytes.now) (view_of self.old).may_leave (view_of self.new).may_leave) }
         ensures call { IsCall (view_of self.old) (view_of self.new) result }
-        // It fails exactly where it was asked to, or for want of memory for the record.
-        ensures fails { FailsWhere (is_asked self.old.writes) self.old.starved self.new.starved result }
+        // It fails exactly where it was asked to, where the disk has stopped, or for want of memory for the record.
+        ensures fails { FailsWhere (is_asked self.old.writes || is_stopped self.old.stop self.old.calls) self.old.starved self.new.starved result }
         // It is recorded, a failed one too; but for want of memory nothing is done.
         ensures ok { OnOk result (RecordsChange self.old.changes.items self.new.changes.items (after_write place bytes.now true)) }
         ensures err { OnErr result (RecordsChange self.old.changes.items self.new.changes.items (after_write place bytes.now false) ⊎ ((self.new.changes.items ≡ self.old.changes.items) × (self.new.starved ≡ one_more self.old.starved))) }
         ensures writes { IsCounted self.old.writes self.new.writes }
         ensures counts { (self.new.faults ≡ faults_after self.old.faults result) × (self.new.calls ≡ one_more self.old.calls) }
-        ensures others { (self.new.first ≡ self.old.first) × (self.new.reads ≡ self.old.reads) × (self.new.syncs ≡ self.old.syncs) × (self.new.lie ≡ self.old.lie) }
+        ensures others { (self.new.first ≡ self.old.first) × (self.new.reads ≡ self.old.reads) × (self.new.syncs ≡ self.old.syncs) × (self.new.lie ≡ self.old.lie) × (self.new.stop ≡ self.old.stop) }
     {
+        let stops = self.is_stopped();
         self.calls = self.calls.saturating_add(1);
         let at = place as usize;
-        let fails = self.writes.count();
+        let fails = self.writes.count() || stops;
         let Ok(()) = note_write(self.alloc, &mut self.changes, at, bytes, !fails) else {
             self.starved = self.starved.saturating_add(1);
             self.faults = self.faults.saturating_add(1);
@@ -331,16 +353,17 @@ impl Disk for MemDisk {
         ensures failed { (view_of self.old).tells → OnErr result (Within (view_of self.old).may_leave (meanwhile (view_of self.old) (view_of self.new))) }
         ensures images { IsHonest (view_of self.old) → Within (view_of self.old).may_leave (meanwhile (view_of self.old) (view_of self.new)) }
         ensures call { IsCall (view_of self.old) (view_of self.new) result }
-        // It fails exactly where it was asked to, or for want of memory for the record.
-        ensures fails { FailsWhere (is_asked self.old.syncs) self.old.starved self.new.starved result }
+        // It fails exactly where it was asked to, where the disk has stopped, or for want of memory for the record.
+        ensures fails { FailsWhere (is_asked self.old.syncs || is_stopped self.old.stop self.old.calls) self.old.starved self.new.starved result }
         ensures ok { OnOk result (RecordsChange self.old.changes.items self.new.changes.items (λ s. synced s.bytes)) }
         ensures err { OnErr result (self.new.changes.items ≡ self.old.changes.items) }
         ensures syncs { IsCounted self.old.syncs self.new.syncs }
         ensures counts { (self.new.faults ≡ faults_after self.old.faults result) × (self.new.calls ≡ one_more self.old.calls) }
-        ensures others { (self.new.first ≡ self.old.first) × (self.new.reads ≡ self.old.reads) × (self.new.writes ≡ self.old.writes) × (self.new.lie ≡ self.old.lie) }
+        ensures others { (self.new.first ≡ self.old.first) × (self.new.reads ≡ self.old.reads) × (self.new.writes ≡ self.old.writes) × (self.new.lie ≡ self.old.lie) × (self.new.stop ≡ self.old.stop) }
     {
+        let stops = self.is_stopped();
         self.calls = self.calls.saturating_add(1);
-        if self.syncs.count() {
+        if self.syncs.count() || stops {
             self.faults = self.faults.saturating_add(1);
             return Err(DiskFault);
         }
