@@ -11,7 +11,7 @@ use Rattle.model_device.specs.Device.{State, seen, entry, entry_is_covered, entr
 use Rattle.model_device.specs.Steps.{Step, removed}
 use Rattle.model_device.specs.Events.{Cause, Answer, stamp_given, happened, refused, Event, Call, put_call, bury_call, delete_call, expire_call, get_call, flush_call, flush_sealed_call}
 use Rattle.model_device.specs.Events.{flush_next_call}
-use Rattle.model_device.specs.Events.{choose_call, move_call, begin_call, turn_call, after_event}
+use Rattle.model_device.specs.Events.{heal_call, choose_call, move_call, begin_call, turn_call, after_event}
 use Rattle.model_device.specs.Legal.{Allowed, Only, Unless, WriteEnds, Entombs, Removes, no_write, the_stamp, tombstone_reserve, put_refusal, new_put}
 use Rattle.law_commit.specs.Commits.{Commits, FlushesTop, IsDone, flushed_if_wrote}
 use Rattle.law_commit.proofs.Flushing.{write_commits, written_flushed}
@@ -83,6 +83,7 @@ commits setup told s event (get_call digest now) allowed = unwriting_commits set
 commits setup told s event flush_call allowed = unwriting_commits setup s event (unwritten setup told s event flush_call tt allowed)
 commits setup told s event flush_sealed_call allowed = unwriting_commits setup s event (unwritten setup told s event flush_sealed_call tt allowed)
 commits setup told s event flush_next_call allowed = unwriting_commits setup s event (unwritten setup told s event flush_next_call tt allowed)
+commits setup told s event heal_call allowed = unwriting_commits setup s event (unwritten setup told s event heal_call tt allowed)
 commits setup told s event choose_call allowed = unwriting_commits setup s event (unwritten setup told s event choose_call tt allowed)
 commits setup told s event (move_call digest block) allowed = unwriting_commits setup s event (unwritten setup told s event (move_call digest block) tt allowed)
 commits setup told s event begin_call allowed = unwriting_commits setup s event (unwritten setup told s event begin_call tt allowed)

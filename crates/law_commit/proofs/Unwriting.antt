@@ -9,7 +9,7 @@ use Rattle.model_device.specs.Book.{Setup, Book, Buffer, Stream, client, defrag,
 use Rattle.model_device.specs.Device.{State, Turn, mark_turn, scan_turn, apply_turn, drop_turn, finished, entry, entry_passes, seen}
 use Rattle.model_device.specs.Steps.{Step, wrote, moved, rid_of, uncovered, gate_begun, flushed_buffer, closing_failed, raid_begun, raid_given_up, marked_part, scanned_block, compared_part}
 use Rattle.model_device.specs.Steps.{done_part, after_steps}
-use Rattle.model_device.specs.Events.{Event, Call, get_call, flush_call, flush_sealed_call, flush_next_call, choose_call, move_call, begin_call, turn_call, Cause, stale, happened}
+use Rattle.model_device.specs.Events.{Event, Call, get_call, flush_call, flush_sealed_call, flush_next_call, heal_call, choose_call, move_call, begin_call, turn_call, Cause, stale, happened}
 use Rattle.model_device.specs.Events.{raid_numbered, refused}
 use Rattle.model_device.specs.Legal.{Allowed, FlushEnds, NoMemory, Only, Unless, DamageFound, DiskFails, TurnEnds, same_turn, drop_step, marked_in}
 use Rattle.model_device.specs.Legal.{WhereReads, is_in_block, live_units, move_reserve, no_place, queue_front, seal_if, seal_all, seal_low, is_due, flush_of, flush_all, flush_first, first_sealed}
@@ -74,6 +74,7 @@ abbrev pub IsUnwriting : Call → Type 0
 IsUnwriting flush_call = Unit {0}
 IsUnwriting flush_sealed_call = Unit {0}
 IsUnwriting flush_next_call = Unit {0}
+IsUnwriting heal_call = Unit {0}
 IsUnwriting choose_call = Unit {0}
 IsUnwriting (move_call digest block) = Unit {0}
 IsUnwriting begin_call = Unit {0}
@@ -95,6 +96,10 @@ pub get_unwritten : (setup : Setup) (told : Bool) (s : State) (event : Event) (d
 get_unwritten setup told s event digest now (inl read) = none_made event read.2
 get_unwritten setup told s event digest now (inr (inl no_memory)) = none_made event no_memory.1
 get_unwritten setup told s event digest now (inr (inr reads)) = reads_unwritten told event (seen s now digest) reads
+
+heal_unwritten : (setup : Setup) (told : Bool) (s : State) (event : Event) → Allowed setup told s event heal_call → AllByRecursion WritesNone event.steps
+heal_unwritten setup told s event (inl closed) = none_made event closed.2
+heal_unwritten setup told s event (inr failed) = none_made event failed.1
 
 choose_unwritten : (setup : Setup) (told : Bool) (s : State) (event : Event) → Allowed setup told s event choose_call → AllByRecursion WritesNone event.steps
 choose_unwritten setup told s event (inl chosen) = none_made event chosen.1
@@ -177,6 +182,7 @@ unwritten setup told s event flush_sealed_call is allowed =
 unwritten setup told s event flush_next_call is allowed =
     ends_unwritten event (seal_low setup s.book) (flush_first (after_steps setup (seal_low setup s.book) s).book) (lows_write_none setup s.book)
     (first_write_none (after_steps setup (seal_low setup s.book) s).book.buffers) allowed
+unwritten setup told s event heal_call is allowed = heal_unwritten setup told s event allowed
 unwritten setup told s event choose_call is allowed = choose_unwritten setup told s event allowed
 unwritten setup told s event (move_call digest block) is allowed = move_unwritten setup told s event digest block allowed
 unwritten setup told s event begin_call is allowed = begin_unwritten setup told s event allowed

@@ -16,7 +16,7 @@ use Rattle.model_device.specs.Book.{Setup, Book, Buffer, Stream, client, defrag,
 use Rattle.model_device.specs.Device.{State, Turn, mark_turn, scan_turn, apply_turn, drop_turn, finished, history, entry, entry_is_covered, entry_passes, seen, next_stamp_of, part_of, digests_of}
 use Rattle.model_device.specs.Steps.{Step, wrote, moved, removed, rid_of, uncovered, sealed_stream, gate_begun, flushed_buffer, closing_failed, raid_begun}
 use Rattle.model_device.specs.Steps.{raid_given_up, marked_part, scanned_block, compared_part, done_part, after_step, after_steps, with_item}
-use Rattle.model_device.specs.Events.{Call, put_call, bury_call, delete_call, expire_call, get_call, flush_call, flush_sealed_call, flush_next_call}
+use Rattle.model_device.specs.Events.{Call, put_call, bury_call, delete_call, expire_call, get_call, flush_call, flush_sealed_call, flush_next_call, heal_call}
 use Rattle.model_device.specs.Events.{choose_call, move_call, begin_call, turn_call, Cause, Answer, stamp_given, happened, raid_numbered, refused, stale, Event}
 use Rattle.model_device.specs.Legal
 use Rattle.rec_format.proofs.Laws.{same_digest_is}
@@ -311,6 +311,8 @@ allowed_may setup told s possible event flush_sealed_call facts own scans become
 allowed_may setup told s possible event flush_next_call facts own scans becomes ends =
     flushed_ends setup s possible event (Legal.seal_low setup s.book) (Legal.flush_first (after_steps setup (Legal.seal_low setup s.book) s).book) (both_seals _ _)
     (first_free (after_steps setup (Legal.seal_low setup s.book) s).book.buffers) ends
+allowed_may setup told s possible event heal_call facts own scans becomes (inl closed) = none_steps setup s possible event closed.2
+allowed_may setup told s possible event heal_call facts own scans becomes (inr fails) = none_steps setup s possible event fails.1
 allowed_may setup told s possible event choose_call facts own scans becomes (inl only) = none_steps setup s possible event only.1
 allowed_may setup told s possible event choose_call facts own scans becomes (inr reads) = where_reads setup told s possible event (Legal.queue_front s.book.queue) reads
 allowed_may setup told s possible event (move_call digest block) facts own scans becomes ends = by (Legal.is_in_block block (live_of digest s.book.live)) ends

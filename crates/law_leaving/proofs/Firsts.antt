@@ -11,7 +11,7 @@ use Rattle.model_device.specs.Book.{Setup, Live, client, defrag, has_room, placi
 use Rattle.model_device.specs.Device.{State, entry, entry_passes, entry_is_covered, seen, next_stamp_of}
 use Rattle.model_device.specs.Steps.{Step, wrote, moved, removed, rid_of, uncovered, sealed_stream, gate_begun, flushed_buffer, closing_failed, raid_begun}
 use Rattle.model_device.specs.Steps.{raid_given_up, marked_part, scanned_block, compared_part, done_part, after_step, after_steps}
-use Rattle.model_device.specs.Events.{Call, put_call, bury_call, delete_call, expire_call, get_call, flush_call, flush_sealed_call, flush_next_call}
+use Rattle.model_device.specs.Events.{Call, put_call, bury_call, delete_call, expire_call, get_call, flush_call, flush_sealed_call, flush_next_call, heal_call}
 use Rattle.model_device.specs.Events.{choose_call, move_call, begin_call, turn_call, Cause, Answer, happened, stamp_given, Event}
 use Rattle.model_device.specs.Legal.{Allowed, NoMemory, Only, Unless, DamageFound, DiskFails, WhereReads, WriteEnds, Entombs, Removes, StopsIn, commit_seal, commit_flush, flush_between}
 use Rattle.model_device.specs.Legal.{the_stamp, no_write, tombstone_reserve, put_refusal, new_put, is_in_block, live_units, no_place, move_reserve}
@@ -185,6 +185,7 @@ module _ (setup : Setup) (told : Bool) (s : State) (event : Event) where
   places_first flush_call is = unnamed flush_call refl is
   places_first flush_sealed_call is = unnamed flush_sealed_call refl is
   places_first flush_next_call is = unnamed flush_next_call refl is
+  places_first heal_call is = unnamed heal_call refl is
   places_first choose_call is = unnamed choose_call refl is
   places_first (move_call digest block) is = move_at digest (live_of digest s.book.live) (is_in_block block (live_of digest s.book.live)) is
   places_first begin_call is = unnamed begin_call refl is

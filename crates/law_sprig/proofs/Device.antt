@@ -11,7 +11,7 @@ use Rattle.model_device.specs.Book.{Setup, Live, live_of}
 use Rattle.model_device.specs.Device.{State, Log, digests_of as logged, stops_search, item_with_number, log_with_number}
 use Rattle.model_device.specs.Steps.{Step, wrote, moved, removed, rid_of, uncovered, sealed_stream, gate_begun, flushed_buffer, closing_failed, raid_begun}
 use Rattle.model_device.specs.Steps.{raid_given_up, marked_part, scanned_block, compared_part, done_part, after_step, after_steps, moved_state}
-use Rattle.model_device.specs.Events.{Call, put_call, bury_call, delete_call, expire_call, get_call, flush_call, flush_sealed_call, flush_next_call}
+use Rattle.model_device.specs.Events.{Call, put_call, bury_call, delete_call, expire_call, get_call, flush_call, flush_sealed_call, flush_next_call, heal_call}
 use Rattle.model_device.specs.Events.{choose_call, move_call, begin_call, turn_call, Event, after_event, after_events}
 use Rattle.model_device.specs.Passes.{part_named}
 use Rattle.model_device.specs.Legal.{Allowed}
@@ -65,6 +65,7 @@ module _ (setup : Setup) (first : State) (call : Call) (names : NamesOwn setup c
   own_named flush_call d own is = absurd cc
   own_named flush_sealed_call d own is = absurd cc
   own_named flush_next_call d own is = absurd cc
+  own_named heal_call d own is = absurd cc
   own_named choose_call d own is = absurd cc
   own_named (move_call digest block) d own is = let same : digest ≡ d = cc in subst IsOwn same own
   own_named begin_call d own is = absurd cc

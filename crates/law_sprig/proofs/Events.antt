@@ -13,7 +13,7 @@ use Rattle.model_device.specs.Book.{Setup, Buffer, Stream, client, defrag, Phase
 use Rattle.model_device.specs.Device.{State, Turn, mark_turn, scan_turn, apply_turn, drop_turn, finished, entry, entry_is_covered, entry_passes, seen, next_stamp_of, part_of, digests_of as logged}
 use Rattle.model_device.specs.Steps.{Step, wrote, moved, removed, rid_of, uncovered, sealed_stream, gate_begun, flushed_buffer, closing_failed, raid_begun}
 use Rattle.model_device.specs.Steps.{raid_given_up, marked_part, scanned_block, compared_part, done_part, after_step, after_steps}
-use Rattle.model_device.specs.Events.{Call, put_call, bury_call, delete_call, expire_call, get_call, flush_call, flush_sealed_call, flush_next_call}
+use Rattle.model_device.specs.Events.{Call, put_call, bury_call, delete_call, expire_call, get_call, flush_call, flush_sealed_call, flush_next_call, heal_call}
 use Rattle.model_device.specs.Events.{choose_call, move_call, begin_call, turn_call, Cause, Answer, stamp_given, happened, raid_numbered, refused, stale, Event}
 use Rattle.model_device.specs.Events.{after_event}
 use Rattle.model_device.specs.Passes
@@ -304,6 +304,10 @@ module _ (setup : Setup) (told : Bool) (s : State) (event : Event) (call : Call)
   flushes_next : Legal.Allowed setup told s event flush_next_call → Made
   flushes_next ends = by_book (flush_ends event (Legal.seal_low setup s.book) _ (both_seals _ _) (first_of_book (after_steps setup (Legal.seal_low setup s.book) s).book.buffers) ends)
 
+  heals : Legal.Allowed setup told s event heal_call → Made
+  heals (inl is) = no_steps is.2
+  heals (inr fails) = no_steps fails.1
+
   chooses : Legal.Allowed setup told s event choose_call → Made
   chooses (inl is) = no_steps is.1
   chooses (inr fails) = where_reads (Legal.queue_front s.book.queue) fails
@@ -318,6 +322,7 @@ steps_are setup told s event (get_call digest now) ends = gets setup told s even
 steps_are setup told s event flush_call ends = flushes setup told s event flush_call ends
 steps_are setup told s event flush_sealed_call ends = flushes_sealed setup told s event flush_sealed_call ends
 steps_are setup told s event flush_next_call ends = flushes_next setup told s event flush_next_call ends
+steps_are setup told s event heal_call ends = heals setup told s event heal_call ends
 steps_are setup told s event choose_call ends = chooses setup told s event choose_call ends
 steps_are setup told s event (move_call digest block) ends = moves setup told s event (move_call digest block) digest block refl ends
 steps_are setup told s event begin_call ends = begins setup told s event begin_call ends
@@ -335,6 +340,7 @@ names_part setup (get_call d now) digest names = ap (option_map (part_of setup))
 names_part setup flush_call digest names = absurd cc
 names_part setup flush_sealed_call digest names = absurd cc
 names_part setup flush_next_call digest names = absurd cc
+names_part setup heal_call digest names = absurd cc
 names_part setup choose_call digest names = absurd cc
 names_part setup (move_call d block) digest names = ap (option_map (part_of setup)) names
 names_part setup begin_call digest names = absurd cc

@@ -12,7 +12,7 @@ use Rattle.model_device.specs.Book.{Setup, Buffer, Book, Live, Stream, client, d
 use Rattle.model_device.specs.Device.{State, Turn, mark_turn, scan_turn, apply_turn, drop_turn, finished, entry, entry_passes, entry_is_covered, seen, next_stamp_of}
 use Rattle.model_device.specs.Steps.{Step, wrote, moved, removed, rid_of, uncovered, sealed_stream, gate_begun, flushed_buffer, closing_failed, raid_begun}
 use Rattle.model_device.specs.Steps.{raid_given_up, marked_part, scanned_block, compared_part, done_part, after_step, after_steps}
-use Rattle.model_device.specs.Events.{Call, put_call, bury_call, delete_call, expire_call, get_call, flush_call, flush_sealed_call, flush_next_call}
+use Rattle.model_device.specs.Events.{Call, put_call, bury_call, delete_call, expire_call, get_call, flush_call, flush_sealed_call, flush_next_call, heal_call}
 use Rattle.model_device.specs.Events.{choose_call, move_call, begin_call, turn_call, Cause, too_big, Answer, happened, stamp_given, raid_numbered, refused}
 use Rattle.model_device.specs.Events.{no_memory, stale, Event, after_event, after_events}
 use Rattle.model_device.specs.Legal.{seal_if, seal_all, is_due, seal_low, flush_of, flush_between, flush_all, first_sealed, flush_first, StopsIn, FlushEnds}
@@ -202,6 +202,10 @@ module _ (setup : Setup) (s : State) (event : Event) where
   get_room told digest now (inr (inl none)) = only_room (refused no_memory) none
   get_room told digest now (inr (inr reads)) = reads_room told (seen s now digest) reads
 
+  heal_room : (told : Bool) → Allowed setup told s event heal_call → IsRoomy
+  heal_room told (inl is) = none_steps [] is.2 tt
+  heal_room told (inr fails) = none_steps [] fails.1 tt
+
   choose_room : (told : Bool) → Allowed setup told s event choose_call → IsRoomy
   choose_room told (inl is) = none_steps [] is.1 tt
   choose_room told (inr reads) = reads_room told (queue_front s.book.queue) reads
@@ -265,6 +269,7 @@ module _ (setup : Setup) (s : State) (event : Event) where
       let after = after_steps setup (seal_low setup s.book) s in flush_room (seal_low setup s.book) (flush_all after.book) (seal_low_none setup s.book) (flushes_none after.book.buffers) is
   legal_room told flush_next_call is =
       let after = after_steps setup (seal_low setup s.book) s in flush_room (seal_low setup s.book) (flush_first after.book) (seal_low_none setup s.book) (first_none after.book.buffers) is
+  legal_room told heal_call is = heal_room told is
   legal_room told choose_call is = choose_room told is
   legal_room told (move_call digest block) is = move_at told digest block (live_of digest s.book.live) refl (is_in_block block (live_of digest s.book.live)) refl is
   legal_room told begin_call is = begin_room (nat_le top_number s.raid.number) is

@@ -7,7 +7,7 @@ use Rattle.rec_format.specs.Versions.{a_put}
 use Rattle.model_device.specs.Book.{Setup, refreshed, dropped_live, placed, with_flushed, cold_book, client}
 use Rattle.model_device.specs.Device.{State, no_raid}
 use Rattle.model_device.specs.Steps.{Step, wrote, after_step, after_steps, sealed_stream, gate_begun, flushed_buffer}
-use Rattle.model_device.specs.Events.{Event, Call, Answer, put_call, delete_call, get_call, flush_call, choose_call, stamp_given, found_version, refused, no_space, disk_fault}
+use Rattle.model_device.specs.Events.{Event, Call, Answer, put_call, delete_call, get_call, flush_call, heal_call, choose_call, stamp_given, counted, found_version, refused, no_space, disk_fault}
 use Rattle.model_device.specs.Legal.{Allowed, Reads}
 
 abbrev setup : Setup
@@ -63,6 +63,13 @@ no_fault_unseen h = ⊎_elim (λ r. cc (r.1)) (λ m. ⊎_elim (λ n. cc (n.0)) (
 no_fault_unqueued : Legal one_put (record { call = choose_call; answer = refused disk_fault; steps = []; faults_before = 0; faults_after = 1 }) → ⊥
 unfolding refreshed dropped_live placed with_flushed cold_book after_step
 no_fault_unqueued h = ⊎_elim (λ o. cc (o.0)) (λ f. f) h
+
+-- a fault of a heal, though the count of faults stays; and a heal that seals a buffer
+no_free_heal : Legal one_put (event heal_call (refused disk_fault) []) → ⊥
+no_free_heal h = ⊎_elim (λ o. cc (o.1)) (λ f. absurd (omega (arith, f.2))) h
+
+no_heal_that_seals : Legal one_put (event heal_call (counted 0) (sealed_stream client ∷ [])) → ⊥
+no_heal_that_seals h = ⊎_elim (λ o. cc (o.2)) (λ f. cc (f.0)) h
 
 -- a put whose stamp is the clock's time alone
 no_clock_stamp : Legal one_put (event (put_call d1 0 None (187 ∷ []) 500) (stamp_given (record { lut = 500; gen_ = 2 }))

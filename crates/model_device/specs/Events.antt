@@ -16,6 +16,8 @@ pub data Call : Type 0 where
   flush_call : Call
   -- where few blocks are free what is due is sealed, and then all sealed buffers are flushed, or one
   flush_sealed_call flush_next_call : Call
+  -- the gates of free blocks of which it isn't known whether they are closed are closed
+  heal_call : Call
   -- the front of the queue is chosen to be vacated; the copy of a digest is moved out of a block
   choose_call : Call
   move_call : Digest → (block : ℕ) → Call

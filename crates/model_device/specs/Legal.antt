@@ -10,7 +10,7 @@ use Rattle.rec_format.specs.Versions.{units_for, version_units, void_time, is_to
 use Rattle.model_device.specs.Book.{Setup, Book, Buffer, Live, Stream, client, defrag, Phase, filling, sealed, opening, is_filling, filling_buffer, has_room, live_of, placing_number, holds_dead}
 use Rattle.model_device.specs.Device.{State, Turn, mark_turn, scan_turn, apply_turn, drop_turn, finished, entry, entry_is_covered, entry_passes, seen, next_stamp_of, eligible_in, in_part}
 use Rattle.model_device.specs.Steps.{Step, wrote, moved, removed, rid_of, uncovered, sealed_stream, gate_begun, flushed_buffer, closing_failed, raid_begun, raid_given_up, marked_part, scanned_block, compared_part, done_part, after_step, after_steps}
-use Rattle.model_device.specs.Events.{Call, put_call, bury_call, delete_call, expire_call, get_call, flush_call, flush_sealed_call, flush_next_call, choose_call, move_call, begin_call, turn_call, Cause, too_big, wrong_generation, spent, overload, no_space, damaged, no_memory, disk_fault, stale, Answer, stamp_given, happened, found_version, counted, block_chosen, raid_numbered, marks_made, block_scanned, marks_undone, part_ended, raid_over, refused, Event, after_event}
+use Rattle.model_device.specs.Events.{Call, put_call, bury_call, delete_call, expire_call, get_call, flush_call, flush_sealed_call, flush_next_call, heal_call, choose_call, move_call, begin_call, turn_call, Cause, too_big, wrong_generation, spent, overload, no_space, damaged, no_memory, disk_fault, stale, Answer, stamp_given, happened, found_version, counted, block_chosen, raid_numbered, marks_made, block_scanned, marks_undone, part_ended, raid_over, refused, Event, after_event}
 
 -- ---- sealing and flushing
 
@@ -217,6 +217,12 @@ abbrev pub WhereReads : {A : Type 0} → (told : Bool) → Event → Option A �
 WhereReads told event None = ⊥
 WhereReads told event (Some what) = DamageFound told event [] ⊎ DiskFails event []
 
+-- ---- healing
+
+-- No history and no block of the book changes, and any number of gates may have been closed: a state doesn't have what is known of gates.
+abbrev pub Heals : Event → Type 0
+Heals event = ((gates : ℕ) × (event.answer ≡ counted gates) × (event.steps ≡ [])) ⊎ DiskFails event []
+
 -- ---- moves
 
 abbrev pub is_in_block : ℕ → Option Live → Bool
@@ -294,6 +300,7 @@ Allowed setup told s event (get_call digest now) =
 Allowed setup told s event flush_call = FlushEnds event (seal_all s.book) (flush_all (after_steps setup (seal_all s.book) s).book)
 Allowed setup told s event flush_sealed_call = FlushEnds event (seal_low setup s.book) (flush_all (after_steps setup (seal_low setup s.book) s).book)
 Allowed setup told s event flush_next_call = FlushEnds event (seal_low setup s.book) (flush_first (after_steps setup (seal_low setup s.book) s).book)
+Allowed setup told s event heal_call = Heals event
 Allowed setup told s event choose_call =
     Only event (block_chosen (queue_front s.book.queue)) ⊎ WhereReads told event (queue_front s.book.queue)
 Allowed setup told s event (move_call digest block) =

@@ -4,10 +4,10 @@ use Rattle.rec_format.specs.declared.version.Digest.{Digest}
 use Rattle.rec_format.specs.Places.{digest_before}
 use Rattle.model_device.specs.Book.{Setup}
 use Rattle.model_device.specs.Device.{State, Turn, mark_turn, scan_turn, apply_turn, drop_turn, finished, part_of, expired_in}
-use Rattle.model_device.specs.Events.{Event, Call, put_call, bury_call, delete_call, expire_call, get_call, flush_call, flush_sealed_call, flush_next_call, choose_call, move_call, begin_call, turn_call, Cause, Answer, happened, refused}
+use Rattle.model_device.specs.Events.{Event, Call, put_call, bury_call, delete_call, expire_call, get_call, flush_call, flush_sealed_call, flush_next_call, heal_call, choose_call, move_call, begin_call, turn_call, Cause, Answer, happened, refused}
 
--- the part that a call names: the one of its digest, or of a raid's turn. Flushing, choosing, scanning and the beginning of
--- a raid name none.
+-- the part that a call names: the one of its digest, or of a raid's turn. Flushing, healing, choosing, scanning and the
+-- beginning of a raid name none.
 abbrev pub turn_part : Turn → Option ℕ
 turn_part (mark_turn part) = Some part
 turn_part (scan_turn block) = None
@@ -24,6 +24,7 @@ part_named setup (get_call digest now) = Some (part_of setup digest)
 part_named setup flush_call = None
 part_named setup flush_sealed_call = None
 part_named setup flush_next_call = None
+part_named setup heal_call = None
 part_named setup choose_call = None
 part_named setup (move_call digest block) = Some (part_of setup digest)
 part_named setup begin_call = None
