@@ -1,10 +1,10 @@
 -- Steps of the loops over chunks of sixteen bytes.
 use Rattle.std.proofs.Common.{◌≡◌, ℕ, zero, suc, ◌+◌, ◌-◌, ◌*◌, ◌/◌, ◌%◌, ◌<◌, ◌≤◌, List, [], ◌∷◌, ◌++◌, length, take, drop, slice_index, Option, Some, None, unwrap_or, Result, Ok, Err}
 use Rattle.std.proofs.Common.{refl, sym, ap, ◌∙◌, arith, true, ltb}
-use Rattle.std.specs.Prelude.{MatchOption, MatchResult}
+use Rattle.std.specs.Prelude.{MatchOption, MatchResult, IsOk, is_ok, if◌then◌else◌}
 use Rattle.std.specs.Str.{IsAscii}
 use Rattle.std.proofs.lemmas.List.{length-drop}
-use Rattle.std.proofs.lemmas.List.{append_assoc, length-take-le, take_all, take-take}
+use Rattle.std.proofs.lemmas.List.{append-nil, drop_all, append_assoc, length-take-le, take_all, take-take}
 use Rattle.std.proofs.Math.Seq.{take-append-add}
 use Rattle.std.proofs.lemmas.Simd.{Each1-chunk, chunk-drop, length-chunk, take_more_put_chunk}
 use Rattle.std.specs.Simd.Lanes.{Each2, all_below, chunk, put_chunk}
@@ -56,6 +56,19 @@ encode_step t bytes text written at step fits short long e inv =
     ∙ append_assoc (take (2 * at) text) (take (2 * step) written) (encode_with t (drop (at + step) bytes))
     ∙ ap (λ w. take (2 * at) text ++ (w ++ encode_with t (drop (at + step) bytes))) part
     ∙ ap (λ r. take (2 * at) text ++ r) (sym split) ∙ inv
+
+-- a piece is put behind the text
+pub put_step : (t bytes text written all : List ℕ) (at count : ℕ) → written ≡ encode_with t (chunk at count bytes)
+    → text ++ encode_with t (drop at bytes) ≡ all → (text ++ written) ++ encode_with t (drop (at + count) bytes) ≡ all
+put_step t bytes text written all at count e inv =
+    let rest : List ℕ = encode_with t (drop (at + count) bytes) in
+    let split = ap (encode_with t) (chunk-drop at count bytes) ∙ encode_with-append t (chunk at count bytes) (drop (at + count) bytes) in
+    append_assoc text written rest ∙ ap (λ w. text ++ (w ++ rest)) e ∙ ap (λ r. text ++ r) (sym split) ∙ inv
+
+-- behind all of the bytes nothing is to be put
+pub put_all : (t bytes text all : List ℕ) (at : ℕ) → length bytes ≤ at → text ++ encode_with t (drop at bytes) ≡ all → text ≡ all
+unfolding encode_with
+put_all t bytes text all at past inv = sym (append-nil text) ∙ ap (λ r. text ++ encode_with t r) (sym (drop_all at bytes past)) ∙ inv
 
 -- ---- bytes of chunks
 
@@ -203,3 +216,9 @@ ascii_from_test (x ∷ rest) h =
 
 pub IsAscii-lower_digits : IsAscii lower_digits
 IsAscii-lower_digits = ascii_from_test lower_digits refl
+
+-- ---- what an extension within the room gives
+
+pub extended : {X E : Type 0} (result : Result Unit E) (with_more before after : X) → after ≡ (if is_ok result then with_more else before) → IsOk result → after ≡ with_more
+extended (Ok done) with_more before after is ok = is
+extended (Err e) with_more before after is ok = cc ok

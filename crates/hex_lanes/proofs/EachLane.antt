@@ -1,14 +1,16 @@
 -- What the operations on vectors compute at each lane.
-use Rattle.std.proofs.Common.{◌≡◌, ℕ, suc, ◌+◌, ◌-◌, ◌*◌, ◌/◌, ◌%◌, ◌^◌, ◌<◌, ◌≤◌, ◌==◌, nat_le, Bool, true, false, cond, ltb, List, [], ◌∷◌, ◌++◌, map, length, replicate, slice_index}
+use Rattle.std.proofs.Common.{◌≡◌, ℕ, zero, suc, sym, get_or, ◌+◌, ◌-◌, ◌*◌, ◌/◌, ◌%◌, ◌^◌, ◌<◌, ◌≤◌, ◌==◌, nat_le, Bool, true, false, cond, ltb, List, [], ◌∷◌, ◌++◌, map, length, replicate, slice_index}
 use Rattle.std.proofs.Common.{bit_and, bit_or, refl, ap, subst, ◌∙◌, arith, Fits, w8, Option, Some, None}
 use Rattle.std.specs.Prelude.{MatchOption, ◌↔◌}
 use Rattle.std.proofs.lemmas.Bool.{eqb-true, leb-true, ltb-true, lt-ltb}
-use Rattle.std.proofs.lemmas.Simd.{Each1-weaker, bitmask_splat, pick_l_whole}
+use Rattle.std.proofs.lemmas.List.{ext_get_or, get_or-map, length-map}
+use Rattle.std.proofs.lemmas.Simd.{Each1-weaker, bitmask_splat, pick_l_whole, swz_l, SwzOk, SwzOk-from_below, length-swz_l, get_or-swz_l_below}
 use Rattle.std.specs.Simd.Lanes.{Each1, Each2, zip2, sel_l, top, pick_l, mask_l}
 use Rattle.std.specs.List.{range_with_len}
 use Rattle.hex.specs.Hex.{encode_with, hex_digit_value, lower_digits}
 use Rattle.hex_lanes.specs.Halves.{AreHalves, IsRead, joined}
-use Rattle.hex_lanes.proofs.Every.{bytes_each, each_of_map, each_with_map, map_on, passes_at}
+use Rattle.hex_lanes.specs.declared.lanes.TheConstants.{DIGITS}
+use Rattle.hex_lanes.proofs.Every.{bytes_each, each_of_map, each_with_map, map_on, passes_at, passes_below}
 
 -- all lanes of sixteen, and of thirty-two, spelled out
 listed16 : (P : List ℕ → Type 0) (v : List ℕ) → length v ≡ 16 → P (pick_l 0 v (range_with_len 0 16)) → P v
@@ -31,20 +33,35 @@ flipped a = 255 - a
 
 -- ---- digits of half bytes
 
-abbrev digit_lane : ℕ → ℕ
-digit_lane half = plus half (cond (top 7 (below_mask 9 half)) 87 48)
+lane_at : (v : List ℕ) (i : ℕ) → AreHalves v → get_or v i 0 < 16
+lane_at [] i small = omega arith
+lane_at (x ∷ rest) zero small = small.0
+lane_at (x ∷ rest) (suc i) small = lane_at rest i small.1
 
-abbrev digit_lanes : List ℕ → List ℕ
-digit_lanes v = zip2 plus v (sel_l (map (top 7) (zip2 below_mask (replicate 16 9) v)) (replicate 16 87) (replicate 16 48))
+pub digits_ok : (v : List ℕ) → length v ≡ 16 → AreHalves v → SwzOk w8 16 16 0 v
+digits_ok v long small = SwzOk-from_below w8 16 1 16 0 v refl (omega (arith, long)) small
 
-digit_is : (half : ℕ) → half < 16 → digit_lane half ≡ slice_index lower_digits half
-digit_is half small =
-    eqb-true (digit_lane half) (slice_index lower_digits half) (passes_at (λ h. digit_lane h == slice_index lower_digits h) 16 half refl small)
+abbrev looked_up : ℕ → ℕ → ℕ
+looked_up i half = get_or DIGITS (16 * ((0 + i) / 16) + half) 0
 
-pub digits_are : (v : List ℕ) → length v ≡ 16 → AreHalves v → digit_lanes v ≡ map (λ half. slice_index lower_digits half) v
+abbrev is_digit : ℕ → ℕ → Bool
+is_digit i half = looked_up i half == slice_index lower_digits half
+
+-- the digits stand in the table
+digit_is : (i half : ℕ) → i < 16 → half < 16 → looked_up i half ≡ slice_index lower_digits half
+digit_is i half lane small =
+    let row = passes_at (λ k. passes_below (is_digit k) 16) 16 i refl lane in
+    eqb-true (looked_up i half) (slice_index lower_digits half) (passes_at (is_digit i) 16 half row small)
+
+pub digits_are : (v : List ℕ) → length v ≡ 16 → AreHalves v → swz_l w8 16 DIGITS 0 v ≡ map (λ half. slice_index lower_digits half) v
 digits_are v long small =
-    let one : digit_lanes v ≡ map digit_lane v = listed16 (λ v. digit_lanes v ≡ map digit_lane v) v long refl in
-    one ∙ map_on digit_lane (λ half. slice_index lower_digits half) v (Each1-weaker (λ half. half < 16) (λ half. digit_lane half ≡ slice_index lower_digits half) digit_is v small)
+    let as_digit : ℕ → ℕ = λ half. slice_index lower_digits half in
+    ext_get_or 0 _ _ (length-swz_l w8 16 DIGITS 0 v ∙ sym (length-map v as_digit)) (λ i h.
+    let within : i < length v = omega (arith, length-swz_l w8 16 DIGITS 0 v) in
+    let below = lane_at v i small in
+    get_or-swz_l_below w8 16 DIGITS 0 v i within below
+    ∙ digit_is i (get_or v i 0) (omega (arith, long)) below
+    ∙ sym (get_or-map as_digit v i 0 0 within))
 
 -- ---- the halves of a byte
 

@@ -6,14 +6,15 @@ ghost use Rattle.hex_lanes.specs.Halves.{AreHalves, IsRead, joined};
 
 use std::simd::prelude::*;
 
+const DIGITS: [u8; 16] = *b"0123456789abcdef";
+
 // The digit of each half byte.
 #[inline(always)]
 fn digits_of(halves: u8x16) -> u8x16
     requires { AreHalves halves }
     ensures { result ≡ map (λ half. slice_index lower_digits half) halves }
 {
-    let letters = halves.simd_gt(u8x16::splat(9));
-    halves + letters.select(u8x16::splat(b'a' - 10), u8x16::splat(b'0'))
+    u8x16::from_array(DIGITS).swizzle_dyn(halves)
 }
 
 // The text of the bytes.

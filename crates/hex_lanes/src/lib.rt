@@ -17,6 +17,9 @@ use std::simd::prelude::*;
 // How many bytes are written or read at a time.
 const BYTES: usize = 16;
 
+// The digits of how many bytes are put behind a text at a time.
+const PIECE: usize = 256;
+
 // How far the second chunk of so many bytes begins behind the first. It laps over the first, so that the last chunk ends where the bytes do.
 fn first_step(count: usize) -> usize
     requires { count < 2 ^ 63 }
@@ -41,6 +44,22 @@ fn encode_into(bytes: &[u8], text: &mut [u8])
     let _ = hex::encode_to_slice(&bytes[at..], rest);
 }
 
+// Puts the digits of the bytes behind the text, for which it has room.
+fn put_digits(bytes: &[u8], text: &mut Vec<u8>)
+    requires { vec_len text.old + 2 * length bytes.now ≤ vec_capacity text.old }
+    ensures { text.new.items ≡ text.old.items ++ encode_lower bytes.now }
+{
+    let mut digits = [0; 2 * PIECE];
+    let mut at = 0;
+    'pieces: while at < bytes.len() {
+        let count = PIECE.min(bytes.len() - at);
+        let (piece, _) = digits.split_at_mut(2 * count);
+        encode_into(&bytes[at..at + count], piece);
+        let _ = text.extend_from_slice(piece);
+        at += count;
+    }
+}
+
 /// At `Ok` the hex digits of the bytes stand behind what was in `text`, in lower case and the high half of each byte first.
 /// An `Err` is want of memory, comes only where the room was missing, and changes nothing.
 pub fn encode_onto(bytes: &[u8], text: &mut Vec<u8>) -> Result<(), AllocError>
@@ -48,16 +67,11 @@ pub fn encode_onto(bytes: &[u8], text: &mut Vec<u8>) -> Result<(), AllocError>
     ensures err { OnErr result (text.new.items ≡ text.old.items) }
     ensures room { vec_len text.old + 2 * length bytes.now ≤ vec_capacity text.old → IsOk result }
 {
-    let before = text.len();
     let Some(digits) = bytes.len().checked_mul(2) else {
         return Err(AllocError);
     };
-    let Some(after) = before.checked_add(digits) else {
-        return Err(AllocError);
-    };
-    text.resize(after, 0)?;
-    let (_, room) = text.split_at_mut(before);
-    encode_into(bytes, room);
+    text.reserve(digits)?;
+    put_digits(bytes, text);
     Ok(())
 }
 
@@ -70,8 +84,9 @@ pub fn encode(alloc: Global, bytes: &[u8]) -> Result<String, AllocError>
     Ok(unsafe { String::from_utf8_unchecked(text) })
 }
 
-// Writes the bytes of the text. At an `Err`, which says where the first byte is that is no digit, `bytes` may hold anything.
-fn decode_into(text: &[u8], bytes: &mut [u8]) -> Result<(), FromHexError>
+/// At `Ok` the bytes that hex digits of either case spell stand in `bytes`, of which the text has two for each. An `Err` is the first
+/// byte of the text that is no digit; `bytes` may hold anything then.
+pub fn decode_into(text: &[u8], bytes: &mut [u8]) -> Result<(), FromHexError>
     requires { length text.now ≡ 2 * length bytes.old }
     ensures { MatchResult (decode_of text.now) (λ read. (result ≡ Ok tt) × (bytes.new ≡ read)) (λ e. result ≡ Err e) }
 {
