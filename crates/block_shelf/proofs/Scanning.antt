@@ -1,8 +1,9 @@
 -- A scan of a block does what its parts promise: a pending block is read from memory, an unsure gate is closed, and any other block is read from
 -- the disk.
-use Rattle.std.proofs.Common.{◌≡◌, ◌≢◌, ◌<◌, ℕ, List, [], Result, Ok, Err, refl, sym, ◌∙◌, ap, subst}
-use Rattle.std.specs.Prelude.{Contains, MatchResult, IfErr}
+use Rattle.std.proofs.Common.{◌≡◌, ◌≢◌, ◌<◌, inl, inr, ℕ, Bool, true, false, List, [], Result, Ok, Err, refl, sym, ◌∙◌, ap, subst}
+use Rattle.std.specs.Prelude.{Contains, MatchResult, IfErr, slice_set}
 use Rattle.std.specs.List.{AllByRecursion}
+use Rattle.std.proofs.lemmas.List.{set-get_or}
 use Rattle.std.proofs.lemmas.Result.{MatchResult-weaker}
 use Rattle.law_lists.proofs.Answers.{only_err}
 use Rattle.law_lists.proofs.Each.{all_at}
@@ -22,7 +23,8 @@ use Rattle.block_shelf.specs.View.{ShelfView, IsShelf, IsSetupOf, gate_at}
 use Rattle.block_shelf.specs.Disks.{IsLater, OnlyRead}
 use Rattle.block_shelf.specs.Standing.{StandsFor, BooksStand, ImagesHold}
 use Rattle.block_shelf.specs.Calls.{Goes}
-use Rattle.block_shelf.specs.Scans.{ClosesUnsure, ReadsBlock, ReadsIn, ScansIn, ReadsAll, ReadsBody, FindsBody, NeedsRead, IsDamageOf, IsOfBlock, IsRefusalOf, IsToldOf, IsSound, Scans}
+use Rattle.block_shelf.specs.Heals.{ClosesUnsure}
+use Rattle.block_shelf.specs.Scans.{ClosesAtMost, ReadsBlock, ReadsIn, ScansIn, ReadsAll, ReadsBody, FindsBody, NeedsRead, IsDamageOf, IsOfBlock, IsRefusalOf, IsToldOf, IsSound, Scans}
 use Rattle.block_shelf.proofs.Going.{goes_none}
 use Rattle.block_shelf.proofs.Looking.{goes_read}
 use Rattle.block_shelf.proofs.ReadOnly.{shelf_read}
@@ -53,14 +55,14 @@ none_has buffers block b none there at = all_at (λ (b : BufferState). b.block �
 module _ {D : Type 0} (view : D → DiskView) (is_disk : (disk : D) → IsDisk (view disk)) (block : ℕ) (old : ShelfView D) where
   -- ---- the gate
 
-  pub no_close : gate_at old.gates block ≢ Unsure → IsShelf view old → ClosesUnsure view block old old (Ok tt)
+  pub no_close : {E : Type 0} → gate_at old.gates block ≢ Unsure → IsShelf view old → ClosesUnsure {E = E} view block old old (Ok false)
   no_close sure is = record {
     goes = λ setup s stands. goes_none view setup old s (is_disk old.disk) stands;
     quiet = λ other. (refl, refl);
     sure = sure;
     rest = refl;
     shut = λ unsure. absurd (sure unsure);
-    failed = tt;
+    known = λ unsure. absurd (sure unsure);
     whole = is;
     cause = tt;
     later = later_none (view old.disk) (is_disk old.disk);
@@ -73,33 +75,43 @@ module _ {D : Type 0} (view : D → DiskView) (is_disk : (disk : D) → IsDisk (
     abbrev closed : ShelfView D
     closed = record old { disk = disk; gates = gates }
 
-    pub closes : gate_at gates block ≡ Shut → ClosesUnsure view block old closed (Ok tt)
-    closes shut = record {
+    pub closes : {E : Type 0} → gate_at gates block ≡ Shut → gates ≡ slice_set old.gates block Shut → ClosesUnsure {E = E} view block old closed (Ok true)
+    closes shut set = record {
       goes = goes;
       quiet = λ sure. absurd (sure unsure);
       sure = λ same. gates_differ (sym same ∙ shut);
       rest = refl;
       shut = λ was. shut;
-      failed = tt;
+      known = λ was. (refl, set);
       whole = is;
       cause = tt;
       later = later;
       honest = honest;
     }
 
-    pub fails_to_close : Rose (view old.disk).faults (view disk).faults → ClosesUnsure view block old closed (Err Fault)
-    fails_to_close rose = record {
+    pub fails_to_close : {E : Type 0} → (e : E) → gates ≡ slice_set old.gates block Unsure → Rose (view old.disk).faults (view disk).faults → ClosesUnsure view block old closed (Err e)
+    fails_to_close e set rose = record {
       goes = goes;
       quiet = λ sure. absurd (sure unsure);
       sure = tt;
       rest = refl;
       shut = λ was. tt;
-      failed = refl;
+      known = λ was. set ∙ ap (slice_set old.gates block) (sym was) ∙ set-get_or old.gates block Shut;
       whole = is;
       cause = rose;
       later = later;
       honest = honest;
     }
+
+  -- at most that gate is closed
+  closes_most : {E : Type 0} (mid : ShelfView D) (result : Result Bool E) → ClosesUnsure view block old mid result → ClosesAtMost block old mid
+  closes_most {E} mid result closing =
+      gate_unsure (gate_at old.gates block) (ClosesAtMost block old mid) (λ unsure. by result unsure (closing.known unsure)) (λ sure. inl (ap (λ (v : ShelfView D). v.gates) (closing.quiet sure).1))
+    where
+      by : (r : Result Bool E) → gate_at old.gates block ≡ Unsure → MatchResult r (λ closed. (closed ≡ true) × (mid.gates ≡ slice_set old.gates block Shut)) (λ fault. mid.gates ≡ old.gates)
+          → ClosesAtMost block old mid
+      by (Ok closed) unsure is = inr (unsure, is.1)
+      by (Err e) unsure is = inl is
 
   -- ---- the records
 
@@ -112,6 +124,7 @@ module _ {D : Type 0} (view : D → DiskView) (is_disk : (disk : D) → IsDisk (
       goes = λ setup s stands. goes_none view setup old s (is_disk old.disk) stands;
       all = all;
       waiting = λ b there at. refl;
+      gates = inl refl;
       sure = λ sure. refl;
       fewer = λ sure honest c image. image;
       damaged = λ told. unhurt old.geometry (body_bytes old.geometry block (view old.disk).seen) block result sound;
@@ -124,23 +137,24 @@ module _ {D : Type 0} (view : D → DiskView) (is_disk : (disk : D) → IsDisk (
     }
 
     module _ (lt : block < old.geometry.blocks) (none : AllByRecursion (λ b. b.block ≢ block) old.buffers) (mid : ShelfView D) where
-      pub reads_unclosed : (e : VacateRefusal) → ClosesUnsure view block old mid (Err e) → ReadsIn view block old mid heads (Err e)
+      pub reads_unclosed : {E : Type 0} → (e : E) → ClosesUnsure view block old mid (Err e) → ReadsIn view block old mid heads (Err Fault)
       reads_unclosed e closing = record {
         goes = closing.goes;
-        all = λ setup s honest stands safe. subst IsSound (sym closing.failed) tt;
+        all = λ setup s honest stands safe. tt;
         waiting = λ b there at. absurd (none_has old.buffers block b none there at);
-        sure = λ sure. absurd (no_error tt e (sym (closing.quiet sure).0));
-        fewer = λ sure. absurd (no_error tt e (sym (closing.quiet sure).0));
-        damaged = λ told. subst (IsDamageOf old.geometry (body_bytes old.geometry block (view old.disk).seen) block) (sym closing.failed) tt;
-        told = subst (IsToldOf old block) (sym closing.failed) tt;
-        there = λ told needs. subst (IsRefusalOf old.geometry (body_bytes old.geometry block (view old.disk).seen) block) (sym closing.failed) tt;
+        gates = closes_most mid (Err e) closing;
+        sure = λ sure. absurd (no_error false e (sym (closing.quiet sure).0));
+        fewer = λ sure. absurd (no_error false e (sym (closing.quiet sure).0));
+        damaged = λ told. tt;
+        told = tt;
+        there = λ told needs. tt;
         rest = closing.rest;
         cause = λ same. closing.cause;
         later = closing.later;
         honest = closing.honest;
       }
 
-      module _ (closing : ClosesUnsure view block old mid (Ok tt)) where
+      module _ {E : Type 0} (was_unsure : Bool) (closing : ClosesUnsure {E = E} view block old mid (Ok was_unsure)) where
         lt_mid : block < mid.geometry.blocks
         lt_mid = subst (λ (v : ShelfView D). block < v.geometry.blocks) (sym closing.rest) lt
 
@@ -162,6 +176,7 @@ module _ {D : Type 0} (view : D → DiskView) (is_disk : (disk : D) → IsDisk (
               let went = closing.goes setup s stands in
               subst (ReadsAll view mid s block) (sym empty) (shut_reads view setup mid s closing.whole went.stands (closing.honest honest) (went.safe honest safe) block lt_mid none_mid shut);
           waiting = λ b there at. absurd (none_has old.buffers block b none there at);
+          gates = closes_most mid (Ok was_unsure) closing;
           sure = λ sure. ap (λ (v : ShelfView D). v.gates) (closing.quiet sure).1;
           fewer = λ sure honest. subst (λ (v : ShelfView D). Within (view old.disk).may_leave (view v.disk).may_leave) (sym (closing.quiet sure).1) (λ c image. image);
           damaged = λ told. tt;
@@ -217,6 +232,7 @@ module _ {D : Type 0} (view : D → DiskView) (is_disk : (disk : D) → IsDisk (
                     (λ refusal is_refusal. set_sound view setup old s is stands honest safe block lt none set refusal
                     (refusal_damage old.geometry (body_bytes old.geometry block (view old.disk).seen) block refusal is_refusal));
                 waiting = λ b there at. absurd (none_has old.buffers block b none there at);
+                gates = inl (ap (λ (v : ShelfView D). v.gates) same);
                 sure = λ sure. ap (λ (v : ShelfView D). v.gates) same;
                 fewer = λ sure honest c image. only.images honest c ((is_disk new.disk).now_since (view old.disk).moment c (only.time.stays (view old.disk).moment only.time.started) image);
                 damaged = λ told. only_err (λ found. ReadsBody old.geometry (body_bytes old.geometry block (view old.disk).seen) block (heads found))
@@ -240,6 +256,7 @@ module _ {D : Type 0} (view : D → DiskView) (is_disk : (disk : D) → IsDisk (
       turned = tt;
       same = ap (λ (v : ShelfView D). v.raid) reads.rest;
       waiting = reads.waiting;
+      gates = reads.gates;
       sure = reads.sure;
       fewer = reads.fewer;
       damaged = reads.damaged;
@@ -258,6 +275,7 @@ module _ {D : Type 0} (view : D → DiskView) (is_disk : (disk : D) → IsDisk (
       turned = tt;
       same = ap (λ (v : ShelfView D). v.raid) reads.rest;
       waiting = reads.waiting;
+      gates = reads.gates;
       sure = reads.sure;
       fewer = reads.fewer;
       damaged = λ told. tt;
@@ -283,6 +301,7 @@ module _ {D : Type 0} (view : D → DiskView) (is_disk : (disk : D) → IsDisk (
       turned = turned;
       same = tt;
       waiting = reads.waiting;
+      gates = reads.gates;
       sure = reads.sure;
       fewer = reads.fewer;
       damaged = λ told. tt;

@@ -1,5 +1,5 @@
 -- Crate block_shelf. What a raid's scan of a block finds, and what it makes.
-use Rattle.std.specs.Prelude.{◌≡◌, ◌≢◌, ℕ, ◌==◌, List, [], ◌∷◌, map, filter, Contains, Result, Ok, Err, IfErr, MatchResult, OnOk, OnErr}
+use Rattle.std.specs.Prelude.{◌≡◌, ◌≢◌, ◌⊎◌, ℕ, ◌==◌, List, [], ◌∷◌, map, filter, Contains, Result, Err, IfErr, MatchResult, OnOk, OnErr, slice_set}
 use Rattle.std.specs.List.{AllByRecursion}
 use Rattle.model_faults.specs.Counts.{Rose}
 use Rattle.disk_model.specs.Disk.{DiskView, IsHonest, Within}
@@ -104,20 +104,11 @@ pub record Scans {D : Type 0} (view : D → DiskView) (setup : Setup) (block : �
   pub all : IsHonest (view old.disk) → ImagesHold setup view old s → FindsOlder s (possible_copies view new s) block copies
   pub only : IsHonest (view old.disk) → ImagesHold setup view old s → FindsPossible (possible_copies view new s) block copies
 
--- ---- what the parts of a scan promise
+-- At most the gate of this block was closed, where it was unsure; what is known of each other stays.
+abbrev pub ClosesAtMost : {D : Type 0} → (block : ℕ) → (old new : ShelfView D) → Type 0
+ClosesAtMost block old new = (new.gates ≡ old.gates) ⊎ ((gate_at old.gates block ≡ Unsure) × (new.gates ≡ slice_set old.gates block Shut))
 
--- The gate of a block without a buffer is closed and synced, if it was unsure.
-pub record ClosesUnsure {D : Type 0} (view : D → DiskView) (block : ℕ) (old new : ShelfView D) (result : Result (Unit {0}) VacateRefusal) : Type 0 where
-  pub goes : (setup : Setup) (s : State) → StandsFor setup old s → Goes view setup [] old s new
-  pub quiet : gate_at old.gates block ≢ Unsure → (result ≡ Ok tt) × (new ≡ old)
-  pub sure : OnOk result (gate_at new.gates block ≢ Unsure)
-  pub rest : new ≡ record old { disk = new.disk; gates = new.gates }
-  pub shut : gate_at old.gates block ≡ Unsure → OnOk result (gate_at new.gates block ≡ Shut)
-  pub failed : IfErr result (λ refusal. refusal ≡ Fault)
-  pub whole : IsShelf view new
-  pub cause : OnErr result (Rose (view old.disk).faults (view new.disk).faults)
-  pub later : IsLater (view old.disk) (view new.disk)
-  pub honest : IsHonest (view old.disk) → IsHonest (view new.disk)
+-- ---- what the parts of a scan promise
 
 -- The heads of the records that may be in a block are answered. A pending block makes no call of the disk, and only where its gate was unsure
 -- does a scan change what the disk has.
@@ -125,6 +116,7 @@ pub record ReadsIn {D A : Type 0} (view : D → DiskView) (block : ℕ) (old new
   pub goes : (setup : Setup) (s : State) → StandsFor setup old s → Goes view setup [] old s new
   pub all : (setup : Setup) (s : State) → IsHonest (view old.disk) → StandsFor setup old s → ImagesHold setup view old s → MatchResult result (λ found. ReadsAll view new s block (heads found)) IsSound
   pub waiting : (b : BufferState) → Contains old.buffers b → b.block ≡ block → new.disk ≡ old.disk
+  pub gates : ClosesAtMost block old new
   pub sure : gate_at old.gates block ≢ Unsure → new.gates ≡ old.gates
   pub fewer : gate_at old.gates block ≢ Unsure → IsHonest (view old.disk) → Within (view old.disk).may_leave (view new.disk).may_leave
   pub damaged : (view old.disk).tells → IfErr result (IsDamageOf old.geometry (body_bytes old.geometry block (view old.disk).seen) block)
@@ -143,6 +135,7 @@ pub record ScansIn {D : Type 0} (view : D → DiskView) (block : ℕ) (old new :
   pub turned : OnOk result (new.raid ≡ with_scan new.raid.found old.raid)
   pub same : OnErr result (new.raid ≡ old.raid)
   pub waiting : (b : BufferState) → Contains old.buffers b → b.block ≡ block → new.disk ≡ old.disk
+  pub gates : ClosesAtMost block old new
   pub sure : gate_at old.gates block ≢ Unsure → new.gates ≡ old.gates
   pub fewer : gate_at old.gates block ≢ Unsure → IsHonest (view old.disk) → Within (view old.disk).may_leave (view new.disk).may_leave
   pub damaged : (view old.disk).tells → IfErr result (IsDamageOf old.geometry (body_bytes old.geometry block (view old.disk).seen) block)

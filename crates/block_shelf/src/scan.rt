@@ -1,6 +1,5 @@
 // What a raid comes upon in a block.
 ghost use Rattle.std.specs.Prelude.{◌≡◌, ◌≢◌, ◌<◌, ◌≤◌, ◌-◌, ◌==◌, ℕ, List, [], ◌∷◌, Contains, length, map, filter, Ok, IfOk, IfErr, OnOk, OnErr, MatchResult};
-ghost use Rattle.std.specs.List.{All, AllByRecursion};
 ghost use Rattle.model_faults.specs.Counts.{Rose};
 ghost use Rattle.disk_model.specs.Disk.{IsHonest};
 ghost use Rattle.rec_format.specs.Places.{device_number, part_number_of, part_count};
@@ -15,12 +14,11 @@ ghost use Rattle.law_facts.specs.Facts.{SamePossible};
 ghost use Rattle.raid_book.specs.declared.turn.RaidNext.TheVariants as turn;
 ghost use Rattle.raid_book.specs.Books.{given_up, with_scan};
 ghost use Rattle.block_shelf.specs.Disks.{IsLater};
-ghost use Rattle.block_shelf.specs.View.{IsShelf, IsSetupOf, AreSure, gate_at};
+ghost use Rattle.block_shelf.specs.View.{IsShelf, IsSetupOf, AreSure};
 ghost use Rattle.block_shelf.specs.Standing.{StandsFor, BooksStand, ImagesHold};
 ghost use Rattle.block_shelf.specs.Calls.{Goes};
-ghost use Rattle.block_shelf.specs.Scans.{Scans, ScansIn, ReadsIn, ReadsBlock, ReadsBody, FindsBody, NeedsRead, ClosesUnsure, IsDamageOf, IsOfBlock, IsRefusalOf, IsToldOf, IsSound, own_found, possible_copies};
+ghost use Rattle.block_shelf.specs.Scans.{ClosesAtMost, Scans, ScansIn, ReadsIn, ReadsBlock, ReadsBody, FindsBody, NeedsRead, IsDamageOf, IsOfBlock, IsRefusalOf, IsToldOf, IsSound, own_found, possible_copies};
 
-use crate::close::shut_gate;
 use crate::load::load_body;
 use crate::{NoMemory, Shelf, VacateRefusal};
 use block_format::{BodyRefusal, Found, Gate, Geometry, check_body, read_body};
@@ -34,7 +32,7 @@ impl<D: Disk> Shelf<D> {
     /// older than a marked entry is in the raid's book, and nothing but copies that a start may find. What is in a pending buffer is
     /// taken from memory, also where the write of its gate has begun. Of the other blocks, free ones too, one with an unsure gate is
     /// closed and synced first, a closed one has no records, and any other is read from the disk, also where its flushed buffer is kept.
-    /// After a refusal the raid is given up.
+    /// After a refusal the raid is given up, and nothing else has changed but the gate of the block, if it was unsure and is closed now.
     pub fn scan_step(&mut self, alloc: Global) -> Result<u32, VacateRefusal>
         requires turn { (block : ℕ) × (self.old.raid.next ≡ turn.Scan block) }
         ensures scanned { (setup : Setup) (s : State) → IsSetupOf setup self.old → StandsFor setup self.old s → BooksStand setup self.old s
@@ -46,7 +44,9 @@ impl<D: Disk> Shelf<D> {
         // A pending block makes no call of the disk.
         ensures waiting { (block : ℕ) (b : BufferState) → self.old.raid.next ≡ turn.Scan block → Contains self.old.buffers b → b.block ≡ block → self.new.disk ≡ self.old.disk }
 
-        // Where no gate is unsure the gates stay as they are, and over an honest disk whose image was sound what is possible stays so.
+        // At most the gate of the block is closed, where it was unsure. Where no gate is unsure the gates stay as they are, and over an honest
+        // disk whose image was sound what is possible stays so.
+        ensures gates { (block : ℕ) → self.old.raid.next ≡ turn.Scan block → ClosesAtMost block self.old self.new }
         ensures sure { AreSure self.old.gates → self.new.gates ≡ self.old.gates }
         ensures alike { (setup : Setup) (s : State) → AreSure self.old.gates → IsHonest (D.view self.old.disk) → StandsFor setup self.old s → ImagesHold setup D.view self.old s
             → SamePossible (possible_copies D.view self.old s) (possible_copies D.view self.new s) }
@@ -106,34 +106,13 @@ impl<D: Disk> Shelf<D> {
         if let Some(buffer) = self.buffer_of(block) {
             return found_in(alloc, buffer.body(), block);
         }
-        self.close_unsure(block)?;
+        let Ok(_) = self.close_unsure(block) else {
+            return Err(VacateRefusal::Fault);
+        };
         if self.gate(block) == Gate::Shut {
             return Ok(Vec::new(alloc));
         }
         self.read_block(alloc, block)
-    }
-
-    // What is known of the gate of a block.
-    fn gate(&self, block: u32) -> Gate
-        requires { block < self.now.geometry.blocks }
-        ensures { result ≡ gate_at self.now.gates block }
-    {
-        self.gates[block as usize]
-    }
-
-    // The gate of a block without a buffer is closed and synced, if it is unsure.
-    fn close_unsure(&mut self, block: u32) -> Result<(), VacateRefusal>
-        requires block { block < self.old.geometry.blocks }
-        requires unbuffered { AllByRecursion (λ b. b.block ≢ block) self.old.buffers }
-        ensures { ClosesUnsure D.view block self.old self.new result }
-    {
-        if self.gate(block) != Gate::Unsure {
-            return Ok(());
-        }
-        let Ok(()) = shut_gate(&mut self.disk, &self.geometry, &mut self.gates, block) else {
-            return Err(VacateRefusal::Fault);
-        };
-        Ok(())
     }
 
     // The heads of the records of a block, as the disk has it.

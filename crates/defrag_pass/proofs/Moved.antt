@@ -45,6 +45,7 @@ use Rattle.law_steps.proofs.Found.{entry_named, lies_found, live_found}
 use Rattle.law_steps.proofs.Making.{IsFlushing, makes_by, together_on}
 use Rattle.block_shelf.proofs.Looking.{goes_read}
 use Rattle.law_steps.proofs.Reading.{both_named}
+use Rattle.law_refused.proofs.Leaving.{refused_leaves}
 use Rattle.defrag_pass.proofs.Asking.{move_refusal}
 use Rattle.defrag_pass.specs.declared.refusal.MoveRefusal.{MoveRefusal}
 use Rattle.defrag_pass.specs.declared.refusal.MoveRefusal.TheVariants as why
@@ -299,6 +300,7 @@ module _ {D : Type 0} (view : D → DiskView) (setup : Setup) (digest : Digest) 
               is_answer = refl;
               follows = record { begins = refl; counts = up; allowed = may_be_moved false };
               told = λ honest safe. record { begins = refl; counts = up; allowed = may_be_moved true };
+              left = refused_leaves setup false s (event_of (happened true) (moved digest ∷ [])) (may_be_moved false);
               counted = refl;
               stands = record { sprig_stands = sprig_behind; shelf_stands = record { stands = takes.stands; queue = takes.queued stand_read.shelf_stands.queue } };
               placed = placed_behind;

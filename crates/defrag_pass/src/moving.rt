@@ -60,6 +60,7 @@ pub fn move_one<D: Disk>(
     // What is in memory is moved without a call of the disk, but where a buffer begins behind a gate that isn't known to be shut.
     ensures in_memory { (e : Entry) (b : BufferState) → entry_of digest.now sprig.old.entries ≡ Some e → Contains (in_memory shelf.old) b → b.block ≡ e.block
         → gate_at shelf.old.gates (first_block shelf.old.free) ≡ Shut → shelf.new.disk ≡ shelf.old.disk }
+    ensures found { result ≡ Ok true → (e : Entry) × (entry_of digest.now sprig.old.entries ≡ Some e) }
     ensures refused { IfErr result (λ refusal. SameSprig sprig.old sprig.new) }
     ensures left { IfErr result (IsShelfLeft D.view shelf.old shelf.new) }
     ensures kept { MatchOption (entry_of digest.now sprig.old.entries) (KeepsAll shelf.old shelf.new) (λ e. KeepsMoved e.units shelf.old shelf.new result) }

@@ -12,6 +12,7 @@ use Rattle.disk_model.specs.Disk.{DiskView, IsHonest}
 use Rattle.sprig_tree.specs.State.{SprigState}
 use Rattle.law_sprig.specs.Sparing.{is_of_book, AreOfBook}
 use Rattle.law_sprig.proofs.Writing.{book_fits}
+use Rattle.law_refused.proofs.Leaving.{refused_leaves}
 use Rattle.block_shelf.specs.View.{ShelfView}
 use Rattle.block_shelf.specs.Calls.{Goes}
 use Rattle.law_steps.specs.Standing.{SprigStands, ShelfStands, StandTogether, ShelfIsSafe}
@@ -75,6 +76,7 @@ module _ {D : Type 0} (view : D → DiskView) (setup : Setup) (old new : ShelfVi
     is_answer = refl;
     follows = record { begins = refl; counts = up; allowed = allowed };
     told = λ honest safe. record { begins = refl; counts = up; allowed = allowed_told honest safe };
+    left = refused_leaves setup false s event_of allowed;
     counted = refl;
     stands = stands;
     placed = goes.placed;

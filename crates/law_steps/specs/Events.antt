@@ -8,6 +8,7 @@ use Rattle.model_device.specs.Legal.{Follows}
 use Rattle.disk_model.specs.Disk.{DiskView, IsHonest}
 use Rattle.disk_model.specs.Runs.{OneOf, Leaves}
 use Rattle.law_start.specs.Surviving.{Survives}
+use Rattle.law_refused.specs.Refusals.{RefusedLeaves}
 use Rattle.sprig_tree.specs.State.{SprigState}
 use Rattle.block_shelf.specs.declared.refusals.ReadRefusal.{ReadRefusal}
 use Rattle.block_shelf.specs.declared.refusals.ReadRefusal.TheVariants as read
@@ -16,7 +17,7 @@ use Rattle.block_shelf.specs.Standing.{IsPlaced}
 use Rattle.law_steps.specs.Standing.{StandTogether, ShelfIsSafe}
 
 -- From a state for which a shelf stood, one event of this call with this answer may follow, and what is asked of the state after it holds:
--- sprigs and shelf stand for it. Over an honest disk that was safe the event may follow as one over a disk that tells what it holds, the
+-- sprigs and shelf stand for it. Where the answer is a refusal that state is the one before, but for what `left` names. Over an honest disk that was safe the event may follow as one over a disk that tells what it holds, the
 -- shelf is safe then, and each image that a crash meanwhile might have left survives the state before, or one after some of the event's
 -- steps.
 pub record MakesEvent {D : Type 0} (view : D → DiskView) (setup : Setup) (call : Call) (answer : Answer) (old : ShelfView D) (s : State) (new : ShelfView D) (Stands : State → Type 0) : Type 0 where
@@ -25,6 +26,7 @@ pub record MakesEvent {D : Type 0} (view : D → DiskView) (setup : Setup) (call
   pub is_answer : event.answer ≡ answer
   pub follows : Follows setup false s (view old.disk).faults event
   pub told : IsHonest (view old.disk) → ShelfIsSafe view setup old s → Follows setup true s (view old.disk).faults event
+  pub left : RefusedLeaves setup s event
   pub counted : event.faults_after ≡ (view new.disk).faults
   pub stands : Stands (after_event setup event s)
   pub placed : IsHonest (view old.disk) → IsPlaced view old s → IsPlaced view new (after_event setup event s)

@@ -11,6 +11,7 @@ use Rattle.model_device.specs.Legal.{IsLegal, last_faults}
 use Rattle.model_device.specs.Vacating.{IfRefused}
 use Rattle.model_device.proofs.InRow.{after_joined}
 use Rattle.law_start.specs.Surviving.{Survives}
+use Rattle.law_refused.proofs.Leaving.{each_leaves}
 use Rattle.block_shelf.specs.View.{ShelfView}
 use Rattle.block_shelf.specs.Standing.{IsPlaced}
 use Rattle.block_shelf.proofs.Going.{stays}
@@ -151,6 +152,7 @@ module _ {D : Type 0} (view : D → DiskView) (old new : ShardView D) (s : State
     works = works;
     legal = runs.legal;
     told = runs.told;
+    left = each_leaves (setup_of old) false s (view old.shelf.disk).faults events runs.legal;
     counted = runs.counted;
     stands = runs.stands;
     placed = runs.placed;

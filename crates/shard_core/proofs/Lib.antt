@@ -42,3 +42,5 @@ pub mod Telling
 pub mod Keeping
 pub mod Idle
 pub mod Flushing
+pub mod Failing
+pub mod Healing

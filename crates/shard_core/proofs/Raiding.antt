@@ -1,6 +1,6 @@
 -- What the turns of a raid make of a shard.
 use Rattle.std.proofs.Common.{set, get_or, cond, ◌-◌, ◌^◌, ◌≡◌, ℕ, ◌+◌, ◌*◌, ◌<◌, ◌≤◌, max, Bool, true, false, ◌&&◌, List, [], ◌∷◌, length, suc, Some, None, refl, ◌∙◌, ap, subst, arith}
-use Rattle.std.specs.Prelude.{count_by, slice_get, Result, Ok, Err, IfOk}
+use Rattle.std.specs.Prelude.{count_by, slice_get, Result, Ok, Err, IfErr, IfOk}
 use Rattle.std.proofs.Math.Nat.{suc-mul}
 use Rattle.std.proofs.lemmas.List.Sums.{sum_by-cons}
 use Rattle.disk_model.specs.Disk.{DiskView}
@@ -15,7 +15,7 @@ use Rattle.raid_book.specs.declared.turn.RaidNext.TheVariants.{Mark, Scan, Apply
 use Rattle.raid_book.specs.Books.{BookState, FitsTurn}
 use Rattle.raid_book.specs.Turns.{turn_of}
 use Rattle.law_sprig.specs.Tests.{is_put_entry, is_tombstone_entry}
-use Rattle.block_shelf.specs.View.{IsShelf}
+use Rattle.block_shelf.specs.View.{IsShelf, ShelfView}
 use Rattle.sprig_tree.specs.State.{SprigState}
 use Rattle.law_steps.specs.Standing.{StandTogether}
 use Rattle.shard_raid.specs.Marks.{is_marked_by}
@@ -23,11 +23,13 @@ use Rattle.shard_raid.specs.Raids.{RaidView, IsNext, StandOn, turns_left}
 use Rattle.shard_raid.specs.Turns as turns
 use Rattle.shard_raid.specs.Turns.{CountsEnds, IsDidOf, turn_answer}
 use Rattle.shard_raid.specs.declared.scan.RaidRefusal.{RaidRefusal}
+use Rattle.shard_raid.specs.declared.scan.RaidRefusal.TheVariants.{Stale, Damaged, Memory, Fault}
 use Rattle.shard_raid.specs.declared.turn.RaidDid.{RaidDid}
 use Rattle.shard_raid.specs.declared.turn.RaidDid.TheVariants.{Marked, Scanned, Applied, Dropped, Done}
 use Rattle.shard_core.specs.View.{ShardView, IsSettings, SameSetup, setup_of}
 use Rattle.shard_core.specs.Stands.{Agrees, IsWhole}
 use Rattle.shard_core.specs.Raids.{AreFewEnds, TurnMakes}
+use Rattle.shard_core.specs.Refusals.{TurnLeaves}
 use Rattle.shard_core.proofs.Tallies.{few_in_sprig}
 use Rattle.shard_core.proofs.Making.{on_lifted, part_lifted, part_stands}
 
@@ -167,3 +169,26 @@ done_aside (Scan block) part did named = absurd did
 done_aside (Apply other) part did named = absurd did
 done_aside (Drop other) part did named = absurd did
 done_aside Finished part did named = let clash : None ≡ Some part = named in absurd cc
+
+-- ---- refusals
+
+-- what a turn that was refused left of the shelf it left of the shard, where the sprigs stayed
+pub turn_left : {D : Type 0} (old : ShardView D) (shelf : ShelfView D) (sprigs : List SprigState) → sprigs ≡ old.sprigs → (refusal : RaidRefusal) → turns.TurnLeaves old.shelf shelf refusal
+    → TurnLeaves old (record { shelf = shelf; set = old.set; sprigs = sprigs }) refusal
+turn_left old shelf sprigs same (Stale number next) left = λ i. record { shelf = left i; set = old.set; sprigs = same i }
+turn_left old shelf sprigs same (Damaged block place) left = λ i. record { shelf = left i; set = old.set; sprigs = same i }
+turn_left old shelf sprigs same Memory left = λ i. record { shelf = left i; set = old.set; sprigs = same i }
+turn_left old shelf sprigs same Fault left = λ i. record { shelf = left i; set = old.set; sprigs = same i }
+
+pub turn_left_by : {D : Type 0} (old : ShardView D) (shelf : ShelfView D) (sprigs : List SprigState) (result : Result RaidDid RaidRefusal)
+    → IfErr result (λ refusal. (sprigs ≡ old.sprigs) × turns.TurnLeaves old.shelf shelf refusal) → IfErr result (TurnLeaves old (record { shelf = shelf; set = old.set; sprigs = sprigs }))
+turn_left_by old shelf sprigs (Ok did) left = tt
+turn_left_by old shelf sprigs (Err refusal) left = turn_left old shelf sprigs left.0 refusal left.1
+
+pub with_kept : {T E : Type 0} (result : Result T E) (P : E → Type 0) (Q : Type 0) → Q → IfErr result P → IfErr result (λ e. Q × P e)
+with_kept (Ok did) P Q q is = tt
+with_kept (Err refusal) P Q q is = (q, is)
+
+pub with_first : {T E : Type 0} (result : Result T E) (P Q : Type 0) (R : E → Type 0) → (P → Q) → IfErr result (λ e. P × R e) → IfErr result (λ e. Q × R e)
+with_first (Ok did) P Q R f is = tt
+with_first (Err refusal) P Q R f is = (f is.0, is.1)

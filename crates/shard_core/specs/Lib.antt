@@ -12,3 +12,5 @@ pub mod Expiring
 pub mod Raids
 pub mod Keeping
 pub mod Flushing
+pub mod Failing
+pub mod Refusals

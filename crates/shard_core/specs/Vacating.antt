@@ -10,6 +10,7 @@ use Rattle.model_device.specs.Events.{Event, Answer, move_call, happened, refuse
 use Rattle.model_device.specs.Legal.{IsLegal, last_faults, queue_front, is_in_block}
 use Rattle.model_device.specs.Vacating.{IfRefused, MovesOut, Vacates, Tends, did, stopped, moved_count}
 use Rattle.law_room.specs.Room.{GainsRoom, FindsRoom}
+use Rattle.law_refused.specs.Refusals.{EachLeaves}
 use Rattle.disk_model.specs.Disk.{DiskView, IsHonest}
 use Rattle.disk_model.specs.Runs.{OneOf, Leaves}
 use Rattle.law_start.specs.Surviving.{Survives}
@@ -32,7 +33,8 @@ use Rattle.shard_core.specs.Sprigs.{held}
 use Rattle.shard_core.specs.View.{ShardView, setup_of}
 use Rattle.shard_core.specs.Stands.{Agrees}
 
--- From a state for which a shard stood, events that are this work may follow one another, and the shard stands for the state after them. Over
+-- From a state for which a shard stood, events that are this work may follow one another, and the shard stands for the state after them. An event
+-- that is refused leaves the state in which it comes, but for what `left` names. Over
 -- an honest disk that was safe they may follow as those over a disk that tells what it holds, the shelf is safe then, and each image that a
 -- crash meanwhile might have left survives the state before, or one after some of the steps of the events.
 pub record MakesEvents {D : Type 0} (view : D → DiskView) (Work : List Event → Type 0) (old : ShardView D) (s : State) (new : ShardView D) : Type 0 where
@@ -40,6 +42,7 @@ pub record MakesEvents {D : Type 0} (view : D → DiskView) (Work : List Event �
   pub works : Work events
   pub legal : IsLegal (setup_of old) false s (view old.shelf.disk).faults events
   pub told : IsHonest (view old.shelf.disk) → ShelfIsSafe view (setup_of old) old.shelf s → IsLegal (setup_of old) true s (view old.shelf.disk).faults events
+  pub left : EachLeaves (setup_of old) s events
   pub counted : last_faults (view old.shelf.disk).faults events ≡ (view new.shelf.disk).faults
   pub stands : Agrees new (after_events (setup_of old) events s)
   pub placed : IsHonest (view old.shelf.disk) → IsPlaced view old.shelf s → IsPlaced view new.shelf (after_events (setup_of old) events s)

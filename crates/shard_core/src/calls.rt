@@ -24,6 +24,7 @@ ghost use Rattle.shard_core.specs.Keeping.{KeepsBy, KeepsFew};
 ghost use Rattle.shard_core.specs.View.{SameSetup, setup_of};
 ghost use Rattle.shard_core.specs.Stands.{Agrees, IsWhole};
 ghost use Rattle.shard_core.specs.Calls.{IsRefusedWrite, Makes, GetsStored, write_answer, read_answer, delete_answer, meta_of};
+ghost use Rattle.shard_core.specs.Failing.{FailsBy};
 
 use crate::delete::{bury_step, delete_step};
 use crate::get::{get_step, meta_step};
@@ -38,8 +39,9 @@ impl<D: Disk> Shard<D> {
     /// At `Ok` this version is the record's, and its stamp is answered; a crash may lose it until its write buffer is flushed, and from
     /// then on, until the record is removed, each crash leaves it or a later one. With commit on it is flushed at `Ok`. `ttl` is in
     /// seconds from `now`, 0 for never; `now` is in milliseconds; `expect` is the generation that has to be seen, 0 for no record. After
-    /// a `Fault` with commit on the version may stand, pending; any other refusal leaves the record as it was. `put_step` over the
-    /// digest's sprig.
+    /// a `Fault` the first free block, whose gate couldn't be closed, is at the back of the free ones; or, with commit on, the version
+    /// stands in memory, and its buffer is sealed and waits. Any other refusal leaves all as it was, but for memory that was taken.
+    /// `put_step` over the digest's sprig.
     pub fn put(
         &mut self,
         alloc: Global,
@@ -62,6 +64,7 @@ impl<D: Disk> Shard<D> {
         // A refusal writes nothing, but where commit is on and the flush failed.
         ensures refused { IfErr result (λ refusal. ((refusal ≡ WriteRefusal.Fault) × (self.old.set.commit ≡ true)) ⊎ IsRefusedWrite self.old self.new refusal) }
         ensures sure { StaysSure D.view self.old.shelf self.new.shelf }
+        ensures fails { FailsBy result self.old.shelf self.new.shelf }
         ensures kept { KeepsBy self.old.set.commit (units_for (length payload.now)) self.old.shelf self.new.shelf result }
         ensures later { IsLater (D.view self.old.shelf.disk) (D.view self.new.shelf.disk) }
         ensures honest { IsHonest (D.view self.old.shelf.disk) → IsHonest (D.view self.new.shelf.disk) }
@@ -86,8 +89,8 @@ impl<D: Disk> Shard<D> {
 
     /// At `Ok` the version that is seen of the digest, none where there is no put or it is expired at `now`, in milliseconds; nothing is
     /// written, and a crash leaves what it left before. On a sound device it is as it was put, and never `Damaged`; so it is on any
-    /// device where the block has a write buffer of the clients' stream, or such a flushed buffer is kept. `get_step` over the digest's
-    /// sprig.
+    /// device where the block has a write buffer of the clients' stream, or such a flushed buffer is kept. A refusal too leaves all as it
+    /// was, but the disk, which was only read. `get_step` over the digest's sprig.
     pub fn get(
         &mut self,
         alloc: Global,
@@ -110,6 +113,7 @@ impl<D: Disk> Shard<D> {
         // Over an honest disk nothing is damaged.
         ensures undamaged { IsHonest (D.view self.old.shelf.disk) → (s : State) → Agrees self.old s → IsPlaced D.view self.old.shelf s → IfErr result IsUndamaged }
         ensures sure { StaysSure D.view self.old.shelf self.new.shelf }
+        ensures same { self.new ≡ record self.old { shelf = record self.old.shelf { disk = self.new.shelf.disk } } }
         ensures kept { KeepsAll self.old.shelf self.new.shelf }
         ensures few { KeepsFew self.old }
         ensures disk { OnlyRead (D.view self.old.shelf.disk) (D.view self.new.shelf.disk) }
@@ -137,8 +141,8 @@ impl<D: Disk> Shard<D> {
 
     /// At `Ok(true)` the record that was seen at `now` is gone, at `Ok(false)` there was none. An uncovered one is removed from the index
     /// alone, without a refusal, and a crash may bring it or an older version back. For a covered one a tombstone is written, with the
-    /// refusals of `bury`: once that is flushed, which with commit on it is at `Ok`, no crash brings back what was there before it. `now`
-    /// is in milliseconds. `delete_step` over the digest's sprig.
+    /// refusals of `bury`: once that is flushed, which with commit on it is at `Ok`, no crash brings back what was there before it. What
+    /// stands after a refusal is as with `put`. `now` is in milliseconds. `delete_step` over the digest's sprig.
     pub fn delete(&mut self, alloc: Global, digest: &Digest, now: u64) -> Result<bool, WriteRefusal>
         requires named { device_number self.old.shelf.geometry.devices digest.now ≡ self.old.shelf.geometry.device }
         requires now { now ≤ 2 ^ 61 }
@@ -148,6 +152,7 @@ impl<D: Disk> Shard<D> {
         ensures bare { cover_of (seen_entry now (held (setup_of self.old) digest.now self.old.sprigs)) ≡ false → IsOk result × (self.new.shelf.disk ≡ self.old.shelf.disk) }
         ensures refused { IfErr result (λ refusal. ((refusal ≡ WriteRefusal.Fault) × (self.old.set.commit ≡ true)) ⊎ IsRefusedWrite self.old self.new refusal) }
         ensures sure { StaysSure D.view self.old.shelf self.new.shelf }
+        ensures fails { FailsBy result self.old.shelf self.new.shelf }
         ensures kept { let covered = cover_of (seen_entry now (held (setup_of self.old) digest.now self.old.sprigs)) in
             (covered ≡ false → KeepsAll self.old.shelf self.new.shelf) × (covered ≡ true → KeepsBy self.old.set.commit (units_for 0) self.old.shelf self.new.shelf result) }
         ensures later { IsLater (D.view self.old.shelf.disk) (D.view self.new.shelf.disk) }
@@ -170,14 +175,15 @@ impl<D: Disk> Shard<D> {
 
     /// At `Ok` a tombstone stands for the digest, also where there was no record, and its stamp is answered; a crash may lose it until
     /// its write buffer is flushed, and from then on no crash brings back what was there before it. With commit on it is flushed at `Ok`.
-    /// `now` is in milliseconds. The refusals are those of `put`, but for size and generation. Aerospike's durable delete; `bury_step`
-    /// over the digest's sprig.
+    /// `now` is in milliseconds. The refusals are those of `put`, but for size and generation, and leave what those leave. Aerospike's
+    /// durable delete; `bury_step` over the digest's sprig.
     pub fn bury(&mut self, alloc: Global, digest: &Digest, now: u64) -> Result<Stamp, WriteRefusal>
         requires named { device_number self.old.shelf.geometry.devices digest.now ≡ self.old.shelf.geometry.device }
         requires now { now ≤ 2 ^ 61 }
         ensures makes { (s : State) → Agrees self.old s → Makes D.view (bury_call digest.now now) (write_answer result) self.old s self.new }
         ensures refused { IfErr result (λ refusal. ((refusal ≡ WriteRefusal.Fault) × (self.old.set.commit ≡ true)) ⊎ IsRefusedWrite self.old self.new refusal) }
         ensures sure { StaysSure D.view self.old.shelf self.new.shelf }
+        ensures fails { FailsBy result self.old.shelf self.new.shelf }
         ensures kept { KeepsBy self.old.set.commit (units_for 0) self.old.shelf self.new.shelf result }
         ensures later { IsLater (D.view self.old.shelf.disk) (D.view self.new.shelf.disk) }
         ensures honest { IsHonest (D.view self.old.shelf.disk) → IsHonest (D.view self.new.shelf.disk) }

@@ -19,6 +19,7 @@ ghost use Rattle.shard_core.specs.Stands.{Agrees};
 ghost use Rattle.shard_core.specs.Calls.{Makes};
 ghost use Rattle.shard_core.specs.Keeping.{KeepsThrough};
 ghost use Rattle.shard_core.specs.Vacating.{MakesEvents, HasBodyUnless, HasParts, IsDamageFound, IsDamageIn, IsMoved, IsMovedSome, IsMovedOut, IsNextIn, IsVacating, NoneLies, lies_in};
+ghost use Rattle.shard_core.specs.Failing.{FailsBy};
 
 use crate::refusals::{move_answer, vacate_cause};
 use crate::{DefragCause, DefragRefusal, Shard};
@@ -39,12 +40,14 @@ pub struct Vacated {
 impl<D: Disk> Shard<D> {
     /// At `Ok` nothing is live in the block that had waited longest, and it answers the block and how many records were moved, none
     /// exactly where no block waited; of what was flushed no crash loses anything by it. A moved record goes to a write buffer; the block
-    /// is held until that is flushed. A refusal tells how many records were moved before, and these stay moved. Aerospike's
-    /// defragmentation.
+    /// is held until that is flushed. A refusal tells how many records were moved before, and these stay moved; the one that wasn't moved
+    /// and those behind it are as before, and after a `Fault` the first free block, whose gate couldn't be closed, may be at the back of
+    /// the free ones. Aerospike's defragmentation.
     pub fn defrag_one(&mut self, alloc: Global) -> Result<Option<Vacated>, DefragRefusal>
         ensures makes { (s : State) → Agrees self.old s → MakesEvents D.view (IsVacating self.old s result) self.old s self.new }
         ensures few { IfOk result (λ done. IfSome done (λ vacated. vacated.moved < 2 ^ 16)) }
         ensures sure { StaysSure D.view self.old.shelf self.new.shelf }
+        ensures fails { FailsBy result self.old.shelf self.new.shelf }
 
         // What was kept of flushed buffers goes only where a buffer begins, to which records are moved.
         ensures kept { KeepsThrough false self.old.shelf self.new.shelf }
@@ -82,6 +85,7 @@ impl<D: Disk> Shard<D> {
         ensures makes { (s : State) → Agrees self.old s → HasFew block s.book → MakesEvents D.view (IsMovedOut (setup_of self.old) block s result) self.old s self.new }
         ensures few { IfOk result (λ moved. moved < 2 ^ 16) }
         ensures sure { StaysSure D.view self.old.shelf self.new.shelf }
+        ensures fails { FailsBy result self.old.shelf self.new.shelf }
         ensures kept { KeepsThrough false self.old.shelf self.new.shelf }
         ensures damaged { IfErr result (λ refusal. IsDamageIn (D.view self.old.shelf.disk).tells D.view block self.new refusal.cause) }
         ensures later { IsLater (D.view self.old.shelf.disk) (D.view self.new.shelf.disk) }
@@ -104,6 +108,7 @@ impl<D: Disk> Shard<D> {
         ensures makes { (s : State) → Agrees self.old s → HasFew block s.book → MakesEvents D.view (IsMovedSome (setup_of self.old) block s result) self.old s self.new }
         ensures few { IfOk result (λ moved. moved < 2 ^ 16) }
         ensures sure { StaysSure D.view self.old.shelf self.new.shelf }
+        ensures fails { FailsBy result self.old.shelf self.new.shelf }
         ensures kept { KeepsThrough false self.old.shelf self.new.shelf }
         ensures damaged { IfErr result (λ refusal. IsDamageIn (D.view self.old.shelf.disk).tells D.view block self.new refusal.cause) }
         ensures tells { (D.view self.old.shelf.disk).tells → (D.view self.new.shelf.disk).tells }
@@ -140,6 +145,7 @@ impl<D: Disk> Shard<D> {
         requires low { (s : State) × Agrees self.old s × HasFew block s.book }
         ensures makes { (s : State) → Agrees self.old s → HasFew block s.book → MakesEvents D.view (IsMovedOut (setup_of self.old) block s result) self.old s self.new }
         ensures sure { StaysSure D.view self.old.shelf self.new.shelf }
+        ensures fails { FailsBy result self.old.shelf self.new.shelf }
         ensures kept { KeepsThrough false self.old.shelf self.new.shelf }
         ensures damaged { IfErr result (λ refusal. IsDamageIn (D.view self.old.shelf.disk).tells D.view block self.new refusal.cause) }
         ensures later { IsLater (D.view self.old.shelf.disk) (D.view self.new.shelf.disk) }
@@ -186,6 +192,7 @@ impl<D: Disk> Shard<D> {
         requires named { device_number self.old.shelf.geometry.devices digest.now ≡ self.old.shelf.geometry.device }
         ensures makes { (s : State) → Agrees self.old s → (answer : Answer) × IsMoved result answer × Makes D.view (move_call digest.now block) answer self.old s self.new }
         ensures sure { StaysSure D.view self.old.shelf self.new.shelf }
+        ensures fails { FailsBy result self.old.shelf self.new.shelf }
         ensures kept { KeepsThrough false self.old.shelf self.new.shelf }
         ensures damaged { IfErr result (IsDamageIn (D.view self.old.shelf.disk).tells D.view block self.new) }
         ensures tells { (D.view self.old.shelf.disk).tells → (D.view self.new.shelf.disk).tells }

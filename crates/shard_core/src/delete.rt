@@ -20,6 +20,7 @@ ghost use Rattle.shard_core.specs.Calls.{IsRefusedStep, delete_answer, write_ans
 ghost use Rattle.law_steps.specs.Events.{StepMakes};
 ghost use Rattle.shard_core.specs.Writing.{IsEntombing, IsRemoving, entombed_answer, written_answer};
 ghost use Rattle.shard_core.specs.Keeping.{KeepsBy};
+ghost use Rattle.shard_core.specs.Failing.{FailsBy};
 
 use crate::sprigs::place_of_entry;
 use crate::write::{stamp_after, write_step};
@@ -36,7 +37,7 @@ use tomb_rules::delete_writes;
 /// no older copy may be behind its entry, the entry is removed in memory alone: no disk is called, it is never refused, and a crash may
 /// bring the record or an older version back, as the Aerospike documentation has it of deletes. A covered entry is replaced by a
 /// tombstone instead, with the refusals of `bury_step`: once that is flushed, which with commit on it is at `Ok`, no crash brings back
-/// what was there before it.
+/// what was there before it. What stands after a refusal is as with `put_step`.
 pub fn delete_step<D: Disk>(
     alloc: Global,
     sprig: &mut Sprig,
@@ -56,6 +57,7 @@ pub fn delete_step<D: Disk>(
     ensures bare { cover_of (seen_entry now (entry_of digest.now sprig.old.entries)) ≡ false → IsOk result × (shelf.new.disk ≡ shelf.old.disk) }
     ensures refused { IfErr result (λ refusal. ((refusal ≡ WriteRefusal.Fault) × (set.now.commit ≡ true)) ⊎ IsRefusedStep sprig.old sprig.new shelf.old shelf.new refusal) }
     ensures sure { StaysSure D.view shelf.old shelf.new }
+    ensures fails { FailsBy result shelf.old shelf.new }
     ensures kept { let covered = cover_of (seen_entry now (entry_of digest.now sprig.old.entries)) in
         (covered ≡ false → KeepsAll shelf.old shelf.new) × (covered ≡ true → KeepsBy set.now.commit (units_for 0) shelf.old shelf.new result) }
     ensures later { IsLater (D.view shelf.old.disk) (D.view shelf.new.disk) }
@@ -90,6 +92,7 @@ pub fn bury_step<D: Disk>(
         → StepMakes D.view setup (part_of setup digest.now) (bury_call digest.now now) (write_answer result) shelf.old s sprig.new shelf.new }
     ensures refused { IfErr result (λ refusal. ((refusal ≡ WriteRefusal.Fault) × (set.now.commit ≡ true)) ⊎ IsRefusedStep sprig.old sprig.new shelf.old shelf.new refusal) }
     ensures sure { StaysSure D.view shelf.old shelf.new }
+    ensures fails { FailsBy result shelf.old shelf.new }
     ensures kept { KeepsBy set.now.commit (units_for 0) shelf.old shelf.new result }
     ensures later { IsLater (D.view shelf.old.disk) (D.view shelf.new.disk) }
     ensures honest { IsHonest (D.view shelf.old.disk) → IsHonest (D.view shelf.new.disk) }
@@ -122,6 +125,7 @@ pub(crate) fn remove_entry<D: Disk>(
     ensures bare { entry.cover ≡ false → IsOk result × (shelf.new.disk ≡ shelf.old.disk) }
     ensures refused { IfErr result (λ refusal. ((refusal ≡ WriteRefusal.Fault) × (set.now.commit ≡ true)) ⊎ IsRefusedStep sprig.old sprig.new shelf.old shelf.new refusal) }
     ensures sure { StaysSure D.view shelf.old shelf.new }
+    ensures fails { FailsBy result shelf.old shelf.new }
     ensures kept { (entry.cover ≡ false → KeepsAll shelf.old shelf.new) × (entry.cover ≡ true → KeepsBy set.now.commit (units_for 0) shelf.old shelf.new result) }
     ensures later { IsLater (D.view shelf.old.disk) (D.view shelf.new.disk) }
     ensures honest { IsHonest (D.view shelf.old.disk) → IsHonest (D.view shelf.new.disk) }
@@ -157,6 +161,7 @@ fn entomb<D: Disk>(
         → StepMakes D.view setup (part_of setup digest.now) call (entombed_answer ok result) shelf.old s sprig.new shelf.new }
     ensures refused { IfErr result (λ refusal. ((refusal ≡ WriteRefusal.Fault) × (set.now.commit ≡ true)) ⊎ IsRefusedStep sprig.old sprig.new shelf.old shelf.new refusal) }
     ensures sure { StaysSure D.view shelf.old shelf.new }
+    ensures fails { FailsBy result shelf.old shelf.new }
     ensures kept { KeepsBy set.now.commit (units_for 0) shelf.old shelf.new result }
     ensures later { IsLater (D.view shelf.old.disk) (D.view shelf.new.disk) }
     ensures honest { IsHonest (D.view shelf.old.disk) → IsHonest (D.view shelf.new.disk) }

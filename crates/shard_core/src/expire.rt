@@ -23,6 +23,7 @@ ghost use Rattle.shard_core.specs.Stands.{Agrees, IsWhole};
 ghost use Rattle.shard_core.specs.Calls.{IsRefusedStep, Makes, delete_answer};
 ghost use Rattle.shard_core.specs.Vacating.{MakesEvents};
 ghost use Rattle.shard_core.specs.Expiring.{AreBare, IsExpiring, IsOfRemoval, expired_among, expired_left};
+ghost use Rattle.shard_core.specs.Failing.{FailsBy};
 
 use crate::delete::remove_entry;
 use crate::{ExpireRefusal, Settings, Shard, WriteRefusal};
@@ -36,7 +37,7 @@ use std::alloc::Global;
 /// At `Ok(true)` the entry of the digest, a put that was expired at `now`, in milliseconds, is removed; at `Ok(false)` it was no such
 /// put, and nothing changed. Where no older copy may be behind it, it is removed in memory alone: no disk is called, it is never refused,
 /// and a crash may bring it or an older version back. A covered entry is replaced by a tombstone instead, with the refusals of
-/// `bury_step`: once that is flushed, no crash brings back what was there before it.
+/// `bury_step`: once that is flushed, no crash brings back what was there before it. What stands after a refusal is as with `put_step`.
 pub fn expire_step<D: Disk>(
     alloc: Global,
     sprig: &mut Sprig,
@@ -56,6 +57,7 @@ pub fn expire_step<D: Disk>(
     ensures bare { cover_of (expired_entry now (entry_of digest.now sprig.old.entries)) ≡ false → IsOk result × (shelf.new.disk ≡ shelf.old.disk) }
     ensures refused { IfErr result (λ refusal. ((refusal ≡ WriteRefusal.Fault) × (set.now.commit ≡ true)) ⊎ IsRefusedStep sprig.old sprig.new shelf.old shelf.new refusal) }
     ensures sure { StaysSure D.view shelf.old shelf.new }
+    ensures fails { FailsBy result shelf.old shelf.new }
     ensures kept { let covered = cover_of (expired_entry now (entry_of digest.now sprig.old.entries)) in
         (covered ≡ false → KeepsAll shelf.old shelf.new) × (covered ≡ true → KeepsBy set.now.commit (units_for 0) shelf.old shelf.new result) }
     ensures later { IsLater (D.view shelf.old.disk) (D.view shelf.new.disk) }
@@ -88,7 +90,8 @@ pub fn next_expired(sprig: &Sprig, last: Option<Digest>, now: u64) -> Option<Dig
 impl<D: Disk> Shard<D> {
     /// At `Ok` the entries of the part that were expired at `now`, in milliseconds, are removed, in digest order, and it answers how
     /// many; what a crash leaves of each is as with `expire_step`. One without older copies behind it is removed in memory alone; a
-    /// covered one is replaced by a tombstone. A refusal tells how many were removed before, and these stay removed.
+    /// covered one is replaced by a tombstone. A refusal tells how many were removed before, and these stay removed; what the one leaves
+    /// that was refused is as with `expire_step`, and those behind it are as before.
     pub fn expire_part(&mut self, alloc: Global, part: u32, now: u64) -> Result<u64, ExpireRefusal>
         requires part { part < part_total (setup_of self.old) }
         requires now { now ≤ 2 ^ 61 }
@@ -99,6 +102,7 @@ impl<D: Disk> Shard<D> {
         ensures bare { AreBare self.old part now → IsOk result × (self.new.shelf.disk ≡ self.old.shelf.disk) × KeepsAll self.old.shelf self.new.shelf }
         ensures never { IfErr result (λ refusal. IsOfRemoval refusal.cause) }
         ensures sure { StaysSure D.view self.old.shelf self.new.shelf }
+        ensures fails { FailsBy result self.old.shelf self.new.shelf }
 
         // What was kept of flushed buffers goes only where a buffer begins, and by flushes, of which there are none with commit off.
         ensures kept { KeepsThrough self.old.set.commit self.old.shelf self.new.shelf }
@@ -128,6 +132,7 @@ impl<D: Disk> Shard<D> {
         ensures bare { cover_of (expired_entry now (held (setup_of self.old) digest.now self.old.sprigs)) ≡ false
             → IsOk result × (self.new.shelf.disk ≡ self.old.shelf.disk) × KeepsAll self.old.shelf self.new.shelf }
         ensures sure { StaysSure D.view self.old.shelf self.new.shelf }
+        ensures fails { FailsBy result self.old.shelf self.new.shelf }
         ensures kept { KeepsThrough self.old.set.commit self.old.shelf self.new.shelf }
         ensures later { IsLater (D.view self.old.shelf.disk) (D.view self.new.shelf.disk) }
         ensures honest { IsHonest (D.view self.old.shelf.disk) → IsHonest (D.view self.new.shelf.disk) }

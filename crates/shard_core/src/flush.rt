@@ -24,6 +24,7 @@ ghost use Rattle.shard_core.specs.Flushing.{flushed_count};
 ghost use Rattle.shard_core.specs.Writing.{EndsRight};
 ghost use Rattle.shard_core.specs.Keeping.{FlushesInTurn, FlushesFront, SealsAndFlushes, KeepsTended};
 ghost use Rattle.shard_core.specs.Vacating.{MakesEvents, TendsWell};
+ghost use Rattle.shard_core.specs.Failing.{FailsBy, MayFail, TendsFail};
 
 use crate::Shard;
 use block_shelf::Shelf;
@@ -45,6 +46,7 @@ pub(crate) fn flush_up_to<D: Disk>(shelf: &mut Shelf<D>, last: u64) -> Result<u6
     ensures left { OnErr result (shelf.new.buffers ≢ []) }
     ensures cause { OnErr result (Rose (D.view shelf.old.disk).faults (D.view shelf.new.disk).faults) }
     ensures sure { StaysSure D.view shelf.old shelf.new }
+    ensures fails { FailsBy result shelf.old shelf.new }
     ensures later { IsLater (D.view shelf.old.disk) (D.view shelf.new.disk) }
     ensures honest { IsHonest (D.view shelf.old.disk) → IsHonest (D.view shelf.new.disk) }
     ensures shape { SameShape shelf.old shelf.new }
@@ -70,6 +72,7 @@ fn flush_sealed<D: Disk>(shelf: &mut Shelf<D>) -> Result<u64, DiskFault>
     ensures left { OnErr result (shelf.new.buffers ≢ []) }
     ensures cause { OnErr result (Rose (D.view shelf.old.disk).faults (D.view shelf.new.disk).faults) }
     ensures sure { StaysSure D.view shelf.old shelf.new }
+    ensures fails { FailsBy result shelf.old shelf.new }
     ensures later { IsLater (D.view shelf.old.disk) (D.view shelf.new.disk) }
     ensures honest { IsHonest (D.view shelf.old.disk) → IsHonest (D.view shelf.new.disk) }
     ensures shape { SameShape shelf.old shelf.new }
@@ -91,6 +94,7 @@ pub fn flush_shelf<D: Disk>(shelf: &mut Shelf<D>) -> Result<u64, DiskFault>
     ensures kept { (setup : Setup) (s : State) → IsSetupOf setup shelf.old → ShelfStands setup shelf.old s → FlushesFront shelf.old shelf.new }
     ensures cause { OnErr result (Rose (D.view shelf.old.disk).faults (D.view shelf.new.disk).faults) }
     ensures sure { StaysSure D.view shelf.old shelf.new }
+    ensures fails { FailsBy result shelf.old shelf.new }
     ensures later { IsLater (D.view shelf.old.disk) (D.view shelf.new.disk) }
     ensures honest { IsHonest (D.view shelf.old.disk) → IsHonest (D.view shelf.new.disk) }
     ensures shape { SameShape shelf.old shelf.new }
@@ -100,7 +104,8 @@ pub fn flush_shelf<D: Disk>(shelf: &mut Shelf<D>) -> Result<u64, DiskFault>
 }
 
 /// The buffers that are due are sealed, where at most 6 blocks are free, and at `Ok` all sealed ones are flushed, in rising number, and it
-/// answers how many; of these no crash loses anything then. After a fault those before it stay flushed. It takes no memory.
+/// answers how many; of these no crash loses anything then. After a fault those before it stay flushed, and the others wait; at most the
+/// gate of the one that failed is unsure by it. It takes no memory.
 pub fn flush_low<D: Disk>(shelf: &mut Shelf<D>) -> Result<u64, DiskFault>
     ensures makes { (setup : Setup) (s : State) → IsSetupOf setup shelf.old → ShelfStands setup shelf.old s
         → MakesEvent D.view setup flush_sealed_call (flush_answer result) shelf.old s shelf.new (ShelfStands setup shelf.new) }
@@ -111,6 +116,7 @@ pub fn flush_low<D: Disk>(shelf: &mut Shelf<D>) -> Result<u64, DiskFault>
     ensures kept { (setup : Setup) (s : State) → IsSetupOf setup shelf.old → ShelfStands setup shelf.old s → SealsAndFlushes shelf.old shelf.new }
     ensures cause { OnErr result (Rose (D.view shelf.old.disk).faults (D.view shelf.new.disk).faults) }
     ensures sure { StaysSure D.view shelf.old shelf.new }
+    ensures fails { FailsBy result shelf.old shelf.new }
     ensures later { IsLater (D.view shelf.old.disk) (D.view shelf.new.disk) }
     ensures honest { IsHonest (D.view shelf.old.disk) → IsHonest (D.view shelf.new.disk) }
     ensures shape { SameShape shelf.old shelf.new }
@@ -121,7 +127,8 @@ pub fn flush_low<D: Disk>(shelf: &mut Shelf<D>) -> Result<u64, DiskFault>
 }
 
 /// The buffers that are due are sealed, where at most 6 blocks are free, and at `Ok` the sealed one of the lowest number is flushed: it
-/// answers 1, or 0 where none is sealed. No crash loses anything of it then. After a fault it is pending still. It takes no memory.
+/// answers 1, or 0 where none is sealed. No crash loses anything of it then. After a fault it is pending still, and at most its gate is
+/// unsure by that. It takes no memory.
 pub fn flush_next<D: Disk>(shelf: &mut Shelf<D>) -> Result<u64, DiskFault>
     ensures makes { (setup : Setup) (s : State) → IsSetupOf setup shelf.old → ShelfStands setup shelf.old s
         → MakesEvent D.view setup flush_next_call (flush_answer result) shelf.old s shelf.new (ShelfStands setup shelf.new) }
@@ -133,6 +140,7 @@ pub fn flush_next<D: Disk>(shelf: &mut Shelf<D>) -> Result<u64, DiskFault>
     ensures kept { (setup : Setup) (s : State) → IsSetupOf setup shelf.old → ShelfStands setup shelf.old s → SealsAndFlushes shelf.old shelf.new }
     ensures cause { OnErr result (Rose (D.view shelf.old.disk).faults (D.view shelf.new.disk).faults) }
     ensures sure { StaysSure D.view shelf.old shelf.new }
+    ensures fails { FailsBy result shelf.old shelf.new }
     ensures later { IsLater (D.view shelf.old.disk) (D.view shelf.new.disk) }
     ensures honest { IsHonest (D.view shelf.old.disk) → IsHonest (D.view shelf.new.disk) }
     ensures shape { SameShape shelf.old shelf.new }
@@ -155,14 +163,15 @@ fn flushed_count(flushed: Result<Option<u64>, DiskFault>) -> Result<u64, DiskFau
 impl<D: Disk> Shard<D> {
     /// At `Ok` nothing is pending, and it answers how many buffers it flushed; from then on, until a record is removed, each crash leaves
     /// its version of now or a later one, and nothing from before a tombstone comes back. The buffers that are being filled are sealed,
-    /// and all are flushed in rising number. After a fault those that were flushed stay so, and at least one is pending. It takes no
-    /// memory.
+    /// and all are flushed in rising number. After a fault those that were flushed stay so, and at least one is pending; at most the gate of
+    /// the one that failed is unsure by it. It takes no memory.
     pub fn flush(&mut self) -> Result<u64, DiskFault>
         ensures makes { (s : State) → Agrees self.old s → Makes D.view flush_call (flush_answer result) self.old s self.new }
         ensures few { IfOk result (λ n. n < 2 ^ 60) }
         ensures quiet { OnOk result (self.new.shelf.buffers ≡ []) }
         ensures left { OnErr result (self.new.shelf.buffers ≢ []) }
         ensures sure { StaysSure D.view self.old.shelf self.new.shelf }
+        ensures fails { FailsBy result self.old.shelf self.new.shelf }
 
         // What is flushed comes to the back of what is kept, and the front goes where there is too much.
         ensures kept { FlushesFront self.old.shelf self.new.shelf }
@@ -176,10 +185,12 @@ impl<D: Disk> Shard<D> {
     /// Makes room, and answers nothing; of what was flushed no crash loses anything by it. It seals what is due where at most 6 blocks
     /// are free, flushes what is sealed, as far as the disk goes, and vacates the block that has waited longest, if one waits and that
     /// can gain room. Where a block is free, no move is refused for want of space. With a low-water mark of at most 50, a tending in
-    /// which nothing is refused leaves less to vacate than there was, or the device at rest: then a tending does nothing.
+    /// which nothing is refused leaves less to vacate than there was, or the device at rest: then a tending does nothing. Where the disk
+    /// fails, or a move is refused, what was done before stands, and what is left is as with `flush` and `defrag_one`.
     pub fn tend(&mut self, alloc: Global)
         ensures makes { (s : State) → Agrees self.old s → MakesEvents D.view (TendsWell (setup_of self.old) s) self.old s self.new }
         ensures sure { StaysSure D.view self.old.shelf self.new.shelf }
+        ensures fails { TendsFail self.old.shelf self.new.shelf }
 
         // What is flushed comes to the back of what is kept; then only what is kept of a block goes in which a buffer begins.
         ensures kept { KeepsTended self.old.shelf self.new.shelf }
@@ -200,6 +211,7 @@ impl<D: Disk> Shard<D> {
         ensures whole { IsShelf D.view self.old.shelf × IsWhole self.old }
         ensures makes { (s : State) → Agrees self.old s → MakesAny D.view flush_sealed_call self.old s self.new }
         ensures sure { StaysSure D.view self.old.shelf self.new.shelf }
+        ensures fails { MayFail self.old.shelf self.new.shelf }
         ensures kept { SealsAndFlushes self.old.shelf self.new.shelf }
         ensures later { IsLater (D.view self.old.shelf.disk) (D.view self.new.shelf.disk) }
         ensures honest { IsHonest (D.view self.old.shelf.disk) → IsHonest (D.view self.new.shelf.disk) }

@@ -39,7 +39,7 @@ pub struct Meta {
 /// written, and a crash leaves what it left before. It is read from its write buffer, or from its flushed buffer while the post-write
 /// queue keeps that, without a call of the disk, or else from its block with one. From a flushed buffer too it is what stands on a disk
 /// that tells its bytes. What is read from such a disk is `Damaged` exactly where it hasn't the head of the entry's record; on a sound
-/// device nothing is damaged, and a version is as it was put.
+/// device nothing is damaged, and a version is as it was put. A refusal too leaves all as it was, but the disk, which was only read.
 pub fn get_step<D: Disk>(
     alloc: Global,
     sprig: &mut Sprig,

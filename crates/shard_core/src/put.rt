@@ -20,6 +20,7 @@ ghost use Rattle.shard_core.specs.Calls.{IsRefusedStep, write_answer};
 ghost use Rattle.law_steps.specs.Events.{StepMakes};
 ghost use Rattle.shard_core.specs.Writing.{IsExpected, IsFit, IsUnfit};
 ghost use Rattle.shard_core.specs.Keeping.{KeepsBy};
+ghost use Rattle.shard_core.specs.Failing.{FailsBy};
 
 use crate::write::{stamp_after, write_step};
 use crate::{Settings, WriteRefusal};
@@ -65,6 +66,7 @@ pub fn put_step<D: Disk>(
     // A refusal writes nothing, but where commit is on and the flush failed.
     ensures refused { IfErr result (λ refusal. ((refusal ≡ WriteRefusal.Fault) × (set.now.commit ≡ true)) ⊎ IsRefusedStep sprig.old sprig.new shelf.old shelf.new refusal) }
     ensures sure { StaysSure D.view shelf.old shelf.new }
+    ensures fails { FailsBy result shelf.old shelf.new }
     ensures kept { KeepsBy set.now.commit (units_for (length payload.now)) shelf.old shelf.new result }
     ensures later { IsLater (D.view shelf.old.disk) (D.view shelf.new.disk) }
     ensures honest { IsHonest (D.view shelf.old.disk) → IsHonest (D.view shelf.new.disk) }

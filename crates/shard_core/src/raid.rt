@@ -1,5 +1,5 @@
 // How a raid takes its turns.
-ghost use Rattle.std.specs.Prelude.{◌≡◌, ◌<◌, ◌+◌, ◌==◌, ℕ, Err, None, Some, IfSome, OnOk, OnErr, if◌then◌else◌, length};
+ghost use Rattle.std.specs.Prelude.{◌≡◌, ◌<◌, ◌+◌, ◌==◌, ℕ, Err, None, Some, IfErr, IfSome, OnOk, OnErr, if◌then◌else◌, length};
 ghost use Rattle.disk_model.specs.Disk.{IsHonest};
 ghost use Rattle.rec_format.specs.Versions.{top_number};
 ghost use Rattle.model_device.specs.Device.{State};
@@ -14,6 +14,7 @@ ghost use Rattle.shard_core.specs.View.{SameSetup};
 ghost use Rattle.shard_core.specs.Stands.{Agrees};
 ghost use Rattle.shard_core.specs.Calls.{Makes};
 ghost use Rattle.shard_core.specs.Raids.{TakesTurn, TurnMakes};
+ghost use Rattle.shard_core.specs.Refusals.{TurnLeaves};
 
 use crate::Shard;
 use disk_model::Disk;
@@ -37,7 +38,8 @@ impl<D: Disk> Shard<D> {
     /// unsure gate the scan of a block finds each copy in it that a start may find and that is older than a marked entry, and only copies
     /// that a start may find: the marks of such entries go in the turns after it. It is refused as stale exactly where another raid has
     /// begun since, or it was given up, or somebody else took its turn: then nothing changes. After any other refusal the raid is given
-    /// up, and none of its marks counts. `now` is in milliseconds. Only the scan of a block takes memory or calls the disk.
+    /// up: none of its marks counts, what it found is gone, and nothing else has changed but the gate of the block, if it was unsure and is
+    /// closed now. `now` is in milliseconds. Only the scan of a block takes memory or calls the disk.
     pub fn raid_step(
         &mut self,
         alloc: Global,
@@ -49,6 +51,7 @@ impl<D: Disk> Shard<D> {
         ensures stale { (IsNext raid.old self.old.shelf.raid → ⊥) → (result ≡ Err (RaidRefusal.Stale self.old.shelf.raid.number self.old.shelf.raid.next)) × (self.new ≡ self.old) }
         ensures follows { OnOk result (IsNext raid.new self.new.shelf.raid × (raid.new.number ≡ raid.old.number)) }
         ensures kept { OnErr result (raid.new ≡ raid.old) }
+        ensures left { IfErr result (TurnLeaves self.old self.new) }
         ensures sure { StaysSure D.view self.old.shelf self.new.shelf }
         ensures later { IsLater (D.view self.old.shelf.disk) (D.view self.new.shelf.disk) }
         ensures honest { IsHonest (D.view self.old.shelf.disk) → IsHonest (D.view self.new.shelf.disk) }
@@ -73,6 +76,7 @@ impl<D: Disk> Shard<D> {
         ensures stale { (IsNext raid.old self.old.shelf.raid → ⊥) → (result ≡ Err (RaidRefusal.Stale self.old.shelf.raid.number self.old.shelf.raid.next)) × (self.new ≡ self.old) }
         ensures follows { OnOk result (IsNext raid.new self.new.shelf.raid × (raid.new.number ≡ raid.old.number)) }
         ensures kept { OnErr result (raid.new ≡ raid.old) }
+        ensures left { IfErr result (TurnLeaves self.old self.new) }
         ensures sure { StaysSure D.view self.old.shelf self.new.shelf }
         ensures later { IsLater (D.view self.old.shelf.disk) (D.view self.new.shelf.disk) }
         ensures honest { IsHonest (D.view self.old.shelf.disk) → IsHonest (D.view self.new.shelf.disk) }
@@ -102,6 +106,7 @@ impl<D: Disk> Shard<D> {
         ensures stale { (IsNext raid.old self.old.shelf.raid → ⊥) → (result ≡ Err (RaidRefusal.Stale self.old.shelf.raid.number self.old.shelf.raid.next)) × (self.new ≡ self.old) }
         ensures follows { OnOk result (IsNext raid.new self.new.shelf.raid × (raid.new.number ≡ raid.old.number)) }
         ensures kept { OnErr result (raid.new ≡ raid.old) }
+        ensures left { IfErr result (TurnLeaves self.old self.new) }
         ensures sure { StaysSure D.view self.old.shelf self.new.shelf }
         ensures later { IsLater (D.view self.old.shelf.disk) (D.view self.new.shelf.disk) }
         ensures honest { IsHonest (D.view self.old.shelf.disk) → IsHonest (D.view self.new.shelf.disk) }

@@ -29,6 +29,7 @@ ghost use Rattle.shard_core.specs.Calls.{IsRefusedStep, IsShelfLeft};
 ghost use Rattle.law_steps.specs.Events.{StepMakes};
 ghost use Rattle.shard_core.specs.Writing.{IsWriteOf, Wrote, IsUnwritten, Commits, written_answer};
 ghost use Rattle.shard_core.specs.Keeping.{SealsAndFlushes, KeepsBy};
+ghost use Rattle.shard_core.specs.Failing.{FailsBy};
 
 use crate::flush::flush_up_to;
 use crate::refusals::write_refusal;
@@ -70,6 +71,7 @@ pub(crate) fn write_step<D: Disk>(
     ensures quiet { set.now.commit ≡ false → gate_at shelf.old.gates (first_block shelf.old.free) ≡ Shut → shelf.new.disk ≡ shelf.old.disk }
     ensures refused { IfErr result (λ refusal. ((refusal ≡ WriteRefusal.Fault) × (set.now.commit ≡ true)) ⊎ IsRefusedStep sprig.old sprig.new shelf.old shelf.new refusal) }
     ensures sure { StaysSure D.view shelf.old shelf.new }
+    ensures fails { FailsBy result shelf.old shelf.new }
     ensures kept { KeepsBy set.now.commit (version_units version.now) shelf.old shelf.new result }
     ensures later { IsLater (D.view shelf.old.disk) (D.view shelf.new.disk) }
     ensures honest { IsHonest (D.view shelf.old.disk) → IsHonest (D.view shelf.new.disk) }
@@ -122,6 +124,7 @@ fn append_entry<D: Disk>(
     ensures quiet { gate_at shelf.old.gates (first_block shelf.old.free) ≡ Shut → shelf.new.disk ≡ shelf.old.disk }
     ensures cause { result ≡ Err WriteRefusal.Fault → Rose (D.view shelf.old.disk).faults (D.view shelf.new.disk).faults }
     ensures sure { StaysSure D.view shelf.old shelf.new }
+    ensures fails { FailsBy result shelf.old shelf.new }
     ensures later { IsLater (D.view shelf.old.disk) (D.view shelf.new.disk) }
     ensures honest { IsHonest (D.view shelf.old.disk) → IsHonest (D.view shelf.new.disk) }
     ensures shape { SameShape shelf.old shelf.new }
@@ -193,6 +196,7 @@ fn commit<D: Disk>(shelf: &mut Shelf<D>, block: u32) -> Result<(), WriteRefusal>
         → SealsAndFlushes shelf.old shelf.new }
     ensures cause { OnErr result (Rose (D.view shelf.old.disk).faults (D.view shelf.new.disk).faults) }
     ensures sure { StaysSure D.view shelf.old shelf.new }
+    ensures fails { FailsBy result shelf.old shelf.new }
     ensures later { IsLater (D.view shelf.old.disk) (D.view shelf.new.disk) }
     ensures honest { IsHonest (D.view shelf.old.disk) → IsHonest (D.view shelf.new.disk) }
     ensures shape { SameShape shelf.old shelf.new }

@@ -24,6 +24,7 @@ use Rattle.block_shelf.specs.Scans as shelf
 use Rattle.block_shelf.specs.Scans.{Scans, IsSound, possible_copies}
 use Rattle.law_steps.specs.Standing.{ShelfStands}
 use Rattle.law_steps.proofs.Making.{event_of}
+use Rattle.law_refused.proofs.Leaving.{refused_leaves}
 use Rattle.shard_raid.specs.declared.scan.RaidRefusal.{RaidRefusal}
 use Rattle.shard_raid.specs.Scans.{ScanMakes, IsDamageOf, IsRefusalOf, IsToldOf, refusal_to_scan, cause_of, scan_answer}
 
@@ -77,6 +78,7 @@ module _ {D : Type 0} (view : D → DiskView) (setup : Setup) (block now : ℕ) 
       is_answer = refl;
       follows = record { begins = refl; counts = up; allowed = may_end false (scan_answer result) step ends };
       told = λ honest safe. record { begins = refl; counts = up; allowed = may_end true (scan_answer result) step (ends_told honest safe.safe) };
+      left = refused_leaves setup false s (event (scan_answer result) step) (may_end false (scan_answer result) step ends);
       counted = refl;
       stands = record {
         shelf_stands = record { stands = goes.stands; queue = goes.queued stand.queue };

@@ -25,7 +25,7 @@ use Rattle.raid_book.specs.Turns.{turn_of}
 use Rattle.block_format.specs.Layout.{body_bytes}
 use Rattle.block_shelf.specs.View.{ShelfView, AreSure, records_of, gate_at}
 use Rattle.block_shelf.specs.Standing.{ImagesHold}
-use Rattle.block_shelf.specs.Scans.{FindsBody, NeedsRead, possible_copies}
+use Rattle.block_shelf.specs.Scans.{ClosesAtMost, FindsBody, NeedsRead, possible_copies}
 use Rattle.block_shelf.specs.Disks.{IsLater}
 use Rattle.block_shelf.specs.Keeping.{KeepsAll}
 use Rattle.block_shelf.proofs.KeptAll.{all_same, all_beside}
@@ -34,11 +34,12 @@ use Rattle.block_shelf.proofs.Roomed.{later_none}
 use Rattle.law_steps.specs.Standing.{ShelfStands}
 use Rattle.law_steps.specs.Events.{MakesEvent}
 use Rattle.law_steps.proofs.Making.{event_of}
+use Rattle.law_refused.proofs.Leaving.{refused_leaves}
 use Rattle.shard_raid.specs.Raids.{RaidView, IsNext, StandOn, turns_left}
 use Rattle.shard_raid.specs.Scans.{ScanMakes, IsDamageOf, IsRefusalOf, IsToldOf, IsOfTurn}
-use Rattle.shard_raid.specs.Turns.{IsDidOf, IsNoDrop, TakesTurn, TurnMakes, did_answer, turn_answer}
+use Rattle.shard_raid.specs.Turns.{IsDidOf, IsNoDrop, TakesTurn, TurnLeaves, TurnMakes, GivesUp, did_answer, turn_answer}
 use Rattle.shard_raid.specs.declared.scan.RaidRefusal.{RaidRefusal}
-use Rattle.shard_raid.specs.declared.scan.RaidRefusal.TheVariants.{Fault, Stale}
+use Rattle.shard_raid.specs.declared.scan.RaidRefusal.TheVariants.{Stale, Damaged, Memory, Fault}
 use Rattle.shard_raid.specs.declared.turn.RaidDid.{RaidDid}
 use Rattle.shard_raid.specs.declared.turn.RaidDid.TheVariants.{Scanned, Done}
 use Rattle.shard_raid.proofs.Nearer.{scan_nearer}
@@ -134,10 +135,12 @@ module _ {D : Type 0} (view : D → DiskView) (next : RaidNext) (old new : Shelf
       over = λ same. absurd (more (let is : did ≡ Done = cc in is));
       number = number;
       given_up = tt;
+      left = tt;
       nearer = λ other. nearer;
       damaged = λ tells block is. tt;
       told = λ block is. tt;
       there = λ tells block is needs. absurd (no_scan block (ap turn_of is));
+      gates = λ block is. absurd (no_scan block (ap turn_of is));
       sure = λ sure. gates;
       buffers = buffers;
       kept = kept;
@@ -184,7 +187,7 @@ module _ {D : Type 0} (view : D → DiskView) (block : ℕ) (old new : ShelfView
       alike = λ sure honest safe still. stays_behind scans.makes.event scans.makes.is_call scans.makes.follows.allowed (stay sure honest safe.safe);
     }
 
-  module _ (comes : old.raid.next ≡ Scan block) (sure : AreSure old.gates → new.gates ≡ old.gates) (later : IsLater (view old.disk) (view new.disk))
+  module _ (comes : old.raid.next ≡ Scan block) (closes : ClosesAtMost block old new) (sure : AreSure old.gates → new.gates ≡ old.gates) (later : IsLater (view old.disk) (view new.disk))
       (honest : IsHonest (view old.disk) → IsHonest (view new.disk)) where
     abbrev kept : KeepsAll old new
     kept = all_beside old new new.disk new.gates new.raid rest
@@ -199,11 +202,13 @@ module _ {D : Type 0} (view : D → DiskView) (block : ℕ) (old new : ShelfView
       over = λ same. cc;
       number = ap (λ (b : BookState). b.number) turned;
       given_up = tt;
+      left = tt;
       nearer = λ more. subst (λ (b : BookState). turns_left b < turns_left old.raid) (sym turned) (scan_nearer old.raid fits block new.raid.found comes);
       damaged = λ tells other is. tt;
       told = λ other is. tt;
       there = λ tells other is. let same : block ≡ other = cc in
           subst (λ (b : ℕ). NeedsRead old b → FindsBody old.geometry old.limits.sprigs (body_bytes old.geometry b (view old.disk).seen) b new.raid) same (finds tells);
+      gates = λ other is. let same : block ≡ other = cc in subst (λ (b : ℕ). ClosesAtMost b old new) same closes;
       sure = sure;
       buffers = ap (λ (v : ShelfView D). v.buffers) rest;
       kept = kept;
@@ -227,12 +232,14 @@ module _ {D : Type 0} (view : D → DiskView) (block : ℕ) (old new : ShelfView
       over = λ same. absurd cc;
       number = tt;
       given_up = given;
+      left = rest ∙ ap (λ (b : BookState). record old { disk = new.disk; gates = new.gates; raid = b }) given;
       nearer = tt;
       damaged = λ tells other is. let same : block ≡ other = cc in
           subst (λ (b : ℕ). IsDamageOf old.geometry (body_bytes old.geometry b (view old.disk).seen) b refusal) same (damaged tells);
       told = λ other is. let same : block ≡ other = cc in subst (λ (b : ℕ). IsToldOf old b refusal) same told;
       there = λ tells other is. let same : block ≡ other = cc in
           subst (λ (b : ℕ). NeedsRead old b → IsRefusalOf old.geometry (body_bytes old.geometry b (view old.disk).seen) b refusal) same (wants tells);
+      gates = λ other is. let same : block ≡ other = cc in subst (λ (b : ℕ). ClosesAtMost b old new) same closes;
       sure = sure;
       buffers = ap (λ (v : ShelfView D). v.buffers) rest;
       kept = kept;
@@ -279,6 +286,7 @@ module _ {D : Type 0} (view : D → DiskView) (shelf : ShelfView D) (is_disk : I
         is_answer = refl;
         follows = record { begins = refl; counts = le_refl (view shelf.disk).faults; allowed = allowed false };
         told = λ honest safe. record { begins = refl; counts = le_refl (view shelf.disk).faults; allowed = allowed true };
+        left = refused_leaves setup false s alone (allowed false);
         counted = refl;
         stands = here;
         placed = λ honest placed. placed;
@@ -312,10 +320,12 @@ module _ {D : Type 0} (view : D → DiskView) (shelf : ShelfView D) (is_disk : I
     over = λ same. refl;
     number = refl;
     given_up = tt;
+    left = tt;
     nearer = λ more. absurd (more refl);
     damaged = λ tells block is. tt;
     told = λ block is. tt;
     there = λ tells block is needs. absurd cc;
+    gates = λ block is. absurd cc;
     sure = λ sure. refl;
     buffers = refl;
     kept = all_same shelf;
@@ -365,3 +375,12 @@ part_of_apply next x part at named = let same : Some x ≡ Some part = sym (ap (
 
 pub part_of_drop : (next : RaidNext) (x part : ℕ) → next ≡ Drop x → turn_part (turn_of next) ≡ Some part → x ≡ part
 part_of_drop next x part at named = let same : Some x ≡ Some part = sym (ap (λ (n : RaidNext). turn_part (turn_of n)) at) ∙ named in cc
+
+-- ---- refusals
+
+-- a turn that was refused, and wasn't stale, gives its raid up
+pub given_leaves : {D : Type 0} (old new : ShelfView D) (refusal : RaidRefusal) → IsOfTurn refusal → GivesUp old new → TurnLeaves old new refusal
+given_leaves old new (Stale number next) of given = absurd of
+given_leaves old new (Damaged block place) of given = given
+given_leaves old new Memory of given = given
+given_leaves old new Fault of given = given

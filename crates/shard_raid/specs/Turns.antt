@@ -16,7 +16,7 @@ use Rattle.raid_book.specs.Books.{given_up}
 use Rattle.law_sprig.specs.Tests.{is_put_entry, is_tombstone_entry}
 use Rattle.block_shelf.specs.Disks.{IsLater}
 use Rattle.block_shelf.specs.View.{ShelfView, AreSure}
-use Rattle.block_shelf.specs.Scans.{FindsBody, NeedsRead, possible_copies}
+use Rattle.block_shelf.specs.Scans.{ClosesAtMost, FindsBody, NeedsRead, possible_copies}
 use Rattle.block_shelf.specs.Keeping.{KeepsAll}
 use Rattle.law_steps.specs.Standing.{ShelfIsSafe}
 use Rattle.law_steps.specs.Events.{MakesEvent}
@@ -24,9 +24,22 @@ use Rattle.shard_raid.specs.Marks.{is_marked_by}
 use Rattle.shard_raid.specs.Raids.{RaidView, turns_left}
 use Rattle.shard_raid.specs.Scans.{IsDamageOf, IsRefusalOf, IsToldOf, IsOfTurn, cause_of}
 use Rattle.shard_raid.specs.declared.scan.RaidRefusal.{RaidRefusal}
-use Rattle.shard_raid.specs.declared.scan.RaidRefusal.TheVariants.{Fault}
+use Rattle.shard_raid.specs.declared.scan.RaidRefusal.TheVariants.{Stale, Damaged, Memory, Fault}
 use Rattle.shard_raid.specs.declared.turn.RaidDid.{RaidDid}
 use Rattle.shard_raid.specs.declared.turn.RaidDid.TheVariants.{Marked, Scanned, Applied, Dropped, Done}
+
+-- ---- refusals
+
+-- The raid is given up: its marks are void, and no copy that it found is in its book. All else is as it was, but for the disk and the gates.
+abbrev pub GivesUp : {D : Type 0} → (old new : ShelfView D) → Type 0
+GivesUp old new = new ≡ record old { disk = new.disk; gates = new.gates; raid = given_up old.raid }
+
+-- What a turn leaves of the shelf where it is refused: all of it where it is stale, and else the raid is given up.
+abbrev pub TurnLeaves : {D : Type 0} → (old new : ShelfView D) → RaidRefusal → Type 0
+TurnLeaves old new (Stale number next) = new ≡ old
+TurnLeaves old new (Damaged block place) = GivesUp old new
+TurnLeaves old new Memory = GivesUp old new
+TurnLeaves old new Fault = GivesUp old new
 
 -- ---- answers
 
@@ -73,8 +86,8 @@ pub record TurnMakes {D : Type 0} (view : D → DiskView) (setup : Setup) (raid 
   pub alike : AreSure old.gates → IsHonest (view old.disk) → ShelfIsSafe view setup old s → IsNoDrop raid.next
       → SamePossible (possible_copies view old s) (possible_copies view new (after_event setup makes.event s))
 
--- What the turn of the raid that runs makes of the shelf, by its answer. A turn that is refused gives the raid up, so that its marks are void; any other
--- leaves fewer turns. It is never stale. A block that is read from a disk that tells its bytes has a body of the block, whose records are found, or the
+-- What the turn of the raid that runs makes of the shelf, by its answer. A turn that is refused gives the raid up, so that its marks are void and nothing that it
+-- found is left, and leaves the rest as it was, but for the disk and the gate of a block that is scanned, which is closed where it was unsure; any other leaves fewer turns. It is never stale. A block that is read from a disk that tells its bytes has a body of the block, whose records are found, or the
 -- damage that is told, and memory is wanting only where it has one; over every disk damage is told of no other block. No turn writes to a buffer, and the end of a part calls no disk.
 pub record TakesTurn {D : Type 0} (view : D → DiskView) (next : RaidNext) (result : Result RaidDid RaidRefusal) (old new : ShelfView D) : Type 0 where
   pub of_turn : IfErr result IsOfTurn
@@ -82,12 +95,14 @@ pub record TakesTurn {D : Type 0} (view : D → DiskView) (next : RaidNext) (res
   pub over : result ≡ Ok Done → new ≡ old
   pub number : OnOk result (new.raid.number ≡ old.raid.number)
   pub given_up : OnErr result (new.raid ≡ given_up old.raid)
+  pub left : OnErr result (GivesUp old new)
   pub nearer : IfOk result (λ did. did ≢ Done → turns_left new.raid < turns_left old.raid)
   pub damaged : (view old.disk).tells → (block : ℕ) → next ≡ turn.Scan block → IfErr result (IsDamageOf old.geometry (body_bytes old.geometry block (view old.disk).seen) block)
   pub told : (block : ℕ) → next ≡ turn.Scan block → IfErr result (IsToldOf old block)
   pub there : (view old.disk).tells → (block : ℕ) → next ≡ turn.Scan block → NeedsRead old block
       → let bytes = body_bytes old.geometry block (view old.disk).seen in
       MatchResult result (λ did. FindsBody old.geometry old.limits.sprigs bytes block new.raid) (IsRefusalOf old.geometry bytes block)
+  pub gates : (block : ℕ) → next ≡ turn.Scan block → ClosesAtMost block old new
   pub sure : AreSure old.gates → new.gates ≡ old.gates
   pub buffers : new.buffers ≡ old.buffers
   pub kept : KeepsAll old new

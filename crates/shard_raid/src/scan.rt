@@ -10,7 +10,7 @@ ghost use Rattle.raid_book.specs.Books.{given_up, with_scan};
 ghost use Rattle.block_shelf.specs.Disks.{IsLater};
 ghost use Rattle.block_shelf.specs.View.{AreSure, IsSetupOf};
 ghost use Rattle.block_shelf.specs.Standing.{ImagesHold};
-ghost use Rattle.block_shelf.specs.Scans.{FindsBody, NeedsRead, possible_copies};
+ghost use Rattle.block_shelf.specs.Scans.{ClosesAtMost, FindsBody, NeedsRead, possible_copies};
 ghost use Rattle.law_steps.specs.Standing.{ShelfStands};
 ghost use Rattle.shard_raid.specs.Scans.{ScanMakes, IsOfTurn, IsDamageOf, IsRefusalOf, IsToldOf, refusal_to_scan};
 
@@ -44,7 +44,9 @@ pub fn raid_scan<D: Disk>(alloc: Global, shelf: &mut Shelf<D>) -> Result<u32, Ra
     ensures turned { OnOk result (shelf.new.raid ≡ with_scan shelf.new.raid.found shelf.old.raid) }
     ensures given_up { OnErr result (shelf.new.raid ≡ given_up shelf.old.raid) }
 
-    // Where no gate is unsure the gates stay as they are, and over an honest disk whose image was sound what is possible stays so.
+    // At most the gate of the block is closed, where it was unsure. Where no gate is unsure the gates stay as they are, and over an honest
+    // disk whose image was sound what is possible stays so.
+    ensures gates { (block : ℕ) → shelf.old.raid.next ≡ RaidNext.Scan block → ClosesAtMost block shelf.old shelf.new }
     ensures sure { AreSure shelf.old.gates → shelf.new.gates ≡ shelf.old.gates }
     ensures alike { (setup : Setup) (s : State) → AreSure shelf.old.gates → IsHonest (D.view shelf.old.disk) → ShelfStands setup shelf.old s → ImagesHold setup D.view shelf.old s
         → SamePossible (possible_copies D.view shelf.old s) (possible_copies D.view shelf.new s) }

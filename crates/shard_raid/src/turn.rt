@@ -1,5 +1,5 @@
 // How a raid takes its turns: those at a part over its sprig and the shelf, and the others over the shelf alone.
-ghost use Rattle.std.specs.Prelude.{◌≡◌, ℕ, Ok, Err, None, Some, IfOk, OnOk, OnErr};
+ghost use Rattle.std.specs.Prelude.{◌≡◌, ℕ, Ok, Err, None, Some, IfErr, IfOk, OnOk, OnErr};
 ghost use Rattle.disk_model.specs.Disk.{IsHonest};
 ghost use Rattle.model_device.specs.Book.{Setup};
 ghost use Rattle.model_device.specs.Device.{State};
@@ -14,7 +14,7 @@ ghost use Rattle.block_shelf.specs.View.{IsSetupOf};
 ghost use Rattle.law_steps.specs.Standing.{ShelfStands, StandTogether};
 ghost use Rattle.shard_raid.specs.Ends.{SparesOlder};
 ghost use Rattle.shard_raid.specs.Raids.{IsNext, StandOn};
-ghost use Rattle.shard_raid.specs.Turns.{CountsEnds, TakesTurn, TurnMakes};
+ghost use Rattle.shard_raid.specs.Turns.{CountsEnds, TakesTurn, TurnLeaves, TurnMakes};
 
 use crate::{Raid, RaidRefusal, raid_apply, raid_end, raid_mark, raid_scan};
 use block_shelf::Shelf;
@@ -61,6 +61,7 @@ pub fn part_turn<D: Disk>(
         → IsHonest (D.view shelf.old.disk) → ImagesHold setup D.view shelf.old s → SparesOlder s (possible_copies D.view shelf.old s) sprig.old.entries sprig.new.entries }
     ensures follows { OnOk result (IsNext raid.new shelf.new.raid × (raid.new.number ≡ raid.old.number)) }
     ensures kept { OnErr result (raid.new ≡ raid.old) }
+    ensures left { IfErr result (λ refusal. (sprig.new ≡ sprig.old) × TurnLeaves shelf.old shelf.new refusal) }
     ensures sure { StaysSure D.view shelf.old shelf.new }
     ensures disk { shelf.new.disk ≡ shelf.old.disk }
     ensures geometry { shelf.new.geometry ≡ shelf.old.geometry }
@@ -89,6 +90,7 @@ pub fn shelf_turn<D: Disk>(
     ensures stale { (IsNext raid.old shelf.old.raid → ⊥) → (result ≡ Err (RaidRefusal.Stale shelf.old.raid.number shelf.old.raid.next)) × (shelf.new ≡ shelf.old) }
     ensures follows { OnOk result (IsNext raid.new shelf.new.raid × (raid.new.number ≡ raid.old.number)) }
     ensures kept { OnErr result (raid.new ≡ raid.old) }
+    ensures left { IfErr result (TurnLeaves shelf.old shelf.new) }
     ensures sure { StaysSure D.view shelf.old shelf.new }
     ensures later { IsLater (D.view shelf.old.disk) (D.view shelf.new.disk) }
     ensures honest { IsHonest (D.view shelf.old.disk) → IsHonest (D.view shelf.new.disk) }

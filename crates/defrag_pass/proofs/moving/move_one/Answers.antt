@@ -380,3 +380,24 @@ returns-clause-kept g c =
     let got = c.in_ok-version.ensures {u = tt} in
     keeps_unappended (entry_of c.args.digest.now c.args.sprig.now.entries) c.in-Some.entry (sym c.find.ensures.value ∙ c.in-Some.is) c.args.shelf.now c.read_for.new.shelf got.same
     c.append.new.self c.in-Err.refusal c.append_refusal.result c.in-Err.ensures.refused
+
+-- ---- what is moved has an entry
+
+pub returns-in_default-clause-found : goal.returns-in_default-clause-found
+returns-in_default-clause-found g c is = absurd (cc)
+
+pub returns-then-entry-block-clause-found : goal.returns-then-entry-block-clause-found
+returns-then-entry-block-clause-found g c is = absurd (cc)
+
+pub returns-in_err-version-clause-found : goal.returns-in_err-version-clause-found
+returns-in_err-version-clause-found g c is =
+    let refusal : MoveRefusal = c.in_err-version.field-0.0 in
+    let p = err_from_is_err_and c.from_residual.result c.from_residual.ensures.1 in
+    let not : c.from_residual.result ≡ Err refusal = p.1 ∙ ap (λ (r : MoveRefusal). Err r) p.2 in
+    absurd (cc)
+
+pub returns-in-Ok-clause-found : goal.returns-in-Ok-clause-found
+returns-in-Ok-clause-found g c is = (c.in-Some.entry, sym c.find.ensures.value ∙ c.in-Some.is)
+
+pub returns-clause-found : goal.returns-clause-found
+returns-clause-found g c is = absurd (cc)

@@ -25,3 +25,8 @@ returns-clause-sure g c = c.entomb.ensures.sure
 
 pub returns-clause-kept : goal.returns-clause-kept
 returns-clause-kept g c = c.entomb.ensures.kept
+
+-- ---- which gates fail
+
+pub returns-clause-fails : goal.returns-clause-fails
+returns-clause-fails g c = c.entomb.ensures.fails

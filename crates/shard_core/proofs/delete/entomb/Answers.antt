@@ -22,6 +22,7 @@ use Rattle.shard_core.proofs.Puts.{stamp_fine, spent_entombs, entombing_writes, 
 use Rattle.block_shelf.proofs.Surely.{sure_none}
 use Rattle.shard_core.specs.Keeping.{KeepsBy}
 use Rattle.shard_core.proofs.Keeping.{keeps_all}
+use Rattle.shard_core.proofs.Failing.{by_none, none_still}
 use Rattle.shard_core.proofs.delete.entomb.Goals as goal
 
 pub returns-in_err-stamp-clause-makes : goal.returns-in_err-stamp-clause-makes
@@ -112,3 +113,11 @@ returns-in_err-stamp-clause-kept g c =
 pub returns-clause-kept : goal.returns-clause-kept
 returns-clause-kept g c =
     subst (λ (n : ℕ). KeepsBy c.args.set.now.commit n c.args.shelf.now c.write_step.new.shelf c.write_step.result) (ap version_units c.tombstone-tombstone.ensures) c.write_step.ensures.kept
+
+-- ---- which gates fail
+
+pub returns-in_err-stamp-clause-fails : goal.returns-in_err-stamp-clause-fails
+returns-in_err-stamp-clause-fails g c = by_none c.from_residual.result c.args.shelf.now c.args.shelf.now (none_still c.args.shelf.now c.args.shelf.now refl)
+
+pub returns-clause-fails : goal.returns-clause-fails
+returns-clause-fails g c = c.write_step.ensures.fails

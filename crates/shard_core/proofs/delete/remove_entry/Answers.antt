@@ -31,6 +31,7 @@ use Rattle.block_shelf.proofs.Surely.{sure_same}
 use Rattle.rec_format.specs.Versions.{units_for}
 use Rattle.std.proofs.lemmas.Bool.{false≢true}
 use Rattle.shard_core.proofs.Keeping.{keeps_as, keeps_refused}
+use Rattle.shard_core.proofs.Failing.{by_err, none_same}
 use Rattle.shard_core.proofs.delete.remove_entry.Goals as goal
 
 pub prove-unreachable-requires : goal.prove-unreachable-requires
@@ -125,3 +126,18 @@ returns-in_err-entomb-clause-kept g c =
       λ covered. keeps_refused c.args.set.now.commit (units_for 0) c.args.shelf.now c.entomb.new.shelf c.entomb.result c.from_residual.result c.in_err-entomb.field-0.0 c.in_err-entomb.was
           (p.1 ∙ ap (λ (r : WriteRefusal). Err r) p.2) c.entomb.ensures.kept,
     )
+
+-- ---- which gates fail
+
+pub returns-then-delete_writes-clause-fails : goal.returns-then-delete_writes-clause-fails
+returns-then-delete_writes-clause-fails g c = (c.in_ok-entomb.ensures {u = tt}).fails
+
+pub returns-in_err-entomb-clause-fails : goal.returns-in_err-entomb-clause-fails
+returns-in_err-entomb-clause-fails g c =
+    let refusal : WriteRefusal = c.in_err-entomb.field-0.0 in
+    let p = err_from_is_err_and c.from_residual.result c.from_residual.ensures.1 in
+    let same : c.from_residual.result ≡ Err refusal = p.1 ∙ ap (λ (r : WriteRefusal). Err r) p.2 in
+    by_err c.from_residual.result refusal c.args.shelf.now c.entomb.new.shelf same (c.in_err-entomb.ensures {u = tt}).fails
+
+pub returns-clause-fails : goal.returns-clause-fails
+returns-clause-fails g c = none_same c.args.shelf.now c.drop_live.new.self c.drop_live.ensures.gates

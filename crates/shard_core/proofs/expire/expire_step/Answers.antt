@@ -20,6 +20,7 @@ use Rattle.std.proofs.lemmas.Bool.{false≢true}
 use Rattle.tomb_rules.specs.Covers.{cover_of}
 use Rattle.shard_core.proofs.Keeping.{keeps_as, keeps_refused}
 use Rattle.block_shelf.proofs.KeptAll.{all_same}
+use Rattle.shard_core.proofs.Failing.{by_err, none_still}
 use Rattle.shard_core.proofs.expire.expire_step.Goals as goal
 
 pub returns-in_default-clause-makes : goal.returns-in_default-clause-makes
@@ -98,3 +99,18 @@ returns-in_err-remove_entry-clause-kept g c =
       λ covered. keeps_refused c.args.set.now.commit (units_for 0) c.args.shelf.now c.remove_entry.new.shelf c.remove_entry.result c.from_residual.result c.in_err-remove_entry.field-0.0
           c.in_err-remove_entry.was (p.1 ∙ ap (λ (r : WriteRefusal). Err r) p.2) (kept.1 (sym (ap cover_of found) ∙ covered)),
     )
+
+-- ---- which gates fail
+
+pub returns-in_default-clause-fails : goal.returns-in_default-clause-fails
+returns-in_default-clause-fails g c = none_still c.args.shelf.now c.args.shelf.now refl
+
+pub returns-in_err-remove_entry-clause-fails : goal.returns-in_err-remove_entry-clause-fails
+returns-in_err-remove_entry-clause-fails g c =
+    let refusal : WriteRefusal = c.in_err-remove_entry.field-0.0 in
+    let p = err_from_is_err_and c.from_residual.result c.from_residual.ensures.1 in
+    let same : c.from_residual.result ≡ Err refusal = p.1 ∙ ap (λ (r : WriteRefusal). Err r) p.2 in
+    by_err c.from_residual.result refusal c.args.shelf.now c.remove_entry.new.shelf same (c.in_err-remove_entry.ensures {u = tt}).fails
+
+pub returns-clause-fails : goal.returns-clause-fails
+returns-clause-fails g c = (c.in_ok-remove_entry.ensures {u = tt}).fails

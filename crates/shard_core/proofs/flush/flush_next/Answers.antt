@@ -15,6 +15,8 @@ use Rattle.shard_core.specs.Flushing.{flushed_count}
 use Rattle.shard_core.proofs.FlushLoop.{setup_stays}
 use Rattle.shard_core.proofs.Flushing.{makes_flush, counted_all, counted_err, counted_one, one_in_turn, one_left, none_sealed}
 use Rattle.shard_core.proofs.Keeping.{flushes_sealed, seals_keep}
+use Rattle.shard_core.specs.Failing.{FailsBy}
+use Rattle.shard_core.proofs.Failing.{by_then, none_same, stepped}
 use Rattle.shard_core.proofs.flush.flush_next.Goals as goal
 
 pub returns-clause-makes : goal.returns-clause-makes
@@ -60,3 +62,11 @@ pub returns-clause-sure : goal.returns-clause-sure
 returns-clause-sure g c =
     sure_then g.D.Disk.view c.args.shelf.now c.seal_low.new.self c.flush_step.new.self
     (sure_same g.D.Disk.view c.args.shelf.now c.seal_low.new.self c.seal_low.ensures.disk (ap (λ (v : ShelfView g.row.D.Denot). v.gates) c.seal_low.ensures.rest)) c.flush_step.ensures.sure
+
+-- ---- which gates fail
+
+pub returns-clause-fails : goal.returns-clause-fails
+returns-clause-fails g c =
+    subst (λ (r : Result ℕ DiskFault). FailsBy r c.args.shelf.now c.flush_step.new.self) (sym c.flushed_count.ensures)
+    (by_then (flushed_count c.flush_step.result) c.args.shelf.now c.seal_low.new.self c.flush_step.new.self (none_same c.args.shelf.now c.seal_low.new.self (ap (λ (v : ShelfView g.row.D.Denot). v.gates) c.seal_low.ensures.rest))
+    (stepped c.seal_low.new.self c.flush_step.new.self c.flush_step.result c.flush_step.ensures.first c.flush_step.ensures.left))

@@ -30,3 +30,8 @@ returns-clause-sure g c = c.flush_up_to.ensures.sure
 
 pub returns-clause-kept : goal.returns-clause-kept
 returns-clause-kept g c = c.flush_up_to.ensures.kept
+
+-- ---- which gates fail
+
+pub returns-clause-fails : goal.returns-clause-fails
+returns-clause-fails g c = c.flush_up_to.ensures.fails

@@ -7,6 +7,7 @@ use Rattle.block_shelf.proofs.Surely.{sure_same, sure_then}
 use Rattle.shard_core.proofs.FlushLoop.{setup_stays}
 use Rattle.shard_core.proofs.Flushing.{makes_flush}
 use Rattle.shard_core.proofs.Keeping.{flushes_front, seals_keep}
+use Rattle.shard_core.proofs.Failing.{by_then, none_same}
 use Rattle.shard_core.proofs.flush.flush_shelf.Goals as goal
 
 pub returns-clause-makes : goal.returns-clause-makes
@@ -27,3 +28,8 @@ pub returns-clause-sure : goal.returns-clause-sure
 returns-clause-sure g c =
     sure_then g.D.Disk.view c.args.shelf.now c.seal_streams.new.self c.flush_sealed.new.shelf
     (sure_same g.D.Disk.view c.args.shelf.now c.seal_streams.new.self c.seal_streams.ensures.disk c.seal_streams.ensures.gates) c.flush_sealed.ensures.sure
+
+-- ---- which gates fail
+
+pub returns-clause-fails : goal.returns-clause-fails
+returns-clause-fails g c = by_then c.flush_sealed.result c.args.shelf.now c.seal_streams.new.self c.flush_sealed.new.shelf (none_same c.args.shelf.now c.seal_streams.new.self c.seal_streams.ensures.gates) c.flush_sealed.ensures.fails

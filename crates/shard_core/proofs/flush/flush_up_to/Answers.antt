@@ -15,6 +15,7 @@ use Rattle.shard_core.proofs.FlushLoop.{Stepped, Fewer, fits_before, one_fewer, 
 use Rattle.shard_core.proofs.FlushLoop.{ends_on, all_gone, whole_still, stays_some, stays_quiet, where_err, rose_since}
 use Rattle.block_shelf.proofs.Surely.{sure_none, sure_then}
 use Rattle.shard_core.proofs.Keeping.{flushes_none, flushes_more, flushes_stopped, flushes_here}
+use Rattle.shard_core.proofs.Failing.{by_error, may_then, none_then, none_still, flushed, stopped}
 use Rattle.shard_core.proofs.flush.flush_up_to.Goals as goal
 
 pub loop-number-init : goal.loop-number-init
@@ -34,6 +35,7 @@ loop-number-init g c =
       whole = inl refl;
       quiet = λ quiet. quiet;
       sure = sure_none g.D.Disk.view old old refl;
+      fails = none_still old old refl;
       kept = flushes_none old;
       later = later_none g.D.Disk.view old.disk now;
       honest = λ honest. honest;
@@ -124,6 +126,7 @@ loop-number-preserved g c =
       whole = inr (whole_still g.D.Disk.view old mid c.loop-number.invariant.whole c.flush_step.ensures.whole);
       quiet = λ quiet. quiet_on c.in-Some.number mid new (c.loop-number.invariant.quiet quiet) leaves;
       sure = sure_then g.D.Disk.view old mid new c.loop-number.invariant.sure c.flush_step.ensures.sure;
+      fails = none_then old mid new c.loop-number.invariant.fails (flushed c.in-Some.number mid new leaves);
       kept = flushes_more c.in-Some.number old mid new c.loop-number.invariant.kept leaves;
       later = later_then g.D.Disk.view old.disk mid.disk new.disk c.loop-number.invariant.later c.flush_step.ensures.later;
       honest = λ honest. c.flush_step.ensures.honest (c.loop-number.invariant.honest honest);
@@ -258,3 +261,22 @@ returns-in_default-clause-kept g c =
     let is_none : c.flush_step.result ≡ Ok None = c.in_ok-number.was ∙ ap (λ (o : Option ℕ). Ok o) c.in_default.is in
     let same : c.flush_step.new.self ≡ c.loop-number.shelf = subst (λ (r : Result (Option ℕ) DiskFault). Fewer r c.loop-number.shelf c.flush_step.new.self) is_none c.flush_step.ensures.first in
     flushes_here c.args.shelf.now c.loop-number.shelf c.flush_step.new.self c.loop-number.invariant.kept same
+
+-- ---- which gates fail
+
+pub returns-in_err-number-clause-fails : goal.returns-in_err-number-clause-fails
+returns-in_err-number-clause-fails g c =
+    let stays : FirstStays c.loop-number.shelf c.flush_step.new.self = subst (λ (r : Result (Option ℕ) DiskFault). OnErr r (FirstStays c.loop-number.shelf c.flush_step.new.self)) c.in_err-number.was c.flush_step.ensures.left in
+    by_error c.from_residual.result c.args.shelf.now c.flush_step.new.self c.from_residual.ensures.0 (may_then c.args.shelf.now c.loop-number.shelf c.flush_step.new.self c.loop-number.invariant.fails (stopped c.loop-number.shelf c.flush_step.new.self stays))
+
+pub returns-then-number-last-clause-fails : goal.returns-then-number-last-clause-fails
+returns-then-number-last-clause-fails g c =
+    let is_some : c.flush_step.result ≡ Ok (Some c.in-Some.number) = c.in_ok-number.was ∙ ap (λ (o : Option ℕ). Ok o) c.in-Some.is in
+    let leaves : FirstLeaves c.in-Some.number c.loop-number.shelf c.flush_step.new.self = subst (λ (r : Result (Option ℕ) DiskFault). Fewer r c.loop-number.shelf c.flush_step.new.self) is_some c.flush_step.ensures.first in
+    none_then c.args.shelf.now c.loop-number.shelf c.flush_step.new.self c.loop-number.invariant.fails (flushed c.in-Some.number c.loop-number.shelf c.flush_step.new.self leaves)
+
+pub returns-in_default-clause-fails : goal.returns-in_default-clause-fails
+returns-in_default-clause-fails g c =
+    let is_none : c.flush_step.result ≡ Ok None = c.in_ok-number.was ∙ ap (λ (o : Option ℕ). Ok o) c.in_default.is in
+    let same : c.flush_step.new.self ≡ c.loop-number.shelf = subst (λ (r : Result (Option ℕ) DiskFault). Fewer r c.loop-number.shelf c.flush_step.new.self) is_none c.flush_step.ensures.first in
+    none_then c.args.shelf.now c.loop-number.shelf c.flush_step.new.self c.loop-number.invariant.fails (none_still c.loop-number.shelf c.flush_step.new.self same)

@@ -8,6 +8,7 @@ use Rattle.block_shelf.specs.View.{IsShelf, IsSetupOf, SameShape}
 use Rattle.block_shelf.specs.Sure.{StaysSure}
 use Rattle.block_shelf.specs.Standing.{StandsFor}
 use Rattle.shard_core.proofs.FlushLoop.{Went, FillsNone, AreUpTo, EndsWith}
+use Rattle.shard_core.specs.Failing.{NoneFails}
 use Rattle.shard_core.proofs.Keeping.{FlushesAlone}
 use Rattle.shard_core.proofs.flush.flush_up_to.Given as goal
 
@@ -21,6 +22,7 @@ invariant-loop-number g l = record {
   whole : (l.shelf ≡ l.fn.shelf) ⊎ IsShelf g.D.Disk.view l.fn.shelf;
   quiet : FillsNone l.fn.shelf → FillsNone l.shelf;
   sure : StaysSure g.D.Disk.view l.fn.shelf l.shelf;
+  fails : NoneFails l.fn.shelf l.shelf;
   kept : FlushesAlone l.fn.shelf l.shelf;
   later : IsLater (g.D.Disk.view l.fn.shelf.disk) (g.D.Disk.view l.shelf.disk);
   honest : IsHonest (g.D.Disk.view l.fn.shelf.disk) → IsHonest (g.D.Disk.view l.shelf.disk);

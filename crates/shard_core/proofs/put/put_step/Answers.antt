@@ -26,6 +26,7 @@ use Rattle.shard_core.proofs.Making.{own_of}
 use Rattle.shard_core.proofs.Puts.{stamp_fine, unfit_refusal, spent_refusal, put_writes, stands_against, memory_wants, makes_nothing, unfit_left}
 use Rattle.block_shelf.proofs.Surely.{sure_none}
 use Rattle.block_shelf.proofs.KeptAll.{all_same}
+use Rattle.shard_core.proofs.Failing.{by_none, none_still}
 use Rattle.shard_core.proofs.put.put_step.Goals as goal
 
 pub returns-in_err-check_put-clause-makes : goal.returns-in_err-check_put-clause-makes
@@ -243,3 +244,17 @@ returns-in_default-clause-kept g c = inl (all_same c.args.shelf.now)
 pub returns-clause-kept : goal.returns-clause-kept
 returns-clause-kept g c =
     subst (λ (n : ℕ). KeepsBy c.args.set.now.commit n c.args.shelf.now c.write_step.new.shelf c.write_step.result) (ap version_units (c.in-Ok.ensures {u = tt})) c.write_step.ensures.kept
+
+-- ---- which gates fail
+
+pub returns-in_err-check_put-clause-fails : goal.returns-in_err-check_put-clause-fails
+returns-in_err-check_put-clause-fails g c = by_none c.from_residual.result c.args.shelf.now c.args.shelf.now (none_still c.args.shelf.now c.args.shelf.now refl)
+
+pub returns-in_err-stamp-clause-fails : goal.returns-in_err-stamp-clause-fails
+returns-in_err-stamp-clause-fails g c = by_none c.from_residual-in_err-stamp.result c.args.shelf.now c.args.shelf.now (none_still c.args.shelf.now c.args.shelf.now refl)
+
+pub returns-in_default-clause-fails : goal.returns-in_default-clause-fails
+returns-in_default-clause-fails g c = inl (none_still c.args.shelf.now c.args.shelf.now refl)
+
+pub returns-clause-fails : goal.returns-clause-fails
+returns-clause-fails g c = c.write_step.ensures.fails

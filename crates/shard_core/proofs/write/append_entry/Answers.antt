@@ -22,6 +22,10 @@ use Rattle.law_steps.proofs.Found.{lies_found, prior_is, prior_stands, same_stan
 use Rattle.shard_core.proofs.Later.{later_none}
 use Rattle.shard_core.proofs.Writes.{copy_of, wrote_by, left_by}
 use Rattle.block_shelf.proofs.Surely.{sure_none}
+use Rattle.std.proofs.Common.{inl}
+use Rattle.std.specs.Prelude.{Ok, Err}
+use Rattle.block_shelf.specs.Appends.{stream_of}
+use Rattle.shard_core.proofs.Failing.{none_still, appended}
 use Rattle.shard_core.proofs.write.append_entry.Goals as goal
 
 pub prior_place-prior-requires : goal.prior_place-prior-requires
@@ -161,3 +165,14 @@ returns-in-Err-clause-kept g c = tt
 pub returns-in-Ok-append-clause-kept : goal.returns-in-Ok-append-clause-kept
 returns-in-Ok-append-clause-kept g c =
     subst (λ (t : Stream). BeginsInFirst t (version_units c.args.version.now) c.args.shelf.now c.append.new.self) c.requires.client c.in-Ok-append.ensures.first
+
+-- ---- which gates fail
+
+pub returns-in_default-clause-fails : goal.returns-in_default-clause-fails
+returns-in_default-clause-fails g c = inl (none_still c.args.shelf.now c.args.shelf.now refl)
+
+pub returns-in-Err-clause-fails : goal.returns-in-Err-clause-fails
+returns-in-Err-clause-fails g c = appended (stream_of c.args.class) (version_units c.args.version.now) c.args.shelf.now c.append.new.self (Err c.in-Err.refusal) c.in-Err.ensures.refused tt
+
+pub returns-in-Ok-append-clause-fails : goal.returns-in-Ok-append-clause-fails
+returns-in-Ok-append-clause-fails g c = appended (stream_of c.args.class) (version_units c.args.version.now) c.args.shelf.now c.append.new.self (Ok c.in-Ok-append.place) tt c.in-Ok-append.ensures.first

@@ -12,6 +12,7 @@ use Rattle.shard_core.proofs.FlushLoop.{setup_stays}
 use Rattle.shard_core.proofs.Writes.{committed, commits_from}
 use Rattle.block_shelf.proofs.Surely.{sure_none, sure_same, sure_then}
 use Rattle.shard_core.proofs.Keeping.{flushes_nothing, flushes_sealed, seals_keep}
+use Rattle.shard_core.proofs.Failing.{none_still, none_same, none_then, may_then}
 use Rattle.shard_core.proofs.write.commit.Goals as goal
 
 pub returns-in_default-clause-committed : goal.returns-in_default-clause-committed
@@ -74,3 +75,14 @@ returns-in-Err-clause-kept g c setup s b is stands found at =
     let sealed = c.seal_for.ensures.sealed setup s client b is stands found at in
     flushes_sealed c.args.shelf.now c.seal_for.new.self c.flush_up_to.new.shelf
     (seals_keep setup true false s c.args.shelf.now c.seal_for.new.self stands sealed.stands c.seal_for.ensures.cache) c.flush_up_to.ensures.kept
+
+-- ---- which gates fail
+
+pub returns-in_default-clause-fails : goal.returns-in_default-clause-fails
+returns-in_default-clause-fails g c = none_still c.args.shelf.now c.args.shelf.now refl
+
+pub returns-in-Ok-clause-fails : goal.returns-in-Ok-clause-fails
+returns-in-Ok-clause-fails g c = none_then c.args.shelf.now c.seal_for.new.self c.flush_up_to.new.shelf (none_same c.args.shelf.now c.seal_for.new.self c.seal_for.ensures.gates) c.in-Ok.ensures.fails
+
+pub returns-in-Err-clause-fails : goal.returns-in-Err-clause-fails
+returns-in-Err-clause-fails g c = may_then c.args.shelf.now c.seal_for.new.self c.flush_up_to.new.shelf (none_same c.args.shelf.now c.seal_for.new.self c.seal_for.ensures.gates) c.in-Err.ensures.fails

@@ -23,6 +23,7 @@ use Rattle.shard_core.proofs.Keeping.{keeps_flush, written_off, written_on, left
 use Rattle.shard_core.proofs.Later.{later_then, shape_then}
 use Rattle.shard_core.proofs.Writes.{makes_unwritten, makes_waiting, ends_done, ends_faulted}
 use Rattle.block_shelf.proofs.Surely.{sure_then}
+use Rattle.shard_core.proofs.Failing.{by_err, by_then, none_then}
 use Rattle.shard_core.proofs.write.write_step.Goals as goal
 
 pub returns-in_err-block-clause-makes : goal.returns-in_err-block-clause-makes
@@ -231,3 +232,25 @@ returns-clause-kept g c =
     it.there in
     written_on c.args.set.now.commit units c.args.shelf.now c.commit.new.shelf c.if-not-set.false
     (keeps_flush units c.args.shelf.now c.append_entry.new.shelf c.commit.new.shelf (c.in_ok-block.ensures {u = tt}).kept kept)
+
+-- ---- which gates fail
+
+pub returns-in_err-block-clause-fails : goal.returns-in_err-block-clause-fails
+returns-in_err-block-clause-fails g c =
+    let refusal : WriteRefusal = c.in_err-block.field-0.0 in
+    let p = err_from_is_err_and c.from_residual.result c.from_residual.ensures.1 in
+    let same : c.from_residual.result ≡ Err refusal = p.1 ∙ ap (λ (r : WriteRefusal). Err r) p.2 in
+    by_err c.from_residual.result refusal c.args.shelf.now c.append_entry.new.shelf same (c.in_err-block.ensures {u = tt}).fails
+
+pub returns-then-not-set-clause-fails : goal.returns-then-not-set-clause-fails
+returns-then-not-set-clause-fails g c = (c.in_ok-block.ensures {u = tt}).fails
+
+pub returns-in_err-commit-clause-fails : goal.returns-in_err-commit-clause-fails
+returns-in_err-commit-clause-fails g c =
+    by_then c.from_residual-in_err-commit.result c.args.shelf.now c.append_entry.new.shelf c.commit.new.shelf (c.in_ok-block.ensures {u = tt}).fails
+    (by_err c.from_residual-in_err-commit.result write.Fault c.append_entry.new.shelf c.commit.new.shelf
+    (let p = err_from_is_err_and c.from_residual-in_err-commit.result c.from_residual-in_err-commit.ensures.1 in
+    p.1 ∙ ap (λ (r : WriteRefusal). Err r) (p.2 ∙ (c.in_err-commit.ensures {u = tt}).fault)) (c.in_err-commit.ensures {u = tt}).fails)
+
+pub returns-clause-fails : goal.returns-clause-fails
+returns-clause-fails g c = none_then c.args.shelf.now c.append_entry.new.shelf c.commit.new.shelf (c.in_ok-block.ensures {u = tt}).fails (c.in_ok-commit.ensures {u = tt}).fails

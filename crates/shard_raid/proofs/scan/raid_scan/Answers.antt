@@ -41,3 +41,9 @@ returns-in-Ok-clause-alike g c setup s sure honest stand hold = c.scan_step.ensu
 
 pub returns-in-Err-clause-alike : goal.returns-in-Err-clause-alike
 returns-in-Err-clause-alike g c setup s sure honest stand hold = c.scan_step.ensures.alike setup s sure honest stand.stands hold
+
+pub returns-in-Ok-clause-gates : goal.returns-in-Ok-clause-gates
+returns-in-Ok-clause-gates g c block at = c.scan_step.ensures.gates block at
+
+pub returns-in-Err-clause-gates : goal.returns-in-Err-clause-gates
+returns-in-Err-clause-gates g c block at = c.scan_step.ensures.gates block at

@@ -10,6 +10,8 @@ use Rattle.shard_raid.specs.declared.scan.RaidRefusal.TheVariants.{Stale}
 use Rattle.shard_raid.specs.Raids.{RaidView, IsNext}
 use Rattle.shard_raid.specs.Turns.{TurnMakes}
 use Rattle.shard_raid.proofs.Taken.{stale_makes}
+use Rattle.std.proofs.Common.{refl}
+use Rattle.shard_raid.specs.Turns.{TurnLeaves}
 use Rattle.shard_raid.proofs.turn.part_turn.Goals as goal
 
 pub returns-then-not-is_next-clause-makes : goal.returns-then-not-is_next-clause-makes
@@ -28,3 +30,12 @@ returns-clause-makes g c setup s part named is aged stand =
     let same : record { number = old.raid.number; next = c.next.result } ≡ c.args.raid.now = λ i. record { number = sym runs.number i; next = c.next.ensures i } in
     subst (λ (r : RaidView). TurnMakes g.D.Disk.view setup r c.args.now (Ok c.take_part-did.result) old s new (StandTogether setup part c.take_part-did.new.sprig new)) same
     (c.take_part-did.ensures.makes setup s part (ap (λ (n : RaidNext). turn_part (turn_of n)) c.next.ensures ∙ named) is aged stand)
+
+pub returns-then-not-is_next-clause-left : goal.returns-then-not-is_next-clause-left
+returns-then-not-is_next-clause-left g c =
+    let shelf : ShelfView g.row.D.Denot = c.args.shelf.now in
+    let told : c.stale.result ≡ Stale shelf.raid.number shelf.raid.next = c.stale.ensures ∙ ap (λ (b : BookState). Stale b.number b.next) c.raid-then-not-is_next.ensures.book in
+    (refl, subst (TurnLeaves shelf shelf) (sym told) refl)
+
+pub returns-clause-left : goal.returns-clause-left
+returns-clause-left g c = tt

@@ -25,7 +25,7 @@ returns-in-Ok-clause-taken g c =
     let block = c.in-Ok.block in
     let at = c.in-Ok.ensures.block in
     subst (λ (n : RaidNext). TakesTurn g.D.Disk.view n (Ok (Scanned block)) old new) (sym at)
-    (scan_taken g.D.Disk.view block old new c.raid_scan.ensures.rest at c.raid_scan.ensures.sure c.raid_scan.ensures.later c.raid_scan.ensures.honest c.requires.fits c.in-Ok.ensures.turned
+    (scan_taken g.D.Disk.view block old new c.raid_scan.ensures.rest at (c.raid_scan.ensures.gates block at) c.raid_scan.ensures.sure c.raid_scan.ensures.later c.raid_scan.ensures.honest c.requires.fits c.in-Ok.ensures.turned
     (λ tells. c.in-Ok.ensures.there tells block at))
 
 pub returns-in-Err-clause-makes : goal.returns-in-Err-clause-makes
@@ -45,6 +45,6 @@ returns-in-Err-clause-taken g c =
     let block = c.requires.turn.0 in
     let at = c.requires.turn.1 in
     subst (λ (n : RaidNext). TakesTurn g.D.Disk.view n (Err c.in-Err.refusal) old new) (sym at)
-    (scan_refused g.D.Disk.view block old new c.raid_scan.ensures.rest at c.raid_scan.ensures.sure c.raid_scan.ensures.later c.raid_scan.ensures.honest c.in-Err.refusal c.in-Err.ensures.of_turn
+    (scan_refused g.D.Disk.view block old new c.raid_scan.ensures.rest at (c.raid_scan.ensures.gates block at) c.raid_scan.ensures.sure c.raid_scan.ensures.later c.raid_scan.ensures.honest c.in-Err.refusal c.in-Err.ensures.of_turn
     c.in-Err.ensures.given_up (λ tells. c.in-Err.ensures.damaged tells block at) (c.in-Err.ensures.told block at) (λ tells. c.in-Err.ensures.there tells block at)
     (λ fault. c.raid_scan.ensures.cause (c.in-Err.is ∙ ap (λ (r : RaidRefusal). Err r) fault)))

@@ -1,13 +1,14 @@
-use Rattle.std.proofs.Common.{arith, rules, ◌≡◌, ◌≢◌, ◌<◌, ℕ, List, Ok, Err, sym, ◌∙◌, ap, subst}
+use Rattle.std.proofs.Common.{arith, rules, true, ◌≡◌, ◌≢◌, ◌<◌, ℕ, List, Ok, Err, sym, ◌∙◌, ap, subst}
 use Rattle.std.specs.Prelude.{slice_set}
 use Rattle.std.specs.List.{AllByRecursion}
 use Rattle.std.specs.Vec.{with_items}
 use Rattle.std.proofs.lemmas.List.{get_or-set_same, with_items_is}
+use Rattle.disk_model.specs.declared.disk.DiskFault.{DiskFault}
+use Rattle.law_lists.proofs.Answers.{passed_on}
 use Rattle.block_format.specs.declared.geometry.Gate.{Gate}
 use Rattle.block_format.specs.declared.geometry.Gate.TheVariants.{Shut, Unsure}
 use Rattle.block_shelf.specs.View.{ShelfView, IsShelf, gate_at}
-use Rattle.block_shelf.specs.declared.refusals.VacateRefusal.TheVariants.{Fault}
-use Rattle.block_shelf.specs.Scans.{ClosesUnsure}
+use Rattle.block_shelf.specs.Heals.{ClosesUnsure}
 use Rattle.block_shelf.proofs.Scanning.{no_close, closes, fails_to_close}
 use Rattle.block_shelf.proofs.Unsure.{closed_shelf, goes_closed, goes_unclosed}
 use Rattle.block_shelf.proofs.shelf.Shelf.close_unsure.Goals as goal
@@ -41,7 +42,7 @@ invariant_of-self g c =
     let unbuffered : AllByRecursion (λ b. b.block ≢ c.args.block) old.buffers =
     subst (λ (v : ShelfView g.row.D.Denot). AllByRecursion (λ b. b.block ≢ c.args.block) v.buffers) (sym c.self.view_is) c.requires.unbuffered in
     let disk = c.shut_gate.new.disk in
-    let e = c.in_default.ensures in
+    let e = c.in_err-shut_gate.ensures in
     let known : c.shut_gate.new.gates ≡ slice_set old.gates c.args.block Unsure = e.known ∙ ap (λ (l : List Gate). slice_set l c.args.block Unsure) c.deref_mut.ensures.value in
     let gates : (with_items c.self.inside.gates c.shut_gate.new.gates).items ≡ c.shut_gate.new.gates =
     with_items_is c.self.inside.gates c.shut_gate.new.gates (c.shut_gate.auto.gates ∙ c.deref_mut.ensures.len) in (
@@ -51,8 +52,8 @@ invariant_of-self g c =
       c.self.invariant.2,
     )
 
-pub returns-in_default : goal.returns-in_default
-returns-in_default g c =
+pub returns-in_err-shut_gate : goal.returns-in_err-shut_gate
+returns-in_err-shut_gate g c =
     let d = g.D.Disk in
     let law = g.met.D.Disk in
     let old : ShelfView g.row.D.Denot = record {
@@ -75,19 +76,20 @@ returns-in_default g c =
     let unbuffered : AllByRecursion (λ b. b.block ≢ c.args.block) old.buffers =
     subst (λ (v : ShelfView g.row.D.Denot). AllByRecursion (λ b. b.block ≢ c.args.block) v.buffers) (sym c.self.view_is) c.requires.unbuffered in
     let disk = c.shut_gate.new.disk in
-    let e = c.in_default.ensures in
+    let e = c.in_err-shut_gate.ensures in
     let known : c.shut_gate.new.gates ≡ slice_set old.gates c.args.block Unsure = e.known ∙ ap (λ (l : List Gate). slice_set l c.args.block Unsure) c.deref_mut.ensures.value in
     let gates : (with_items c.self.inside.gates c.shut_gate.new.gates).items ≡ c.shut_gate.new.gates =
     with_items_is c.self.inside.gates c.shut_gate.new.gates (c.shut_gate.auto.gates ∙ c.deref_mut.ensures.len) in
     let unsure : gate_at old.gates c.args.block ≡ Unsure = subst (λ (v : ShelfView g.row.D.Denot). gate_at v.gates c.args.block ≡ Unsure) (sym c.self.view_is)
     (grind (arith, c.if-ne.false, c.ne.ensures, c.gate.ensures)) in
     let closed = closed_shelf d.view law.is_disk old disk c.args.block is lt unbuffered e.later e.honest e.was_honest e.images c.shut_gate.new.gates e.stands e.was_told e.bytes Unsure known in
-    subst (λ (v : ShelfView g.row.D.Denot). ClosesUnsure d.view c.args.block v (record old { disk = disk; gates = (with_items c.self.inside.gates c.shut_gate.new.gates).items }) (Err Fault))
+    passed_on c.from_residual.result c.in_err-shut_gate.field-0.0 (ClosesUnsure d.view c.args.block c.args.self.now (record old { disk = disk; gates = (with_items c.self.inside.gates c.shut_gate.new.gates).items })) c.from_residual.ensures.1
+    (subst (λ (v : ShelfView g.row.D.Denot). ClosesUnsure d.view c.args.block v (record old { disk = disk; gates = (with_items c.self.inside.gates c.shut_gate.new.gates).items }) (Err c.in_err-shut_gate.field-0.0))
     c.self.view_is
-    (subst (λ (l : List Gate). ClosesUnsure d.view c.args.block old (record old { disk = disk; gates = l }) (Err Fault)) (sym gates)
+    (subst (λ (l : List Gate). ClosesUnsure d.view c.args.block old (record old { disk = disk; gates = l }) (Err c.in_err-shut_gate.field-0.0)) (sym gates)
     (fails_to_close d.view law.is_disk c.args.block old unsure disk c.shut_gate.new.gates closed
     (λ setup s stands. goes_unclosed d.view law.is_disk old disk c.args.block is lt unbuffered e.later e.honest e.was_honest e.images c.shut_gate.new.gates e.stands unsure setup s stands
-    known) e.later e.honest e.cause))
+    known) e.later e.honest c.in_err-shut_gate.field-0.0 known e.cause)))
 
 pub invariant_of-self-2 : goal.invariant_of-self-2
 invariant_of-self-2 g c =
@@ -113,7 +115,7 @@ invariant_of-self-2 g c =
     let unbuffered : AllByRecursion (λ b. b.block ≢ c.args.block) old.buffers =
     subst (λ (v : ShelfView g.row.D.Denot). AllByRecursion (λ b. b.block ≢ c.args.block) v.buffers) (sym c.self.view_is) c.requires.unbuffered in
     let disk = c.shut_gate.new.disk in
-    let e = c.in-Ok.ensures in
+    let e = c.in_ok-shut_gate.ensures in
     let known : c.shut_gate.new.gates ≡ slice_set old.gates c.args.block Shut = e.known ∙ ap (λ (l : List Gate). slice_set l c.args.block Shut) c.deref_mut.ensures.value in
     let gates : (with_items c.self.inside.gates c.shut_gate.new.gates).items ≡ c.shut_gate.new.gates =
     with_items_is c.self.inside.gates c.shut_gate.new.gates (c.shut_gate.auto.gates ∙ c.deref_mut.ensures.len) in (
@@ -147,7 +149,7 @@ returns g c =
     let unbuffered : AllByRecursion (λ b. b.block ≢ c.args.block) old.buffers =
     subst (λ (v : ShelfView g.row.D.Denot). AllByRecursion (λ b. b.block ≢ c.args.block) v.buffers) (sym c.self.view_is) c.requires.unbuffered in
     let disk = c.shut_gate.new.disk in
-    let e = c.in-Ok.ensures in
+    let e = c.in_ok-shut_gate.ensures in
     let known : c.shut_gate.new.gates ≡ slice_set old.gates c.args.block Shut = e.known ∙ ap (λ (l : List Gate). slice_set l c.args.block Shut) c.deref_mut.ensures.value in
     let gates : (with_items c.self.inside.gates c.shut_gate.new.gates).items ≡ c.shut_gate.new.gates =
     with_items_is c.self.inside.gates c.shut_gate.new.gates (c.shut_gate.auto.gates ∙ c.deref_mut.ensures.len) in
@@ -156,9 +158,9 @@ returns g c =
     let closed = closed_shelf d.view law.is_disk old disk c.args.block is lt unbuffered e.later e.honest e.was_honest e.images c.shut_gate.new.gates e.stands e.was_told e.bytes Shut known in
     let shut : gate_at c.shut_gate.new.gates c.args.block ≡ Shut = ap (λ (l : List Gate). gate_at l c.args.block) known
     ∙ get_or-set_same old.gates c.args.block Shut Shut (subst (λ (n : ℕ). c.args.block < n) (sym is.gates) lt) in
-    subst (λ (v : ShelfView g.row.D.Denot). ClosesUnsure d.view c.args.block v (record old { disk = disk; gates = (with_items c.self.inside.gates c.shut_gate.new.gates).items }) (Ok tt))
+    subst (λ (v : ShelfView g.row.D.Denot). ClosesUnsure {E = DiskFault} d.view c.args.block v (record old { disk = disk; gates = (with_items c.self.inside.gates c.shut_gate.new.gates).items }) (Ok true))
     c.self.view_is
-    (subst (λ (l : List Gate). ClosesUnsure d.view c.args.block old (record old { disk = disk; gates = l }) (Ok tt)) (sym gates)
+    (subst (λ (l : List Gate). ClosesUnsure {E = DiskFault} d.view c.args.block old (record old { disk = disk; gates = l }) (Ok true)) (sym gates)
     (closes d.view law.is_disk c.args.block old unsure disk c.shut_gate.new.gates closed
     (λ setup s stands. goes_closed d.view law.is_disk old disk c.args.block is lt unbuffered e.later e.honest e.was_honest e.images c.shut_gate.new.gates e.stands unsure setup s stands
-    known) e.later e.honest shut))
+    known) e.later e.honest shut known))

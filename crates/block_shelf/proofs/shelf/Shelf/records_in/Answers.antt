@@ -2,7 +2,7 @@ use Rattle.std.proofs.Common.{arith, rules, ◌≡◌, ◌≢◌, ◌+◌, ◌*�
 use Rattle.std.specs.Prelude.{MatchResult}
 use Rattle.std.specs.List.{AllByRecursion}
 use Rattle.std.proofs.lemmas.Result.{MatchResult-weaker}
-use Rattle.law_lists.proofs.Answers.{passed_on, only_err}
+use Rattle.law_lists.proofs.Answers.{only_err}
 use Rattle.rec_format.specs.Versions.{block_capacity}
 use Rattle.block_format.specs.declared.geometry.Gate.{Gate}
 use Rattle.block_format.specs.declared.geometry.Gate.TheVariants.{Shut}
@@ -10,7 +10,7 @@ use Rattle.block_format.specs.Layout.{IsBody}
 use Rattle.write_buffer.specs.Buffers.{BufferState, bytes_of, body_in}
 use Rattle.write_buffer.proofs.Sizes.{sized, body_size}
 use Rattle.block_shelf.specs.View.{gate_at}
-use Rattle.block_shelf.specs.Scans.{ReadsIn, ReadsBody, IsRefusalOf, IsSound}
+use Rattle.block_shelf.specs.Scans.{ReadsBody, IsRefusalOf, IsSound}
 use Rattle.block_shelf.proofs.ScanBlocks.{no_damage, refusal_damage, buffer_found}
 use Rattle.block_shelf.proofs.Scanning.{reads_memory, reads_unclosed, reads_shut, reads_disk}
 use Rattle.block_shelf.proofs.shelf.Shelf.records_in.Goals as goal
@@ -46,22 +46,21 @@ returns-in-Some g c =
     (c.found_in.ensures.read shelf.geometry long)))
     b c.in-Some.ensures.some.0 c.in-Some.ensures.some.1
 
-pub returns-in_err-close_unsure : goal.returns-in_err-close_unsure
-returns-in_err-close_unsure g c =
+pub returns-in_default-close_unsure : goal.returns-in_default-close_unsure
+returns-in_default-close_unsure g c =
     let none : AllByRecursion (λ b. b.block ≢ c.args.block) c.args.self.now.buffers = search rules in
-    passed_on c.from_residual.result c.in_err-close_unsure.field-0.0 (ReadsIn g.D.Disk.view c.args.block c.args.self.now c.close_unsure.new.self _) c.from_residual.ensures.1
-    (reads_unclosed g.D.Disk.view g.met.D.Disk.is_disk c.args.block c.args.self.now _ c.requires.block none c.close_unsure.new.self c.in_err-close_unsure.field-0.0 c.in_err-close_unsure.ensures)
+    reads_unclosed g.D.Disk.view g.met.D.Disk.is_disk c.args.block c.args.self.now _ c.requires.block none c.close_unsure.new.self _ c.in_default-close_unsure.ensures
 
 pub returns-then-eq : goal.returns-then-eq
 returns-then-eq g c =
     let none : AllByRecursion (λ b. b.block ≢ c.args.block) c.args.self.now.buffers = search rules in
     let shut : gate_at c.close_unsure.new.self.gates c.args.block ≡ Shut = grind (arith, c.if-eq.true, c.eq.ensures, c.gate.ensures) in
-    reads_shut g.D.Disk.view g.met.D.Disk.is_disk c.args.block c.args.self.now _ c.requires.block none c.close_unsure.new.self c.in_ok-close_unsure.ensures shut c.new.result c.new.ensures.items
+    reads_shut g.D.Disk.view g.met.D.Disk.is_disk c.args.block c.args.self.now _ c.requires.block none c.close_unsure.new.self _ c.in-Ok.ensures shut c.new.result c.new.ensures.items
 
 pub returns : goal.returns
 returns g c =
     let none : AllByRecursion (λ b. b.block ≢ c.args.block) c.args.self.now.buffers = search rules in
     let unshut : gate_at c.close_unsure.new.self.gates c.args.block ≢ Shut = subst (λ (x : Gate). x ≢ Shut) c.gate.ensures (grind (arith, c.if-eq.false, c.eq.ensures)) in
     let e = c.read_block.ensures in
-    reads_disk g.D.Disk.view g.met.D.Disk.is_disk c.args.block c.args.self.now _ c.requires.block none c.close_unsure.new.self c.in_ok-close_unsure.ensures unshut c.read_block.new.self
+    reads_disk g.D.Disk.view g.met.D.Disk.is_disk c.args.block c.args.self.now _ c.requires.block none c.close_unsure.new.self _ c.in-Ok.ensures unshut c.read_block.new.self
     c.read_block.result e.read e.of_block e.cause e.disk e.whole e.same

@@ -7,7 +7,7 @@ use Rattle.block_format.specs.Layout.{body_bytes}
 use Rattle.block_shelf.specs.Disks.{IsLater}
 use Rattle.block_shelf.specs.View.{ShelfView}
 use Rattle.block_shelf.specs.Calls.{Goes}
-use Rattle.block_shelf.specs.Scans.{FindsBody, NeedsRead, IsDamageOf, IsRefusalOf, IsToldOf, possible_copies}
+use Rattle.block_shelf.specs.Scans.{ClosesAtMost, FindsBody, NeedsRead, IsDamageOf, IsRefusalOf, IsToldOf, possible_copies}
 use Rattle.block_shelf.proofs.Going.{goes_then}
 use Rattle.block_shelf.proofs.RaidTurns.{goes_given_up}
 use Rattle.block_shelf.proofs.Unsure.{sure_at, same_possible}
@@ -122,3 +122,14 @@ returns-in-Err-clause-damaged g c told block turn =
     let old = c.args.self.now in
     let same : block ≡ c.in-Scan.block = grind (arith, turn, c.in-Scan.ensures.value) in
     subst (λ (k : ℕ). IsDamageOf old.geometry (body_bytes old.geometry k (g.D.Disk.view old.disk).seen) k c.in-Err.refusal) (sym same) (c.in-Err.ensures.damaged told)
+
+pub returns-in-Ok-clause-gates : goal.returns-in-Ok-clause-gates
+returns-in-Ok-clause-gates g c block turn =
+    let same : block ≡ c.in-Scan.block = grind (arith, turn, c.in-Scan.ensures.value) in
+    subst (λ (k : ℕ). ClosesAtMost k c.args.self.now c.scan_block.new.self) (sym same) c.scan_block.ensures.gates
+
+pub returns-in-Err-clause-gates : goal.returns-in-Err-clause-gates
+returns-in-Err-clause-gates g c block turn =
+    let same : block ≡ c.in-Scan.block = grind (arith, turn, c.in-Scan.ensures.value) in
+    subst (λ (v : ShelfView g.row.D.Denot). ClosesAtMost block c.args.self.now v) (sym c.give_up.ensures)
+    (subst (λ (k : ℕ). ClosesAtMost k c.args.self.now c.scan_block.new.self) (sym same) c.scan_block.ensures.gates)

@@ -18,6 +18,7 @@ use Rattle.shard_core.proofs.shard.Shard.bury.Given.{Over}
 use Rattle.block_shelf.specs.Sure.{StaysSure}
 use Rattle.shard_core.specs.Keeping.{KeepsBy}
 use Rattle.rec_format.specs.Versions.{units_for}
+use Rattle.shard_core.specs.Failing.{FailsBy}
 use Rattle.shard_core.proofs.shard.Shard.bury.Goals as goal
 
 pub bury_step-answer-requires-clause-stand : goal.bury_step-answer-requires-clause-stand
@@ -171,3 +172,9 @@ returns-clause-sure g c =
 pub returns-clause-kept : goal.returns-clause-kept
 returns-clause-kept g c =
     subst (λ (v : ShardView g.row.D.Denot). KeepsBy v.set.commit (units_for 0) v.shelf c.bury_step-answer.new.shelf c.bury_step-answer.result) c.self.view_is c.bury_step-answer.ensures.kept
+
+-- ---- which gates fail
+
+pub returns-clause-fails : goal.returns-clause-fails
+returns-clause-fails g c =
+    subst (λ (v : ShardView g.row.D.Denot). FailsBy c.bury_step-answer.result v.shelf c.bury_step-answer.new.shelf) c.self.view_is c.bury_step-answer.ensures.fails

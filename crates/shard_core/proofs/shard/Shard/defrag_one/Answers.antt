@@ -18,6 +18,9 @@ use Rattle.shard_core.proofs.Choices.{gives_not, gives_none, gives_few, gives_al
 use Rattle.shard_core.proofs.Making.{room_stays}
 use Rattle.shard_core.specs.Keeping.{KeepsThrough}
 use Rattle.shard_core.proofs.Keeping.{through_read, through_then}
+use Rattle.std.proofs.Common.{inl}
+use Rattle.shard_core.specs.Failing.{NoneFails, MayFail}
+use Rattle.shard_core.proofs.Failing.{none_same, none_then, may_then}
 use Rattle.shard_core.proofs.shard.Shard.defrag_one.Goals as goal
 
 pub vacate-requires-clause-block : goal.vacate-requires-clause-block
@@ -155,3 +158,21 @@ pub returns-in-Err-clause-kept : goal.returns-in-Err-clause-kept
 returns-in-Err-clause-kept g c =
     subst (λ (v : ShardView g.row.D.Denot). KeepsThrough false v.shelf c.choose_step.new.shelf) c.self.view_is
     (through_read false c.self.inside.shelf c.choose_step.new.shelf c.choose_step.ensures.rest)
+
+-- ---- which gates fail
+
+pub returns-in-Ok-clause-fails : goal.returns-in-Ok-clause-fails
+returns-in-Ok-clause-fails g c =
+    subst (λ (v : ShardView g.row.D.Denot). NoneFails v.shelf c.vacate.new.self.shelf) c.self.view_is (none_then c.self.inside.shelf c.choose_step.new.shelf c.vacate.new.self.shelf (none_same c.self.inside.shelf c.choose_step.new.shelf (ap (λ (v : ShelfView g.row.D.Denot). v.gates) c.choose_step.ensures.rest)) c.in-Ok.ensures.fails)
+
+pub returns-in-Err-vacate-clause-fails : goal.returns-in-Err-vacate-clause-fails
+returns-in-Err-vacate-clause-fails g c =
+    subst (λ (v : ShardView g.row.D.Denot). MayFail v.shelf c.vacate.new.self.shelf) c.self.view_is (may_then c.self.inside.shelf c.choose_step.new.shelf c.vacate.new.self.shelf (none_same c.self.inside.shelf c.choose_step.new.shelf (ap (λ (v : ShelfView g.row.D.Denot). v.gates) c.choose_step.ensures.rest)) c.in-Err-vacate.ensures.fails)
+
+pub returns-in-Ok-None-clause-fails : goal.returns-in-Ok-None-clause-fails
+returns-in-Ok-None-clause-fails g c =
+    subst (λ (v : ShardView g.row.D.Denot). NoneFails v.shelf c.choose_step.new.shelf) c.self.view_is (none_same c.self.inside.shelf c.choose_step.new.shelf (ap (λ (v : ShelfView g.row.D.Denot). v.gates) c.choose_step.ensures.rest))
+
+pub returns-in-Err-clause-fails : goal.returns-in-Err-clause-fails
+returns-in-Err-clause-fails g c =
+    subst (λ (v : ShardView g.row.D.Denot). MayFail v.shelf c.choose_step.new.shelf) c.self.view_is (inl (none_same c.self.inside.shelf c.choose_step.new.shelf (ap (λ (v : ShelfView g.row.D.Denot). v.gates) c.choose_step.ensures.rest)))

@@ -22,6 +22,7 @@ use Rattle.block_shelf.specs.Sure.{StaysSure}
 use Rattle.shard_core.specs.Keeping.{KeepsBy}
 use Rattle.rec_format.specs.Versions.{units_for}
 use Rattle.block_shelf.specs.Keeping.{KeepsAll}
+use Rattle.shard_core.specs.Failing.{FailsBy}
 use Rattle.shard_core.proofs.shard.Shard.delete.Goals as goal
 
 pub delete_step-answer-requires-clause-stand : goal.delete_step-answer-requires-clause-stand
@@ -210,3 +211,9 @@ returns-clause-kept g c =
     × (cover_of (seen_entry c.args.now (held (setup_of v) c.args.digest.now v.sprigs)) ≡ true
     → KeepsBy v.set.commit (units_for 0) v.shelf c.delete_step-answer.new.shelf c.delete_step-answer.result)) c.self.view_is
     (λ bare. c.delete_step-answer.ensures.kept.0 (same ∙ bare), λ covered. c.delete_step-answer.ensures.kept.1 (same ∙ covered))
+
+-- ---- which gates fail
+
+pub returns-clause-fails : goal.returns-clause-fails
+returns-clause-fails g c =
+    subst (λ (v : ShardView g.row.D.Denot). FailsBy c.delete_step-answer.result v.shelf c.delete_step-answer.new.shelf) c.self.view_is c.delete_step-answer.ensures.fails

@@ -20,6 +20,7 @@ use Rattle.sprig_tree.specs.Entries.{entry_of}
 use Rattle.block_shelf.specs.Keeping.{KeepsAll}
 use Rattle.shard_core.specs.Keeping.{KeepsThrough}
 use Rattle.shard_core.proofs.Keeping.{through_removal}
+use Rattle.shard_core.specs.Failing.{FailsBy}
 use Rattle.shard_core.proofs.shard.Shard.expire.Goals as goal
 
 pub expire_step-answer-requires-clause-stand : goal.expire_step-answer-requires-clause-stand
@@ -126,3 +127,9 @@ returns-clause-kept g c =
     let covered = cover_of (expired_entry c.args.now (entry_of c.args.digest.now c.index_mut.result.now.entries)) in
     subst (λ (v : ShardView g.row.D.Denot). KeepsThrough v.set.commit v.shelf c.expire_step-answer.new.shelf) c.self.view_is
     (through_removal covered c.self.inside.set.commit (units_for 0) c.self.inside.shelf c.expire_step-answer.new.shelf c.expire_step-answer.result c.expire_step-answer.ensures.kept)
+
+-- ---- which gates fail
+
+pub returns-clause-fails : goal.returns-clause-fails
+returns-clause-fails g c =
+    subst (λ (v : ShardView g.row.D.Denot). FailsBy c.expire_step-answer.result v.shelf c.expire_step-answer.new.shelf) c.self.view_is c.expire_step-answer.ensures.fails

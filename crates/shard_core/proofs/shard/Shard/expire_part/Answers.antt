@@ -15,6 +15,7 @@ use Rattle.block_shelf.proofs.Names.{all_then}
 use Rattle.shard_core.specs.declared.settings.Settings.{Settings}
 use Rattle.shard_core.specs.Keeping.{KeepsThrough}
 use Rattle.shard_core.proofs.Keeping.{through_all, through_then}
+use Rattle.shard_core.proofs.Failing.{none_still, none_then, may_then}
 use Rattle.shard_core.proofs.shard.Shard.expire_part.Goals as goal
 
 -- the part is one of the device still
@@ -32,6 +33,7 @@ loop-digest-init g c = record {
   expires = λ s agrees. none_expired g.D.Disk.view c.args.part c.args.now c.args.self.now s (g.met.D.Disk.is_disk c.args.self.now.shelf.disk) agrees;
   bare = λ bare. (refl, all_same c.args.self.now.shelf);
   sure = sure_none g.D.Disk.view c.args.self.now.shelf c.args.self.now.shelf refl;
+  fails = none_still c.args.self.now.shelf c.args.self.now.shelf refl;
   kept = through_all c.args.self.now.set.commit c.args.self.now.shelf c.args.self.now.shelf (all_same c.args.self.now.shelf);
   later = later_none g.D.Disk.view c.args.self.now.shelf.disk (g.met.D.Disk.is_disk c.args.self.now.shelf.disk);
   honest = λ honest. honest;
@@ -93,6 +95,7 @@ loop-digest-preserved g c =
           let before = c.loop-digest.invariant.bare bare in
           (both.1 ∙ before.0, all_then c.args.self.now.shelf c.loop-digest.self.shelf c.expire.new.self.shelf before.1 both.2);
       sure = sure_then g.D.Disk.view c.args.self.now.shelf c.loop-digest.self.shelf c.expire.new.self.shelf c.loop-digest.invariant.sure c.expire.ensures.sure;
+      fails = none_then c.args.self.now.shelf c.loop-digest.self.shelf c.expire.new.self.shelf c.loop-digest.invariant.fails c.in_default-expire.ensures.fails;
       kept = kept_then c.args.self.now c.loop-digest.self c.expire.new.self c.loop-digest.invariant.shape c.loop-digest.invariant.kept c.expire.ensures.kept;
       later = later_then g.D.Disk.view c.args.self.now.shelf.disk c.loop-digest.self.shelf.disk c.expire.new.self.shelf.disk c.loop-digest.invariant.later c.expire.ensures.later;
       honest = λ honest. c.expire.ensures.honest (c.loop-digest.invariant.honest honest);
@@ -115,3 +118,11 @@ returns-in-Err-clause-kept g c = kept_then c.args.self.now c.loop-digest.self c.
 
 pub returns-clause-kept : goal.returns-clause-kept
 returns-clause-kept g c = c.loop-digest.invariant.kept
+
+-- ---- which gates fail
+
+pub returns-in-Err-clause-fails : goal.returns-in-Err-clause-fails
+returns-in-Err-clause-fails g c = may_then c.args.self.now.shelf c.loop-digest.self.shelf c.expire.new.self.shelf c.loop-digest.invariant.fails c.in-Err.ensures.fails
+
+pub returns-clause-fails : goal.returns-clause-fails
+returns-clause-fails g c = c.loop-digest.invariant.fails

@@ -8,6 +8,7 @@ use Rattle.shard_core.specs.View.{SameSetup, setup_of}
 use Rattle.shard_core.specs.Stands.{Agrees}
 use Rattle.shard_core.specs.Vacating.{MakesEvents}
 use Rattle.shard_core.specs.Keeping.{KeepsThrough}
+use Rattle.shard_core.specs.Failing.{NoneFails}
 use Rattle.shard_core.specs.Expiring.{AreBare, expired_left}
 use Rattle.shard_core.proofs.Expiring.{HaveExpired}
 use Rattle.shard_core.proofs.shard.Shard.expire_part.Given as goal
@@ -19,6 +20,7 @@ invariant-loop-digest g l = record {
   expires : (s : State) → Agrees l.fn.self s → MakesEvents g.D.Disk.view (HaveExpired (setup_of l.fn.self) l.part l.now s l.removed l.last) l.fn.self s l.self;
   bare : AreBare l.fn.self l.part l.now → (l.self.shelf.disk ≡ l.fn.self.shelf.disk) × KeepsAll l.fn.self.shelf l.self.shelf;
   sure : StaysSure g.D.Disk.view l.fn.self.shelf l.self.shelf;
+  fails : NoneFails l.fn.self.shelf l.self.shelf;
   kept : KeepsThrough l.fn.self.set.commit l.fn.self.shelf l.self.shelf;
   later : IsLater (g.D.Disk.view l.fn.self.shelf.disk) (g.D.Disk.view l.self.shelf.disk);
   honest : IsHonest (g.D.Disk.view l.fn.self.shelf.disk) → IsHonest (g.D.Disk.view l.self.shelf.disk);

@@ -8,6 +8,7 @@ use Rattle.shard_core.specs.Calls.{Makes, flush_answer}
 use Rattle.shard_core.specs.Keeping.{FlushesFront}
 use Rattle.shard_core.proofs.Making.{setup_is, shelf_lifted, whole_made, room_stays}
 use Rattle.shard_core.proofs.shard.Shard.flush.Given.{Over}
+use Rattle.shard_core.specs.Failing.{FailsBy}
 use Rattle.shard_core.proofs.shard.Shard.flush.Goals as goal
 
 module _ (g : Over) (c : goal.After-flush_shelf g) where
@@ -46,3 +47,8 @@ returns-clause-kept g c =
     let stands = c.self.invariant.whole.stands in
     subst (λ (v : ShardView g.row.D.Denot). FlushesFront v.shelf c.flush_shelf.new.shelf) c.self.view_is
     (c.flush_shelf.ensures.kept (setup_of (old g c)) stands.0 (setup_is (old g c) c.self.invariant.whole) stands.1.shelf)
+
+-- ---- which gates fail
+
+pub returns-clause-fails : goal.returns-clause-fails
+returns-clause-fails g c = subst (λ (v : ShardView g.row.D.Denot). FailsBy c.flush_shelf.result v.shelf c.flush_shelf.new.shelf) c.self.view_is c.flush_shelf.ensures.fails

@@ -8,6 +8,8 @@ use Rattle.shard_core.specs.Calls.{Makes, MakesAny, flush_answer}
 use Rattle.shard_core.specs.Keeping.{SealsAndFlushes}
 use Rattle.shard_core.proofs.Making.{setup_is, shelf_lifted, whole_made, room_stays}
 use Rattle.shard_core.proofs.shard.Shard.flush_low.Given.{Over}
+use Rattle.shard_core.specs.Failing.{MayFail}
+use Rattle.shard_core.proofs.Failing.{by_may}
 use Rattle.shard_core.proofs.shard.Shard.flush_low.Goals as goal
 
 module _ (g : Over) (c : goal.After-flush_low g) where
@@ -46,3 +48,10 @@ returns-clause-kept g c =
     let stands = c.self.invariant.whole.stands in
     subst (λ (v : ShardView g.row.D.Denot). SealsAndFlushes v.shelf c.flush_low.new.shelf) c.self.view_is
     (c.flush_low.ensures.kept (setup_of (old g c)) stands.0 (setup_is (old g c) c.self.invariant.whole) stands.1.shelf)
+
+-- ---- which gates fail
+
+pub returns-clause-fails : goal.returns-clause-fails
+returns-clause-fails g c =
+    subst (λ (v : ShardView g.row.D.Denot). MayFail v.shelf c.flush_low.new.shelf) c.self.view_is
+    (by_may c.flush_low.result c.self.inside.shelf c.flush_low.new.shelf c.flush_low.ensures.fails)

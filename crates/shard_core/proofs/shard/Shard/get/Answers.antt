@@ -151,3 +151,15 @@ returns-clause-kept g c =
 
 pub returns-clause-few : goal.returns-clause-few
 returns-clause-few g c = keeps_few g.D.Disk.view c.args.self.now c.part_of-part.ensures.whole c.part_of-part.ensures.shelf
+
+-- ---- which gates fail
+
+pub returns-clause-same : goal.returns-clause-same
+returns-clause-same g c =
+    let old : ShardView g.row.D.Denot = record { shelf = c.self.inside.shelf; set = c.self.inside.set; sprigs = c.self.inside.sprigs.items } in
+    let new : ShardView g.row.D.Denot = record { shelf = c.get_step.new.shelf; set = c.self.inside.set; sprigs = set c.self.inside.sprigs.items c.part_of-part.result c.get_step.new.sprig } in
+    let kept : set old.sprigs c.part_of-part.result c.get_step.new.sprig ≡ old.sprigs = ap (set old.sprigs c.part_of-part.result) c.get_step.ensures.sprig
+    ∙ set_unchanged old.sprigs c.part_of-part.result c.index_mut.result.now c.index_mut.ensures.value in
+    subst (λ (v : ShardView g.row.D.Denot). new ≡ record v { shelf = record v.shelf { disk = new.shelf.disk } }) c.self.view_is
+    (ap (λ (x : ShelfView g.row.D.Denot). let y : ShardView g.row.D.Denot = record { shelf = x; set = old.set; sprigs = new.sprigs } in y) c.get_step.ensures.shelf
+    ∙ ap (λ (l : List SprigState). let y : ShardView g.row.D.Denot = record { shelf = record old.shelf { disk = new.shelf.disk }; set = old.set; sprigs = l } in y) kept)

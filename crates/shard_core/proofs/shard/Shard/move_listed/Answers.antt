@@ -13,6 +13,7 @@ use Rattle.block_shelf.proofs.KeptAll.{all_same}
 use Rattle.shard_core.proofs.Keeping.{through_all, through_then}
 use Rattle.shard_core.proofs.shard.Shard.move_listed.Invariants.{Holds}
 use Rattle.shard_core.proofs.shard.Shard.move_listed.Goals.{in-Some+in-Ok, in_default}
+use Rattle.shard_core.proofs.Failing.{none_still, none_then, may_then}
 use Rattle.shard_core.proofs.shard.Shard.move_listed.Goals as goal
 
 pub loop-at-init : goal.loop-at-init
@@ -20,6 +21,7 @@ loop-at-init g c = record {
   few = omega arith;
   moves = λ s agrees few. none_moved g.D.Disk.view c.args.block c.args.self.now s (g.met.D.Disk.is_disk c.args.self.now.shelf.disk) agrees few;
   sure = sure_none g.D.Disk.view c.args.self.now.shelf c.args.self.now.shelf refl;
+  fails = none_still c.args.self.now.shelf c.args.self.now.shelf refl;
   kept = through_all false c.args.self.now.shelf c.args.self.now.shelf (all_same c.args.self.now.shelf);
   later = later_none g.D.Disk.view c.args.self.now.shelf.disk (g.met.D.Disk.is_disk c.args.self.now.shelf.disk);
   honest = λ honest. honest;
@@ -73,6 +75,7 @@ loop-at-preserved g c = elim c.match-listed_at.branch [
         few = few_moved g.D.Disk.view c.args.block c.args.self.now w.move_record.new.self low.0 (c.loop-at.moved + w.count_of-moved.result) low.2 (moves low.0 low.1 low.2);
         moves = moves;
         sure = sure_then g.D.Disk.view c.args.self.now.shelf c.loop-at.self.shelf w.move_record.new.self.shelf c.loop-at.invariant.sure w.move_record.ensures.sure;
+        fails = none_then c.args.self.now.shelf c.loop-at.self.shelf w.move_record.new.self.shelf c.loop-at.invariant.fails w.in-Ok.ensures.fails;
         kept = through_then false c.args.self.now.shelf c.loop-at.self.shelf w.move_record.new.self.shelf c.loop-at.invariant.kept w.move_record.ensures.kept;
         later = later_then g.D.Disk.view c.args.self.now.shelf.disk c.loop-at.self.shelf.disk w.move_record.new.self.shelf.disk c.loop-at.invariant.later w.move_record.ensures.later;
         honest = λ honest. w.move_record.ensures.honest (c.loop-at.invariant.honest honest);
@@ -83,3 +86,11 @@ loop-at-preserved g c = elim c.match-listed_at.branch [
       subst (λ (v : ShardView g.row.D.Denot). Holds g.D.Disk.view c.args.block c.args.self.now v c.match-listed_at.moved) (sym w.self-is)
       (subst (λ (n : ℕ). Holds g.D.Disk.view c.args.block c.args.self.now c.loop-at.self n) (sym w.moved-is) c.loop-at.invariant))
 ]
+
+-- ---- which gates fail
+
+pub returns-in-Err-clause-fails : goal.returns-in-Err-clause-fails
+returns-in-Err-clause-fails g c = may_then c.args.self.now.shelf c.loop-at.self.shelf c.move_record.new.self.shelf c.loop-at.invariant.fails c.in-Err.ensures.fails
+
+pub returns-clause-fails : goal.returns-clause-fails
+returns-clause-fails g c = c.loop-at.invariant.fails

@@ -8,6 +8,7 @@ use Rattle.defrag_pass.specs.Choosing.{HasFew}
 use Rattle.shard_core.specs.View.{ShardView, SameSetup, setup_of}
 use Rattle.shard_core.specs.Stands.{Agrees}
 use Rattle.shard_core.specs.Keeping.{KeepsThrough}
+use Rattle.shard_core.specs.Failing.{NoneFails}
 use Rattle.shard_core.specs.Vacating.{MakesEvents, HaveMoved}
 use Rattle.shard_core.proofs.shard.Shard.move_listed.Given as goal
 
@@ -17,6 +18,7 @@ Holds view block old now moved = record {
   few : moved < 2 ^ 16;
   moves : (s : State) → Agrees old s → HasFew block s.book → MakesEvents view (HaveMoved (setup_of old) block s moved 0) old s now;
   sure : StaysSure view old.shelf now.shelf;
+  fails : NoneFails old.shelf now.shelf;
   kept : KeepsThrough false old.shelf now.shelf;
   later : IsLater (view old.shelf.disk) (view now.shelf.disk);
   honest : IsHonest (view old.shelf.disk) → IsHonest (view now.shelf.disk);

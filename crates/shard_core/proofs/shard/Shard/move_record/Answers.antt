@@ -19,6 +19,8 @@ use Rattle.block_shelf.specs.Sure.{StaysSure}
 use Rattle.sprig_tree.specs.Entries.{entry_of}
 use Rattle.shard_core.specs.Keeping.{KeepsThrough}
 use Rattle.shard_core.proofs.Keeping.{through_found}
+use Rattle.shard_core.specs.Failing.{FailsBy}
+use Rattle.shard_core.proofs.Failing.{by_move, moved}
 use Rattle.shard_core.proofs.shard.Shard.move_record.Goals as goal
 
 pub move_one-answer-requires-clause-stand : goal.move_one-answer-requires-clause-stand
@@ -135,3 +137,12 @@ pub returns-clause-kept : goal.returns-clause-kept
 returns-clause-kept g c =
     subst (λ (v : ShardView g.row.D.Denot). KeepsThrough false v.shelf c.move_one-answer.new.shelf) c.self.view_is
     (through_found (entry_of c.args.digest.now c.index_mut.result.now.entries) c.self.inside.shelf c.move_one-answer.new.shelf c.move_one-answer.result c.move_one-answer.ensures.kept)
+
+-- ---- which gates fail
+
+pub returns-clause-fails : goal.returns-clause-fails
+returns-clause-fails g c =
+    subst (λ (v : ShardView g.row.D.Denot). FailsBy c.move_answer.result v.shelf c.move_one-answer.new.shelf) c.self.view_is
+    (by_move c.move_one-answer.result c.move_answer.result c.self.inside.shelf c.move_one-answer.new.shelf c.move_answer.ensures
+    (moved g.D.Disk.view (entry_of c.args.digest.now c.index_mut.result.now.entries) c.self.inside.shelf c.move_one-answer.new.shelf c.move_one-answer.result
+    (λ not. (c.move_one-answer.ensures.elsewhere not).1) c.move_one-answer.ensures.found c.move_one-answer.ensures.left c.move_one-answer.ensures.kept))

@@ -9,6 +9,7 @@ use Rattle.shard_core.proofs.Vacating.{none_moved, further, no_more, all_units, 
 use Rattle.block_shelf.proofs.Surely.{sure_none, sure_then}
 use Rattle.block_shelf.proofs.KeptAll.{all_same}
 use Rattle.shard_core.proofs.Keeping.{through_all, through_then}
+use Rattle.shard_core.proofs.Failing.{none_still, none_then, may_then}
 use Rattle.shard_core.proofs.shard.Shard.move_rest.Goals as goal
 
 pub loop-moved-init : goal.loop-moved-init
@@ -17,6 +18,7 @@ loop-moved-init g c = record {
       (λ s agrees. c.used-left.ensures.state (setup_of (record { shelf = c.self.inside.shelf; set = c.self.inside.set; sprigs = c.self.inside.sprigs.items })) s agrees.shelf.stands);
   moves = λ s agrees few. none_moved g.D.Disk.view c.args.block c.args.self.now s (g.met.D.Disk.is_disk c.args.self.now.shelf.disk) agrees few;
   sure = sure_none g.D.Disk.view c.args.self.now.shelf c.args.self.now.shelf refl;
+  fails = none_still c.args.self.now.shelf c.args.self.now.shelf refl;
   kept = through_all false c.args.self.now.shelf c.args.self.now.shelf (all_same c.args.self.now.shelf);
   later = later_none g.D.Disk.view c.args.self.now.shelf.disk (g.met.D.Disk.is_disk c.args.self.now.shelf.disk);
   honest = λ honest. honest;
@@ -35,6 +37,7 @@ loop-moved-preserved g c =
           c.loop-moved.invariant.shape c.in-Some.ensures.parts (part_of (setup_of c.loop-moved.self) c.in-Some.digest) c.in-Some.ensures.next.none))
           c.in-Some.ensures.next.lies c.in_default-move_record.field-0 c.in_default-move_record.ensures.makes;
       sure = sure_then g.D.Disk.view c.args.self.now.shelf c.loop-moved.self.shelf c.move_record.new.self.shelf c.loop-moved.invariant.sure c.move_record.ensures.sure;
+      fails = none_then c.args.self.now.shelf c.loop-moved.self.shelf c.move_record.new.self.shelf c.loop-moved.invariant.fails c.in_default-move_record.ensures.fails;
       kept = through_then false c.args.self.now.shelf c.loop-moved.self.shelf c.move_record.new.self.shelf c.loop-moved.invariant.kept c.move_record.ensures.kept;
       later = later_then g.D.Disk.view c.args.self.now.shelf.disk c.loop-moved.self.shelf.disk c.move_record.new.self.shelf.disk c.loop-moved.invariant.later c.move_record.ensures.later;
       honest = λ honest. c.move_record.ensures.honest (c.loop-moved.invariant.honest honest);
@@ -66,3 +69,14 @@ returns-in-Err-clause-later g c =
 
 pub returns-in-Err-clause-kept : goal.returns-in-Err-clause-kept
 returns-in-Err-clause-kept g c = through_then false c.args.self.now.shelf c.loop-moved.self.shelf c.move_record.new.self.shelf c.loop-moved.invariant.kept c.move_record.ensures.kept
+
+-- ---- which gates fail
+
+pub returns-in-Err-clause-fails : goal.returns-in-Err-clause-fails
+returns-in-Err-clause-fails g c = may_then c.args.self.now.shelf c.loop-moved.self.shelf c.move_record.new.self.shelf c.loop-moved.invariant.fails c.in-Err.ensures.fails
+
+pub returns-in_default-clause-fails : goal.returns-in_default-clause-fails
+returns-in_default-clause-fails g c = c.loop-moved.invariant.fails
+
+pub returns-clause-fails : goal.returns-clause-fails
+returns-clause-fails g c = c.loop-moved.invariant.fails

@@ -8,6 +8,7 @@ use Rattle.defrag_pass.specs.Choosing.{HasFew}
 use Rattle.shard_core.specs.View.{SameSetup, setup_of}
 use Rattle.shard_core.specs.Stands.{Agrees}
 use Rattle.shard_core.specs.Keeping.{KeepsThrough}
+use Rattle.shard_core.specs.Failing.{NoneFails}
 use Rattle.shard_core.specs.Vacating.{MakesEvents, HaveMoved}
 use Rattle.shard_core.proofs.shard.Shard.move_rest.Given as goal
 
@@ -17,6 +18,7 @@ invariant-loop-moved g l = record {
   left : (s : State) → Agrees l.fn.self s → l.left ≡ use_of s.book l.fn.block;
   moves : (s : State) → Agrees l.fn.self s → HasFew l.fn.block s.book → MakesEvents g.D.Disk.view (HaveMoved (setup_of l.fn.self) l.fn.block s l.moved l.part) l.fn.self s l.self;
   sure : StaysSure g.D.Disk.view l.fn.self.shelf l.self.shelf;
+  fails : NoneFails l.fn.self.shelf l.self.shelf;
   kept : KeepsThrough false l.fn.self.shelf l.self.shelf;
   later : IsLater (g.D.Disk.view l.fn.self.shelf.disk) (g.D.Disk.view l.self.shelf.disk);
   honest : IsHonest (g.D.Disk.view l.fn.self.shelf.disk) → IsHonest (g.D.Disk.view l.self.shelf.disk);

@@ -23,6 +23,7 @@ use Rattle.shard_core.proofs.Tallies.{tally_behind}
 use Rattle.shard_core.proofs.shard.Shard.put.Given.{Over}
 use Rattle.block_shelf.specs.Sure.{StaysSure}
 use Rattle.shard_core.specs.Keeping.{KeepsBy}
+use Rattle.shard_core.specs.Failing.{FailsBy}
 use Rattle.shard_core.proofs.shard.Shard.put.Goals as goal
 
 pub put_step-answer-requires-clause-stand : goal.put_step-answer-requires-clause-stand
@@ -187,3 +188,9 @@ pub returns-clause-kept : goal.returns-clause-kept
 returns-clause-kept g c =
     subst (λ (v : ShardView g.row.D.Denot). KeepsBy v.set.commit (units_for (length c.args.payload.now)) v.shelf c.put_step-answer.new.shelf c.put_step-answer.result) c.self.view_is
     c.put_step-answer.ensures.kept
+
+-- ---- which gates fail
+
+pub returns-clause-fails : goal.returns-clause-fails
+returns-clause-fails g c =
+    subst (λ (v : ShardView g.row.D.Denot). FailsBy c.put_step-answer.result v.shelf c.put_step-answer.new.shelf) c.self.view_is c.put_step-answer.ensures.fails

@@ -5,6 +5,8 @@ use Rattle.shard_core.specs.View.{setup_of}
 use Rattle.shard_core.proofs.Tending.{tends_vacating, tends_resting, tends_well}
 use Rattle.block_shelf.proofs.Surely.{sure_then}
 use Rattle.shard_core.proofs.Keeping.{through_none}
+use Rattle.std.proofs.Common.{inl}
+use Rattle.shard_core.proofs.Failing.{by_may, none_still}
 use Rattle.shard_core.proofs.shard.Shard.tend.Goals as goal
 
 pub returns-then-can_gain-clause-makes : goal.returns-then-can_gain-clause-makes
@@ -41,4 +43,20 @@ returns-else-can_gain-clause-kept g c = record {
   flushes = c.flush_low.ensures.kept;
   moves = through_none false c.flush_low.new.self.shelf c.flush_low.new.self.shelf refl;
   rests = λ none. refl;
+}
+
+-- ---- which gates fail
+
+pub returns-then-can_gain-clause-fails : goal.returns-then-can_gain-clause-fails
+returns-then-can_gain-clause-fails g c = record {
+  flushed = c.flush_low.new.self.shelf;
+  flushes = c.flush_low.ensures.fails;
+  vacates = by_may c.defrag_one.result c.flush_low.new.self.shelf c.defrag_one.new.self.shelf c.defrag_one.ensures.fails;
+}
+
+pub returns-else-can_gain-clause-fails : goal.returns-else-can_gain-clause-fails
+returns-else-can_gain-clause-fails g c = record {
+  flushed = c.flush_low.new.self.shelf;
+  flushes = c.flush_low.ensures.fails;
+  vacates = inl (none_still c.flush_low.new.self.shelf c.flush_low.new.self.shelf refl);
 }

@@ -15,6 +15,10 @@ use Rattle.shard_core.specs.Raids.{TakesTurn, TurnMakes}
 use Rattle.shard_core.proofs.Making.{room_stays, setup_is, whole_made}
 use Rattle.shard_core.proofs.Raiding.{few_aside, runs_next, turn_on_shelf}
 use Rattle.shard_core.proofs.shard.Shard.turn_aside.Given.{Over}
+use Rattle.std.specs.Prelude.{IfErr}
+use Rattle.shard_raid.specs.Turns as turns
+use Rattle.shard_core.specs.Refusals.{TurnLeaves}
+use Rattle.shard_core.proofs.Raiding.{turn_left_by, with_kept}
 use Rattle.shard_core.proofs.shard.Shard.turn_aside.Goals as goal
 
 module _ (g : Over) (c : goal.After-shelf_turn g) where
@@ -81,3 +85,9 @@ returns-clause-sure g c = subst (λ (v : ShardView g.row.D.Denot). StaysSure g.D
 
 pub returns-clause-shape : goal.returns-clause-shape
 returns-clause-shape g c = subst (λ (v : ShardView g.row.D.Denot). SameSetup v (new g c)) c.self.view_is (shape g c)
+
+pub returns-clause-left : goal.returns-clause-left
+returns-clause-left g c =
+    subst (λ (v : ShardView g.row.D.Denot). IfErr c.shelf_turn.result (TurnLeaves v (new g c))) c.self.view_is
+    (turn_left_by (old g c) c.shelf_turn.new.shelf (old g c).sprigs c.shelf_turn.result
+    (with_kept c.shelf_turn.result (turns.TurnLeaves (old g c).shelf c.shelf_turn.new.shelf) ((old g c).sprigs ≡ (old g c).sprigs) refl c.shelf_turn.ensures.left))

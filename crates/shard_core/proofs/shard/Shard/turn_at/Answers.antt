@@ -25,6 +25,11 @@ use Rattle.shard_core.proofs.Making.{part_at, part_stands, room_stays, setup_is,
 use Rattle.shard_core.proofs.Raiding.{done_aside, few_counted, runs_next, turn_at_part}
 use Rattle.shard_core.proofs.Tallies.{tally_behind}
 use Rattle.shard_core.proofs.shard.Shard.turn_at.Given.{Over}
+use Rattle.std.proofs.Common.{List}
+use Rattle.std.specs.Prelude.{IfErr}
+use Rattle.shard_raid.specs.Turns as turns
+use Rattle.shard_core.specs.Refusals.{TurnLeaves}
+use Rattle.shard_core.proofs.Raiding.{turn_left_by, with_first}
 use Rattle.shard_core.proofs.shard.Shard.turn_at.Goals as goal
 
 module _ (g : Over) (c : goal.After-self-2-1 g) where
@@ -142,3 +147,13 @@ part_turn-answer-requires g c =
             (sym (set_unchanged was.sprigs c.args.part c.index_mut.result.now c.index_mut.ensures.value)) stands.0 stands.1,
       );
     }
+
+pub returns-clause-left : goal.returns-clause-left
+returns-clause-left g c =
+    let sprig = c.part_turn-answer.new.sprig in
+    let sprigs : List SprigState = set (old g c).sprigs c.args.part sprig in
+    subst (λ (v : ShardView g.row.D.Denot). IfErr c.part_turn-answer.result (TurnLeaves v (new g c))) c.self.view_is
+    (turn_left_by (old g c) c.part_turn-answer.new.shelf sprigs c.part_turn-answer.result
+    (with_first c.part_turn-answer.result (sprig ≡ c.index_mut.result.now) (sprigs ≡ (old g c).sprigs) (turns.TurnLeaves (old g c).shelf c.part_turn-answer.new.shelf)
+    (λ same. ap (λ (x : SprigState). set (old g c).sprigs c.args.part x) same ∙ set_unchanged (old g c).sprigs c.args.part c.index_mut.result.now c.index_mut.ensures.value)
+    c.part_turn-answer.ensures.left))

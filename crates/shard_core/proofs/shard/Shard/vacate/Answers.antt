@@ -5,6 +5,7 @@ use Rattle.shard_core.proofs.Telling.{told_before}
 use Rattle.shard_core.proofs.Later.{later_then}
 use Rattle.shard_core.proofs.Vacating.{few_left, then_out, then_stopped}
 use Rattle.shard_core.proofs.Keeping.{through_then}
+use Rattle.shard_core.proofs.Failing.{none_then, may_then, by_error}
 use Rattle.shard_core.proofs.shard.Shard.vacate.Goals as goal
 
 pub move_rest-requires-clause-low : goal.move_rest-requires-clause-low
@@ -49,3 +50,14 @@ returns-in-Ok-clause-kept g c = through_then false c.args.self.now.shelf c.move_
 
 pub returns-in-Err-clause-kept : goal.returns-in-Err-clause-kept
 returns-in-Err-clause-kept g c = through_then false c.args.self.now.shelf c.move_listed.new.self.shelf c.move_rest.new.self.shelf c.move_listed.ensures.kept c.move_rest.ensures.kept
+
+-- ---- which gates fail
+
+pub returns-in-Ok-clause-fails : goal.returns-in-Ok-clause-fails
+returns-in-Ok-clause-fails g c = none_then c.args.self.now.shelf c.move_listed.new.self.shelf c.move_rest.new.self.shelf c.in_ok-moved.ensures.fails c.in-Ok.ensures.fails
+
+pub returns-in-Err-clause-fails : goal.returns-in-Err-clause-fails
+returns-in-Err-clause-fails g c = may_then c.args.self.now.shelf c.move_listed.new.self.shelf c.move_rest.new.self.shelf c.in_ok-moved.ensures.fails c.in-Err.ensures.fails
+
+pub returns-in_err-moved-clause-fails : goal.returns-in_err-moved-clause-fails
+returns-in_err-moved-clause-fails g c = by_error c.from_residual.result c.args.self.now.shelf c.move_listed.new.self.shelf c.from_residual.ensures.0 c.in_err-moved.ensures.fails
